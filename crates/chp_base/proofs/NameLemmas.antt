@@ -1,0 +1,30 @@
+-- A name in a program is a node's name too.
+use Rattle.std.proofs.Common.{◌≡◌, ℕ, ◌≤◌, length, Bool, true, false, List, [], ◌∷◌, refl, arith}
+use Rattle.std.specs.Prelude.{◌&&◌, ◌||◌, ◌==◌}
+use Rattle.std.specs.List.{list_all}
+use Rattle.chp_base.specs.Names.{IsName, IsNodeName, word_part, node_part, begins_with_letter}
+
+left_true : (a b : Bool) → (a && b) ≡ true → a ≡ true
+left_true true b h = refl
+left_true false b h = h
+
+right_true : (a b : Bool) → (a && b) ≡ true → b ≡ true
+right_true true b h = h
+right_true false b h = absurd (cc h)
+
+both_true : (a b : Bool) → a ≡ true → b ≡ true → (a && b) ≡ true
+both_true true b x y = y
+both_true false b x y = x
+
+either_true : (a b : Bool) → a ≡ true → (a || b) ≡ true
+either_true true b x = refl
+either_true false b x = absurd (cc x)
+
+-- the parts of words are parts of nodes' names
+pub node_parts : (bs : List ℕ) → list_all word_part bs ≡ true → list_all node_part bs ≡ true
+node_parts [] h = refl
+node_parts (b ∷ bs) h =
+    both_true (node_part b) _ (either_true (word_part b) (b == 46) (left_true (word_part b) _ h)) (node_parts bs (right_true (word_part b) _ h))
+
+pub node_name : (bs : List ℕ) → IsName bs → IsNodeName bs
+node_name bs is = record { short = omega (arith, is.short); first = is.first; parts = node_parts bs is.parts }
