@@ -1,0 +1,5 @@
+pub mod Spelling
+pub mod Tokens
+pub mod Trees
+pub mod Grammar
+pub mod Reading

@@ -1,0 +1,59 @@
+-- What program a text reads as.
+use Rattle.std.specs.Prelude.{◌≡◌, ℕ, ◌-◌, ◌≤◌, ◌&&◌, nat_le, Bool, true, List, [], ◌∷◌, take, fold}
+use Prim.Native.Nat.{suc}
+use Rattle.chp_syntax.specs.declared.token.Token.{Token}
+use Rattle.chp_syntax.specs.declared.token.TokenKind.{TokenKind}
+use Rattle.chp_syntax.specs.declared.token.TokenKind.TheVariants.{Sign}
+use Rattle.chp_syntax.specs.declared.token.Mark.TheVariants as mark
+use Rattle.chp_syntax.specs.Trees.{Statement, skips, assigns, sends, receives, follows, besides, selects, repeats, calls, Statements, no_members, and_member, Arms, no_arms, and_arm, Procedure, ProgramTree}
+use Rattle.chp_syntax.specs.Tokens.{Tokens}
+use Rattle.chp_syntax.specs.Grammar.{Derives}
+use Rattle.std.specs.List.{list_all}
+
+-- how many brackets are open behind a token, where so many were before it
+abbrev pub opened : ℕ → TokenKind → ℕ
+opened n (Sign mark.OpenRound) = suc n
+opened n (Sign mark.OpenSquare) = suc n
+opened n (Sign mark.OpenCurly) = suc n
+opened n (Sign mark.CloseRound) = n - 1
+opened n (Sign mark.CloseSquare) = n - 1
+opened n (Sign mark.CloseCurly) = n - 1
+opened n _ = n
+
+abbrev pub depth_of : ℕ → List Token → ℕ
+depth_of n [] = n
+depth_of n (t ∷ ts) = depth_of (opened n t.kind) ts
+
+-- nowhere are more than 256 brackets open
+abbrev pub IsShallow : List Token → Type 0
+IsShallow ts = (n : ℕ) → depth_of 0 (take n ts) ≤ 256
+
+abbrev pub arm_count : Arms → ℕ
+arm_count no_arms = 0
+arm_count (and_arm g t bs) = suc (arm_count bs)
+
+-- no selection and no guarded repetition has more than 16 arms
+abbrev mutual
+  pub few_arms : Statement → Bool
+  few_arms (follows us) = few_arms_each us
+  few_arms (besides us) = few_arms_each us
+  few_arms (selects again bs) = nat_le (arm_count bs) 16 && few_arms_in bs
+  few_arms (repeats t) = few_arms t
+  few_arms _ = true
+
+  pub few_arms_each : Statements → Bool
+  few_arms_each no_members = true
+  few_arms_each (and_member t us) = few_arms t && few_arms_each us
+
+  pub few_arms_in : Arms → Bool
+  few_arms_in no_arms = true
+  few_arms_in (and_arm g t bs) = few_arms t && few_arms_in bs
+
+-- the text reads as the program
+pub record Reads (text : List ℕ) (p : ProgramTree) : Type 0 where
+  pub tokens : List Token
+  pub cut : Tokens text tokens
+  pub derives : Derives tokens p
+  pub shallow : IsShallow tokens
+  pub few_in_procs : list_all (λ (q : Procedure). few_arms q.body) p.procs ≡ true
+  pub few_in_body : few_arms p.body ≡ true

@@ -1,0 +1,8 @@
+//! The language: tokens, grammar and the tree of a program.
+#![tactic(auto)]
+
+mod token;
+mod tree;
+
+pub use token::{Key, Mark, Token, TokenKind};
+pub use tree::{Arm, Decl, DeclKind, Expr, Ident, Link, Op, Proc, Program, Stmt};

@@ -1,0 +1,136 @@
+//! The tree of a program, with the places of its parts in the text.
+//!
+//! A program that was read has the grammar's shape: at every depth a `Then` and a `Beside` have at least two
+//! parts, a `Select` has 1 to 16 arms, a `Join` has at least one part, and a `Chain` has at least one link, and
+//! exactly one where a link's operator is a comparison.
+
+use chp_base::{Name, Span};
+
+/// A name where it stands in the text.
+#[derive(Debug, Drop)]
+pub struct Ident {
+    pub name: Name,
+    pub at: Span,
+}
+
+/// What a declaration declares: a channel that the environment sends on, one that it receives on, one inside of
+/// the program, or a variable.
+#[derive(Clone, Copy, Debug, PartialEq, Eq)]
+pub enum DeclKind {
+    In,
+    Out,
+    Chan,
+    Var,
+}
+
+/// A declaration of a channel or a variable. Where no first value is written, `first` is 0 and `first_at` is
+/// `width_at`.
+#[derive(Debug, Drop)]
+pub struct Decl {
+    pub kind: DeclKind,
+    pub name: Ident,
+    pub width: u64,
+    pub width_at: Span,
+    pub first: u64,
+    pub first_at: Span,
+}
+
+/// A procedure: `call` of its name does what its body does.
+#[derive(Debug, Drop)]
+pub struct Proc {
+    pub name: Ident,
+    pub body: Stmt,
+}
+
+/// A program: what it declares, in order of the text, and what it does.
+#[derive(Debug, Drop)]
+pub struct Program {
+    pub decls: Vec<Decl>,
+    pub procs: Vec<Proc>,
+    pub body: Stmt,
+}
+
+/// A statement.
+#[cycle(statements)]
+#[derive(Debug, Drop)]
+pub enum Stmt {
+    /// `skip`
+    Skip { at: Span },
+    /// `x := e`
+    Assign { target: Ident, value: Expr },
+    /// `X!e`
+    Send { chan: Ident, value: Expr },
+    /// `X?v`
+    Receive { chan: Ident, target: Ident },
+    /// `S; T; ..`
+    Then { parts: Vec<Stmt> },
+    /// `S, T, ..` and `S || T || ..`
+    Beside { parts: Vec<Stmt> },
+    /// `[G -> S [] ..]`, and `*[G -> S [] ..]` where `again` is true.
+    Select { again: bool, arms: Vec<Arm> },
+    /// `*[S]`
+    Repeat { body: Box<Stmt> },
+    /// `call p`
+    Call { of: Ident },
+}
+
+/// A guard and what is done where it is true.
+#[cycle(statements)]
+#[derive(Debug, Drop)]
+pub struct Arm {
+    pub guard: Expr,
+    pub body: Stmt,
+}
+
+/// An expression. Its span runs from its first to its last token, without parentheses round it.
+#[cycle(expressions)]
+#[derive(Debug, Drop)]
+pub enum Expr {
+    /// A number.
+    Number { value: u64, at: Span },
+    /// `x`
+    Whole { of: Ident },
+    /// `x[high:low]`
+    Slice {
+        of: Ident,
+        high: u64,
+        low: u64,
+        at: Span,
+    },
+    /// `x[place]`
+    Bit { of: Ident, place: u64, at: Span },
+    /// `{e, ..}`, the last part lowest.
+    Join { parts: Vec<Expr>, at: Span },
+    /// `~e`
+    Not { inner: Box<Expr>, at: Span },
+    /// `e op e ..`, applied from the left.
+    Chain {
+        first: Box<Expr>,
+        rest: Vec<Link>,
+        at: Span,
+    },
+}
+
+/// An operator and its right side.
+#[cycle(expressions)]
+#[derive(Debug, Drop)]
+pub struct Link {
+    pub op: Op,
+    pub right: Expr,
+}
+
+/// The operators between two expressions.
+#[derive(Clone, Copy, Debug, PartialEq, Eq)]
+pub enum Op {
+    And,
+    Or,
+    Xor,
+    Add,
+    Sub,
+    Eq,
+    Ne,
+    Lt,
+    Le,
+    Gt,
+    Ge,
+}
