@@ -1,0 +1,10 @@
+-- Counts of faults, and what a failed call may be blamed on.
+use Rattle.std.specs.Prelude.{◌≡◌, ℕ, ◌<◌, ◌^◌, ◌-◌, List, Option, None, Bool, true, ◌⊎◌}
+
+-- a count rose in a call: it is greater after it, or stands at its last value
+abbrev pub Rose : ℕ → ℕ → Type 0
+Rose before after = (before < after) ⊎ (after ≡ 2 ^ 64 - 1)
+
+-- a read fault of a name: the shelf's count rose, or the shelf tells its bytes and holds no file of that name
+abbrev pub IsReadFault : (before after : ℕ) → (tells : Bool) → (held : Option (List ℕ)) → Type 0
+IsReadFault before after tells held = Rose before after ⊎ ((tells ≡ true) × (held ≡ None))

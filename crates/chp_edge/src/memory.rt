@@ -1,0 +1,231 @@
+//! Shelves and a sink in memory, which tell their bytes.
+
+ghost use Rattle.std.specs.Prelude.{◌≡◌, ℕ, ◌≤◌, ◌<◌, [], Some, None, length, take, drop, min, vec_len, vec_capacity, IfOk, true, false, position, if◌then◌else◌};
+ghost use Rattle.chp_edge.specs.Files.{held_by, left_at, is_named};
+
+use crate::plan::Plan;
+use crate::shelf::Shelf;
+use crate::sink::{Failed, Sink};
+use std::alloc::{AllocError, Global};
+
+/// Copies bytes into the front of the piece, as many as there are and as it takes.
+fn copy_front(bytes: &[u8], piece: &mut [u8]) -> usize
+    ensures count { result ≡ min (length piece.old) (length bytes.now) }
+    ensures bytes { take result piece.new ≡ take result bytes.now }
+{
+    let n = piece.len().min(bytes.len());
+    piece[..n].copy_from_slice(&bytes[..n]);
+    n
+}
+
+/// What stands behind the first `done` bytes.
+fn behind(bytes: &[u8], done: usize) -> &[u8]
+    ensures { result.now ≡ drop done bytes.now }
+{
+    if done < bytes.len() {
+        &bytes[done..]
+    } else {
+        &[]
+    }
+}
+
+/// A shelf of files in memory. Its calls of `begin` and `next` are counted together from 1, and those that are named
+/// as failing fail.
+#[derive(Debug, Drop)]
+pub struct MemShelf {
+    files: Vec<(String, Vec<u8>)>,
+    plan: Plan,
+    begun: Option<usize>,
+    done: usize,
+}
+
+impl MemShelf {
+    /// A shelf that holds these files, each with its name; where a name stands twice, its first entry counts. The
+    /// calls whose numbers stand in `failing` fail, and are counted as faults. A `begin` with a name that it doesn't
+    /// hold fails too, and is no fault.
+    pub fn new(files: Vec<(String, Vec<u8>)>, failing: Vec<u64>) -> MemShelf
+        ensures files { result.files.items ≡ files.items }
+        ensures failing { result.plan.failing.items ≡ failing.items }
+        ensures calls { result.plan.calls ≡ 0 }
+        ensures faults { result.plan.faults ≡ 0 }
+        ensures begun { result.begun ≡ None }
+    {
+        MemShelf {
+            files,
+            plan: Plan::new(failing),
+            begun: None,
+            done: 0,
+        }
+    }
+
+    fn place_of(&self, name: &str) -> Option<usize>
+        ensures { result ≡ position (is_named name.now) self.now.files.items }
+    {
+        self.files.iter().position(|file| file.0.as_str() == name)
+    }
+
+    fn left(&self) -> &[u8]
+        ensures { result.now ≡ left_at self.now.files.items self.now.begun self.now.done }
+    {
+        match self.begun {
+            None => &[],
+            Some(place) => match self.files.get(place) {
+                None => &[],
+                Some(file) => behind(&file.1, self.done),
+            },
+        }
+    }
+}
+
+impl Shelf for MemShelf {
+    ghost faults = { λ s. s.plan.faults };
+
+    ghost tells = { λ _. true };
+
+    ghost holds = { λ s. held_by s.files.items };
+
+    ghost rest = { λ s. left_at s.files.items s.begun s.done };
+
+    fn begin(&mut self, name: &str) -> Result<(), Failed> {
+        self.begun = None;
+        self.done = 0;
+        if self.plan.fails() {
+            return Err(Failed);
+        }
+        self.begun = self.place_of(name);
+        if self.begun.is_none() {
+            return Err(Failed);
+        }
+        Ok(())
+    }
+
+    fn next(&mut self, piece: &mut [u8]) -> Result<usize, Failed> {
+        if self.plan.fails() {
+            return Err(Failed);
+        }
+        let n = copy_front(self.left(), piece);
+        self.done += n;
+        Ok(n)
+    }
+}
+
+/// A shelf that holds the same bytes under every name. No call on it fails.
+#[derive(Debug, Drop)]
+pub struct SureShelf {
+    bytes: Vec<u8>,
+    begun: bool,
+    done: usize,
+}
+
+impl SureShelf {
+    pub fn new(bytes: Vec<u8>) -> SureShelf
+        ensures bytes { result.bytes.items ≡ bytes.items }
+        ensures begun { result.begun ≡ false }
+    {
+        SureShelf {
+            bytes,
+            begun: false,
+            done: 0,
+        }
+    }
+}
+
+impl Shelf for SureShelf {
+    ghost faults = { λ _. 0 };
+
+    ghost tells = { λ _. true };
+
+    ghost holds = { λ s _. Some s.bytes.items };
+
+    ghost rest = { λ s. if s.begun then drop s.done s.bytes.items else [] };
+
+    fn begin(&mut self, _name: &str) -> Result<(), Failed> {
+        self.begun = true;
+        self.done = 0;
+        Ok(())
+    }
+
+    fn next(&mut self, piece: &mut [u8]) -> Result<usize, Failed> {
+        if !self.begun {
+            return Ok(0);
+        }
+        let n = copy_front(behind(&self.bytes, self.done), piece);
+        self.done += n;
+        Ok(n)
+    }
+}
+
+/// A sink in memory. It takes at most `most` bytes a call and `room` bytes in all, and its calls that are named as
+/// failing fail.
+#[derive(Debug, Drop)]
+pub struct MemSink {
+    most: usize,
+    room: usize,
+    written: Vec<u8>,
+    plan: Plan,
+    ghost some: { 0 < most },
+    ghost fits: { vec_len written ≤ room },
+    ghost taken: { room ≤ vec_capacity written },
+}
+
+impl MemSink {
+    /// A sink with nothing written, whose memory for `room` bytes is taken here. The calls of `put` whose numbers
+    /// stand in `failing` fail, and so does each one at which `room` bytes are written; each of these is a fault.
+    /// Every other one takes the least of `most`, the room that is left and the length of the piece.
+    pub fn new(
+        alloc: Global,
+        most: usize,
+        room: usize,
+        failing: Vec<u64>,
+    ) -> Result<MemSink, AllocError>
+        requires { 0 < most }
+        ensures most { IfOk result (λ sink. sink.most ≡ most) }
+        ensures room { IfOk result (λ sink. sink.room ≡ room) }
+        ensures written { IfOk result (λ sink. sink.written.items ≡ []) }
+        ensures failing { IfOk result (λ sink. sink.plan.failing.items ≡ failing.items) }
+        ensures calls { IfOk result (λ sink. sink.plan.calls ≡ 0) }
+        ensures faults { IfOk result (λ sink. sink.plan.faults ≡ 0) }
+    {
+        let written = Vec::with_capacity(alloc, room)?;
+        Ok(MemSink {
+            most,
+            room,
+            written,
+            plan: Plan::new(failing),
+        })
+    }
+
+    /// All bytes that were taken.
+    pub fn written(&self) -> &[u8]
+        ensures { result.now ≡ self.now.written.items }
+    {
+        &self.written
+    }
+}
+
+impl Sink for MemSink {
+    ghost faults = { λ s. s.plan.faults };
+
+    ghost tells = { λ _. true };
+
+    ghost written = { λ s. s.written.items };
+
+    fn put(&mut self, piece: &[u8]) -> Result<usize, Failed> {
+        if self.plan.fails() {
+            return Err(Failed);
+        }
+        let left = self.room - self.written.len();
+        if left == 0 {
+            self.plan.fault();
+            return Err(Failed);
+        }
+        let n = self.most.min(left).min(piece.len());
+        match self.written.extend_from_slice(&piece[..n]) {
+            Ok(()) => Ok(n),
+            Err(AllocError) => {
+                self.plan.fault();
+                Err(Failed)
+            }
+        }
+    }
+}

@@ -1,0 +1,58 @@
+//! Which calls of a device in memory fail.
+
+ghost use Rattle.std.specs.Prelude.{◌≡◌, ◌+◌, ◌-◌, ◌≤◌, ◌<◌, ◌^◌, ◌↔◌, IsTrue, Contains, min};
+ghost use Rattle.std.specs.Bool.{OnTrue, OnFalse};
+ghost use Rattle.chp_edge.specs.Faults.{Rose};
+
+/// The numbers of the calls that fail, counted from 1, with how many calls and faults there were. Both counts stay
+/// at their last value once they are there.
+#[derive(Debug, Drop)]
+pub struct Plan {
+    failing: Vec<u64>,
+    calls: u64,
+    pub faults: u64,
+}
+
+impl Plan {
+    pub fn new(failing: Vec<u64>) -> Plan
+        ensures calls { result.calls ≡ 0 }
+        ensures faults { result.faults ≡ 0 }
+        ensures failing { result.failing.items ≡ failing.items }
+    {
+        Plan {
+            failing,
+            calls: 0,
+            faults: 0,
+        }
+    }
+
+    /// Counts a fault.
+    pub fn fault(&mut self)
+        ensures rose { Rose self.old.faults self.new.faults }
+        ensures faults { self.old.faults ≤ self.new.faults }
+        ensures counted { self.new.faults < 2 ^ 64 }
+        ensures calls { self.new.calls ≡ self.old.calls }
+        ensures failing { self.new.failing ≡ self.old.failing }
+    {
+        self.faults = self.faults.saturating_add(1);
+    }
+
+    /// Counts a call, and says whether it is one of those that fail, which counts as a fault.
+    pub fn fails(&mut self) -> bool
+        ensures calls { self.new.calls ≡ min (self.old.calls + 1) (2 ^ 64 - 1) }
+        ensures failing { self.new.failing ≡ self.old.failing }
+        ensures exact { IsTrue result ↔ Contains self.old.failing.items self.new.calls }
+        ensures rose { OnTrue result (Rose self.old.faults self.new.faults) }
+        ensures faults { self.old.faults ≤ self.new.faults }
+        ensures counted { self.new.faults < 2 ^ 64 }
+        ensures stays { OnFalse result (self.new.faults ≡ self.old.faults) }
+    {
+        let _count = self.faults;
+        self.calls = self.calls.saturating_add(1);
+        let failing = self.failing.contains(&self.calls);
+        if failing {
+            self.fault();
+        }
+        failing
+    }
+}

@@ -1,0 +1,45 @@
+//! Where bytes come from.
+
+ghost use Rattle.std.specs.Prelude.{◌≡◌, ℕ, ◌<◌, ◌≤◌, ◌^◌, ◌↔◌, List, [], ◌++◌, Option, Some, length, take, Bool, true, OnOk, IfOk, OnErr};
+ghost use Rattle.chp_edge.specs.Faults.{Rose, IsReadFault};
+
+use crate::sink::Failed;
+
+/// A shelf of files, which may tell what it holds.
+pub trait Shelf {
+    // Faults so far. The count never falls, and stays at its last value once it is there.
+    ghost faults: { Self → ℕ };
+
+    // Whether it tells its bytes.
+    ghost tells: { Self → Bool };
+
+    // The bytes of the file of a name, or none where there is no such file. They never change.
+    ghost holds: { Self → List ℕ → Option (List ℕ) };
+
+    // The bytes of the begun file that haven't been handed out.
+    ghost rest: { Self → List ℕ };
+
+    /// Starts the named file from its first byte.
+    fn begin(&mut self, name: &str) -> Result<(), Failed>
+        ensures faults { faults self.old ≤ faults self.new }
+        ensures counted { faults self.new < 2 ^ 64 }
+        ensures same { tells self.new ≡ tells self.old }
+        ensures kept { holds self.new ≡ holds self.old }
+        ensures begun { OnOk result (tells self.old ≡ true → holds self.old name.now ≡ Some (rest self.new)) }
+        ensures failed { OnErr result (IsReadFault (faults self.old) (faults self.new) (tells self.old) (holds self.old name.now)) }
+        ensures emptied { OnErr result (tells self.old ≡ true → rest self.new ≡ []) };
+
+    /// Writes the next bytes of the begun file into the front of the piece, and answers how many: 0 exactly at
+    /// the file's end.
+    fn next(&mut self, piece: &mut [u8]) -> Result<usize, Failed>
+        requires { 0 < length piece.old }
+        ensures faults { faults self.old ≤ faults self.new }
+        ensures counted { faults self.new < 2 ^ 64 }
+        ensures same { tells self.new ≡ tells self.old }
+        ensures kept { holds self.new ≡ holds self.old }
+        ensures within { IfOk result (λ n. n ≤ length piece.new) }
+        ensures bytes { IfOk result (λ n. tells self.old ≡ true → rest self.old ≡ take n piece.new ++ rest self.new) }
+        ensures end { IfOk result (λ n. tells self.old ≡ true → ((n ≡ 0) ↔ (rest self.old ≡ []))) }
+        ensures failed { OnErr result (Rose (faults self.old) (faults self.new)) }
+        ensures stays { OnErr result (tells self.old ≡ true → rest self.new ≡ rest self.old) };
+}
