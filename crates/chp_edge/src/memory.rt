@@ -229,3 +229,60 @@ impl Sink for MemSink {
         }
     }
 }
+
+#[cfg(test)]
+mod tests {
+    use super::*;
+    use crate::whole::{ReadEnd, read_all, write_all};
+    use std::test::Fail;
+
+    fn shelf_of(alloc: Global, failing: u64) -> Result<MemShelf, Fail> {
+        let mut files = Vec::new(alloc);
+        files.push(("a".to_string(alloc)?, b"first".to_vec(alloc)?))?;
+        files.push(("a".to_string(alloc)?, b"second".to_vec(alloc)?))?;
+        Ok(MemShelf::new(files, vec![in alloc; failing]?))
+    }
+
+    // A whole read of the five bytes makes three calls: it begins, takes them, and meets the end.
+    #[test]
+    fn planned_calls_fail(rt: HostRuntime) -> Result<(), Fail> {
+        for (failing, fails) in [(0, false), (1, true), (2, true), (3, true), (4, false)] {
+            let mut shelf = shelf_of(rt.alloc(), failing)?;
+            match read_all(rt.alloc(), &mut shelf, "a", 10) {
+                Ok(read) => assert!(rt; !fails && read.as_slice() == b"first".as_slice()),
+                Err(end) => assert!(rt; fails && end == ReadEnd::Failed),
+            }
+            let other = read_all(rt.alloc(), &mut shelf, "b", 10);
+            assert_eq!(rt; other.err(), Some(ReadEnd::Failed));
+        }
+        Ok(())
+    }
+
+    #[test]
+    fn limits_are_met_to_the_byte(rt: HostRuntime) -> Result<(), Fail> {
+        for (limit, fits) in [(0, false), (4, false), (5, true), (6, true)] {
+            let mut shelf = SureShelf::new(b"whole".to_vec(rt.alloc())?);
+            match read_all(rt.alloc(), &mut shelf, "any", limit) {
+                Ok(read) => assert!(rt; fits && read.as_slice() == b"whole".as_slice()),
+                Err(end) => assert!(rt; !fits && end == ReadEnd::TooLong),
+            }
+        }
+        Ok(())
+    }
+
+    // Four bytes a call, room for ten, and the second or no call failing.
+    #[test]
+    fn sinks_take_what_they_have_room_for(rt: HostRuntime) -> Result<(), Fail> {
+        for (failing, want) in [(2, b"chp:".as_slice()), (9, b"chp: 4 wri".as_slice())] {
+            let failing = vec![in rt.alloc(); failing]?;
+            let mut sink = MemSink::new(rt.alloc(), 4, 10, failing)?;
+            assert_eq!(rt; write_all(&mut sink, b"chp: 4 write"), Err(Failed));
+            assert_eq!(rt; sink.written(), want);
+        }
+        let none = Vec::new(rt.alloc());
+        let mut sink = MemSink::new(rt.alloc(), 4, 12, none)?;
+        assert_eq!(rt; write_all(&mut sink, b"chp: 4 write"), Ok(()));
+        assert_eq!(rt; sink.written(), b"chp: 4 write".as_slice());
+        Ok(())
+    }
+}

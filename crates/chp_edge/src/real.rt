@@ -141,3 +141,69 @@ impl<W: Write + Drop> Sink for ErrSink<W> {
         put_some(&mut self.writer, &mut self.faults, piece)
     }
 }
+
+#[cfg(test)]
+mod tests {
+    use super::*;
+    use crate::whole::{ReadEnd, read_all, write_all};
+    use std::io;
+    use std::test::Fail;
+
+    // A writer that takes two bytes a call, three calls long, and then nothing.
+    #[derive(Drop)]
+    struct Narrow<'a> {
+        calls: u8,
+        taken: &'a mut Vec<u8>,
+    }
+
+    impl Write for Narrow<'_> {
+        fn write(&mut self, piece: &[u8]) -> io::Result<usize> {
+            if self.calls == 0 {
+                return Ok(0);
+            }
+            self.calls -= 1;
+            let n = piece.len().min(2);
+            self.taken.extend_from_slice(&piece[..n])?;
+            Ok(n)
+        }
+
+        fn flush(&mut self) -> io::Result<()> {
+            Ok(())
+        }
+    }
+
+    #[test]
+    fn real_files_are_read_whole(rt: HostRuntime) -> Result<(), Fail> {
+        let text = b"begin skip end\n";
+        fs::write(&rt, "program.chp", text)?;
+        let mut shelf = FileShelf::new(&rt);
+        let read = read_all(rt.alloc(), &mut shelf, "program.chp", 100)?;
+        assert_eq!(rt; read.as_slice(), text.as_slice());
+        let short = read_all(rt.alloc(), &mut shelf, "program.chp", 14);
+        assert_eq!(rt; short.err(), Some(ReadEnd::TooLong));
+        let missing = read_all(rt.alloc(), &mut shelf, "missing.chp", 100);
+        assert_eq!(rt; missing.err(), Some(ReadEnd::Failed));
+        Ok(())
+    }
+
+    #[test]
+    fn writers_are_written_to_piece_by_piece(rt: HostRuntime) -> Result<(), Fail> {
+        let mut taken = Vec::new(rt.alloc());
+        let mut out = OutSink::new(Narrow {
+            calls: 3,
+            taken: &mut taken,
+        });
+        assert_eq!(rt; write_all(&mut out, b"chp"), Ok(()));
+        assert_eq!(rt; write_all(&mut out, b"program"), Err(Failed));
+        drop(out);
+        assert_eq!(rt; taken.as_slice(), b"chppr".as_slice());
+        let mut said = Vec::new(rt.alloc());
+        let mut say = ErrSink::new(Narrow {
+            calls: 1,
+            taken: &mut said,
+        });
+        assert_eq!(rt; write_all(&mut say, b"no"), Ok(()));
+        assert_eq!(rt; write_all(&mut say, b"!"), Err(Failed));
+        Ok(())
+    }
+}
