@@ -1,0 +1,2 @@
+mod FanLemmas
+mod RailValues

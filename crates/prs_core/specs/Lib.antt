@@ -1,0 +1,3 @@
+pub mod Fans
+pub mod Moves
+pub mod Nets

@@ -1,0 +1,85 @@
+//! Literals, terms and guards.
+
+ghost use Rattle.std.specs.Prelude.{◌≡◌, ◌<◌, length, IfSome, IsSome, ◌↔◌};
+
+use std::marker::Model;
+
+/// Holds where its node has the wanted value.
+#[derive(Clone, Copy, Debug, PartialEq, Eq)]
+pub struct Literal {
+    /// The number of the node.
+    pub node: u32,
+    /// Whether the literal wants the node high.
+    pub high: bool,
+}
+
+/// Holds where all its literals hold. It is seen as the list of them, and is never empty.
+#[derive(Debug, Drop)]
+pub struct Term {
+    literals: Vec<Literal>,
+}
+
+impl Model for Term {
+    ghost use Rattle.std.specs.Prelude.{List, ◌<◌, length};
+    ghost use Rattle.prs_core.specs.declared.rule.Literal.{Literal};
+
+    ghost Value = { List Literal };
+
+    ghost view = { λ t. t.literals.items };
+
+    ghost invariant = { λ t. 0 < length t.literals.items };
+}
+
+impl Term {
+    /// The term of these literals, or None where there are none.
+    pub fn new(literals: Vec<Literal>) -> Option<Term>
+        ensures some { IsSome result ↔ (0 < length literals.items) }
+        ensures value { IfSome result (λ t. t ≡ literals.items) }
+    {
+        if literals.is_empty() {
+            None
+        } else {
+            Some(Term { literals })
+        }
+    }
+
+    /// The literals, at least one.
+    pub fn literals(&self) -> &[Literal]
+        ensures value { result.now ≡ self.now }
+        ensures some { 0 < length self.now }
+    {
+        &self.literals
+    }
+}
+
+/// Holds where one of its terms holds. It is seen as the list of them. With no terms it never holds, and stands
+/// for a rule that isn't there.
+#[derive(Debug, Drop)]
+pub struct Guard {
+    terms: Vec<Term>,
+}
+
+impl Model for Guard {
+    ghost use Rattle.std.specs.Prelude.{List};
+    ghost use Rattle.prs_core.specs.declared.rule.Literal.{Literal};
+
+    ghost Value = { List (List Literal) };
+
+    ghost view = { λ g. g.terms.items };
+}
+
+impl Guard {
+    /// The guard of these terms.
+    pub fn new(terms: Vec<Term>) -> Guard
+        ensures { result ≡ terms.items }
+    {
+        Guard { terms }
+    }
+
+    /// The terms.
+    pub fn terms(&self) -> &[Term]
+        ensures { result.now ≡ self.now }
+    {
+        &self.terms
+    }
+}
