@@ -1,5 +1,5 @@
 -- What a net of production rules is.
-use Rattle.std.specs.Prelude.{◌≡◌, ◌≢◌, ℕ, ◌+◌, ◌*◌, ◌<◌, ◌≤◌, Bool, true, false, List, [], ◌∷◌, ◌++◌, length, map, All, AllPairs, sum_by, slice_index_or, Option, Some, None, codes, decimal}
+use Rattle.std.specs.Prelude.{◌≡◌, ◌≢◌, ℕ, ◌+◌, ◌*◌, ◌<◌, ◌≤◌, Bool, true, false, List, [], ◌∷◌, ◌++◌, length, map, All, AllPairs, sum_by, slice_index_or, slice_set, Option, Some, None, codes, decimal}
 use Rattle.std.specs.List.{flat_map, range_with_len}
 use Rattle.chp_base.specs.Names.{IsName, IsNodeName}
 use Rattle.chp_base.specs.declared.channel.Kind.{Kind}
@@ -145,3 +145,22 @@ pub record IsNet (n : NetValue) : Type 0 where
   pub channels : All (IsChannel n) n.channels
   pub channels_distinct : AllPairs (λ (a b : Wires). a.channel.name ≢ b.channel.name) n.channels
   pub reset : IsReset n n.reset
+
+-- the two guards of one node
+pub record NodeRules : Type 0 where
+  pub up : GuardValue
+  pub down : GuardValue
+
+-- the rules with this node's guards in place of those it had
+abbrev pub with_rules : ℕ → NodeRules → RulesValue → RulesValue
+with_rules node n r = record { up = slice_set r.up node n.up; down = slice_set r.down node n.down }
+
+abbrev pub is_high : ℕ → Literal
+is_high node = record { node = node; high = true }
+
+abbrev pub is_low : ℕ → Literal
+is_low node = record { node = node; high = false }
+
+-- a rule with one term
+abbrev pub one_term : List Literal → GuardValue
+one_term t = t ∷ []

@@ -6,6 +6,7 @@ mod net;
 mod rails;
 mod rule;
 mod rules;
+mod shapes;
 mod state;
 mod wires;
 
@@ -14,5 +15,6 @@ pub use net::Net;
 pub use rails::{all_neutral, rail_value};
 pub use rule::{Guard, Literal, Term};
 pub use rules::Rules;
+pub use shapes::{all_of, high, low};
 pub use state::{State, enabled, fire, first_state, holds, pulled_both_ways};
 pub use wires::{Rails, Wires};
