@@ -1,0 +1,63 @@
+//! The rules of the Q-element and of skip.
+
+ghost use Rattle.std.specs.Prelude.{◌≡◌, ◌≢◌, ℕ, ◌<◌, length, OnOk};
+ghost use Rattle.prs_core.specs.Nets.{with_rules};
+ghost use Rattle.cell_sequence.specs.Sequence.{with_q, skip_answer, IsAlone, IsPorts};
+
+use prs_core::{Rules, all_of, high, low};
+use std::alloc::{AllocError, Global};
+
+/// The nodes at a Q-element (Martin). Under `request` it runs the whole handshake of its child, on `child_request`
+/// and `child_answer`, and then raises `next`, the request of what follows. `latch` keeps that the child has
+/// answered. The element's own nodes are `child_request`, `latch` and `next`.
+#[derive(Clone, Copy, Debug, PartialEq, Eq)]
+pub struct QPorts {
+    pub request: u32,
+    pub child_request: u32,
+    pub child_answer: u32,
+    pub latch: u32,
+    pub next: u32,
+}
+
+/// Gives the Q-element's own nodes their guards, and leaves all other nodes alone. After want of memory some of its
+/// own nodes may have their guards.
+pub fn emit_q(alloc: Global, p: &QPorts, rules: &mut Rules) -> Result<(), AllocError>
+    requires { IsPorts (length rules.old.up) p.now }
+    ensures made { OnOk result (rules.new ≡ with_q p.now rules.old) }
+    ensures nodes { length rules.new.up ≡ length rules.old.up }
+    ensures others { (node : ℕ) → node ≢ p.now.child_request → node ≢ p.now.latch → node ≢ p.now.next → IsAlone rules.old rules.new node }
+{
+    rules.set_up(
+        p.child_request,
+        all_of(alloc, &[high(p.request), low(p.latch)])?,
+    );
+    rules.set_down(p.child_request, all_of(alloc, &[high(p.latch)])?);
+    rules.set_up(p.latch, all_of(alloc, &[high(p.child_answer)])?);
+    rules.set_down(p.latch, all_of(alloc, &[low(p.request)])?);
+    rules.set_up(
+        p.next,
+        all_of(alloc, &[high(p.latch), low(p.child_answer)])?,
+    );
+    rules.set_down(p.next, all_of(alloc, &[low(p.latch)])?);
+    Ok(())
+}
+
+/// Gives the answer of a skip its guards, which follow the request, and leaves all other nodes alone. After want of
+/// memory the answer may have one of them.
+pub fn emit_skip(
+    alloc: Global,
+    request: u32,
+    answer: u32,
+    rules: &mut Rules,
+) -> Result<(), AllocError>
+    requires request { request < length rules.old.up }
+    requires answer { answer < length rules.old.up }
+    requires distinct { request ≢ answer }
+    ensures made { OnOk result (rules.new ≡ with_rules answer (skip_answer request) rules.old) }
+    ensures nodes { length rules.new.up ≡ length rules.old.up }
+    ensures others { (node : ℕ) → node ≢ answer → IsAlone rules.old rules.new node }
+{
+    rules.set_up(answer, all_of(alloc, &[high(request)])?);
+    rules.set_down(answer, all_of(alloc, &[low(request)])?);
+    Ok(())
+}
