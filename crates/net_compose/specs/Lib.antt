@@ -1,0 +1,2 @@
+pub mod Translation
+pub use Rattle.prs_core.specs.Nets

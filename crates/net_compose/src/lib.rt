@@ -1,0 +1,4 @@
+//! The composition of a program's circuit.
+#![tactic(auto)]
+
+mod plain;
