@@ -1,0 +1,5 @@
+pub mod Signs
+pub mod Spelled
+pub mod Cutting
+pub mod Fronts
+pub mod Numbers

@@ -1,8 +1,10 @@
 //! The language: tokens, grammar and the tree of a program.
 #![tactic(auto)]
 
+mod scan;
 mod token;
 mod tree;
 
+pub use scan::tokens;
 pub use token::{Key, Mark, Token, TokenKind};
 pub use tree::{Arm, Decl, DeclKind, Expr, Ident, Link, Op, Proc, Program, Stmt};
