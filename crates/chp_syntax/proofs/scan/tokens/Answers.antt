@@ -1,7 +1,7 @@
 use Rattle.std.proofs.Common.{drop, sym, arith, length-drop}
 use Rattle.chp_syntax.specs.declared.scan.Front.TheVariants.{Gap, Piece, Bad}
 use Rattle.chp_syntax.specs.Tokens.{so_far, IsGap, IsToken, IsNoToken}
-use Rattle.chp_syntax.proofs.Cutting.{gap_within, token_within, cut_gap, cut_token, cut_bad, cut_end, bad_no_cut, one_cut, in_order}
+use Rattle.chp_syntax.proofs.Cutting.{gap_within, token_within, cut_gap, cut_token, cut_bad, cut_end, bad_no_cut, one_bad, one_cut, in_order}
 use Rattle.chp_syntax.proofs.Fronts.{front_at}
 use Rattle.chp_syntax.proofs.scan.tokens.Goals as goal
 
@@ -27,6 +27,11 @@ pub returns-in-Bad-clause-refused : goal.returns-in-Bad-clause-refused
 returns-in-Bad-clause-refused c =
     let bad : IsNoToken c.in-Bad.length (drop c.loop-at.at c.args.text.now) = front_at c.args.text.now c.loop-at.at _ _ c.in_ok-length.ensures c.in-Bad.is in
     rw (c.bad_token.ensures) (bad_no_cut _ _ (cut_bad _ _ _ _ c.loop-at.invariant.1 bad))
+
+pub returns-in-Bad-clause-first : goal.returns-in-Bad-clause-first
+returns-in-Bad-clause-first c =
+    let bad : IsNoToken c.in-Bad.length (drop c.loop-at.at c.args.text.now) = front_at c.args.text.now c.loop-at.at _ _ c.in_ok-length.ensures c.in-Bad.is in
+    rw (c.bad_token.ensures, c.span-in-Bad.ensures) (λ s h. one_bad c.args.text.now s _ h (cut_bad _ _ _ _ c.loop-at.invariant.1 bad))
 
 pub returns-clause-only : goal.returns-clause-only
 returns-clause-only c = λ us h. one_cut _ _ _ h (cut_end _ _ _ c.loop-at.invariant.0 c.loop-at-test.false c.loop-at.invariant.1)
