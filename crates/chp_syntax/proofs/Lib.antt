@@ -3,3 +3,4 @@ pub mod Spelled
 pub mod Cutting
 pub mod Fronts
 pub mod Numbers
+pub mod Places

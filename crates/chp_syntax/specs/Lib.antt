@@ -4,3 +4,4 @@ pub mod Front
 pub mod Trees
 pub mod Grammar
 pub mod Reading
+pub mod Limits

@@ -1,6 +1,7 @@
 //! The language: tokens, grammar and the tree of a program.
 #![tactic(auto)]
 
+mod limits;
 mod scan;
 mod token;
 mod tree;
