@@ -1,8 +1,11 @@
 //! The language: tokens, grammar and the tree of a program.
 #![tactic(auto)]
 
+mod limits;
+mod scan;
 mod token;
 mod tree;
 
+pub use scan::tokens;
 pub use token::{Key, Mark, Token, TokenKind};
 pub use tree::{Arm, Decl, DeclKind, Expr, Ident, Link, Op, Proc, Program, Stmt};
