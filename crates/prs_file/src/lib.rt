@@ -1,0 +1,8 @@
+//! The text of a rule file, versions 1 and 2.
+#![tactic(auto)]
+
+mod forms;
+mod print;
+
+pub use forms::{Lead, channel_line, head_line, literal_text, node_line, rule_end};
+pub use print::print_net;
