@@ -1,0 +1,4 @@
+pub mod Steps
+pub mod Group
+pub mod Rows
+pub mod Expressions

@@ -3,3 +3,5 @@ pub mod Tokens
 pub mod Trees
 pub mod Grammar
 pub mod Reading
+pub mod Parts
+pub mod View

@@ -1,6 +1,7 @@
 //! The language: tokens, grammar and the tree of a program.
 #![tactic(auto)]
 
+mod parser;
 mod token;
 mod tree;
 
