@@ -4,3 +4,7 @@ pub mod Cutting
 pub mod Fronts
 pub mod Numbers
 pub mod Places
+pub mod Steps
+pub mod Group
+pub mod Rows
+pub mod Expressions

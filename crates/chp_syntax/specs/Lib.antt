@@ -5,3 +5,5 @@ pub mod Trees
 pub mod Grammar
 pub mod Reading
 pub mod Limits
+pub mod Parts
+pub mod View

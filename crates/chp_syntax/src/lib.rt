@@ -3,6 +3,7 @@
 
 mod limits;
 mod scan;
+mod parser;
 mod token;
 mod tree;
 

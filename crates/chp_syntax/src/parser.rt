@@ -1,0 +1,4 @@
+//! The parser.
+
+mod expression;
+mod sight;
