@@ -1,0 +1,3 @@
+mod Guards
+mod Laid
+mod Whole
