@@ -1,2 +1,4 @@
+pub mod Errors
 pub mod Translation
+pub use Rattle.chp_syntax.specs.View
 pub use Rattle.prs_core.specs.Nets

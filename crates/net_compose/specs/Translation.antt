@@ -1,5 +1,5 @@
 -- The net of a program: how its nodes are numbered and named, and the rules of each. One row for each construct.
-use Rattle.std.specs.Prelude.{◌≡◌, ℕ, ◌+◌, Bool, true, false, List, [], ◌∷◌, ◌++◌, map, replicate, None, codes, decimal}
+use Rattle.std.specs.Prelude.{◌≡◌, ℕ, ◌+◌, Bool, true, false, List, [], ◌∷◌, ◌++◌, ◌&&◌, map, replicate, None, codes, decimal}
 use Rattle.std.specs.List.{range_with_len}
 use Rattle.prs_core.specs.Nets.{NodeRules, RulesValue, NetValue, net_of}
 use Rattle.cell_sequence.specs.Sequence.{q_child, q_latch, q_next, skip_answer}
@@ -71,10 +71,12 @@ abbrev pub does_nothing : Statement → Bool
 does_nothing (skips at) = true
 does_nothing _ = false
 
-pub record IsBuilt (p : ProgramTree) : Type 0 where
-  pub decls : p.decls ≡ []
-  pub procs : p.procs ≡ []
-  pub body : does_nothing p.body ≡ true
+abbrev pub is_none : {X : Type 0} → List X → Bool
+is_none [] = true
+is_none (x ∷ xs) = false
+
+abbrev pub is_built : ProgramTree → Bool
+is_built p = does_nothing p.body && (is_none p.decls && is_none p.procs)
 
 -- such a program
 abbrev pub nothing : ProgramTree

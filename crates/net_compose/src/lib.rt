@@ -2,3 +2,6 @@
 #![tactic(auto)]
 
 mod plain;
+mod translate;
+
+pub use translate::{PlainNetError, translate_plain};

@@ -1,10 +1,10 @@
 //! The net of a program that does nothing.
 
-ghost use Rattle.std.specs.Prelude.{◌≡◌, ℕ, ◌-◌, ◌<◌, ◌≤◌, ◌^◌, ◌∷◌, [], map, replicate, IfOk, codes, false};
+ghost use Rattle.std.specs.Prelude.{◌≡◌, ℕ, ◌-◌, ◌<◌, ◌≤◌, ◌^◌, ◌∷◌, [], map, replicate, IfOk, codes, true, false};
 ghost use Rattle.std.specs.List.{range_with_len};
 ghost use Rattle.chp_base.specs.Names.{IsNodeName};
 ghost use Rattle.prs_core.specs.Nets.{RulesValue};
-ghost use Rattle.net_compose.specs.Translation.{translation, composed, nothing, numbered, IsBuilt};
+ghost use Rattle.net_compose.specs.Translation.{translation, composed, nothing, numbered, is_built};
 
 use cell_sequence::{QPorts, emit_q, emit_skip};
 use chp_base::{Name, node_name_of};
@@ -76,7 +76,7 @@ fn all_low(alloc: Global, count: u32) -> Result<Vec<bool>, AllocError>
 
 /// The net of a program that does nothing.
 pub fn skip_net(alloc: Global) -> Result<Net, AllocError>
-    ensures { IfOk result (λ net. (p : _) → IsBuilt p → net ≡ translation p) }
+    ensures { IfOk result (λ net. (p : _) → is_built p ≡ true → net ≡ translation p) }
 {
     let names = node_names(alloc, NODES)?;
     let first = all_low(alloc, NODES)?;
