@@ -1,13 +1,9 @@
 -- The signs: one or two bytes each, and of no text both the one and the other.
-use Rattle.std.proofs.Common.{◌≡◌, ◌≢◌, ℕ, zero, suc, ◌<◌, ◌≤◌, Bool, true, false, List, [], ◌∷◌, ◌++◌, length, get_or, take, refl, sym, ap, ◌∙◌, subst, arith, Option, Some, inl, inr, ◌⊎◌}
-use Rattle.std.specs.Prelude.{nat_le, nat_lt}
-use Rattle.std.specs.List.{list_all, list_any}
-use Rattle.std.specs.Str.{bytes_eq}
-use Rattle.chp_base.specs.Names.{word_part}
+use Rattle.std.proofs.Common.{◌≡◌, ◌≢◌, ℕ, zero, suc, ◌<◌, ◌≤◌, List, [], ◌∷◌, ◌++◌, length, get_or, sym, ap, ◌∙◌, arith, inl, inr, ◌⊎◌}
 use Rattle.chp_syntax.specs.declared.token.Mark.{Mark}
 use Rattle.chp_syntax.specs.declared.token.Mark.TheVariants as mark
 use Rattle.chp_syntax.specs.Spelling.{sign_text}
-use Rattle.chp_syntax.specs.Front.{HasSign, LongestSign}
+use Rattle.chp_syntax.specs.Front.{LongestSign}
 
 sign_most : (m : Mark) → length (sign_text m) ≤ 2
 sign_most mark.BarBar = omega arith
