@@ -49,7 +49,7 @@ pub enum Added {
 }
 
 /// A table of names, seen as the list of its distinct names in the order in which they were added.
-#[derive(Drop)]
+#[derive(Debug, Drop)]
 pub struct Symbols {
     names: IndexSet<Name>,
 }

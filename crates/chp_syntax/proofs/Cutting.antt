@@ -1,9 +1,7 @@
 -- A text is cut in one way, as far as it goes.
-use Rattle.std.proofs.Common.{◌≡◌, ◌≢◌, ℕ, zero, suc, ◌+◌, ◌-◌, ◌<◌, ◌≤◌, Bool, true, false, List, [], ◌∷◌, ◌++◌, length, get_or, take, drop, refl, sym, ap, ◌∙◌, subst, arith, Option, Some, None, inl, inr, ◌⊎◌, length-take}
-use Rattle.std.specs.Prelude.{◌&&◌, ◌||◌, ◌==◌, not}
-use Rattle.std.specs.List.{list_all, prefix_len, position_or_len}
-use Rattle.std.proofs.Math.Seq.{take-nil, drop-nil, drop-cons}
-use Rattle.std.proofs.lemmas.List.{drop-drop, drop_all, append-nil, length-drop}
+use Rattle.std.proofs.Common.{◌≡◌, ℕ, zero, suc, ◌+◌, ◌<◌, ◌≤◌, Bool, true, false, List, [], ◌∷◌, ◌++◌, length, take, drop, refl, sym, ap, ◌∙◌, subst, arith, inl, inr, length-take}
+use Rattle.std.specs.Prelude.{◌||◌, ◌==◌, not}
+use Rattle.std.proofs.lemmas.List.{drop-drop, drop_all, append-nil}
 use Rattle.std.proofs.lemmas.List.Sums.{prefix_len-le-length}
 use Rattle.std.proofs.lemmas.Bool.Decides.{nat_tests}
 use Rattle.chp_base.specs.Names.{word_part}
@@ -13,8 +11,8 @@ use Rattle.chp_syntax.specs.declared.token.Token.{Token}
 use Rattle.chp_syntax.specs.declared.token.Mark.{Mark}
 use Rattle.chp_syntax.specs.declared.token.Mark.TheVariants as mark
 use Rattle.chp_syntax.specs.Spelling.{Spells, sign_text}
-use Rattle.chp_syntax.specs.Tokens.{blank, begins_blank, IsComment, IsGap, IsRun, IsPiece, IsLongest, IsToken, span, Cuts, so_far, a_gap, a_token, Tokens, IsNoToken, BadToken, InOrder}
-use Rattle.chp_syntax.proofs.Spelled.{left_true, right_true, spells_once}
+use Rattle.chp_syntax.specs.Tokens.{blank, begins_blank, IsGap, IsPiece, IsLongest, IsToken, span, Cuts, so_far, a_gap, a_token, Tokens, IsNoToken, BadToken, InOrder}
+use Rattle.chp_syntax.proofs.Spelled.{left_true, spells_once}
 
 abbrev nil : List ℕ
 nil = []

@@ -1,13 +1,13 @@
 -- Numbers and their digits.
-use Rattle.std.proofs.Common.{◌≡◌, ◌≢◌, ℕ, zero, suc, ◌+◌, ◌-◌, ◌*◌, ◌^◌, ◌<◌, ◌≤◌, Bool, true, false, List, [], ◌∷◌, ◌++◌, length, get_or, take, drop, refl, sym, ap, ◌∙◌, subst, arith, inl, inr, ◌⊎◌}
-use Rattle.std.specs.Prelude.{◌&&◌, ◌||◌, fold, if◌then◌else◌}
+use Rattle.std.proofs.Common.{◌≡◌, ℕ, suc, ◌+◌, ◌*◌, ◌^◌, ◌<◌, ◌≤◌, true, List, [], ◌∷◌, length, get_or, take, drop, refl, sym, ap, ◌∙◌, arith}
+use Rattle.std.specs.Prelude.{fold}
 use Rattle.std.specs.List.{list_all}
 use Rattle.std.proofs.Math.Nat.{mul-le-mul_left, pow-le-pow_right}
 use Rattle.std.proofs.lemmas.Bool.Decides.{nat_tests}
-use Rattle.std.proofs.lemmas.List.{take-append-drop, take_rest}
+use Rattle.std.proofs.lemmas.List.{take-append-drop}
 use Rattle.std.proofs.lemmas.List.Sums.{fold_more, fold-append}
-use Rattle.chp_base.specs.Names.{digit, between}
-use Rattle.chp_syntax.specs.Spelling.{hex_digit, digit_value, number_in, IsDecimal, IsHexadecimal}
+use Rattle.chp_base.specs.Names.{digit}
+use Rattle.chp_syntax.specs.Spelling.{hex_digit, digit_value, number_in}
 use Rattle.chp_syntax.proofs.Spelled.{left_true, right_true}
 
 abbrev step : ℕ → ℕ → ℕ → ℕ

@@ -1,5 +1,5 @@
 -- The first token of a kind, and the first behind which too many brackets are open.
-use Rattle.std.proofs.Common.{◌≡◌, ℕ, zero, suc, ◌+◌, ◌<◌, ◌≤◌, Bool, true, false, List, [], ◌∷◌, ◌++◌, length, get_or, take, drop, refl, sym, ap, ◌∙◌, subst, arith, inl, inr, ◌⊎◌}
+use Rattle.std.proofs.Common.{◌≡◌, ℕ, zero, suc, ◌+◌, ◌<◌, ◌≤◌, Bool, true, false, List, [], ◌∷◌, ◌++◌, length, get_or, take, drop, refl, sym, ap, ◌∙◌, arith, inl, inr, ◌⊎◌}
 use Rattle.std.proofs.lemmas.List.{take-append-drop, drop_more, take_more, take-append-le, take_all, length_push}
 use Rattle.chp_syntax.specs.declared.token.Token.{Token}
 use Rattle.chp_syntax.specs.declared.token.TokenKind.{TokenKind}

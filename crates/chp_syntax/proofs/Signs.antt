@@ -1,21 +1,13 @@
--- The signs: one or two bytes each, and of no text both the one and the other.
-use Rattle.std.proofs.Common.{◌≡◌, ◌≢◌, ℕ, zero, suc, ◌<◌, ◌≤◌, Bool, true, false, List, [], ◌∷◌, ◌++◌, length, get_or, take, refl, sym, ap, ◌∙◌, subst, arith, Option, Some, inl, inr, ◌⊎◌}
-use Rattle.std.specs.Prelude.{nat_le, nat_lt}
-use Rattle.std.specs.List.{list_all, list_any}
-use Rattle.std.specs.Str.{bytes_eq}
-use Rattle.chp_base.specs.Names.{word_part}
+-- A sign has one byte or two, so the longest that fits has two where any of two fits.
+use Rattle.std.proofs.Common.{◌≡◌, ◌≢◌, ℕ, zero, suc, ◌<◌, ◌≤◌, List, [], ◌∷◌, ◌++◌, length, get_or, sym, ap, ◌∙◌, arith, inl, inr, ◌⊎◌}
 use Rattle.chp_syntax.specs.declared.token.Mark.{Mark}
 use Rattle.chp_syntax.specs.declared.token.Mark.TheVariants as mark
 use Rattle.chp_syntax.specs.Spelling.{sign_text}
-use Rattle.chp_syntax.specs.Front.{HasSign, LongestSign}
+use Rattle.chp_syntax.specs.Front.{LongestSign}
 
 sign_most : (m : Mark) → length (sign_text m) ≤ 2
 sign_most mark.BarBar = omega arith
 sign_most _ = omega arith
-
-pub sign_some : (m : Mark) → 0 < length (sign_text m)
-sign_some mark.BarBar = omega arith
-sign_some _ = omega arith
 
 two_long : (text s rest : List ℕ) (b c : ℕ) → text ≡ s ++ rest → length s ≡ 2 → get_or text 0 0 ≡ b → get_or text 1 0 ≡ c → b ∷ c ∷ [] ≡ s
 two_long text [] rest b c e n x y = absurd (omega arith)

@@ -1,5 +1,5 @@
 -- What stands at the front of a text.
-use Rattle.std.specs.Prelude.{◌≡◌, ℕ, ◌<◌, ◌≤◌, List, ◌++◌, length}
+use Rattle.std.specs.Prelude.{◌≡◌, ℕ, ◌≤◌, List, ◌++◌, length}
 use Rattle.chp_syntax.specs.declared.token.Mark.{Mark}
 use Rattle.chp_syntax.specs.declared.scan.Front.{Front}
 use Rattle.chp_syntax.specs.declared.scan.Front.TheVariants.{Gap, Piece, Bad}

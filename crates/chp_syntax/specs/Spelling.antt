@@ -1,5 +1,5 @@
 -- How each kind of token is spelled.
-use Rattle.std.specs.Prelude.{◌≡◌, ℕ, ◌+◌, ◌*◌, ◌-◌, ◌^◌, ◌<◌, ◌≤◌, ◌||◌, ◌==◌, nat_le, Bool, true, List, [], ◌∷◌, ◌++◌, length, ◌⊎◌, fold, if◌then◌else◌}
+use Rattle.std.specs.Prelude.{◌≡◌, ℕ, ◌+◌, ◌*◌, ◌-◌, ◌^◌, ◌<◌, ◌≤◌, ◌||◌, Bool, true, List, ◌++◌, length, ◌⊎◌, fold, if◌then◌else◌}
 use Rattle.std.specs.List.{list_all}
 use lib.Chars.{codes}
 use Rattle.chp_base.specs.Names.{between, digit, IsName}

@@ -76,3 +76,41 @@ pub(crate) fn too_deep(tokens: &[Token]) -> Option<Span>
     }
     None
 }
+
+#[cfg(test)]
+mod tests {
+    use super::*;
+    use crate::scan::tokens;
+    use std::test::Fail;
+
+    #[test]
+    fn first_of_its_kind(rt: HostRuntime) -> Result<(), Fail> {
+        let read = tokens(rt.alloc(), b"[|][ [| # #")?;
+        assert_eq!(rt; arbiter(&read), Some(Span { from: 0, to: 2 }));
+        assert_eq!(rt; probe(&read), Some(Span { from: 8, to: 9 }));
+        assert_eq!(rt; too_deep(&read), None);
+        Ok(())
+    }
+
+    #[test]
+    fn depth(rt: HostRuntime) -> Result<(), Fail> {
+        let rows = [
+            ("(", "[", 256, Some(Span { from: 256, to: 257 })),
+            ("{", "[", 255, None),
+            ("[]", "(", 300, None),
+            (")", "(", 300, None),
+            ("()", "(", 300, None),
+        ];
+        for (part, last, count, place) in rows {
+            let mut text = String::new(rt.alloc());
+            for _ in 0..count {
+                text.push_str(part)?;
+            }
+            text.push_str(last)?;
+            assert!(rt; text.len() <= 262_144);
+            let read = tokens(rt.alloc(), text.as_bytes())?;
+            assert_eq!(rt; too_deep(&read), place, "at {part}");
+        }
+        Ok(())
+    }
+}

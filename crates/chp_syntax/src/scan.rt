@@ -310,3 +310,98 @@ pub fn tokens(alloc: Global, text: &[u8]) -> Result<Vec<Token>, TextError>
     }
     Ok(tokens)
 }
+
+#[cfg(test)]
+mod tests {
+    use super::*;
+    use std::test::Fail;
+
+    const MOST: usize = 262_144;
+
+    #[test]
+    fn faults(rt: HostRuntime) -> Result<(), Fail> {
+        let rows = [
+            (b"begin skip @ end".as_slice(), 11, 12),
+            (b"x abcdefghijklmnopqrstuvwxy", 2, 27),
+            (b"12ab;", 0, 4),
+            (b"_a", 0, 2),
+            (b"18446744073709551616", 0, 20),
+            (b"0x", 0, 2),
+            (b"0x00000000000000001", 0, 19),
+            (b"0X1", 0, 3),
+            (b"a / b", 2, 3),
+            (b"//\n\x00", 3, 4),
+            (b"\xff//", 0, 1),
+        ];
+        for (text, from, to) in rows {
+            assert!(rt; text.len() <= MOST);
+            let at = Span { from, to };
+            match tokens(rt.alloc(), text) {
+                Err(TextError::Refused(fault)) => assert_eq!(rt; fault.at, at),
+                _ => panic!(rt; "read, at {from}"),
+            }
+        }
+        Ok(())
+    }
+
+    #[test]
+    fn numbers(rt: HostRuntime) -> Result<(), Fail> {
+        let rows = [
+            ("0", 0),
+            ("007", 7),
+            ("18446744073709551615", u64::MAX),
+            ("0xffffffffffffffff", u64::MAX),
+            ("0x0aF", 175),
+        ];
+        for (text, value) in rows {
+            assert!(rt; text.len() <= MOST);
+            let read = tokens(rt.alloc(), text.as_bytes())?;
+            assert_eq!(rt; read.len(), 1, "at {text}");
+            assert_eq!(rt; read[0].kind, TokenKind::Number(value), "at {text}");
+        }
+        Ok(())
+    }
+
+    #[test]
+    fn longest_signs(rt: HostRuntime) -> Result<(), Fail> {
+        let marks = [
+            Mark::AtMost,
+            Mark::Becomes,
+            Mark::BarBar,
+            Mark::Bar,
+            Mark::Choice,
+            Mark::BracketBar,
+            Mark::Arrow,
+            Mark::NotEqual,
+            Mark::AtLeast,
+            Mark::Minus,
+            Mark::Equal,
+            Mark::Greater,
+        ];
+        let read = tokens(rt.alloc(), b"<=:=|||[][|->!=>=-=>")?;
+        assert_eq!(rt; read.len(), marks.len());
+        for (token, mark) in read.iter().zip(marks) {
+            assert_eq!(rt; token.kind, TokenKind::Sign(mark));
+        }
+        Ok(())
+    }
+
+    #[test]
+    fn words_between_gaps(rt: HostRuntime) -> Result<(), Fail> {
+        let rows = [
+            (b"a//x\nend".as_slice(), 2, 5, 8),
+            (b"//a\n\r\tend", 1, 6, 9),
+            (b"a \n end//\x00\xff", 2, 4, 7),
+            (b"a//\x00\xff//\nend", 2, 8, 11),
+        ];
+        for (text, count, from, to) in rows {
+            assert!(rt; text.len() <= MOST);
+            let read = tokens(rt.alloc(), text)?;
+            assert_eq!(rt; read.len(), count, "at {from}");
+            let last = read.last().ok_or("no token")?;
+            assert_eq!(rt; last.kind, TokenKind::Word(Key::End), "at {from}");
+            assert_eq!(rt; last.at, Span { from, to });
+        }
+        Ok(())
+    }
+}

@@ -1,5 +1,4 @@
-use Rattle.std.proofs.Common.{drop, sym, arith, length-drop}
-use Rattle.chp_syntax.specs.declared.scan.Front.TheVariants.{Gap, Piece, Bad}
+use Rattle.std.proofs.Common.{drop, arith, length-drop}
 use Rattle.chp_syntax.specs.Tokens.{so_far, IsGap, IsToken, IsNoToken}
 use Rattle.chp_syntax.proofs.Cutting.{gap_within, token_within, cut_gap, cut_token, cut_bad, cut_end, bad_no_cut, one_bad, one_cut, in_order}
 use Rattle.chp_syntax.proofs.Fronts.{front_at}

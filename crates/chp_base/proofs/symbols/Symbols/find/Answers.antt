@@ -1,4 +1,4 @@
-use Rattle.std.proofs.Common.{◌≡◌, sym}
+use Rattle.std.proofs.Common.{sym}
 use Rattle.chp_base.proofs.SymbolLemmas.{absent, found_at}
 use Rattle.chp_base.proofs.symbols.Symbols.find.Goals as goal
 
