@@ -312,7 +312,7 @@ comparison_out (compared s e r) = and_then s (other (and_then (operator e) (and_
 pub comparison_start : (xs : List Token) → SoFar Comparison (Stops 8) xs xs (Then Sum After_sum)
 comparison_start xs = instead (Then Sum After_sum) (start Comparison (Stops 8) xs) (λ l rest a q. comparison_in q) (λ l rest a s f w. comparison_out w)
 
-compared_ranked : (j : TokenKind) (o : Op) → comparison_of j ≡ Some o → rank j ≡ 8
+pub compared_ranked : (j : TokenKind) (o : Op) → comparison_of j ≡ Some o → rank j ≡ 8
 compared_ranked (Sign mark.Equal) o e = refl
 compared_ranked (Sign mark.NotEqual) o e = refl
 compared_ranked (Sign mark.Less) o e = refl

@@ -1,0 +1,501 @@
+-- Statements: what is to come after each of their parts.
+use Rattle.std.proofs.Common.{◌≡◌, ℕ, suc, ◌+◌, ◌<◌, List, [], ◌∷◌, ◌++◌, length, true, false, Option, Some, None, refl, sym, ap, ◌∙◌, subst, arith}
+use Rattle.chp_base.specs.declared.span.Span.{Span}
+use Rattle.chp_syntax.specs.declared.token.Token.{Token}
+use Rattle.chp_syntax.specs.declared.token.TokenKind.{TokenKind}
+use Rattle.chp_syntax.specs.declared.token.TokenKind.TheVariants.{Word, Ident, Number, Sign}
+use Rattle.chp_syntax.specs.declared.token.Key.TheVariants as key
+use Rattle.chp_syntax.specs.declared.token.Mark.TheVariants as mark
+use Rattle.chp_syntax.specs.declared.tree.Ident.{Ident as Named}
+use Rattle.chp_syntax.specs.declared.parser.sight.AtomFront.{AtomFront}
+use Rattle.chp_syntax.specs.declared.parser.sight.AtomFront.TheVariants as atom
+use Rattle.chp_syntax.specs.declared.parser.sight.ActionFront.{ActionFront}
+use Rattle.chp_syntax.specs.declared.parser.sight.ActionFront.TheVariants as action
+use Rattle.chp_syntax.specs.Trees.{Expression, number, Statement, skips, assigns, sends, receives, follows, besides, selects, repeats, calls, Statements, no_members, and_member, Arms, no_arms, and_arm}
+use Rattle.chp_syntax.specs.Grammar.{named, name, numeral, word, sign, Covered, cover, Guarded, guarded, sequence_of, parallel_of, a_number, Disjunction, Atom, a_skip, an_assignment, a_send, a_receive, a_call, in_round, a_loop, a_guarded_loop, a_selection, Branch, the_branch, Choices, the_choices, MoreChoices, no_more_choices, one_more_choice, Both, the_both, MoreBoth, no_more_both, one_more_both, Seq, the_seq, MoreSeq, no_more_seq, one_more_seq, Par, the_par, MorePar, no_more_par, one_more_par}
+use Rattle.chp_syntax.specs.Parts.{Part, sees, IsKind, rank, Stops, Anything, Exactly, exactly, AName, the_name, Inside, a_body, some_arms, Good, Bad, atom_kind, atom_front, action_kind, action_front}
+use Rattle.chp_syntax.specs.View.{onto, and_guarded}
+use Rattle.chp_syntax.proofs.Steps.{zero_span, SoFar, Ends, Seam, Then, and_then, Done, all_done, Either, one, other, start, instead, by_part, bad_here, exactly_seen, ends_exactly, ends_name, ends_done, ends_then, ends_one, any_seam, kind_seam, last_seam, last_any, stops_more, stops_done, then_kind}
+use Rattle.chp_syntax.proofs.Group.{Further, no_further, a_further, Grouping, group_ends}
+use Rattle.chp_syntax.proofs.Expressions.{ends_disjunction}
+
+abbrev F5 : Option Token → Type 0
+F5 = Stops 5
+
+pub ends_atom : Ends Atom
+ends_atom = (word key.Skip zero_span ∷ [], skips zero_span, λ rest. a_skip)
+
+pub atom_par : {l rest : List Token} {t : Statement} → Atom l rest t → Par l rest t
+atom_par a = the_par (the_seq (the_both a no_more_both) no_more_seq) no_more_par
+
+pub both_out : {l rest : List Token} {a : Statement} → Both l rest a → (mid : List Token) × (b : Statement) × (us : Statements) × Atom l mid b × MoreBoth mid rest us × (a ≡ parallel_of b us)
+both_out (the_both {mid = mid} {t = t} {us = us} a n) = (mid, t, us, a, n, refl)
+
+pub both_more : {l rest : List Token} {us : Statements} → MoreBoth l rest us → Further Atom MoreBoth (Exactly (Sign mark.Comma)) (λ p b. b) no_members and_member l rest us
+both_more no_more_both = no_further
+both_more (one_more_both a n) = a_further exactly a n
+
+pub both_in : {l x mid rest : List Token} {o : Span} {b : Statement} {us : Statements} → Exactly (Sign mark.Comma) l x o → Atom x mid b → MoreBoth mid rest us → MoreBoth l rest (and_member b us)
+both_in exactly a n = one_more_both a n
+
+pub both_marked : (t : Option Token) → IsKind (Sign mark.Comma) t → Stops 5 t
+both_marked None h = tt
+both_marked (Some t) h = let e : rank t.kind ≡ 4 = ap rank h in omega (arith, e)
+
+pub both_apart : (t : Option Token) → IsKind (Sign mark.Comma) t → Stops 4 t → ⊥
+both_apart None h f = h
+both_apart (Some t) h f = let e : rank t.kind ≡ 4 = ap rank h in let lt : rank t.kind < 4 = f in omega (arith, e, lt)
+
+abbrev pub both_group : Grouping
+both_group = record {
+  A = Statement;
+  B = Statement;
+  U = Statements;
+  O = Span;
+  I = Statement;
+  W = Both;
+  F = Stops 4;
+  R = Atom;
+  G = Stops 5;
+  M = MoreBoth;
+  S = Exactly (Sign mark.Comma);
+  H = IsKind (Sign mark.Comma);
+  item = λ p b. b;
+  none = no_members;
+  more = and_member;
+  build = parallel_of;
+  w_in = λ l mid rest b us a n. the_both a n;
+  w_out = λ l rest a w. both_out w;
+  m_none = λ l. no_more_both;
+  m_more = λ l x mid rest o b us s a n. both_in s a n;
+  m_out = λ l rest us n. both_more n;
+  seen = λ l rest o s. exactly_seen s;
+  marked = both_marked;
+  apart = both_apart;
+  weaker = λ t f. stops_more 4 5 t (omega arith) f;
+  ends = ends_atom;
+  ends_sign = ends_exactly (Sign mark.Comma);
+}
+
+pub ends_both : Ends Both
+ends_both = group_ends both_group
+
+pub seq_out : {l rest : List Token} {a : Statement} → Seq l rest a → (mid : List Token) × (b : Statement) × (us : Statements) × Both l mid b × MoreSeq mid rest us × (a ≡ sequence_of b us)
+seq_out (the_seq {mid = mid} {t = t} {us = us} a n) = (mid, t, us, a, n, refl)
+
+pub seq_more : {l rest : List Token} {us : Statements} → MoreSeq l rest us → Further Both MoreSeq (Exactly (Sign mark.Semicolon)) (λ p b. b) no_members and_member l rest us
+seq_more no_more_seq = no_further
+seq_more (one_more_seq a n) = a_further exactly a n
+
+pub seq_in : {l x mid rest : List Token} {o : Span} {b : Statement} {us : Statements} → Exactly (Sign mark.Semicolon) l x o → Both x mid b → MoreSeq mid rest us → MoreSeq l rest (and_member b us)
+seq_in exactly a n = one_more_seq a n
+
+pub seq_marked : (t : Option Token) → IsKind (Sign mark.Semicolon) t → Stops 4 t
+seq_marked None h = tt
+seq_marked (Some t) h = let e : rank t.kind ≡ 3 = ap rank h in omega (arith, e)
+
+pub seq_apart : (t : Option Token) → IsKind (Sign mark.Semicolon) t → Stops 3 t → ⊥
+seq_apart None h f = h
+seq_apart (Some t) h f = let e : rank t.kind ≡ 3 = ap rank h in let lt : rank t.kind < 3 = f in omega (arith, e, lt)
+
+abbrev pub seq_group : Grouping
+seq_group = record {
+  A = Statement;
+  B = Statement;
+  U = Statements;
+  O = Span;
+  I = Statement;
+  W = Seq;
+  F = Stops 3;
+  R = Both;
+  G = Stops 4;
+  M = MoreSeq;
+  S = Exactly (Sign mark.Semicolon);
+  H = IsKind (Sign mark.Semicolon);
+  item = λ p b. b;
+  none = no_members;
+  more = and_member;
+  build = sequence_of;
+  w_in = λ l mid rest b us a n. the_seq a n;
+  w_out = λ l rest a w. seq_out w;
+  m_none = λ l. no_more_seq;
+  m_more = λ l x mid rest o b us s a n. seq_in s a n;
+  m_out = λ l rest us n. seq_more n;
+  seen = λ l rest o s. exactly_seen s;
+  marked = seq_marked;
+  apart = seq_apart;
+  weaker = λ t f. stops_more 3 4 t (omega arith) f;
+  ends = ends_both;
+  ends_sign = ends_exactly (Sign mark.Semicolon);
+}
+
+pub ends_seq : Ends Seq
+ends_seq = group_ends seq_group
+
+pub par_out : {l rest : List Token} {a : Statement} → Par l rest a → (mid : List Token) × (b : Statement) × (us : Statements) × Seq l mid b × MorePar mid rest us × (a ≡ parallel_of b us)
+par_out (the_par {mid = mid} {t = t} {us = us} a n) = (mid, t, us, a, n, refl)
+
+pub par_more : {l rest : List Token} {us : Statements} → MorePar l rest us → Further Seq MorePar (Exactly (Sign mark.BarBar)) (λ p b. b) no_members and_member l rest us
+par_more no_more_par = no_further
+par_more (one_more_par a n) = a_further exactly a n
+
+pub par_in : {l x mid rest : List Token} {o : Span} {b : Statement} {us : Statements} → Exactly (Sign mark.BarBar) l x o → Seq x mid b → MorePar mid rest us → MorePar l rest (and_member b us)
+par_in exactly a n = one_more_par a n
+
+pub par_marked : (t : Option Token) → IsKind (Sign mark.BarBar) t → Stops 3 t
+par_marked None h = tt
+par_marked (Some t) h = let e : rank t.kind ≡ 2 = ap rank h in omega (arith, e)
+
+pub par_apart : (t : Option Token) → IsKind (Sign mark.BarBar) t → Stops 2 t → ⊥
+par_apart None h f = h
+par_apart (Some t) h f = let e : rank t.kind ≡ 2 = ap rank h in let lt : rank t.kind < 2 = f in omega (arith, e, lt)
+
+abbrev pub par_group : Grouping
+par_group = record {
+  A = Statement;
+  B = Statement;
+  U = Statements;
+  O = Span;
+  I = Statement;
+  W = Par;
+  F = Stops 2;
+  R = Seq;
+  G = Stops 3;
+  M = MorePar;
+  S = Exactly (Sign mark.BarBar);
+  H = IsKind (Sign mark.BarBar);
+  item = λ p b. b;
+  none = no_members;
+  more = and_member;
+  build = parallel_of;
+  w_in = λ l mid rest b us a n. the_par a n;
+  w_out = λ l rest a w. par_out w;
+  m_none = λ l. no_more_par;
+  m_more = λ l x mid rest o b us s a n. par_in s a n;
+  m_out = λ l rest us n. par_more n;
+  seen = λ l rest o s. exactly_seen s;
+  marked = par_marked;
+  apart = par_apart;
+  weaker = λ t f. stops_more 2 3 t (omega arith) f;
+  ends = ends_seq;
+  ends_sign = ends_exactly (Sign mark.BarBar);
+}
+
+pub ends_par : Ends Par
+ends_par = group_ends par_group
+
+-- several members
+pub several : (V : Statements → Statement) (build : Statement → Statements → Statement) → ((t u : Statement) (us : Statements) → build t (and_member u us) ≡ V (and_member t (and_member u us))) → (t : Statement) (bs : List Statement) → t ≡ V (onto and_member bs no_members) → (length bs ≡ 1 → ⊥) → (b : Statement) (got : List Statement) → b ∷ got ≡ bs → t ≡ build b (onto and_member got no_members)
+several V build is t bs e n b [] h = absurd (n (ap length (sym h)))
+several V build is t bs e n b (x ∷ got) h = e ∙ (ap (λ (ys : List Statement). V (onto and_member ys no_members)) (sym h) ∙ sym (is b x (onto and_member got no_members)))
+
+-- expr "->" par
+abbrev pub Body : Covered → Part Guarded
+Body e = Then Par (λ t. Done (guarded e.expression t))
+
+abbrev pub Arrowed : Covered → Part Guarded
+Arrowed e = Then (Exactly (Sign mark.Arrow)) (λ p. Body e)
+
+branch_in : {l rest : List Token} {a : Guarded} → Then Disjunction Arrowed l rest a → Branch l rest a
+branch_in (and_then d (and_then exactly (and_then p all_done))) = the_branch d p
+
+branch_out : {l rest : List Token} {a : Guarded} → Branch l rest a → Then Disjunction Arrowed l rest a
+branch_out (the_branch d p) = and_then d (and_then exactly (and_then p all_done))
+
+pub branch_start : (xs : List Token) → SoFar Branch (Stops 2) xs xs (Then Disjunction Arrowed)
+branch_start xs = instead (Then Disjunction Arrowed) (start Branch (Stops 2) xs) (λ l rest a q. branch_in q) (λ l rest a s f w. branch_out w)
+
+body_ends : (e : Covered) → Ends (Body e)
+body_ends e = ends_then ends_par (λ t. ends_done (guarded e.expression t))
+
+pub guard_seam : Seam Disjunction (Stops 5) (Stops 2) Arrowed
+guard_seam = kind_seam (Sign mark.Arrow) 5 (omega arith) (λ e p. body_ends e)
+
+pub arrow_seam : (e : Covered) → Seam (Exactly (Sign mark.Arrow)) Anything (Stops 2) (λ p. Body e)
+arrow_seam e = any_seam (λ p. body_ends e)
+
+pub body_seam : (e : Covered) → Seam Par (Stops 2) (Stops 2) (λ t. Done (guarded e.expression t))
+body_seam e = last_seam (λ t. guarded e.expression t)
+
+pub ends_branch : Ends Branch
+ends_branch =
+    let e = ends_then ends_disjunction (λ e. ends_then (ends_exactly (Sign mark.Arrow)) (λ p. body_ends e)) in
+    (e.0, e.1, λ rest. branch_in (e.2 rest))
+
+pub choices_out : {l rest : List Token} {a : Arms} → Choices l rest a → (mid : List Token) × (b : Guarded) × (us : Arms) × Branch l mid b × MoreChoices mid rest us × (a ≡ and_guarded b us)
+choices_out (the_choices {mid = mid} {e = e} {t = t} {bs = us} a n) = (mid, guarded e t, us, a, n, refl)
+
+pub choices_more : {l rest : List Token} {us : Arms} → MoreChoices l rest us → Further Branch MoreChoices (Exactly (Sign mark.Choice)) (λ p b. b) no_arms and_guarded l rest us
+choices_more no_more_choices = no_further
+choices_more (one_more_choice {e = e} {t = t} a n) = a_further {b = guarded e t} exactly a n
+
+pub choices_in : {l x mid rest : List Token} {o : Span} {b : Guarded} {us : Arms} → Exactly (Sign mark.Choice) l x o → Branch x mid b → MoreChoices mid rest us → MoreChoices l rest (and_guarded b us)
+choices_in exactly a n = one_more_choice a n
+
+pub choices_marked : (t : Option Token) → IsKind (Sign mark.Choice) t → Stops 2 t
+choices_marked None h = tt
+choices_marked (Some t) h = let e : rank t.kind ≡ 1 = ap rank h in omega (arith, e)
+
+pub choices_apart : (t : Option Token) → IsKind (Sign mark.Choice) t → Stops 1 t → ⊥
+choices_apart None h f = h
+choices_apart (Some t) h f = let e : rank t.kind ≡ 1 = ap rank h in let lt : rank t.kind < 1 = f in omega (arith, e, lt)
+
+abbrev pub choices_group : Grouping
+choices_group = record {
+  A = Arms;
+  B = Guarded;
+  U = Arms;
+  O = Span;
+  I = Guarded;
+  W = Choices;
+  F = Stops 1;
+  R = Branch;
+  G = Stops 2;
+  M = MoreChoices;
+  S = Exactly (Sign mark.Choice);
+  H = IsKind (Sign mark.Choice);
+  item = λ p b. b;
+  none = no_arms;
+  more = and_guarded;
+  build = and_guarded;
+  w_in = λ l mid rest b us a n. the_choices a n;
+  w_out = λ l rest a w. choices_out w;
+  m_none = λ l. no_more_choices;
+  m_more = λ l x mid rest o b us s a n. choices_in s a n;
+  m_out = λ l rest us n. choices_more n;
+  seen = λ l rest o s. exactly_seen s;
+  marked = choices_marked;
+  apart = choices_apart;
+  weaker = λ t f. stops_more 1 2 t (omega arith) f;
+  ends = ends_branch;
+  ends_sign = ends_exactly (Sign mark.Choice);
+}
+
+pub ends_choices : Ends Choices
+ends_choices = group_ends choices_group
+
+pub ends_inside : Ends Inside
+ends_inside = (ends_par.0, repeats ends_par.1, λ rest. a_body (ends_par.2 rest))
+
+-- the alternatives of a statement, by their first tokens
+abbrev pub Skipped : Part Statement
+Skipped = Then (Exactly (Word key.Skip)) (λ s. Done (skips s))
+
+abbrev pub Called : Part Statement
+Called = Then (Exactly (Word key.Call)) (λ c. Then AName (λ i. Done (calls i)))
+
+abbrev pub Assigned : Named → Part Statement
+Assigned i = Then (Exactly (Sign mark.Becomes)) (λ b. Then Disjunction (λ e. Done (assigns i e.expression)))
+
+abbrev pub Sent : Named → Part Statement
+Sent i = Then (Exactly (Sign mark.Bang)) (λ b. Then Disjunction (λ e. Done (sends i e.expression)))
+
+abbrev pub Received : Named → Part Statement
+Received i = Then (Exactly (Sign mark.Question)) (λ b. Then AName (λ m. Done (receives i m)))
+
+abbrev pub After_target : Named → Part Statement
+After_target i = Either (Assigned i) (Either (Sent i) (Received i))
+
+abbrev pub Acted : Part Statement
+Acted = Then AName After_target
+
+abbrev pub Round_end : Statement → Part Statement
+Round_end t = Then (Exactly (Sign mark.CloseRound)) (λ c. Done t)
+
+abbrev pub Rounded : Part Statement
+Rounded = Then (Exactly (Sign mark.OpenRound)) (λ o. Then Par Round_end)
+
+abbrev pub Square_end : Statement → Part Statement
+Square_end t = Then (Exactly (Sign mark.CloseSquare)) (λ c. Done t)
+
+abbrev pub Starred : Part Statement
+Starred = Then (Exactly (Sign mark.Star)) (λ s. Then (Exactly (Sign mark.OpenSquare)) (λ o. Then Inside Square_end))
+
+abbrev pub Select_end : Arms → Part Statement
+Select_end bs = Then (Exactly (Sign mark.CloseSquare)) (λ c. Done (selects false bs))
+
+abbrev pub Squared : Part Statement
+Squared = Then (Exactly (Sign mark.OpenSquare)) (λ o. Then Choices Select_end)
+
+skip_in : {l rest : List Token} {a : Statement} → Skipped l rest a → Atom l rest a
+skip_in (and_then exactly all_done) = a_skip
+
+skip_out : {l rest : List Token} {a : Statement} → atom_front (sees l) ≡ atom.Skip → Atom l rest a → Skipped l rest a
+skip_out h a_skip = (and_then exactly all_done)
+skip_out h _ = absurd (cc h)
+
+pub skip_start : (xs : List Token) → atom_front (sees xs) ≡ atom.Skip → SoFar Atom F5 xs xs Skipped
+skip_start xs h = instead Skipped (start Atom F5 xs) (λ l rest a q. skip_in q) (λ l rest a s f w. skip_out (ap atom_front s ∙ h) w)
+
+call_in : {l rest : List Token} {a : Statement} → Called l rest a → Atom l rest a
+call_in (and_then exactly (and_then the_name all_done)) = a_call
+
+call_out : {l rest : List Token} {a : Statement} → atom_front (sees l) ≡ atom.Call → Atom l rest a → Called l rest a
+call_out h (a_call {n = n} {s = s}) = and_then exactly (and_then {b = named n s} the_name all_done)
+call_out h _ = absurd (cc h)
+
+pub call_start : (xs : List Token) → atom_front (sees xs) ≡ atom.Call → SoFar Atom F5 xs xs Called
+call_start xs h = instead Called (start Atom F5 xs) (λ l rest a q. call_in q) (λ l rest a s f w. call_out (ap atom_front s ∙ h) w)
+
+act_in : {l rest : List Token} {a : Statement} → Acted l rest a → Atom l rest a
+act_in (and_then the_name (one (and_then exactly (and_then d all_done)))) = an_assignment d
+act_in (and_then the_name (other (one (and_then exactly (and_then d all_done))))) = a_send d
+act_in (and_then the_name (other (other (and_then exactly (and_then the_name all_done))))) = a_receive
+
+act_out : {l rest : List Token} {a : Statement} → atom_front (sees l) ≡ atom.Name → Atom l rest a → Acted l rest a
+act_out h (an_assignment {n = n} {s = s} d) = and_then {b = named n s} the_name (one (and_then exactly (and_then d all_done)))
+act_out h (a_send {n = n} {s = s} d) = and_then {b = named n s} the_name (other (one (and_then exactly (and_then d all_done))))
+act_out h (a_receive {n = n} {m = m} {s = s} {r = r}) = and_then {b = named n s} the_name (other (other (and_then exactly (and_then {b = named m r} the_name all_done))))
+act_out h _ = absurd (cc h)
+
+pub act_start : (xs : List Token) → atom_front (sees xs) ≡ atom.Name → SoFar Atom F5 xs xs Acted
+act_start xs h = instead Acted (start Atom F5 xs) (λ l rest a q. act_in q) (λ l rest a s f w. act_out (ap atom_front s ∙ h) w)
+
+round_in : {l rest : List Token} {a : Statement} → Rounded l rest a → Atom l rest a
+round_in (and_then exactly (and_then p (and_then exactly all_done))) = (in_round p)
+
+round_out : {l rest : List Token} {a : Statement} → atom_front (sees l) ≡ atom.Round → Atom l rest a → Rounded l rest a
+round_out h (in_round p) = (and_then exactly (and_then p (and_then exactly all_done)))
+round_out h _ = absurd (cc h)
+
+pub round_start : (xs : List Token) → atom_front (sees xs) ≡ atom.Round → SoFar Atom F5 xs xs Rounded
+round_start xs h = instead Rounded (start Atom F5 xs) (λ l rest a q. round_in q) (λ l rest a s f w. round_out (ap atom_front s ∙ h) w)
+
+star_in : {l rest : List Token} {a : Statement} → Starred l rest a → Atom l rest a
+star_in (and_then exactly (and_then exactly (and_then (a_body p) (and_then exactly all_done)))) = (a_loop p)
+star_in (and_then exactly (and_then exactly (and_then (some_arms p) (and_then exactly all_done)))) = (a_guarded_loop p)
+
+star_out : {l rest : List Token} {a : Statement} → atom_front (sees l) ≡ atom.Star → Atom l rest a → Starred l rest a
+star_out h (a_loop p) = (and_then exactly (and_then exactly (and_then (a_body p) (and_then exactly all_done))))
+star_out h (a_guarded_loop p) = (and_then exactly (and_then exactly (and_then (some_arms p) (and_then exactly all_done))))
+star_out h _ = absurd (cc h)
+
+pub star_start : (xs : List Token) → atom_front (sees xs) ≡ atom.Star → SoFar Atom F5 xs xs Starred
+star_start xs h = instead Starred (start Atom F5 xs) (λ l rest a q. star_in q) (λ l rest a s f w. star_out (ap atom_front s ∙ h) w)
+
+square_in : {l rest : List Token} {a : Statement} → Squared l rest a → Atom l rest a
+square_in (and_then exactly (and_then p (and_then exactly all_done))) = (a_selection p)
+
+square_out : {l rest : List Token} {a : Statement} → atom_front (sees l) ≡ atom.Square → Atom l rest a → Squared l rest a
+square_out h (a_selection p) = (and_then exactly (and_then p (and_then exactly all_done)))
+square_out h _ = absurd (cc h)
+
+pub square_start : (xs : List Token) → atom_front (sees xs) ≡ atom.Square → SoFar Atom F5 xs xs Squared
+square_start xs h = instead Squared (start Atom F5 xs) (λ l rest a q. square_in q) (λ l rest a s f w. square_out (ap atom_front s ∙ h) w)
+
+no_atom : {l rest : List Token} {a : Statement} → atom_front (sees l) ≡ atom.Other → Atom l rest a → ⊥
+no_atom h a_skip = cc h
+no_atom h (an_assignment d) = cc h
+no_atom h (a_send d) = cc h
+no_atom h a_receive = cc h
+no_atom h a_call = cc h
+no_atom h (in_round p) = cc h
+no_atom h (a_loop p) = cc h
+no_atom h (a_guarded_loop p) = cc h
+no_atom h (a_selection p) = cc h
+
+pub atom_bad : (xs : List Token) → atom_front (sees xs) ≡ atom.Other → Bad Atom F5 xs xs
+atom_bad xs h = bad_here (start Atom F5 xs) (λ l rest a s f w. no_atom (ap atom_front s ∙ h) w) ends_atom
+
+pub skip_seam : Seam (Exactly (Word key.Skip)) Anything F5 (λ s. Done (skips s))
+skip_seam = last_any (λ s. skips s)
+
+pub call_1 : Seam (Exactly (Word key.Call)) Anything F5 (λ c. Then AName (λ i. Done (calls i)))
+call_1 = any_seam (λ c. ends_then ends_name (λ i. ends_done (calls i)))
+
+pub call_2 : Seam AName Anything F5 (λ i. Done (calls i))
+call_2 = last_any (λ i. calls i)
+
+pub round_1 : Seam (Exactly (Sign mark.OpenRound)) Anything F5 (λ o. Then Par Round_end)
+round_1 = any_seam (λ o. ends_then ends_par (λ t. ends_then (ends_exactly (Sign mark.CloseRound)) (λ c. ends_done t)))
+
+pub round_2 : Seam Par (Stops 2) F5 Round_end
+round_2 = kind_seam (Sign mark.CloseRound) 2 (omega arith) (λ t c. ends_done t)
+
+pub round_3 : (t : Statement) → Seam (Exactly (Sign mark.CloseRound)) Anything F5 (λ c. Done t)
+round_3 t = last_any (λ c. t)
+
+inside_ends : Ends (Then Inside Square_end)
+inside_ends = ends_then ends_inside (λ t. ends_then (ends_exactly (Sign mark.CloseSquare)) (λ c. ends_done t))
+
+pub star_1 : Seam (Exactly (Sign mark.Star)) Anything F5 (λ s. Then (Exactly (Sign mark.OpenSquare)) (λ o. Then Inside Square_end))
+star_1 = any_seam (λ s. ends_then (ends_exactly (Sign mark.OpenSquare)) (λ o. inside_ends))
+
+pub star_2 : Seam (Exactly (Sign mark.OpenSquare)) Anything F5 (λ o. Then Inside Square_end)
+star_2 = any_seam (λ o. inside_ends)
+
+pub star_3 : Seam Inside (Stops 1) F5 Square_end
+star_3 = kind_seam (Sign mark.CloseSquare) 1 (omega arith) (λ t c. ends_done t)
+
+pub star_4 : (t : Statement) → Seam (Exactly (Sign mark.CloseSquare)) Anything F5 (λ c. Done t)
+star_4 t = last_any (λ c. t)
+
+pub square_1 : Seam (Exactly (Sign mark.OpenSquare)) Anything F5 (λ o. Then Choices Select_end)
+square_1 = any_seam (λ o. ends_then ends_choices (λ bs. ends_then (ends_exactly (Sign mark.CloseSquare)) (λ c. ends_done (selects false bs))))
+
+pub square_2 : Seam Choices (Stops 1) F5 Select_end
+square_2 = kind_seam (Sign mark.CloseSquare) 1 (omega arith) (λ bs c. ends_done (selects false bs))
+
+pub square_3 : (bs : Arms) → Seam (Exactly (Sign mark.CloseSquare)) Anything F5 (λ c. Done (selects false bs))
+square_3 bs = last_any (λ c. selects false bs)
+
+-- behind the name
+assigned_ends : (i : Named) → Ends (Assigned i)
+assigned_ends i = ends_then (ends_exactly (Sign mark.Becomes)) (λ b. ends_then ends_disjunction (λ e. ends_done (assigns i e.expression)))
+
+pub target_seam : Seam AName Anything F5 After_target
+target_seam = any_seam (λ i. ends_one (assigned_ends i))
+
+action_is : (k : TokenKind) (t : Option Token) → IsKind k t → action_front t ≡ action_kind k
+action_is k None h = absurd h
+action_is k (Some t) h = ap action_kind h
+
+assigned_out : {i : Named} {l rest : List Token} {a : Statement} → action_front (sees l) ≡ action.Assign → After_target i l rest a → Assigned i l rest a
+assigned_out h (one q) = q
+assigned_out {l = l} h (other (one q)) = absurd (let e : action.Assign ≡ action.Send = sym h ∙ action_is (Sign mark.Bang) (sees l) (then_kind q) in cc e)
+assigned_out {l = l} h (other (other q)) = absurd (let e : action.Assign ≡ action.Receive = sym h ∙ action_is (Sign mark.Question) (sees l) (then_kind q) in cc e)
+
+sent_out : {i : Named} {l rest : List Token} {a : Statement} → action_front (sees l) ≡ action.Send → After_target i l rest a → Sent i l rest a
+sent_out {l = l} h (one q) = absurd (let e : action.Send ≡ action.Assign = sym h ∙ action_is (Sign mark.Becomes) (sees l) (then_kind q) in cc e)
+sent_out h (other (one q)) = q
+sent_out {l = l} h (other (other q)) = absurd (let e : action.Send ≡ action.Receive = sym h ∙ action_is (Sign mark.Question) (sees l) (then_kind q) in cc e)
+
+received_out : {i : Named} {l rest : List Token} {a : Statement} → action_front (sees l) ≡ action.Receive → After_target i l rest a → Received i l rest a
+received_out {l = l} h (one q) = absurd (let e : action.Receive ≡ action.Assign = sym h ∙ action_is (Sign mark.Becomes) (sees l) (then_kind q) in cc e)
+received_out {l = l} h (other (one q)) = absurd (let e : action.Receive ≡ action.Send = sym h ∙ action_is (Sign mark.Bang) (sees l) (then_kind q) in cc e)
+received_out h (other (other q)) = q
+
+no_action : {i : Named} {l rest : List Token} {a : Statement} → action_front (sees l) ≡ action.Other → After_target i l rest a → ⊥
+no_action {l = l} h (one q) = let e : action.Other ≡ action.Assign = sym h ∙ action_is (Sign mark.Becomes) (sees l) (then_kind q) in cc e
+no_action {l = l} h (other (one q)) = let e : action.Other ≡ action.Send = sym h ∙ action_is (Sign mark.Bang) (sees l) (then_kind q) in cc e
+no_action {l = l} h (other (other q)) = let e : action.Other ≡ action.Receive = sym h ∙ action_is (Sign mark.Question) (sees l) (then_kind q) in cc e
+
+pub assigned_start : {xs left : List Token} (i : Named) → SoFar Atom F5 xs left (After_target i) → action_front (sees left) ≡ action.Assign → SoFar Atom F5 xs left (Assigned i)
+assigned_start i so h = instead (Assigned i) so (λ l rest a q. one q) (λ l rest a s f q. assigned_out {i = i} (ap action_front s ∙ h) q)
+
+pub sent_start : {xs left : List Token} (i : Named) → SoFar Atom F5 xs left (After_target i) → action_front (sees left) ≡ action.Send → SoFar Atom F5 xs left (Sent i)
+sent_start i so h = instead (Sent i) so (λ l rest a q. other (one q)) (λ l rest a s f q. sent_out {i = i} (ap action_front s ∙ h) q)
+
+pub received_start : {xs left : List Token} (i : Named) → SoFar Atom F5 xs left (After_target i) → action_front (sees left) ≡ action.Receive → SoFar Atom F5 xs left (Received i)
+received_start i so h = instead (Received i) so (λ l rest a q. other (other q)) (λ l rest a s f q. received_out {i = i} (ap action_front s ∙ h) q)
+
+pub action_bad : {xs left : List Token} (i : Named) → SoFar Atom F5 xs left (After_target i) → action_front (sees left) ≡ action.Other → Bad Atom F5 xs left
+action_bad i so h = bad_here so (λ l rest a s f q. no_action {i = i} (ap action_front s ∙ h) q) (ends_one (assigned_ends i))
+
+pub assign_1 : (i : Named) → Seam (Exactly (Sign mark.Becomes)) Anything F5 (λ b. Then Disjunction (λ e. Done (assigns i e.expression)))
+assign_1 i = any_seam (λ b. ends_then ends_disjunction (λ e. ends_done (assigns i e.expression)))
+
+pub assign_2 : (i : Named) → Seam Disjunction F5 F5 (λ e. Done (assigns i e.expression))
+assign_2 i = last_seam (λ e. assigns i e.expression)
+
+pub send_1 : (i : Named) → Seam (Exactly (Sign mark.Bang)) Anything F5 (λ b. Then Disjunction (λ e. Done (sends i e.expression)))
+send_1 i = any_seam (λ b. ends_then ends_disjunction (λ e. ends_done (sends i e.expression)))
+
+pub send_2 : (i : Named) → Seam Disjunction F5 F5 (λ e. Done (sends i e.expression))
+send_2 i = last_seam (λ e. sends i e.expression)
+
+pub receive_1 : (i : Named) → Seam (Exactly (Sign mark.Question)) Anything F5 (λ b. Then AName (λ m. Done (receives i m)))
+receive_1 i = any_seam (λ b. ends_then ends_name (λ m. ends_done (receives i m)))
+
+pub receive_2 : (i : Named) → Seam AName Anything F5 (λ m. Done (receives i m))
+receive_2 i = last_any (λ m. receives i m)
