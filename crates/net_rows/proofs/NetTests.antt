@@ -18,7 +18,7 @@ all_by p P each (x ∷ xs) h =
     let parts = and_parts (p x) (list_all p xs) h in
     All-cons P x xs (each x parts.0) (all_by p P each xs parts.1)
 
-abbrev none_test : GuardValue → Bool
+abbrev pub none_test : GuardValue → Bool
 none_test [] = true
 none_test (t ∷ ts) = false
 
@@ -26,15 +26,15 @@ none_is : (g : GuardValue) → none_test g ≡ true → g ≡ []
 none_is [] h = refl
 none_is (t ∷ ts) h = absurd (cc h)
 
-abbrev undriven_test : NetValue → ℕ → Bool
+abbrev pub undriven_test : NetValue → ℕ → Bool
 undriven_test n node = none_test (up_of n node) && none_test (down_of n node)
 
-undriven : (n : NetValue) (node : ℕ) → undriven_test n node ≡ true → IsUndriven n node
+pub undriven : (n : NetValue) (node : ℕ) → undriven_test n node ≡ true → IsUndriven n node
 undriven n node h =
     let parts = and_parts (none_test (up_of n node)) (none_test (down_of n node)) h in
     record { up = none_is _ parts.0; down = none_is _ parts.1 }
 
-abbrev below_test : ℕ → GuardValue → Bool
+abbrev pub below_test : ℕ → GuardValue → Bool
 below_test count g = list_all (λ t. list_all (λ (l : Literal). nat_lt l.node count) t) g
 
 lt_is : (a b : ℕ) → nat_lt a b ≡ true → a < b
@@ -44,13 +44,13 @@ below : (count : ℕ) (g : GuardValue) → below_test count g ≡ true → IsBel
 below count g h =
     all_by (λ t. list_all (λ (l : Literal). nat_lt l.node count) t) (λ t. All (λ (l : Literal). l.node < count) t) (λ t. all_by (λ (l : Literal). nat_lt l.node count) (λ (l : Literal). l.node < count) (λ l. lt_is l.node count) t) g h
 
-abbrev filled_test : GuardValue → Bool
+abbrev pub filled_test : GuardValue → Bool
 filled_test g = list_all (λ (t : List Literal). nat_lt 0 (length t)) g
 
 filled : (g : GuardValue) → filled_test g ≡ true → IsFilled g
 filled g h = all_by (λ (t : List Literal). nat_lt 0 (length t)) (λ (t : List Literal). 0 < length t) (λ t. lt_is 0 (length t)) g h
 
-abbrev distinct_test : List (List ℕ) → Bool
+abbrev pub distinct_test : List (List ℕ) → Bool
 distinct_test [] = true
 distinct_test (x ∷ xs) = list_all (λ y. not (bytes_eq x y)) xs && distinct_test xs
 
@@ -67,7 +67,7 @@ distinct (x ∷ xs) h =
     let parts = and_parts (list_all (λ y. not (bytes_eq x y)) xs) (distinct_test xs) h in
     AllPairs-cons (λ (a b : List ℕ). a ≢ b) x xs (all_by (λ y. not (bytes_eq x y)) (λ y. x ≢ y) (apart x) xs parts.0) (distinct xs parts.1)
 
-abbrev node_name_test : List ℕ → Bool
+abbrev pub node_name_test : List ℕ → Bool
 node_name_test bs = nat_le (length bs) 32 && (begins_with_letter bs && list_all node_part bs)
 
 le_is : (a b : ℕ) → nat_le a b ≡ true → a ≤ b
@@ -121,5 +121,5 @@ net_by n p plain channels apart_channels = record {
   literals = le_is (literals_of n) (most_literals n.reset) p.literals;
   channels = channels;
   channels_distinct = apart_channels;
-  reset = rw plain tt
+  reset = rw plain tt;
 }

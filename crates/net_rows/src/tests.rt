@@ -15,7 +15,7 @@ fn skip_net(alloc: Global) -> Result<Option<Net>, AllocError>
     ensures plain { IfOk result (λ o. IfSome o (λ n. n.reset ≡ None)) }
     ensures names { IfOk result
         (λ o. IfSome o
-            (λ n. n.names ≡ codes "go" ∷ codes "done" ∷ codes "n2" ∷ codes "n3" ∷ codes "n4" ∷ [])) }
+        (λ n. n.names ≡ codes "go" ∷ codes "done" ∷ codes "n2" ∷ codes "n3" ∷ codes "n4" ∷ [])) }
 {
     let Some(names) = names_of(alloc, &[b"go", b"done", b"n2", b"n3", b"n4"])? else {
         return Ok(None);
@@ -108,7 +108,7 @@ fn send_net(alloc: Global) -> Result<Option<Net>, AllocError>
     else {
         return Ok(None);
     };
-    let first = vec![in alloc; false; 10]?;
+    let first = Vec::from_slice(alloc, &[false; 10])?;
     let up = true;
     let high = true;
     let lines = [
