@@ -96,7 +96,8 @@ fn no_readers(alloc: Global, nodes: usize) -> Result<Vec<Readers>, AllocError>
 
 /// For each node of the net the ascending list of the nodes with a guard that names it.
 pub fn fan_of(alloc: Global, net: &Net) -> Result<Fan, AllocError>
-    ensures { IfOk result (λ fan. fan ≡ fan_value net.now) }
+    ensures fan { IfOk result (λ fan. fan ≡ fan_value net.now) }
+    ensures count { IfOk result (λ fan. length fan ≡ length net.now.first) }
 {
     let nodes = net.first().len();
     let mut readers = no_readers(alloc, nodes)?;

@@ -1,8 +1,10 @@
 //! The text of a rule file, versions 1 and 2.
 #![tactic(auto)]
 
+mod fault;
 mod forms;
 mod print;
 
+pub use fault::{NetFault, NetReadError};
 pub use forms::{Lead, channel_line, head_line, literal_text, node_line, rule_end};
 pub use print::print_net;

@@ -20,8 +20,8 @@ loop-reader-preserved c =
       each = λ n within. noted_reader net m old new (λ k h. c.loop-reader.invariant.each k (omega (arith, c.loop-reader.invariant.count))) noted n (omega (arith, c.loop-reader.invariant.count));
     }
 
-pub returns : goal.returns
-returns c =
+pub returns-clause-fan : goal.returns-clause-fan
+returns-clause-fan c =
     let net = c.args.net.now in
     let whole : c.loop-reader.reader ≡ length net.first = omega (arith, ap length c.first-nodes.ensures.first) in
     fill_by_all (readers_below net (length net.first)) c.loop-reader.readers.items (length net.first) [] c.loop-reader.invariant.count (λ k h. rw (← whole) (c.loop-reader.invariant.each k h))
