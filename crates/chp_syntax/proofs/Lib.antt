@@ -4,3 +4,4 @@ pub mod Rows
 pub mod Expressions
 pub mod Statements
 pub mod Insides
+pub mod Programs

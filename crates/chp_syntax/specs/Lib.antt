@@ -5,3 +5,4 @@ pub mod Grammar
 pub mod Reading
 pub mod Parts
 pub mod View
+pub mod Refusals
