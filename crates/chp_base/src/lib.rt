@@ -6,9 +6,13 @@ mod channel;
 mod fault;
 mod name;
 mod span;
+mod symbols;
+#[cfg(test)]
+mod tests;
 
 pub use bits::Bits;
 pub use channel::{Channel, Kind};
 pub use fault::{Fault, FaultCode, TextError};
 pub use name::{Name, name_of, node_name_of};
 pub use span::Span;
+pub use symbols::{Added, Symbols};

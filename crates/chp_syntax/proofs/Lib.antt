@@ -5,3 +5,9 @@ pub mod Expressions
 pub mod Statements
 pub mod Insides
 pub mod Programs
+pub mod Signs
+pub mod Spelled
+pub mod Cutting
+pub mod Fronts
+pub mod Numbers
+pub mod Places

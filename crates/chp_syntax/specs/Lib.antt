@@ -1,8 +1,10 @@
 pub mod Spelling
 pub mod Tokens
+pub mod Front
 pub mod Trees
 pub mod Grammar
 pub mod Reading
 pub mod Parts
 pub mod View
 pub mod Refusals
+pub mod Limits

@@ -1,5 +1,5 @@
 -- How each kind of token is spelled.
-use Rattle.std.specs.Prelude.{◌≡◌, ℕ, ◌+◌, ◌*◌, ◌-◌, ◌^◌, ◌<◌, ◌≤◌, ◌||◌, ◌==◌, nat_le, Bool, true, List, [], ◌∷◌, ◌++◌, length, ◌⊎◌, if◌then◌else◌}
+use Rattle.std.specs.Prelude.{◌≡◌, ℕ, ◌+◌, ◌*◌, ◌-◌, ◌^◌, ◌<◌, ◌≤◌, ◌||◌, Bool, true, List, ◌++◌, length, ◌⊎◌, fold, if◌then◌else◌}
 use Rattle.std.specs.List.{list_all}
 use lib.Chars.{codes}
 use Rattle.chp_base.specs.Names.{between, digit, IsName}
@@ -60,16 +60,15 @@ hex_digit b = digit b || between 97 102 b || between 65 70 b
 abbrev pub digit_value : ℕ → ℕ
 digit_value b = if digit b then b - 48 else if between 97 102 b then b - 87 else b - 55
 
--- the number that n becomes by these digits behind it
-abbrev pub number_in : ℕ → ℕ → List ℕ → ℕ
-number_in base n [] = n
-number_in base n (b ∷ bs) = number_in base (base * n + digit_value b) bs
+-- what digits stand for, the highest first
+abbrev pub number_in : ℕ → List ℕ → ℕ
+number_in base bs = fold (λ n b. base * n + digit_value b) 0 bs
 
 -- decimal digits alone, with a value of at most 2 ^ 64 - 1
 pub record IsDecimal (n : ℕ) (bs : List ℕ) : Type 0 where
   pub some : 0 < length bs
   pub digits : list_all digit bs ≡ true
-  pub value : number_in 10 0 bs ≡ n
+  pub value : number_in 10 bs ≡ n
   pub fits : n < 2 ^ 64
 
 -- 0x and 1 to 16 hexadecimal digits
@@ -79,7 +78,7 @@ pub record IsHexadecimal (n : ℕ) (bs : List ℕ) : Type 0 where
   pub some : 0 < length tail
   pub most : length tail ≤ 16
   pub digits : list_all hex_digit tail ≡ true
-  pub value : number_in 16 0 tail ≡ n
+  pub value : number_in 16 tail ≡ n
 
 -- the bytes spell a token of this kind
 abbrev pub Spells : TokenKind → List ℕ → Type 0

@@ -1,9 +1,12 @@
 -- How a text is cut into blanks, comments and tokens.
-use Rattle.std.specs.Prelude.{◌≡◌, ℕ, ◌+◌, ◌<◌, ◌≤◌, ◌||◌, ◌==◌, Bool, true, false, List, [], ◌∷◌, length, take, drop, ◌⊎◌, if◌then◌else◌}
-use Prim.Native.Nat.{suc}
-use Rattle.std.specs.List.{list_all}
+use Rattle.std.specs.Prelude.{◌≡◌, ℕ, ◌+◌, ◌<◌, ◌≤◌, ◌||◌, ◌==◌, Bool, true, false, List, [], ◌∷◌, ◌++◌, length, take, drop, ◌⊎◌}
+use Rattle.std.specs.List.{list_all, position_or_len}
+use lib.Chars.{codes}
 use Rattle.chp_base.specs.Names.{word_part}
 use Rattle.chp_base.specs.declared.span.Span.{Span}
+use Rattle.chp_base.specs.declared.fault.Fault.{Fault}
+use Rattle.chp_base.specs.declared.fault.TextError.{TextError}
+use Rattle.chp_base.specs.declared.fault.TextError.TheVariants.{Refused, NoMemory}
 use Rattle.chp_syntax.specs.declared.token.TokenKind.{TokenKind}
 use Rattle.chp_syntax.specs.declared.token.Token.{Token}
 use Rattle.chp_syntax.specs.declared.token.Mark.{Mark}
@@ -13,10 +16,19 @@ use Rattle.chp_syntax.specs.Spelling.{Spells, sign_text}
 abbrev pub blank : ℕ → Bool
 blank b = b == 32 || b == 9 || b == 13 || b == 10
 
--- how many bytes stand before the next LF, or before the end
-abbrev pub line_length : List ℕ → ℕ
-line_length [] = 0
-line_length (b ∷ bs) = if b == 10 then 0 else suc (line_length bs)
+abbrev pub begins_blank : List ℕ → Bool
+begins_blank [] = false
+begins_blank (b ∷ bs) = blank b
+
+-- the first n bytes are a comment: two slashes, and what stands behind them before the next LF or the end
+pub record IsComment (n : ℕ) (text : List ℕ) : Type 0 where
+  pub behind : List ℕ
+  pub begins : text ≡ codes "//" ++ behind
+  pub ends : n ≡ 2 + position_or_len (λ b. b == 10) behind
+
+-- the first n bytes separate tokens: they are one blank, or a comment
+abbrev pub IsGap : ℕ → List ℕ → Type 0
+IsGap n text = ((n ≡ 1) × (begins_blank text ≡ true)) ⊎ IsComment n text
 
 -- letters, digits and underscores, at least one
 pub record IsRun (bs : List ℕ) : Type 0 where
@@ -45,31 +57,34 @@ span from to = record { from = from; to = to }
 -- place `to`, where this rest of it is left
 pub data Cuts : ℕ → List Token → List ℕ → ℕ → List ℕ → Type 0 where
   so_far : {at : ℕ} {text : List ℕ} → Cuts at [] text at text
-  a_blank : {at to b : ℕ} {ts : List Token} {text rest : List ℕ} → blank b ≡ true → Cuts (suc at) ts text to rest → Cuts at ts (b ∷ text) to rest
-  a_comment : {at to : ℕ} {ts : List Token} {text rest : List ℕ} → Cuts (suc (suc at) + line_length text) ts (drop (line_length text) text) to rest → Cuts at ts (47 ∷ 47 ∷ text) to rest
+  a_gap : {at to : ℕ} {ts : List Token} {text rest : List ℕ} (n : ℕ) → IsGap n text → Cuts (at + n) ts (drop n text) to rest → Cuts at ts text to rest
   a_token : {at to : ℕ} {ts : List Token} {text rest : List ℕ} (kind : TokenKind) (n : ℕ) → IsToken kind n text → Cuts (at + n) ts (drop n text) to rest → Cuts at (record { kind = kind; at = span at (at + n) } ∷ ts) text to rest
 
 -- the whole text is cut into these tokens
 abbrev pub Tokens : List ℕ → List Token → Type 0
 Tokens text ts = Cuts 0 ts text (length text) []
 
--- a blank or a comment is at the front
-abbrev pub IsBetween : List ℕ → Type 0
-IsBetween [] = ⊥
-IsBetween (b ∷ []) = blank b ≡ true
-IsBetween (b ∷ c ∷ bs) = (blank b ≡ true) ⊎ ((b ≡ 47) × (c ≡ 47))
-
 -- at the front are n bytes that are no token: the whole of a run that spells none, or one byte with which neither a
--- piece nor anything between tokens begins
+-- piece nor a gap begins
 abbrev pub IsNoToken : ℕ → List ℕ → Type 0
 IsNoToken n text = (IsLongest n text × ((kind : TokenKind) → ¬ Spells kind (take n text)))
-    ⊎ ((n ≡ 1) × (0 < length text) × ¬ IsBetween text × ((m : ℕ) → m ≤ length text → ¬ IsPiece (take m text)))
+    ⊎ ((n ≡ 1) × (0 < length text) × ((m : ℕ) → ¬ IsGap m text) × ((m : ℕ) → m ≤ length text → ¬ IsPiece (take m text)))
 
 -- the first bytes of the text that are no token
 pub record BadToken (text : List ℕ) (s : Span) : Type 0 where
   pub before : List Token
   pub rest : List ℕ
   pub cut : Cuts 0 before text s.from rest
-  pub length : ℕ
-  pub ends : s.to ≡ s.from + length
-  pub is : IsNoToken length rest
+  pub size : ℕ
+  pub ends : s.to ≡ s.from + size
+  pub is : IsNoToken size rest
+
+-- tokens one behind the other, none of them empty, all between these places
+abbrev pub InOrder : ℕ → List Token → ℕ → Type 0
+InOrder from [] to = from ≤ to
+InOrder from (t ∷ ts) to = (from ≤ t.at.from) × (t.at.from < t.at.to) × InOrder t.at.to ts to
+
+-- P of the fault, where the error is one
+abbrev pub IfRefused : (Fault → Type 0) → TextError → Type 0
+IfRefused P (Refused fault) = P fault
+IfRefused P (NoMemory error) = Unit {0}

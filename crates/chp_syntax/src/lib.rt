@@ -2,8 +2,11 @@
 #![tactic(auto)]
 
 mod parser;
+mod limits;
+mod scan;
 mod token;
 mod tree;
 
+pub use scan::tokens;
 pub use token::{Key, Mark, Token, TokenKind};
 pub use tree::{Arm, Decl, DeclKind, Expr, Ident, Link, Op, Proc, Program, Stmt};

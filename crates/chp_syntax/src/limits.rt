@@ -1,0 +1,116 @@
+//! What is refused in a list of tokens before it is parsed.
+
+ghost use Rattle.std.specs.Prelude.{◌≡◌, ◌≤◌, false, IfSome, IfNone};
+ghost use Rattle.chp_syntax.specs.Reading.{opened, IsShallow};
+ghost use Rattle.chp_syntax.specs.Limits.{is_probe, is_arbiter, has_kind, IsFirst, GoesOver};
+
+use crate::token::{Mark, Token, TokenKind};
+use chp_base::Span;
+
+/// How many brackets may be open at once.
+const MOST_OPEN: usize = 256;
+
+fn is_probe(kind: &TokenKind) -> bool
+    ensures { result ≡ is_probe kind.now }
+{
+    matches!(kind, TokenKind::Sign(Mark::Hash))
+}
+
+fn is_arbiter(kind: &TokenKind) -> bool
+    ensures { result ≡ is_arbiter kind.now }
+{
+    matches!(kind, TokenKind::Sign(Mark::BracketBar))
+}
+
+/// The place of the first sign `#` of a probe, which our profile leaves out.
+pub(crate) fn probe(tokens: &[Token]) -> Option<Span>
+    ensures some { IfSome result (IsFirst is_probe tokens.now) }
+    ensures none { IfNone result (has_kind is_probe tokens.now ≡ false) }
+{
+    for token in tokens {
+        if is_probe(&token.kind) {
+            return Some(token.at);
+        }
+    }
+    None
+}
+
+/// The place of the first sign `[|` of an arbitrated selection, which our profile leaves out.
+pub(crate) fn arbiter(tokens: &[Token]) -> Option<Span>
+    ensures some { IfSome result (IsFirst is_arbiter tokens.now) }
+    ensures none { IfNone result (has_kind is_arbiter tokens.now ≡ false) }
+{
+    for token in tokens {
+        if is_arbiter(&token.kind) {
+            return Some(token.at);
+        }
+    }
+    None
+}
+
+fn opened(depth: usize, kind: &TokenKind) -> usize
+    requires { depth ≤ 256 }
+    ensures { result ≡ opened depth kind.now }
+{
+    match kind {
+        TokenKind::Sign(Mark::OpenRound | Mark::OpenSquare | Mark::OpenCurly) => depth + 1,
+        TokenKind::Sign(Mark::CloseRound | Mark::CloseSquare | Mark::CloseCurly) => {
+            depth.saturating_sub(1)
+        }
+        _ => depth,
+    }
+}
+
+/// The place of the first token behind which more than 256 brackets are open, which is the limit of our profile.
+/// The signs `(`, `[` and `{` open one, and `)`, `]` and `}` close one if one is open; `[]` does neither.
+pub(crate) fn too_deep(tokens: &[Token]) -> Option<Span>
+    ensures some { IfSome result (GoesOver tokens.now) }
+    ensures none { IfNone result (IsShallow tokens.now) }
+{
+    let mut depth = 0;
+    for token in tokens {
+        depth = opened(depth, &token.kind);
+        if depth > MOST_OPEN {
+            return Some(token.at);
+        }
+    }
+    None
+}
+
+#[cfg(test)]
+mod tests {
+    use super::*;
+    use crate::scan::tokens;
+    use std::test::Fail;
+
+    #[test]
+    fn first_of_its_kind(rt: HostRuntime) -> Result<(), Fail> {
+        let read = tokens(rt.alloc(), b"[|][ [| # #")?;
+        assert_eq!(rt; arbiter(&read), Some(Span { from: 0, to: 2 }));
+        assert_eq!(rt; probe(&read), Some(Span { from: 8, to: 9 }));
+        assert_eq!(rt; too_deep(&read), None);
+        Ok(())
+    }
+
+    #[test]
+    fn depth(rt: HostRuntime) -> Result<(), Fail> {
+        let rows = [
+            ("(", "[", 256, Some(Span { from: 256, to: 257 })),
+            ("{", "[", 255, None),
+            ("[]", "(", 300, None),
+            (")", "(", 300, None),
+            ("()", "(", 300, None),
+        ];
+        for (part, last, count, place) in rows {
+            let mut text = String::new(rt.alloc());
+            for _ in 0..count {
+                text.push_str(part)?;
+            }
+            text.push_str(last)?;
+            assert!(rt; text.len() <= 262_144);
+            let read = tokens(rt.alloc(), text.as_bytes())?;
+            assert_eq!(rt; too_deep(&read), place, "at {part}");
+        }
+        Ok(())
+    }
+}
