@@ -262,17 +262,33 @@ and_decl d more = record { decls = d ∷ more.decls; procs = more.procs }
 abbrev pub and_proc : Procedure → Declared → Declared
 and_proc p more = record { decls = more.decls; procs = p ∷ more.procs }
 
+-- what one declaration says
+pub data Item : Type 0 where
+  valued : Decl → Item
+  defined : Procedure → Item
+
+abbrev pub and_item : Item → Declared → Declared
+and_item (valued d) more = and_decl d more
+and_item (defined p) more = and_proc p more
+
+-- a channel or a variable without a first value, and a variable with one
+abbrev pub unset : DeclKind → Named → ℕ → Span → Decl
+unset kind i w p = record { kind = kind; name = i; width = w; width_at = p; first = 0; first_at = p }
+
+abbrev pub set : Named → ℕ → Span → ℕ → Span → Decl
+set i w p x r = record { kind = declares.Var; name = i; width = w; width_at = p; first = x; first_at = r }
+
+-- decl
+pub data Declaration : List Token → List Token → Item → Type 0 where
+  a_channel : {rest : List Token} {t : Token} {kind : DeclKind} {n : List ℕ} {w : ℕ} {s c p e : Span} → channel_of t.kind ≡ Some kind → Declaration (t ∷ name n s ∷ sign mark.Colon c ∷ numeral w p ∷ sign mark.Semicolon e ∷ rest) rest (valued (unset kind (named n s) w p))
+  a_variable : {rest : List Token} {n : List ℕ} {w : ℕ} {v s c p e : Span} → Declaration (word key.Var v ∷ name n s ∷ sign mark.Colon c ∷ numeral w p ∷ sign mark.Semicolon e ∷ rest) rest (valued (unset declares.Var (named n s) w p))
+  a_variable_with_first : {rest : List Token} {n : List ℕ} {w x : ℕ} {v s c p q r e : Span} → Declaration (word key.Var v ∷ name n s ∷ sign mark.Colon c ∷ numeral w p ∷ sign mark.Equal q ∷ numeral x r ∷ sign mark.Semicolon e ∷ rest) rest (valued (set (named n s) w p x r))
+  a_procedure : {ts rest : List Token} {n : List ℕ} {b : Statement} {v s q e : Span} → Atom ts (sign mark.Semicolon e ∷ rest) b → Declaration (word key.Proc v ∷ name n s ∷ sign mark.Equal q ∷ ts) rest (defined (record { name = named n s; body = b }))
+
 -- decl, any number of them
 pub data Declarations : List Token → List Token → Declared → Type 0 where
   no_declaration : {rest : List Token} → Declarations rest rest no_declared
-  a_channel : {ts rest : List Token} {t : Token} {kind : DeclKind} {n : List ℕ} {w : ℕ} {s c p e : Span} {more : Declared} → channel_of t.kind ≡ Some kind → Declarations ts rest more
-      → Declarations (t ∷ name n s ∷ sign mark.Colon c ∷ numeral w p ∷ sign mark.Semicolon e ∷ ts) rest (and_decl (record { kind = kind; name = named n s; width = w; width_at = p; first = 0; first_at = p }) more)
-  a_variable : {ts rest : List Token} {n : List ℕ} {w : ℕ} {v s c p e : Span} {more : Declared} → Declarations ts rest more
-      → Declarations (word key.Var v ∷ name n s ∷ sign mark.Colon c ∷ numeral w p ∷ sign mark.Semicolon e ∷ ts) rest (and_decl (record { kind = declares.Var; name = named n s; width = w; width_at = p; first = 0; first_at = p }) more)
-  a_variable_with_first : {ts rest : List Token} {n : List ℕ} {w x : ℕ} {v s c p q r e : Span} {more : Declared} → Declarations ts rest more
-      → Declarations (word key.Var v ∷ name n s ∷ sign mark.Colon c ∷ numeral w p ∷ sign mark.Equal q ∷ numeral x r ∷ sign mark.Semicolon e ∷ ts) rest (and_decl (record { kind = declares.Var; name = named n s; width = w; width_at = p; first = x; first_at = r }) more)
-  a_procedure : {ts mid rest : List Token} {n : List ℕ} {b : Statement} {v s q e : Span} {more : Declared} → Atom ts (sign mark.Semicolon e ∷ mid) b → Declarations mid rest more
-      → Declarations (word key.Proc v ∷ name n s ∷ sign mark.Equal q ∷ ts) rest (and_proc (record { name = named n s; body = b }) more)
+  one_more_declaration : {ts mid rest : List Token} {d : Item} {more : Declared} → Declaration ts mid d → Declarations mid rest more → Declarations ts rest (and_item d more)
 
 -- program
 pub data Programs : List Token → List Token → ProgramTree → Type 0 where

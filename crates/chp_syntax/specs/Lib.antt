@@ -4,6 +4,7 @@ pub mod Front
 pub mod Trees
 pub mod Grammar
 pub mod Reading
-pub mod Limits
 pub mod Parts
 pub mod View
+pub mod Refusals
+pub mod Limits

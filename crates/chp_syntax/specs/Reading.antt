@@ -1,5 +1,5 @@
 -- What program a text reads as.
-use Rattle.std.specs.Prelude.{◌≡◌, ℕ, ◌-◌, ◌≤◌, ◌&&◌, nat_le, Bool, true, List, [], ◌∷◌, take, fold}
+use Rattle.std.specs.Prelude.{◌≡◌, ℕ, ◌+◌, ◌-◌, ◌<◌, ◌≤◌, ◌++◌, length, ◌&&◌, nat_le, Bool, true, List, [], ◌∷◌, take, fold}
 use Prim.Native.Nat.{suc}
 use Rattle.chp_syntax.specs.declared.token.Token.{Token}
 use Rattle.chp_syntax.specs.declared.token.TokenKind.{TokenKind}
@@ -48,6 +48,14 @@ abbrev mutual
   pub few_arms_in : Arms → Bool
   few_arms_in no_arms = true
   few_arms_in (and_arm g t bs) = few_arms t && few_arms_in bs
+
+-- the place, in a list of tokens, of the first one with which no program goes on; the number of tokens, where they stop
+-- too early. The limits of nesting and of arms play no part in it
+pub record FirstFault (ts : List Token) (n : ℕ) : Type 0 where
+  pub within : n ≤ length ts
+  pub never : n < length ts → (more : List Token) (p : ProgramTree) → ¬ Derives (take (n + 1) ts ++ more) p
+  pub short : n ≡ length ts → (p : ProgramTree) → ¬ Derives ts p
+  pub viable : (more : List Token) × (p : ProgramTree) × Derives (take n ts ++ more) p
 
 -- the text reads as the program
 pub record Reads (text : List ℕ) (p : ProgramTree) : Type 0 where

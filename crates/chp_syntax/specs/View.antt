@@ -1,5 +1,5 @@
 -- The plain tree of a tree that lies in memory.
-use Rattle.std.specs.Prelude.{ℕ, List, [], ◌∷◌, map}
+use Rattle.std.specs.Prelude.{ℕ, List, [], ◌∷◌, ◌++◌, map}
 use Rattle.std.specs.declared.alloc.Global.{Global}
 use Rattle.std.specs.declared.vec.Vec.{Vec}
 use Rattle.chp_base.specs.declared.span.Span.{Span}
@@ -12,7 +12,12 @@ use Rattle.chp_syntax.specs.declared.tree.Program.{Program}
 use Rattle.chp_syntax.specs.declared.tree.Op.{Op}
 use Rattle.chp_syntax.specs.declared.parser.expression.Covered as C
 use Rattle.chp_syntax.specs.Trees.{Expression, number, whole, slice, bit, join, negation, chain, Expressions, no_parts, and_part, Links, no_links, and_link, Statement, skips, assigns, sends, receives, follows, besides, selects, repeats, calls, Statements, no_members, and_member, Arms, no_arms, and_arm, Procedure, ProgramTree}
-use Rattle.chp_syntax.specs.Grammar.{Covered, cover, chained, from_to, Guarded, guarded}
+use Rattle.chp_syntax.specs.Grammar.{Covered, cover, chained, from_to, Guarded, guarded, Item, valued, defined}
+use Rattle.chp_syntax.specs.Grammar.{Declared as Declarations_of}
+use Rattle.chp_syntax.specs.declared.parser.program.Declared.{Declared}
+use Rattle.chp_syntax.specs.declared.parser.program.Item as I
+use Rattle.chp_syntax.specs.declared.parser.program.Item.TheVariants as item
+use Rattle.chp_syntax.specs.declared.tree.Decl.{Decl}
 
 abbrev mutual
   pub expression_of : Expr → Expression
@@ -88,3 +93,15 @@ and_guarded g bs = and_arm g.guard g.body bs
 
 abbrev pub armed_of : Vec Arm Global → Arms
 armed_of v = onto and_guarded (map guarded_of v.items) no_arms
+
+abbrev pub item_of : I.Item → Item
+item_of (item.Value d) = valued d
+item_of (item.Procedure p) = defined (procedure_of p)
+
+abbrev pub declared_of : Declared → Declarations_of
+declared_of d = record { decls = d.decls.items; procs = map procedure_of d.procs.items }
+
+-- one declaration more, behind the others
+abbrev pub with_item : Declarations_of → Item → Declarations_of
+with_item d (valued x) = record { decls = d.decls ++ (x ∷ []); procs = d.procs }
+with_item d (defined p) = record { decls = d.decls; procs = d.procs ++ (p ∷ []) }

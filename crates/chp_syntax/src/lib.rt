@@ -1,9 +1,9 @@
 //! The language: tokens, grammar and the tree of a program.
 #![tactic(auto)]
 
+mod parser;
 mod limits;
 mod scan;
-mod parser;
 mod token;
 mod tree;
 
