@@ -1,0 +1,9 @@
+-- An offer, without where its values lie in memory.
+use Rattle.env_script.specs.declared.script.Offer.{Offer}
+use Rattle.env_script.specs.declared.script.Offer.TheVariants.{Values, Accept, Nothing}
+use Rattle.env_script.specs.Scripts.{OfferValue, gives, takes, nothing}
+
+abbrev pub offered : Offer → OfferValue
+offered (Values v) = gives v.items
+offered (Accept count) = takes count
+offered Nothing = nothing
