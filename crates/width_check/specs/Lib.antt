@@ -3,3 +3,9 @@ pub mod Values
 pub mod Typing
 pub mod View
 pub mod Typed
+pub mod Order
+pub mod Places
+pub mod Faults
+pub mod Form
+pub mod Sharing
+pub mod Accepted
