@@ -1,0 +1,4 @@
+pub mod Terms
+pub mod Steps
+pub mod Rounds
+pub mod Laws

@@ -1,0 +1,2 @@
+//! The meaning of programs, in steps and in rounds.
+#![tactic(auto)]

@@ -1,0 +1,11 @@
+pub mod Processes
+pub mod Values
+pub mod Typing
+pub mod View
+pub mod Typed
+pub mod Order
+pub mod Places
+pub mod Faults
+pub mod Form
+pub mod Sharing
+pub mod Accepted

@@ -1,0 +1,139 @@
+//! The typed form of a program: numbers in order of declaration for names, and the width on each number. Each `at`
+//! is the place of a name alone.
+
+ghost use Rattle.std.specs.Prelude.{◌≡◌};
+
+use chp_base::{Bits, Channel, Name, Span};
+use chp_syntax::Op;
+use std::marker::Model;
+
+/// A variable: its name, its number of bits from 1 to 64, and its first value, which is below 2 to the width.
+#[derive(Debug, Drop)]
+pub struct Var {
+    pub name: Name,
+    pub width: u8,
+    pub first: u64,
+}
+
+/// A statement.
+#[cycle(typed_statements)]
+#[derive(Debug, Drop)]
+pub enum TStmt {
+    /// `skip`
+    Skip,
+    /// `x := e`
+    Assign { var: u32, at: Span, value: TExpr },
+    /// `X!e`
+    Send { chan: u32, at: Span, value: TExpr },
+    /// `X?v`
+    Receive {
+        chan: u32,
+        chan_at: Span,
+        var: u32,
+        var_at: Span,
+    },
+    /// `S; T; ..`
+    Then { parts: Vec<TStmt> },
+    /// `S, T, ..` and `S || T || ..`
+    Beside { parts: Vec<TStmt> },
+    /// `[G -> S [] ..]`, and `*[G -> S [] ..]` where `again` is true.
+    Select { again: bool, arms: Vec<TArm> },
+    /// `*[S]`
+    Repeat { body: Box<TStmt> },
+}
+
+/// A guard and what is done where it is true.
+#[cycle(typed_statements)]
+#[derive(Debug, Drop)]
+pub struct TArm {
+    pub guard: TExpr,
+    pub body: TStmt,
+}
+
+/// An expression.
+#[cycle(typed_expressions)]
+#[derive(Debug, Drop)]
+pub enum TExpr {
+    /// A number with its width.
+    Number { bits: Bits },
+    /// The bits from `low` to `high` of a variable.
+    Read {
+        var: u32,
+        high: u8,
+        low: u8,
+        at: Span,
+    },
+    /// `{e, ..}`, the last part lowest.
+    Join { parts: Vec<TExpr> },
+    /// `~e`
+    Not { inner: Box<TExpr> },
+    /// `e op e ..`, applied from the left, with the operators `&`, `|`, `^`, `+` and `-`.
+    Chain { first: Box<TExpr>, rest: Vec<TLink> },
+    /// `e op e` with one of the comparisons.
+    Compare {
+        op: Op,
+        left: Box<TExpr>,
+        right: Box<TExpr>,
+    },
+}
+
+/// An operator and its right side.
+#[cycle(typed_expressions)]
+#[derive(Debug, Drop)]
+pub struct TLink {
+    pub op: Op,
+    pub right: TExpr,
+}
+
+/// A typed program: its channels and its variables, each in order of declaration, and what it does. Names are
+/// distinct, numbers are in range, directions are right, widths agree, each sequence and each parallel composition
+/// has at least two parts, each selection has 1 to 16 arms, and each expression is well formed.
+#[derive(Debug, Drop)]
+pub struct Typed {
+    channels: Vec<Channel>,
+    vars: Vec<Var>,
+    body: TStmt,
+}
+
+impl Model for Typed {
+    ghost use Rattle.width_check.specs.Typed.{TypedValue, typed_value};
+    ghost use Rattle.width_check.specs.View.{process_of};
+    ghost use Rattle.width_check.specs.Typing.{IsTyped};
+    ghost use Rattle.width_check.specs.contracts.typed.TStmt as statement;
+    ghost use Rattle.std.specs.Coded.{codes};
+
+    ghost Value = { TypedValue };
+
+    ghost coded = { Prim.hlevel (codes, statement.the_row.coded) };
+
+    ghost view = { λ t. typed_value t.channels.items t.vars.items t.body };
+
+    ghost invariant = { λ t. IsTyped t.channels.items t.vars.items (process_of t.body) };
+}
+
+impl Typed {
+    ghost use Rattle.width_check.specs.View.{process_of};
+    ghost use Rattle.width_check.specs.Typing.{IsTyped};
+
+    /// The channels in order of declaration.
+    pub fn channels(&self) -> &[Channel]
+        ensures { result.now ≡ self.now.channels }
+    {
+        &self.channels
+    }
+
+    /// The variables in order of declaration.
+    pub fn vars(&self) -> &[Var]
+        ensures { result.now ≡ self.now.vars }
+    {
+        &self.vars
+    }
+
+    /// What the program does.
+    pub fn body(&self) -> &TStmt
+        ensures body { result.now ≡ self.now.body }
+        ensures typed { IsTyped self.now.channels self.now.vars (process_of self.now.body) }
+    {
+        &self.body
+    }
+}
