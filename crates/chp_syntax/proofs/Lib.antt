@@ -11,3 +11,4 @@ pub mod Cutting
 pub mod Fronts
 pub mod Numbers
 pub mod Places
+pub mod FewArms
