@@ -12,3 +12,4 @@ pub mod Fronts
 pub mod Numbers
 pub mod Places
 pub mod FewArms
+pub mod OwnTokens
