@@ -13,3 +13,4 @@ pub mod Numbers
 pub mod Places
 pub mod FewArms
 pub mod OwnTokens
+pub mod RefusedLemmas

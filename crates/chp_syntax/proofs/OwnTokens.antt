@@ -212,4 +212,3 @@ own_arbiter (t ∷ ts) h = front_arbiter t.kind t.at ts (λ k. own_arbiter ts k)
 
 pub no_arbiter : {ts : List Token} {p : ProgramTree} → Derives ts p → has_kind is_arbiter ts ≡ false
 no_arbiter {ts} d = own_arbiter ts (program_own d)
-

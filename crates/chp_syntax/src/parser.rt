@@ -124,6 +124,7 @@ pub fn parse(alloc: Global, text: &[u8]) -> Result<Program, TextError>
     ensures only { IfOk result (λ p. (q : ProgramTree) → Reads text.now q → q ≡ program_of p) }
     ensures other { IfErr result (IfRefused (λ f. f.other ≡ f.at)) }
     ensures place { IfErr result (IfRefused (λ f. RefusedText text.now f.code f.at)) }
+    ensures refused { IfErr result (IfRefused (λ f. (q : ProgramTree) → ¬ Reads text.now q)) }
 {
     let tokens = match scan(alloc, text) {
         Ok(tokens) => tokens,
