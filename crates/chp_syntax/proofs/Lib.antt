@@ -11,3 +11,6 @@ pub mod Cutting
 pub mod Fronts
 pub mod Numbers
 pub mod Places
+pub mod FewArms
+pub mod OwnTokens
+pub mod RefusedLemmas

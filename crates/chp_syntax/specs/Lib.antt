@@ -8,3 +8,4 @@ pub mod Parts
 pub mod View
 pub mod Refusals
 pub mod Limits
+pub mod Seventeenth

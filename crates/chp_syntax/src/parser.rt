@@ -1,19 +1,27 @@
 //! The parser, from the list of tokens to the tree.
 
-ghost use Rattle.std.specs.Prelude.{◌≡◌, List, IfOk, IfErr};
-ghost use Rattle.chp_syntax.specs.Trees.{ProgramTree};
+ghost use Rattle.std.specs.Prelude.{◌≡◌, ℕ, ◌≤◌, ◌^◌, ◌<◌, List, length, drop, true, IfOk, IfErr};
+ghost use Rattle.std.specs.List.{list_all};
+ghost use Rattle.chp_base.specs.declared.fault.TextError.TheVariants.{Refused};
+ghost use Rattle.chp_syntax.specs.Trees.{ProgramTree, Procedure};
 ghost use Rattle.chp_syntax.specs.Grammar.{Derives};
-ghost use Rattle.chp_syntax.specs.Reading.{FirstFault};
+ghost use Rattle.chp_syntax.specs.Reading.{FirstFault, IsShallow, Reads, few_arms};
+ghost use Rattle.chp_syntax.specs.Tokens.{IfRefused};
 ghost use Rattle.chp_syntax.specs.View.{program_of};
-ghost use Rattle.chp_syntax.specs.Refusals.{WhenSyntax, WhenUnread};
+ghost use Rattle.chp_syntax.specs.Refusals.{WhenSyntax, WhenUnread, spot, RefusedTokens, RefusedText};
 
+mod arms;
 mod expression;
 mod program;
 mod sight;
 mod statement;
 
+use crate::limits::{arbiter, probe, too_deep};
+use crate::scan::tokens as scan;
 use crate::token::Token;
 use crate::tree::Program;
+use arms::seventeenth_arm;
+use chp_base::{Fault, FaultCode, Span, TextError};
 use program::program as read_program;
 use sight::Stop;
 use std::alloc::{AllocError, Global};
@@ -38,5 +46,171 @@ pub fn parse_tokens(alloc: Global, tokens: &[Token]) -> Result<Program, Unread>
         Ok(program) => Ok(program),
         Err(Stop::Fault) => Err(Unread::Syntax(at)),
         Err(Stop::NoMemory(e)) => Err(Unread::NoMemory(e)),
+    }
+}
+
+fn refusal(code: FaultCode, at: Span) -> TextError
+    ensures { result ≡ Refused (record { code = code; at = at; other = at }) }
+{
+    TextError::Refused(Fault {
+        code,
+        at,
+        other: at,
+    })
+}
+
+fn front_spot(tokens: &[Token], end: u32) -> Span
+    ensures { result ≡ spot tokens.now end }
+{
+    match tokens {
+        [] => Span { from: end, to: end },
+        [first, ..] => first.at,
+    }
+}
+
+fn spot_at(tokens: &[Token], at: usize, end: u32) -> Span
+    requires { at ≤ length tokens.now }
+    ensures { result ≡ spot (drop at tokens.now) end }
+{
+    front_spot(&tokens[at..], end)
+}
+
+/// The program of the tokens of a text that ends at `end`.
+fn parse_list(alloc: Global, tokens: &[Token], end: u32) -> Result<Program, TextError>
+    ensures derives { IfOk result (λ p. Derives tokens.now (program_of p)) }
+    ensures only { IfOk result (λ p. (q : ProgramTree) → Derives tokens.now q → q ≡ program_of p) }
+    ensures shallow { IfOk result (λ p. IsShallow tokens.now) }
+    ensures few_in_procs { IfOk result (λ p. list_all (λ (q : Procedure). few_arms q.body) (program_of p).procs ≡ true) }
+    ensures few_in_body { IfOk result (λ p. few_arms (program_of p).body ≡ true) }
+    ensures other { IfErr result (IfRefused (λ f. f.other ≡ f.at)) }
+    ensures place { IfErr result (IfRefused (λ f. RefusedTokens tokens.now end f.code f.at)) }
+{
+    if let Some(at) = probe(tokens) {
+        return Err(refusal(FaultCode::Probe, at));
+    }
+    if let Some(at) = arbiter(tokens) {
+        return Err(refusal(FaultCode::Arbiter, at));
+    }
+    if let Some(at) = too_deep(tokens) {
+        return Err(refusal(FaultCode::TooDeep, at));
+    }
+    let program = match parse_tokens(alloc, tokens) {
+        Ok(program) => program,
+        Err(Unread::Syntax(first)) => {
+            let at = spot_at(tokens, first, end);
+            return Err(refusal(FaultCode::Syntax, at));
+        }
+        Err(Unread::NoMemory(e)) => return Err(TextError::NoMemory(e)),
+    };
+    let arms = match seventeenth_arm(alloc, tokens) {
+        Ok(arms) => arms,
+        Err(e) => return Err(TextError::NoMemory(e)),
+    };
+    if let Some(at) = arms {
+        return Err(refusal(FaultCode::TooManyGuards, at));
+    }
+    Ok(program)
+}
+
+/// The program that a text of at most 262,144 bytes is.
+///
+/// A text is refused at its first bytes that are no token (10), else at the first `#` (13), at the first `[|` (14), at
+/// the first token behind which more than 256 brackets are open (12), at the first token with which no program goes on,
+/// or at its end where it stops too early (11), and at the first `[]` that stands before a seventeenth arm (15). The
+/// causes are tested in this order, which is our profile's, and so is all of the syntax.
+pub fn parse(alloc: Global, text: &[u8]) -> Result<Program, TextError>
+    requires { length text.now ≤ 262144 }
+    ensures reads { IfOk result (λ p. Reads text.now (program_of p)) }
+    ensures only { IfOk result (λ p. (q : ProgramTree) → Reads text.now q → q ≡ program_of p) }
+    ensures other { IfErr result (IfRefused (λ f. f.other ≡ f.at)) }
+    ensures place { IfErr result (IfRefused (λ f. RefusedText text.now f.code f.at)) }
+    ensures refused { IfErr result (IfRefused (λ f. (q : ProgramTree) → ¬ Reads text.now q)) }
+{
+    let tokens = match scan(alloc, text) {
+        Ok(tokens) => tokens,
+        Err(e) => return Err(e),
+    };
+    let end = text.len() as u32;
+    match parse_list(alloc, &tokens, end) {
+        Ok(program) => Ok(program),
+        Err(e) => Err(e),
+    }
+}
+
+#[cfg(test)]
+mod tests {
+    use super::*;
+    use std::test::Fail;
+
+    fn fault_of(answer: Result<Program, TextError>) -> Option<Fault> {
+        match answer {
+            Err(TextError::Refused(fault)) => Some(fault),
+            Err(TextError::NoMemory(_)) => None,
+            Ok(_) => None,
+        }
+    }
+
+    #[test]
+    fn places_of_faults(rt: HostRuntime) -> Result<(), Fail> {
+        let rows = [
+            ("", 0, 0),
+            ("begin skip", 10, 10),
+            ("begin skip skip end", 11, 15),
+            ("begin x := end", 11, 14),
+            ("begin skip end end", 15, 18),
+            ("out X : 1 begin skip end", 10, 15),
+            ("begin [x -> skip [] ] end", 20, 21),
+            ("begin *[((x] end", 11, 12),
+            ("begin *[(skip -> skip] end", 14, 16),
+        ];
+        for (text, from, to) in rows {
+            let at = Span { from, to };
+            let fault = Fault {
+                code: FaultCode::Syntax,
+                at,
+                other: at,
+            };
+            assert!(rt; text.len() <= 262_144);
+            let answer = parse(rt.alloc(), text.as_bytes());
+            assert_eq!(rt; fault_of(answer), Some(fault), "at {text}");
+        }
+        Ok(())
+    }
+
+    #[test]
+    fn accepted(rt: HostRuntime) -> Result<(), Fail> {
+        let rows = [
+            "in L : 8; out R : 1; chan c : 0x10; var x : 4 = 3; proc p = (x := 1); begin call p end",
+            "begin L?x; R!x + 1 - 2 || skip, x := y[3], x := y[7:4]; *[(skip)] end",
+            "begin *[(x = 1) -> skip [] ~x & y | z ^ {1, x} -> *[[x <= 2 -> skip]]] end",
+        ];
+        for text in rows {
+            assert!(rt; text.len() <= 262_144);
+            let answer = parse(rt.alloc(), text.as_bytes());
+            assert!(rt; answer.is_ok(), "at {text}");
+        }
+        Ok(())
+    }
+
+    #[test]
+    fn arms(rt: HostRuntime) -> Result<(), Fail> {
+        let rows = [
+            ("begin [", 15, None),
+            ("begin [", 16, Some(181)),
+            ("begin *[", 16, Some(182)),
+        ];
+        for (front, further, place) in rows {
+            let mut text = String::from_str(rt.alloc(), front)?;
+            text.push_str("0 -> skip")?;
+            for _ in 0..further {
+                text.push_str("[]0 -> skip")?;
+            }
+            text.push_str("] end")?;
+            assert!(rt; text.len() <= 262_144);
+            let answer = parse(rt.alloc(), text.as_bytes());
+            let from = fault_of(answer).map(|fault| fault.at.from);
+            assert_eq!(rt; from, place, "at {front} {further}");
+        }
+        Ok(())
     }
 }

@@ -87,9 +87,14 @@ pub struct Arm {
 #[derive(Debug, Drop)]
 pub enum Expr {
     /// A number.
-    Number { value: u64, at: Span },
+    Number {
+        value: u64,
+        at: Span,
+    },
     /// `x`
-    Whole { of: Ident },
+    Whole {
+        of: Ident,
+    },
     /// `x[high:low]`
     Slice {
         of: Ident,
@@ -98,11 +103,21 @@ pub enum Expr {
         at: Span,
     },
     /// `x[place]`
-    Bit { of: Ident, place: u64, at: Span },
+    Bit {
+        of: Ident,
+        place: u64,
+        at: Span,
+    },
     /// `{e, ..}`, the last part lowest.
-    Join { parts: Vec<Expr>, at: Span },
+    Join {
+        parts: Vec<Expr>,
+        at: Span,
+    },
     /// `~e`
-    Not { inner: Box<Expr>, at: Span },
+    Not {
+        inner: Box<Expr>,
+        at: Span,
+    },
     /// `e op e ..`, applied from the left.
     Chain {
         first: Box<Expr>,

@@ -6,7 +6,10 @@ ghost use Rattle.chp_syntax.specs.declared.parser.sight.PrimaryFront.TheVariants
 ghost use Rattle.chp_syntax.specs.Grammar.{Primary, Parts, Negated, Sum, Comparison, Conjunction, Exclusive, Disjunction};
 ghost use Rattle.chp_syntax.specs.View.{covered_of, parts_of, link_of, chained_to};
 
-use super::sight::{Stop, and_at, comparison_at, mark_at, or_at, primary_at, sum_at, take_mark, take_name, take_number, xor_at, PrimaryFront};
+use super::sight::{
+    PrimaryFront, Stop, and_at, comparison_at, mark_at, or_at, primary_at, sum_at, take_mark,
+    take_name, take_number, xor_at,
+};
 use crate::token::{Mark, Token};
 use crate::tree::{Expr, Link};
 use chp_base::Span;

@@ -7,7 +7,9 @@ ghost use Rattle.chp_syntax.specs.Parts.{Good, Bad, Anything, Nothing, Undeclare
 ghost use Rattle.chp_syntax.specs.Grammar.{Declaration, Declarations, Programs, valued, defined};
 ghost use Rattle.chp_syntax.specs.View.{item_of, declared_of, with_item, procedure_of, program_of};
 
-use super::sight::{DeclFront, Stop, decl_at, mark_at, take_mark, take_name, take_number, take_word};
+use super::sight::{
+    DeclFront, Stop, decl_at, mark_at, take_mark, take_name, take_number, take_word,
+};
 use super::statement::{atom, par};
 use crate::token::{Key, Mark, Token};
 use crate::tree::{Decl, DeclKind, Proc, Program};

@@ -287,4 +287,3 @@ primary-returns-in_ok-close-in-Curly-clause-good t c =
 pub primary-returns-in-Other-clause-bad : goal.primary-returns-in-Other-clause-bad
 primary-returns-in-Other-clause-bad t c =
     primary_bad (drop c.args.at.now c.args.tokens.now) (sym c.in-Other.ensures)
-

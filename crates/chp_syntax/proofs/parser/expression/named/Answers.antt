@@ -91,4 +91,3 @@ returns-clause-good c =
     let m = c.in_ok-second.second in
     let s7 = by_part (low_seam i n) s6 c.in_ok-second.ensures.good in
     rw c.from_to-at-2.ensures (good_done (by_part (slice_seam i n m) s7 c.in_ok-close-2.ensures.good))
-

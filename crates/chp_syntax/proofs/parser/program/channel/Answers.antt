@@ -51,4 +51,3 @@ returns-clause-good c =
     let d = decl_of k i c.in_ok-width.width in
     let s4 = by_part (channel_4 k i) s3 c.in_ok-width.ensures.good in
     good_done (by_part (semicolon_seam d) s4 c.in_ok-take_mark-2.ensures.good)
-

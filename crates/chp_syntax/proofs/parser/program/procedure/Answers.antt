@@ -56,4 +56,3 @@ returns-clause-good c =
     let d = proc_of i (statement_of c.in_ok-body.body) in
     let s4 = by_part (procedure_4 i) s3 c.in_ok-body.ensures.good in
     good_done (by_part (semicolon_seam d) s4 c.in_ok-take_mark-2.ensures.good)
-

@@ -58,4 +58,3 @@ returns-clause-good c =
     let s3 = by_part (par_seam d) s2 c.in_ok-body.ensures.good in
     let s4 = by_part (end_seam d t) s3 c.in_ok-take_word-2.ensures.good in
     good_done s4
-

@@ -104,4 +104,3 @@ returns-clause-good c =
     let d = set_of i n c.in_ok-first.first in
     let s6 = by_part (first_seam i n) s5 c.in_ok-first.ensures.good in
     good_done (by_part (semicolon_seam d) s6 c.in_ok-take_mark-3.ensures.good)
-

@@ -335,4 +335,3 @@ pub choices-returns-clause-good : goal.choices-returns-clause-good
 choices-returns-clause-good t c =
     members_end choices_group (armed_of c.loop-alloc.arms) c.loop-alloc.invariant.read (not_so c.loop-alloc-test.ensures.1)
     (λ b got e. ap (λ (ys : List Guarded). onto and_guarded ys no_arms) (sym e))
-

@@ -93,4 +93,3 @@ returns-in-Other-clause-bad c =
     let i = c.in_ok-name.name in
     let s1 = by_part target_seam s0 c.in_ok-name.ensures.good in
     action_bad i s1 (sym c.in-Other.ensures)
-

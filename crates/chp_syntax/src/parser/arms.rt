@@ -1,0 +1,70 @@
+//! The limit on the arms of a selection.
+
+ghost use Rattle.std.specs.Prelude.{◌≡◌, ℕ, [], reverse, true, false, IfOk, IfSome, IfNone};
+ghost use Rattle.chp_syntax.specs.Seventeenth.{is_full, chosen, counted, is_seventeenth, is_narrow, IsSeventeenth};
+
+use crate::token::{Mark, Token, TokenKind};
+use chp_base::Span;
+use std::alloc::{AllocError, Global};
+
+/// How many signs `[]` a selection may have.
+const MOST_CHOICES: u32 = 15;
+
+/// What a token does to the numbers of signs `[]` in the open brackets, and whether it stands before a seventeenth arm.
+fn count(open: &mut Vec<u32>, kind: &TokenKind) -> Result<bool, AllocError>
+    ensures seventeenth { IfOk result (λ b. b ≡ is_seventeenth (reverse open.old.items) kind.now) }
+    ensures after { IfOk result (λ b. b ≡ false → reverse open.new.items ≡ counted (reverse open.old.items) kind.now) }
+{
+    let mark = match kind {
+        TokenKind::Sign(mark) => *mark,
+        TokenKind::Word(_) => return Ok(false),
+        TokenKind::Ident(_) => return Ok(false),
+        TokenKind::Number(_) => return Ok(false),
+    };
+    match mark {
+        Mark::OpenRound => open.push(0)?,
+        Mark::OpenSquare => open.push(0)?,
+        Mark::OpenCurly => open.push(0)?,
+        Mark::CloseRound => {
+            open.pop();
+        }
+        Mark::CloseSquare => {
+            open.pop();
+        }
+        Mark::CloseCurly => {
+            open.pop();
+        }
+        Mark::Choice => return choose(open),
+        _ => return Ok(false),
+    }
+    Ok(false)
+}
+
+fn choose(open: &mut Vec<u32>) -> Result<bool, AllocError>
+    ensures seventeenth { IfOk result (λ b. b ≡ is_full (reverse open.old.items)) }
+    ensures after { IfOk result (λ b. b ≡ false → reverse open.new.items ≡ chosen (reverse open.old.items)) }
+{
+    let Some(count) = open.pop() else {
+        return Ok(false);
+    };
+    if count >= MOST_CHOICES {
+        return Ok(true);
+    }
+    open.push(count + 1)?;
+    Ok(false)
+}
+
+/// The place of the first sign `[]` that stands before a seventeenth arm; our profile has at most 16.
+pub fn seventeenth_arm(alloc: Global, tokens: &[Token]) -> Result<Option<Span>, AllocError>
+    ensures some { IfOk result (λ o. IfSome o (IsSeventeenth tokens.now)) }
+    ensures none { IfOk result (λ o. IfNone o (is_narrow [] tokens.now ≡ true)) }
+{
+    let mut open: Vec<u32> = Vec::new(alloc);
+    for token in tokens {
+        let full = count(&mut open, &token.kind)?;
+        if full {
+            return Ok(Some(token.at));
+        }
+    }
+    Ok(None)
+}
