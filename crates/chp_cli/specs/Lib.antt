@@ -1,0 +1,5 @@
+pub mod Commands
+pub mod Statuses
+pub mod Outcomes
+pub mod Ends
+pub use Rattle.chp_edge.specs.Faults

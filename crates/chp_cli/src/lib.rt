@@ -1,0 +1,11 @@
+//! The top call: the words of a command, the files that it reads, and what it writes and says.
+#![tactic(auto)]
+
+mod command;
+mod main_call;
+mod outcome;
+mod say;
+mod status;
+
+pub use main_call::chp_main;
+pub use status::Status;

@@ -1,0 +1,43 @@
+//! How a command ends.
+
+ghost use Rattle.std.specs.Prelude.{◌≡◌};
+ghost use Rattle.chp_cli.specs.Statuses.{number_of};
+
+/// How a command ends. Each has the number with which the program ends.
+#[derive(Clone, Copy, Debug, PartialEq, Eq)]
+pub enum Status {
+    /// The whole output was written.
+    Done,
+    /// The program text is refused.
+    RefusedText,
+    /// The words are no command.
+    Usage,
+    /// A file of the command couldn't be read.
+    Read,
+    /// The output couldn't be written whole.
+    Write,
+    /// Memory ran out.
+    NoMemory,
+    /// A file has more bytes than it may have.
+    TooLarge,
+    /// The program isn't compiled yet.
+    NotBuilt,
+}
+
+impl Status {
+    /// The number with which the program ends.
+    pub fn number(&self) -> u8
+        ensures { result ≡ number_of self.now }
+    {
+        match self {
+            Status::Done => 0,
+            Status::RefusedText => 1,
+            Status::Usage => 2,
+            Status::Read => 3,
+            Status::Write => 4,
+            Status::NoMemory => 6,
+            Status::TooLarge => 7,
+            Status::NotBuilt => 19,
+        }
+    }
+}
