@@ -24,6 +24,7 @@ pub record Compiled (held : Option (List ℕ)) (P : List ℕ → Type 0) : Type 
   pub is : held ≡ Some text
   pub short : length text ≤ most_of_text
   pub reads : Reads text program
+  pub only : (other : ProgramTree) → Reads text other → other ≡ program
   pub built : is_built program ≡ true
   pub spells : NetText file (translation program)
   pub put : P file
@@ -44,7 +45,17 @@ pub record Unbuilt (held : Option (List ℕ)) : Type 0 where
   pub is : held ≡ Some text
   pub short : length text ≤ most_of_text
   pub reads : Reads text program
+  pub only : (other : ProgramTree) → Reads text other → other ≡ program
   pub unbuilt : is_built program ≡ false
+
+-- what is to be compiled: a text within the limit that reads as a program which is compiled
+pub record IsToCompile (held : Option (List ℕ)) : Type 0 where
+  pub text : List ℕ
+  pub program : ProgramTree
+  pub is : held ≡ Some text
+  pub short : length text ≤ most_of_text
+  pub reads : Reads text program
+  pub built : is_built program ≡ true
 
 -- the text is too long
 pub record Overlong (held : Option (List ℕ)) : Type 0 where

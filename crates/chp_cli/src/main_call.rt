@@ -1,9 +1,9 @@
 //! The top call.
 
-ghost use Rattle.std.specs.Prelude.{◌≡◌, ◌≢◌, ◌≤◌, ◌++◌, ◌↔◌, ℕ, None, Some, take, length, true, IfOk, IfErr};
+ghost use Rattle.std.specs.Prelude.{◌≡◌, ◌≢◌, ◌≤◌, ◌++◌, ◌↔◌, ℕ, None, Some, take, length, true, IfOk, IfErr, ◌⊎◌};
 ghost use Rattle.chp_edge.specs.Faults.{Rose, IsReadFault};
 ghost use Rattle.chp_cli.specs.Commands.{file_of, name_of};
-ghost use Rattle.chp_cli.specs.Ends.{Compiled, Refused, Unbuilt, Overlong, WhenRefused, Says, EndsWithout};
+ghost use Rattle.chp_cli.specs.Ends.{Compiled, Refused, Unbuilt, Overlong, WhenRefused, Says, EndsWithout, IsToCompile};
 
 use crate::command::file_to_compile;
 use crate::outcome::Outcome;
@@ -71,6 +71,8 @@ fn compile<S: Shelf, K: Sink>(alloc: Global, name: &str, shelf: &mut S, out: &mu
 /// Runs the command that the words ask for: reads its file from the shelf, writes its output, and says one line where
 /// it doesn't end well. Faults of `say` change neither the status nor the output.
 ///
+/// Where a program that is compiled stands in the named file, and no device fails, the status is `Done` or `NoMemory`.
+///
 /// With `Done` the whole output was written, with `Write` a front of it, and with every other status nothing. Want of
 /// memory may come at any point, and is merged with no other answer.
 pub fn chp_main<S: Shelf, K: Sink, W: Sink>(
@@ -91,6 +93,8 @@ pub fn chp_main<S: Shelf, K: Sink, W: Sink>(
     ensures too_large { result ≡ Status.TooLarge → S.tells shelf.old ≡ true → Overlong (S.holds shelf.old (name_of (file_of words.now))) }
     ensures not_built { result ≡ Status.NotBuilt → S.tells shelf.old ≡ true → Unbuilt (S.holds shelf.old (name_of (file_of words.now))) }
     ensures silent { result ≢ Status.Done → result ≢ Status.Write → K.tells out.old ≡ true → K.written out.new ≡ K.written out.old }
+    ensures complete { S.tells shelf.old ≡ true → IsToCompile (S.holds shelf.old (name_of (file_of words.now))) → file_of words.now ≢ None
+        → ¬ Rose (S.faults shelf.old) (S.faults shelf.new) → ¬ Rose (K.faults out.old) (K.faults out.new) → (result ≡ Status.Done) ⊎ (result ≡ Status.NoMemory) }
     ensures said { W.tells say.old ≡ true → ¬ Rose (W.faults say.old) (W.faults say.new) → (line : _)
         × Says result (S.tells shelf.old) (S.holds shelf.old (name_of (file_of words.now))) (name_of (file_of words.now)) line
         × (W.written say.new ≡ W.written say.old ++ line) }
