@@ -1,5 +1,5 @@
 -- Expressions: what is to come after each of their parts.
-use Rattle.std.proofs.Common.{◌≡◌, ℕ, suc, ◌+◌, ◌<◌, List, [], ◌∷◌, ◌++◌, map, Option, Some, None, refl, sym, ap, ◌∙◌, subst, arith}
+use Rattle.std.proofs.Common.{◌≡◌, ℕ, suc, ◌<◌, List, [], ◌∷◌, ◌++◌, map, Option, Some, None, refl, sym, ap, ◌∙◌, subst, arith}
 use Rattle.std.proofs.lemmas.List.{map-append}
 use Rattle.chp_base.specs.declared.span.Span.{Span}
 use Rattle.chp_syntax.specs.declared.token.Token.{Token}
@@ -11,14 +11,13 @@ use Rattle.chp_syntax.specs.declared.tree.Ident.{Ident as Named}
 use Rattle.chp_syntax.specs.declared.tree.Op.{Op}
 use Rattle.chp_syntax.specs.declared.tree.Op.TheVariants as op
 use Rattle.chp_syntax.specs.declared.parser.sight.Numeral.{Numeral}
-use Rattle.chp_syntax.specs.declared.parser.sight.PrimaryFront.{PrimaryFront}
 use Rattle.chp_syntax.specs.declared.parser.sight.PrimaryFront.TheVariants as primary
-use Rattle.chp_syntax.specs.Trees.{Expression, number, whole, slice, bit, join, negation, chain, Expressions, no_parts, and_part, Links, no_links, and_link}
-use Rattle.chp_syntax.specs.Grammar.{named, name, numeral, from_to, or_of, xor_of, and_of, sum_of, comparison_of, Covered, cover, Tail, no_tail, end_of, longer, chained, chain_of, Primary, a_number, a_name, a_bit, a_slice, a_join, in_brackets, Parts, the_parts, MoreParts, no_more_parts, one_more_part, Negated, plain, negated, Sum, the_sum, MoreSum, no_more_sum, one_more_sum, Comparison, not_compared, compared, Conjunction, the_conjunction, MoreConjunction, no_more_conjunction, one_more_conjunction, Exclusive, the_exclusive, MoreExclusive, no_more_exclusive, one_more_exclusive, Disjunction, the_disjunction, MoreDisjunction, no_more_disjunction, one_more_disjunction}
-use Rattle.chp_syntax.specs.Parts.{Part, sees, IsKind, reads, rank, Stops, Anything, Exactly, exactly, Operator, operator, AName, the_name, ANumber, the_number, Good, Bad, primary_kind, primary_front}
+use Rattle.chp_syntax.specs.Trees.{Expression, number, whole, slice, bit, join, negation, Expressions, no_parts, and_part, Links, no_links, and_link}
+use Rattle.chp_syntax.specs.Grammar.{named, numeral, from_to, or_of, xor_of, and_of, sum_of, comparison_of, Covered, cover, Tail, no_tail, end_of, longer, chained, chain_of, Primary, a_number, a_name, a_bit, a_slice, a_join, in_brackets, Parts, the_parts, MoreParts, no_more_parts, one_more_part, Negated, plain, negated, Sum, the_sum, MoreSum, no_more_sum, one_more_sum, Comparison, not_compared, compared, Conjunction, the_conjunction, MoreConjunction, no_more_conjunction, one_more_conjunction, Exclusive, the_exclusive, MoreExclusive, no_more_exclusive, one_more_exclusive, Disjunction, the_disjunction, MoreDisjunction, no_more_disjunction, one_more_disjunction}
+use Rattle.chp_syntax.specs.Parts.{Part, sees, IsKind, reads, rank, Stops, Anything, Exactly, exactly, Operator, operator, AName, the_name, ANumber, the_number, Good, Bad, primary_front}
 use Rattle.chp_syntax.specs.View.{onto, and_pair, chained_to}
-use Rattle.chp_syntax.proofs.Steps.{zero_span, SoFar, Ends, Seam, Then, and_then, Done, all_done, done_parts, Either, one, other, start, instead, by_part, part_bad, bad_here, good_done, not_one, not_other, exactly_seen, operator_seen, ends_exactly, ends_name, ends_number, ends_done, ends_then, ends_one, any_seam, kind_seam, last_seam, last_any, stops_more, stops_done, then_kind, then_parts}
-use Rattle.chp_syntax.proofs.Group.{Further, no_further, a_further, Grouping, SoMany, group_first, group_bad_first, group_more, group_bad, group_end, group_ends}
+use Rattle.chp_syntax.proofs.Steps.{zero_span, SoFar, Ends, Seam, Then, and_then, Done, all_done, Either, one, other, start, instead, bad_here, not_one, not_other, exactly_seen, operator_seen, ends_exactly, ends_number, ends_done, ends_then, ends_one, any_seam, kind_seam, last_seam, last_any, stops_more, stops_done, then_kind}
+use Rattle.chp_syntax.proofs.Group.{Further, no_further, a_further, Grouping, SoMany, group_first, group_more, group_bad, group_end, group_ends}
 
 -- one level of operators that are applied from the left: members R, with the operators op, of rank k, between them
 pub record Level : Type 1 where

@@ -1,5 +1,5 @@
 -- Trees with few arms are those of tokens in which no seventeenth arm begins.
-use Rattle.std.proofs.Common.{◌≡◌, ℕ, suc, ◌+◌, ◌<◌, ◌≤◌, Bool, true, false, List, [], ◌∷◌, ◌++◌, length, get_or, take, drop, reverse, Option, Some, refl, sym, ap, ◌∙◌, subst, arith}
+use Rattle.std.proofs.Common.{◌≡◌, ℕ, suc, ◌+◌, ◌<◌, ◌≤◌, Bool, true, false, List, [], ◌∷◌, ◌++◌, length, get_or, take, drop, Some, refl, sym, ap, ◌∙◌, arith}
 use Rattle.std.specs.Prelude.{◌&&◌, nat_le, not}
 use Rattle.std.specs.List.{list_all}
 use Rattle.std.proofs.lemmas.List.{take-append-drop, drop_more, take_more}
@@ -10,15 +10,13 @@ use Rattle.chp_base.specs.declared.span.Span.{Span}
 use Rattle.chp_syntax.specs.declared.token.Token.{Token}
 use Rattle.chp_syntax.specs.declared.token.TokenKind.{TokenKind}
 use Rattle.chp_syntax.specs.declared.token.TokenKind.TheVariants.{Word, Ident, Number, Sign}
-use Rattle.chp_syntax.specs.declared.token.Key.TheVariants as key
 use Rattle.chp_syntax.specs.declared.token.Mark.TheVariants as mark
 use Rattle.chp_syntax.specs.declared.tree.DeclKind.{DeclKind}
-use Rattle.chp_syntax.specs.declared.tree.Op.{Op}
-use Rattle.chp_syntax.specs.Trees.{Expressions, Statement, Statements, no_members, and_member, Arms, and_arm, Procedure, ProgramTree}
+use Rattle.chp_syntax.specs.Trees.{Expressions, Statement, Statements, no_members, and_member, Arms, Procedure, ProgramTree}
 use Rattle.chp_syntax.specs.Grammar.{sign, name, numeral, channel_of, Covered, Tail, Guarded, parallel_of, sequence_of, Primary, a_number, a_name, a_bit, a_slice, a_join, in_brackets, Parts, the_parts, MoreParts, no_more_parts, one_more_part, Negated, plain, negated, Sum, the_sum, MoreSum, no_more_sum, one_more_sum, Comparison, not_compared, compared, Conjunction, the_conjunction, MoreConjunction, no_more_conjunction, one_more_conjunction, Exclusive, the_exclusive, MoreExclusive, no_more_exclusive, one_more_exclusive, Disjunction, the_disjunction, MoreDisjunction, no_more_disjunction, one_more_disjunction, Atom, a_skip, an_assignment, a_send, a_receive, a_call, in_round, a_loop, a_guarded_loop, a_selection, Branch, the_branch, Choices, the_choices, MoreChoices, no_more_choices, one_more_choice, Both, the_both, MoreBoth, no_more_both, one_more_both, Seq, the_seq, MoreSeq, no_more_seq, one_more_seq, Par, the_par, MorePar, no_more_par, one_more_par, Declared, Item, valued, defined, and_item, Declaration, a_channel, a_variable, a_variable_with_first, a_procedure, Declarations, no_declaration, one_more_declaration, the_program, Derives}
 use Rattle.chp_syntax.specs.Reading.{few_arms, few_arms_each, few_arms_in, arm_count}
 use Rattle.chp_syntax.specs.Parts.{rank}
-use Rattle.chp_syntax.specs.Seventeenth.{closed, chosen, counted, counts, is_full, is_seventeenth, is_narrow, IsSeventeenth}
+use Rattle.chp_syntax.specs.Seventeenth.{chosen, counted, counts, is_full, is_seventeenth, is_narrow, IsSeventeenth}
 use Rattle.chp_syntax.proofs.Expressions.{sum_ranked, conjunction_ranked, exclusive_ranked, disjunction_ranked, compared_ranked}
 
 -- operators count nothing

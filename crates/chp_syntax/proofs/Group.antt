@@ -1,5 +1,5 @@
 -- Groups: a member, and then any number of members, each behind a separator.
-use Rattle.std.proofs.Common.{◌≡◌, ℕ, List, [], ◌∷◌, ◌++◌, Option, refl, sym, ap, ◌∙◌, subst}
+use Rattle.std.proofs.Common.{◌≡◌, List, [], ◌∷◌, ◌++◌, Option, refl, sym, ap, ◌∙◌, subst}
 use Rattle.chp_syntax.specs.declared.token.Token.{Token}
 use Rattle.chp_syntax.specs.Parts.{Part, sees, Anything, Good, Bad}
 use Rattle.chp_syntax.specs.View.{onto}

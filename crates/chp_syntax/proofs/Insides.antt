@@ -1,16 +1,15 @@
 -- Between the brackets of a repetition: a statement or arms, and the tokens that decide which.
-use Rattle.std.proofs.Common.{◌≡◌, ℕ, ◌+◌, ◌<◌, ◌≤◌, List, [], ◌∷◌, ◌++◌, Bool, true, false, Option, Some, None, refl, sym, ap, ◌∙◌, subst, arith, append_assoc}
+use Rattle.std.proofs.Common.{◌≡◌, ℕ, ◌≤◌, List, [], ◌∷◌, ◌++◌, Bool, true, false, Option, Some, refl, sym, ap, ◌∙◌, subst, arith, append_assoc}
 use Rattle.chp_base.specs.declared.span.Span.{Span}
 use Rattle.chp_syntax.specs.declared.token.Token.{Token}
 use Rattle.chp_syntax.specs.declared.token.TokenKind.{TokenKind}
 use Rattle.chp_syntax.specs.declared.token.TokenKind.TheVariants.{Word, Ident, Number, Sign}
 use Rattle.chp_syntax.specs.declared.token.Key.TheVariants as key
 use Rattle.chp_syntax.specs.declared.token.Mark.TheVariants as mark
-use Rattle.chp_syntax.specs.declared.tree.Op.{Op}
 use Rattle.chp_syntax.specs.declared.parser.sight.AtomFront.{AtomFront}
 use Rattle.chp_syntax.specs.declared.parser.sight.AtomFront.TheVariants as atom
 use Rattle.chp_syntax.specs.Trees.{Statement, skips, selects, repeats, Arms}
-use Rattle.chp_syntax.specs.Grammar.{name, numeral, word, sign, Covered, Tail, Primary, a_number, a_name, a_bit, a_slice, a_join, in_brackets, Negated, plain, negated, Sum, the_sum, MoreSum, no_more_sum, one_more_sum, Comparison, not_compared, compared, Conjunction, the_conjunction, MoreConjunction, no_more_conjunction, one_more_conjunction, Exclusive, the_exclusive, MoreExclusive, no_more_exclusive, one_more_exclusive, Disjunction, the_disjunction, MoreDisjunction, no_more_disjunction, one_more_disjunction, Atom, a_skip, an_assignment, a_send, a_receive, a_call, in_round, a_loop, a_guarded_loop, a_selection, the_branch, Choices, the_choices, no_more_choices, Both, the_both, Seq, the_seq, Par, the_par}
+use Rattle.chp_syntax.specs.Grammar.{numeral, word, sign, Covered, Tail, Primary, a_number, a_name, a_bit, a_slice, a_join, in_brackets, Negated, plain, negated, Sum, the_sum, MoreSum, no_more_sum, one_more_sum, Comparison, not_compared, compared, Conjunction, the_conjunction, MoreConjunction, no_more_conjunction, one_more_conjunction, Exclusive, the_exclusive, MoreExclusive, no_more_exclusive, one_more_exclusive, Disjunction, the_disjunction, MoreDisjunction, no_more_disjunction, one_more_disjunction, Atom, a_skip, an_assignment, a_send, a_receive, a_call, in_round, a_loop, a_guarded_loop, a_selection, the_branch, Choices, the_choices, no_more_choices, Both, the_both, Seq, the_seq, Par, the_par}
 use Rattle.chp_syntax.specs.Parts.{sees, rank, Stops, Inside, a_body, some_arms, Good, Bad, atom_kind, action_kind, action_front, acts, begins_par, begins_par_with}
 use Rattle.chp_syntax.proofs.Steps.{zero_span, sees_same, stops_more}
 use Rattle.chp_syntax.proofs.Expressions.{sum_ranked, conjunction_ranked, exclusive_ranked, disjunction_ranked, compared_ranked}

@@ -1,7 +1,6 @@
 -- Declarations and whole programs: what is to come after each of their parts, and the first fault.
 use Rattle.std.proofs.Common.{◌≡◌, ℕ, zero, suc, ◌+◌, ◌<◌, ◌≤◌, List, [], ◌∷◌, ◌++◌, length, take, drop, Option, Some, None, refl, sym, ap, ◌∙◌, subst, arith, append_assoc}
 use Rattle.std.proofs.lemmas.List.{drop_all, append-nil, length-drop, append_cancel_right, take-append-drop}
-use Rattle.chp_base.specs.declared.span.Span.{Span}
 use Rattle.chp_syntax.specs.declared.token.Token.{Token}
 use Rattle.chp_syntax.specs.declared.token.TokenKind.{TokenKind}
 use Rattle.chp_syntax.specs.declared.token.TokenKind.TheVariants.{Word, Ident, Number, Sign}
@@ -11,14 +10,13 @@ use Rattle.chp_syntax.specs.declared.tree.Ident.{Ident as Named}
 use Rattle.chp_syntax.specs.declared.tree.DeclKind.{DeclKind}
 use Rattle.chp_syntax.specs.declared.tree.DeclKind.TheVariants as declares
 use Rattle.chp_syntax.specs.declared.parser.sight.Numeral.{Numeral}
-use Rattle.chp_syntax.specs.declared.parser.sight.DeclFront.{DeclFront}
 use Rattle.chp_syntax.specs.declared.parser.sight.DeclFront.TheVariants as decl
-use Rattle.chp_syntax.specs.Trees.{Statement, Procedure, ProgramTree}
+use Rattle.chp_syntax.specs.Trees.{Statement, ProgramTree}
 use Rattle.chp_syntax.specs.Grammar.{named, name, numeral, word, sign, channel_of, Atom, Par, Declared, no_declared, Item, valued, defined, and_item, unset, set, Declaration, a_channel, a_variable, a_variable_with_first, a_procedure, Declarations, no_declaration, one_more_declaration, Programs, the_program, Derives}
 use Rattle.chp_syntax.specs.Reading.{FirstFault}
-use Rattle.chp_syntax.specs.Parts.{Part, sees, IsKind, reads, rank, Stops, Anything, Nothing, Undeclared, Exactly, exactly, Operator, operator, AName, the_name, ANumber, the_number, Good, Bad, decl_kind, decl_front}
+use Rattle.chp_syntax.specs.Parts.{Part, sees, IsKind, reads, Stops, Anything, Nothing, Undeclared, Exactly, exactly, Operator, operator, AName, the_name, ANumber, the_number, Good, Bad, decl_kind, decl_front}
 use Rattle.chp_syntax.specs.View.{onto, with_item}
-use Rattle.chp_syntax.proofs.Steps.{zero_span, SoFar, Ends, Seam, Then, and_then, then_parts, Done, all_done, done_parts, Either, one, other, start, instead, by_part, part_bad, bad_here, good_here, good_done, not_one, not_other, ends_exactly, ends_name, ends_number, ends_done, ends_then, ends_one, any_seam, kind_seam, last_any, then_kind, operator_seen}
+use Rattle.chp_syntax.proofs.Steps.{zero_span, SoFar, Ends, Seam, Then, and_then, then_parts, Done, all_done, done_parts, Either, one, other, start, instead, by_part, part_bad, bad_here, good_here, not_one, not_other, ends_exactly, ends_name, ends_number, ends_done, ends_then, ends_one, any_seam, kind_seam, last_any, then_kind}
 use Rattle.chp_syntax.proofs.Group.{onto_end}
 use Rattle.chp_syntax.proofs.Statements.{ends_atom, ends_par}
 

@@ -1,5 +1,5 @@
 -- Lists of members, as rows and as lists.
-use Rattle.std.proofs.Common.{◌≡◌, List, [], ◌∷◌, refl, ap, ◌∙◌, map, Bool}
+use Rattle.std.proofs.Common.{◌≡◌, refl, ap, ◌∙◌, map, Bool}
 use Rattle.std.specs.declared.alloc.Global.{Global}
 use Rattle.std.specs.declared.boxed.Box.{Box}
 use Rattle.std.specs.declared.vec.Vec.{Vec}
@@ -10,7 +10,7 @@ use Rattle.chp_syntax.specs.declared.tree.Link.{Link}
 use Rattle.chp_syntax.specs.declared.tree.Arm.{Arm}
 use Rattle.chp_syntax.specs.declared.tree.Stmt.{Stmt, Then, Beside, Select, Row_of-Stmt, end_of-Stmt, more_of-Stmt, Row_of-Arm, end_of-Arm, more_of-Arm, items-the_row-Stmt, items-the_row-Arm, items_hidden-the_row-Stmt-0, items_hidden-the_row-Arm-1}
 use Rattle.chp_syntax.specs.declared.tree.Stmt.TheBlock.{hidden-the_row-Stmt-0, hidden-the_row-Arm-1}
-use Rattle.chp_syntax.specs.Trees.{Expression, join, chain, no_parts, and_part, Links, no_links, and_link, follows, besides, selects, no_members, and_member, no_arms, and_arm}
+use Rattle.chp_syntax.specs.Trees.{join, chain, no_parts, and_part, no_links, and_link, follows, besides, selects, no_members, and_member, no_arms, and_arm}
 use Rattle.chp_syntax.specs.View.{expression_of, expressions_of, links_of, statement_of, statements_of, arms_of, link_of, and_pair, guarded_of, and_guarded, onto}
 
 exprs_row : {m : _} (row : Row_of-Expr m) → expressions_of row ≡ onto and_part (map expression_of (items-the_row-Expr m row)) no_parts

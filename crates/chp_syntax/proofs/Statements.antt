@@ -1,21 +1,19 @@
 -- Statements: what is to come after each of their parts.
-use Rattle.std.proofs.Common.{◌≡◌, ℕ, suc, ◌+◌, ◌<◌, List, [], ◌∷◌, ◌++◌, length, true, false, Option, Some, None, refl, sym, ap, ◌∙◌, subst, arith}
+use Rattle.std.proofs.Common.{◌≡◌, ◌<◌, List, [], ◌∷◌, length, false, Option, Some, None, refl, sym, ap, ◌∙◌, arith}
 use Rattle.chp_base.specs.declared.span.Span.{Span}
 use Rattle.chp_syntax.specs.declared.token.Token.{Token}
 use Rattle.chp_syntax.specs.declared.token.TokenKind.{TokenKind}
-use Rattle.chp_syntax.specs.declared.token.TokenKind.TheVariants.{Word, Ident, Number, Sign}
+use Rattle.chp_syntax.specs.declared.token.TokenKind.TheVariants.{Word, Sign}
 use Rattle.chp_syntax.specs.declared.token.Key.TheVariants as key
 use Rattle.chp_syntax.specs.declared.token.Mark.TheVariants as mark
 use Rattle.chp_syntax.specs.declared.tree.Ident.{Ident as Named}
-use Rattle.chp_syntax.specs.declared.parser.sight.AtomFront.{AtomFront}
 use Rattle.chp_syntax.specs.declared.parser.sight.AtomFront.TheVariants as atom
-use Rattle.chp_syntax.specs.declared.parser.sight.ActionFront.{ActionFront}
 use Rattle.chp_syntax.specs.declared.parser.sight.ActionFront.TheVariants as action
-use Rattle.chp_syntax.specs.Trees.{Expression, number, Statement, skips, assigns, sends, receives, follows, besides, selects, repeats, calls, Statements, no_members, and_member, Arms, no_arms, and_arm}
-use Rattle.chp_syntax.specs.Grammar.{named, name, numeral, word, sign, Covered, cover, Guarded, guarded, sequence_of, parallel_of, a_number, Disjunction, Atom, a_skip, an_assignment, a_send, a_receive, a_call, in_round, a_loop, a_guarded_loop, a_selection, Branch, the_branch, Choices, the_choices, MoreChoices, no_more_choices, one_more_choice, Both, the_both, MoreBoth, no_more_both, one_more_both, Seq, the_seq, MoreSeq, no_more_seq, one_more_seq, Par, the_par, MorePar, no_more_par, one_more_par}
-use Rattle.chp_syntax.specs.Parts.{Part, sees, IsKind, rank, Stops, Anything, Exactly, exactly, AName, the_name, Inside, a_body, some_arms, Good, Bad, atom_kind, atom_front, action_kind, action_front}
+use Rattle.chp_syntax.specs.Trees.{Statement, skips, assigns, sends, receives, selects, repeats, calls, Statements, no_members, and_member, Arms, no_arms}
+use Rattle.chp_syntax.specs.Grammar.{named, word, Covered, Guarded, guarded, sequence_of, parallel_of, Disjunction, Atom, a_skip, an_assignment, a_send, a_receive, a_call, in_round, a_loop, a_guarded_loop, a_selection, Branch, the_branch, Choices, the_choices, MoreChoices, no_more_choices, one_more_choice, Both, the_both, MoreBoth, no_more_both, one_more_both, Seq, the_seq, MoreSeq, no_more_seq, one_more_seq, Par, the_par, MorePar, no_more_par, one_more_par}
+use Rattle.chp_syntax.specs.Parts.{Part, sees, IsKind, rank, Stops, Anything, Exactly, exactly, AName, the_name, Inside, a_body, some_arms, Bad, atom_front, action_kind, action_front}
 use Rattle.chp_syntax.specs.View.{onto, and_guarded}
-use Rattle.chp_syntax.proofs.Steps.{zero_span, SoFar, Ends, Seam, Then, and_then, Done, all_done, Either, one, other, start, instead, by_part, bad_here, exactly_seen, ends_exactly, ends_name, ends_done, ends_then, ends_one, any_seam, kind_seam, last_seam, last_any, stops_more, stops_done, then_kind}
+use Rattle.chp_syntax.proofs.Steps.{zero_span, SoFar, Ends, Seam, Then, and_then, Done, all_done, Either, one, other, start, instead, bad_here, exactly_seen, ends_exactly, ends_name, ends_done, ends_then, ends_one, any_seam, kind_seam, last_seam, last_any, stops_more, then_kind}
 use Rattle.chp_syntax.proofs.Group.{Further, no_further, a_further, Grouping, group_ends}
 use Rattle.chp_syntax.proofs.Expressions.{ends_disjunction}
 

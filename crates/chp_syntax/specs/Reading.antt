@@ -1,11 +1,11 @@
 -- What program a text reads as.
-use Rattle.std.specs.Prelude.{◌≡◌, ℕ, ◌+◌, ◌-◌, ◌<◌, ◌≤◌, ◌++◌, length, ◌&&◌, nat_le, Bool, true, List, [], ◌∷◌, take, fold}
+use Rattle.std.specs.Prelude.{◌≡◌, ℕ, ◌+◌, ◌-◌, ◌<◌, ◌≤◌, ◌++◌, length, ◌&&◌, nat_le, Bool, true, List, [], ◌∷◌, take}
 use Prim.Native.Nat.{suc}
 use Rattle.chp_syntax.specs.declared.token.Token.{Token}
 use Rattle.chp_syntax.specs.declared.token.TokenKind.{TokenKind}
 use Rattle.chp_syntax.specs.declared.token.TokenKind.TheVariants.{Sign}
 use Rattle.chp_syntax.specs.declared.token.Mark.TheVariants as mark
-use Rattle.chp_syntax.specs.Trees.{Statement, skips, assigns, sends, receives, follows, besides, selects, repeats, calls, Statements, no_members, and_member, Arms, no_arms, and_arm, Procedure, ProgramTree}
+use Rattle.chp_syntax.specs.Trees.{Statement, follows, besides, selects, repeats, Statements, no_members, and_member, Arms, no_arms, and_arm, Procedure, ProgramTree}
 use Rattle.chp_syntax.specs.Tokens.{Tokens}
 use Rattle.chp_syntax.specs.Grammar.{Derives}
 use Rattle.std.specs.List.{list_all}

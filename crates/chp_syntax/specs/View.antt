@@ -1,5 +1,5 @@
 -- The plain tree of a tree that lies in memory.
-use Rattle.std.specs.Prelude.{ℕ, List, [], ◌∷◌, ◌++◌, map}
+use Rattle.std.specs.Prelude.{List, [], ◌∷◌, ◌++◌, map}
 use Rattle.std.specs.declared.alloc.Global.{Global}
 use Rattle.std.specs.declared.vec.Vec.{Vec}
 use Rattle.chp_base.specs.declared.span.Span.{Span}
@@ -17,7 +17,6 @@ use Rattle.chp_syntax.specs.Grammar.{Declared as Declarations_of}
 use Rattle.chp_syntax.specs.declared.parser.program.Declared.{Declared}
 use Rattle.chp_syntax.specs.declared.parser.program.Item as I
 use Rattle.chp_syntax.specs.declared.parser.program.Item.TheVariants as item
-use Rattle.chp_syntax.specs.declared.tree.Decl.{Decl}
 
 abbrev mutual
   pub expression_of : Expr → Expression

@@ -1,4 +1,4 @@
-use Rattle.std.proofs.Common.{◌≡◌, ℕ, List, drop, length, refl, sym, ap, ◌∙◌, subst}
+use Rattle.std.proofs.Common.{ℕ, drop, sym, ap, ◌∙◌, subst}
 use Rattle.chp_base.specs.declared.span.Span.{Span}
 use Rattle.chp_base.specs.declared.fault.FaultCode.TheVariants as code
 use Rattle.chp_syntax.specs.Refusals.{spot, RefusedTokens, IsPlain, a_probe, an_arbiter, too_deep, no_program, too_many_arms}

@@ -1,4 +1,4 @@
-use Rattle.std.proofs.Common.{drop, arith, refl, sym, ap, ◌∙◌}
+use Rattle.std.proofs.Common.{arith}
 use Rattle.std.proofs.lemmas.List.{drop_all}
 use Rattle.chp_syntax.proofs.Programs.{first_fault, none_at_all, reads_it, reads_only}
 use Rattle.chp_syntax.proofs.parser.parse_tokens.Goals as goal

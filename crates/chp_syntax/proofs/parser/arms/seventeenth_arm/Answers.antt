@@ -1,4 +1,4 @@
-use Rattle.std.proofs.Common.{reverse, refl, sym, ◌∙◌}
+use Rattle.std.proofs.Common.{reverse, sym, ◌∙◌}
 use Rattle.chp_syntax.proofs.FewArms.{seventeenth_at, counted_more, narrow_more}
 use Rattle.chp_syntax.proofs.parser.arms.seventeenth_arm.Goals as goal
 

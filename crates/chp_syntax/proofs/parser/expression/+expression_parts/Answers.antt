@@ -1,13 +1,12 @@
-use Rattle.std.proofs.Common.{◌≡◌, ◌+◌, ◌++◌, [], ◌∷◌, List, drop, map, arith, refl, sym, ap, ◌∙◌, subst}
+use Rattle.std.proofs.Common.{◌++◌, [], ◌∷◌, List, drop, map, arith, refl, sym, ap, ◌∙◌}
 use Rattle.std.proofs.lemmas.List.{map-append}
 use Rattle.std.proofs.lemmas.Result.{IfOk-weaker, IfErr-weaker}
 use Rattle.chp_syntax.specs.declared.token.TokenKind.TheVariants.{Sign}
 use Rattle.chp_syntax.specs.declared.token.Mark.TheVariants as mark
 use Rattle.chp_syntax.specs.declared.tree.Link.{Link}
-use Rattle.chp_syntax.specs.Trees.{Expression, Expressions, no_parts, and_part}
-use Rattle.chp_syntax.specs.Grammar.{Covered, or_of, xor_of, and_of, sum_of, comparison_of, Sum, Conjunction, Exclusive, Disjunction, Comparison, Negated, Primary}
-use Rattle.chp_syntax.specs.Parts.{Good, Bad, Stops, WhenFault}
-use Rattle.chp_syntax.specs.View.{covered_of, expression_of, link_of, parts_of, onto, chained_to}
+use Rattle.chp_syntax.specs.Trees.{Expression, no_parts, and_part}
+use Rattle.chp_syntax.specs.Grammar.{or_of, xor_of, and_of, sum_of, comparison_of}
+use Rattle.chp_syntax.specs.View.{covered_of, expression_of, link_of, parts_of, onto}
 use Rattle.chp_syntax.proofs.Steps.{by_part, part_bad, good_done, exactly_good, operator_good, exit, not_so, fault_by}
 use Rattle.chp_syntax.proofs.Group.{group_bad_first, members_first, members_more, members_bad, members_end}
 use Rattle.chp_syntax.proofs.Rows.{join_tree}

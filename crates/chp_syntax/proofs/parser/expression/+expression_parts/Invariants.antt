@@ -1,5 +1,4 @@
 use Rattle.std.proofs.Common.{◌+◌, ◌-◌, ◌*◌, ◌≤◌, ◌<◌, length, drop, map}
-use Rattle.chp_syntax.specs.Grammar.{Covered}
 use Rattle.chp_syntax.specs.View.{covered_of, link_of, expression_of}
 use Rattle.chp_syntax.proofs.Group.{Members}
 use Rattle.chp_syntax.proofs.Expressions.{Chained, sum_level, conjunction_level, exclusive_level, disjunction_level, parts_group}

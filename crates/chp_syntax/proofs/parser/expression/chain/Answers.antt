@@ -1,8 +1,7 @@
-use Rattle.std.proofs.Common.{◌≡◌, List, [], ◌∷◌, length, map, refl, sym, ap, ◌∙◌, arith}
+use Rattle.std.proofs.Common.{◌≡◌, List, [], ◌∷◌, length, map, refl, ap, ◌∙◌, arith}
 use Rattle.std.proofs.lemmas.List.{length-map}
 use Rattle.chp_base.specs.declared.span.Span.{Span}
 use Rattle.chp_syntax.specs.declared.tree.Op.{Op}
-use Rattle.chp_syntax.specs.declared.tree.Expr.{Chain}
 use Rattle.chp_syntax.specs.Trees.{Expression, chain, no_links}
 use Rattle.chp_syntax.specs.Grammar.{Covered, cover, from_to}
 use Rattle.chp_syntax.specs.View.{covered_of, link_of, chained_to, and_pair, onto, expression_of}

@@ -1,4 +1,4 @@
-use Rattle.std.proofs.Common.{drop, refl, sym, ap, ◌∙◌}
+use Rattle.std.proofs.Common.{drop, refl}
 use Rattle.chp_syntax.specs.declared.token.TokenKind.TheVariants.{Sign}
 use Rattle.chp_syntax.specs.declared.token.Mark.TheVariants as mark
 use Rattle.chp_syntax.proofs.Steps.{by_part, part_bad, good_done, exactly_good, exit, not_so}

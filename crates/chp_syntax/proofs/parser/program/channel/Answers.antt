@@ -1,10 +1,7 @@
-use Rattle.std.proofs.Common.{drop, arith, refl, sym, ap, ◌∙◌}
-use Rattle.chp_syntax.specs.declared.token.TokenKind.TheVariants.{Sign}
-use Rattle.chp_syntax.specs.declared.token.Mark.TheVariants as mark
+use Rattle.std.proofs.Common.{drop}
 use Rattle.chp_syntax.specs.Grammar.{channel_of}
-use Rattle.chp_syntax.specs.View.{statement_of, declared_of, item_of}
-use Rattle.chp_syntax.proofs.Steps.{by_part, part_bad, good_done, exactly_good, operator_good, exit, not_so}
-use Rattle.chp_syntax.proofs.Programs.{channel_start, channel_seen, channel_within, channel_1, channel_2, channel_3, channel_4, semicolon_seam, decl_of}
+use Rattle.chp_syntax.proofs.Steps.{by_part, part_bad, good_done, operator_good, exit}
+use Rattle.chp_syntax.proofs.Programs.{channel_start, channel_seen, channel_1, channel_2, channel_3, channel_4, semicolon_seam, decl_of}
 use Rattle.chp_syntax.proofs.parser.program.channel.Goals as goal
 
 pub returns-in_err-name-clause-bad : goal.returns-in_err-name-clause-bad

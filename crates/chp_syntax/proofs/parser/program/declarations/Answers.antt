@@ -1,9 +1,5 @@
-use Rattle.std.proofs.Common.{drop, arith, refl, sym, ap, ◌∙◌}
-use Rattle.chp_syntax.specs.declared.token.TokenKind.TheVariants.{Sign}
-use Rattle.chp_syntax.specs.declared.token.Mark.TheVariants as mark
-use Rattle.chp_syntax.specs.Grammar.{channel_of}
-use Rattle.chp_syntax.specs.View.{statement_of, declared_of, item_of}
-use Rattle.chp_syntax.proofs.Steps.{by_part, part_bad, good_done, exactly_good, operator_good, exit, not_so}
+use Rattle.std.proofs.Common.{drop}
+use Rattle.chp_syntax.proofs.Steps.{exit}
 use Rattle.chp_syntax.proofs.Programs.{declaring_start, declaring_bad, declaring_more, declaring_end}
 use Rattle.chp_syntax.proofs.parser.program.declarations.Goals as goal
 

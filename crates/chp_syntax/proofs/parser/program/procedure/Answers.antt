@@ -1,9 +1,6 @@
-use Rattle.std.proofs.Common.{drop, arith, refl, sym, ap, ◌∙◌}
-use Rattle.chp_syntax.specs.declared.token.TokenKind.TheVariants.{Sign}
-use Rattle.chp_syntax.specs.declared.token.Mark.TheVariants as mark
-use Rattle.chp_syntax.specs.Grammar.{channel_of}
-use Rattle.chp_syntax.specs.View.{statement_of, declared_of, item_of}
-use Rattle.chp_syntax.proofs.Steps.{by_part, part_bad, good_done, exactly_good, operator_good, exit, not_so}
+use Rattle.std.proofs.Common.{drop}
+use Rattle.chp_syntax.specs.View.{statement_of}
+use Rattle.chp_syntax.proofs.Steps.{by_part, part_bad, good_done, exit}
 use Rattle.chp_syntax.proofs.Programs.{procedure_start, procedure_1, procedure_2, procedure_3, procedure_4, semicolon_seam, proc_of}
 use Rattle.chp_syntax.proofs.parser.program.procedure.Goals as goal
 

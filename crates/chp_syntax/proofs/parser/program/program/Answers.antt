@@ -1,9 +1,6 @@
-use Rattle.std.proofs.Common.{drop, arith, refl, sym, ap, ◌∙◌}
-use Rattle.chp_syntax.specs.declared.token.TokenKind.TheVariants.{Sign}
-use Rattle.chp_syntax.specs.declared.token.Mark.TheVariants as mark
-use Rattle.chp_syntax.specs.Grammar.{channel_of}
-use Rattle.chp_syntax.specs.View.{statement_of, declared_of, item_of}
-use Rattle.chp_syntax.proofs.Steps.{by_part, part_bad, good_done, exactly_good, operator_good, exit, not_so}
+use Rattle.std.proofs.Common.{drop, arith}
+use Rattle.chp_syntax.specs.View.{statement_of, declared_of}
+use Rattle.chp_syntax.proofs.Steps.{by_part, part_bad, good_done, exit}
 use Rattle.chp_syntax.proofs.Programs.{program_start, declared_seam, begin_seam, par_seam, end_seam, more_behind}
 use Rattle.chp_syntax.proofs.parser.program.program.Goals as goal
 

@@ -1,9 +1,7 @@
-use Rattle.std.proofs.Common.{drop, arith, refl, sym, ap, ◌∙◌}
+use Rattle.std.proofs.Common.{drop, refl}
 use Rattle.chp_syntax.specs.declared.token.TokenKind.TheVariants.{Sign}
 use Rattle.chp_syntax.specs.declared.token.Mark.TheVariants as mark
-use Rattle.chp_syntax.specs.Grammar.{channel_of}
-use Rattle.chp_syntax.specs.View.{statement_of, declared_of, item_of}
-use Rattle.chp_syntax.proofs.Steps.{by_part, part_bad, good_done, exactly_good, operator_good, exit, not_so}
+use Rattle.chp_syntax.proofs.Steps.{by_part, part_bad, good_done, exactly_good, exit, not_so}
 use Rattle.chp_syntax.specs.declared.tree.DeclKind.TheVariants as declares
 use Rattle.chp_syntax.proofs.Programs.{variable_start, variable_1, variable_2, variable_3, variable_4, semicolon_seam, equal_seam, first_seam, without_first, with_first, decl_of, set_of}
 use Rattle.chp_syntax.proofs.parser.program.variable.Goals as goal

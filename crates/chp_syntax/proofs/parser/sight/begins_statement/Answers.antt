@@ -1,4 +1,4 @@
-use Rattle.std.proofs.Common.{◌≡◌, ◌+◌, List, [], ◌∷◌, Bool, drop, true, false, refl, sym, ap, ◌∙◌, arith, rules, Option, None, Some}
+use Rattle.std.proofs.Common.{◌≡◌, ◌+◌, List, [], ◌∷◌, drop, refl, sym, ap, ◌∙◌, Option, None, Some}
 use Rattle.std.proofs.lemmas.List.{drop-drop}
 use Rattle.chp_syntax.specs.declared.token.Token.{Token}
 use Rattle.chp_syntax.specs.declared.token.TokenKind.TheVariants.{Sign}

@@ -1,5 +1,4 @@
-use Rattle.std.proofs.Common.{◌≡◌, Option, Some, None, drop, refl, sym, ap, ◌∙◌}
-use Rattle.chp_syntax.specs.Grammar.{name}
+use Rattle.std.proofs.Common.{drop, sym, ap, ◌∙◌}
 use Rattle.chp_syntax.specs.Parts.{sees, reads, name_of}
 use Rattle.chp_syntax.proofs.Steps.{name_good, name_bad, exit}
 use Rattle.chp_syntax.proofs.parser.sight.take_name.Goals as goal

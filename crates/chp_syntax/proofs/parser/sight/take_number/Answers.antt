@@ -1,4 +1,4 @@
-use Rattle.std.proofs.Common.{drop, refl, sym}
+use Rattle.std.proofs.Common.{drop, sym}
 use Rattle.chp_syntax.proofs.Steps.{number_good, number_bad}
 use Rattle.chp_syntax.proofs.parser.sight.take_number.Goals as goal
 

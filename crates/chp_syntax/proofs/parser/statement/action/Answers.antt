@@ -1,5 +1,4 @@
-use Rattle.std.proofs.Common.{drop, refl, sym, ap, ◌∙◌}
-use Rattle.chp_syntax.specs.View.{covered_of}
+use Rattle.std.proofs.Common.{drop, sym}
 use Rattle.chp_syntax.proofs.Steps.{by_part, part_bad, good_done, exit}
 use Rattle.chp_syntax.proofs.Statements.{act_start, target_seam, assigned_start, sent_start, received_start, action_bad, assign_1, assign_2, send_1, send_2, receive_1, receive_2}
 use Rattle.chp_syntax.proofs.parser.statement.action.Goals as goal
