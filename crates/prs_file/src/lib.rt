@@ -4,6 +4,7 @@
 mod fault;
 mod forms;
 mod print;
+mod spelled;
 
 pub use fault::{NetFault, NetReadError};
 pub use forms::{Lead, channel_line, head_line, literal_text, node_line, rule_end};
