@@ -1,3 +1,4 @@
+mod Against
+mod NodeLines
 mod Pieces
 mod Rules
-mod Against
