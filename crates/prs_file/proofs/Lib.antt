@@ -1,4 +1,5 @@
 mod Against
+mod HeadLines
 mod NodeLines
 mod Pieces
 mod Rules

@@ -1,8 +1,8 @@
 //! What a line of a rule file says.
 
-ghost use Rattle.std.specs.Prelude.{◌≡◌, ◌≢◌, ℕ, List, Bool, IfOk, IfSome, IfNone};
+ghost use Rattle.std.specs.Prelude.{◌≡◌, ◌≢◌, ◌≤◌, ℕ, List, Bool, IfOk, IfSome, IfNone};
 ghost use Rattle.chp_base.specs.Names.{IsNodeName};
-ghost use Rattle.prs_file.specs.Spelling.{node_spelling};
+ghost use Rattle.prs_file.specs.Spelling.{head_spelling, node_spelling};
 
 use crate::spelled::is_spelled;
 use chp_base::{Name, node_name_of};
@@ -27,4 +27,19 @@ pub fn node_form(alloc: Global, line: &[u8]) -> Result<Option<(Name, bool)>, All
         return Ok(None);
     };
     Ok(Some((name, is_high)))
+}
+
+/// The version in a file's first line, or None where the line isn't that of a known version.
+pub fn head_form(line: &[u8]) -> Option<u8>
+    ensures some { IfSome result (λ version. line.now ≡ head_spelling version) }
+    ensures known { IfSome result (λ version. (1 ≤ version) × (version ≤ 2)) }
+    ensures none { IfNone result ((version : ℕ) → 1 ≤ version → version ≤ 2 → line.now ≢ head_spelling version) }
+{
+    if is_spelled(line, &[b"prs 1\n"]) {
+        Some(1)
+    } else if is_spelled(line, &[b"prs 2\n"]) {
+        Some(2)
+    } else {
+        None
+    }
 }
