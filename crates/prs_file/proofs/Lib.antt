@@ -1,4 +1,5 @@
 mod Against
+mod ChannelLines
 mod HeadLines
 mod NodeLines
 mod Pieces

@@ -1,6 +1,7 @@
 //! The text of a rule file, versions 1 and 2.
 #![tactic(auto)]
 
+mod channel;
 mod fault;
 mod form;
 mod forms;
