@@ -3,4 +3,5 @@ mod ChannelLines
 mod HeadLines
 mod NodeLines
 mod Pieces
+mod RuleEnds
 mod Rules

@@ -24,7 +24,7 @@ fn kind_of(line: &[u8]) -> Kind
 }
 
 /// The number of bytes before the first space.
-fn word_len(text: &[u8]) -> usize
+pub fn word_len(text: &[u8]) -> usize
     ensures value { result ≡ position_or_len (λ b. b == 32) text.now }
     ensures within { result ≤ length text.now }
 {

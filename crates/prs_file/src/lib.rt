@@ -6,6 +6,7 @@ mod fault;
 mod form;
 mod forms;
 mod print;
+mod rule;
 mod spelled;
 
 pub use fault::{NetFault, NetReadError};
