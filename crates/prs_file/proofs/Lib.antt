@@ -4,4 +4,5 @@ mod HeadLines
 mod NodeLines
 mod Pieces
 mod RuleEnds
+mod RuleLines
 mod Rules

@@ -2,4 +2,5 @@ pub mod Channels
 pub mod Faults
 pub mod Lines
 pub mod Reading
+pub mod RuleForms
 pub mod Spelling
