@@ -1,6 +1,7 @@
 mod Against
 mod ChannelLines
 mod HeadLines
+mod Names
 mod NodeLines
 mod Pieces
 mod RuleEnds

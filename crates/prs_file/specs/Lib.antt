@@ -1,5 +1,6 @@
 pub mod Channels
 pub mod Faults
+pub mod Indexes
 pub mod Lines
 pub mod Reading
 pub mod RuleForms

@@ -5,6 +5,7 @@ mod channel;
 mod fault;
 mod form;
 mod forms;
+mod index;
 mod print;
 mod rule;
 mod spelled;
