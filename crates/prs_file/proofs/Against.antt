@@ -1,5 +1,5 @@
 -- A line against the pieces that it may be spelled of.
-use Rattle.std.proofs.Common.{◌≡◌, ℕ, suc, Option, Some, None, cond, inl, inr, ◌+◌, ◌<◌, ◌≤◌, Bool, true, false, List, [], ◌∷◌, ◌++◌, length, get_or, take, drop, refl, ap, sym, ◌∙◌, arith, length-append}
+use Rattle.std.proofs.Common.{◌≡◌, ℕ, suc, Some, None, cond, inl, inr, ◌+◌, ◌<◌, ◌≤◌, Bool, true, false, List, [], ◌∷◌, ◌++◌, length, get_or, take, drop, refl, ap, sym, ◌∙◌, arith, length-append}
 use Rattle.std.specs.Prelude.{bytes_eq, ◌==◌, ◌⊎◌, position, min}
 use Rattle.std.specs.Borrow.{Bor}
 use Rattle.std.specs.Cmp.Lexicographic.{bytes_decides}
@@ -16,7 +16,6 @@ not_same xs ys apart = sym (false_from_ne_true (bytes_eq xs ys) (λ e. apart ((b
 
 pub same : (xs ys : List ℕ) → xs ≡ ys → true ≡ bytes_eq xs ys
 same xs ys e = sym ((bytes_decides xs ys).1 e)
-
 
 joined_append : (xs ys : List (Bor (List ℕ))) → joined (xs ++ ys) ≡ joined xs ++ joined ys
 joined_append xs ys = flat_map-append (λ (piece : Bor (List ℕ)). piece.now) xs ys

@@ -1,12 +1,12 @@
 -- Names of nodes are texts, and each further one gets the next number.
-use Rattle.std.proofs.Common.{◌≡◌, ℕ, zero, suc, ◌+◌, ◌<◌, ◌≤◌, Bool, true, false, cond, List, [], ◌∷◌, ◌++◌, length, get_or, Option, Some, None, refl, ap, sym, ◌∙◌, subst, arith}
-use Rattle.std.specs.Prelude.{◌||◌, All, IsUtf8, IsAscii, bytes_eq, option_map, String, string_bytes, string_eq}
+use Rattle.std.proofs.Common.{◌≡◌, ℕ, zero, suc, ◌<◌, Bool, true, false, cond, List, [], ◌∷◌, ◌++◌, length, Option, Some, None, refl, ap, sym, ◌∙◌, subst, arith}
+use Rattle.std.specs.Prelude.{All, IsUtf8, IsAscii, bytes_eq, option_map, String, string_bytes, string_eq}
 use Rattle.std.specs.HashMap.{get_by_text, UpdatesBy}
 use Rattle.std.specs.declared.alloc.Global.{Global}
 use Rattle.std.proofs.lemmas.Map.Text.{hash_map_updates_text}
 use Rattle.std.specs.List.{list_all}
 use Rattle.std.specs.Cmp.Lexicographic.{bytes_decides}
-use Rattle.std.proofs.lemmas.Bool.{and_parts, or_cases, cases_Bool}
+use Rattle.std.proofs.lemmas.Bool.{and_parts}
 use Rattle.std.proofs.lemmas.Bool.Decides.{nat_tests}
 use Rattle.std.proofs.lemmas.Str.{IsUtf8-from_ascii}
 use Rattle.std.proofs.lemmas.List.Elements.{All-head, All-tail, All-push}
@@ -50,11 +50,11 @@ place_push [] n q fresh = refl
 place_push (m ∷ ns) n q fresh =
     let parts = none_first (bytes_eq m n) (place_in ns n) fresh in
     push_cases (bytes_eq m q) (bytes_eq n q) (length ns) (place_in ns q) (place_in (ns ++ n ∷ []) q)
-      (λ a b. absurd (cc (parts.0, (bytes_decides m n).1 ((bytes_decides m q).0 a ∙ sym ((bytes_decides n q).0 b)))))
-      (place_push ns n q parts.1)
+    (λ a b. absurd (cc (parts.0, (bytes_decides m n).1 ((bytes_decides m q).0 a ∙ sym ((bytes_decides n q).0 b)))))
+    (place_push ns n q parts.1)
 
 pub one_more_name : (names : List (List ℕ)) (old new : Numbers) (key : String Global) (name : List ℕ) → IsIndexed names old → string_bytes key ≡ name → IsNodeName name → place_in names name ≡ None → UpdatesBy string_eq (string_eq key) old new (Some (length names)) → IsIndexed (names ++ name ∷ []) new
 one_more_name names old new key name is told named fresh updates = record {
   found = λ q. hash_map_updates_text (string_bytes key) old new (Some (length names)) updates q ∙ ap (λ bs. cond (bytes_eq bs q) (Some (length names)) (get_by_text old q)) told ∙ ap (λ o. cond (bytes_eq name q) (Some (length names)) o) (is.found q) ∙ sym (place_push names name q fresh);
-  node_names = All-push IsNodeName names name is.node_names named
+  node_names = All-push IsNodeName names name is.node_names named;
 }

@@ -1,7 +1,7 @@
 -- A rule's line, literal by literal.
-use Rattle.std.proofs.Common.{◌≡◌, ℕ, zero, suc, ◌+◌, ◌<◌, ◌≤◌, Bool, true, false, cond, List, [], ◌∷◌, ◌++◌, length, get_or, take, drop, refl, ap, sym, ◌∙◌, subst, arith, length-append}
+use Rattle.std.proofs.Common.{◌≡◌, ℕ, Bool, true, false, cond, List, [], ◌∷◌, ◌++◌, length, get_or, drop, refl, ap, sym, ◌∙◌, subst, arith}
 use Rattle.std.specs.Prelude.{◌≢◌, ◌==◌, All, codes}
-use Rattle.std.specs.List.{list_all, flat_map, position_or_len}
+use Rattle.std.specs.List.{list_all, position_or_len}
 use Rattle.std.proofs.lemmas.Bool.{and_parts, eqb-true}
 use Rattle.std.proofs.lemmas.List.{append_assoc, append-nil, append_cancel_left, take-append-drop, take_at, drop_at}
 use Rattle.std.proofs.lemmas.List.Elements.{All-head, All-tail, All-cons, All-push, All-nil, All-drop}
@@ -88,9 +88,10 @@ same_led l k a b c = λ i. record { lead = a i; high = b i; name = c i }
 front_is : (text : List ℕ) (l k : Led) (more : List Led) (n : List ℕ) (u : Bool) → l.lead ≡ k.lead → l.high ≡ is_high text → l.name ≡ word_in text → IsNodeName k.name → All (λ (k : Led). k.lead ≢ Rule) more → text ≡ body k ++ rule_line_of more n u → (l ≡ k) × (behind_word text ≡ rule_line_of more n u)
 front_is text l k more n u lead high name is further e =
     let space = starts_space more n u further in
-    let at : text ≡ (sign_spelling k.high ++ k.name) ++ (32 ∷ space.0) = e ∙ ap (λ xs. body k ++ xs) space.1 in
-    (same_led l k lead (high ∙ ap is_high at ∙ high_is k.high k.name (32 ∷ space.0) is.first) (name ∙ ap word_in at ∙ word_is k.high k.name space.0 is),
-     ap behind_word at ∙ rest_is k.high k.name space.0 is ∙ sym space.1)
+    let at : text ≡ (sign_spelling k.high ++ k.name) ++ (32 ∷ space.0) = e ∙ ap (λ xs. body k ++ xs) space.1 in (
+      same_led l k lead (high ∙ ap is_high at ∙ high_is k.high k.name (32 ∷ space.0) is.first) (name ∙ ap word_in at ∙ word_is k.high k.name space.0 is),
+      ap behind_word at ∙ rest_is k.high k.name space.0 is ∙ sym space.1,
+    )
 
 leds_push : (leds : List Led) (l : Led) → leds_spelling (leds ++ l ∷ []) ≡ leds_spelling leds ++ led_spelling l
 leds_push leds l = flat_map-append led_spelling leds (l ∷ []) ∙ ap (λ xs. leds_spelling leds ++ xs) (append-nil (led_spelling l))
@@ -106,9 +107,9 @@ text_is (b ∷ bs) = by_case (b == 126) refl
 front_told : (text : List ℕ) (l : Led) → l.high ≡ is_high text → l.name ≡ word_in text → text ≡ body l ++ behind_word text
 front_told text l high name =
     text_is text
-      ∙ ap (λ xs. sign_spelling (is_high text) ++ xs) (sym (take-append-drop (position_or_len (λ b. b == 32) (unsigned text)) (unsigned text)))
-      ∙ sym (append_assoc (sign_spelling (is_high text)) (word_in text) (behind_word text))
-      ∙ ap (λ xs. xs ++ behind_word text) (ap (λ h. sign_spelling h ++ word_in text) (sym high) ∙ ap (λ w. sign_spelling l.high ++ w) (sym name))
+    ∙ ap (λ xs. sign_spelling (is_high text) ++ xs) (sym (take-append-drop (position_or_len (λ b. b == 32) (unsigned text)) (unsigned text)))
+    ∙ sym (append_assoc (sign_spelling (is_high text)) (word_in text) (behind_word text))
+    ∙ ap (λ xs. xs ++ behind_word text) (ap (λ h. sign_spelling h ++ word_in text) (sym high) ∙ ap (λ w. sign_spelling l.high ++ w) (sym name))
 
 all_right : {X : Type 0} (P : X → Type 0) (xs ys : List X) → All P (xs ++ ys) → All P ys
 all_right P xs ys all = subst (All P) (drop_at xs ys (length xs) refl) (All-drop P (length xs) (xs ++ ys) all)
@@ -125,18 +126,18 @@ leads_push (k ∷ leds) l some apart = (some.0, All-push (λ (k : Led). k.lead �
 pub read_first : (line text rest : List ℕ) (l : Led) → line ≡ codes "rule " ++ text → l.lead ≡ Rule → l.high ≡ is_high text → l.name ≡ word_in text → IsNodeName l.name → rest ≡ behind_word text → IsRead line (l ∷ []) rest
 read_first line text rest l begins lead high name named behind = record {
   told =
-    begins ∙ ap (λ xs. codes "rule " ++ xs) (front_told text l high name ∙ ap (λ xs. body l ++ xs) (sym behind)) ∙ sym (append_assoc (codes "rule ") (body l) rest)
+      begins ∙ ap (λ xs. codes "rule " ++ xs) (front_told text l high name ∙ ap (λ xs. body l ++ xs) (sym behind)) ∙ sym (append_assoc (codes "rule ") (body l) rest)
       ∙ ap (λ xs. xs ++ rest) (sym (append-nil (led_spelling l) ∙ led_is l ∙ ap (λ k. lead_spelling k ++ body l) lead));
   leads = (lead, All-nil (λ (k : Led). k.lead ≢ Rule));
   names = All-cons (λ (l : Led). IsNodeName l.name) l [] named (All-nil (λ (l : Led). IsNodeName l.name));
-  only = only_first
+  only = only_first;
 }
   where
     only_first : (ls : List Led) (n : List ℕ) (u : Bool) → IsRuleForm ls n → line ≡ rule_line_of ls n u → Left (l ∷ []) rest ls n u
     only_first [] n u form e = absurd form.leads
     only_first (k ∷ more) n u form e =
         let at : text ≡ body k ++ rule_line_of more n u =
-          append_cancel_left (codes "rule ") text (body k ++ rule_line_of more n u) (sym begins ∙ e ∙ more_is k more n u ∙ ap (λ j. lead_spelling j ++ (body k ++ rule_line_of more n u)) form.leads.0) in
+        append_cancel_left (codes "rule ") text (body k ++ rule_line_of more n u) (sym begins ∙ e ∙ more_is k more n u ∙ ap (λ j. lead_spelling j ++ (body k ++ rule_line_of more n u)) form.leads.0) in
         let front = front_is text l k more n u (lead ∙ sym form.leads.0) high name (All-head (λ (l : Led). IsNodeName l.name) k more form.names) form.leads.1 at in
         record { more = more; all = ap (λ x. x ∷ more) (sym front.0); left = behind ∙ front.1 }
 
@@ -172,6 +173,7 @@ next_of line leds rest behind next read sign apart ls n u form e = by_more left.
   where
     left : Left leds rest ls n u
     left = read.only ls n u form e
+
     by_more : (more : List Led) → ls ≡ leds ++ more → rest ≡ rule_line_of more n u → Next leds next behind ls n u
     by_more [] all over = absurd (sign_no_end next behind n u apart (sym sign ∙ over))
     by_more (k ∷ more) all over =
@@ -179,22 +181,25 @@ next_of line leds rest behind next read sign apart ls n u form e = by_more left.
         let names = all_right (λ (l : Led). IsNodeName l.name) leds (k ∷ more) (subst (All (λ (l : Led). IsNodeName l.name)) all form.names) in
         let same = same_sign next k.lead behind (body k ++ rule_line_of more n u) apart (All-head (λ (k : Led). k.lead ≢ Rule) k more further) (sym sign ∙ over ∙ more_is k more n u) in
         record {
-          one = k; more = more; all = all; lead = same.0;
+          one = k;
+          more = more;
+          all = all;
+          lead = same.0;
           named = All-head (λ (l : Led). IsNodeName l.name) k more names;
           further = All-tail (λ (k : Led). k.lead ≢ Rule) k more further;
-          at = same.1
+          at = same.1;
         }
 
 -- a further literal
 pub read_more : (line : List ℕ) (leds : List Led) (rest behind after : List ℕ) (next : Lead) (l : Led) → IsRead line leds rest → rest ≡ lead_spelling next ++ behind → next ≢ Rule → l.lead ≡ next → l.high ≡ is_high behind → l.name ≡ word_in behind → IsNodeName l.name → after ≡ behind_word behind → IsRead line (leds ++ l ∷ []) after
 read_more line leds rest behind after next l read sign apart lead high name named goes_on = record {
   told =
-    read.told ∙ ap (λ xs. leds_spelling leds ++ xs) (sign ∙ ap (λ xs. lead_spelling next ++ xs) (front_told behind l high name ∙ ap (λ xs. body l ++ xs) (sym goes_on)) ∙ sym (append_assoc (lead_spelling next) (body l) after)
+      read.told ∙ ap (λ xs. leds_spelling leds ++ xs) (sign ∙ ap (λ xs. lead_spelling next ++ xs) (front_told behind l high name ∙ ap (λ xs. body l ++ xs) (sym goes_on)) ∙ sym (append_assoc (lead_spelling next) (body l) after)
       ∙ ap (λ xs. xs ++ after) (ap (λ k. lead_spelling k ++ body l) (sym lead) ∙ sym (led_is l)))
       ∙ sym (append_assoc (leds_spelling leds) (led_spelling l) after) ∙ ap (λ xs. xs ++ after) (sym (leds_push leds l));
   leads = leads_push leds l read.leads (λ is. apart (sym lead ∙ is));
   names = All-push (λ (l : Led). IsNodeName l.name) leds l read.names named;
-  only = only_more
+  only = only_more;
 }
   where
     only_more : (ls : List Led) (n : List ℕ) (u : Bool) → IsRuleForm ls n → line ≡ rule_line_of ls n u → Left (leds ++ l ∷ []) after ls n u
@@ -204,7 +209,7 @@ read_more line leds rest behind after next l read sign apart lead high name name
         record {
           more = one.more;
           all = one.all ∙ ap (λ x. leds ++ x ∷ one.more) (sym front.0) ∙ sym (append_assoc leds (l ∷ []) one.more);
-          left = goes_on ∙ front.1
+          left = goes_on ∙ front.1;
         }
 
 -- the lines that are no rule's
@@ -217,7 +222,7 @@ pub no_first : (line text : List ℕ) → line ≡ codes "rule " ++ text → (Is
 no_first line text begins none [] n u form e = form.leads
 no_first line text begins none (k ∷ more) n u form e =
     let at : text ≡ body k ++ rule_line_of more n u =
-      append_cancel_left (codes "rule ") text (body k ++ rule_line_of more n u) (sym begins ∙ e ∙ more_is k more n u ∙ ap (λ j. lead_spelling j ++ (body k ++ rule_line_of more n u)) form.leads.0) in
+    append_cancel_left (codes "rule ") text (body k ++ rule_line_of more n u) (sym begins ∙ e ∙ more_is k more n u ∙ ap (λ j. lead_spelling j ++ (body k ++ rule_line_of more n u)) form.leads.0) in
     let named = All-head (λ (l : Led). IsNodeName l.name) k more form.names in
     let space = starts_space more n u form.leads.1 in
     none (subst IsNodeName (sym (ap word_in (at ∙ ap (λ xs. body k ++ xs) space.1) ∙ word_is k.high k.name space.0 named)) named)
@@ -233,6 +238,7 @@ no_rule_end line leds rest read no_sign no_end ls n u form e = by_more left.more
   where
     left : Left leds rest ls n u
     left = read.only ls n u form e
+
     by_more : (more : List Led) → ls ≡ leds ++ more → rest ≡ rule_line_of more n u → ⊥
     by_more [] all over = no_end n u form.node over
     by_more (k ∷ more) all over =

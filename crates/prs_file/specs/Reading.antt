@@ -1,5 +1,5 @@
 -- What the lines of a rule file say, and at which line and for which cause a file is refused.
-use Rattle.std.specs.Prelude.{◌≡◌, ◌≢◌, ◌⊎◌, ℕ, suc, ◌+◌, ◌-◌, ◌*◌, ◌<◌, ◌≤◌, Bool, true, false, not, ◌&&◌, ◌||◌, ◌==◌, nat_lt, List, [], ◌∷◌, ◌++◌, length, map, take, All, sum_by, position, slice_index_or, Option, Some, None, is_none, unwrap_or, codes, bytes_eq, if◌then◌else◌}
+use Rattle.std.specs.Prelude.{◌≡◌, ◌≢◌, ◌⊎◌, ℕ, ◌+◌, ◌*◌, ◌<◌, ◌≤◌, Bool, true, false, not, ◌&&◌, ◌||◌, ◌==◌, nat_lt, List, [], ◌∷◌, ◌++◌, length, All, sum_by, position, Option, Some, None, is_none, unwrap_or, codes, bytes_eq, if◌then◌else◌}
 use Rattle.std.specs.List.{concat, flat_map, filter_map, join_by, list_any}
 use Rattle.std.specs.Str.Parse.{digits_value}
 use Rattle.chp_base.specs.Names.{IsName, IsNodeName, digit}

@@ -1,9 +1,8 @@
 -- A rule's line as its literals, each with what leads to it.
-use Rattle.std.specs.Prelude.{◌≡◌, ◌≢◌, ℕ, Bool, true, false, List, [], ◌∷◌, ◌++◌, ◌==◌, length, take, drop, All, Option, Some, None, if◌then◌else◌}
+use Rattle.std.specs.Prelude.{◌≡◌, ◌≢◌, ℕ, Bool, true, false, List, [], ◌∷◌, ◌++◌, ◌==◌, take, drop, All, if◌then◌else◌}
 use Rattle.std.specs.List.{flat_map, position_or_len}
 use Rattle.chp_base.specs.Names.{IsNodeName}
-use Rattle.prs_file.specs.declared.forms.Lead.{Lead}
-use Rattle.prs_file.specs.declared.forms.Lead.TheVariants.{Rule, And, Or}
+use Rattle.prs_file.specs.declared.forms.Lead.TheVariants.{Rule}
 use Rattle.prs_file.specs.declared.rule.Led.{Led}
 use Rattle.prs_file.specs.Spelling.{literal_behind, end_spelling}
 

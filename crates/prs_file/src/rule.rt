@@ -5,7 +5,6 @@ ghost use Rattle.chp_base.specs.Names.{IsNodeName};
 ghost use Rattle.prs_file.specs.declared.forms.Lead.{Lead as LeadValue};
 ghost use Rattle.prs_file.specs.declared.rule.Led.{Led as LedValue};
 ghost use Rattle.prs_file.specs.Spelling.{end_spelling, lead_spelling, sign_spelling};
-
 ghost use Rattle.prs_file.specs.RuleForms.{IsRuleForm, rule_line_of, is_high, unsigned, word_in, behind_word};
 
 use crate::channel::word_len;
@@ -111,9 +110,9 @@ pub fn rule_form(alloc: Global, line: &[u8]) -> Result<Option<RuleForm>, AllocEr
     ensures form { IfOk result (λ o. IfSome o (λ form. IsRuleForm form.leds.items form.node)) }
     ensures none { IfOk result
         (λ o. IfNone o
-            ((leds : List LedValue) (name : List ℕ) (up : Bool)
-                → IsRuleForm leds name
-                → line.now ≢ rule_line_of leds name up)) }
+        ((leds : List LedValue) (name : List ℕ) (up : Bool)
+        → IsRuleForm leds name
+        → line.now ≢ rule_line_of leds name up)) }
 {
     let Some(text) = behind_rule(line) else {
         return Ok(None);

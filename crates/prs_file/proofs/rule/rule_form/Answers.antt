@@ -1,7 +1,5 @@
-use Rattle.std.proofs.Common.{◌≡◌, ◌++◌, [], ◌∷◌, sym, ap, subst, ◌∙◌}
-use Rattle.std.specs.Prelude.{codes}
-use Rattle.chp_base.specs.Names.{IsNodeName}
-use Rattle.prs_file.proofs.RuleLines.{IsRead, read_first, read_more, no_first, no_more, no_rule_end}
+use Rattle.std.proofs.Common.{◌≡◌, ◌++◌, [], ◌∷◌, ap, ◌∙◌}
+use Rattle.prs_file.proofs.RuleLines.{read_first, read_more, no_first, no_more, no_rule_end}
 use Rattle.prs_file.proofs.rule.rule_form.Goals as goal
 
 pub returns-in_default-2-clause-none : goal.returns-in_default-2-clause-none

@@ -1,4 +1,4 @@
-use Rattle.std.proofs.Common.{◌≡◌, ◌++◌, [], ◌∷◌, List, ℕ, length, sym, ap, subst, ◌∙◌, Some, None, arith}
+use Rattle.std.proofs.Common.{◌≡◌, ◌++◌, [], ◌∷◌, List, ℕ, length, sym, ap, subst, ◌∙◌, None}
 use Rattle.chp_base.specs.Names.{IsNodeName}
 use Rattle.prs_file.specs.Indexes.{place_in}
 use Rattle.prs_file.proofs.Names.{one_more_name}
