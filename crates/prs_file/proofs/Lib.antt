@@ -1,2 +1,9 @@
+mod Against
+mod ChannelLines
+mod HeadLines
+mod Names
+mod NodeLines
 mod Pieces
+mod RuleEnds
+mod RuleLines
 mod Rules

@@ -1,9 +1,14 @@
 //! The text of a rule file, versions 1 and 2.
 #![tactic(auto)]
 
+mod channel;
 mod fault;
+mod form;
 mod forms;
+mod index;
 mod print;
+mod rule;
+mod spelled;
 
 pub use fault::{NetFault, NetReadError};
 pub use forms::{Lead, channel_line, head_line, literal_text, node_line, rule_end};

@@ -1,0 +1,76 @@
+//! The names of nodes, each with its number.
+
+ghost use Rattle.std.specs.Prelude.{◌≡◌, ◌≢◌, ◌++◌, ◌∷◌, ◌<◌, ◌^◌, [], length, string_bytes, None, IfOk, OnOk, OnErr};
+ghost use Rattle.prs_file.specs.Indexes.{place_in};
+
+use chp_base::Name;
+use std::alloc::{AllocError, Global};
+use std::collections::HashMap;
+use std::marker::Model;
+use std::str;
+
+/// The names of nodes in order of their numbers, seen as the list of them, with an index that finds the number of
+/// a name.
+#[derive(Drop)]
+pub struct NodeIndex {
+    names: Vec<Name>,
+    numbers: HashMap<String, u32>,
+}
+
+impl Model for NodeIndex {
+    ghost use Rattle.std.specs.Prelude.{List, ℕ};
+    ghost use Rattle.prs_file.specs.Indexes.{IsIndexed};
+
+    ghost Value = { List (List ℕ) };
+
+    ghost view = { λ i. i.names.items };
+
+    ghost invariant = { λ i. IsIndexed i.names.items i.numbers };
+}
+
+/// The name as a text.
+fn text_of(alloc: Global, name: &Name) -> Result<String, AllocError>
+    ensures { IfOk result (λ text. string_bytes text ≡ name.now) }
+{
+    match str::from_utf8(name.bytes()) {
+        Ok(text) => String::from_str(alloc, text),
+        Err(_) => unreachable!(),
+    }
+}
+
+impl NodeIndex {
+    /// No names.
+    pub fn new(alloc: Global) -> NodeIndex
+        ensures { result ≡ [] }
+    {
+        NodeIndex {
+            names: Vec::new(alloc),
+            numbers: HashMap::new(alloc),
+        }
+    }
+
+    /// The number of the node with this name, or None where there is none.
+    pub fn find(&self, name: &[u8]) -> Option<u32>
+        ensures { result ≡ place_in self.now name.now }
+    {
+        match str::from_utf8(name) {
+            Ok(text) => self.numbers.get(text).copied(),
+            Err(_) => None,
+        }
+    }
+
+    /// Gives the name the next number.
+    pub fn add(&mut self, name: Name) -> Result<(), AllocError>
+        requires fresh { place_in self.old name ≡ None }
+        requires room { length self.old < 2 ^ 32 }
+        ensures ok { OnOk result (self.new ≡ self.old ++ name ∷ []) }
+        ensures err { OnErr result (self.new ≡ self.old) }
+    {
+        let number = self.names.len() as u32;
+        let text = text_of(*self.names.allocator(), &name)?;
+        self.names.reserve(1)?;
+        self.numbers.insert(text, number)?;
+        self.names.push(name)?;
+        Ok(())
+    }
+}
