@@ -14,3 +14,4 @@ pub mod Places
 pub mod FewArms
 pub mod OwnTokens
 pub mod RefusedLemmas
+pub mod Once

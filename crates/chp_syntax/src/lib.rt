@@ -1,6 +1,7 @@
 //! The language: tokens, grammar and the tree of a program.
 #![tactic(auto)]
 
+pub mod laws;
 mod limits;
 mod parser;
 mod scan;
