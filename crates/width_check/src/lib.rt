@@ -1,6 +1,10 @@
 //! Programs whose names and widths are checked.
 #![tactic(auto)]
 
+mod operate;
+#[cfg(test)]
+mod tests;
 mod typed;
 
+pub use operate::operated;
 pub use typed::{TArm, TExpr, TLink, TStmt, Typed, Var};
