@@ -5,6 +5,8 @@ mod operate;
 #[cfg(test)]
 mod tests;
 mod typed;
+mod width;
 
 pub use operate::operated;
 pub use typed::{TArm, TExpr, TLink, TStmt, Typed, Var};
+pub use width::width_of;
