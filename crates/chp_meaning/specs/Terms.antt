@@ -4,10 +4,10 @@ use Rattle.width_check.specs.Processes.{Process, skipping, assigning, sending, r
 
 mutual
   pub data Term : Type 0 where
-    finished : Term                            -- Done
-    active : Process → Term                    -- a statement at an active place, no sequence and no parallel composition
-    in_sequence : Term → Processes → Term      -- what is left of the first part, and what follows it
-    in_parallel : Terms → Term                 -- what is left of each branch
+    finished : Term  -- Done
+    active : Process → Term  -- a statement at an active place, no sequence and no parallel composition
+    in_sequence : Term → Processes → Term  -- what is left of the first part, and what follows it
+    in_parallel : Terms → Term  -- what is left of each branch
 
   pub data Terms : Type 0 where
     no_branches : Terms

@@ -72,7 +72,13 @@ fn raises_value(state: &State, value: u64, rails: &[u32], node: u32) -> bool
 {
     let mut rest = value;
     for bit in 0..rails.len() / 2 {
-        if raises_bit(state, rest % 2 == 1, rails[2 * bit], rails[2 * bit + 1], node) {
+        if raises_bit(
+            state,
+            rest % 2 == 1,
+            rails[2 * bit],
+            rails[2 * bit + 1],
+            node,
+        ) {
             return true;
         }
         rest /= 2;

@@ -41,3 +41,13 @@ no_more_parts es i all = ap parts_of (drop_all i es all)
 
 pub joined_parts : (e : TExpr) (v : Vec TExpr Global) → e ≡ Join v → formula_of e ≡ joined (parts_of v.items)
 joined_parts e v is = ap formula_of is ∙ join_is v
+
+-- the operations from a place on
+pub link_at : (ls : List TLink) (i : ℕ) (l : TLink) → i < length ls → l ≡ get_or ls i l → links_of (drop i ls) ≡ and_operation l.op (formula_of l.right) (links_of (drop (i + 1) ls))
+link_at ls i l within is = ap links_of (drop_more ls i l within) ∙ ap (λ (x : TLink). and_operation x.op (formula_of x.right) (links_of (drop (i + 1) ls))) (sym is)
+
+pub no_more_links : (ls : List TLink) (i : ℕ) → length ls ≤ i → links_of (drop i ls) ≡ no_operations
+no_more_links ls i all = ap links_of (drop_all i ls all)
+
+pub chained_links : (e : TExpr) (first : Box TExpr Global) (v : Vec TLink Global) → e ≡ Chain first v → formula_of e ≡ chained (formula_of first.value) (links_of v.items)
+chained_links e first v is = ap formula_of is ∙ chain_is first v

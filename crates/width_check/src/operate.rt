@@ -6,7 +6,7 @@ ghost use Rattle.width_check.specs.Values.{one_if, operated};
 use chp_syntax::Op;
 
 /// The greatest number of the width.
-fn greatest(width: u8) -> u64
+pub(crate) fn greatest(width: u8) -> u64
     requires some { 1 ≤ width }
     requires most { width ≤ 64 }
     ensures { result + 1 ≡ 2 ^ width }
