@@ -1,17 +1,16 @@
 -- Rounds of small programs, computed.
-use Rattle.std.proofs.Common.{◌≡◌, ℕ, ◌-◌, Bool, true, false, List, [], ◌∷◌, refl}
+use Rattle.std.proofs.Common.{◌≡◌, ℕ, ◌-◌, Bool, true, false, [], ◌∷◌, refl}
 use Rattle.chp_base.specs.declared.span.Span.{Span}
 use Rattle.chp_base.specs.declared.channel.Channel.{Channel}
 use Rattle.chp_base.specs.declared.channel.Kind.{Kind}
 use Rattle.chp_base.specs.declared.channel.Kind.TheVariants.{In, Out, Chan}
 use Rattle.chp_syntax.specs.declared.tree.Op.TheVariants as op
 use Rattle.env_script.specs.declared.script.Count.TheVariants.{All, Times}
-use Rattle.env_script.specs.Scripts.{OfferValue, gives, takes, nothing}
+use Rattle.env_script.specs.Scripts.{gives, takes, nothing}
 use Rattle.width_check.specs.declared.typed.Var.{Var}
-use Rattle.width_check.specs.Processes.{Formula, constant, reading, joined, inverted, chained, compared, no_parts, and_part, no_operations, and_operation, Process, skipping, assigning, sending, receiving, in_turn, side_by_side, choosing, repeating, Processes, no_members, and_member, no_choices, and_choice, TypedProgram}
-use Rattle.chp_meaning.specs.Terms.{Term, finished, active, in_sequence, in_parallel, no_branches, and_branch}
-use Rattle.chp_meaning.specs.Rounds.{rounds, enabled_places, round}
-use Rattle.chp_meaning.specs.Steps.{Configuration}
+use Rattle.width_check.specs.Processes.{Formula, constant, reading, chained, compared, no_operations, and_operation, Process, skipping, assigning, sending, receiving, in_turn, side_by_side, choosing, repeating, no_members, and_member, no_choices, and_choice, TypedProgram}
+use Rattle.chp_meaning.specs.Terms.{finished, active, in_parallel, no_branches, and_branch}
+use Rattle.chp_meaning.specs.Rounds.{rounds, enabled_places}
 
 abbrev at : Span
 at = record { from = 0; to = 1 }

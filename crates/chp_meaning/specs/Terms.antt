@@ -1,6 +1,6 @@
 -- What is left of a process (Martin's CHP), and the places at which it goes on.
 use Rattle.std.specs.Prelude.{ℕ, zero, suc, Bool, true, false, ◌&&◌, if◌then◌else◌, List, [], ◌∷◌, ◌++◌, map, Option, Some, None}
-use Rattle.width_check.specs.Processes.{Process, skipping, assigning, sending, receiving, in_turn, side_by_side, choosing, repeating, Processes, no_members, and_member}
+use Rattle.width_check.specs.Processes.{Process, in_turn, side_by_side, Processes, no_members, and_member}
 
 mutual
   pub data Term : Type 0 where

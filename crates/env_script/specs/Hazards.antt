@@ -1,5 +1,5 @@
 -- Which hazard a move brings, if it isn't safe.
-use Rattle.std.specs.Prelude.{ℕ, zero, suc, Bool, true, false, not, ◌&&◌, ◌==◌, if◌then◌else◌, List, length, Option, Some, None, option_map}
+use Rattle.std.specs.Prelude.{ℕ, zero, suc, Bool, not, ◌&&◌, ◌==◌, if◌then◌else◌, List, length, Option, Some, None, option_map}
 use Rattle.prs_core.specs.Nets.{NetValue}
 use Rattle.prs_core.specs.Moves.{high, both_ways}
 use Rattle.env_script.specs.declared.hazard.Hazard.{Hazard}

@@ -1,5 +1,5 @@
 -- Runs of a net under a script: moves in any order, what has passed on each channel, and when a run is safe.
-use Rattle.std.specs.Prelude.{◌≡◌, ◌≢◌, ℕ, zero, Bool, true, false, not, ◌&&◌, ◌||◌, ◌==◌, if◌then◌else◌, List, [], ◌∷◌, ◌++◌, length, replicate, AllPairs, slice_index_or, Option, Some, None}
+use Rattle.std.specs.Prelude.{◌≡◌, ◌≢◌, ℕ, Bool, true, false, not, ◌&&◌, ◌||◌, ◌==◌, if◌then◌else◌, List, [], ◌∷◌, ◌++◌, length, replicate, AllPairs, slice_index_or, Option, Some, None}
 use Rattle.prs_core.specs.declared.wires.Wires.{Wires}
 use Rattle.prs_core.specs.Nets.{NetValue, first_at, IsUndriven}
 use Rattle.prs_core.specs.Moves.{high, rule_enabled, both_ways, fired, rail_value_of}

@@ -1,16 +1,15 @@
 -- Runs of small nets, computed: at each move the least node that has one is moved.
-use Rattle.std.proofs.Common.{◌≡◌, ℕ, zero, suc, Bool, true, false, List, [], ◌∷◌, length, refl}
-use Rattle.std.specs.Prelude.{Option, Some, None, replicate}
+use Rattle.std.proofs.Common.{◌≡◌, ℕ, zero, suc, true, false, List, [], ◌∷◌, length, refl}
+use Rattle.std.specs.Prelude.{Some, None, replicate}
 use Rattle.std.specs.Option.{option_map_or}
-use Rattle.chp_base.specs.declared.channel.Kind.TheVariants.{In, Out, Chan}
+use Rattle.chp_base.specs.declared.channel.Kind.TheVariants.{In, Out}
 use Rattle.prs_core.specs.declared.wires.Wires.{Wires}
 use Rattle.prs_core.specs.declared.rule.Literal.{Literal}
 use Rattle.prs_core.specs.Nets.{GuardValue, NetValue, is_high, is_low}
 use Rattle.prs_core.specs.Moves.{high}
 use Rattle.env_script.specs.declared.script.Count.TheVariants.{All, Times}
-use Rattle.env_script.specs.declared.hazard.Hazard.{Hazard}
 use Rattle.env_script.specs.declared.hazard.Hazard.TheVariants.{BothWays, Unstable, Protocol}
-use Rattle.env_script.specs.Scripts.{OfferValue, gives, takes, nothing}
+use Rattle.env_script.specs.Scripts.{OfferValue, gives, takes}
 use Rattle.env_script.specs.Runs.{RunState, move_enabled, moved, after, begin_at, start_of, moves_since_reset}
 use Rattle.env_script.specs.Hazards.{least_below, hazard_of}
 

@@ -1,17 +1,16 @@
 -- The least number that passes, the environment under equal counts, and histories channel by channel.
-use Rattle.std.proofs.Common.{◌≡◌, ℕ, zero, suc, ◌+◌, ◌<◌, ◌≤◌, Bool, true, false, cond, not, List, [], ◌∷◌, ◌++◌, length, get_or, set, map, take, drop, refl, sym, ap, ◌∙◌, arith}
-use Rattle.std.specs.Prelude.{◌&&◌, ◌||◌, ◌==◌, if◌then◌else◌, Option, Some, None, slice_index, slice_set, option_map, ◌^◌}
+use Rattle.std.proofs.Common.{◌≡◌, ℕ, zero, suc, ◌+◌, ◌<◌, ◌≤◌, Bool, true, false, List, [], ◌∷◌, ◌++◌, length, get_or, set, map, take, drop, refl, sym, ap, ◌∙◌, arith}
+use Rattle.std.specs.Prelude.{◌&&◌, ◌||◌, ◌==◌, if◌then◌else◌, Option, Some, None, slice_index, option_map, ◌^◌}
 use Rattle.std.proofs.lemmas.Bool.{eqb-true, eqb-false}
-use Rattle.std.proofs.lemmas.List.{get_or-map, get_or_past, length-map, drop_more, drop-set-lt, take_more_set, append_assoc}
+use Rattle.std.proofs.lemmas.List.{length-map, drop_more, drop-set-lt, take_more_set, append_assoc}
 use Rattle.prs_core.specs.declared.wires.Wires.{Wires}
 use Rattle.prs_core.specs.Nets.{NetValue, IsNet, most_nodes}
 use Rattle.prs_core.specs.Moves.{high, rule_enabled, both_ways}
 use Rattle.env_script.specs.Scripts.{OfferValue, offer_at}
-use Rattle.env_script.specs.Environment.{offer_moves, channels_move, env_enabled, in_reset, is_reset, rules_rest, raises_go}
+use Rattle.env_script.specs.Environment.{channels_move, env_enabled, in_reset, is_reset, rules_rest, raises_go}
 use Rattle.env_script.specs.Runs.{RunState, moved, move_enabled, completed, completes, with_value, with_values}
 use Rattle.env_script.specs.Hazards.{least_below, or_else, takes_away, hazard_of}
 use Rattle.env_script.specs.Phases.{phase_fault}
-use Rattle.env_script.specs.declared.hazard.Hazard.{Hazard}
 use Rattle.env_script.specs.declared.hazard.Hazard.TheVariants.{BothWays, Unstable, Protocol}
 use Rattle.plain_runs.specs.Running.{lost, worst, RunValue}
 use Rattle.std.specs.List.{range_with_len}

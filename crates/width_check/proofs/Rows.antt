@@ -1,5 +1,5 @@
 -- The parts and the operations of an expression, as lists.
-use Rattle.std.proofs.Common.{◌≡◌, ℕ, ◌+◌, ◌<◌, ◌≤◌, List, [], ◌∷◌, length, get_or, take, drop, refl, sym, ap, ◌∙◌, arith}
+use Rattle.std.proofs.Common.{◌≡◌, ℕ, ◌+◌, ◌<◌, ◌≤◌, List, [], ◌∷◌, length, get_or, drop, refl, sym, ap, ◌∙◌}
 use Rattle.std.proofs.lemmas.List.{drop_more, drop_all}
 use Rattle.std.specs.declared.alloc.Global.{Global}
 use Rattle.std.specs.declared.boxed.Box.{Box}
@@ -7,7 +7,7 @@ use Rattle.std.specs.declared.vec.Vec.{Vec}
 use Rattle.width_check.specs.declared.typed.TExpr.{TExpr, Join, Chain, Row_of-TExpr, end_of-TExpr, more_of-TExpr, Row_of-TLink, end_of-TLink, more_of-TLink, items-the_row-TExpr, items-the_row-TLink, items_hidden-the_row-TExpr-0, items_hidden-the_row-TLink-1}
 use Rattle.width_check.specs.declared.typed.TExpr.TheBlock.{hidden-the_row-TExpr-0, hidden-the_row-TLink-1}
 use Rattle.width_check.specs.declared.typed.TLink.{TLink}
-use Rattle.width_check.specs.Processes.{Formula, joined, chained, Formulas, no_parts, and_part, Operations, no_operations, and_operation}
+use Rattle.width_check.specs.Processes.{joined, chained, Formulas, no_parts, and_part, Operations, no_operations, and_operation}
 use Rattle.width_check.specs.View.{formula_of, formulas_of, operations_of}
 
 abbrev pub parts_of : List TExpr → Formulas

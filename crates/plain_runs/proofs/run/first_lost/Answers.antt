@@ -1,4 +1,4 @@
-use Rattle.std.proofs.Common.{◌≡◌, ℕ, ◌<◌, false, length, get_or, sym, ◌∙◌, arith}
+use Rattle.std.proofs.Common.{false, length, get_or, sym, ◌∙◌, arith}
 use Rattle.plain_runs.specs.Running.{lost}
 use Rattle.plain_runs.proofs.Least.{least_some, least_none}
 use Rattle.plain_runs.proofs.run.first_lost.Goals as goal

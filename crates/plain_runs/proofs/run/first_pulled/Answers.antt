@@ -1,4 +1,4 @@
-use Rattle.std.proofs.Common.{◌≡◌, length, sym}
+use Rattle.std.proofs.Common.{length, sym}
 use Rattle.prs_core.specs.Moves.{high, both_ways}
 use Rattle.plain_runs.proofs.Least.{least_some, least_none}
 use Rattle.plain_runs.proofs.run.first_pulled.Goals as goal

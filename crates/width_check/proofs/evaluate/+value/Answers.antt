@@ -1,8 +1,8 @@
-use Rattle.std.proofs.Common.{◌≡◌, ℕ, ◌+◌, ◌*◌, ◌^◌, ◌<◌, ◌≤◌, ap, sym, ◌∙◌, subst, length, drop, slice_index, arith}
+use Rattle.std.proofs.Common.{◌≡◌, ap, sym, ◌∙◌, subst, slice_index, arith}
 use Rattle.width_check.specs.Processes.{Formula, Formulas}
 use Rattle.width_check.specs.View.{formula_of}
-use Rattle.width_check.specs.Values.{width_of, widths_of, value, joined_value, IsWellFormed, AreWellFormed}
-use Rattle.width_check.proofs.Rows.{parts_of, part_at, no_more_parts, joined_parts, links_of, link_at, no_more_links, chained_links}
+use Rattle.width_check.specs.Values.{widths_of, value, joined_value, IsWellFormed, AreWellFormed}
+use Rattle.width_check.proofs.Rows.{parts_of, part_at, no_more_parts, joined_parts, chained_links}
 use Rattle.width_check.proofs.Bounds.{join_begins, part_fits, part_joins, no_more_than, some_power, value_fits, width_some, width_most, link_fits, link_more}
 use Rattle.width_check.proofs.evaluate.+value.Goals as goal
 

@@ -1,6 +1,6 @@
 use Rattle.std.proofs.Common.{◌≡◌, ◌+◌, ◌*◌, ◌^◌, ◌<◌, ◌≤◌, drop, slice_index}
 use Rattle.width_check.specs.View.{formula_of}
-use Rattle.width_check.specs.Values.{width_of, value, widths_of, joined_value, chained_value, AreWellFormed, AreOperations}
+use Rattle.width_check.specs.Values.{value, widths_of, joined_value, chained_value, AreWellFormed, AreOperations}
 use Rattle.width_check.proofs.Rows.{parts_of, links_of}
 use Rattle.width_check.proofs.evaluate.+value.Given as goal
 

@@ -1,4 +1,4 @@
-use Rattle.std.proofs.Common.{◌≡◌, ◌+◌, ◌≤◌, ◌<◌, ap, sym, ◌∙◌, subst, length, drop, arith}
+use Rattle.std.proofs.Common.{◌≡◌, ap, sym, ◌∙◌, subst, drop, arith}
 use Rattle.width_check.specs.Processes.{Formula, Formulas}
 use Rattle.width_check.specs.View.{formula_of}
 use Rattle.width_check.specs.Values.{width_of, widths_of, IsWellFormed, AreWellFormed}

@@ -1,4 +1,3 @@
-use Rattle.std.proofs.Common.{sym}
 use Rattle.plain_runs.proofs.Least.{enabled_is}
 use Rattle.plain_runs.proofs.run.Run.is_enabled.Goals as goal
 

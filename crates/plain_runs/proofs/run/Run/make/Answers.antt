@@ -1,9 +1,8 @@
-use Rattle.std.proofs.Common.{◌≡◌, ap, sym, ◌∙◌, length, map, List, Bool}
+use Rattle.std.proofs.Common.{◌≡◌, ap, ◌∙◌, length, map}
 use Rattle.std.specs.List.{range_with_len}
 use Rattle.prs_core.specs.Moves.{high}
 use Rattle.env_script.specs.Phases.{phase_fault}
 use Rattle.env_script.specs.Runs.{moved, move_enabled}
-use Rattle.prs_core.specs.Nets.{NetValue}
 use Rattle.plain_runs.specs.Running.{RunValue}
 use Rattle.plain_runs.proofs.Least.{hazard_is, counts_fit}
 use Rattle.plain_runs.proofs.run.Run.make.Goals as goal

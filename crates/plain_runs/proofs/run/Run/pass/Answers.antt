@@ -1,4 +1,4 @@
-use Rattle.std.proofs.Common.{◌≡◌, ap, length, arith, length-set}
+use Rattle.std.proofs.Common.{ap, length, arith}
 use Rattle.env_script.proofs.Wires.{wired_at}
 use Rattle.plain_runs.proofs.run.Run.pass.Goals as goal
 
