@@ -1,8 +1,7 @@
 -- Rounds: each step that is enabled at a round's start is taken once, in the order of the places.
-use Rattle.std.specs.Prelude.{ℕ, zero, suc, Bool, true, false, ◌==◌, if◌then◌else◌, List, [], ◌∷◌, filter, fold, unwrap_or, is_some, Option, Some, None}
-use Rattle.chp_base.specs.declared.span.Span.{Span}
+use Rattle.std.specs.Prelude.{ℕ, zero, suc, Bool, true, ◌==◌, if◌then◌else◌, List, [], ◌∷◌, filter, fold, unwrap_or, is_some, Option, Some, None}
 use Rattle.env_script.specs.Scripts.{OfferValue, gives, takes, nothing, offer_at, is_over}
-use Rattle.width_check.specs.Processes.{Formula, Process, skipping, assigning, sending, receiving, in_turn, side_by_side, choosing, repeating, Processes, no_members, and_member, Choices, TypedProgram}
+use Rattle.width_check.specs.Processes.{Process, skipping, assigning, sending, receiving, choosing, repeating, no_members, and_member, Choices, TypedProgram}
 use Rattle.chp_meaning.specs.Terms.{Term, finished, opened, followed, Place, statement_at, places}
 use Rattle.chp_meaning.specs.Steps.{Configuration, value_in, open_branches, one_fewer, leaving, storing, passing, offering, start_of}
 

@@ -1,11 +1,11 @@
 -- Configurations and their steps (Martin).
-use Rattle.std.specs.Prelude.{◌≡◌, ℕ, zero, suc, ◌-◌, Bool, true, false, ◌==◌, if◌then◌else◌, List, [], ◌∷◌, ◌++◌, map, length, replicate, slice_index, slice_set, Option, Some, None}
+use Rattle.std.specs.Prelude.{◌≡◌, ℕ, zero, suc, ◌-◌, true, false, ◌==◌, if◌then◌else◌, List, [], ◌∷◌, ◌++◌, map, length, replicate, slice_index, slice_set, Some}
 use Rattle.chp_base.specs.declared.span.Span.{Span}
 use Rattle.env_script.specs.declared.script.Count.{Count}
 use Rattle.env_script.specs.declared.script.Count.TheVariants.{All, Times}
 use Rattle.env_script.specs.Scripts.{OfferValue, gives, takes, nothing, offer_at, is_over}
 use Rattle.env_script.specs.Runs.{history_at}
-use Rattle.width_check.specs.Processes.{Formula, Process, skipping, assigning, sending, receiving, choosing, repeating, Processes, no_members, and_member, Choices, no_choices, and_choice, TypedProgram}
+use Rattle.width_check.specs.Processes.{Formula, Process, skipping, assigning, sending, receiving, choosing, repeating, no_members, and_member, Choices, no_choices, and_choice, TypedProgram}
 use Rattle.width_check.specs.declared.typed.Var.{Var}
 use Rattle.width_check.specs.Values.{value}
 use Rattle.chp_meaning.specs.Terms.{Term, finished, opened, followed, Place, statement_at, with_left}

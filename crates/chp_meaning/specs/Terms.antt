@@ -1,13 +1,13 @@
 -- What is left of a process (Martin's CHP), and the places at which it goes on.
 use Rattle.std.specs.Prelude.{ℕ, zero, suc, Bool, true, false, ◌&&◌, if◌then◌else◌, List, [], ◌∷◌, ◌++◌, map, Option, Some, None}
-use Rattle.width_check.specs.Processes.{Process, skipping, assigning, sending, receiving, in_turn, side_by_side, choosing, repeating, Processes, no_members, and_member}
+use Rattle.width_check.specs.Processes.{Process, in_turn, side_by_side, Processes, no_members, and_member}
 
 mutual
   pub data Term : Type 0 where
-    finished : Term                            -- Done
-    active : Process → Term                    -- a statement at an active place, no sequence and no parallel composition
-    in_sequence : Term → Processes → Term      -- what is left of the first part, and what follows it
-    in_parallel : Terms → Term                 -- what is left of each branch
+    finished : Term  -- Done
+    active : Process → Term  -- a statement at an active place, no sequence and no parallel composition
+    in_sequence : Term → Processes → Term  -- what is left of the first part, and what follows it
+    in_parallel : Terms → Term  -- what is left of each branch
 
   pub data Terms : Type 0 where
     no_branches : Terms

@@ -1,2 +1,6 @@
 //! The meaning of programs, in steps and in rounds.
 #![tactic(auto)]
+
+mod laws;
+
+pub use laws::steps_taken;

@@ -1,6 +1,6 @@
 -- The channels of a net: their wires are nodes of it, and there are no more of them than nodes.
-use Rattle.std.proofs.Common.{◌≡◌, ℕ, zero, suc, ◌+◌, ◌*◌, ◌<◌, ◌≤◌, ◌≢◌, Bool, true, false, List, [], ◌∷◌, ◌++◌, length, get_or, map, refl, sym, ap, ◌∙◌, arith}
-use Rattle.std.specs.Prelude.{All, slice_index_or, Option, Some, None, position, codes, ◌^◌}
+use Rattle.std.proofs.Common.{◌≡◌, ℕ, suc, ◌<◌, ◌≤◌, ◌≢◌, Bool, true, false, List, [], ◌∷◌, length, get_or, map, refl, sym, ap, ◌∙◌, arith}
+use Rattle.std.specs.Prelude.{Option, Some, None, position, codes, ◌^◌}
 use Rattle.std.proofs.Common.{eqb, ⊎_elim, subst}
 use Rattle.std.specs.List.{IsDistinct, AllByRecursion, list_any}
 use Rattle.std.proofs.lemmas.Bool.{ne_eqb, eqb-true, or_cases}

@@ -1,16 +1,12 @@
 -- Which hazard a move brings, if it isn't safe.
-use Rattle.std.specs.Prelude.{ℕ, zero, suc, Bool, true, false, not, ◌&&◌, ◌==◌, if◌then◌else◌, List, length, Option, Some, None, option_map}
+use Rattle.std.specs.Prelude.{ℕ, zero, suc, Bool, not, ◌&&◌, ◌==◌, if◌then◌else◌, List, length, Option, Some, None, option_map}
 use Rattle.prs_core.specs.Nets.{NetValue}
 use Rattle.prs_core.specs.Moves.{high, both_ways}
+use Rattle.env_script.specs.declared.hazard.Hazard.{Hazard}
+use Rattle.env_script.specs.declared.hazard.Hazard.TheVariants.{BothWays, Unstable, Protocol}
 use Rattle.env_script.specs.Scripts.{OfferValue}
 use Rattle.env_script.specs.Phases.{phase_fault}
 use Rattle.env_script.specs.Runs.{RunState, move_enabled, moved}
-
--- a node that is pulled both ways, a node whose move was taken away, or a channel whose phases are broken
-pub data Danger : Type 0 where
-  pulled : (node : ℕ) → Danger
-  taken : (node : ℕ) → Danger
-  broken : (channel : ℕ) → Danger
 
 abbrev pub or_else : {A : Type 0} → Option A → Option A → Option A
 or_else None b = b
@@ -25,11 +21,11 @@ least_below (suc n) p = or_else (least_below n p) (if p n then Some n else None)
 abbrev pub takes_away : NetValue → List OfferValue → RunState → ℕ → ℕ → Bool
 takes_away net script st n m = not (m == n) && (move_enabled net script st m && not (move_enabled net script (moved net st n) m))
 
--- in a state that a run begins in
-abbrev pub first_danger : NetValue → RunState → Option Danger
-first_danger net st = option_map pulled (least_below (length net.first) (both_ways net (high st.values)))
+-- in a state: the least node that is pulled both ways
+abbrev pub first_hazard : NetValue → RunState → Option Hazard
+first_hazard net st = option_map BothWays (least_below (length net.first) (both_ways net (high st.values)))
 
 -- after the move of the node n: nodes that are pulled both ways come first, then moves that were taken away, then phases
-abbrev pub danger_of : NetValue → List OfferValue → RunState → ℕ → Option Danger
-danger_of net script st n =
-    or_else (first_danger net (moved net st n)) (or_else (option_map taken (least_below (length net.first) (takes_away net script st n))) (option_map broken (phase_fault net (high st.values) n)))
+abbrev pub hazard_of : NetValue → List OfferValue → RunState → ℕ → Option Hazard
+hazard_of net script st n =
+    or_else (first_hazard net (moved net st n)) (or_else (option_map Unstable (least_below (length net.first) (takes_away net script st n))) (option_map Protocol (phase_fault net (high st.values) n)))

@@ -1,5 +1,5 @@
 -- Runs of a net under a script: moves in any order, what has passed on each channel, and when a run is safe.
-use Rattle.std.specs.Prelude.{◌≡◌, ◌≢◌, ℕ, zero, Bool, true, false, not, ◌&&◌, ◌||◌, ◌==◌, if◌then◌else◌, List, [], ◌∷◌, ◌++◌, length, map, AllPairs, slice_index_or, Option, Some, None}
+use Rattle.std.specs.Prelude.{◌≡◌, ◌≢◌, ℕ, Bool, true, false, not, ◌&&◌, ◌||◌, ◌==◌, if◌then◌else◌, List, [], ◌∷◌, ◌++◌, length, replicate, AllPairs, slice_index_or, Option, Some, None}
 use Rattle.prs_core.specs.declared.wires.Wires.{Wires}
 use Rattle.prs_core.specs.Nets.{NetValue, first_at, IsUndriven}
 use Rattle.prs_core.specs.Moves.{high, rule_enabled, both_ways, fired, rail_value_of}
@@ -55,7 +55,7 @@ after net st (n ∷ ns) = after net (moved net st n) ns
 
 -- with these values of the nodes, before anything has passed
 abbrev pub begin_at : NetValue → List Bool → RunState
-begin_at net values = record { values = values; histories = map (λ (w : Wires). []) net.channels }
+begin_at net values = record { values = values; histories = replicate (length net.channels) [] }
 
 abbrev pub start_of : NetValue → RunState
 start_of net = begin_at net net.first

@@ -2,9 +2,11 @@
 #![tactic(auto)]
 
 mod environment;
+mod hazard;
 mod phases;
 mod script;
 
 pub use environment::env_enabled;
+pub use hazard::Hazard;
 pub use phases::keeps_phases;
 pub use script::{Count, Offer, Script};

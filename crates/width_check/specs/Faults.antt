@@ -1,15 +1,14 @@
 -- For which names, kinds and widths a program is refused, and at which places.
 use Rattle.std.specs.List.{flat_map}
-use Rattle.std.specs.Prelude.{◌≡◌, ◌≢◌, ℕ, ◌<◌, ◌≤◌, ◌^◌, ◌⊎◌, Bool, true, false, List, [], ◌∷◌, slice_get, Contains, Option, Some, None}
+use Rattle.std.specs.Prelude.{◌≡◌, ◌≢◌, ℕ, ◌<◌, ◌≤◌, ◌^◌, ◌⊎◌, Bool, true, false, List, [], ◌∷◌, slice_get, Contains, Some, None}
 use Rattle.chp_base.specs.declared.span.Span.{Span}
 use Rattle.chp_base.specs.declared.fault.FaultCode.{FaultCode}
 use Rattle.chp_base.specs.declared.fault.FaultCode.TheVariants as code
 use Rattle.chp_syntax.specs.declared.tree.Decl.{Decl}
-use Rattle.chp_syntax.specs.declared.tree.DeclKind.TheVariants.{In, Out, Chan, Var}
-use Rattle.chp_syntax.specs.declared.tree.Ident.{Ident}
-use Rattle.chp_syntax.specs.Trees.{Expression, number, whole, slice, bit, join, negation, chain, Expressions, no_parts, and_part, Links, no_links, and_link, ProgramTree}
+use Rattle.chp_syntax.specs.declared.tree.DeclKind.TheVariants.{In, Out}
+use Rattle.chp_syntax.specs.Trees.{Expression, number, slice, bit, join, chain, Expressions, no_parts, and_part, ProgramTree}
 use Rattle.width_check.specs.Order.{IsFirst}
-use Rattle.width_check.specs.Places.{declaration, declared_width, is_var, Role, sent_on, received_on, written, stored, read, Use, uses_in, compares, or_width, own_width, own_widths, first_width, span_of, Expected, leaves, expressions_in, inside, Reception, receptions_in}
+use Rattle.width_check.specs.Places.{declaration, declared_width, is_var, Role, sent_on, received_on, Use, uses_in, compares, or_width, own_width, own_widths, first_width, span_of, Expected, leaves, expressions_in, inside, Reception, receptions_in}
 
 -- a declaration has the name of an earlier one
 pub record IsDouble (p : ProgramTree) (s : Span) : Type 0 where

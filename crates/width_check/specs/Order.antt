@@ -1,5 +1,5 @@
 -- The order of places in a text.
-use Rattle.std.specs.Prelude.{◌≡◌, ℕ, ◌<◌, ◌≤◌, ◌⊎◌}
+use Rattle.std.specs.Prelude.{◌≡◌, ◌<◌, ◌≤◌, ◌⊎◌}
 use Rattle.chp_base.specs.declared.span.Span.{Span}
 
 -- s begins before t, or at the same byte and ends no earlier: of two places that begin together the outer one is first

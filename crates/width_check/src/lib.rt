@@ -1,6 +1,14 @@
 //! Programs whose names and widths are checked.
 #![tactic(auto)]
 
+mod evaluate;
+mod operate;
+#[cfg(test)]
+mod tests;
 mod typed;
+mod width;
 
+pub use evaluate::value;
+pub use operate::operated;
 pub use typed::{TArm, TExpr, TLink, TStmt, Typed, Var};
+pub use width::width_of;

@@ -22,9 +22,17 @@ pub enum TStmt {
     /// `skip`
     Skip,
     /// `x := e`
-    Assign { var: u32, at: Span, value: TExpr },
+    Assign {
+        var: u32,
+        at: Span,
+        value: TExpr,
+    },
     /// `X!e`
-    Send { chan: u32, at: Span, value: TExpr },
+    Send {
+        chan: u32,
+        at: Span,
+        value: TExpr,
+    },
     /// `X?v`
     Receive {
         chan: u32,
@@ -33,13 +41,22 @@ pub enum TStmt {
         var_at: Span,
     },
     /// `S; T; ..`
-    Then { parts: Vec<TStmt> },
+    Then {
+        parts: Vec<TStmt>,
+    },
     /// `S, T, ..` and `S || T || ..`
-    Beside { parts: Vec<TStmt> },
+    Beside {
+        parts: Vec<TStmt>,
+    },
     /// `[G -> S [] ..]`, and `*[G -> S [] ..]` where `again` is true.
-    Select { again: bool, arms: Vec<TArm> },
+    Select {
+        again: bool,
+        arms: Vec<TArm>,
+    },
     /// `*[S]`
-    Repeat { body: Box<TStmt> },
+    Repeat {
+        body: Box<TStmt>,
+    },
 }
 
 /// A guard and what is done where it is true.
@@ -55,7 +72,9 @@ pub struct TArm {
 #[derive(Debug, Drop)]
 pub enum TExpr {
     /// A number with its width.
-    Number { bits: Bits },
+    Number {
+        bits: Bits,
+    },
     /// The bits from `low` to `high` of a variable.
     Read {
         var: u32,
@@ -64,11 +83,18 @@ pub enum TExpr {
         at: Span,
     },
     /// `{e, ..}`, the last part lowest.
-    Join { parts: Vec<TExpr> },
+    Join {
+        parts: Vec<TExpr>,
+    },
     /// `~e`
-    Not { inner: Box<TExpr> },
+    Not {
+        inner: Box<TExpr>,
+    },
     /// `e op e ..`, applied from the left, with the operators `&`, `|`, `^`, `+` and `-`.
-    Chain { first: Box<TExpr>, rest: Vec<TLink> },
+    Chain {
+        first: Box<TExpr>,
+        rest: Vec<TLink>,
+    },
     /// `e op e` with one of the comparisons.
     Compare {
         op: Op,

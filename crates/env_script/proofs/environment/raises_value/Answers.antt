@@ -1,7 +1,5 @@
-use Rattle.std.proofs.Common.{◌≡◌, ℕ, ◌*◌, ◌+◌, ◌≤◌, ◌<◌, ◌∙◌, sym, length, arith, drop}
+use Rattle.std.proofs.Common.{◌∙◌, sym, arith}
 use Rattle.prs_core.specs.Moves.{high}
-use Rattle.std.proofs.lemmas.List.{drop_all}
-use Rattle.env_script.specs.Environment.{raises_value}
 use Rattle.env_script.proofs.Loops.{raises_found, raises_more}
 use Rattle.env_script.proofs.environment.raises_value.Goals as goal
 

@@ -1,4 +1,4 @@
-use Rattle.std.proofs.Common.{◌≡◌, ℕ, ◌<◌, not, true, false, sym, ap, ◌∙◌, length, arith}
+use Rattle.std.proofs.Common.{◌<◌, not, sym, ap, ◌∙◌, length, arith}
 use Rattle.prs_core.specs.Moves.{high, rule_enabled}
 use Rattle.env_script.proofs.Loops.{all_below_fails}
 use Rattle.env_script.proofs.environment.rules_rest.Goals as goal

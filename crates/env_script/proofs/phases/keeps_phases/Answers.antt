@@ -1,5 +1,5 @@
-use Rattle.std.proofs.Common.{◌≡◌, ap, length, sym, ◌∙◌, not, arith}
-use Rattle.std.specs.Prelude.{position, Some}
+use Rattle.std.proofs.Common.{ap, length, sym, ◌∙◌, not, arith}
+use Rattle.std.specs.Prelude.{position}
 use Rattle.prs_core.specs.declared.wires.Wires.{Wires}
 use Rattle.prs_core.specs.Moves.{high}
 use Rattle.env_script.specs.Phases.{phases_keep}

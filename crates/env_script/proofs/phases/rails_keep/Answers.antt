@@ -1,4 +1,4 @@
-use Rattle.std.proofs.Common.{◌≡◌, ℕ, ◌*◌, ◌+◌, ◌<◌, ◌∙◌, sym, length, arith}
+use Rattle.std.proofs.Common.{◌∙◌, sym, arith}
 use Rattle.prs_core.specs.Moves.{high}
 use Rattle.env_script.proofs.Loops.{keeps_not, keeps_more}
 use Rattle.env_script.proofs.phases.rails_keep.Goals as goal

@@ -1,0 +1,12 @@
+//! What can go wrong in a run.
+
+/// Why a move isn't safe.
+#[derive(Clone, Copy, Debug, PartialEq, Eq)]
+pub enum Hazard {
+    /// Both guards of the node hold behind the move.
+    BothWays { node: u32 },
+    /// The node had a move, and has none behind this one.
+    Unstable { node: u32 },
+    /// The move breaks the phases of the channel.
+    Protocol { chan: u32 },
+}
