@@ -1,4 +1,5 @@
 pub mod Commands
+pub mod Forms
 pub mod Statuses
 pub mod Outcomes
 pub mod Ends

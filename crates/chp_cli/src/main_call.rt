@@ -1,11 +1,11 @@
 //! The top call.
 
-ghost use Rattle.std.specs.Prelude.{◌≡◌, ◌≢◌, ◌≤◌, ◌++◌, ◌↔◌, ℕ, None, Some, take, length, true, IfOk, IfErr, ◌⊎◌};
+ghost use Rattle.std.specs.Prelude.{◌≡◌, ◌≢◌, ◌≤◌, ◌++◌, ℕ, None, Some, take, length, true, IfOk, IfErr, ◌⊎◌};
 ghost use Rattle.chp_edge.specs.Faults.{Rose, IsReadFault};
-ghost use Rattle.chp_cli.specs.Commands.{file_of, name_of};
+ghost use Rattle.chp_cli.specs.Commands.{file_to_compile, name_in};
 ghost use Rattle.chp_cli.specs.Ends.{Compiled, Refused, Unbuilt, Overlong, WhenRefused, Says, EndsWithout, IsToCompile};
 
-use crate::command::file_to_compile;
+use crate::command::{Command, command_in};
 use crate::outcome::Outcome;
 use crate::say::tell;
 use crate::status::Status;
@@ -14,7 +14,7 @@ use chp_edge::{Failed, ReadEnd, Shelf, Sink, read_all, write_all};
 use chp_syntax::parse;
 use net_compose::{PlainNetError, translate_plain};
 use prs_file::print_net;
-use std::alloc::Global;
+use std::alloc::{AllocError, Global};
 
 /// The most bytes of a program text.
 const MOST_OF_TEXT: usize = 262144;
@@ -82,26 +82,34 @@ pub fn chp_main<S: Shelf, K: Sink, W: Sink>(
     out: &mut K,
     say: &mut W,
 ) -> Status
-    ensures usage { (result ≡ Status.Usage) ↔ (file_of words.now ≡ None) }
-    ensures done { result ≡ Status.Done → S.tells shelf.old ≡ true → Compiled (S.holds shelf.old (name_of (file_of words.now)))
+    ensures usage { result ≡ Status.Usage → file_to_compile words.now ≡ None }
+    ensures formless { file_to_compile words.now ≡ None → (result ≡ Status.Usage) ⊎ (result ≡ Status.NoMemory) }
+    ensures done { result ≡ Status.Done → S.tells shelf.old ≡ true → Compiled (S.holds shelf.old (name_in (file_to_compile words.now)))
         (λ file. K.tells out.old ≡ true → K.written out.new ≡ K.written out.old ++ file) }
-    ensures refused { result ≡ Status.RefusedText → S.tells shelf.old ≡ true → (fault : _) × Refused (S.holds shelf.old (name_of (file_of words.now))) fault }
-    ensures read { result ≡ Status.Read → IsReadFault (S.faults shelf.old) (S.faults shelf.new) (S.tells shelf.old) (S.holds shelf.old (name_of (file_of words.now))) }
+    ensures refused { result ≡ Status.RefusedText → S.tells shelf.old ≡ true → (fault : _) × Refused (S.holds shelf.old (name_in (file_to_compile words.now))) fault }
+    ensures read { result ≡ Status.Read → IsReadFault (S.faults shelf.old) (S.faults shelf.new) (S.tells shelf.old) (S.holds shelf.old (name_in (file_to_compile words.now))) }
     ensures write { result ≡ Status.Write → Rose (K.faults out.old) (K.faults out.new) }
-    ensures part { result ≡ Status.Write → S.tells shelf.old ≡ true → Compiled (S.holds shelf.old (name_of (file_of words.now)))
+    ensures part { result ≡ Status.Write → S.tells shelf.old ≡ true → Compiled (S.holds shelf.old (name_in (file_to_compile words.now)))
         (λ file. K.tells out.old ≡ true → (n : ℕ) × (n ≤ length file) × (K.written out.new ≡ K.written out.old ++ take n file)) }
-    ensures too_large { result ≡ Status.TooLarge → S.tells shelf.old ≡ true → Overlong (S.holds shelf.old (name_of (file_of words.now))) }
-    ensures not_built { result ≡ Status.NotBuilt → S.tells shelf.old ≡ true → Unbuilt (S.holds shelf.old (name_of (file_of words.now))) }
+    ensures too_large { result ≡ Status.TooLarge → S.tells shelf.old ≡ true → Overlong (S.holds shelf.old (name_in (file_to_compile words.now))) }
+    ensures not_built { result ≡ Status.NotBuilt → S.tells shelf.old ≡ true → Unbuilt (S.holds shelf.old (name_in (file_to_compile words.now))) }
     ensures silent { result ≢ Status.Done → result ≢ Status.Write → K.tells out.old ≡ true → K.written out.new ≡ K.written out.old }
-    ensures complete { S.tells shelf.old ≡ true → IsToCompile (S.holds shelf.old (name_of (file_of words.now))) → file_of words.now ≢ None
+    ensures complete { S.tells shelf.old ≡ true → IsToCompile (S.holds shelf.old (name_in (file_to_compile words.now))) → file_to_compile words.now ≢ None
         → ¬ Rose (S.faults shelf.old) (S.faults shelf.new) → ¬ Rose (K.faults out.old) (K.faults out.new) → (result ≡ Status.Done) ⊎ (result ≡ Status.NoMemory) }
     ensures said { W.tells say.old ≡ true → ¬ Rose (W.faults say.old) (W.faults say.new) → (line : _)
-        × Says result (S.tells shelf.old) (S.holds shelf.old (name_of (file_of words.now))) (name_of (file_of words.now)) line
+        × Says result (S.tells shelf.old) (S.holds shelf.old (name_in (file_to_compile words.now))) (name_in (file_to_compile words.now)) line
         × (W.written say.new ≡ W.written say.old ++ line) }
 {
-    let Some(name) = file_to_compile(words) else {
-        tell(say, &Outcome::Usage, "");
-        return Status::Usage;
+    let name = match command_in(alloc, words) {
+        Ok(Some(Command::Compile { file })) => file,
+        Ok(Some(Command::Migrate { .. })) | Ok(None) => {
+            tell(say, &Outcome::Usage, "");
+            return Status::Usage;
+        }
+        Err(AllocError) => {
+            tell(say, &Outcome::NoMemory, "");
+            return Status::NoMemory;
+        }
     };
     let outcome = compile(alloc, name, shelf, out);
     tell(say, &outcome, name);
