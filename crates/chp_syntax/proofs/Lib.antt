@@ -15,3 +15,4 @@ pub mod FewArms
 pub mod OwnTokens
 pub mod RefusedLemmas
 pub mod Once
+pub mod OneFault

@@ -15,6 +15,7 @@ use Rattle.chp_syntax.specs.Limits.{is_probe, is_arbiter, has_kind, IsFirst, Goe
 use Rattle.chp_syntax.specs.Refusals.{RefusedTokens, a_probe, an_arbiter, too_deep, no_program, too_many_arms}
 use Rattle.chp_syntax.proofs.OwnTokens.{no_probe, no_arbiter}
 use Rattle.chp_syntax.proofs.FewArms.{many_in_program}
+use Rattle.chp_syntax.proofs.OneFault.{clash, one_place, seventeenth_once, spot_once}
 
 or_left : (a b : Bool) → a ≡ true → (a || b) ≡ true
 or_left true b h = refl
@@ -56,3 +57,51 @@ pub refused_none : {text : List ℕ} {ts : List Token} {end : ℕ} {k : FaultCod
 refused_none {text} {ts} only refused p r =
     let e = only r.tokens r.cut in
     reads_none refused (subst (λ (us : List Token). Derives us p) e r.derives) (subst (λ (us : List Token). IsShallow us) e r.shallow) r
+
+-- tokens are refused for at most one cause, at one place
+first_before : {test : TokenKind → Bool} {ts c : List Token} {s : Span} (a : IsFirst test ts s) (m : List Token) → c ≡ a.before ++ record { kind = a.kind; at = s } ∷ m → IsFirst test c s
+first_before a m i = record { before = a.before; kind = a.kind; behind = m; is = i; passes = a.passes; none = a.none }
+
+first_once : (test : TokenKind → Bool) {ts : List Token} {s t : Span} → IsFirst test ts s → IsFirst test ts t → s ≡ t
+first_once test {s = s} {t = t} a b =
+    ap (λ (u : Token). u.at)
+    (one_place a.before b.before a.behind b.behind (record { kind = a.kind; at = s }) (record { kind = b.kind; at = t }) (sym a.is ∙ b.is)
+    (λ m i. clash (first_has test (first_before a m i)) b.none)
+    (λ m i. clash (first_has test (first_before b m i)) a.none))
+
+over_before : {ts c : List Token} {s : Span} (a : GoesOver ts s) (m : List Token) → c ≡ a.before ++ record { kind = a.kind; at = s } ∷ m → GoesOver c s
+over_before a m i = record { before = a.before; kind = a.kind; behind = m; is = i; shallow = a.shallow; over = a.over }
+
+over_once : {ts : List Token} {s t : Span} → GoesOver ts s → GoesOver ts t → s ≡ t
+over_once {s = s} {t = t} a b =
+    ap (λ (u : Token). u.at)
+    (one_place a.before b.before a.behind b.behind (record { kind = a.kind; at = s }) (record { kind = b.kind; at = t }) (sym a.is ∙ b.is)
+    (λ m i. not_shallow (over_before a m i) b.shallow)
+    (λ m i. not_shallow (over_before b m i) a.shallow))
+
+pub refused_once : {ts : List Token} {end : ℕ} {k j : FaultCode} {s t : Span} → RefusedTokens ts end k s → RefusedTokens ts end j t → (k ≡ j) × (s ≡ t)
+refused_once (a_probe f) (a_probe g) = (refl, first_once is_probe f g)
+refused_once (a_probe f) (an_arbiter n g) = absurd (clash (first_has is_probe f) n)
+refused_once (a_probe f) (too_deep n g) = absurd (clash (first_has is_probe f) n.probes)
+refused_once (a_probe f) (no_program n h g) = absurd (clash (first_has is_probe f) n.probes)
+refused_once (a_probe f) (too_many_arms p n h d g) = absurd (clash (first_has is_probe f) n.probes)
+refused_once (an_arbiter n f) (a_probe g) = absurd (clash (first_has is_probe g) n)
+refused_once (an_arbiter n f) (an_arbiter m g) = (refl, first_once is_arbiter f g)
+refused_once (an_arbiter n f) (too_deep m g) = absurd (clash (first_has is_arbiter f) m.arbiters)
+refused_once (an_arbiter n f) (no_program m h g) = absurd (clash (first_has is_arbiter f) m.arbiters)
+refused_once (an_arbiter n f) (too_many_arms p m h d g) = absurd (clash (first_has is_arbiter f) m.arbiters)
+refused_once (too_deep n f) (a_probe g) = absurd (clash (first_has is_probe g) n.probes)
+refused_once (too_deep n f) (an_arbiter m g) = absurd (clash (first_has is_arbiter g) n.arbiters)
+refused_once (too_deep n f) (too_deep m g) = (refl, over_once f g)
+refused_once (too_deep n f) (no_program m h g) = absurd (not_shallow f h)
+refused_once (too_deep n f) (too_many_arms p m h d g) = absurd (not_shallow f h)
+refused_once (no_program n h f) (a_probe g) = absurd (clash (first_has is_probe g) n.probes)
+refused_once (no_program n h f) (an_arbiter m g) = absurd (clash (first_has is_arbiter g) n.arbiters)
+refused_once (no_program n h f) (too_deep m g) = absurd (not_shallow g h)
+refused_once {end = end} (no_program n h f) (no_program m i g) = (refl, spot_once end f g)
+refused_once (no_program n h f) (too_many_arms p m i d g) = absurd (no_derivation f d)
+refused_once (too_many_arms p n h d f) (a_probe g) = absurd (clash (first_has is_probe g) n.probes)
+refused_once (too_many_arms p n h d f) (an_arbiter m g) = absurd (clash (first_has is_arbiter g) n.arbiters)
+refused_once (too_many_arms p n h d f) (too_deep m g) = absurd (not_shallow g h)
+refused_once (too_many_arms p n h d f) (no_program m i g) = absurd (no_derivation g d)
+refused_once (too_many_arms p n h d f) (too_many_arms q m i c g) = (refl, seventeenth_once f g)
