@@ -1,7 +1,6 @@
-//! Nets written by hand, their rule files, and their readers.
+//! Nets written by hand, and tests of their rule files and readers.
 #![tactic(auto)]
 
-#[cfg(test)]
 mod by_hand;
 #[cfg(test)]
 mod tests;
