@@ -19,8 +19,8 @@ pub struct QPorts {
     pub next: u32,
 }
 
-/// Gives the Q-element's own nodes their guards, and leaves all other nodes alone. After want of memory some of its
-/// own nodes may have their guards.
+/// Writes the guards of the Q-element's own nodes, and no others. Where memory runs out, some of these may have been
+/// written.
 pub fn emit_q(alloc: Global, p: &QPorts, rules: &mut Rules) -> Result<(), AllocError>
     requires { IsPorts (length rules.old.up) p.now }
     ensures made { OnOk result (rules.new ≡ with_q p.now rules.old) }
@@ -42,8 +42,8 @@ pub fn emit_q(alloc: Global, p: &QPorts, rules: &mut Rules) -> Result<(), AllocE
     Ok(())
 }
 
-/// Gives the answer of a skip its guards, which follow the request, and leaves all other nodes alone. After want of
-/// memory the answer may have one of them.
+/// Writes the two guards of a skip's answer, which follow the request, and no others. Where memory runs out, one of
+/// these may have been written.
 pub fn emit_skip(
     alloc: Global,
     request: u32,

@@ -28,7 +28,7 @@ pub enum FaultCode {
     Undeclared,
     /// A variable where a channel is wanted, or a channel where a variable is.
     WrongKind,
-    /// A send on an `in` channel or a receive on an `out` channel.
+    /// A channel that is used at the environment's end.
     Direction,
     /// A width that isn't the one wanted at its place.
     Width,

@@ -7,7 +7,8 @@ ghost use Rattle.chp_base.specs.Names.{IsName, IsNodeName, begins_with_letter, l
 use std::alloc::{AllocError, Global};
 use std::marker::Model;
 
-/// A name, seen as its bytes. The names of nodes are made by `node_name_of`, all others by `name_of`.
+/// A name, of which contracts see the bytes. `name_of` makes those of channels, variables and procedures, and
+/// `node_name_of` those of nodes, which may be longer and have dots.
 #[derive(Debug, Drop)]
 pub struct Name {
     bytes: Vec<u8>,

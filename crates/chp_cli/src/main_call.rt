@@ -51,6 +51,10 @@ fn compile<S: Shelf, K: Sink>(alloc: Global, name: &str, shelf: &mut S, out: &mu
     ensures too_large { result ≡ Outcome.TooLong → S.tells shelf.old ≡ true → Overlong (S.holds shelf.old name.now) }
     ensures not_built { result ≡ Outcome.NotBuilt → S.tells shelf.old ≡ true → Unbuilt (S.holds shelf.old name.now) }
     ensures silent { result ≢ Outcome.Done → result ≢ Outcome.Write → K.tells out.old ≡ true → K.written out.new ≡ K.written out.old }
+    ensures same { S.tells shelf.new ≡ S.tells shelf.old }
+    ensures kept { S.holds shelf.new ≡ S.holds shelf.old }
+    ensures shelf_faults { S.faults shelf.old ≤ S.faults shelf.new }
+    ensures out_faults { K.faults out.old ≤ K.faults out.new }
 {
     let text = match read_all(alloc, shelf, name, MOST_OF_TEXT) {
         Ok(text) => text,
@@ -99,6 +103,11 @@ pub fn chp_main<S: Shelf, K: Sink, W: Sink>(
     ensures said { W.tells say.old ≡ true → ¬ Rose (W.faults say.old) (W.faults say.new) → (line : _)
         × Says result (S.tells shelf.old) (S.holds shelf.old (name_in (file_to_compile words.now))) (name_in (file_to_compile words.now)) line
         × (W.written say.new ≡ W.written say.old ++ line) }
+    ensures same { S.tells shelf.new ≡ S.tells shelf.old }
+    ensures kept { S.holds shelf.new ≡ S.holds shelf.old }
+    ensures shelf_faults { S.faults shelf.old ≤ S.faults shelf.new }
+    ensures out_faults { K.faults out.old ≤ K.faults out.new }
+    ensures say_faults { W.faults say.old ≤ W.faults say.new }
 {
     let name = match command_in(alloc, words) {
         Ok(Some(Command::Compile { file })) => file,

@@ -1,6 +1,7 @@
 //! Shelves and a sink in memory, which tell their bytes.
 
-ghost use Rattle.std.specs.Prelude.{◌≡◌, ℕ, ◌≤◌, ◌<◌, [], Some, None, length, take, drop, min, vec_len, vec_capacity, IfOk, true, false, position, if◌then◌else◌};
+ghost use Rattle.std.specs.Prelude.{◌≡◌, ℕ, ◌≤◌, ◌<◌, [], Some, None, length, take, drop, min, vec_len, vec_capacity, IfOk, IsOk, OnOk, IsErr, OnErr, Contains, ◌+◌, ◌-◌, ◌^◌, ◌++◌, ◌↔◌, ◌⊎◌, true, false, position, if◌then◌else◌};
+ghost use Rattle.chp_edge.specs.Faults.{Rose, IsReadFault};
 ghost use Rattle.chp_edge.specs.Files.{held_by, left_at, is_named};
 
 use crate::plan::Plan;
@@ -29,8 +30,8 @@ fn behind(bytes: &[u8], done: usize) -> &[u8]
     }
 }
 
-/// A shelf of files in memory. Its calls of `begin` and `next` are counted together from 1, and those that are named
-/// as failing fail.
+/// A shelf of files in memory, of which chosen calls fail: `begin` and `next` share one count, and the first call is
+/// number 1.
 #[derive(Debug, Drop)]
 pub struct MemShelf {
     files: Vec<(String, Vec<u8>)>,
@@ -40,9 +41,8 @@ pub struct MemShelf {
 }
 
 impl MemShelf {
-    /// A shelf that holds these files, each with its name; where a name stands twice, its first entry counts. The
-    /// calls whose numbers stand in `failing` fail, and are counted as faults. A `begin` with a name that it doesn't
-    /// hold fails too, and is no fault.
+    /// The shelf of these files, each with its name; of several with one name only the first is found. `failing` has
+    /// the numbers of the calls that fail, each of which is a fault. To begin an unknown name fails without a fault.
     pub fn new(files: Vec<(String, Vec<u8>)>, failing: Vec<u64>) -> MemShelf
         ensures files { result.files.items ≡ files.items }
         ensures failing { result.plan.failing.items ≡ failing.items }
@@ -86,7 +86,18 @@ impl Shelf for MemShelf {
 
     ghost rest = { λ s. left_at s.files.items s.begun s.done };
 
-    fn begin(&mut self, name: &str) -> Result<(), Failed> {
+    fn begin(&mut self, name: &str) -> Result<(), Failed>
+        ensures faults { self.old.plan.faults ≤ self.new.plan.faults }
+        ensures counted { self.new.plan.faults < 2 ^ 64 }
+        ensures files { self.new.files ≡ self.old.files }
+        ensures calls { self.new.plan.calls ≡ min (self.old.plan.calls + 1) (2 ^ 64 - 1) }
+        ensures failing { self.new.plan.failing ≡ self.old.plan.failing }
+        ensures begun { OnOk result (held_by self.old.files.items name.now ≡ Some (left_at self.new.files.items self.new.begun self.new.done)) }
+        ensures emptied { OnErr result (left_at self.new.files.items self.new.begun self.new.done ≡ []) }
+        ensures fails { IsErr result ↔ (Contains self.old.plan.failing.items self.new.plan.calls ⊎ (held_by self.old.files.items name.now ≡ None)) }
+        ensures failed { OnErr result (IsReadFault self.old.plan.faults self.new.plan.faults true (held_by self.old.files.items name.now)) }
+        ensures unplanned { (Contains self.old.plan.failing.items self.new.plan.calls → ⊥) → self.new.plan.faults ≡ self.old.plan.faults }
+    {
         self.begun = None;
         self.done = 0;
         if self.plan.fails() {
@@ -99,7 +110,22 @@ impl Shelf for MemShelf {
         Ok(())
     }
 
-    fn next(&mut self, piece: &mut [u8]) -> Result<usize, Failed> {
+    fn next(&mut self, piece: &mut [u8]) -> Result<usize, Failed>
+        requires { 0 < length piece.old }
+        ensures faults { self.old.plan.faults ≤ self.new.plan.faults }
+        ensures counted { self.new.plan.faults < 2 ^ 64 }
+        ensures files { self.new.files ≡ self.old.files }
+        ensures calls { self.new.plan.calls ≡ min (self.old.plan.calls + 1) (2 ^ 64 - 1) }
+        ensures failing { self.new.plan.failing ≡ self.old.plan.failing }
+        ensures count { IfOk result (λ n. n ≡ min (length piece.old) (length (left_at self.old.files.items self.old.begun self.old.done))) }
+        ensures bytes { IfOk result (λ n. left_at self.old.files.items self.old.begun self.old.done ≡ take n piece.new ++ left_at self.new.files.items self.new.begun self.new.done) }
+        ensures within { IfOk result (λ n. n ≤ length piece.new) }
+        ensures end { IfOk result (λ n. (n ≡ 0) ↔ (left_at self.old.files.items self.old.begun self.old.done ≡ [])) }
+        ensures fails { IsErr result ↔ Contains self.old.plan.failing.items self.new.plan.calls }
+        ensures failed { OnErr result (Rose self.old.plan.faults self.new.plan.faults) }
+        ensures stays { OnErr result (left_at self.new.files.items self.new.begun self.new.done ≡ left_at self.old.files.items self.old.begun self.old.done) }
+        ensures unplanned { IsOk result → self.new.plan.faults ≡ self.old.plan.faults }
+    {
         if self.plan.fails() {
             return Err(Failed);
         }
@@ -169,9 +195,9 @@ pub struct MemSink {
 }
 
 impl MemSink {
-    /// A sink with nothing written, whose memory for `room` bytes is taken here. The calls of `put` whose numbers
-    /// stand in `failing` fail, and so does each one at which `room` bytes are written; each of these is a fault.
-    /// Every other one takes the least of `most`, the room that is left and the length of the piece.
+    /// An empty sink; all its memory, for `room` bytes, is taken here. A call of `put` is a fault where its number
+    /// is in `failing`, or where the room is used up. Otherwise it takes as much of the piece as `most` and the room
+    /// that is left allow.
     pub fn new(
         alloc: Global,
         most: usize,
@@ -210,7 +236,21 @@ impl Sink for MemSink {
 
     ghost written = { λ s. s.written.items };
 
-    fn put(&mut self, piece: &[u8]) -> Result<usize, Failed> {
+    fn put(&mut self, piece: &[u8]) -> Result<usize, Failed>
+        requires { 0 < length piece.now }
+        ensures faults { self.old.plan.faults ≤ self.new.plan.faults }
+        ensures counted { self.new.plan.faults < 2 ^ 64 }
+        ensures limits { (self.new.most ≡ self.old.most) × (self.new.room ≡ self.old.room) }
+        ensures calls { self.new.plan.calls ≡ min (self.old.plan.calls + 1) (2 ^ 64 - 1) }
+        ensures failing { self.new.plan.failing ≡ self.old.plan.failing }
+        ensures count { IfOk result (λ n. n ≡ min (min self.old.most (self.old.room - vec_len self.old.written)) (length piece.now)) }
+        ensures some { IfOk result (λ n. 0 < n) }
+        ensures bytes { IfOk result (λ n. self.new.written.items ≡ self.old.written.items ++ take n piece.now) }
+        ensures fails { IsErr result ↔ (Contains self.old.plan.failing.items self.new.plan.calls ⊎ (self.old.room ≤ vec_len self.old.written)) }
+        ensures failed { OnErr result (Rose self.old.plan.faults self.new.plan.faults) }
+        ensures stays { OnErr result (self.new.written.items ≡ self.old.written.items) }
+        ensures unplanned { IsOk result → self.new.plan.faults ≡ self.old.plan.faults }
+    {
         if self.plan.fails() {
             return Err(Failed);
         }
@@ -222,10 +262,7 @@ impl Sink for MemSink {
         let n = self.most.min(left).min(piece.len());
         match self.written.extend_from_slice(&piece[..n]) {
             Ok(()) => Ok(n),
-            Err(AllocError) => {
-                self.plan.fault();
-                Err(Failed)
-            }
+            Err(AllocError) => unreachable!(),
         }
     }
 }

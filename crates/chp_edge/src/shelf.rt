@@ -13,13 +13,13 @@ pub trait Shelf {
     // Whether it tells its bytes.
     ghost tells: { Self → Bool };
 
-    // The bytes of the file of a name, or none where there is no such file. They never change.
+    // What stands in the file of a name, if there is one. It stays so.
     ghost holds: { Self → List ℕ → Option (List ℕ) };
 
-    // The bytes of the begun file that haven't been handed out.
+    // What is still to be read of the begun file.
     ghost rest: { Self → List ℕ };
 
-    /// Starts the named file from its first byte.
+    /// Opens the file of this name, at its beginning.
     fn begin(&mut self, name: &str) -> Result<(), Failed>
         ensures faults { faults self.old ≤ faults self.new }
         ensures counted { faults self.new < 2 ^ 64 }

@@ -23,9 +23,8 @@ const PIECE: usize = 4096;
 
 /// All bytes of the named file, which has at most `limit` bytes.
 ///
-/// `Failed` comes only at a read fault of this very name. Where it doesn't come, `TooLong` comes exactly where
-/// the file has more than `limit` bytes; `limit + 1` bytes were then taken. After each turn at least one byte more
-/// has been taken.
+/// It is `Failed` only where a device failed or this very file isn't there. Else it is `TooLong` just where the file
+/// exceeds the limit, of which one byte too many was then read, and the rest is still on the shelf.
 pub fn read_all<S: Shelf>(
     alloc: Global,
     shelf: &mut S,

@@ -65,13 +65,13 @@ received_is c d at k x s t here (gives (v ∷ more)) offered taken = one_step _ 
 received_is c d at k x s t here (takes count) offered taken = absurd (cc taken)
 received_is c d at k x s t here nothing offered taken = absurd (cc taken)
 
-chosen_is : (c d : Configuration) (at : Place) (again : Bool) (choices : Choices) → statement_at c.term at ≡ Some (choosing again choices) → (ps : List Process) → open_branches c choices ≡ ps → chosen c at again choices ps ≡ Some d → Step c at d
-chosen_is c d at true choices here [] true_ones taken = one_step _ d taken (an_end here true_ones)
-chosen_is c d at false choices here [] true_ones taken = absurd (cc taken)
-chosen_is c d at true choices here (p ∷ []) true_ones taken = one_step _ d taken (a_turn here true_ones)
-chosen_is c d at false choices here (p ∷ []) true_ones taken = one_step _ d taken (a_selection here true_ones)
-chosen_is c d at true choices here (p ∷ q ∷ ps) true_ones taken = absurd (cc taken)
-chosen_is c d at false choices here (p ∷ q ∷ ps) true_ones taken = absurd (cc taken)
+chosen_is : (c d : Configuration) (at : Place) (again : Bool) (options : Choices) → statement_at c.term at ≡ Some (choosing again options) → (ps : List Process) → open_branches c options ≡ ps → chosen c at again options ps ≡ Some d → Step c at d
+chosen_is c d at true options here [] true_ones taken = one_step _ d taken (an_end here true_ones)
+chosen_is c d at false options here [] true_ones taken = absurd (cc taken)
+chosen_is c d at true options here (p ∷ []) true_ones taken = one_step _ d taken (a_turn here true_ones)
+chosen_is c d at false options here (p ∷ []) true_ones taken = one_step _ d taken (a_selection here true_ones)
+chosen_is c d at true options here (p ∷ q ∷ ps) true_ones taken = absurd (cc taken)
+chosen_is c d at false options here (p ∷ q ∷ ps) true_ones taken = absurd (cc taken)
 
 stepped_is : (c d : Configuration) (at : Place) (o : Option Process) → statement_at c.term at ≡ o → stepped c at o ≡ Some d → Step c at d
 stepped_is c d at None here taken = absurd (cc taken)
@@ -81,7 +81,7 @@ stepped_is c d at (Some (sending k s e)) here taken = sent_is c d at k s e here 
 stepped_is c d at (Some (receiving k s x t)) here taken = received_is c d at k x s t here (offer_at c.rests k) refl taken
 stepped_is c d at (Some (in_turn ms)) here taken = absurd (cc taken)
 stepped_is c d at (Some (side_by_side ms)) here taken = absurd (cc taken)
-stepped_is c d at (Some (choosing again choices)) here taken = chosen_is c d at again choices here (open_branches c choices) refl taken
+stepped_is c d at (Some (choosing again options)) here taken = chosen_is c d at again options here (open_branches c options) refl taken
 stepped_is c d at (Some (repeating p)) here taken = one_step _ d taken (a_repetition here)
 
 pub step_is : (c d : Configuration) (at : Place) → step_at c at ≡ Some d → Step c at d

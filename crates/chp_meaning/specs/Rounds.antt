@@ -41,9 +41,9 @@ received c at k x (gives (v ∷ more)) = Some (passing (storing (offering (leavi
 received c at k x _ = None
 
 abbrev pub chosen : Configuration → Place → Bool → Choices → List Process → Option Configuration
-chosen c at again choices (p ∷ []) = Some (leaving c at (if again then followed (opened p) (and_member (choosing true choices) no_members) else opened p))
-chosen c at true choices [] = Some (leaving c at finished)
-chosen c at again choices _ = None
+chosen c at again options (p ∷ []) = Some (leaving c at (if again then followed (opened p) (and_member (choosing true options) no_members) else opened p))
+chosen c at true options [] = Some (leaving c at finished)
+chosen c at again options _ = None
 
 -- the configuration behind the step of this statement at the place, if it has one
 abbrev pub stepped : Configuration → Place → Option Process → Option Configuration
@@ -51,7 +51,7 @@ stepped c at (Some skipping) = Some (leaving c at finished)
 stepped c at (Some (assigning x s e)) = Some (storing (leaving c at finished) x (value_in c e))
 stepped c at (Some (sending k s e)) = sent c at k (value_in c e) (offer_at c.rests k)
 stepped c at (Some (receiving k s x t)) = received c at k x (offer_at c.rests k)
-stepped c at (Some (choosing again choices)) = chosen c at again choices (open_branches c choices)
+stepped c at (Some (choosing again options)) = chosen c at again options (open_branches c options)
 stepped c at (Some (repeating p)) = Some (leaving c at (followed (opened p) (and_member (repeating p) no_members)))
 stepped c at _ = None
 

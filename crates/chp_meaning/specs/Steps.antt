@@ -65,7 +65,7 @@ pub data Leads : Configuration → ℕ → Configuration → Type 0 where
   no_step : {c : Configuration} → Leads c zero c
   one_step : {c d e : Configuration} {at : Place} {n : ℕ} → Step c at d → Leads d n e → Leads c (suc n) e
 
--- the program's body, the first values, the whole script, and nothing has passed
+-- before the first step: all is still to be done and to be offered, and nothing has passed
 abbrev pub start_of : TypedProgram → List OfferValue → Configuration
 start_of p script = record {
   term = opened p.body;

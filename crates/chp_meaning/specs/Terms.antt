@@ -21,7 +21,7 @@ abbrev pub all_finished : Terms → Bool
 all_finished no_branches = true
 all_finished (and_branch t more) = is_finished t && all_finished more
 
--- a parallel composition whose branches are all Done is Done
+-- branches side by side are finished once each of them is
 abbrev pub together : Terms → Term
 together ts = if all_finished ts then finished else in_parallel ts
 
@@ -41,7 +41,7 @@ abbrev mutual
   opened_each no_members = no_branches
   opened_each (and_member p more) = and_branch (opened p) (opened_each more)
 
--- a sequence whose first part is Done is the rest of it
+-- behind a finished part stands the rest of its sequence
 abbrev pub followed : Term → Processes → Term
 followed finished more = opened_turn more
 followed t more = in_sequence t more

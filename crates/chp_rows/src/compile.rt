@@ -154,17 +154,19 @@ fn what_is_read_and_not_built(rt: HostRuntime) -> Result<(), Fail> {
         assert_eq!(rt; ran.say.written(), b"chp: 19 not built\n".as_slice());
         assert_eq!(rt; ran.out.written(), b"".as_slice());
     }
+    let many = repeated(rt.alloc(), b"begin skip", 49999, b";skip", b" end")?;
+    assert_eq!(rt; compile(rt.alloc(), &many)?.status, Status::NotBuilt);
     Ok(())
 }
 
 #[test]
 fn wrong_words_and_a_missing_file(rt: HostRuntime) -> Result<(), Fail> {
-    for (words, line) in [
-        ("", b"chp: 2 usage\n".as_slice()),
-        ("compile", b"chp: 2 usage\n".as_slice()),
-        ("compile f f", b"chp: 2 usage\n".as_slice()),
-        ("Compile f", b"chp: 2 usage\n".as_slice()),
-        ("compile g", b"chp: 3 read g\n".as_slice()),
+    for (words, status, line) in [
+        ("", Status::Usage, b"chp: 2 usage\n".as_slice()),
+        ("compile", Status::Usage, b"chp: 2 usage\n".as_slice()),
+        ("compile f f", Status::Usage, b"chp: 2 usage\n".as_slice()),
+        ("Compile f", Status::Usage, b"chp: 2 usage\n".as_slice()),
+        ("compile g", Status::Read, b"chp: 3 read g\n".as_slice()),
     ] {
         let mut shelf = shelf(rt.alloc(), b"begin skip end", 0)?;
         let ran = run(
@@ -176,7 +178,7 @@ fn wrong_words_and_a_missing_file(rt: HostRuntime) -> Result<(), Fail> {
         )?;
         assert_eq!(rt; ran.say.written(), line);
         assert_eq!(rt; ran.out.written(), b"".as_slice());
-        assert!(rt; ran.status == Status::Usage || ran.status == Status::Read);
+        assert_eq!(rt; ran.status, status);
     }
     Ok(())
 }

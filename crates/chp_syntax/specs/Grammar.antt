@@ -19,8 +19,8 @@
 --   e6      = NUMBER | NAME | NAME "[" NUMBER "]" | NAME "[" NUMBER ":" NUMBER "]"
 --           | "{" expr { "," expr } "}" | "(" expr ")"
 --
--- Each relation has the tokens from a place on, those that are left, and what was read. A rule `a { op a }` with
--- one member is that member; parentheses leave no form of their own.
+-- Each relation has the tokens from a place on, those that are left, and what was read. A group of one is its only
+-- member, and brackets leave no trace in the tree.
 use Rattle.std.specs.Prelude.{◌≡◌, ℕ, true, false, List, [], ◌∷◌, Option, Some, None}
 use Rattle.chp_base.specs.declared.span.Span.{Span}
 use Rattle.chp_syntax.specs.declared.token.Token.{Token}

@@ -32,7 +32,7 @@ abbrev pub arm_count : Arms → ℕ
 arm_count no_arms = 0
 arm_count (and_arm g t bs) = suc (arm_count bs)
 
--- no selection and no guarded repetition has more than 16 arms
+-- sixteen arms are the most, of selections and of guarded repetitions
 abbrev mutual
   pub few_arms : Statement → Bool
   few_arms (follows us) = few_arms_each us

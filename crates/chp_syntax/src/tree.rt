@@ -1,8 +1,8 @@
 //! The tree of a program, with the places of its parts in the text.
 //!
-//! A program that was read has the grammar's shape: at every depth a `Then` and a `Beside` have at least two
-//! parts, a `Select` has 1 to 16 arms, a `Join` has at least one part, and a `Chain` has at least one link, and
-//! exactly one where a link's operator is a comparison.
+//! What the parser makes has the shape of the grammar throughout: two parts or more in `Then` and `Beside`, up to 16
+//! arms and at least one in `Select`, one part or more in `Join`, one link or more in `Chain`, and just one link where
+//! it compares.
 
 use chp_base::{Name, Span};
 
@@ -23,8 +23,7 @@ pub enum DeclKind {
     Var,
 }
 
-/// A declaration of a channel or a variable. Where no first value is written, `first` is 0 and `first_at` is
-/// `width_at`.
+/// A declaration of a channel or a variable. A first value that isn't written is 0, and stands where the width does.
 #[derive(Debug, Drop)]
 pub struct Decl {
     pub kind: DeclKind,
@@ -82,7 +81,7 @@ pub struct Arm {
     pub body: Stmt,
 }
 
-/// An expression. Its span runs from its first to its last token, without parentheses round it.
+/// An expression. `at` is the stretch of its own tokens; brackets that only stand round it aren't among them.
 #[cycle(expressions)]
 #[derive(Debug, Drop)]
 pub enum Expr {

@@ -44,7 +44,7 @@ histories_after net st n = if in_reset net.reset (high st.values) then st.histor
 abbrev pub moved : NetValue → RunState → ℕ → RunState
 moved net st n = record { values = fired st.values n; histories = histories_after net st n }
 
--- each move is enabled in the state that the moves before it leave
+-- move by move, what is enabled when its turn comes
 abbrev pub IsRun : NetValue → List OfferValue → RunState → List ℕ → Type 0
 IsRun net script st [] = Unit {0}
 IsRun net script st (n ∷ ns) = (move_enabled net script st n ≡ true) × IsRun net script (moved net st n) ns

@@ -94,7 +94,7 @@ fn no_readers(alloc: Global, nodes: usize) -> Result<Vec<Readers>, AllocError>
     Ok(readers)
 }
 
-/// For each node of the net the ascending list of the nodes with a guard that names it.
+/// The index of the net: each node's readers, in ascending order.
 pub fn fan_of(alloc: Global, net: &Net) -> Result<Fan, AllocError>
     ensures fan { IfOk result (λ fan. fan ≡ fan_value net.now) }
     ensures count { IfOk result (λ fan. length fan ≡ length net.now.first) }
@@ -118,7 +118,7 @@ impl Fan {
     }
 }
 
-/// Law: firing a node changes the enabledness of no node other than the node itself and its readers.
+/// Law: when a node fires, only the node and its readers can become enabled or stop being so.
 pub fn only_readers()
     ensures { (net : NetValue) (state : List Bool) (moved node : ℕ)
         → moved < length net.first

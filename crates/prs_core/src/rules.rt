@@ -6,7 +6,7 @@ use crate::rule::Guard;
 use std::alloc::{AllocError, Global};
 use std::marker::Model;
 
-/// The two guards of each node while a net is made.
+/// The guards of a net that isn't finished: for each node the one that raises it and the one that lowers it.
 #[derive(Debug, Drop)]
 pub struct Rules {
     up: Vec<Guard>,

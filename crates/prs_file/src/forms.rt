@@ -1,5 +1,5 @@
-//! The lines of a rule file, and the pieces of its rules. Each call appends to a text. After want of memory the
-//! text is as before, and want of memory never comes where its vector has room for 64 more bytes.
+//! The lines of a rule file, and the pieces of its rules, each put at the end of a text. A call that finds no memory
+//! leaves the text alone, and with room for 64 more bytes in its vector every call finds it.
 
 ghost use Rattle.std.specs.Prelude.{◌≡◌, ℕ, ◌+◌, ◌<◌, ◌≤◌, ◌++◌, List, map, length, sum_by, vec_len, vec_capacity, OnOk, OnErr};
 ghost use Rattle.std.specs.List.{concat, flat_map};

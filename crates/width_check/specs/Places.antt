@@ -117,9 +117,9 @@ pub record Expected : Type 0 where
 abbrev pub expect : Expression → ℕ → Expected
 expect e w = record { expression = e; width = w }
 
--- The leaves of an expression of which a width is expected: numbers, names, bits, slices, joins and comparisons. The
--- width goes down unchanged through `~` and through chains of other operators. Both sides of a comparison expect the
--- own width of the left side, or else of the right side; a part of a join expects its own width.
+-- The leaves of an expression of which a width is expected: numbers, names, bits, slices, joins and comparisons. What
+-- is expected of `~` and of a chain is expected of each member. The sides of a comparison are to have the width of the
+-- left one, or of the right one where the left has none, and a part of a join its own.
 abbrev mutual
   pub leaves : List Decl → ℕ → Expression → List Expected
   leaves decls w (join parts at) = expect (join parts at) w ∷ leaves_of_parts decls parts

@@ -55,8 +55,8 @@ fn one_if(holds: bool) -> u64
     u64::from(holds)
 }
 
-/// An operator between two numbers of the width. `&`, `|` and `^` work bit by bit, `+` and `-` wrap at the width, and
-/// a comparison gives 1 or 0. Numbers are unsigned. (Our profile.)
+/// What an operator makes of two unsigned numbers of the width: of each pair of bits, modulo 2 to the width for sum and
+/// difference, and 1 for a comparison that holds. (Our profile.)
 pub fn operated(op: Op, width: u8, left: u64, right: u64) -> u64
     requires some { 1 ≤ width }
     requires most { width ≤ 64 }

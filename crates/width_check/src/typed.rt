@@ -111,9 +111,9 @@ pub struct TLink {
     pub right: TExpr,
 }
 
-/// A typed program: its channels and its variables, each in order of declaration, and what it does. Names are
-/// distinct, numbers are in range, directions are right, widths agree, each sequence and each parallel composition
-/// has at least two parts, each selection has 1 to 16 arms, and each expression is well formed.
+/// A program whose names are numbers: what it declares, channels and variables apart and in the text's order, and
+/// what it does. Its type keeps what the checks have found: no name twice, no number without its declaration, ends of
+/// channels on the right side, widths that fit, well-formed expressions, and groups of the grammar's sizes.
 #[derive(Debug, Drop)]
 pub struct Typed {
     channels: Vec<Channel>,
