@@ -3,7 +3,9 @@ mod ChannelLines
 mod HeadLines
 mod Names
 mod NodeLines
+mod Openings
 mod Pieces
 mod RuleEnds
 mod RuleLines
 mod Rules
+mod Taking
