@@ -3,6 +3,7 @@ mod ChannelLines
 mod HeadLines
 mod Names
 mod NodeLines
+mod NodesRead
 mod Openings
 mod Pieces
 mod RuleEnds

@@ -2,6 +2,7 @@ pub mod Channels
 pub mod Faults
 pub mod Indexes
 pub mod Lines
+pub mod NodesTold
 pub mod Openings
 pub mod Reading
 pub mod RuleForms

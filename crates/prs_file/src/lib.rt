@@ -6,6 +6,7 @@ mod fault;
 mod form;
 mod forms;
 mod index;
+mod nodes;
 mod opening;
 mod print;
 mod rule;
