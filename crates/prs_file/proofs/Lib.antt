@@ -1,6 +1,7 @@
 mod Against
 mod ChannelLines
 mod HeadLines
+mod Lookups
 mod Names
 mod NodeLines
 mod NodesRead
@@ -10,3 +11,4 @@ mod RuleEnds
 mod RuleLines
 mod Rules
 mod Taking
+mod Wirings

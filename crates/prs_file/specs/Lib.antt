@@ -7,3 +7,4 @@ pub mod Openings
 pub mod Reading
 pub mod RuleForms
 pub mod Spelling
+pub mod WiresFound
