@@ -1,5 +1,6 @@
 mod Against
 mod ChannelLines
+mod ChannelsRead
 mod HeadLines
 mod Lookups
 mod Names

@@ -12,7 +12,7 @@ use Rattle.prs_file.specs.declared.fault.NetFault.{NetFault}
 use Rattle.prs_file.specs.declared.fault.NetFault.TheVariants.{BadLine, DoubleName, TooMany}
 use Rattle.prs_file.specs.Indexes.{place_in}
 use Rattle.prs_file.specs.Lines.{first_line, behind_line}
-use Rattle.prs_file.specs.NodesTold.{node_forms, nodes_told, node_most, IsNodes, node_fault_of}
+use Rattle.prs_file.specs.NodesTold.{node_forms, nodes_told, node_most, IsNodes, IsNodesRead, node_fault_of}
 use Rattle.prs_file.specs.Openings.{opening, text_behind}
 use Rattle.prs_file.specs.Spelling.{node_spelling}
 use Rattle.prs_file.specs.Reading.{Form, Says, form_spelling, last_of, ends_nodes, stands_behind, may_stand, may_end, form_fault, nodes_of, number_of_node, is_unknown, has_reset, AllStand, IsTaken, RefusedBehind, IsRefused}
@@ -74,13 +74,7 @@ pub node_fault_is : (version : ℕ) (names : List (List ℕ)) (first : List Bool
 node_fault_is version names first name value count =
     rw (number_is names first name count, count_nodes names first count) (fault_cases (place_in names name) (node_most version) (length names + 1))
 
-pub record IsNodesRead (version : ℕ) (names : List (List ℕ)) (first : List Bool) (shut : Bool) (text rest : List ℕ) : Type 0 where
-  pub taken : IsTaken text (nodes_told version names first) rest
-  pub nodes : IsNodes version names first
-  pub ends : ends_nodes (version == 2) (last_of (nodes_told version names first)) ≡ shut
-  pub last : (n : List ℕ) × (v : Bool) × (last_of (nodes_told version names first) ≡ Some (node n v))
-
-told_length : (version : ℕ) (names : List (List ℕ)) (first : List Bool) → IsNodes version names first → length (nodes_told version names first) ≡ length names + 1
+pub told_length : (version : ℕ) (names : List (List ℕ)) (first : List Bool) → IsNodes version names first → length (nodes_told version names first) ≡ length names + 1
 told_length version names first nodes = omega (arith, count_forms names first nodes.count)
 
 pub past_third : (version : ℕ) (names : List (List ℕ)) (first : List Bool) → IsNodes version names first → (length (nodes_told version names first) == 2) ≡ false

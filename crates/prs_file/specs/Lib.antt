@@ -1,4 +1,5 @@
 pub mod Channels
+pub mod ChannelsTold
 pub mod Faults
 pub mod Indexes
 pub mod Lines

@@ -4,7 +4,7 @@ use Rattle.chp_base.specs.Names.{IsNodeName}
 use Rattle.prs_file.specs.declared.fault.NetFault.{NetFault}
 use Rattle.prs_file.specs.declared.fault.NetFault.TheVariants.{DoubleName, TooMany}
 use Rattle.prs_file.specs.Indexes.{place_in}
-use Rattle.prs_file.specs.Reading.{Form}
+use Rattle.prs_file.specs.Reading.{Form, IsTaken, last_of, ends_nodes}
 use Rattle.prs_file.specs.Reading.Form.{head, node}
 
 abbrev pub node_forms : List (List ℕ) → List Bool → List Form
@@ -33,3 +33,10 @@ pub record IsNodes (version : ℕ) (names : List (List ℕ)) (first : List Bool)
 abbrev pub node_fault_of : ℕ → List (List ℕ) → List ℕ → Option NetFault
 node_fault_of version names name =
     if is_some (place_in names name) then Some DoubleName else (if nat_lt (node_most version) (length names + 1) then Some TooMany else None)
+
+-- the nodes of a text up to what is left of it, and whether the node lines may end there
+pub record IsNodesRead (version : ℕ) (names : List (List ℕ)) (first : List Bool) (shut : Bool) (text rest : List ℕ) : Type 0 where
+  pub taken : IsTaken text (nodes_told version names first) rest
+  pub nodes : IsNodes version names first
+  pub ends : ends_nodes (version == 2) (last_of (nodes_told version names first)) ≡ shut
+  pub last : (n : List ℕ) × (v : Bool) × (last_of (nodes_told version names first) ≡ Some (node n v))

@@ -2,6 +2,7 @@
 #![tactic(auto)]
 
 mod channel;
+mod channels;
 mod fault;
 mod form;
 mod forms;

@@ -4,8 +4,8 @@ ghost use Rattle.std.specs.Prelude.{◌≡◌, ◌≢◌, ◌≤◌, ◌<◌, �
 ghost use Rattle.chp_base.specs.Names.{IsNodeName};
 ghost use Rattle.prs_file.specs.Lines.{first_line};
 ghost use Rattle.prs_file.specs.Openings.{opening, text_behind, OfRefusal};
-ghost use Rattle.prs_file.specs.NodesTold.{nodes_told, node_fault_of, node_most, IsNodes};
-ghost use Rattle.prs_file.specs.Reading.{IsTaken, IsRefused, AllStand, ends_nodes, last_of};
+ghost use Rattle.prs_file.specs.NodesTold.{node_fault_of, node_most, IsNodesRead};
+ghost use Rattle.prs_file.specs.Reading.{IsRefused, AllStand, ends_nodes};
 ghost use Rattle.prs_file.specs.Reading.Form.{node};
 ghost use Rattle.prs_file.specs.Spelling.{node_spelling};
 
@@ -19,6 +19,8 @@ use std::alloc::{AllocError, Global};
 /// The nodes of a file: their names, and for each its first value.
 #[derive(Drop)]
 pub struct Nodes {
+    /// The version of the file.
+    pub version: u8,
     pub index: NodeIndex,
     pub first: Vec<bool>,
 }
@@ -34,7 +36,8 @@ fn fixed_name(alloc: Global, text: &[u8]) -> Result<Name, AllocError>
 }
 
 /// The nodes that each file begins with.
-fn first_nodes(alloc: Global) -> Result<Nodes, AllocError>
+fn first_nodes(alloc: Global, version: u8) -> Result<Nodes, AllocError>
+    ensures version { IfOk result (λ nodes. nodes.version ≡ version) }
     ensures names { IfOk result (λ nodes. nodes.index ≡ codes "go" ∷ codes "done" ∷ []) }
     ensures low { IfOk result (λ nodes. nodes.first.items ≡ false ∷ false ∷ []) }
 {
@@ -42,7 +45,11 @@ fn first_nodes(alloc: Global) -> Result<Nodes, AllocError>
     index.add(fixed_name(alloc, b"go")?)?;
     index.add(fixed_name(alloc, b"done")?)?;
     let first = Vec::from_slice(alloc, &[false, false])?;
-    Ok(Nodes { index, first })
+    Ok(Nodes {
+        version,
+        index,
+        first,
+    })
 }
 
 /// Whether the node lines may end behind this one: in version 2 the reset node is the last one.
@@ -92,19 +99,15 @@ fn next_node(alloc: Global, text: &[u8]) -> Result<Option<(Name, bool, &[u8])>, 
 /// lines may not end.
 pub fn read_nodes(alloc: Global, version: u8, text: &[u8]) -> Result<(Nodes, &[u8]), NetReadError>
     requires { AllStand [] (opening version) }
-    ensures taken { IfOk result
-        (λ r. IsTaken (text_behind (opening version) text.now) (nodes_told version r.0.index r.0.first.items) r.1.now) }
-    ensures nodes { IfOk result (λ r. IsNodes version r.0.index r.0.first.items) }
-    ensures ends { IfOk result
-        (λ r. ends_nodes (version == 2) (last_of (nodes_told version r.0.index r.0.first.items)) ≡ true) }
-    ensures last { IfOk result
-        (λ r. (n : List ℕ) × (v : Bool) × (last_of (nodes_told version r.0.index r.0.first.items) ≡ Some (node n v))) }
+    ensures version { IfOk result (λ r. r.0.version ≡ version) }
+    ensures read { IfOk result
+        (λ r. IsNodesRead version r.0.index r.0.first.items true (text_behind (opening version) text.now) r.1.now) }
     ensures over { IfOk result
         (λ r. (name : List ℕ) (first : Bool) → IsNodeName name → first_line r.1.now ≢ node_spelling name first) }
     ensures refused { IfErr result
         (OfRefusal (λ fault line. IsRefused (text_behind (opening version) text.now) fault line)) }
 {
-    let mut nodes = first_nodes(alloc)?;
+    let mut nodes = first_nodes(alloc, version)?;
     let mut ends = may_be_last(version, b"done", false);
     let mut rest = text;
     while let Some((name, first, behind)) = next_node(alloc, rest)? {
