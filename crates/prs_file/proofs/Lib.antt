@@ -12,4 +12,5 @@ mod RuleEnds
 mod RuleLines
 mod Rules
 mod Taking
+mod TermLines
 mod Wirings

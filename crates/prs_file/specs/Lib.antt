@@ -8,4 +8,5 @@ pub mod Openings
 pub mod Reading
 pub mod RuleForms
 pub mod Spelling
+pub mod Terms
 pub mod WiresFound
