@@ -12,5 +12,7 @@ mod RuleEnds
 mod RuleLines
 mod Rules
 mod Taking
+mod TermCounts
 mod TermLines
+mod TermPushes
 mod Wirings

@@ -103,3 +103,66 @@ some_terms (l ∷ ls) leads = rw (shape_of l ls).is (omega arith)
 
 pub form_is : (ls : List Led) (name : List ℕ) (up : Bool) → IsRuleForm ls name → IsForm (rule (terms_of ls) name up)
 form_is ls name up form = (some_terms ls form.leads, terms_form ls form.names, form.node)
+
+-- and back: each rule's line is one of literals with their leads
+
+abbrev Further : Led → Type 0
+Further k = k.lead ≢ Rule
+
+ands_told : (ss : List Signed) → leds_spelling (term_leds And ss) ≡ and_texts ss
+ands_told [] = refl
+ands_told (s ∷ ss) = ap (λ t. t ++ leds_spelling (term_leds And ss)) (led_is (led_by And s)) ∙ ap (λ t. (codes " & " ++ signed_spelling s) ++ t) (ands_told ss)
+
+term_told : (lead : Lead) (t : List Signed) → 0 < length t → leds_spelling (term_leds lead t) ≡ lead_spelling lead ++ term_text t
+term_told lead [] some = absurd (omega arith)
+term_told lead (s ∷ ss) some =
+    ap (λ t. t ++ leds_spelling (term_leds And ss)) (led_is (led_by lead s)) ∙ ap (λ t. (lead_spelling lead ++ signed_spelling s) ++ t) (ands_told ss) ∙ append_assoc (lead_spelling lead) (signed_spelling s) (and_texts ss)
+
+ors_told : (ts : List (List Signed)) → All IsTermForm ts → leds_spelling (leds_by Or ts) ≡ or_texts ts
+ors_told [] all = refl
+ors_told (t ∷ ts) all =
+    flat_map-append led_spelling (term_leds Or t) (leds_by Or ts) ∙ ap (λ x. x ++ leds_spelling (leds_by Or ts)) (term_told Or t (All-head IsTermForm t ts all).some) ∙ ap (λ x. (codes " | " ++ term_text t) ++ x) (ors_told ts (All-tail IsTermForm t ts all))
+
+guard_spelled : (t : List Signed) (ts : List (List Signed)) → All IsTermForm (t ∷ ts) → leds_spelling (leds_by Rule (t ∷ ts)) ≡ codes "rule " ++ guard_text (t ∷ ts)
+guard_spelled t ts all =
+    flat_map-append led_spelling (term_leds Rule t) (leds_by Or ts) ∙ ap (λ x. x ++ leds_spelling (leds_by Or ts)) (term_told Rule t (All-head IsTermForm t ts all).some) ∙ ap (λ x. (codes "rule " ++ term_text t) ++ x) (ors_told ts (All-tail IsTermForm t ts all)) ∙ append_assoc (codes "rule ") (term_text t) (or_texts ts)
+
+and_no_rule : And ≢ Rule
+and_no_rule e = absurd (cc e)
+
+or_no_rule : Or ≢ Rule
+or_no_rule e = absurd (cc e)
+
+term_further : (lead : Lead) (t : List Signed) → lead ≢ Rule → All Further (term_leds lead t)
+term_further lead [] apart = All-nil Further
+term_further lead (s ∷ ss) apart = All-cons Further (led_by lead s) (term_leds And ss) apart (term_further And ss and_no_rule)
+
+terms_further : (ts : List (List Signed)) → All Further (leds_by Or ts)
+terms_further [] = All-nil Further
+terms_further (t ∷ ts) = All-append Further (term_leds Or t) (leds_by Or ts) (term_further Or t or_no_rule) (terms_further ts)
+
+abbrev NamedLed : Led → Type 0
+NamedLed l = IsNodeName l.name
+
+term_named : (lead : Lead) (t : List Signed) → All Named t → All NamedLed (term_leds lead t)
+term_named lead [] all = All-nil NamedLed
+term_named lead (s ∷ ss) all = All-cons NamedLed (led_by lead s) (term_leds And ss) (All-head Named s ss all) (term_named And ss (All-tail Named s ss all))
+
+terms_named : (lead : Lead) (ts : List (List Signed)) → All IsTermForm ts → All NamedLed (leds_by lead ts)
+terms_named lead [] all = All-nil NamedLed
+terms_named lead (t ∷ ts) all =
+    All-append NamedLed (term_leds lead t) (leds_by Or ts) (term_named lead t (All-head IsTermForm t ts all).names) (terms_named Or ts (All-tail IsTermForm t ts all))
+
+leads_of : (t : List Signed) (ts : List (List Signed)) → 0 < length t → Leads (leds_by Rule (t ∷ ts))
+leads_of [] ts some = absurd (omega arith)
+leads_of (s ∷ ss) ts some = (refl, All-append Further (term_leds And ss) (leds_by Or ts) (term_further And ss and_no_rule) (terms_further ts))
+
+pub no_rule : (line : List ℕ) → ((leds : List Led) (name : List ℕ) (up : Bool) → IsRuleForm leds name → line ≡ rule_line_of leds name up → ⊥) → (g : List (List Signed)) (name : List ℕ) (up : Bool) → IsForm (rule g name up) → line ≡ form_spelling (rule g name up) → ⊥
+no_rule line none [] name up form says = absurd (omega (arith, form.0))
+no_rule line none (t ∷ ts) name up form says =
+    none (leds_by Rule (t ∷ ts)) name up (record {
+      leads = leads_of t ts (All-head IsTermForm t ts form.1).some;
+      names = terms_named Rule (t ∷ ts) form.1;
+      node = form.2;
+    })
+    (says ∙ sym (whole_line (guard_text (t ∷ ts)) name up) ∙ ap (λ x. x ++ end_spelling name up) (sym (guard_spelled t ts form.1)))

@@ -1,5 +1,7 @@
 -- The terms of a guard, from its literals with their leads, and back.
-use Rattle.std.specs.Prelude.{List, [], ◌∷◌, ◌++◌}
+use Rattle.std.specs.Prelude.{ℕ, Bool, ◌||◌, is_none, List, [], ◌∷◌, ◌++◌}
+use Rattle.std.specs.List.{list_any}
+use Rattle.prs_file.specs.Indexes.{place_in}
 use Rattle.prs_file.specs.declared.forms.Lead.{Lead}
 use Rattle.prs_file.specs.declared.forms.Lead.TheVariants.{Rule, And, Or}
 use Rattle.prs_file.specs.declared.rule.Led.{Led}
@@ -37,3 +39,8 @@ term_leds lead (s ∷ ss) = led_by lead s ∷ term_leds And ss
 abbrev pub leds_by : Lead → List (List Signed) → List Led
 leds_by lead [] = []
 leds_by lead (t ∷ ts) = term_leds lead t ++ leds_by Or ts
+
+-- a rule names a node that there isn't
+abbrev pub rule_unknown : List (List ℕ) → List (List Signed) → List ℕ → Bool
+rule_unknown names g name =
+    is_none (place_in names name) || list_any (list_any (λ (s : Signed). is_none (place_in names s.name))) g

@@ -13,6 +13,7 @@ mod opening;
 mod print;
 mod rule;
 mod spelled;
+mod turns;
 mod wiring;
 
 pub use fault::{NetFault, NetReadError};

@@ -1,0 +1,56 @@
+//! The lines of rules, one after another.
+
+ghost use Rattle.std.specs.Prelude.{◌≡◌, ◌≢◌, ◌<◌, ◌++◌, ℕ, List, Bool, length, IfOk, IfSome, IfNone, is_none};
+ghost use Rattle.std.specs.List.{list_any};
+ghost use Rattle.prs_file.specs.declared.rule.Led.{Led as LedValue};
+ghost use Rattle.prs_file.specs.Indexes.{place_in};
+ghost use Rattle.prs_file.specs.Lines.{first_line};
+ghost use Rattle.prs_file.specs.Reading.{Signed, IsForm, form_spelling};
+ghost use Rattle.prs_file.specs.Reading.Form.{rule};
+ghost use Rattle.prs_file.specs.Terms.{terms_of, rule_unknown};
+
+use crate::index::NodeIndex;
+use crate::rule::{Led, RuleForm, rule_form};
+use crate::spelled::cut_line;
+use std::alloc::{AllocError, Global};
+
+/// The rule in the first line, and what stands behind the line, or None where the line is no rule's.
+pub fn next_rule(alloc: Global, text: &[u8]) -> Result<Option<(RuleForm, &[u8])>, AllocError>
+    ensures line { IfOk result
+        (λ o. IfSome o
+        (λ r. first_line text.now ≡ form_spelling (rule (terms_of r.0.leds.items) r.0.node r.0.up))) }
+    ensures form { IfOk result
+        (λ o. IfSome o (λ r. IsForm (rule (terms_of r.0.leds.items) r.0.node r.0.up))) }
+    ensures rest { IfOk result (λ o. IfSome o (λ r. text.now ≡ first_line text.now ++ r.1.now)) }
+    ensures none { IfOk result
+        (λ o. IfNone o
+        ((g : List (List Signed)) (name : List ℕ) (up : Bool)
+        → IsForm (rule g name up)
+        → first_line text.now ≢ form_spelling (rule g name up))) }
+{
+    let (line, behind) = cut_line(text);
+    let Some(form) = rule_form(alloc, line)? else {
+        return Ok(None);
+    };
+    Ok(Some((form, behind)))
+}
+
+fn is_unknown(index: &NodeIndex, name: &[u8]) -> bool
+    ensures { result ≡ is_none (place_in index.now name.now) }
+{
+    index.find(name).is_none()
+}
+
+/// Whether one of the literals names no node.
+fn any_unknown(index: &NodeIndex, leds: &[Led]) -> bool
+    ensures { result ≡ list_any (λ (l : LedValue). is_none (place_in index.now l.name)) leds.now }
+{
+    leds.iter().any(|led| is_unknown(index, led.name.bytes()))
+}
+
+/// Whether the rule names a node that there isn't.
+pub fn names_unknown(index: &NodeIndex, form: &RuleForm) -> bool
+    ensures { result ≡ rule_unknown index.now (terms_of form.now.leds.items) form.now.node }
+{
+    is_unknown(index, form.node.bytes()) || any_unknown(index, &form.leds)
+}
