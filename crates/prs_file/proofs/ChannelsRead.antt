@@ -1,9 +1,9 @@
 -- The lines of channels one after another.
-use Rattle.std.proofs.Common.{◌≡◌, ◌≢◌, ℕ, zero, suc, ◌+◌, ◌<◌, ◌≤◌, Bool, true, false, cond, Option, None, Some, List, [], ◌∷◌, ◌++◌, length, map, get_or, refl, ap, sym, ◌∙◌, subst, inl, inr, arith, length-append}
-use Rattle.std.specs.Prelude.{◌⊎◌, ◌||◌, ◌&&◌, not, ◌==◌, nat_lt, All, AllPairs, bytes_eq, is_none, is_some, option_map, position, if◌then◌else◌}
+use Rattle.std.proofs.Common.{◌≡◌, ◌≢◌, ℕ, suc, ◌+◌, ◌<◌, Bool, true, false, cond, Option, None, Some, List, [], ◌∷◌, ◌++◌, length, map, refl, ap, sym, ◌∙◌, subst, arith, length-append}
+use Rattle.std.specs.Prelude.{◌||◌, ◌&&◌, ◌==◌, bytes_eq, is_none, is_some, option_map, position, if◌then◌else◌}
 use Rattle.std.specs.List.{list_any, filter_map}
 use Rattle.std.proofs.lemmas.Bool.{lt-ltb, ne_eqb, and_from}
-use Rattle.std.proofs.lemmas.List.{append_assoc, append-nil, map_push, map-append, length-map}
+use Rattle.std.proofs.lemmas.List.{append_assoc, append-nil, map_push, length-map}
 use Rattle.std.proofs.lemmas.List.Elements.{All-push, All-nil, filter_map-append}
 use Rattle.std.proofs.lemmas.List.Quantifiers.{all_pairs_push}
 use Rattle.chp_base.specs.Names.{IsNodeName}
@@ -14,11 +14,10 @@ use Rattle.prs_file.specs.declared.fault.NetFault.TheVariants.{DoubleName, Unkno
 use Rattle.prs_file.specs.Indexes.{place_in}
 use Rattle.prs_file.specs.Lines.{first_line}
 use Rattle.prs_file.specs.Spelling.{node_spelling, channel_spelling}
-use Rattle.prs_file.specs.Openings.{text_behind}
 use Rattle.prs_file.specs.NodesTold.{node_forms, nodes_told, IsNodes, IsNodesRead}
-use Rattle.prs_file.specs.WiresFound.{IsWired, some_unknown, is_high_named, wires_fault_of}
+use Rattle.prs_file.specs.WiresFound.{IsWired, some_unknown, wires_fault_of}
 use Rattle.prs_file.specs.ChannelsTold.{channel_names, channels_told, channel_fault_of, stands_late, IsChannelsRead}
-use Rattle.prs_file.specs.Reading.{Form, Says, IsChannelForm, form_spelling, last_of, last_place, ends_nodes, may_stand, may_end, form_fault, nodes_of, node_in, channels_of, channel_in, is_unknown, is_high_first, wires_of, IsTaken, RefusedBehind, IsRefused}
+use Rattle.prs_file.specs.Reading.{Form, Says, IsChannelForm, last_of, last_place, ends_nodes, may_stand, may_end, form_fault, nodes_of, node_in, channel_in, wires_of, IsTaken, IsRefused}
 use Rattle.prs_file.specs.Reading.Form.{head, node, channel, rule}
 use Rattle.prs_file.proofs.Taking.{taken_more, refused_here, fault_here}
 use Rattle.prs_file.proofs.NodesRead.{number_is, last_push, told_length, fresh_apart, past_third}

@@ -1,9 +1,9 @@
 -- The lines of nodes one after another.
-use Rattle.std.proofs.Common.{◌≡◌, ◌≢◌, ℕ, zero, suc, ◌+◌, ◌<◌, ◌≤◌, Bool, true, false, cond, Option, None, Some, List, [], ◌∷◌, ◌++◌, length, get_or, refl, ap, sym, ◌∙◌, subst, inl, inr, arith, length-append}
-use Rattle.std.specs.Prelude.{◌⊎◌, ◌&&◌, ◌||◌, not, ◌==◌, nat_lt, All, AllPairs, bytes_eq, codes, position, is_none, is_some, option_map, if◌then◌else◌}
-use Rattle.std.specs.List.{position_or_len, filter_map, flat_map}
+use Rattle.std.proofs.Common.{◌≡◌, ◌≢◌, ℕ, zero, suc, ◌+◌, ◌<◌, ◌≤◌, Bool, true, false, cond, Option, None, Some, List, [], ◌∷◌, ◌++◌, length, get_or, refl, ap, sym, ◌∙◌, inl, inr, arith}
+use Rattle.std.specs.Prelude.{◌⊎◌, not, ◌==◌, nat_lt, bytes_eq, codes, position, is_none, is_some, option_map, if◌then◌else◌}
+use Rattle.std.specs.List.{position_or_len}
 use Rattle.std.specs.Cmp.Lexicographic.{bytes_decides}
-use Rattle.std.proofs.lemmas.Bool.{cases_lt, lt-ltb, le-ltb, ltb-false, false_from_ne_true, or_left, and_from, and_left, and_right, ne_eqb, both_ways}
+use Rattle.std.proofs.lemmas.Bool.{cases_lt, lt-ltb, le-ltb, ltb-false, and_left, and_right, ne_eqb, both_ways}
 use Rattle.std.proofs.lemmas.List.{length_push, get_or_append_left}
 use Rattle.std.proofs.lemmas.List.Elements.{All-push, All-cons, All-nil}
 use Rattle.std.proofs.lemmas.List.Quantifiers.{all_pairs_push}
@@ -11,11 +11,11 @@ use Rattle.chp_base.specs.Names.{IsNodeName}
 use Rattle.prs_file.specs.declared.fault.NetFault.{NetFault}
 use Rattle.prs_file.specs.declared.fault.NetFault.TheVariants.{BadLine, DoubleName, TooMany}
 use Rattle.prs_file.specs.Indexes.{place_in}
-use Rattle.prs_file.specs.Lines.{first_line, behind_line}
+use Rattle.prs_file.specs.Lines.{first_line}
 use Rattle.prs_file.specs.NodesTold.{node_forms, nodes_told, node_most, IsNodes, IsNodesRead, node_fault_of}
 use Rattle.prs_file.specs.Openings.{opening, text_behind}
 use Rattle.prs_file.specs.Spelling.{node_spelling}
-use Rattle.prs_file.specs.Reading.{Form, Says, form_spelling, last_of, ends_nodes, stands_behind, may_stand, may_end, form_fault, nodes_of, number_of_node, is_unknown, has_reset, AllStand, IsTaken, RefusedBehind, IsRefused}
+use Rattle.prs_file.specs.Reading.{Form, Says, last_of, ends_nodes, may_stand, may_end, form_fault, nodes_of, AllStand, IsRefused}
 use Rattle.prs_file.specs.Reading.Form.{head, node, channel, rule}
 use Rattle.prs_file.proofs.Taking.{taken_more, refused_here, not_here, fault_here}
 

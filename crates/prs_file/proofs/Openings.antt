@@ -1,26 +1,24 @@
 -- The first three lines of a file.
-use Rattle.std.proofs.Common.{◌≡◌, ◌≢◌, ℕ, zero, suc, ◌+◌, ◌-◌, ◌*◌, ◌^◌, ◌<◌, ◌≤◌, Bool, true, false, Option, None, Some, List, [], ◌∷◌, ◌++◌, length, get_or, take, refl, ap, sym, ◌∙◌, subst, inl, inr, arith, length-append}
+use Rattle.std.proofs.Common.{◌≡◌, ℕ, zero, suc, ◌+◌, ◌-◌, ◌*◌, ◌^◌, ◌<◌, ◌≤◌, Bool, true, false, None, Some, List, [], ◌∷◌, ◌++◌, length, get_or, take, refl, ap, sym, ◌∙◌, subst, inl, inr, arith}
 use Rattle.std.specs.Prelude.{◌⊎◌, ◌&&◌, not, ◌==◌, All, bytes_eq, codes}
-use Rattle.std.specs.List.{list_all}
 use Rattle.std.specs.Str.Parse.{digits_value}
 use Rattle.std.specs.Char.{digit_value}
 use Rattle.std.specs.Cmp.Lexicographic.{bytes_decides}
-use Rattle.std.proofs.lemmas.Bool.{and_parts, and_left, and_right, false_from_ne_true}
+use Rattle.std.proofs.lemmas.Bool.{and_left, and_right, false_from_ne_true}
 use Rattle.std.proofs.lemmas.Bool.Decides.{nat_tests}
 use Rattle.std.proofs.lemmas.Int.Digits.{digits_value_more}
 use Rattle.std.proofs.lemmas.Nat.{pow-add}
-use Rattle.std.proofs.lemmas.List.{length-take, get_or_default, get_or_push, length_push, append-nil, append_cancel_left, same_from_push}
-use Rattle.std.proofs.lemmas.List.Elements.{All-head, All-tail, All-nil, All-cons, All-append}
+use Rattle.std.proofs.lemmas.List.{length-take, get_or_default, get_or_push, length_push, append_cancel_left}
 use Rattle.chp_base.specs.Names.{IsNodeName, digit}
 use Rattle.prs_file.specs.declared.fault.NetFault.{NetFault}
 use Rattle.prs_file.specs.declared.fault.NetFault.TheVariants.{BadLine, BadVersion}
 use Rattle.prs_file.specs.Lines.{line_length, first_line, behind_line}
 use Rattle.prs_file.specs.Openings.{opening}
 use Rattle.prs_file.specs.Spelling.{head_spelling, node_spelling}
-use Rattle.prs_file.specs.Reading.{Form, IsForm, Says, form_spelling, may_stand, may_end, ends_nodes, form_fault, AllStand, IsTaken, IsBadVersion, BadVersionAt, LineFault, RefusedBehind, IsRefused}
+use Rattle.prs_file.specs.Reading.{Form, Says, may_stand, ends_nodes, form_fault, IsTaken, IsBadVersion, RefusedBehind, IsRefused}
 use Rattle.prs_file.specs.Reading.Form.{head, node, channel, rule}
-use Rattle.prs_file.specs.Reading.LineFault.{bad_version, bad_line, of_form}
-use Rattle.prs_file.specs.Reading.RefusedBehind.{at_line, at_end}
+use Rattle.prs_file.specs.Reading.LineFault.{bad_version}
+use Rattle.prs_file.specs.Reading.RefusedBehind.{at_line}
 use Rattle.prs_file.proofs.Taking.{line_and_rest, taken_more, refused_here, not_here}
 
 abbrev pub Digits : List ℕ → Type 0

@@ -1,5 +1,5 @@
 -- Lines taken one after another, and a refusal behind them.
-use Rattle.std.proofs.Common.{◌≡◌, ◌≢◌, ℕ, ◌+◌, ◌<◌, Bool, true, false, Option, None, Some, List, [], ◌∷◌, ◌++◌, length, take, drop, refl, ap, sym, ◌∙◌, subst, arith, length-append}
+use Rattle.std.proofs.Common.{◌≡◌, ℕ, ◌+◌, ◌<◌, true, false, None, Some, List, [], ◌∷◌, ◌++◌, length, refl, ap, sym, ◌∙◌, arith}
 use Rattle.std.specs.List.{flat_map}
 use Rattle.std.proofs.lemmas.List.{append_assoc, append-nil, take-append-drop}
 use Rattle.std.proofs.lemmas.List.Concat.{flat_map-append}
@@ -7,7 +7,7 @@ use Rattle.prs_file.specs.declared.fault.NetFault.{NetFault}
 use Rattle.prs_file.specs.declared.fault.NetFault.TheVariants.{BadLine}
 use Rattle.prs_file.specs.Lines.{line_length, first_line, behind_line}
 use Rattle.prs_file.specs.Openings.{text_behind}
-use Rattle.prs_file.specs.Reading.{Form, IsForm, Says, form_spelling, may_stand, may_end, form_fault, AllStand, IsTaken, BadVersionAt, LineFault, RefusedBehind, IsRefused}
+use Rattle.prs_file.specs.Reading.{Form, IsForm, Says, form_spelling, may_stand, may_end, form_fault, AllStand, IsTaken, BadVersionAt, RefusedBehind, IsRefused}
 use Rattle.prs_file.specs.Reading.LineFault.{bad_line, of_form}
 use Rattle.prs_file.specs.Reading.RefusedBehind.{at_line, at_end}
 

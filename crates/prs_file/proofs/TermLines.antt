@@ -9,11 +9,11 @@ use Rattle.chp_base.specs.Names.{IsNodeName}
 use Rattle.prs_file.specs.declared.forms.Lead.{Lead}
 use Rattle.prs_file.specs.declared.forms.Lead.TheVariants.{Rule, And, Or}
 use Rattle.prs_file.specs.declared.rule.Led.{Led}
-use Rattle.prs_file.specs.Spelling.{lead_spelling, sign_spelling, end_spelling}
-use Rattle.prs_file.specs.Reading.{Signed, Form, IsForm, IsTermForm, form_spelling, signed_spelling}
+use Rattle.prs_file.specs.Spelling.{lead_spelling, end_spelling}
+use Rattle.prs_file.specs.Reading.{Signed, IsForm, IsTermForm, form_spelling, signed_spelling}
 use Rattle.prs_file.specs.Reading.Form.{rule}
 use Rattle.prs_file.specs.RuleForms.{led_spelling, leds_spelling, rule_line_of, Leads, IsRuleForm}
-use Rattle.prs_file.specs.Terms.{signed_of, led_by, in_front, put_by, put_before, terms_of, term_leds, leds_by}
+use Rattle.prs_file.specs.Terms.{signed_of, led_by, put_by, terms_of, term_leds, leds_by}
 use Rattle.prs_file.proofs.RuleLines.{body, led_is}
 
 abbrev term_text : List Signed → List ℕ

@@ -1,20 +1,16 @@
 -- The wires of a channel: found or not, low or high at first.
-use Rattle.std.proofs.Common.{◌≡◌, ◌≢◌, ℕ, zero, suc, ◌+◌, ◌<◌, Bool, true, false, cond, Option, None, Some, List, [], ◌∷◌, ◌++◌, length, map, get_or, refl, ap, sym, ◌∙◌, subst, inl, inr, arith}
-use Rattle.std.specs.Prelude.{◌⊎◌, ◌||◌, ◌&&◌, All, AllPairs, bytes_eq, is_none, option_map}
+use Rattle.std.proofs.Common.{◌≡◌, ◌≢◌, ℕ, suc, ◌<◌, Bool, true, false, cond, Option, None, Some, List, [], ◌∷◌, ◌++◌, length, get_or, refl, ap, sym, ◌∙◌, arith}
+use Rattle.std.specs.Prelude.{◌||◌, All, AllPairs, bytes_eq, option_map}
 use Rattle.std.specs.List.{list_any}
 use Rattle.std.specs.Cmp.Lexicographic.{bytes_decides}
-use Rattle.std.proofs.lemmas.Bool.{or_from, or_left, or_right, and_left, both_ways, or_parts, false_from_ne_true}
+use Rattle.std.proofs.lemmas.Bool.{or_from, or_left, or_right, and_left, or_parts, false_from_ne_true}
 use Rattle.std.proofs.lemmas.List.Folds.{list_any-append}
-use Rattle.std.proofs.lemmas.List.Elements.{All-head, All-tail, All-nil, All-cons}
+use Rattle.std.proofs.lemmas.List.Elements.{All-nil, All-cons}
 use Rattle.chp_base.specs.declared.channel.Channel.{Channel}
-use Rattle.prs_core.specs.Nets.{rail_names, ack_name}
-use Rattle.prs_file.specs.declared.fault.NetFault.{NetFault}
 use Rattle.prs_file.specs.declared.fault.NetFault.TheVariants.{UnknownNode, BadFirst}
 use Rattle.prs_file.specs.Indexes.{place_in}
-use Rattle.prs_file.specs.NodesTold.{node_forms}
-use Rattle.prs_file.specs.Reading.{nodes_of, wires_of}
+use Rattle.prs_file.specs.Reading.{wires_of}
 use Rattle.prs_file.specs.WiresFound.{AreFound, some_unknown, is_high_named, wires_fault_of}
-use Rattle.prs_file.proofs.Lookups.{found_more, one_unknown, rails_missing}
 
 abbrev Distinct : List (List ℕ) → Type 0
 Distinct names = AllPairs (λ (a b : List ℕ). a ≢ b) names
@@ -49,9 +45,9 @@ high_is (m ∷ names) [] name n count apart is = absurd (omega arith)
 high_is (m ∷ names) (v ∷ first) name n count apart is =
     place_cases m names name n is
     (λ same at.
-      let here : bytes_eq m name ≡ true = (bytes_decides m name).1 same in
-      let rest : is_high_named names first name ≡ false = none_high names first name (λ k below e. apart 0 (suc k) [] (omega arith) (omega arith) (same ∙ sym e)) in
-      rw (at, here, rest) (by_value v))
+    let here : bytes_eq m name ≡ true = (bytes_decides m name).1 same in
+    let rest : is_high_named names first name ≡ false = none_high names first name (λ k below e. apart 0 (suc k) [] (omega arith) (omega arith) (same ∙ sym e)) in
+    rw (at, here, rest) (by_value v))
     (λ k at next other. rw (next, other) (high_is names first name k (omega arith) (distinct_tail m names apart) at))
   where
     by_value : (b : Bool) → (b || false) ≡ b

@@ -1,5 +1,5 @@
 -- The nodes of a file while it is read.
-use Rattle.std.specs.Prelude.{◌≡◌, ◌≢◌, ℕ, ◌+◌, ◌≤◌, ◌<◌, ◌==◌, nat_lt, Bool, true, false, List, [], ◌∷◌, length, slice_index_or, AllPairs, All, Option, Some, None, is_some, codes, if◌then◌else◌}
+use Rattle.std.specs.Prelude.{◌≡◌, ◌≢◌, ℕ, ◌+◌, ◌≤◌, ◌==◌, nat_lt, Bool, false, List, [], ◌∷◌, length, slice_index_or, AllPairs, All, Option, Some, None, is_some, codes, if◌then◌else◌}
 use Rattle.chp_base.specs.Names.{IsNodeName}
 use Rattle.prs_file.specs.declared.fault.NetFault.{NetFault}
 use Rattle.prs_file.specs.declared.fault.NetFault.TheVariants.{DoubleName, TooMany}

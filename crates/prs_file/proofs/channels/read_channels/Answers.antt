@@ -1,9 +1,9 @@
-use Rattle.std.proofs.Common.{◌≡◌, ◌<◌, ◌++◌, ◌∷◌, [], ℕ, List, Bool, true, false, cond, Some, None, length, sym, ap, ◌∙◌, subst, arith, refl}
+use Rattle.std.proofs.Common.{◌≡◌, ◌++◌, ◌∷◌, [], true, false, cond, Some, None, length, sym, ap, ◌∙◌, subst, arith}
 use Rattle.std.specs.Prelude.{is_some}
 use Rattle.std.proofs.lemmas.List.{length_push, map_push}
 use Rattle.prs_core.specs.declared.wires.Wires.{Wires}
 use Rattle.prs_file.specs.declared.fault.NetFault.TheVariants.{DoubleName}
-use Rattle.prs_file.specs.ChannelsTold.{channel_names, channel_fault_of}
+use Rattle.prs_file.specs.ChannelsTold.{channel_names}
 use Rattle.prs_file.specs.Indexes.{place_in}
 use Rattle.prs_file.specs.NodesTold.{nodes_told}
 use Rattle.prs_file.specs.Openings.{text_behind}

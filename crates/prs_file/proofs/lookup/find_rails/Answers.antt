@@ -1,4 +1,4 @@
-use Rattle.std.proofs.Common.{◌≡◌, ◌++◌, ◌∷◌, [], ap, ◌∙◌, refl, sym}
+use Rattle.std.proofs.Common.{refl}
 use Rattle.prs_core.specs.Nets.{true_rail, false_rail}
 use Rattle.prs_file.specs.Indexes.{place_in}
 use Rattle.prs_file.proofs.Lookups.{rails_found, rail_unknown, within_unknown}

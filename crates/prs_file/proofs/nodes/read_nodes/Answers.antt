@@ -1,6 +1,5 @@
-use Rattle.std.proofs.Common.{◌≡◌, ◌≤◌, ◌==◌, ◌++◌, ◌∷◌, [], length, Bool, true, false, Some, None, cond, sym, ap, ◌∙◌, arith, refl}
-use Rattle.std.specs.Prelude.{Option}
-use Rattle.prs_file.specs.NodesTold.{node_fault_of, node_most}
+use Rattle.std.proofs.Common.{◌==◌, Some, sym, ap, ◌∙◌, arith}
+use Rattle.prs_file.specs.NodesTold.{node_fault_of}
 use Rattle.prs_file.specs.Openings.{opening, text_behind}
 use Rattle.prs_file.specs.Reading.{ends_nodes}
 use Rattle.prs_file.specs.Reading.Form.{node}
@@ -11,7 +10,7 @@ pub loop-nodes-init : goal.loop-nodes-init
 loop-nodes-init c = record {
   version = c.in_ok-nodes.ensures.version;
   read =
-    nodes_begin c.args.version c.in_ok-nodes.nodes.index c.in_ok-nodes.nodes.first.items c.may_be_last-ends.result c.args.text.now c.in_ok-nodes.ensures.names c.in_ok-nodes.ensures.low c.may_be_last-ends.ensures c.requires;
+      nodes_begin c.args.version c.in_ok-nodes.nodes.index c.in_ok-nodes.nodes.first.items c.may_be_last-ends.result c.args.text.now c.in_ok-nodes.ensures.names c.in_ok-nodes.ensures.low c.may_be_last-ends.ensures c.requires;
 }
 
 pub returns-in-Some-node_fault-clause-refused : goal.returns-in-Some-node_fault-clause-refused

@@ -1,4 +1,4 @@
-use Rattle.std.proofs.Common.{◌≡◌, false, true, sym, ◌∙◌, arith}
+use Rattle.std.proofs.Common.{◌≡◌, true, sym, ◌∙◌, arith}
 use Rattle.std.proofs.lemmas.Bool.{both_ways}
 use Rattle.std.proofs.lemmas.Bool.Decides.{nat_tests}
 use Rattle.std.proofs.lemmas.List.Sums.{list_all-from_AllPass}
@@ -17,7 +17,7 @@ returns-then-is_empty-clause-no c = λ e digits is.
     let most : length bare ≤ 9 = rw same is.most in
     let all : list_all digit bare ≡ true = rw same (list_all-from_AllPass digit digits is.numeral) in
     elim c.then-is_empty.branch [
-      then-is_empty-via-then-is_empty w ↦ grind (arith, nat_tests, c.is_empty.ensures, w.if-is_empty.true)
-    | then-is_empty-via-else-is_empty+then-digits-gt9 w ↦ absurd (omega (arith, w.if-digits-gt9.true))
-    | then-is_empty-via-else-is_empty+else-digits-gt9+then-not-are_digits w ↦ both_ways (list_all digit bare) (sym w.are_digits.ensures ∙ w.if-not-are_digits.true) all
+      | then-is_empty-via-then-is_empty w ↦ grind (arith, nat_tests, c.is_empty.ensures, w.if-is_empty.true)
+      | then-is_empty-via-else-is_empty+then-digits-gt9 w ↦ absurd (omega (arith, w.if-digits-gt9.true))
+      | then-is_empty-via-else-is_empty+else-digits-gt9+then-not-are_digits w ↦ both_ways (list_all digit bare) (sym w.are_digits.ensures ∙ w.if-not-are_digits.true) all
     ]

@@ -1,4 +1,4 @@
-use Rattle.std.proofs.Common.{sym, ◌∙◌, ◌≡◌, Bool, true, false, ap, List, ℕ}
+use Rattle.std.proofs.Common.{sym, ◌∙◌, ◌≡◌, true, false, ap}
 use Rattle.std.specs.Prelude.{bytes_eq, codes}
 use Rattle.prs_file.specs.Lines.{first_line, behind_line}
 use Rattle.prs_file.proofs.Openings.{first_refused, go_refused, done_refused, head_taken, go_taken, done_taken}

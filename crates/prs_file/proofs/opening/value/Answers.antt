@@ -1,4 +1,4 @@
-use Rattle.std.proofs.Common.{◌≡◌, ◌+◌, ◌-◌, ◌*◌, ◌<◌, get_or, sym, ◌∙◌, ap, refl, arith}
+use Rattle.std.proofs.Common.{get_or, arith}
 use Rattle.std.proofs.lemmas.List.{get_or_default}
 use Rattle.prs_file.proofs.Openings.{digit_more, digit_fits}
 use Rattle.prs_file.proofs.opening.value.Goals as goal

@@ -1,4 +1,4 @@
-use Rattle.std.proofs.Common.{sym, ap, ◌∙◌}
+use Rattle.std.proofs.Common.{sym, ◌∙◌}
 use Rattle.prs_file.specs.Lines.{first_line}
 use Rattle.prs_file.proofs.TermLines.{line_is, form_is, no_rule}
 use Rattle.prs_file.proofs.turns.next_rule.Goals as goal

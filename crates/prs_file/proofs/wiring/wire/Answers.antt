@@ -1,10 +1,7 @@
-use Rattle.std.proofs.Common.{◌≡◌, ◌<◌, ◌++◌, ◌∷◌, [], Some, Bool, true, false, length, get_or, sym, ap, ◌∙◌, arith, refl}
+use Rattle.std.proofs.Common.{◌≡◌, ◌<◌, ◌++◌, ◌∷◌, [], false, length, get_or, sym, ◌∙◌, arith}
 use Rattle.std.specs.List.{list_any}
 use Rattle.std.proofs.lemmas.List.{get_or_read}
 use Rattle.prs_core.specs.Nets.{rail_names, ack_name}
-use Rattle.prs_file.specs.Indexes.{place_in}
-use Rattle.prs_file.specs.Reading.{wires_of}
-use Rattle.prs_file.specs.WiresFound.{AreFound}
 use Rattle.prs_file.proofs.Lookups.{found_more}
 use Rattle.prs_file.proofs.Wirings.{numbers_within, place_found, fault_high, fault_none, rail_high, ack_high, none_is_high, all_low}
 use Rattle.prs_file.proofs.wiring.wire.Goals as goal
@@ -32,8 +29,8 @@ returns-then-any_high-clause-fault c =
     let any = rw (c.deref.ensures.value, c.deref-2.ensures.value) at c.any_high.ensures in
     fault_high names first c.args.channel (c.in-Some.rails.items ++ c.in-Some-2.ack ∷ []) c.requires.count c.requires.distinct found
     (elim c.then-any_high.branch [
-      then-any_high-via-then-any_high w ↦ rail_high first c.in-Some.rails.items c.in-Some-2.ack (sym any ∙ w.if-any_high.true)
-    | then-any_high-via-else-any_high+then-index w ↦ ack_high first c.in-Some.rails.items c.in-Some-2.ack (sym (get_or_read first c.in-Some-2.ack w.index.result.now within w.index.ensures false) ∙ w.if-index.true)
+      | then-any_high-via-then-any_high w ↦ rail_high first c.in-Some.rails.items c.in-Some-2.ack (sym any ∙ w.if-any_high.true)
+      | then-any_high-via-else-any_high+then-index w ↦ ack_high first c.in-Some.rails.items c.in-Some-2.ack (sym (get_or_read first c.in-Some-2.ack w.index.result.now within w.index.ensures false) ∙ w.if-index.true)
     ])
 
 pub returns-clause-wired : goal.returns-clause-wired
