@@ -9,6 +9,7 @@ mod NodesRead
 mod Openings
 mod Pieces
 mod RuleEnds
+mod RuleFaults
 mod RuleLines
 mod Rules
 mod Taking

@@ -7,6 +7,7 @@ pub mod NodesTold
 pub mod Openings
 pub mod Reading
 pub mod RuleForms
+pub mod RulesTold
 pub mod Spelling
 pub mod Terms
 pub mod WiresFound
