@@ -23,3 +23,7 @@ most_literals reset = if reset then 8454144 else 4194304
 abbrev pub rule_fault_of : List (List ℕ) → List Channel → Bool → Option ℕ → ℕ → List (List Signed) → List ℕ → Bool → Option NetFault
 rule_fault_of names channels reset last count g name up =
     if rule_unknown names g name then Some UnknownNode else (if is_driven reset channels name then Some DrivenWire else (if same_place last (rule_place names name up) then Some DoubleRule else (if stands_above last (rule_place names name up) then Some OutOfOrder else (if nat_lt (most_literals reset) (count + sum_by (λ (t : List Signed). length t) g) then Some TooMany else None))))
+
+abbrev pub order_fault_of : Option ℕ → ℕ → Option NetFault
+order_fault_of last place =
+    if same_place last place then Some DoubleRule else (if stands_above last place then Some OutOfOrder else None)
