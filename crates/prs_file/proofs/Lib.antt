@@ -12,6 +12,7 @@ mod RuleEnds
 mod RuleFaults
 mod RuleLines
 mod Rules
+mod RulesRead
 mod Taking
 mod TermCounts
 mod TermLines
