@@ -73,7 +73,7 @@ told_push : (version : ℕ) (names : List (List ℕ)) (first : List Bool) (ws : 
 told_push version names first ws w =
     ap (λ fs. nodes_told version names first ++ fs) (map_push (λ (w : Wires). channel w.channel) ws w) ∙ sym (append_assoc (nodes_told version names first) (channel_forms ws) (channel w.channel ∷ []))
 
-count_told : (version : ℕ) (names : List (List ℕ)) (first : List Bool) (ws : List Wires) → IsNodes version names first → length (channels_told version names first ws) ≡ length names + length ws + 1
+pub count_told : (version : ℕ) (names : List (List ℕ)) (first : List Bool) (ws : List Wires) → IsNodes version names first → length (channels_told version names first ws) ≡ length names + length ws + 1
 count_told version names first ws nodes =
     omega (arith, length-append (nodes_told version names first) (channel_forms ws), length-map ws (λ (w : Wires). channel w.channel), told_length version names first nodes)
 

@@ -12,6 +12,7 @@ mod RuleEnds
 mod RuleFaults
 mod RuleLines
 mod Rules
+mod RulesBegin
 mod RulesRead
 mod Taking
 mod TermCounts
