@@ -1,7 +1,6 @@
 -- The lines of rules one after another.
-use Rattle.std.proofs.Common.{◌≡◌, ℕ, ◌+◌, ◌*◌, ◌<◌, ◌≤◌, Bool, true, false, Option, None, Some, List, [], ◌∷◌, ◌++◌, length, refl, ap, sym, ◌∙◌, subst, arith, length-append}
+use Rattle.std.proofs.Common.{◌≡◌, ℕ, ◌+◌, ◌*◌, ◌<◌, Bool, false, Option, None, Some, List, [], ◌∷◌, ◌++◌, length, refl, ap, ◌∙◌, arith, length-append}
 use Rattle.std.specs.Prelude.{◌==◌, bytes_eq, position, unwrap_or, if◌then◌else◌, sum_by}
-use Rattle.std.specs.List.{filter_map}
 use Rattle.std.proofs.lemmas.Bool.{lt-ltb, ne_eqb}
 use Rattle.std.proofs.lemmas.List.{append-nil}
 use Rattle.std.proofs.lemmas.List.Elements.{filter_map-append}
@@ -11,7 +10,7 @@ use Rattle.prs_file.specs.declared.fault.NetFault.{NetFault}
 use Rattle.prs_file.specs.declared.fault.NetFault.TheVariants.{BadLine}
 use Rattle.prs_file.specs.Lines.{first_line}
 use Rattle.prs_file.specs.NodesTold.{node_forms}
-use Rattle.prs_file.specs.Reading.{Form, Says, IsForm, Signed, form_spelling, form_fault, last_of, last_place, may_stand, may_end, node_in, channel_in, nodes_of, channels_of, has_reset, literals_in, RefusedBehind, IsRefused, IsTaken}
+use Rattle.prs_file.specs.Reading.{Form, Says, IsForm, Signed, form_spelling, form_fault, last_of, last_place, may_stand, node_in, channel_in, nodes_of, channels_of, has_reset, literals_in, IsRefused}
 use Rattle.prs_file.specs.Reading.Form.{head, node, channel, rule}
 use Rattle.prs_file.specs.Reading.LineFault.{bad_line}
 use Rattle.prs_file.specs.Reading.RefusedBehind.{at_line}
