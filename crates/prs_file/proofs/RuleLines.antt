@@ -16,7 +16,7 @@ use Rattle.prs_file.specs.RuleForms.{led_spelling, leds_spelling, rule_line_of, 
 abbrev pub body : Led → List ℕ
 body l = sign_spelling l.high ++ l.name
 
-led_is : (l : Led) → led_spelling l ≡ lead_spelling l.lead ++ body l
+pub led_is : (l : Led) → led_spelling l ≡ lead_spelling l.lead ++ body l
 led_is l = ap (λ xs. (lead_spelling l.lead ++ sign_spelling l.high) ++ xs) (append-nil l.name) ∙ append_assoc (lead_spelling l.lead) (sign_spelling l.high) l.name
 
 pub more_is : (l : Led) (more : List Led) (n : List ℕ) (u : Bool) → rule_line_of (l ∷ more) n u ≡ lead_spelling l.lead ++ (body l ++ rule_line_of more n u)

@@ -1,7 +1,13 @@
 pub mod Channels
+pub mod ChannelsTold
 pub mod Faults
 pub mod Indexes
 pub mod Lines
+pub mod NodesTold
+pub mod Openings
 pub mod Reading
 pub mod RuleForms
+pub mod RulesTold
 pub mod Spelling
+pub mod Terms
+pub mod WiresFound

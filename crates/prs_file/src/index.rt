@@ -59,6 +59,20 @@ impl NodeIndex {
         }
     }
 
+    /// The number of names.
+    pub fn len(&self) -> usize
+        ensures { result ≡ length self.now }
+    {
+        self.names.len()
+    }
+
+    /// The names in order of their numbers.
+    pub fn into_names(self) -> Vec<Name>
+        ensures { result.items ≡ self }
+    {
+        self.names
+    }
+
     /// Gives the name the next number.
     pub fn add(&mut self, name: Name) -> Result<(), AllocError>
         requires fresh { place_in self.old name ≡ None }

@@ -2,13 +2,19 @@
 #![tactic(auto)]
 
 mod channel;
+mod channels;
 mod fault;
 mod form;
 mod forms;
 mod index;
+mod lookup;
+mod nodes;
+mod opening;
 mod print;
 mod rule;
 mod spelled;
+mod turns;
+mod wiring;
 
 pub use fault::{NetFault, NetReadError};
 pub use forms::{Lead, channel_line, head_line, literal_text, node_line, rule_end};
