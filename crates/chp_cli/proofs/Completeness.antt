@@ -1,5 +1,5 @@
 -- Where nothing speaks against it, a program is compiled.
-use Rattle.std.proofs.Common.{◌≡◌, ℕ, ◌≤◌, Bool, true, false, List, length, Option, Some, None, ◌⊎◌, inl, inr, refl, sym, ap, ◌∙◌, subst, arith}
+use Rattle.std.proofs.Common.{◌≡◌, ℕ, Bool, true, List, length, Option, Some, ◌⊎◌, inl, inr, refl, ap, subst, arith}
 use Rattle.chp_base.specs.declared.fault.Fault.{Fault}
 use Rattle.chp_syntax.specs.Reading.{Reads}
 use Rattle.net_compose.specs.Translation.{is_built}

@@ -1,11 +1,14 @@
 -- What stands behind each end of `compile`. `held` is what the shelf holds under the name of the command's file.
-use Rattle.std.specs.Prelude.{◌≡◌, ℕ, ◌<◌, ◌≤◌, Bool, true, false, List, [], length, Option, Some, codes, ◌++◌}
+use Rattle.std.specs.Prelude.{◌≡◌, ℕ, ◌<◌, ◌≤◌, Bool, true, false, List, [], length, Option, Some}
 use Rattle.chp_base.specs.declared.fault.Fault.{Fault}
 use Rattle.chp_syntax.specs.Trees.{ProgramTree}
 use Rattle.chp_syntax.specs.Reading.{Reads}
 use Rattle.chp_syntax.specs.Refusals.{RefusedText as IsRefused}
 use Rattle.prs_file.specs.Spelling.{NetText}
+use Rattle.width_check.specs.Accepted.{IsAccepted}
+use Rattle.width_check.specs.Form.{typed_form}
 use Rattle.net_compose.specs.Translation.{translation, is_built}
+use Rattle.net_compose.specs.Carries.{Carries}
 use Rattle.chp_cli.specs.declared.status.Status.{Status}
 use Rattle.chp_cli.specs.declared.status.Status.TheVariants.{Done, RefusedText, Usage, Read, Write, NoMemory, TooLarge, NotBuilt}
 use Rattle.chp_cli.specs.declared.outcome.Outcome.{Outcome}
@@ -16,7 +19,8 @@ use Rattle.chp_cli.specs.Outcomes.{refused_line, line_of}
 abbrev pub most_of_text : ℕ
 most_of_text = 262144
 
--- the text reads as a program that is compiled, and this holds of the one text of that program's net
+-- the text reads as a program that is accepted and compiled, whose net carries it, and this holds of the one text of
+-- that net
 pub record Compiled (held : Option (List ℕ)) (P : List ℕ → Type 0) : Type 0 where
   pub text : List ℕ
   pub program : ProgramTree
@@ -26,6 +30,8 @@ pub record Compiled (held : Option (List ℕ)) (P : List ℕ → Type 0) : Type 
   pub reads : Reads text program
   pub only : (other : ProgramTree) → Reads text other → other ≡ program
   pub built : is_built program ≡ true
+  pub accepted : IsAccepted program
+  pub carries : Carries (translation program) (typed_form program)
   pub spells : NetText file (translation program)
   pub put : P file
 

@@ -1,2 +1,4 @@
 pub mod NameLemmas
 pub mod Nothing
+pub mod NothingCarried
+pub mod NothingAccepted

@@ -1,5 +1,5 @@
 -- The net of a program that does nothing is a net: decided by computing tests.
-use Rattle.std.proofs.Common.{◌≡◌, ◌≢◌, ℕ, ◌<◌, ◌≤◌, Bool, true, false, List, [], ◌∷◌, None, length, refl, sym, ap, ◌∙◌, arith, lit≤, lit<, ◌++◌}
+use Rattle.std.proofs.Common.{◌≡◌, ◌≢◌, ℕ, ◌<◌, Bool, true, false, List, [], ◌∷◌, None, length, refl, sym, ap, ◌∙◌, arith, lit≤, lit<, ◌++◌}
 use Rattle.std.specs.Prelude.{◌&&◌, not, nat_lt, nat_le, All, AllPairs, codes, decimal}
 use Rattle.std.specs.List.{list_all}
 use Rattle.std.specs.Str.{bytes_eq}

@@ -1,4 +1,5 @@
 pub mod Errors
 pub mod Translation
+pub mod Carries
 pub use Rattle.chp_syntax.specs.View
 pub use Rattle.prs_core.specs.Nets

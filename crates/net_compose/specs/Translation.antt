@@ -1,9 +1,9 @@
 -- The net of a program: how its nodes are numbered and named, and the rules of each. One row for each construct.
-use Rattle.std.specs.Prelude.{◌≡◌, ℕ, ◌+◌, Bool, true, false, List, [], ◌∷◌, ◌++◌, ◌&&◌, map, replicate, None, codes, decimal}
+use Rattle.std.specs.Prelude.{ℕ, ◌+◌, Bool, true, false, List, [], ◌∷◌, ◌++◌, ◌&&◌, map, replicate, None, codes, decimal}
 use Rattle.std.specs.List.{range_with_len}
 use Rattle.prs_core.specs.Nets.{NodeRules, RulesValue, NetValue, net_of}
 use Rattle.cell_sequence.specs.Sequence.{q_child, q_latch, q_next, skip_answer}
-use Rattle.chp_syntax.specs.Trees.{Statement, skips, Statements, ProgramTree}
+use Rattle.chp_syntax.specs.Trees.{Statement, skips, ProgramTree}
 
 -- node 0 is the request of the whole circuit and node 1 its answer
 abbrev pub go_node : ℕ

@@ -1,4 +1,4 @@
-use Rattle.std.proofs.Common.{◌≡◌, ◌-◌}
+use Rattle.std.proofs.Common.{◌≡◌}
 use Rattle.net_compose.proofs.NameLemmas.{names_below}
 use Rattle.net_compose.proofs.plain.node_names.Given as goal
 
