@@ -48,11 +48,11 @@ fn put_expr(out: &mut Vec<u8>, e: &Expr, nested: bool) -> Result<(), AllocError>
             put(out, "]")
         }
         Expr::Join { parts, .. } => {
-            let mut before = "{";
+            let mut before = b"{".as_slice();
             for part in parts {
-                put(out, before)?;
+                out.extend_from_slice(before)?;
                 put_expr(out, part, false)?;
-                before = ", ";
+                before = b", ".as_slice();
             }
             put(out, "}")
         }
@@ -95,31 +95,43 @@ fn put_stmt(out: &mut Vec<u8>, s: &Stmt, nested: bool) -> Result<(), AllocError>
             out.extend_from_slice(of.name.bytes())
         }
         Stmt::Then { parts } => {
-            let mut before = if nested { "(" } else { "" };
+            let mut before = if nested {
+                b"(".as_slice()
+            } else {
+                b"".as_slice()
+            };
             for part in parts {
-                put(out, before)?;
+                out.extend_from_slice(before)?;
                 put_stmt(out, part, true)?;
-                before = "; ";
+                before = b"; ".as_slice();
             }
             put(out, if nested { ")" } else { "" })
         }
         Stmt::Beside { parts } => {
-            let mut before = if nested { "(" } else { "" };
+            let mut before = if nested {
+                b"(".as_slice()
+            } else {
+                b"".as_slice()
+            };
             for part in parts {
-                put(out, before)?;
+                out.extend_from_slice(before)?;
                 put_stmt(out, part, true)?;
-                before = " || ";
+                before = b" || ".as_slice();
             }
             put(out, if nested { ")" } else { "" })
         }
         Stmt::Select { again, arms } => {
-            let mut before = if *again { "*[" } else { "[" };
+            let mut before = if *again {
+                b"*[".as_slice()
+            } else {
+                b"[".as_slice()
+            };
             for arm in arms {
-                put(out, before)?;
+                out.extend_from_slice(before)?;
                 put_expr(out, &arm.guard, false)?;
                 put(out, " -> ")?;
                 put_stmt(out, &arm.body, false)?;
-                before = " [] ";
+                before = b" [] ".as_slice();
             }
             put(out, "]")
         }
