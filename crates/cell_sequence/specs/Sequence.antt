@@ -39,6 +39,13 @@ skip_answer request = record {
   down = one_term (is_low request ∷ []);
 }
 
+-- a loop asks its body again once that has let go: r & ~la -> lr+, la -> lr-; its own answer has no rules
+abbrev pub loop_request : (request body_answer : ℕ) → NodeRules
+loop_request request body_answer = record {
+  up = one_term (is_high request ∷ is_low body_answer ∷ []);
+  down = one_term (is_high body_answer ∷ []);
+}
+
 -- the node's guards are as they were
 pub record IsAlone (old new : RulesValue) (node : ℕ) : Type 0 where
   pub up : slice_index_or new.up node [] ≡ slice_index_or old.up node []

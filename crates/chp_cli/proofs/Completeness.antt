@@ -2,7 +2,7 @@
 use Rattle.std.proofs.Common.{◌≡◌, ℕ, Bool, true, List, length, Option, Some, ◌⊎◌, inl, inr, refl, ap, subst, arith}
 use Rattle.chp_base.specs.declared.fault.Fault.{Fault}
 use Rattle.chp_syntax.specs.Reading.{Reads}
-use Rattle.net_compose.specs.Translation.{is_built}
+use Rattle.net_compose.specs.Built.{is_built}
 use Rattle.chp_edge.specs.Faults.{Rose, IsReadFault}
 use Rattle.chp_cli.specs.declared.status.Status.TheVariants.{Done, NoMemory}
 use Rattle.chp_cli.specs.declared.outcome.Outcome.{Outcome}

@@ -7,7 +7,8 @@ use Rattle.chp_syntax.specs.Refusals.{RefusedText as IsRefused}
 use Rattle.prs_file.specs.Spelling.{NetText}
 use Rattle.width_check.specs.Accepted.{IsAccepted}
 use Rattle.width_check.specs.Form.{typed_form}
-use Rattle.net_compose.specs.Translation.{translation, is_built}
+use Rattle.net_compose.specs.Translation.{translation}
+use Rattle.net_compose.specs.Built.{is_built}
 use Rattle.net_compose.specs.Carries.{Carries}
 use Rattle.chp_cli.specs.declared.status.Status.{Status}
 use Rattle.chp_cli.specs.declared.status.Status.TheVariants.{Done, RefusedText, Usage, Read, Write, NoMemory, TooLarge, NotBuilt}
@@ -31,8 +32,8 @@ pub record Compiled (held : Option (List ℕ)) (P : List ℕ → Type 0) : Type 
   pub only : (other : ProgramTree) → Reads text other → other ≡ program
   pub built : is_built program ≡ true
   pub accepted : IsAccepted program
-  pub carries : Carries (translation program) (typed_form program)
-  pub spells : NetText file (translation program)
+  pub carries : Carries (translation (typed_form program)) (typed_form program)
+  pub spells : NetText file (translation (typed_form program))
   pub put : P file
 
 -- the text reads as no program, for this cause

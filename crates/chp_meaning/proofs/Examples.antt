@@ -97,3 +97,13 @@ later_not_yet = refl
 
 later_then : (rounds later (takes (Times 1) ∷ []) 2).rests ≡ takes (Times 0) ∷ []
 later_then = refl
+
+-- (skip; X?v) || X!1: the round takes the skip alone, although the send could follow it at once
+abbrev awaited : TypedProgram
+awaited = record { channels = channel Chan 1 ∷ []; vars = var 1 0 ∷ []; body = beside (both skipping (receiving 0 at 0 at)) (sending 0 at (constant 1 1)) }
+
+awaited_not_yet : (rounds awaited (nothing ∷ []) 1).histories ≡ [] ∷ []
+awaited_not_yet = refl
+
+awaited_then : (rounds awaited (nothing ∷ []) 2).histories ≡ (1 ∷ []) ∷ []
+awaited_then = refl

@@ -9,7 +9,7 @@ use Rattle.std.proofs.lemmas.Bool.Decides.{nat_tests}
 use Rattle.std.proofs.lemmas.Str.Parse.{tells_digits}
 use Rattle.std.proofs.lemmas.Fmt.{decimal_is_IsNumeral, length-decimal-le}
 use Rattle.chp_base.specs.Names.{IsNodeName, letter, digit, node_part}
-use Rattle.net_compose.specs.Translation.{numbered}
+use Rattle.handshake_expand.specs.Named.{numbered}
 
 in_order : (c : ℕ) → 48 ≤ c → c ≤ 57 → digit c ≡ true
 in_order c low high = grind (arith, nat_tests)

@@ -12,7 +12,8 @@ use Rattle.prs_core.specs.declared.rule.Literal.{Literal}
 use Rattle.prs_core.specs.declared.wires.Wires.{Wires}
 use Rattle.prs_core.specs.Nets.{GuardValue, RulesValue, net_of, IsBelow, IsFilled, IsChannel, IsNet}
 use Rattle.chp_base.specs.Names.{IsNodeName, begins_with_letter, node_part}
-use Rattle.net_compose.specs.Translation.{translation, composed, nothing}
+use Rattle.net_compose.specs.Translation.{translation, composed}
+use Rattle.net_compose.specs.Carries.{idle}
 
 left_of : (a b : Bool) → (a && b) ≡ true → a ≡ true
 left_of true b h = refl
@@ -80,33 +81,33 @@ plain_names = codes "go" ∷ codes "done" ∷ codes "n2" ∷ codes "n3" ∷ code
 names_from : (two three four : List ℕ) → two ≡ codes "2" → three ≡ codes "3" → four ≡ codes "4" → codes "go" ∷ codes "done" ∷ (codes "n" ++ two) ∷ (codes "n" ++ three) ∷ (codes "n" ++ four) ∷ [] ≡ plain_names
 names_from two three four e f g = rw (e, f, g) refl
 
-names_are : (translation nothing).names ≡ plain_names
+names_are : (translation idle).names ≡ plain_names
 names_are = names_from (decimal 2) (decimal 3) (decimal 4) (decimal_digit 2 (lit< tt)) (decimal_digit 3 (lit< tt)) (decimal_digit 4 (lit< tt))
 
-pub nothing_is_net : IsNet (translation nothing)
+pub nothing_is_net : IsNet (translation idle)
 nothing_is_net = record {
   named = refl;
   ups = refl;
   downs = refl;
   some = lit≤ tt;
   most = lit≤ tt;
-  names = all_by node_name_test IsNodeName node_name_told (translation nothing).names (ap (list_all node_name_test) names_are);
-  distinct = are_apart (translation nothing).names (ap all_apart names_are);
+  names = all_by node_name_test IsNodeName node_name_told (translation idle).names (ap (list_all node_name_test) names_are);
+  distinct = are_apart (translation idle).names (ap all_apart names_are);
   go = refl;
   go_low = refl;
   go_undriven = record { up = refl; down = refl };
   done = refl;
   done_low = refl;
-  up_within = guards_below 5 (translation nothing).up refl;
-  down_within = guards_below 5 (translation nothing).down refl;
-  up_filled = guards_filled (translation nothing).up refl;
-  down_filled = guards_filled (translation nothing).down refl;
+  up_within = guards_below 5 (translation idle).up refl;
+  down_within = guards_below 5 (translation idle).down refl;
+  up_filled = guards_filled (translation idle).up refl;
+  down_filled = guards_filled (translation idle).down refl;
   literals = lit≤ tt;
-  channels = All-nil (IsChannel (translation nothing));
+  channels = All-nil (IsChannel (translation idle));
   channels_distinct = λ i j d below within. absurd (omega arith);
   reset = tt;
 }
 
 -- the same, where the parts are known by equations
-pub net_from : (names : List (List ℕ)) (first : List Bool) (rules : RulesValue) (channels : List Wires) → names ≡ (translation nothing).names → first ≡ (translation nothing).first → rules ≡ composed nothing → channels ≡ [] → IsNet (net_of names first rules channels None)
+pub net_from : (names : List (List ℕ)) (first : List Bool) (rules : RulesValue) (channels : List Wires) → names ≡ (translation idle).names → first ≡ (translation idle).first → rules ≡ composed idle → channels ≡ [] → IsNet (net_of names first rules channels None)
 net_from names first rules channels e f g h = rw (e, f, g, h) nothing_is_net

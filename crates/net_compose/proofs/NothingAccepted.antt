@@ -6,7 +6,7 @@ use Rattle.chp_syntax.specs.Trees.{skips, number, ProgramTree}
 use Rattle.chp_base.specs.declared.fault.FaultCode.TheVariants as code
 use Rattle.width_check.specs.Faults.{FaultAt}
 use Rattle.width_check.specs.Accepted.{IsAccepted}
-use Rattle.net_compose.specs.Translation.{is_built}
+use Rattle.net_compose.specs.Built.{is_built}
 use Rattle.net_compose.proofs.NothingCarried.{by_parts}
 
 none_in : {X : Type 0} (x : X) → ¬ Contains [] x

@@ -13,11 +13,12 @@ use Rattle.env_script.specs.Runs.{RunState, history_at, move_enabled, moved, beg
 use Rattle.chp_meaning.specs.Terms.{Place, finished, statement_at}
 use Rattle.chp_meaning.specs.Steps.{Configuration, Step, a_skip, an_assignment, a_selection, a_turn, an_end, a_repetition, a_communication, a_delivery, an_arrival}
 use Rattle.chp_meaning.specs.Rounds.{rounds}
-use Rattle.net_compose.specs.Translation.{translation, nothing, is_built}
+use Rattle.net_compose.specs.Translation.{translation}
+use Rattle.net_compose.specs.Built.{is_built}
 use Rattle.net_compose.specs.Carries.{IsFollowing, IsSettled, Carries, idle}
 
 abbrev net : NetValue
-net = translation nothing
+net = translation idle
 
 abbrev with_nodes : (go done two three four : Bool) → RunState
 with_nodes go done two three four = record { values = go ∷ done ∷ two ∷ three ∷ four ∷ []; histories = [] }
@@ -155,5 +156,5 @@ by_parts P here ds ps (selects again arms) built = absurd (cc built)
 by_parts P here ds ps (repeats b) built = absurd (cc built)
 by_parts P here ds ps (calls of) built = absurd (cc built)
 
-pub nothing_carried : (p : ProgramTree) → is_built p ≡ true → Carries (translation p) (typed_form p)
-nothing_carried p built = by_parts (λ q. Carries (translation q) (typed_form q)) (λ at. net_carries) p.decls p.procs p.body built
+pub nothing_carried : (p : ProgramTree) → is_built p ≡ true → Carries (translation (typed_form p)) (typed_form p)
+nothing_carried p built = by_parts (λ q. Carries (translation (typed_form q)) (typed_form q)) (λ at. net_carries) p.decls p.procs p.body built

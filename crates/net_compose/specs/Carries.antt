@@ -2,16 +2,16 @@
 -- How the net was made plays no part in it.
 use Rattle.std.specs.Prelude.{◌≡◌, ◌↔◌, ◌≤◌, ℕ, Bool, true, List, [], ◌++◌, map, length, All, ◌≢◌, codes, None}
 use Rattle.prs_core.specs.declared.wires.Wires.{Wires}
-use Rattle.prs_core.specs.Nets.{NetValue}
+use Rattle.prs_core.specs.Nets.{NetValue, IsNet}
 use Rattle.prs_core.specs.Moves.{high}
 use Rattle.reset_net.specs.Resets.{reset_of}
 use Rattle.env_script.specs.Scripts.{OfferValue, IsScript}
 use Rattle.env_script.specs.Runs.{RunState, history_at, begin_at, after, IsRun, IsSafeRun, IsAtRest, IsPowered, until_reset, moves_since_reset, IsOnceEach}
 use Rattle.width_check.specs.Processes.{TypedProgram, skipping}
+use Rattle.handshake_expand.specs.Layout.{done_node}
 use Rattle.chp_meaning.specs.Terms.{Place, finished}
 use Rattle.chp_meaning.specs.Steps.{Configuration, Step}
 use Rattle.chp_meaning.specs.Rounds.{rounds}
-use Rattle.net_compose.specs.Translation.{done_node}
 
 -- on each channel the circuit has passed a front of what the program has
 abbrev pub IsFollowing : RunState → Configuration → Type 0
@@ -56,4 +56,4 @@ pub record CarriesReset (net : NetValue) (p : TypedProgram) : Type 0 where
 
 -- what reset is for: a net that carries a program still does so with a reset node, from every power-up state
 abbrev pub ResetCarries : NetValue → TypedProgram → Type 0
-ResetCarries net p = Carries net p → net.reset ≡ None → length net.first ≤ 65536 → All (λ (name : List ℕ). name ≢ codes "reset") net.names → CarriesReset (reset_of net) p
+ResetCarries net p = Carries net p → IsNet net → net.reset ≡ None → length net.first ≤ 65536 → All (λ (name : List ℕ). name ≢ codes "reset") net.names → CarriesReset (reset_of net) p

@@ -1,5 +1,6 @@
 pub mod Errors
 pub mod Translation
+pub mod Built
 pub mod Carries
 pub use Rattle.chp_syntax.specs.View
 pub use Rattle.prs_core.specs.Nets

@@ -4,7 +4,11 @@ ghost use Rattle.std.specs.Prelude.{◌≡◌, ℕ, ◌-◌, ◌<◌, ◌≤◌,
 ghost use Rattle.std.specs.List.{range_with_len};
 ghost use Rattle.chp_base.specs.Names.{IsNodeName};
 ghost use Rattle.prs_core.specs.Nets.{RulesValue};
-ghost use Rattle.net_compose.specs.Translation.{translation, composed, nothing, numbered, is_built};
+ghost use Rattle.handshake_expand.specs.Named.{numbered};
+ghost use Rattle.width_check.specs.Form.{typed_form};
+ghost use Rattle.net_compose.specs.Built.{is_built};
+ghost use Rattle.net_compose.specs.Carries.{idle};
+ghost use Rattle.net_compose.specs.Translation.{translation, composed};
 
 use cell_sequence::{QPorts, emit_q, emit_skip};
 use chp_base::{Name, node_name_of};
@@ -52,7 +56,7 @@ const NODES: u32 = 5;
 
 /// The rules of the root and of a skip under it.
 fn skip_rules(alloc: Global) -> Result<Rules, AllocError>
-    ensures { IfOk result (λ rules. rules ≡ composed nothing) }
+    ensures { IfOk result (λ rules. rules ≡ composed idle) }
 {
     let root = QPorts {
         request: 0,
@@ -76,7 +80,7 @@ fn all_low(alloc: Global, count: u32) -> Result<Vec<bool>, AllocError>
 
 /// The net of a program that does nothing.
 pub fn skip_net(alloc: Global) -> Result<Net, AllocError>
-    ensures { IfOk result (λ net. (p : _) → is_built p ≡ true → net ≡ translation p) }
+    ensures { IfOk result (λ net. (p : _) → is_built p ≡ true → net ≡ translation (typed_form p)) }
 {
     let names = node_names(alloc, NODES)?;
     let first = all_low(alloc, NODES)?;

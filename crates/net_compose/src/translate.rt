@@ -2,7 +2,8 @@
 
 ghost use Rattle.std.specs.Prelude.{◌≡◌, IfOk, OnOk, IfErr, true, false};
 ghost use Rattle.chp_syntax.specs.View.{program_of};
-ghost use Rattle.net_compose.specs.Translation.{translation, is_built};
+ghost use Rattle.net_compose.specs.Translation.{translation};
+ghost use Rattle.net_compose.specs.Built.{is_built};
 ghost use Rattle.width_check.specs.Accepted.{IsAccepted};
 ghost use Rattle.width_check.specs.Form.{typed_form};
 ghost use Rattle.net_compose.specs.Carries.{Carries};
@@ -36,10 +37,10 @@ fn does_nothing(program: &Program) -> bool
 /// The net of the program. So far only a program that declares nothing and does nothing has one, brackets round its
 /// `skip` aside; every other one is `NotBuilt`.
 pub fn translate_plain(alloc: Global, program: &Program) -> Result<Net, PlainNetError>
-    ensures net { IfOk result (λ net. net ≡ translation (program_of program.now)) }
+    ensures net { IfOk result (λ net. net ≡ translation (typed_form (program_of program.now))) }
     ensures built { OnOk result (is_built (program_of program.now) ≡ true) }
     ensures accepted { OnOk result (IsAccepted (program_of program.now)) }
-    ensures carries { OnOk result (Carries (translation (program_of program.now)) (typed_form (program_of program.now))) }
+    ensures carries { OnOk result (Carries (translation (typed_form (program_of program.now))) (typed_form (program_of program.now))) }
     ensures not_built { IfErr result (λ e. WhenNotBuilt e (is_built (program_of program.now) ≡ false)) }
 {
     if !does_nothing(program) {

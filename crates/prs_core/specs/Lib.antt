@@ -1,3 +1,4 @@
 pub mod Fans
 pub mod Moves
 pub mod Nets
+pub mod Pairs

@@ -11,9 +11,9 @@ use std::alloc::{AllocError, Global};
 const MOST_CHOICES: u32 = 15;
 
 /// What a token does to the numbers of signs `[]` in the open brackets, and whether it stands before a seventeenth arm.
-fn count(open: &mut Vec<u32>, kind: &TokenKind) -> Result<bool, AllocError>
-    ensures seventeenth { IfOk result (λ b. b ≡ is_seventeenth (reverse open.old.items) kind.now) }
-    ensures after { IfOk result (λ b. b ≡ false → reverse open.new.items ≡ counted (reverse open.old.items) kind.now) }
+fn count(choices: &mut Vec<u32>, kind: &TokenKind) -> Result<bool, AllocError>
+    ensures seventeenth { IfOk result (λ b. b ≡ is_seventeenth (reverse choices.old.items) kind.now) }
+    ensures after { IfOk result (λ b. b ≡ false → reverse choices.new.items ≡ counted (reverse choices.old.items) kind.now) }
 {
     let mark = match kind {
         TokenKind::Sign(mark) => *mark,
@@ -22,35 +22,35 @@ fn count(open: &mut Vec<u32>, kind: &TokenKind) -> Result<bool, AllocError>
         TokenKind::Number(_) => return Ok(false),
     };
     match mark {
-        Mark::OpenRound => open.push(0)?,
-        Mark::OpenSquare => open.push(0)?,
-        Mark::OpenCurly => open.push(0)?,
+        Mark::OpenRound => choices.push(0)?,
+        Mark::OpenSquare => choices.push(0)?,
+        Mark::OpenCurly => choices.push(0)?,
         Mark::CloseRound => {
-            open.pop();
+            choices.pop();
         }
         Mark::CloseSquare => {
-            open.pop();
+            choices.pop();
         }
         Mark::CloseCurly => {
-            open.pop();
+            choices.pop();
         }
-        Mark::Choice => return choose(open),
+        Mark::Choice => return choose(choices),
         _ => return Ok(false),
     }
     Ok(false)
 }
 
-fn choose(open: &mut Vec<u32>) -> Result<bool, AllocError>
-    ensures seventeenth { IfOk result (λ b. b ≡ is_full (reverse open.old.items)) }
-    ensures after { IfOk result (λ b. b ≡ false → reverse open.new.items ≡ chosen (reverse open.old.items)) }
+fn choose(choices: &mut Vec<u32>) -> Result<bool, AllocError>
+    ensures seventeenth { IfOk result (λ b. b ≡ is_full (reverse choices.old.items)) }
+    ensures after { IfOk result (λ b. b ≡ false → reverse choices.new.items ≡ chosen (reverse choices.old.items)) }
 {
-    let Some(count) = open.pop() else {
+    let Some(count) = choices.pop() else {
         return Ok(false);
     };
     if count >= MOST_CHOICES {
         return Ok(true);
     }
-    open.push(count + 1)?;
+    choices.push(count + 1)?;
     Ok(false)
 }
 

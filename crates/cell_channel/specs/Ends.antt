@@ -1,0 +1,17 @@
+-- The two ends of a channel: what answers a send or a receive, and the port by which a receive takes a value.
+use Rattle.std.specs.Prelude.{ℕ, List, [], ◌∷◌}
+use Rattle.prs_core.specs.Nets.{NodeRules, is_high, is_low, one_term}
+use Rattle.prs_core.specs.Pairs.{Pair}
+
+-- the site answers with the channel's acknowledge, under its own request: r & X.a -> a+, ~X.a -> a-
+abbrev pub end_answer : (request ack : ℕ) → NodeRules
+end_answer request ack = record { up = one_term (is_high request ∷ is_high ack ∷ []); down = one_term (is_low ack ∷ []) }
+
+-- a rail is taken over under the request, and let go once both are low: r & x -> q+, ~r & ~x -> q-
+abbrev pub taken_rail : (request rail : ℕ) → NodeRules
+taken_rail request rail = record { up = one_term (is_high request ∷ is_high rail ∷ []); down = one_term (is_low request ∷ is_low rail ∷ []) }
+
+-- the two rails of each bit
+abbrev pub port_rules : (request : ℕ) → List Pair → List NodeRules
+port_rules request [] = []
+port_rules request (x ∷ xs) = taken_rail request x.t ∷ taken_rail request x.f ∷ port_rules request xs

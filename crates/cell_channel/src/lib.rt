@@ -1,0 +1,2 @@
+//! The two ends of a channel.
+#![tactic(auto)]

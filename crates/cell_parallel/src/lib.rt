@@ -1,0 +1,2 @@
+//! The completion tree.
+#![tactic(auto)]

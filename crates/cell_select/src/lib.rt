@@ -1,0 +1,2 @@
+//! Selection and guarded repetition.
+#![tactic(auto)]

@@ -1,0 +1,2 @@
+//! Variables, their merges and their write sites.
+#![tactic(auto)]

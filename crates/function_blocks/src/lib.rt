@@ -1,0 +1,2 @@
+//! The circuits of expressions.
+#![tactic(auto)]

@@ -1,0 +1,2 @@
+//! How the nodes of a program's circuit are laid out.
+#![tactic(auto)]
