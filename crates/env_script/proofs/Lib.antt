@@ -1,2 +1,4 @@
 pub mod Loops
 pub mod Wires
+pub mod Commuting
+pub mod Fronts

@@ -5,3 +5,4 @@ pub mod Phases
 pub mod Runs
 pub mod Hazards
 pub mod Wired
+pub mod OneLength

@@ -3,6 +3,7 @@
 
 mod environment;
 mod hazard;
+pub mod laws;
 mod phases;
 mod script;
 
