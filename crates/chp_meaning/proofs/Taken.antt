@@ -18,7 +18,7 @@ pub record IsReceiver (t : Term) (k : ℕ) (w : Waiting) : Type 0 where
   pub var_at : Span
   pub is : statement_at t w.at ≡ Some (receiving k chan_at w.var var_at)
 
-waiting_is : (t : Term) (k : ℕ) (at : Place) (o : Option Process) (w : Waiting) → statement_at t at ≡ o → waits_on k at o ≡ Some w → IsReceiver t k w
+pub waiting_is : (t : Term) (k : ℕ) (at : Place) (o : Option Process) (w : Waiting) → statement_at t at ≡ o → waits_on k at o ≡ Some w → IsReceiver t k w
 waiting_is t k at (Some (receiving chan s x u)) w here found = by_channel (chan == k) refl found
   where
     by_channel : (b : Bool) → (chan == k) ≡ b → (if b then Some (record { at = at; var = x }) else None) ≡ Some w → IsReceiver t k w
