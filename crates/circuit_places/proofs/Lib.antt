@@ -4,3 +4,7 @@ pub mod Meets
 pub mod Left
 pub mod Flow
 pub mod Begin
+pub mod Leaves
+pub mod Control
+pub mod Change
+pub mod Sites

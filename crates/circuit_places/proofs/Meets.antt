@@ -14,6 +14,7 @@ use Rattle.circuit_places.specs.Covered.{IsCovered, AreCovered}
 -- a send of the number v, of w bits
 pub record SendMeets (channels : List Channel) (c w v : ℕ) : Type 0 where
   pub within : c < length channels
+  pub some : 1 ≤ w
   pub agrees : w ≡ channel_width channels c
   pub fits : v < 2 ^ w
 
@@ -31,7 +32,7 @@ abbrev mutual
   TurnMeets channels (and_member p (and_member q more)) = Meets channels p × TurnMeets channels (and_member q more)
 
 send_meets : (channels : List Channel) (vars : List Var) (c w v : ℕ) → IsSend channels vars c (constant w v) → SendMeets channels c w v
-send_meets channels vars c w v h = record { within = h.within; agrees = h.sent.agrees; fits = h.sent.formed.2 }
+send_meets channels vars c w v h = record { within = h.within; some = h.sent.formed.0; agrees = h.sent.agrees; fits = h.sent.formed.2 }
 
 mutual
   pub meets : (channels : List Channel) (vars : List Var) (p : Process) → IsProcess channels vars p → IsCovered p → Meets channels p

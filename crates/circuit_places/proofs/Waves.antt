@@ -1,5 +1,5 @@
 -- The rails of a send's number: which of its bits have their rail up, and what the rails of its channel say.
-use Rattle.std.proofs.Common.{◌≡◌, ℕ, zero, suc, ◌+◌, ◌*◌, ◌/◌, ◌%◌, ◌^◌, ◌<◌, ◌==◌, Bool, true, false, refl, sym, ap, ◌∙◌, subst, arith}
+use Rattle.std.proofs.Common.{◌≡◌, ℕ, zero, suc, ◌+◌, ◌*◌, ◌/◌, ◌%◌, ◌^◌, ◌<◌, ◌≤◌, ◌==◌, Bool, true, false, refl, sym, ap, ◌∙◌, subst, arith}
 use Rattle.std.proofs.lemmas.Bool.{eqb-true}
 use Rattle.std.specs.Prelude.{not, ◌&&◌, if◌then◌else◌, Option, Some, None, is_some, option_map}
 use Rattle.prs_core.specs.Moves.{bit_value, with_bit}
@@ -205,6 +205,11 @@ falling_not_none n v u i one h = here (none_up n u) refl
     here : (b : Bool) → none_up n u ≡ b → b ≡ false
     here true e = absurd (cc (none_still n v u e i one, h))
     here false e = refl
+
+-- a number has a bit
+pub all_not_none : (n : ℕ) (u : Wave n) → 1 ≤ n → all_up n u ≡ true → none_up n u ≡ false
+all_not_none zero u some h = absurd (let g : ⊥ = omega (arith, some) in g)
+all_not_none (suc n) u some h = ap (λ b. not b && none_up n u.1) (fst_true u.0 _ h)
 
 -- one rail of a bit at most
 one_side : (o b : Bool) → (same_bit o true && b) ≡ true → (same_bit o false && b) ≡ true → ⊥
