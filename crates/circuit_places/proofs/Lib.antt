@@ -8,3 +8,5 @@ pub mod Leaves
 pub mod Control
 pub mod Change
 pub mod Sites
+pub mod Fires
+pub mod Rest
