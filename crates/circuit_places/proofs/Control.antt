@@ -1,0 +1,453 @@
+-- Own moves of Q-elements, sequences and loops; and of every statement.
+use Rattle.std.proofs.Common.{◌≡◌, ◌≢◌, ℕ, Bool, true, false, List, refl, sym, ap, ◌∙◌, subst, inl}
+use Rattle.std.specs.Prelude.{not, ◌&&◌, if◌then◌else◌}
+use Rattle.chp_base.specs.declared.channel.Channel.{Channel}
+use Rattle.width_check.specs.Processes.{Process, skipping, in_turn, repeating, Processes, no_members, and_member}
+use Rattle.chp_meaning.specs.Terms.{Term, finished, opened, opened_turn, followed}
+use Rattle.circuit_places.specs.Circuit.{low_guarded, low, low_turn, Wires, GuardedSpot, Spot, TurnSpot, child, latch, next, inner, in_members, of_loop, ask, in_body, in_last, in_member, in_later, turned_guarded, turned, turned_turn}
+use Rattle.circuit_places.proofs.Waves.{fst_true, snd_true}
+use Rattle.circuit_places.proofs.Places.{Mode, idle, running, answered, returning, asks, acks, inner_may, link, GuardedAt, At, TurnAt, g_rests, g_in, g_past, g_back, rests, at_skip, at_send, at_turn, at_body, turn_rests, at_last, at_member, at_later, guarded_of, ring_of, turn_of, guarded_cells, cells, turn_cells, Shown, none_shown, guarded_shown, shown, turn_shown, GuardedFits, Fits, TurnFits, guarded_moves, moves, turn_moves}
+use Rattle.circuit_places.proofs.Meets.{Meets, TurnMeets, sends, turn_sends}
+use Rattle.circuit_places.proofs.Left.{inner_left, again, guarded_left, left, turn_left, Follows, followed_follows, loop_follows, left_done, turn_left_done, guarded_left_past}
+use Rattle.circuit_places.proofs.Flow.{goes, goes_asks, Flow, flow_same, flow_by, Backed, Quiet, low_of, quiet_of, After, GuardedAfter, TurnAfter, or_left, or_right}
+use Rattle.circuit_places.proofs.Begin.{idle_is, turn_idle_is, guarded_idle_is, idle_moves, turn_idle_moves, guarded_idle_moves, guarded_past_is, answered_moves, turn_answered_moves, begun, TurnBegun, turn_begun, lowered, turn_lowered, flow_begun, flow_then}
+use Rattle.circuit_places.proofs.Leaves.{skip_after, send_after}
+
+inner_goes : (u : Bool) (m n : Mode) → inner_may u m ≡ true → goes m n ≡ true → inner_may u n ≡ true
+inner_goes false running running h g = refl
+inner_goes false running answered h g = refl
+inner_goes true returning returning h g = refl
+inner_goes true returning idle h g = refl
+inner_goes _ _ _ h g = absurd (cc (h, g))
+
+no_latch : (u : Bool) (m n : Mode) → inner_may u m ≡ true → goes m n ≡ true → (if u then false else acks m) ≡ true → ⊥
+no_latch true m n h g e = cc e
+no_latch false idle n h g e = cc e
+no_latch false running n h g e = cc e
+no_latch false answered n h g e = cc g
+no_latch false returning n h g e = cc h
+
+no_next : (u : Bool) (m n : Mode) → inner_may u m ≡ true → goes m n ≡ true → (u && not (acks m)) ≡ true → ⊥
+no_next true idle n h g e = cc g
+no_next true running n h g e = cc h
+no_next true answered n h g e = cc e
+no_next true returning n h g e = cc e
+no_next false m n h g e = cc e
+
+inner_follows : (u : Bool) (m n : Mode) (s x y : Term) → inner_may u m ≡ true → goes m n ≡ true → ((n ≡ running → ⊥) → y ≡ finished) → Follows x y → Follows (inner_left u m s x) (inner_left u n s y)
+inner_follows false running running s x y h g over r = r
+inner_follows false running answered s x y h g over r = subst (λ (z : Term). Follows x z) (over (λ e. cc e)) r
+inner_follows true returning returning s x y h g over r = inl refl
+inner_follows true returning idle s x y h g over r = inl refl
+inner_follows _ _ _ s x y h g over r = absurd (cc (h, g))
+
+-- a move inside a Q-element
+module _ {p : Process} {m : Mode} (env : Wires) (u : Bool) (a : At p m) (h : inner_may u m ≡ true) (s : Spot p) (r : After p m env a s) where
+  inner_keeps : (q : GuardedSpot p) → q ≢ inner s → guarded_moves env (g_in u a h) q ≡ true → guarded_moves env (g_in u r.to (inner_goes u m r.mode h r.way)) q ≡ true
+  inner_keeps child ne e = ap (λ b. if b then u else not u) (goes_asks m r.mode r.way) ∙ e
+  inner_keeps latch ne e = absurd (no_latch u m r.mode h r.way e)
+  inner_keeps next ne e = absurd (no_next u m r.mode h r.way e)
+  inner_keeps (inner q) ne e = r.keeps q (λ (z : q ≡ s). ne (ap (λ x. inner x) z)) e
+
+  inner_after : GuardedAfter p running env (g_in u a h) (inner s)
+  inner_after = record {
+    mode = running;
+    to = g_in u r.to (inner_goes u m r.mode h r.way);
+    same = ap (λ b. guarded_of b u false (cells r.to)) (goes_asks m r.mode r.way) ∙ ap (λ x. guarded_of (asks m) u false x) r.same;
+    way = refl;
+    fits = r.fits;
+    flow = r.flow;
+    term = inner_follows u m r.mode (opened p) (left env.ack a) (left env.ack r.to) h r.way (λ (e : r.mode ≡ running → ⊥). left_done env.ack r.to e) r.term;
+    keeps = inner_keeps;
+  }
+
+-- a Q-element's own moves
+module _ (channels : List Channel) {p : Process} (env : Wires) (meets : Meets channels p) where
+  child_up : (a : At p idle) (h : inner_may false idle ≡ true) → Backed p (shown a) env → GuardedAfter p running env (g_in false a h) child
+  child_up a h back =
+      let b = begun channels p env meets (quiet_of env (shown a) (idle_is a).1 back) in
+      record {
+        mode = running;
+        to = g_in false b.place refl;
+        same = ap (λ x. guarded_of true false false x) (b.same ∙ sym (idle_is a).0);
+        way = refl;
+        fits = b.fits;
+        flow = flow_begun env (shown a) (shown b.place) (idle_is a).1 b.offer b.take;
+        term = inl b.term;
+        keeps = keeps b.place;
+      }
+    where
+      keeps : (b : At p running) (q : GuardedSpot p) → q ≢ child → guarded_moves env (g_in false a h) q ≡ true → guarded_moves env (g_in false b refl) q ≡ true
+      keeps b child ne z = absurd (ne refl)
+      keeps b latch ne z = absurd (cc z)
+      keeps b next ne z = absurd (cc z)
+      keeps b (inner q) ne z = absurd (cc (idle_moves env a q, z))
+
+  child_down : (a : At p answered) (h : inner_may true answered ≡ true) → Fits a env → GuardedAfter p running env (g_in true a h) child
+  child_down a h f =
+      let b = lowered env a f in
+      record {
+        mode = running;
+        to = g_in true b.place refl;
+        same = ap (λ x. guarded_of false true false x) b.same;
+        way = refl;
+        fits = b.fits;
+        flow = flow_by env (shown a) (shown a) (shown b.place) (sym b.shows) (flow_same env (shown a));
+        term = inl refl;
+        keeps = keeps b.place;
+      }
+    where
+      keeps : (b : At p returning) (q : GuardedSpot p) → q ≢ child → guarded_moves env (g_in true a h) q ≡ true → guarded_moves env (g_in true b refl) q ≡ true
+      keeps b child ne z = absurd (ne refl)
+      keeps b latch ne z = absurd (cc z)
+      keeps b next ne z = absurd (cc z)
+      keeps b (inner q) ne z = absurd (cc (answered_moves env a f q, z))
+
+  latch_up : (a : At p answered) (h : inner_may false answered ≡ true) → Fits a env → GuardedAfter p running env (g_in false a h) latch
+  latch_up a h f = record { mode = running; to = g_in true a refl; same = refl; way = refl; fits = f; flow = flow_same env (shown a); term = inl refl; keeps = keeps }
+    where
+      keeps : (q : GuardedSpot p) → q ≢ latch → guarded_moves env (g_in false a h) q ≡ true → guarded_moves env (g_in true a refl) q ≡ true
+      keeps child ne z = absurd (cc z)
+      keeps latch ne z = absurd (ne refl)
+      keeps next ne z = absurd (cc z)
+      keeps (inner q) ne z = z
+
+  next_up : (a : At p idle) (h : inner_may true idle ≡ true) → GuardedAfter p running env (g_in true a h) next
+  next_up a h = record {
+    mode = answered;
+    to = g_past;
+    same = ap (λ x. guarded_of false true true x) (sym (idle_is a).0);
+    way = refl;
+    fits = tt;
+    flow = flow_by env (shown a) (shown a) none_shown (idle_is a).1 (flow_same env (shown a));
+    term = inl refl;
+    keeps = keeps;
+  }
+    where
+      keeps : (q : GuardedSpot p) → q ≢ next → guarded_moves env (g_in true a h) q ≡ true → guarded_moves env (g_past {p = p}) q ≡ true
+      keeps child ne z = absurd (cc z)
+      keeps latch ne z = absurd (cc z)
+      keeps next ne z = absurd (ne refl)
+      keeps (inner q) ne z = absurd (cc (idle_moves env a q, z))
+
+  latch_down : GuardedAfter p returning env (g_back true) latch
+  latch_down = record { mode = returning; to = g_back false; same = refl; way = refl; fits = tt; flow = flow_same env none_shown; term = inl refl; keeps = keeps }
+    where
+      keeps : (q : GuardedSpot p) → q ≢ latch → guarded_moves env (g_back {p = p} true) q ≡ true → guarded_moves env (g_back {p = p} false) q ≡ true
+      keeps child ne z = absurd (cc z)
+      keeps latch ne z = absurd (ne refl)
+      keeps next ne z = absurd (cc z)
+      keeps (inner q) ne z = absurd (cc z)
+
+  next_down : GuardedAfter p returning env (g_back false) next
+  next_down = record { mode = idle; to = g_rests; same = refl; way = refl; fits = tt; flow = flow_same env none_shown; term = inl refl; keeps = keeps }
+    where
+      keeps : (q : GuardedSpot p) → q ≢ next → guarded_moves env (g_back {p = p} false) q ≡ true → guarded_moves env (g_rests {p = p}) q ≡ true
+      keeps child ne z = absurd (cc z)
+      keeps latch ne z = absurd (cc z)
+      keeps next ne z = absurd (ne refl)
+      keeps (inner q) ne z = absurd (cc z)
+
+  guarded_own : {m : Mode} (g : GuardedAt p m) (s : GuardedSpot p) → ((x : Spot p) → s ≢ inner x) → GuardedFits g env → Backed p (guarded_shown g) env → guarded_moves env g s ≡ true → GuardedAfter p m env g s
+  guarded_own g (inner x) out f back e = absurd (out x refl)
+  guarded_own (g_in {m = idle} false a h) child out f back e = child_up a h record { send = back.send }
+  guarded_own (g_in {m = answered} true a h) child out f back e = child_down a h f
+  guarded_own (g_in {m = answered} false a h) latch out f back e = latch_up a h f
+  guarded_own (g_in {m = idle} true a h) next out f back e = next_up a h
+  guarded_own (g_back true) latch out f back e = latch_down
+  guarded_own (g_back false) next out f back e = next_down
+  guarded_own (g_in {m = m} true a h) s out f back e = absurd (cc (h, e))
+  guarded_own (g_in {m = m} false a h) s out f back e = absurd (cc (h, e))
+  guarded_own _ s out f back e = absurd (cc e)
+
+-- a move in a member, seen from the sequence from it on
+module _ (channels : List Channel) {p q : Process} {more : Processes} (env : Wires) where
+  member_after : TurnMeets channels (and_member q more) → (g : GuardedAt p running) (s : GuardedSpot p) → Backed (in_turn (and_member p (and_member q more))) (guarded_shown g) env → GuardedAfter p running env g s → TurnAfter (and_member p (and_member q more)) running env (at_member {q = q} {more = more} g) (in_member s)
+  member_after meets g s back r = by_mode r.mode r.to r.same r.way r.fits r.flow r.term r.keeps
+    where
+      stays : (to : GuardedAt p running) → ((x : GuardedSpot p) → x ≢ s → guarded_moves env g x ≡ true → guarded_moves env to x ≡ true) → (x : TurnSpot (and_member p (and_member q more))) → x ≢ in_member s → turn_moves env (at_member {q = q} {more = more} g) x ≡ true → turn_moves env (at_member {q = q} {more = more} to) x ≡ true
+      stays to keeps (in_member x) ne z = keeps x (λ (e : x ≡ s). ne (ap (λ y. in_member y) e)) z
+      stays to keeps (in_later x) ne z = absurd (cc z)
+
+      hands_on : (to : GuardedAt p answered) (b : TurnAt (and_member q more) running) → ((x : GuardedSpot p) → x ≢ s → guarded_moves env g x ≡ true → guarded_moves env to x ≡ true) → (x : TurnSpot (and_member p (and_member q more))) → x ≢ in_member s → turn_moves env (at_member {q = q} {more = more} g) x ≡ true → turn_moves env (at_later {m = running} to b refl) x ≡ true
+      hands_on to b keeps (in_member x) ne z = keeps x (λ (e : x ≡ s). ne (ap (λ y. in_member y) e)) z
+      hands_on to b keeps (in_later x) ne z = absurd (cc z)
+
+      by_mode : (m : Mode) (to : GuardedAt p m) → guarded_cells to ≡ turned_guarded p (guarded_cells g) s → goes running m ≡ true → GuardedFits to env → Flow env (guarded_shown g) (guarded_shown to) → Follows (guarded_left env.ack g) (guarded_left env.ack to)
+          → ((x : GuardedSpot p) → x ≢ s → guarded_moves env g x ≡ true → guarded_moves env to x ≡ true)
+          → TurnAfter (and_member p (and_member q more)) running env (at_member {q = q} {more = more} g) (in_member s)
+      by_mode running to same way fits flow term keeps = record {
+        mode = running;
+        to = at_member to;
+        same = ap (λ x. turn_of p q more x (low_turn (and_member q more))) same;
+        way = refl;
+        fits = fits;
+        flow = flow;
+        term = followed_follows (and_member q more) (guarded_left env.ack g) (guarded_left env.ack to) term;
+        keeps = stays to keeps;
+      }
+      by_mode answered to same way fits flow term keeps =
+          let gone = (guarded_past_is to).1 in
+          let quiet : Quiet (in_turn (and_member q more)) env = record {
+            send = λ k h. low_of (env.ack k) (λ (e : env.ack k ≡ true). flow.talk k e (back.send k (or_right (sends p k) (turn_sends (and_member q more) k) h) e)) (ap (λ (z : Shown). z.talk k) gone);
+          } in
+          let b = turn_begun channels (and_member q more) env meets quiet in
+          record {
+            mode = running;
+            to = at_later to b.place refl;
+            same = ap (λ x. turn_of p q more x (turn_cells b.place)) same ∙ ap (λ x. turn_of p q more (turned_guarded p (guarded_cells g) s) x) b.same;
+            way = refl;
+            fits = b.fits;
+            flow = flow_then env (guarded_shown g) (guarded_shown to) (turn_shown b.place) gone b.offer b.take flow;
+            term = subst (λ (z : Term). Follows (followed (guarded_left env.ack g) (and_member q more)) z) (sym b.term)
+                (subst (λ (z : Term). Follows (followed (guarded_left env.ack g) (and_member q more)) (followed z (and_member q more))) (guarded_left_past env.ack to)
+                (followed_follows (and_member q more) (guarded_left env.ack g) (guarded_left env.ack to) term));
+            keeps = hands_on to b.place keeps;
+          }
+      by_mode idle to same way fits flow term keeps = absurd (cc way)
+      by_mode returning to same way fits flow term keeps = absurd (cc way)
+
+-- how what stands behind a member may go on
+data Linked : Mode → Mode → Mode → Mode → Type 0 where
+  runs : Linked running answered running running
+  ends : Linked running answered running answered
+  falls_back : Linked returning idle returning returning
+  comes_home : Linked returning idle returning idle
+
+linked : (m k n d : Mode) → link m k n ≡ true → goes n d ≡ true → Linked m k n d
+linked running answered running running h g = runs
+linked running answered running answered h g = ends
+linked running answered running idle h g = absurd (cc g)
+linked running answered running returning h g = absurd (cc g)
+linked returning idle returning returning h g = falls_back
+linked returning idle returning idle h g = comes_home
+linked returning idle returning running h g = absurd (cc g)
+linked returning idle returning answered h g = absurd (cc g)
+linked answered answered answered d h g = absurd (cc g)
+linked returning returning answered d h g = absurd (cc g)
+linked _ _ _ _ h g = absurd (cc h)
+
+-- a move behind a member
+later_after : {p q : Process} {more : Processes} {k n m : Mode} (env : Wires) (g : GuardedAt p k) (t : TurnAt (and_member q more) n) (h : link m k n ≡ true) (s : TurnSpot (and_member q more))
+    → (d : Mode) (to : TurnAt (and_member q more) d) → turn_cells to ≡ turned_turn (and_member q more) (turn_cells t) s → Linked m k n d → TurnFits to env → Flow env (turn_shown t) (turn_shown to) → Follows (turn_left env.ack t) (turn_left env.ack to)
+    → ((x : TurnSpot (and_member q more)) → x ≢ s → turn_moves env t x ≡ true → turn_moves env to x ≡ true)
+    → TurnAfter (and_member p (and_member q more)) m env (at_later g t h) (in_later s)
+later_after {p = p} {q = q} {more = more} env g t h s running to same runs fits flow term keeps = record {
+  mode = running;
+  to = at_later g to refl;
+  same = ap (λ x. turn_of p q more (guarded_cells g) x) same;
+  way = refl;
+  fits = fits;
+  flow = flow;
+  term = term;
+  keeps = here;
+}
+  where
+    here : (x : TurnSpot (and_member p (and_member q more))) → x ≢ in_later s → turn_moves env (at_later {m = running} g t h) x ≡ true → turn_moves env (at_later {m = running} g to refl) x ≡ true
+    here (in_member x) ne z = z
+    here (in_later x) ne z = keeps x (λ (e : x ≡ s). ne (ap (λ y. in_later y) e)) z
+later_after {p = p} {q = q} {more = more} env g t h s answered to same ends fits flow term keeps = record {
+  mode = answered;
+  to = at_later g to refl;
+  same = ap (λ x. turn_of p q more (guarded_cells g) x) same;
+  way = refl;
+  fits = fits;
+  flow = flow;
+  term = term;
+  keeps = here;
+}
+  where
+    here : (x : TurnSpot (and_member p (and_member q more))) → x ≢ in_later s → turn_moves env (at_later {m = running} g t h) x ≡ true → turn_moves env (at_later {m = answered} g to refl) x ≡ true
+    here (in_member x) ne z = z
+    here (in_later x) ne z = keeps x (λ (e : x ≡ s). ne (ap (λ y. in_later y) e)) z
+later_after {p = p} {q = q} {more = more} env g t h s returning to same falls_back fits flow term keeps = record {
+  mode = returning;
+  to = at_later g to refl;
+  same = ap (λ x. turn_of p q more (guarded_cells g) x) same;
+  way = refl;
+  fits = fits;
+  flow = flow;
+  term = term;
+  keeps = here;
+}
+  where
+    here : (x : TurnSpot (and_member p (and_member q more))) → x ≢ in_later s → turn_moves env (at_later {m = returning} g t h) x ≡ true → turn_moves env (at_later {m = returning} g to refl) x ≡ true
+    here (in_member x) ne z = z
+    here (in_later x) ne z = keeps x (λ (e : x ≡ s). ne (ap (λ y. in_later y) e)) z
+later_after {p = p} {q = q} {more = more} env g t h s idle to same comes_home fits flow term keeps = record {
+  mode = idle;
+  to = turn_rests;
+  same = ap (λ x. turn_of p q more x (low_turn (and_member q more))) (sym (guarded_idle_is g)) ∙ (ap (λ x. turn_of p q more (guarded_cells g) x) (sym (turn_idle_is to).0) ∙ ap (λ x. turn_of p q more (guarded_cells g) x) same);
+  way = refl;
+  fits = tt;
+  flow = flow_by env (turn_shown t) (turn_shown to) none_shown (turn_idle_is to).1 flow;
+  term = subst (λ (z : Term). Follows (turn_left env.ack t) z) (turn_left_done env.ack to (λ e. cc e)) term;
+  keeps = here;
+}
+  where
+    here : (x : TurnSpot (and_member p (and_member q more))) → x ≢ in_later s → turn_moves env (at_later {m = returning} g t h) x ≡ true → turn_moves env (turn_rests {members = and_member p (and_member q more)}) x ≡ true
+    here (in_member x) ne z = absurd (cc (guarded_idle_moves env g x, z))
+    here (in_later x) ne z = absurd (cc (turn_idle_moves env to x, keeps x (λ (e : x ≡ s). ne (ap (λ y. in_later y) e)) z))
+
+-- the Q-element of a member falls behind what stands there
+link_back : (m n : Mode) → link m returning n ≡ true → (m ≡ returning) × (n ≡ answered)
+link_back returning answered h = (refl, refl)
+link_back _ _ h = absurd (cc h)
+
+no_link : (m n : Mode) → link m running n ≡ true → ⊥
+no_link idle n h = cc h
+no_link running n h = cc h
+no_link answered n h = cc h
+no_link returning n h = cc h
+
+behind_after : {p q : Process} {more : Processes} {k n m : Mode} (env : Wires) (g : GuardedAt p k) (t : TurnAt (and_member q more) n) (h : link m k n ≡ true) (s : GuardedSpot p) → TurnFits t env → guarded_moves env g s ≡ true → TurnAfter (and_member p (and_member q more)) m env (at_later g t h) (in_member s)
+behind_after {p = p} {q = q} {more = more} {n = answered} {m = returning} env (g_back true) t h latch f e = record {
+  mode = returning;
+  to = at_later (g_back false) t refl;
+  same = refl;
+  way = refl;
+  fits = f;
+  flow = flow_same env (turn_shown t);
+  term = inl refl;
+  keeps = here t;
+}
+  where
+    here : (t : TurnAt (and_member q more) answered) (x : TurnSpot (and_member p (and_member q more))) → x ≢ in_member latch → turn_moves env (at_later {m = returning} (g_back {p = p} true) t refl) x ≡ true → turn_moves env (at_later {m = returning} (g_back {p = p} false) t refl) x ≡ true
+    here t (in_member child) ne z = absurd (cc z)
+    here t (in_member latch) ne z = absurd (ne refl)
+    here t (in_member next) ne z = absurd (cc z)
+    here t (in_member (inner x)) ne z = absurd (cc z)
+    here t (in_later x) ne z = z
+behind_after {p = p} {q = q} {more = more} {n = answered} {m = returning} env (g_back false) t h next f e =
+    let b = turn_lowered env t f in
+    record {
+      mode = returning;
+      to = at_later g_rests b.place refl;
+      same = ap (λ x. turn_of p q more (low_guarded (low p)) x) b.same;
+      way = refl;
+      fits = b.fits;
+      flow = flow_by env (turn_shown t) (turn_shown t) (turn_shown b.place) (sym b.shows) (flow_same env (turn_shown t));
+      term = inl (turn_left_done env.ack b.place (λ e. cc e) ∙ sym (turn_left_done env.ack t (λ e. cc e)));
+      keeps = here t f b.place;
+    }
+  where
+    here : (t : TurnAt (and_member q more) answered) → TurnFits t env → (b : TurnAt (and_member q more) returning) (x : TurnSpot (and_member p (and_member q more))) → x ≢ in_member next → turn_moves env (at_later {m = returning} (g_back {p = p} false) t refl) x ≡ true → turn_moves env (at_later {m = returning} (g_rests {p = p}) b refl) x ≡ true
+    here t f b (in_member child) ne z = absurd (cc z)
+    here t f b (in_member latch) ne z = absurd (cc z)
+    here t f b (in_member next) ne z = absurd (ne refl)
+    here t f b (in_member (inner x)) ne z = absurd (cc z)
+    here t f b (in_later x) ne z = absurd (cc (turn_answered_moves env t f x, z))
+behind_after env (g_back true) t h child f e = absurd (cc e)
+behind_after env (g_back true) t h next f e = absurd (cc e)
+behind_after env (g_back true) t h (inner x) f e = absurd (cc e)
+behind_after env (g_back false) t h child f e = absurd (cc e)
+behind_after env (g_back false) t h latch f e = absurd (cc e)
+behind_after env (g_back false) t h (inner x) f e = absurd (cc e)
+behind_after {n = n} {m = m} env (g_back u) t h s f e = absurd (cc ((link_back m n h).0, (link_back m n h).1))
+behind_after {n = n} {m = m} env (g_in u a i) t h s f e = absurd (no_link m n h)
+behind_after env _ t h s f e = absurd (cc e)
+
+-- a move in the body of a loop
+no_ask : (m n : Mode) → goes m n ≡ true → (if asks m then acks m else not (acks m)) ≡ true → ⊥
+no_ask idle n g e = cc g
+no_ask running n g e = cc e
+no_ask answered n g e = cc g
+no_ask returning n g e = cc e
+
+body_after : {p : Process} {m : Mode} (env : Wires) (a : At p m) (s : Spot p) → After p m env a s → After (repeating p) running env (at_body a) (in_body s)
+body_after {p = p} {m = m} env a s r = record {
+  mode = running;
+  to = at_body r.to;
+  same = ap (λ b. ring_of p b (cells r.to)) (goes_asks m r.mode r.way) ∙ ap (λ x. ring_of p (asks m) x) r.same;
+  way = refl;
+  fits = r.fits;
+  flow = r.flow;
+  term = followed_follows (again p) (left env.ack a) (left env.ack r.to) r.term;
+  keeps = here;
+}
+  where
+    here : (x : Spot (repeating p)) → x ≢ in_body s → moves env (at_body a) x ≡ true → moves env (at_body r.to) x ≡ true
+    here of_loop ne z = z
+    here ask ne z = absurd (no_ask m r.mode r.way z)
+    here (in_body x) ne z = r.keeps x (λ (e : x ≡ s). ne (ap (λ y. in_body y) e)) z
+
+-- a loop calls for its body, and lets it go
+ask_after : (channels : List Channel) {p : Process} {m : Mode} (env : Wires) → Meets channels p → (a : At p m) → Fits a env → Backed p (shown a) env → moves env (at_body a) ask ≡ true → After (repeating p) running env (at_body a) ask
+ask_after channels {p = p} {m = idle} env meets a f back e =
+    let b = begun channels p env meets (quiet_of env (shown a) (idle_is a).1 back) in
+    record {
+      mode = running;
+      to = at_body b.place;
+      same = ap (λ x. ring_of p true x) (b.same ∙ sym (idle_is a).0);
+      way = refl;
+      fits = b.fits;
+      flow = flow_begun env (shown a) (shown b.place) (idle_is a).1 b.offer b.take;
+      term = loop_follows p (left env.ack a) (left env.ack b.place) (left_done env.ack a (λ e. cc e)) b.term;
+      keeps = here a b.place;
+    }
+  where
+    here : (a : At p idle) (b : At p running) (x : Spot (repeating p)) → x ≢ ask → moves env (at_body a) x ≡ true → moves env (at_body b) x ≡ true
+    here a b of_loop ne z = absurd (cc z)
+    here a b ask ne z = absurd (ne refl)
+    here a b (in_body x) ne z = absurd (cc (idle_moves env a x, z))
+ask_after channels {p = p} {m = answered} env meets a f back e =
+    let b = lowered env a f in
+    record {
+      mode = running;
+      to = at_body b.place;
+      same = ap (λ x. ring_of p false x) b.same;
+      way = refl;
+      fits = b.fits;
+      flow = flow_by env (shown a) (shown a) (shown b.place) (sym b.shows) (flow_same env (shown a));
+      term = inl (ap (λ z. followed z (again p)) (left_done env.ack b.place (λ e. cc e) ∙ sym (left_done env.ack a (λ e. cc e))));
+      keeps = here a f b.place;
+    }
+  where
+    here : (a : At p answered) → Fits a env → (b : At p returning) (x : Spot (repeating p)) → x ≢ ask → moves env (at_body a) x ≡ true → moves env (at_body b) x ≡ true
+    here a f b of_loop ne z = absurd (cc z)
+    here a f b ask ne z = absurd (ne refl)
+    here a f b (in_body x) ne z = absurd (cc (answered_moves env a f x, z))
+ask_after channels {m = running} env meets a f back e = absurd (cc e)
+ask_after channels {m = returning} env meets a f back e = absurd (cc e)
+
+-- a sequence as a statement, and its last member as a sequence
+turn_after : {members : Processes} {m : Mode} (env : Wires) (t : TurnAt members m) (s : TurnSpot members) → TurnAfter members m env t s → After (in_turn members) m env (at_turn t) (in_members s)
+turn_after {members = members} env t s r = record { mode = r.mode; to = at_turn r.to; same = r.same; way = r.way; fits = r.fits; flow = r.flow; term = r.term; keeps = here }
+  where
+    here : (x : Spot (in_turn members)) → x ≢ in_members s → moves env (at_turn t) x ≡ true → moves env (at_turn r.to) x ≡ true
+    here (in_members x) ne z = r.keeps x (λ (e : x ≡ s). ne (ap (λ y. in_members y) e)) z
+
+last_after : {p : Process} {m : Mode} (env : Wires) (a : At p m) (s : Spot p) → After p m env a s → TurnAfter (and_member p no_members) m env (at_last a) (in_last s)
+last_after {p = p} env a s r = record { mode = r.mode; to = at_last r.to; same = r.same; way = r.way; fits = r.fits; flow = r.flow; term = r.term; keeps = here }
+  where
+    here : (x : TurnSpot (and_member p no_members)) → x ≢ in_last s → turn_moves env (at_last a) x ≡ true → turn_moves env (at_last r.to) x ≡ true
+    here (in_last x) ne z = r.keeps x (λ (e : x ≡ s). ne (ap (λ y. in_last y) e)) z
+
+-- each own move leads to a place again, whatever moved before
+mutual
+  pub guarded_advance : (channels : List Channel) {p : Process} {m : Mode} (env : Wires) → Meets channels p → (g : GuardedAt p m) (s : GuardedSpot p) → GuardedFits g env → Backed p (guarded_shown g) env → guarded_moves env g s ≡ true → GuardedAfter p m env g s
+  guarded_advance channels env meets (g_in u a h) (inner s) f back e = inner_after env u a h s (advance channels env meets a s f record { send = back.send } e)
+  guarded_advance channels env meets g child f back e = guarded_own channels env meets g child (λ x z. cc z) f back e
+  guarded_advance channels env meets g latch f back e = guarded_own channels env meets g latch (λ x z. cc z) f back e
+  guarded_advance channels env meets g next f back e = guarded_own channels env meets g next (λ x z. cc z) f back e
+  guarded_advance channels env meets _ (inner s) f back e = absurd (cc e)
+
+  pub advance : (channels : List Channel) {p : Process} {m : Mode} (env : Wires) → Meets channels p → (a : At p m) (s : Spot p) → Fits a env → Backed p (shown a) env → moves env a s ≡ true → After p m env a s
+  advance channels env meets rests s f back e = absurd (cc e)
+  advance channels env meets (at_skip m h) s f back e = skip_after env m h s e
+  advance channels env meets (at_send {c = c} {at = at} {w = w} {v = v} m u h) s f back e = send_after c at w v env m u h s f e
+  advance channels env meets (at_turn t) (in_members s) f back e = turn_after env t s (turn_advance channels env meets t s f record { send = back.send } e)
+  advance channels env meets (at_body a) (in_body s) f back e = body_after env a s (advance channels env meets a s f record { send = back.send } e)
+  advance channels env meets (at_body a) ask f back e = ask_after channels env meets a f record { send = back.send } e
+  advance channels env meets (at_body a) of_loop f back e = absurd (cc e)
+
+  pub turn_advance : (channels : List Channel) {members : Processes} {m : Mode} (env : Wires) → TurnMeets channels members → (t : TurnAt members m) (s : TurnSpot members) → TurnFits t env → Backed (in_turn members) (turn_shown t) env → turn_moves env t s ≡ true → TurnAfter members m env t s
+  turn_advance channels env meets turn_rests s f back e = absurd (cc e)
+  turn_advance channels env meets (at_last {p = p} a) (in_last s) f back e = last_after env a s (advance channels env meets a s f record { send = λ k h. back.send k (or_left (sends p k) false h) } e)
+  turn_advance channels env meets (at_member {p = p} {q = q} {more = more} g) (in_member s) f back e =
+      member_after channels env meets.1 g s record { send = back.send } (guarded_advance channels env meets.0 g s f record { send = λ k h. back.send k (or_left (sends p k) (turn_sends (and_member q more) k) h) } e)
+  turn_advance channels env meets (at_member g) (in_later s) f back e = absurd (cc e)
+  turn_advance channels env meets (at_later {p = p} {q = q} {more = more} {k = k} {n = n} {m = m} g t h) (in_later s) f back e =
+      let r = turn_advance channels env meets.1 t s f record { send = λ k h. back.send k (or_right (sends p k) (turn_sends (and_member q more) k) h) } e in
+      later_after env g t h s r.mode r.to r.same (linked m k n r.mode h r.way) r.fits r.flow r.term r.keeps
+  turn_advance channels env meets (at_later g t h) (in_member s) f back e = behind_after env g t h s f e

@@ -1,0 +1,12 @@
+pub mod Waves
+pub mod Places
+pub mod Meets
+pub mod Left
+pub mod Flow
+pub mod Begin
+pub mod Leaves
+pub mod Control
+pub mod Change
+pub mod Sites
+pub mod Fires
+pub mod Rest

@@ -1,0 +1,178 @@
+-- The rails of a channel's sites, and the channel's own that are their merges.
+use Rattle.std.proofs.Common.{◌≡◌, ℕ, zero, suc, ◌/◌, ◌==◌, Bool, true, false, List, [], ◌∷◌, ◌++◌, refl, sym, ap, ◌∙◌}
+use Rattle.std.specs.Prelude.{not, ◌&&◌, ◌||◌, if◌then◌else◌}
+use Rattle.std.specs.List.{list_any, list_all}
+use Rattle.env_script.specs.Environment.{is_odd}
+use Rattle.width_check.specs.Processes.{Formula, constant, reading, joined, inverted, chained, compared, Process, skipping, assigning, sending, receiving, in_turn, side_by_side, choosing, repeating, Processes, no_members, and_member}
+use Rattle.circuit_places.specs.Circuit.{Pairs, side_of, low_pairs, gate_count, Cells, TurnCells, low, low_turn, same_bit, fires, is_apart, turns, rail_in, result_rail, site_rails, turn_rails}
+use Rattle.circuit_places.specs.Whole.{all_low, merged}
+use Rattle.circuit_places.proofs.Waves.{Wave, bit_pair, pairs_of, held}
+use Rattle.circuit_places.proofs.Places.{Mode, idle, running, answered, returning, link, GuardedAt, At, TurnAt, g_rests, g_in, g_past, g_back, rests, at_skip, at_send, at_turn, at_body, turn_rests, at_last, at_member, at_later, guarded_cells, cells, turn_cells, guarded_shown, shown, turn_shown, not_running}
+
+abbrev pub any : List Bool → Bool
+any xs = list_any (λ b. b) xs
+
+abbrev pub is_nil : List Bool → Bool
+is_nil [] = true
+is_nil (x ∷ xs) = false
+
+pub any_append : (xs ys : List Bool) → any (xs ++ ys) ≡ (any xs || any ys)
+any_append [] ys = refl
+any_append (true ∷ xs) ys = refl
+any_append (false ∷ xs) ys = any_append xs ys
+
+nil_append : (xs ys : List Bool) → is_nil (xs ++ ys) ≡ (is_nil xs && is_nil ys)
+nil_append [] ys = refl
+nil_append (x ∷ xs) ys = refl
+
+pub any_not_nil : (xs : List Bool) → any xs ≡ true → is_nil xs ≡ false
+any_not_nil [] h = absurd (cc h)
+any_not_nil (x ∷ xs) h = refl
+
+all_not : (xs : List Bool) → list_all not xs ≡ not (any xs)
+all_not [] = refl
+all_not (true ∷ xs) = refl
+all_not (false ∷ xs) = all_not xs
+
+pub low_is : (xs : List Bool) → is_nil xs ≡ false → all_low xs ≡ not (any xs)
+low_is [] h = absurd (cc h)
+low_is (true ∷ xs) h = refl
+low_is (false ∷ xs) h = all_not xs
+
+pub merged_can : (now : Bool) (xs : List Bool) → (now ≡ true → is_nil xs ≡ false) → fires (merged now xs) ≡ turns now (any xs) (not (any xs))
+merged_can true xs h = low_is xs (h refl)
+merged_can false xs h = refl
+
+pub merged_apart : (now : Bool) (xs : List Bool) → is_apart (merged now xs) ≡ true
+merged_apart now [] = refl
+merged_apart now (true ∷ xs) = refl
+merged_apart now (false ∷ xs) = ap (λ b. not (any xs && b)) (all_not xs) ∙ here (any xs)
+  where
+    here : (b : Bool) → not (b && not b) ≡ true
+    here true = refl
+    here false = refl
+
+-- which rails have sites doesn't change
+rail_nil : (n : ℕ) (x y : Pairs n) (i : ℕ) (one : Bool) → is_nil (rail_in n x i one) ≡ is_nil (rail_in n y i one)
+rail_nil zero x y i one = refl
+rail_nil (suc n) x y zero one = refl
+rail_nil (suc n) x y (suc i) one = rail_nil n x.1 y.1 i one
+
+result_nil : (e : Formula) (x y : Pairs (gate_count e)) (i : ℕ) (one : Bool) → is_nil (result_rail e x i one) ≡ is_nil (result_rail e y i one)
+result_nil (constant w v) x y i one = rail_nil w x y i one
+result_nil (reading z high low at) x y i one = refl
+result_nil (joined parts) x y i one = refl
+result_nil (inverted e) x y i one = refl
+result_nil (chained e more) x y i one = refl
+result_nil (compared op e f) x y i one = refl
+
+mutual
+  pub same_sites : (p : Process) (x y : Cells p) (k i : ℕ) (one : Bool) → is_nil (site_rails p x k i one) ≡ is_nil (site_rails p y k i one)
+  same_sites (sending c at e) x y k i one = here (c == k)
+    where
+      here : (b : Bool) → is_nil (if b then result_rail e x.gates i one else []) ≡ is_nil (if b then result_rail e y.gates i one else [])
+      here true = result_nil e x.gates y.gates i one
+      here false = refl
+  same_sites (in_turn members) x y k i one = same_turn_sites members x y k i one
+  same_sites (repeating p) x y k i one = same_sites p x.inner y.inner k i one
+  same_sites skipping x y k i one = refl
+  same_sites (assigning z at e) x y k i one = refl
+  same_sites (receiving c at z to) x y k i one = refl
+  same_sites (side_by_side _) x y k i one = refl
+  same_sites (choosing again _) x y k i one = refl
+
+  same_turn_sites : (members : Processes) (x y : TurnCells members) (k i : ℕ) (one : Bool) → is_nil (turn_rails members x k i one) ≡ is_nil (turn_rails members y k i one)
+  same_turn_sites no_members x y k i one = refl
+  same_turn_sites (and_member p no_members) x y k i one = same_sites p x y k i one
+  same_turn_sites (and_member p (and_member q more)) x y k i one =
+      nil_append (site_rails p x.member.inner k i one) (turn_rails (and_member q more) x.later k i one)
+      ∙ (ap (λ b. b && is_nil (turn_rails (and_member q more) x.later k i one)) (same_sites p x.member.inner y.member.inner k i one)
+      ∙ (ap (λ b. is_nil (site_rails p y.member.inner k i one) && b) (same_turn_sites (and_member q more) x.later y.later k i one)
+      ∙ sym (nil_append (site_rails p y.member.inner k i one) (turn_rails (and_member q more) y.later k i one))))
+
+-- one of the sites has the rail high where the place holds it
+low_rail : (n : ℕ) (i : ℕ) (one : Bool) → any (rail_in n (low_pairs n) i one) ≡ false
+low_rail zero i one = refl
+low_rail (suc n) zero true = refl
+low_rail (suc n) zero false = refl
+low_rail (suc n) (suc i) one = low_rail n i one
+
+low_result : (e : Formula) (i : ℕ) (one : Bool) → any (result_rail e (low_pairs (gate_count e)) i one) ≡ false
+low_result (constant w v) i one = low_rail w i one
+low_result (reading x high low at) i one = refl
+low_result (joined parts) i one = refl
+low_result (inverted e) i one = refl
+low_result (chained e more) i one = refl
+low_result (compared op e f) i one = refl
+
+or_false : (b : Bool) → (b || false) ≡ b
+or_false true = refl
+or_false false = refl
+
+pub none_both : (xs ys : List Bool) (a b : Bool) → any xs ≡ a → any ys ≡ b → any (xs ++ ys) ≡ (a || b)
+none_both xs ys a b e f = any_append xs ys ∙ (ap (λ z. z || any ys) e ∙ ap (λ z. a || z) f)
+
+mutual
+  low_sites : (p : Process) (k i : ℕ) (one : Bool) → any (site_rails p (low p) k i one) ≡ false
+  low_sites (sending c at e) k i one = here (c == k)
+    where
+      here : (b : Bool) → any (if b then result_rail e (low_pairs (gate_count e)) i one else []) ≡ false
+      here true = low_result e i one
+      here false = refl
+  low_sites (in_turn members) k i one = low_turn_sites members k i one
+  low_sites (repeating p) k i one = low_sites p k i one
+  low_sites skipping k i one = refl
+  low_sites (assigning z at e) k i one = refl
+  low_sites (receiving c at z to) k i one = refl
+  low_sites (side_by_side _) k i one = refl
+  low_sites (choosing again _) k i one = refl
+
+  low_turn_sites : (members : Processes) (k i : ℕ) (one : Bool) → any (turn_rails members (low_turn members) k i one) ≡ false
+  low_turn_sites no_members k i one = refl
+  low_turn_sites (and_member p no_members) k i one = low_sites p k i one
+  low_turn_sites (and_member p (and_member q more)) k i one = none_both (site_rails p (low p) k i one) (turn_rails (and_member q more) (low_turn (and_member q more)) k i one) false false (low_sites p k i one) (low_turn_sites (and_member q more) k i one)
+
+pair_any : (o one up : Bool) → (side_of (bit_pair o up) one || false) ≡ (same_bit o one && up)
+pair_any true true up = or_false up
+pair_any true false up = refl
+pair_any false true up = refl
+pair_any false false up = or_false up
+
+rail_any : (n v : ℕ) (u : Wave n) (i : ℕ) (one : Bool) → any (rail_in n (pairs_of n v u) i one) ≡ held n v u i one
+rail_any zero v u i one = refl
+rail_any (suc n) v u zero one = pair_any (is_odd v) one u.0
+rail_any (suc n) v u (suc i) one = rail_any n (v / 2) u.1 i one
+
+-- a Q-element that isn't running is low inside
+past_sites : {p : Process} {m : Mode} (g : GuardedAt p m) (k i : ℕ) (one : Bool) → (m ≡ running → ⊥) → any (site_rails p (guarded_cells g).inner k i one) ≡ false
+past_sites {p = p} g_rests k i one ne = low_sites p k i one
+past_sites (g_in u a h) k i one ne = absurd (ne refl)
+past_sites {p = p} g_past k i one ne = low_sites p k i one
+past_sites {p = p} (g_back u) k i one ne = low_sites p k i one
+
+mutual
+  pub guarded_offered : {p : Process} {m : Mode} (g : GuardedAt p m) (k i : ℕ) (one : Bool) → any (site_rails p (guarded_cells g).inner k i one) ≡ (guarded_shown g).offer k i one
+  guarded_offered {p = p} g_rests k i one = low_sites p k i one
+  guarded_offered (g_in u a h) k i one = offered a k i one
+  guarded_offered {p = p} g_past k i one = low_sites p k i one
+  guarded_offered {p = p} (g_back u) k i one = low_sites p k i one
+
+  pub offered : {p : Process} {m : Mode} (a : At p m) (k i : ℕ) (one : Bool) → any (site_rails p (cells a) k i one) ≡ (shown a).offer k i one
+  offered {p = p} rests k i one = low_sites p k i one
+  offered (at_skip m h) k i one = refl
+  offered (at_send {c = c} {w = w} {v = v} m u h) k i one = here (c == k)
+    where
+      here : (b : Bool) → any (if b then rail_in w (pairs_of w v u) i one else []) ≡ (b && held w v u i one)
+      here true = rail_any w v u i one
+      here false = refl
+  offered (at_turn t) k i one = turn_offered t k i one
+  offered (at_body a) k i one = offered a k i one
+
+  pub turn_offered : {members : Processes} {m : Mode} (t : TurnAt members m) (k i : ℕ) (one : Bool) → any (turn_rails members (turn_cells t) k i one) ≡ (turn_shown t).offer k i one
+  turn_offered {members = members} turn_rests k i one = low_turn_sites members k i one
+  turn_offered (at_last a) k i one = offered a k i one
+  turn_offered (at_member {p = p} {q = q} {more = more} g) k i one =
+      none_both (site_rails p (guarded_cells g).inner k i one) (turn_rails (and_member q more) (low_turn (and_member q more)) k i one) _ false (guarded_offered g k i one) (low_turn_sites (and_member q more) k i one)
+      ∙ or_false ((guarded_shown g).offer k i one)
+  turn_offered (at_later {p = p} {q = q} {more = more} {k = j} {n = n} {m = m} g t h) k i one =
+      none_both (site_rails p (guarded_cells g).inner k i one) (turn_rails (and_member q more) (turn_cells t) k i one) false _ (past_sites g k i one (not_running m j n h)) (turn_offered t k i one)

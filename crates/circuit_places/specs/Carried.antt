@@ -1,0 +1,45 @@
+-- What holds of each state that a covered program's circuit reaches.
+use Rattle.std.specs.Prelude.{◌≡◌, ◌≢◌, ◌≤◌, ℕ, Bool, true, false, not, List, is_some}
+use Rattle.env_script.specs.Scripts.{OfferValue, IsScript}
+use Rattle.width_check.specs.Processes.{TypedProgram}
+use Rattle.width_check.specs.Typing.{IsTyped, channel_width}
+use Rattle.chp_meaning.specs.Terms.{Place, finished}
+use Rattle.chp_meaning.specs.Steps.{Configuration, Step, Leads, start_of}
+use Rattle.circuit_places.specs.Circuit.{is_apart}
+use Rattle.circuit_places.specs.Whole.{Whole, Node, rail_node, ack_node, rule_in, enabled, moved, value_on, neutral_on, Reaches}
+use Rattle.circuit_places.specs.Covered.{Covered}
+
+-- no move takes away another that is enabled, no node is pulled both ways, and each channel keeps its phases
+pub record IsSafe (P : TypedProgram) (script : List OfferValue) (x : Whole P.body) : Type 0 where
+  pub stable : (n m : Node P.body) → n ≢ m → enabled P script x n ≡ true → enabled P script x m ≡ true → enabled P script (moved P x m) n ≡ true
+  pub apart : (n : Node P.body) → is_apart (rule_in P.body x n) ≡ true
+  pub rail_up : (k i : ℕ) (one : Bool) → x.wires.rail k i one ≡ false → enabled P script x (rail_node k i one) ≡ true → (x.wires.ack k ≡ false) × (x.wires.rail k i (not one) ≡ false)
+  pub rail_down : (k i : ℕ) (one : Bool) → x.wires.rail k i one ≡ true → enabled P script x (rail_node k i one) ≡ true → x.wires.ack k ≡ true
+  pub ack_up : (k : ℕ) → x.wires.ack k ≡ false → enabled P script x (ack_node k) ≡ true → is_some (value_on (channel_width P.channels k) (x.wires.rail k)) ≡ true
+  pub ack_down : (k : ℕ) → x.wires.ack k ≡ true → enabled P script x (ack_node k) ≡ true → neutral_on (channel_width P.channels k) (x.wires.rail k) ≡ true
+
+abbrev pub IsAtRest : (P : TypedProgram) → List OfferValue → Whole P.body → Type 0
+IsAtRest P script x = (n : Node P.body) → enabled P script x n ≡ false
+
+-- the program goes no further, and done is high exactly where it has ended
+pub record IsSettled (P : TypedProgram) (x : Whole P.body) (c : Configuration) : Type 0 where
+  pub still : (at : Place) (d : Configuration) → ¬ Step c at d
+  pub ended : x.root.next ≡ true → c.term ≡ finished
+  pub going : x.root.next ≡ false → c.term ≢ finished
+
+-- after so many moves: as many steps of the program at most have passed the same values
+pub record IsCarried (P : TypedProgram) (script : List OfferValue) (moves : ℕ) (x : Whole P.body) : Type 0 where
+  pub safe : IsSafe P script x
+  pub to : Configuration
+  pub steps : ℕ
+  pub within : steps ≤ moves
+  pub leads : Leads (start_of P script) steps to
+  pub passed : to.histories ≡ x.histories
+  pub rest : IsAtRest P script x → IsSettled P x to
+
+abbrev pub Carries : TypedProgram → Type 0
+Carries P = (script : List OfferValue) → IsScript P.channels script → (moves : ℕ) (x : Whole P.body) → Reaches P script moves x → IsCarried P script moves x
+
+-- each covered program's circuit carries it
+abbrev pub CircuitsCarry : Type 0
+CircuitsCarry = (P : TypedProgram) → IsTyped P.channels P.vars P.body → Covered P → Carries P

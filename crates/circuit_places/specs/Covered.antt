@@ -1,0 +1,28 @@
+-- The programs whose circuits are proved so far.
+use Rattle.std.specs.Prelude.{◌≡◌, ℕ, All}
+use Rattle.chp_base.specs.declared.channel.Channel.{Channel}
+use Rattle.chp_base.specs.declared.channel.Kind.TheVariants.{Out}
+use Rattle.width_check.specs.Processes.{Formula, constant, Process, skipping, sending, in_turn, repeating, Processes, no_members, and_member, TypedProgram}
+
+-- a number
+abbrev pub IsNumber : Formula → Type 0
+IsNumber (constant width v) = Unit {0}
+IsNumber _ = ⊥
+
+-- skip, sequences, loops that go on for ever, and sends of numbers
+abbrev mutual
+  pub IsCovered : Process → Type 0
+  IsCovered skipping = Unit {0}
+  IsCovered (sending chan at e) = IsNumber e
+  IsCovered (in_turn members) = AreCovered members
+  IsCovered (repeating p) = IsCovered p
+  IsCovered _ = ⊥
+
+  pub AreCovered : Processes → Type 0
+  AreCovered no_members = Unit {0}
+  AreCovered (and_member p more) = IsCovered p × AreCovered more
+
+-- of which the environment receives each
+pub record Covered (P : TypedProgram) : Type 0 where
+  pub channels : All (λ (c : Channel). c.kind ≡ Out) P.channels
+  pub body : IsCovered P.body

@@ -1,0 +1,4 @@
+pub mod Circuit
+pub mod Whole
+pub mod Covered
+pub mod Carried
