@@ -2,3 +2,8 @@ pub mod NameLemmas
 pub mod Nothing
 pub mod NothingCarried
 pub mod NothingAccepted
+pub mod FlatCells
+pub mod FlatRules
+pub mod FlatSites
+pub mod FlatWires
+pub mod FlatNet

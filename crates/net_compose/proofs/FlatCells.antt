@@ -1,0 +1,279 @@
+-- The cells of a covered circuit as a list of values, in the order of the nodes' numbers.
+use Rattle.std.proofs.Common.{◌≡◌, ℕ, zero, suc, ◌+◌, ◌-◌, ◌*◌, ◌<◌, ◌≤◌, Bool, true, false, List, [], ◌∷◌, ◌++◌, length, get_or, set, replicate, refl, sym, ap, ◌∙◌, arith, length-append, get_or-append-add, ⊎_elim}
+use Rattle.std.specs.Prelude.{not, if◌then◌else◌}
+use Rattle.std.proofs.lemmas.Bool.{cases_lt}
+use Rattle.std.proofs.lemmas.List.{get_or_append_left, set-append_left, set-append_right, replicate-append-replicate}
+use Rattle.width_check.specs.Processes.{Formula, constant, reading, joined, inverted, chained, compared, Process, skipping, assigning, sending, receiving, in_turn, side_by_side, choosing, repeating, Processes, no_members, and_member, TypedProgram}
+use Rattle.handshake_expand.specs.Layout.{formula_size, size_of, turn_size}
+use Rattle.circuit_places.specs.Covered.{IsNumber, IsCovered, AreCovered}
+use Rattle.circuit_places.specs.Circuit.{Pairs, side_of, gate_count, Guarded, Cells, TurnCells, low_pairs, low, low_turn, GuardedSpot, Spot, TurnSpot, child, latch, next, inner, of_skip, of_send, gate, in_members, of_loop, ask, in_body, in_last, in_member, in_later, turned_pairs, turned_guarded, turned, turned_turn}
+
+-- an expression of a covered program is a number
+pub by_number : (Q : Formula → Type 0) → ((w v : ℕ) → Q (constant w v)) → (e : Formula) → IsNumber e → Q e
+by_number Q of (constant w v) h = of w v
+by_number Q of (reading x high low at) h = absurd h
+by_number Q of (joined parts) h = absurd h
+by_number Q of (inverted e) h = absurd h
+by_number Q of (chained e more) h = absurd h
+by_number Q of (compared op e f) h = absurd h
+
+-- the rails of some pairs
+abbrev pub pair_bits : (n : ℕ) → Pairs n → List Bool
+pair_bits zero x = []
+pair_bits (suc n) x = x.0.t ∷ x.0.f ∷ pair_bits n x.1
+
+abbrev pub rail_place : (bit : ℕ) → Bool → ℕ
+rail_place zero true = 0
+rail_place zero false = 1
+rail_place (suc i) one = suc (suc (rail_place i one))
+
+pub rail_place_is : (i : ℕ) (one : Bool) → rail_place i one ≡ 2 * i + (if one then 0 else 1)
+rail_place_is zero true = refl
+rail_place_is zero false = refl
+rail_place_is (suc i) one = let e = rail_place_is i one in omega (arith, e)
+
+pub rail_place_lt : (i n : ℕ) (one : Bool) → i < n → rail_place i one < 2 * n
+rail_place_lt i n true h = let e = rail_place_is i true in omega (arith, e)
+rail_place_lt i n false h = let e = rail_place_is i false in omega (arith, e)
+
+pub length-pair_bits : (n : ℕ) (x : Pairs n) → length (pair_bits n x) ≡ 2 * n
+length-pair_bits zero x = refl
+length-pair_bits (suc n) x = omega (arith, length-pair_bits n x.1)
+
+abbrev mutual
+  pub bits : (p : Process) → Cells p → List Bool
+  bits skipping x = x ∷ []
+  bits (sending chan at e) x = x.answer ∷ pair_bits (gate_count e) x.gates
+  bits (in_turn members) x = turn_bits members x
+  bits (repeating p) x = x.answer ∷ x.ask ∷ bits p x.inner
+  bits _ x = []
+
+  pub turn_bits : (members : Processes) → TurnCells members → List Bool
+  turn_bits no_members x = []
+  turn_bits (and_member p no_members) x = bits p x
+  turn_bits (and_member p (and_member q more)) x =
+      x.member.child ∷ x.member.latch ∷ x.member.next ∷ (bits p x.member.inner ++ turn_bits (and_member q more) x.later)
+
+-- which rail a number is
+pub record Rail (n k : ℕ) : Type 0 where
+  pub bit : ℕ
+  pub one : Bool
+  pub below : bit < n
+  pub is : rail_place bit one ≡ k
+
+pub rail_of : (n k : ℕ) → k < 2 * n → Rail n k
+rail_of zero k h = absurd (omega arith)
+rail_of (suc n) zero h = record { bit = zero; one = true; below = omega arith; is = refl }
+rail_of (suc n) (suc zero) h = record { bit = zero; one = false; below = omega arith; is = refl }
+rail_of (suc n) (suc (suc k)) h = let r = rail_of n k (omega arith) in record { bit = suc r.bit; one = r.one; below = omega (arith, r.below); is = ap (λ m. suc (suc m)) r.is }
+
+module _ (P : TypedProgram) where
+  -- where a node is in the list
+  abbrev mutual
+    pub place : (p : Process) → Spot p → ℕ
+    place skipping of_skip = 0
+    place (sending chan at e) of_send = 0
+    place (sending chan at e) (gate i one) = suc (rail_place i one)
+    place (in_turn members) (in_members s) = turn_place members s
+    place (repeating p) of_loop = 0
+    place (repeating p) ask = 1
+    place (repeating p) (in_body s) = suc (suc (place p s))
+    place _ s = 0
+
+    pub turn_place : (members : Processes) → TurnSpot members → ℕ
+    turn_place no_members s = 0
+    turn_place (and_member p no_members) (in_last s) = place p s
+    turn_place (and_member p (and_member q more)) (in_member child) = 0
+    turn_place (and_member p (and_member q more)) (in_member latch) = 1
+    turn_place (and_member p (and_member q more)) (in_member next) = 2
+    turn_place (and_member p (and_member q more)) (in_member (inner s)) = suc (suc (suc (place p s)))
+    turn_place (and_member p (and_member q more)) (in_later s) = suc (suc (suc (size_of P p + turn_place (and_member q more) s)))
+
+  -- the spot has a node: its bit is one of the expression's
+  abbrev mutual
+    pub IsFine : (p : Process) → Spot p → Type 0
+    IsFine (sending chan at e) (gate i one) = i < gate_count e
+    IsFine (in_turn members) (in_members s) = IsFineTurn members s
+    IsFine (repeating p) (in_body s) = IsFine p s
+    IsFine _ s = Unit {0}
+
+    pub IsFineTurn : (members : Processes) → TurnSpot members → Type 0
+    IsFineTurn (and_member p no_members) (in_last s) = IsFine p s
+    IsFineTurn (and_member p (and_member q more)) (in_member (inner s)) = IsFine p s
+    IsFineTurn (and_member p (and_member q more)) (in_later s) = IsFineTurn (and_member q more) s
+    IsFineTurn _ s = Unit {0}
+
+  mutual
+    pub length-bits : (p : Process) → IsCovered p → (x : Cells p) → length (bits p x) ≡ size_of P p
+    length-bits skipping c x = refl
+    length-bits (sending chan at e) c x =
+        by_number (λ e. (g : Pairs (gate_count e)) → suc (length (pair_bits (gate_count e) g)) ≡ 1 + formula_size e)
+        (λ w v g. omega (arith, length-pair_bits w g)) e c x.gates
+    length-bits (in_turn members) c x = length-turn_bits members c x
+    length-bits (repeating p) c x = omega (arith, length-bits p c x.inner)
+    length-bits (assigning z at e) c x = absurd c
+    length-bits (receiving chan at z to) c x = absurd c
+    length-bits (side_by_side members) c x = absurd c
+    length-bits (choosing again choices) c x = absurd c
+
+    pub length-turn_bits : (members : Processes) → AreCovered members → (x : TurnCells members) → length (turn_bits members x) ≡ turn_size P members
+    length-turn_bits no_members c x = refl
+    length-turn_bits (and_member p no_members) c x = length-bits p c.0 x
+    length-turn_bits (and_member p (and_member q more)) c x =
+        omega (arith, length-append (bits p x.member.inner) (turn_bits (and_member q more) x.later), length-bits p c.0 x.member.inner, length-turn_bits (and_member q more) c.1 x.later)
+
+  mutual
+    pub place_lt : (p : Process) → IsCovered p → (s : Spot p) → IsFine p s → place p s < size_of P p
+    place_lt skipping c of_skip f = omega arith
+    place_lt (sending chan at e) c of_send f = omega arith
+    place_lt (sending chan at e) c (gate i one) f =
+        by_number (λ e. i < gate_count e → suc (rail_place i one) < 1 + formula_size e)
+        (λ w v h. omega (arith, rail_place_lt i w one h)) e c f
+    place_lt (in_turn members) c (in_members s) f = turn_place_lt members c s f
+    place_lt (repeating p) c of_loop f = omega arith
+    place_lt (repeating p) c ask f = omega arith
+    place_lt (repeating p) c (in_body s) f = omega (arith, place_lt p c s f)
+    place_lt (assigning z at e) c s f = absurd c
+    place_lt (receiving chan at z to) c s f = absurd c
+    place_lt (side_by_side members) c s f = absurd c
+    place_lt (choosing again choices) c s f = absurd c
+
+    pub turn_place_lt : (members : Processes) → AreCovered members → (s : TurnSpot members) → IsFineTurn members s → turn_place members s < turn_size P members
+    turn_place_lt no_members c s f = elim s [ ]
+    turn_place_lt (and_member p no_members) c (in_last s) f = place_lt p c.0 s f
+    turn_place_lt (and_member p (and_member q more)) c (in_member child) f = omega arith
+    turn_place_lt (and_member p (and_member q more)) c (in_member latch) f = omega arith
+    turn_place_lt (and_member p (and_member q more)) c (in_member next) f = omega arith
+    turn_place_lt (and_member p (and_member q more)) c (in_member (inner s)) f = omega (arith, place_lt p c.0 s f)
+    turn_place_lt (and_member p (and_member q more)) c (in_later s) f = omega (arith, turn_place_lt (and_member q more) c.1 s f)
+
+  -- a rail among pairs
+  pub rail_at_place : (n : ℕ) (x : Pairs n) (i : ℕ) (one : Bool) → i < n → (y : Bool) → set (pair_bits n x) (rail_place i one) (not (get_or (pair_bits n x) (rail_place i one) false)) ≡ pair_bits n (turned_pairs n x i one)
+  rail_at_place zero x i one h y = absurd (omega arith)
+  rail_at_place (suc n) x zero true h y = refl
+  rail_at_place (suc n) x zero false h y = refl
+  rail_at_place (suc n) x (suc i) one h y = ap (λ l. x.0.t ∷ x.0.f ∷ l) (rail_at_place n x.1 i one (omega arith) y)
+
+  -- in a list of two parts
+  set_first : (a b : List Bool) (k : ℕ) → k < length a → set (a ++ b) k (not (get_or (a ++ b) k false)) ≡ set a k (not (get_or a k false)) ++ b
+  set_first a b k h =
+      ap (λ z. set (a ++ b) k (not z)) (get_or_append_left a b false k h) ∙ set-append_left a b k (not (get_or a k false)) h
+
+  set_second : (a b : List Bool) (n k : ℕ) → length a ≡ n → set (a ++ b) (n + k) (not (get_or (a ++ b) (n + k) false)) ≡ a ++ set b k (not (get_or b k false))
+  set_second a b n k e =
+      let g : get_or (a ++ b) (n + k) false ≡ get_or b k false = ap (λ m. get_or (a ++ b) (m + k) false) (sym e) ∙ get_or-append-add a b k false in
+      let d : n + k - n ≡ k = omega arith in
+      ap (λ z. set (a ++ b) (n + k) (not z)) g
+      ∙ (set-append_right a b n (n + k) (not (get_or b k false)) e (omega arith) ∙ ap (λ m. a ++ set b m (not (get_or b k false))) d)
+
+  -- a node turned over in the list is the node turned over in the tree
+  mutual
+    pub turned_is : (p : Process) → IsCovered p → (x : Cells p) (s : Spot p) → IsFine p s → set (bits p x) (place p s) (not (get_or (bits p x) (place p s) false)) ≡ bits p (turned p x s)
+    turned_is skipping c x of_skip f = refl
+    turned_is (sending chan at e) c x of_send f = refl
+    turned_is (sending chan at e) c x (gate i one) f = ap (λ l. x.answer ∷ l) (rail_at_place (gate_count e) x.gates i one f true)
+    turned_is (in_turn members) c x (in_members s) f = turned_turn_is members c x s f
+    turned_is (repeating p) c x of_loop f = refl
+    turned_is (repeating p) c x ask f = refl
+    turned_is (repeating p) c x (in_body s) f = ap (λ l. x.answer ∷ x.ask ∷ l) (turned_is p c x.inner s f)
+    turned_is (assigning z at e) c x s f = absurd c
+    turned_is (receiving chan at z to) c x s f = absurd c
+    turned_is (side_by_side members) c x s f = absurd c
+    turned_is (choosing again choices) c x s f = absurd c
+
+    pub turned_turn_is : (members : Processes) → AreCovered members → (x : TurnCells members) (s : TurnSpot members) → IsFineTurn members s
+        → set (turn_bits members x) (turn_place members s) (not (get_or (turn_bits members x) (turn_place members s) false)) ≡ turn_bits members (turned_turn members x s)
+    turned_turn_is no_members c x s f = elim s [ ]
+    turned_turn_is (and_member p no_members) c x (in_last s) f = turned_is p c.0 x s f
+    turned_turn_is (and_member p (and_member q more)) c x (in_member child) f = refl
+    turned_turn_is (and_member p (and_member q more)) c x (in_member latch) f = refl
+    turned_turn_is (and_member p (and_member q more)) c x (in_member next) f = refl
+    turned_turn_is (and_member p (and_member q more)) c x (in_member (inner s)) f =
+        let a = bits p x.member.inner in
+        let b = turn_bits (and_member q more) x.later in
+        ap (λ l. x.member.child ∷ x.member.latch ∷ x.member.next ∷ l)
+        (set_first a b (place p s) (omega (arith, place_lt p c.0 s f, length-bits p c.0 x.member.inner)) ∙ ap (λ l. l ++ b) (turned_is p c.0 x.member.inner s f))
+    turned_turn_is (and_member p (and_member q more)) c x (in_later s) f =
+        let a = bits p x.member.inner in
+        let b = turn_bits (and_member q more) x.later in
+        ap (λ l. x.member.child ∷ x.member.latch ∷ x.member.next ∷ l)
+        (set_second a b (size_of P p) (turn_place (and_member q more) s) (length-bits p c.0 x.member.inner) ∙ ap (λ l. a ++ l) (turned_turn_is (and_member q more) c.1 x.later s f))
+
+  -- each node of the list is a node of the tree
+  pub record AtPlace (p : Process) (n : ℕ) : Type 0 where
+    pub spot : Spot p
+    pub fine : IsFine p spot
+    pub is : place p spot ≡ n
+
+  pub record AtTurnPlace (members : Processes) (n : ℕ) : Type 0 where
+    pub spot : TurnSpot members
+    pub fine : IsFineTurn members spot
+    pub is : turn_place members spot ≡ n
+
+  mutual
+    pub spot_of : (p : Process) → IsCovered p → (n : ℕ) → n < size_of P p → AtPlace p n
+    spot_of skipping c zero h = record { spot = of_skip; fine = tt; is = refl }
+    spot_of skipping c (suc n) h = absurd (omega arith)
+    spot_of (sending chan at e) c zero h = record { spot = of_send; fine = tt; is = refl }
+    spot_of (sending chan at e) c (suc n) h =
+        by_number (λ e. suc n < 1 + formula_size e → AtPlace (sending chan at e) (suc n))
+        (λ w v lt. let r = rail_of w n (omega arith) in record { spot = gate r.bit r.one; fine = r.below; is = ap suc r.is }) e c h
+    spot_of (in_turn members) c n h = let r = turn_spot_of members c n h in record { spot = in_members r.spot; fine = r.fine; is = r.is }
+    spot_of (repeating p) c zero h = record { spot = of_loop; fine = tt; is = refl }
+    spot_of (repeating p) c (suc zero) h = record { spot = ask; fine = tt; is = refl }
+    spot_of (repeating p) c (suc (suc n)) h = let r = spot_of p c n (omega arith) in record { spot = in_body r.spot; fine = r.fine; is = ap (λ m. suc (suc m)) r.is }
+    spot_of (assigning z at e) c n h = absurd c
+    spot_of (receiving chan at z to) c n h = absurd c
+    spot_of (side_by_side members) c n h = absurd c
+    spot_of (choosing again choices) c n h = absurd c
+
+    pub turn_spot_of : (members : Processes) → AreCovered members → (n : ℕ) → n < turn_size P members → AtTurnPlace members n
+    turn_spot_of no_members c n h = absurd (omega arith)
+    turn_spot_of (and_member p no_members) c n h = let r = spot_of p c.0 n h in record { spot = in_last r.spot; fine = r.fine; is = r.is }
+    turn_spot_of (and_member p (and_member q more)) c zero h = record { spot = in_member child; fine = tt; is = refl }
+    turn_spot_of (and_member p (and_member q more)) c (suc zero) h = record { spot = in_member latch; fine = tt; is = refl }
+    turn_spot_of (and_member p (and_member q more)) c (suc (suc zero)) h = record { spot = in_member next; fine = tt; is = refl }
+    turn_spot_of (and_member p (and_member q more)) c (suc (suc (suc n))) h =
+        ⊎_elim
+        (λ (lt : n < size_of P p).
+        let r = spot_of p c.0 n lt in
+        let here : AtTurnPlace (and_member p (and_member q more)) (suc (suc (suc n))) = record { spot = in_member (inner r.spot); fine = r.fine; is = ap (λ m. suc (suc (suc m))) r.is } in
+        here)
+        (λ (le : size_of P p ≤ n).
+        let r = turn_spot_of (and_member q more) c.1 (n - size_of P p) (omega arith) in
+        let here : AtTurnPlace (and_member p (and_member q more)) (suc (suc (suc n))) = record { spot = in_later r.spot; fine = r.fine; is = omega (arith, r.is) } in
+        here)
+        (cases_lt n (size_of P p))
+
+  -- at first all are low
+  pub low_pair_bits : (n : ℕ) → pair_bits n (low_pairs n) ≡ replicate (2 * n) false
+  low_pair_bits zero = refl
+  low_pair_bits (suc n) =
+      let e : suc (suc (2 * n)) ≡ 2 * suc n = omega arith in
+      ap (λ l. false ∷ false ∷ l) (low_pair_bits n) ∙ ap (λ m. replicate m false) e
+
+  mutual
+    pub low_bits : (p : Process) → IsCovered p → bits p (low p) ≡ replicate (size_of P p) false
+    low_bits skipping c = refl
+    low_bits (sending chan at e) c =
+        by_number (λ e. false ∷ pair_bits (gate_count e) (low_pairs (gate_count e)) ≡ replicate (1 + formula_size e) false)
+        (λ w v. let m : suc (2 * w) ≡ 1 + 2 * w = omega arith in ap (λ l. false ∷ l) (low_pair_bits w) ∙ ap (λ n. replicate n false) m) e c
+    low_bits (in_turn members) c = low_turn_bits members c
+    low_bits (repeating p) c =
+        let m : suc (suc (size_of P p)) ≡ 2 + size_of P p = omega arith in
+        ap (λ l. false ∷ false ∷ l) (low_bits p c) ∙ ap (λ n. replicate n false) m
+    low_bits (assigning z at e) c = absurd c
+    low_bits (receiving chan at z to) c = absurd c
+    low_bits (side_by_side members) c = absurd c
+    low_bits (choosing again choices) c = absurd c
+
+    pub low_turn_bits : (members : Processes) → AreCovered members → turn_bits members (low_turn members) ≡ replicate (turn_size P members) false
+    low_turn_bits no_members c = refl
+    low_turn_bits (and_member p no_members) c = low_bits p c.0
+    low_turn_bits (and_member p (and_member q more)) c =
+        let n = turn_size P (and_member q more) in
+        let m : suc (suc (suc (size_of P p + n))) ≡ 3 + size_of P p + n = omega arith in
+        ap (λ l. false ∷ false ∷ false ∷ l)
+        (ap (λ l. l ++ turn_bits (and_member q more) (low_turn (and_member q more))) (low_bits p c.0)
+        ∙ (ap (λ l. replicate (size_of P p) false ++ l) (low_turn_bits (and_member q more) c.1) ∙ replicate-append-replicate (size_of P p) n false))
+        ∙ ap (λ k. replicate k false) m
