@@ -1,6 +1,7 @@
 -- The whole circuit of a program: go, the root, the body and the channels' wires; its moves, and which states they reach.
 use Rattle.std.specs.Prelude.{◌≡◌, ℕ, zero, suc, ◌==◌, Bool, true, false, not, ◌&&◌, ◌||◌, if◌then◌else◌, List, [], ◌∷◌, ◌++◌, length, replicate, slice_set, Option, Some, None, is_some}
 use Rattle.std.specs.List.{list_any, list_all}
+use Rattle.chp_base.specs.declared.channel.Channel.{Channel}
 use Rattle.prs_core.specs.Moves.{bit_value, with_bit}
 use Rattle.env_script.specs.Scripts.{OfferValue, gives, takes, nothing, offer_at, is_over}
 use Rattle.env_script.specs.Runs.{history_at, completed}
@@ -77,9 +78,9 @@ abbrev pub passed : List (List ℕ) → ℕ → Option ℕ → List (List ℕ)
 passed histories k None = histories
 passed histories k (Some v) = slice_set histories k (history_at histories k ++ v ∷ [])
 
-abbrev pub histories_after : (P : TypedProgram) → Whole P.body → Node P.body → List (List ℕ)
-histories_after P x (ack_node k) = if x.wires.ack k then x.histories else passed x.histories k (value_on (channel_width P.channels k) (x.wires.rail k))
-histories_after P x _ = x.histories
+abbrev pub passed_after : {p : Process} → List Channel → Wires → List (List ℕ) → Node p → List (List ℕ)
+passed_after channels w histories (ack_node k) = if w.ack k then histories else passed histories k (value_on (channel_width channels k) (w.rail k))
+passed_after channels w histories _ = histories
 
 abbrev pub wires_after : {p : Process} → Wires → Node p → Wires
 wires_after w (rail_node k i one) = rail_turned w k i one
@@ -100,7 +101,7 @@ moved P x n = record {
   go = go_after x.go n;
   root = root_after P.body x.root n;
   wires = wires_after x.wires n;
-  histories = histories_after P x n;
+  histories = passed_after P.channels x.wires x.histories n;
 }
 
 -- all nodes are low, and nothing has passed
