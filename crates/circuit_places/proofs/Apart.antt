@@ -1,10 +1,10 @@
 -- No own node is pulled both ways.
-use Rattle.std.proofs.Common.{◌≡◌, ℕ, Bool, true, false, refl, sym, ap, ◌∙◌, subst}
+use Rattle.std.proofs.Common.{◌≡◌, ℕ, Bool, true, false, refl, sym, ◌∙◌, subst}
 use Rattle.std.specs.Prelude.{not, ◌&&◌}
 use Rattle.width_check.specs.Processes.{Formula, constant, reading, joined, inverted, chained, compared, Process, skipping, assigning, sending, receiving, in_turn, side_by_side, choosing, repeating, Processes, no_members, and_member}
 use Rattle.circuit_places.specs.Circuit.{Pairs, low_pairs, gate_count, low_guarded, low, low_turn, answer, GuardedSpot, Spot, TurnSpot, child, latch, next, inner, of_skip, of_send, gate, in_members, of_loop, ask, in_body, in_last, in_member, in_later, is_apart, Wires, gate_rule, guarded_rule, rule, turn_rule}
 use Rattle.circuit_places.proofs.Waves.{pairs_of, gates_apart}
-use Rattle.circuit_places.proofs.Places.{Mode, running, asks, GuardedAt, At, TurnAt, g_rests, g_in, g_past, g_back, rests, at_skip, at_send, at_turn, at_body, turn_rests, at_last, at_member, at_later, guarded_cells, cells, turn_cells, low_answer, next_is, link_asks, link_next}
+use Rattle.circuit_places.proofs.Places.{Mode, asks, GuardedAt, At, TurnAt, g_rests, g_in, g_past, g_back, rests, at_skip, at_send, at_turn, at_body, turn_rests, at_last, at_member, at_later, guarded_cells, cells, turn_cells, low_answer, next_is, link_asks, link_next}
 
 both_of : (r u : Bool) → not ((r && not u) && u) ≡ true
 both_of true true = refl

@@ -1,28 +1,27 @@
 -- Each covered program's circuit carries it.
 use Rattle.std.proofs.Common.{◌≡◌, ◌≢◌, ℕ, zero, suc, ◌<◌, ◌≤◌, Bool, true, false, List, [], ◌∷◌, length, refl, sym, ap, ◌∙◌, subst, arith}
 use Rattle.std.proofs.lemmas.List.Elements.{All-head, All-tail}
-use Rattle.std.proofs.Math.ListN.{get_or-eq_default}
-use Rattle.std.specs.Prelude.{not, ◌&&◌, ◌||◌, All, if◌then◌else◌, is_some}
+use Rattle.std.specs.Prelude.{not, ◌||◌, All}
 use Rattle.chp_base.specs.declared.channel.Channel.{Channel}
 use Rattle.chp_base.specs.declared.channel.Kind.{Kind}
-use Rattle.chp_base.specs.declared.channel.Kind.TheVariants.{In, Out, Chan}
+use Rattle.chp_base.specs.declared.channel.Kind.TheVariants.{Out}
 use Rattle.env_script.specs.declared.script.Count.{Count}
 use Rattle.env_script.specs.Scripts.{OfferValue, gives, takes, nothing, offer_at, IsScript, Suits}
 use Rattle.env_script.specs.Runs.{completed}
 use Rattle.width_check.specs.Processes.{TypedProgram}
 use Rattle.width_check.specs.Typing.{channel_width, IsDeclaredChannel, IsTyped}
-use Rattle.circuit_places.specs.Circuit.{low, answer, Guarded, Cells, GuardedSpot, turns, fires, no_rule, is_apart, Wires, guarded_rule, site_rails}
-use Rattle.circuit_places.specs.Whole.{Whole, Node, go_node, own_node, rail_node, ack_node, merged, rule_in, answers, env_moves, enabled, passed_after, wires_after, go_after, root_after, moved, first_of, value_on, neutral_on, Reaches, at_first, by_move}
+use Rattle.circuit_places.specs.Circuit.{low, Guarded, Cells, turns, fires, no_rule, is_apart, guarded_rule, site_rails}
+use Rattle.circuit_places.specs.Whole.{Whole, Node, go_node, own_node, rail_node, ack_node, rule_in, answers, enabled, wires_after, go_after, root_after, moved, first_of, Reaches, at_first, by_move}
 use Rattle.circuit_places.specs.Covered.{Covered}
-use Rattle.circuit_places.specs.Carried.{IsSafe, IsSettled, IsCarried, CircuitsCarry}
-use Rattle.circuit_places.proofs.Places.{Mode, idle, running, answered, returning, asks, is_idle, GuardedAt, g_rests, guarded_cells, guarded_shown, guarded_moves, guarded_can_is}
+use Rattle.circuit_places.specs.Carried.{IsSafe, IsCarried, CircuitsCarry}
+use Rattle.circuit_places.proofs.Places.{Mode, idle, running, answered, returning, asks, is_idle, GuardedAt, g_rests, guarded_cells, guarded_shown, guarded_can_is}
 use Rattle.circuit_places.proofs.Meets.{Meets, meets}
-use Rattle.circuit_places.proofs.Sites.{any, is_nil, merged_can, merged_apart, same_sites, guarded_offered}
-use Rattle.circuit_places.proofs.System.{Good, can, root_left, Fitted, Takes, takes_of, may_low, may_high}
+use Rattle.circuit_places.proofs.Sites.{any, merged_can, merged_apart, same_sites, guarded_offered}
+use Rattle.circuit_places.proofs.System.{Good, can, root_left, Fitted, takes_of, may_low, may_high}
 use Rattle.circuit_places.proofs.WireMoves.{next_of, phase_up, phase_down}
 use Rattle.circuit_places.proofs.Apart.{guarded_apart}
 use Rattle.circuit_places.proofs.Follow.{Followed, started, follows}
-use Rattle.circuit_places.proofs.Ended.{AtEnd, at_end}
+use Rattle.circuit_places.proofs.Ended.{at_end}
 
 -- a script that fits `out` channels takes on each of them
 out_takes : (c : Channel) (o : OfferValue) → c.kind ≡ Out → Suits c.kind c.width o → (count : Count) × (o ≡ takes count)

@@ -1,6 +1,6 @@
 -- Where nothing moves in the whole circuit, the program has no step.
-use Rattle.std.proofs.Common.{◌≡◌, ◌≢◌, ℕ, ◌<◌, ◌≤◌, Bool, true, false, List, refl, sym, ap, ◌∙◌, subst}
-use Rattle.std.specs.Prelude.{not, ◌&&◌, if◌then◌else◌, Option, Some, None, is_some}
+use Rattle.std.proofs.Common.{◌≡◌, ◌≢◌, ℕ, Bool, true, false, List, refl, sym, ap, ◌∙◌}
+use Rattle.std.specs.Prelude.{not, ◌&&◌, if◌then◌else◌, Some, is_some}
 use Rattle.chp_base.specs.declared.span.Span.{Span}
 use Rattle.env_script.specs.declared.script.Count.{Count}
 use Rattle.env_script.specs.Scripts.{OfferValue, takes, nothing, offer_at, is_over}
@@ -9,10 +9,10 @@ use Rattle.width_check.specs.Processes.{Formula, constant, Process, sending, Typ
 use Rattle.width_check.specs.Typing.{channel_width}
 use Rattle.chp_meaning.specs.Terms.{Term, finished, Place, statement_at}
 use Rattle.chp_meaning.specs.Steps.{Configuration, Step, a_skip, an_assignment, a_selection, a_turn, an_end, a_repetition, a_communication, a_delivery, an_arrival}
-use Rattle.circuit_places.specs.Circuit.{GuardedSpot, child, latch, next, inner, turns, Wires}
-use Rattle.circuit_places.specs.Whole.{value_on, neutral_on, Node, go_node, own_node, rail_node, ack_node, receives, answers}
-use Rattle.circuit_places.proofs.Waves.{held, Within, Holds, shows, lows_neutral}
-use Rattle.circuit_places.proofs.Places.{Mode, idle, running, answered, returning, acks, GuardedAt, g_rests, g_in, g_past, g_back, guarded_cells, guarded_shown}
+use Rattle.circuit_places.specs.Circuit.{turns, Wires}
+use Rattle.circuit_places.specs.Whole.{value_on, neutral_on, Node, go_node, own_node, rail_node, ack_node, answers}
+use Rattle.circuit_places.proofs.Waves.{Within, Holds, shows, lows_neutral}
+use Rattle.circuit_places.proofs.Places.{Mode, running, returning, GuardedAt, g_rests, g_in, g_past, g_back, guarded_cells, guarded_shown}
 use Rattle.circuit_places.proofs.Left.{guarded_left}
 use Rattle.circuit_places.proofs.Rest.{Blocked, Waiting, Hanging, Rest, settled, waiting, hanging, guarded_rest}
 use Rattle.circuit_places.proofs.Fires.{guarded_site}
@@ -65,8 +65,8 @@ module _ (P : TypedProgram) {script : List OfferValue} (fitted : Fitted P.channe
       let lows : (i : ℕ) (one : Bool) → env.rail c i one ≡ false = λ i one. low (env.rail c i one) ((guarded_shown g).offer c i one) (h.none i one) (none (rail_node c i one)) in
       let neutral : neutral_on (channel_width P.channels c) (env.rail c) ≡ true = lows_neutral (channel_width P.channels c) (env.rail c) lows in
       let may : answers (channel_width P.channels c) env c (completed hs c) (offer_at script c) ≡ true =
-          ap (answers (channel_width P.channels c) env c (completed hs c)) o.1
-          ∙ (ap (λ b. if b then neutral_on (channel_width P.channels c) (env.rail c) else is_some (value_on (channel_width P.channels c) (env.rail c)) && is_over o.0 (completed hs c)) h.high ∙ neutral) in
+      ap (answers (channel_width P.channels c) env c (completed hs c)) o.1
+      ∙ (ap (λ b. if b then neutral_on (channel_width P.channels c) (env.rail c) else is_some (value_on (channel_width P.channels c) (env.rail c)) && is_over o.0 (completed hs c)) h.high ∙ neutral) in
       cc (may, none (ack_node c))
     where
       low : (v o : Bool) → o ≡ false → turns v o (not o) ≡ false → v ≡ false
@@ -82,9 +82,9 @@ module _ (P : TypedProgram) {script : List OfferValue} (fitted : Fitted P.channe
       let holds : Holds b.width b.value b.wave (env.rail c) = λ i one h. high (env.rail c i one) ((guarded_shown g).offer c i one) (b.holds i one h) (none (rail_node c i one)) in
       let some : is_some (value_on (channel_width P.channels c) (env.rail c)) ≡ true = ap (λ n. is_some (value_on n (env.rail c))) (sym b.meets.agrees) ∙ shows b.width b.value b.wave (env.rail c) b.full within holds in
       let over : is_over o.0 (completed hs c) ≡ false =
-          no_more (is_some (value_on (channel_width P.channels c) (env.rail c))) (is_over o.0 (completed hs c)) some
-          (sym (ap (λ b. if b then neutral_on (channel_width P.channels c) (env.rail c) else is_some (value_on (channel_width P.channels c) (env.rail c)) && is_over o.0 (completed hs c)) b.low)
-          ∙ (sym (ap (answers (channel_width P.channels c) env c (completed hs c)) o.1) ∙ none (ack_node c))) in
+      no_more (is_some (value_on (channel_width P.channels c) (env.rail c))) (is_over o.0 (completed hs c)) some
+      (sym (ap (λ b. if b then neutral_on (channel_width P.channels c) (env.rail c) else is_some (value_on (channel_width P.channels c) (env.rail c)) && is_over o.0 (completed hs c)) b.low)
+      ∙ (sym (ap (answers (channel_width P.channels c) env c (completed hs c)) o.1) ∙ none (ack_node c))) in
       record {
         channel = c;
         span = b.span;

@@ -1,9 +1,9 @@
 -- What an acknowledge does to the term: where it rises a value passes, and where it falls nothing does.
 use Rattle.std.proofs.Common.{◌≡◌, ℕ, ◌==◌, Bool, true, false, List, refl, sym, ap, ◌∙◌, subst}
-use Rattle.std.specs.Prelude.{not, ◌&&◌, Option, Some, is_some}
+use Rattle.std.specs.Prelude.{not, ◌&&◌, Some, is_some}
 use Rattle.chp_base.specs.declared.channel.Channel.{Channel}
 use Rattle.chp_base.specs.declared.span.Span.{Span}
-use Rattle.width_check.specs.Processes.{constant, Process, skipping, sending, in_turn, repeating, Processes, no_members, and_member}
+use Rattle.width_check.specs.Processes.{constant, Process, sending, in_turn, Processes, and_member}
 use Rattle.width_check.specs.Typing.{channel_width}
 use Rattle.chp_meaning.specs.Terms.{Term, finished, active, opened, followed, here as at_here}
 use Rattle.circuit_places.specs.Circuit.{Wires}
@@ -13,7 +13,7 @@ use Rattle.circuit_places.proofs.Places.{Mode, idle, running, answered, returnin
 use Rattle.circuit_places.proofs.Meets.{SendMeets, Meets, TurnMeets, sends, turn_sends}
 use Rattle.circuit_places.proofs.Left.{waits, inner_left, again, guarded_left, left, turn_left, Act, followed_act, left_done}
 use Rattle.circuit_places.proofs.Flow.{same_number, or_left, or_right, cases}
-use Rattle.circuit_places.proofs.Change.{Ready, ready_down, Kept, kept_down, ack_here, ack_far, ready_full, kept_none, full_runs, none_mode}
+use Rattle.circuit_places.proofs.Change.{Ready, Kept, ack_here, ack_far, ready_full, kept_none, full_runs, none_mode}
 
 -- a step that passes the number on the channel's rails
 pub record Passes (channels : List Channel) (c : ℕ) (rail : ℕ → Bool → Bool) (x y : Term) : Type 0 where
@@ -108,9 +108,9 @@ module _ (channels : List Channel) (env : Wires) (c : ℕ) (high : env.ack c ≡
       → waits m ((ack_turned env c).ack d) (active (sending d at (constant w v))) ≡ waits m (env.ack d) (active (sending d at (constant w v)))
   send_still d at w v m u h meets r f = cases (d == c)
       (λ (e : (d == c) ≡ true).
-        let none = kept_none channels env c lows d at w v u meets e r in
-        let back = none_mode w u m (env.ack d) meets.some h f none (ap env.ack (same_number d c e) ∙ high) in
-        ap (λ i. waits i ((ack_turned env c).ack d) (active (sending d at (constant w v)))) back ∙ sym (ap (λ i. waits i (env.ack d) (active (sending d at (constant w v)))) back))
+      let none = kept_none channels env c lows d at w v u meets e r in
+      let back = none_mode w u m (env.ack d) meets.some h f none (ap env.ack (same_number d c e) ∙ high) in
+      ap (λ i. waits i ((ack_turned env c).ack d) (active (sending d at (constant w v)))) back ∙ sym (ap (λ i. waits i (env.ack d) (active (sending d at (constant w v)))) back))
       (λ (e : (d == c) ≡ false). ap (λ i. waits m i (active (sending d at (constant w v)))) (ack_far env.ack c d e))
 
   mutual

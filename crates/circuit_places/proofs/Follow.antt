@@ -1,23 +1,22 @@
 -- How far the program has come: a run of it, with as many steps as moves at most, that has passed the same values.
-use Rattle.std.proofs.Common.{◌≡◌, ◌≢◌, ℕ, zero, suc, ◌+◌, ◌-◌, ◌≤◌, ◌<◌, ◌==◌, Bool, true, false, List, [], ◌∷◌, ◌++◌, length, refl, sym, ap, ◌∙◌, subst, inl, inr, arith, get_or, set, replicate}
-use Rattle.std.proofs.lemmas.List.{get_or-set_other, get_or-set_same, length-set, length-append, get_or-replicate}
+use Rattle.std.proofs.Common.{◌≡◌, ℕ, zero, suc, ◌-◌, ◌≤◌, ◌<◌, ◌==◌, Bool, true, false, List, [], ◌∷◌, ◌++◌, length, refl, sym, ap, ◌∙◌, subst, inl, inr, arith, set, replicate}
+use Rattle.std.proofs.lemmas.List.{get_or-set_other, get_or-set_same, length-set}
 use Rattle.std.proofs.lemmas.Bool.Decides.{nat_tests}
-use Rattle.std.specs.Prelude.{Option, Some, None, nat_lt, map, if◌then◌else◌}
-use Rattle.chp_base.specs.declared.channel.Channel.{Channel}
+use Rattle.std.specs.Prelude.{Option, Some, if◌then◌else◌}
 use Rattle.env_script.specs.declared.script.Count.{Count}
 use Rattle.env_script.specs.declared.script.Count.TheVariants.{All, Times}
 use Rattle.env_script.specs.Scripts.{OfferValue, gives, takes, nothing, offer_at, is_over}
 use Rattle.env_script.specs.Runs.{history_at, completed}
-use Rattle.width_check.specs.Processes.{Formula, constant, Process, skipping, sending, repeating, TypedProgram}
+use Rattle.width_check.specs.Processes.{Process, skipping, repeating, TypedProgram}
 use Rattle.width_check.specs.Typing.{channel_width}
 use Rattle.chp_meaning.specs.Terms.{Term, finished, opened, Place, statement_at, with_left}
 use Rattle.chp_meaning.specs.Steps.{Configuration, one_fewer, leaving, passing, offering, Step, a_skip, a_repetition, a_delivery, Leads, no_step, one_step, start_of}
 use Rattle.circuit_places.specs.Circuit.{Wires}
 use Rattle.circuit_places.specs.Whole.{value_on, Node, go_node, own_node, rail_node, ack_node, answers, passed, passed_after}
-use Rattle.circuit_places.proofs.Left.{again, Act, Silent, skips, goes_on, Follows}
+use Rattle.circuit_places.proofs.Left.{Act, skips, goes_on, Follows}
 use Rattle.circuit_places.proofs.Flow.{same_number, self_number, cases}
 use Rattle.circuit_places.proofs.Fires.{Passes}
-use Rattle.circuit_places.proofs.System.{Passing, Moves, Fitted, Takes, takes_of, may_low}
+use Rattle.circuit_places.proofs.System.{Passing, Moves, Fitted, takes_of, may_low}
 
 -- what is left of an offer when so many values have passed
 abbrev pub fewer : Count → ℕ → Count
@@ -151,14 +150,14 @@ module _ {P : TypedProgram} {script : List OfferValue} {most : ℕ} {hs : List (
     now_rest : (c : ℕ) → offer_at now_rests c ≡ left_over (offer_at script c) (completed now_histories c)
     now_rest c = cases (c == k)
         (λ (e : (c == k) ≡ true).
-          let same : c ≡ k = same_number c k e in
-          subst (λ (i : ℕ). offer_at now_rests i ≡ left_over (offer_at script i) (completed now_histories i)) (sym same)
-          (get_or-set_same r.to.rests k (takes (one_fewer (fewer count (completed hs k)))) nothing (let g : k < length r.to.rests = subst (λ (n : ℕ). k < n) (sym r.as_many) below in g)
-          ∙ (one_more count (completed hs k) (completed now_histories k) long ∙ sym (ap (λ o. left_over o (completed now_histories k)) offered))))
+        let same : c ≡ k = same_number c k e in
+        subst (λ (i : ℕ). offer_at now_rests i ≡ left_over (offer_at script i) (completed now_histories i)) (sym same)
+        (get_or-set_same r.to.rests k (takes (one_fewer (fewer count (completed hs k)))) nothing (let g : k < length r.to.rests = subst (λ (n : ℕ). k < n) (sym r.as_many) below in g)
+        ∙ (one_more count (completed hs k) (completed now_histories k) long ∙ sym (ap (λ o. left_over o (completed now_histories k)) offered))))
         (λ (e : (c == k) ≡ false).
-          let ne : c ≡ k → ⊥ = λ (same : c ≡ k). absurd (cc (e, ap (λ x. x == k) same, self_number k)) in
-          get_or-set_other r.to.rests k c (takes (one_fewer (fewer count (completed hs k)))) nothing ne
-          ∙ (r.rests c ∙ sym (ap (λ h. left_over (offer_at script c) (length h)) (get_or-set_other hs k c (history_at hs k ++ pass.value ∷ []) [] ne))))
+        let ne : c ≡ k → ⊥ = λ (same : c ≡ k). absurd (cc (e, ap (λ x. x == k) same, self_number k)) in
+        get_or-set_other r.to.rests k c (takes (one_fewer (fewer count (completed hs k)))) nothing ne
+        ∙ (r.rests c ∙ sym (ap (λ h. left_over (offer_at script c) (length h)) (get_or-set_other hs k c (history_at hs k ++ pass.value ∷ []) [] ne))))
 
     passes_on : Followed P script (suc most) (passed hs k (value_on (channel_width P.channels k) rail)) y
     passes_on = subst (λ (o : Option ℕ). Followed P script (suc most) (passed hs k o) y) (sym pass.read) (record {

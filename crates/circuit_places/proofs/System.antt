@@ -1,26 +1,24 @@
 -- The whole circuit: what holds of each state that is reached, and that each move keeps it and takes no other away.
-use Rattle.std.proofs.Common.{◌≡◌, ◌≢◌, ℕ, ◌==◌, ◌<◌, ◌≤◌, Bool, true, false, List, [], ◌∷◌, ◌++◌, refl, sym, ap, ◌∙◌, subst, inl}
+use Rattle.std.proofs.Common.{◌≡◌, ◌≢◌, ℕ, ◌<◌, ◌≤◌, Bool, true, false, List, [], ◌∷◌, ◌++◌, refl, sym, ap, ◌∙◌}
 use Rattle.std.proofs.lemmas.List.{get_or-set_other}
-use Rattle.std.specs.Prelude.{not, ◌&&◌, ◌||◌, if◌then◌else◌, length, Option, Some, None, is_some}
+use Rattle.std.specs.Prelude.{not, ◌&&◌, if◌then◌else◌, length, Option, Some, None, is_some}
 use Rattle.chp_base.specs.declared.channel.Channel.{Channel}
 use Rattle.env_script.specs.declared.script.Count.{Count}
 use Rattle.env_script.specs.Scripts.{OfferValue, gives, takes, nothing, offer_at, is_over}
 use Rattle.env_script.specs.Runs.{history_at, completed}
 use Rattle.width_check.specs.Processes.{Process, TypedProgram}
 use Rattle.width_check.specs.Typing.{channel_width}
-use Rattle.chp_meaning.specs.Terms.{Term, finished, opened}
-use Rattle.circuit_places.specs.Circuit.{low, GuardedSpot, turns, Wires, same_bit, site_rails}
-use Rattle.circuit_places.specs.Whole.{value_on, neutral_on, Node, go_node, own_node, rail_node, ack_node, receives, answers, ack_turned, rail_turned, passed, passed_after, wires_after, go_after, root_after}
-use Rattle.circuit_places.proofs.Waves.{fst_true, snd_true, not_true, same_value}
-use Rattle.circuit_places.proofs.Places.{Mode, idle, running, answered, returning, asks, is_idle, GuardedAt, g_rests, g_in, g_past, g_back, rests, guarded_cells, guarded_shown, GuardedFits, guarded_moves}
+use Rattle.chp_meaning.specs.Terms.{Term, opened}
+use Rattle.circuit_places.specs.Circuit.{low, GuardedSpot, turns, Wires, site_rails}
+use Rattle.circuit_places.specs.Whole.{value_on, neutral_on, Node, go_node, own_node, rail_node, ack_node, receives, answers, passed, passed_after, wires_after, go_after, root_after}
+use Rattle.circuit_places.proofs.Waves.{fst_true, snd_true}
+use Rattle.circuit_places.proofs.Places.{Mode, idle, running, answered, returning, asks, is_idle, GuardedAt, guarded_cells, guarded_shown, GuardedFits, guarded_moves}
 use Rattle.circuit_places.proofs.Meets.{Meets}
 use Rattle.circuit_places.proofs.Left.{guarded_left, Follows}
-use Rattle.circuit_places.proofs.Flow.{goes, goes_asks, GuardedAfter, Backed, same_number, cases}
+use Rattle.circuit_places.proofs.Flow.{goes, goes_asks, GuardedAfter, cases}
 use Rattle.circuit_places.proofs.Begin.{guarded_idle_moves}
-use Rattle.circuit_places.proofs.Control.{guarded_advance}
-use Rattle.circuit_places.proofs.Change.{GuardedChanged, guarded_changed, Ready, ready_down, Kept, kept_down, Any, any_down, rail_leaves, raise_leaves, lower_leaves, ack_here, ack_far}
-use Rattle.circuit_places.proofs.Sites.{any, is_nil, any_not_nil, same_sites, guarded_offered}
-use Rattle.circuit_places.proofs.Fires.{Passes, Fired, guarded_fires, guarded_still, OneSite, guarded_site, guarded_offers_talks}
+use Rattle.circuit_places.proofs.Sites.{is_nil}
+use Rattle.circuit_places.proofs.Fires.{Passes}
 
 -- Where the whole is: the root's place fits the acknowledges, a high one has its send under way, a channel's rail that is
 -- high over a low acknowledge is held by a site, one that is held over a high acknowledge is high, and a rail that is

@@ -1,7 +1,7 @@
 -- The rails of a send's number: which of its bits have their rail up, and what the rails of its channel say.
-use Rattle.std.proofs.Common.{◌≡◌, ℕ, zero, suc, ◌+◌, ◌*◌, ◌/◌, ◌%◌, ◌^◌, ◌<◌, ◌≤◌, ◌==◌, Bool, true, false, refl, sym, ap, ◌∙◌, subst, arith}
+use Rattle.std.proofs.Common.{◌≡◌, ℕ, zero, suc, ◌+◌, ◌*◌, ◌/◌, ◌%◌, ◌^◌, ◌<◌, ◌≤◌, ◌==◌, Bool, true, false, refl, sym, ap, ◌∙◌, arith}
 use Rattle.std.proofs.lemmas.Bool.{eqb-true}
-use Rattle.std.specs.Prelude.{not, ◌&&◌, if◌then◌else◌, Option, Some, None, is_some, option_map}
+use Rattle.std.specs.Prelude.{not, ◌&&◌, if◌then◌else◌, Option, Some, None, is_some}
 use Rattle.prs_core.specs.Moves.{bit_value, with_bit}
 use Rattle.env_script.specs.Environment.{is_odd}
 use Rattle.circuit_places.specs.Circuit.{Pair, side_of, Pairs, low_pairs, rule_of, fires, is_apart, same_bit, constant_rule, turned_side, turned_pairs}

@@ -279,8 +279,8 @@ module _ (P : TypedProgram) (script : List OfferValue) {m : Mode} {g : GuardedAt
         cases (env.ack k)
         (λ (h : env.ack k ≡ true). ack_falls h (may_high (channel_width P.channels k) env k (is_over t.count (completed hs k)) h t.may))
         (λ (h : env.ack k ≡ false).
-          let some = (may_low (channel_width P.channels k) env k (is_over t.count (completed hs k)) h t.may).0 in
-          ack_rises h some (talks h some (fitted.wide k (fitted.within k t.count t.is))))
+        let some = (may_low (channel_width P.channels k) env k (is_over t.count (completed hs k)) h t.may).0 in
+        ack_rises h some (talks h some (fitted.wide k (fitted.within k t.count t.is))))
 
 -- go rises
 go_next : (P : TypedProgram) (script : List OfferValue) {env : Wires} (hs : List (List ℕ)) (g : GuardedAt P.body idle) → Good P.channels P.body idle g env → Next P script idle g env hs go_node

@@ -3,7 +3,7 @@ use Rattle.std.specs.Prelude.{◌≡◌, ℕ, zero, suc, ◌==◌, Bool, true, f
 use Rattle.std.specs.List.{list_any, list_all}
 use Rattle.chp_base.specs.declared.channel.Channel.{Channel}
 use Rattle.prs_core.specs.Moves.{bit_value, with_bit}
-use Rattle.env_script.specs.Scripts.{OfferValue, gives, takes, nothing, offer_at, is_over}
+use Rattle.env_script.specs.Scripts.{OfferValue, takes, offer_at, is_over}
 use Rattle.env_script.specs.Runs.{history_at, completed}
 use Rattle.width_check.specs.Processes.{Process, TypedProgram}
 use Rattle.width_check.specs.Typing.{channel_width}
