@@ -1,7 +1,9 @@
 -- Each covered program's circuit carries it.
 use Rattle.std.proofs.Common.{◌≡◌, ◌≢◌, ℕ, zero, suc, ◌<◌, ◌≤◌, Bool, true, false, List, [], ◌∷◌, length, refl, sym, ap, ◌∙◌, subst, arith}
+use Rattle.std.proofs.Math.ListN.{get_or-eq_default}
+use Rattle.std.proofs.lemmas.Bool.Decides.{nat_tests}
 use Rattle.std.proofs.lemmas.List.Elements.{All-head, All-tail}
-use Rattle.std.specs.Prelude.{not, ◌||◌, All}
+use Rattle.std.specs.Prelude.{not, nat_lt, ◌||◌, All}
 use Rattle.chp_base.specs.declared.channel.Channel.{Channel}
 use Rattle.chp_base.specs.declared.channel.Kind.{Kind}
 use Rattle.chp_base.specs.declared.channel.Kind.TheVariants.{Out}
@@ -11,7 +13,7 @@ use Rattle.env_script.specs.Runs.{completed}
 use Rattle.width_check.specs.Processes.{TypedProgram}
 use Rattle.width_check.specs.Typing.{channel_width, IsDeclaredChannel, IsTyped}
 use Rattle.circuit_places.specs.Circuit.{low, Guarded, Cells, turns, fires, no_rule, is_apart, guarded_rule, site_rails}
-use Rattle.circuit_places.specs.Whole.{Whole, Node, go_node, own_node, rail_node, ack_node, rule_in, answers, enabled, wires_after, go_after, root_after, moved, first_of, Reaches, at_first, by_move}
+use Rattle.circuit_places.specs.Whole.{Whole, Node, go_node, own_node, rail_node, ack_node, is_node, rule_in, answers, enabled, wires_after, go_after, root_after, moved, first_of, Reaches, at_first, by_move}
 use Rattle.circuit_places.specs.Covered.{Covered}
 use Rattle.circuit_places.specs.Carried.{IsSafe, IsCarried, CircuitsCarry}
 use Rattle.circuit_places.proofs.Places.{Mode, idle, running, answered, returning, asks, is_idle, GuardedAt, g_rests, guarded_cells, guarded_shown, guarded_can_is}
@@ -21,6 +23,10 @@ use Rattle.circuit_places.proofs.System.{Good, can, root_left, Fitted, takes_of,
 use Rattle.circuit_places.proofs.WireMoves.{next_of, phase_up, phase_down}
 use Rattle.circuit_places.proofs.Apart.{guarded_apart}
 use Rattle.circuit_places.proofs.Follow.{Followed, started, follows}
+use Rattle.circuit_places.proofs.Flow.{cases}
+use Rattle.circuit_places.proofs.Waves.{held_below}
+use Rattle.circuit_places.proofs.Fires.{guarded_site, guarded_offers_talks}
+use Rattle.circuit_places.proofs.Absent.{guarded_absent}
 use Rattle.circuit_places.proofs.Ended.{at_end}
 
 -- a script that fits `out` channels takes on each of them
@@ -169,6 +175,37 @@ reach : (P : TypedProgram) (script : List OfferValue) → Fitted P.channels scri
 reach P script fitted meets _ _ at_first = first_reached P script fitted meets
 reach P script fitted meets _ _ (by_move {k = k} {x = x} n run e) = next_reached P script (reach P script fitted meets k x run) fitted n e
 
+-- what isn't a node of the circuit doesn't move
+module _ (P : TypedProgram) (script : List OfferValue) (fitted : Fitted P.channels script) {moves : ℕ} {x : Whole P.body} (r : Reached P script moves x) where
+  no_rail : (k i : ℕ) (one : Bool) → nat_lt i (channel_width P.channels k) ≡ false → enabled P script x (rail_node k i one) ≡ false
+  no_rail k i one h = enabled_is P script r (rail_node k i one) ∙ here (x.wires.rail k i one) ((guarded_shown r.place).offer k i one) refl refl
+    where
+      out : i < channel_width P.channels k → ⊥
+      out below = let g : nat_lt i (channel_width P.channels k) ≡ true = grind (arith, nat_tests) in cc (g, h)
+
+      here : (v o : Bool) → x.wires.rail k i one ≡ v → (guarded_shown r.place).offer k i one ≡ o → turns (x.wires.rail k i one) ((guarded_shown r.place).offer k i one) (not ((guarded_shown r.place).offer k i one)) ≡ false
+      here true o hv ho = absurd (out (r.good.wide k i one hv))
+      here false true hv ho =
+          let y = guarded_site P.channels r.place r.good.meets k (guarded_offers_talks r.place k i one ho) in
+          let below : i < y.width = held_below y.width y.value y.wave i one (sym (y.is i one) ∙ ho) in
+          absurd (out (subst (λ (n : ℕ). i < n) y.meets.agrees below))
+      here false false hv ho = ap (λ v. turns v ((guarded_shown r.place).offer k i one) (not ((guarded_shown r.place).offer k i one))) hv ∙ ho
+
+  no_ack : (k : ℕ) → nat_lt k (length P.channels) ≡ false → enabled P script x (ack_node k) ≡ false
+  no_ack k h =
+      let out : length script ≤ k = let e = fitted.same in grind (arith, nat_tests) in
+      ap (λ b. b || answers (channel_width P.channels k) x.wires k (completed x.histories k) (offer_at script k)) (no_fire (x.wires.ack k))
+      ∙ ap (answers (channel_width P.channels k) x.wires k (completed x.histories k)) (get_or-eq_default script nothing out)
+
+  absent : (n : Node P.body) → is_node P n ≡ false → enabled P script x n ≡ false
+  absent go_node h = absurd (cc h)
+  absent (own_node s) h = or_false (fires (guarded_rule P.body x.wires x.go x.root s)) ∙ guarded_absent P.body x.wires x.go x.root s h
+  absent (rail_node k i one) h = no_rail k i one h
+  absent (ack_node k) h = no_ack k h
+
+  all_rest : ((n : Node P.body) → is_node P n ≡ true → enabled P script x n ≡ false) → (n : Node P.body) → can P script r.place x.wires x.histories n ≡ false
+  all_rest none n = sym (enabled_is P script r n) ∙ cases (is_node P n) (λ (h : is_node P n ≡ true). none n h) (λ (h : is_node P n ≡ false). absent n h)
+
 carried : (P : TypedProgram) (script : List OfferValue) → Fitted P.channels script → {moves : ℕ} (x : Whole P.body) → Reached P script moves x → IsCarried P script moves x
 carried P script fitted x r = record {
   safe = safe P script fitted x r;
@@ -178,7 +215,7 @@ carried P script fitted x r = record {
   leads = r.followed.leads;
   passed = r.followed.passed;
   rest = λ none.
-      let z = at_end P fitted x.wires x.histories r.place r.root r.good (λ n. sym (enabled_is P script r n) ∙ none n) r.followed in
+      let z = at_end P fitted x.wires x.histories r.place r.root r.good (all_rest P script fitted r none) r.followed in
       record {
         still = z.still;
         ended = λ e. z.ended (sym (ap (λ (g : Guarded (Cells P.body)). g.next) r.same) ∙ e);

@@ -15,4 +15,5 @@ pub mod WireMoves
 pub mod Apart
 pub mod Follow
 pub mod Ended
+pub mod Absent
 pub mod Carry
