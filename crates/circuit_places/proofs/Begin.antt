@@ -1,16 +1,16 @@
 -- A statement at rest and answered; what begins where its request rises, and goes on where it falls.
-use Rattle.std.proofs.Common.{◌≡◌, ℕ, ◌==◌, Bool, true, false, List, refl, sym, ap, ◌∙◌}
+use Rattle.std.proofs.Common.{◌≡◌, ℕ, ◌==◌, Bool, true, false, List, refl, ap, ◌∙◌}
 use Rattle.std.specs.Prelude.{not, ◌&&◌}
 use Rattle.chp_base.specs.declared.channel.Channel.{Channel}
 use Rattle.chp_base.specs.declared.span.Span.{Span}
 use Rattle.width_check.specs.Processes.{constant, reading, joined, inverted, chained, compared, Process, skipping, assigning, sending, receiving, in_turn, side_by_side, choosing, repeating, Processes, no_members, and_member}
 use Rattle.chp_meaning.specs.Terms.{active, opened, opened_turn}
-use Rattle.circuit_places.specs.Circuit.{Pairs, Cells, low_guarded, low_pairs, low, low_turn, Wires, GuardedSpot, Spot, TurnSpot, of_skip, of_send, gate, in_members, in_last, in_member, in_later}
-use Rattle.circuit_places.proofs.Waves.{no_wave, all_up, none_up, pairs_of, held, fst_true, never_and, none_of, none_held, none_low, all_still}
-use Rattle.circuit_places.proofs.Places.{Mode, idle, running, answered, returning, asks, acks, wave_may, GuardedAt, At, TurnAt, g_rests, g_in, g_past, g_back, rests, at_skip, at_send, at_turn, at_body, turn_rests, at_last, at_member, at_later, guarded_of, site_of, turn_of, guarded_cells, cells, turn_cells, Shown, none_shown, guarded_shown, shown, turn_shown, send_fits, Fits, TurnFits, guarded_moves, moves, turn_moves}
+use Rattle.circuit_places.specs.Circuit.{Pairs, low_guarded, low, low_turn, Wires, GuardedSpot, Spot, TurnSpot, of_skip, of_send, gate, in_members, in_last, in_member, in_later}
+use Rattle.circuit_places.proofs.Waves.{no_wave, all_up, none_up, never_and, none_of, none_held, none_low, all_still}
+use Rattle.circuit_places.proofs.Places.{idle, running, answered, returning, wave_may, GuardedAt, At, TurnAt, g_rests, g_in, g_past, g_back, rests, at_skip, at_send, at_turn, at_body, turn_rests, at_last, at_member, at_later, guarded_of, guarded_cells, cells, turn_cells, Shown, none_shown, guarded_shown, shown, turn_shown, send_fits, Fits, TurnFits, guarded_moves, moves, turn_moves}
 use Rattle.circuit_places.proofs.Meets.{Meets, TurnMeets, opened_then, sends}
 use Rattle.circuit_places.proofs.Left.{waits, left, turn_left}
-use Rattle.circuit_places.proofs.Flow.{Flow, Quiet, self_number, or_left, or_right}
+use Rattle.circuit_places.proofs.Flow.{Flow, Quiet, self_number, or_left}
 
 -- a statement that rests
 mutual

@@ -1,13 +1,13 @@
 -- What a move of a channel's wire does to the places that read it.
 use Rattle.std.proofs.Common.{◌≡◌, ℕ, ◌≤◌, ◌==◌, Bool, true, false, List, refl, ap, ◌∙◌}
-use Rattle.std.specs.Prelude.{not, ◌&&◌, ◌||◌, if◌then◌else◌, is_some}
+use Rattle.std.specs.Prelude.{not, ◌&&◌, if◌then◌else◌, is_some}
 use Rattle.chp_base.specs.declared.channel.Channel.{Channel}
 use Rattle.chp_base.specs.declared.span.Span.{Span}
 use Rattle.width_check.specs.Processes.{constant, Process, skipping, sending, in_turn, repeating, Processes, no_members, and_member}
 use Rattle.width_check.specs.Typing.{channel_width}
 use Rattle.circuit_places.specs.Circuit.{Wires, GuardedSpot, Spot, TurnSpot, child, latch, next, inner, of_skip, of_send, gate, in_members, of_loop, ask, in_body, in_last, in_member, in_later}
 use Rattle.circuit_places.specs.Whole.{value_on, neutral_on, ack_turned, rail_turned}
-use Rattle.circuit_places.proofs.Waves.{Wave, all_up, none_up, held, fst_true, snd_true, both_true, not_true, all_not_none, Read, reads, empties}
+use Rattle.circuit_places.proofs.Waves.{Wave, all_up, none_up, held, snd_true, both_true, not_true, all_not_none, Read, reads, empties}
 use Rattle.circuit_places.proofs.Places.{Mode, idle, running, answered, returning, asks, acks, is_idle, inner_may, link, wave_may, GuardedAt, At, TurnAt, g_rests, g_in, g_past, g_back, rests, at_skip, at_send, at_turn, at_body, turn_rests, at_last, at_member, at_later, Shown, guarded_shown, shown, turn_shown, send_shown, send_fits, GuardedFits, Fits, TurnFits, guarded_moves, moves, turn_moves, not_running}
 use Rattle.circuit_places.proofs.Meets.{SendMeets, Meets, TurnMeets, sends, turn_sends}
 use Rattle.circuit_places.proofs.Flow.{same_number, or_left, or_right, cases}
@@ -190,9 +190,9 @@ raise_leaves channels env c low some = record { at_sends = the_send }
     the_send : (d : ℕ) (at : Span) (w v : ℕ) (m : Mode) (u : Wave w) (h : wave_may m (all_up w u) ≡ true) → SendMeets channels d w v → Ready c (env.rail c) (sending d at (constant w v)) (send_shown d w v u) → send_fits m (all_up w u) (none_up w u) (env.ack d) ≡ true → Changed (sending d at (constant w v)) m env (ack_turned env c) (at_send m u h)
     the_send d at w v m u h meets r f = cases (d == c)
         (λ (e : (d == c) ≡ true).
-          let full = (ready_full channels env c some d at w v u meets e r).full in
-          let l : env.ack d ≡ false = ap env.ack (same_number d c e) ∙ low in
-          near d at w v m u h (full_runs m (all_up w u) (none_up w u) (env.ack d) h f (all_not_none w u meets.some full) l) full l)
+        let full = (ready_full channels env c some d at w v u meets e r).full in
+        let l : env.ack d ≡ false = ap env.ack (same_number d c e) ∙ low in
+        near d at w v m u h (full_runs m (all_up w u) (none_up w u) (env.ack d) h f (all_not_none w u meets.some full) l) full l)
         (λ (e : (d == c) ≡ false). still_send env (ack_turned env c) d at w v m u h (ack_far env.ack c d e) f)
 
 none_not_all : (w : ℕ) (u : Wave w) → 1 ≤ w → none_up w u ≡ true → all_up w u ≡ false
@@ -218,7 +218,7 @@ lower_leaves channels env c high lows = record { at_sends = the_send }
     the_send : (d : ℕ) (at : Span) (w v : ℕ) (m : Mode) (u : Wave w) (h : wave_may m (all_up w u) ≡ true) → SendMeets channels d w v → Kept c (env.rail c) (sending d at (constant w v)) (send_shown d w v u) → send_fits m (all_up w u) (none_up w u) (env.ack d) ≡ true → Changed (sending d at (constant w v)) m env (ack_turned env c) (at_send m u h)
     the_send d at w v m u h meets r f = cases (d == c)
         (λ (e : (d == c) ≡ true).
-          let none = kept_none channels env c lows d at w v u meets e r in
-          let l : env.ack d ≡ true = ap env.ack (same_number d c e) ∙ high in
-          near d at w v m u h (none_mode w u m (env.ack d) meets.some h f none l) none l)
+        let none = kept_none channels env c lows d at w v u meets e r in
+        let l : env.ack d ≡ true = ap env.ack (same_number d c e) ∙ high in
+        near d at w v m u h (none_mode w u m (env.ack d) meets.some h f none l) none l)
         (λ (e : (d == c) ≡ false). still_send env (ack_turned env c) d at w v m u h (ack_far env.ack c d e) f)

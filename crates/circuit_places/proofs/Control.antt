@@ -1,16 +1,15 @@
 -- Own moves of Q-elements, sequences and loops; and of every statement.
-use Rattle.std.proofs.Common.{◌≡◌, ◌≢◌, ℕ, Bool, true, false, List, refl, sym, ap, ◌∙◌, subst, inl}
+use Rattle.std.proofs.Common.{◌≡◌, ◌≢◌, Bool, true, false, List, refl, sym, ap, ◌∙◌, subst, inl}
 use Rattle.std.specs.Prelude.{not, ◌&&◌, if◌then◌else◌}
 use Rattle.chp_base.specs.declared.channel.Channel.{Channel}
-use Rattle.width_check.specs.Processes.{Process, skipping, in_turn, repeating, Processes, no_members, and_member}
-use Rattle.chp_meaning.specs.Terms.{Term, finished, opened, opened_turn, followed}
-use Rattle.circuit_places.specs.Circuit.{low_guarded, low, low_turn, Wires, GuardedSpot, Spot, TurnSpot, child, latch, next, inner, in_members, of_loop, ask, in_body, in_last, in_member, in_later, turned_guarded, turned, turned_turn}
-use Rattle.circuit_places.proofs.Waves.{fst_true, snd_true}
+use Rattle.width_check.specs.Processes.{Process, in_turn, repeating, Processes, no_members, and_member}
+use Rattle.chp_meaning.specs.Terms.{Term, finished, opened, followed}
+use Rattle.circuit_places.specs.Circuit.{low_guarded, low, low_turn, Wires, GuardedSpot, Spot, TurnSpot, child, latch, next, inner, in_members, of_loop, ask, in_body, in_last, in_member, in_later, turned_guarded, turned_turn}
 use Rattle.circuit_places.proofs.Places.{Mode, idle, running, answered, returning, asks, acks, inner_may, link, GuardedAt, At, TurnAt, g_rests, g_in, g_past, g_back, rests, at_skip, at_send, at_turn, at_body, turn_rests, at_last, at_member, at_later, guarded_of, ring_of, turn_of, guarded_cells, cells, turn_cells, Shown, none_shown, guarded_shown, shown, turn_shown, GuardedFits, Fits, TurnFits, guarded_moves, moves, turn_moves}
 use Rattle.circuit_places.proofs.Meets.{Meets, TurnMeets, sends, turn_sends}
 use Rattle.circuit_places.proofs.Left.{inner_left, again, guarded_left, left, turn_left, Follows, followed_follows, loop_follows, left_done, turn_left_done, guarded_left_past}
 use Rattle.circuit_places.proofs.Flow.{goes, goes_asks, Flow, flow_same, flow_by, Backed, Quiet, low_of, quiet_of, After, GuardedAfter, TurnAfter, or_left, or_right}
-use Rattle.circuit_places.proofs.Begin.{idle_is, turn_idle_is, guarded_idle_is, idle_moves, turn_idle_moves, guarded_idle_moves, guarded_past_is, answered_moves, turn_answered_moves, begun, TurnBegun, turn_begun, lowered, turn_lowered, flow_begun, flow_then}
+use Rattle.circuit_places.proofs.Begin.{idle_is, turn_idle_is, guarded_idle_is, idle_moves, turn_idle_moves, guarded_idle_moves, guarded_past_is, answered_moves, turn_answered_moves, begun, turn_begun, lowered, turn_lowered, flow_begun, flow_then}
 use Rattle.circuit_places.proofs.Leaves.{skip_after, send_after}
 
 inner_goes : (u : Bool) (m n : Mode) → inner_may u m ≡ true → goes m n ≡ true → inner_may u n ≡ true

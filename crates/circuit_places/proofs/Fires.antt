@@ -1,19 +1,19 @@
 -- What an acknowledge does to the term: where it rises a value passes, and where it falls nothing does.
 use Rattle.std.proofs.Common.{◌≡◌, ℕ, ◌==◌, Bool, true, false, List, refl, sym, ap, ◌∙◌, subst}
-use Rattle.std.specs.Prelude.{not, ◌&&◌, Option, Some, is_some}
+use Rattle.std.specs.Prelude.{not, ◌&&◌, Some, is_some}
 use Rattle.chp_base.specs.declared.channel.Channel.{Channel}
 use Rattle.chp_base.specs.declared.span.Span.{Span}
-use Rattle.width_check.specs.Processes.{constant, Process, skipping, sending, in_turn, repeating, Processes, no_members, and_member}
+use Rattle.width_check.specs.Processes.{constant, Process, sending, in_turn, Processes, and_member}
 use Rattle.width_check.specs.Typing.{channel_width}
 use Rattle.chp_meaning.specs.Terms.{Term, finished, active, opened, followed, here as at_here}
 use Rattle.circuit_places.specs.Circuit.{Wires}
 use Rattle.circuit_places.specs.Whole.{value_on, neutral_on, ack_turned}
-use Rattle.circuit_places.proofs.Waves.{Wave, all_up, none_up, held, fst_true, snd_true, all_not_none, one_held}
+use Rattle.circuit_places.proofs.Waves.{Wave, all_up, none_up, held, fst_true, all_not_none}
 use Rattle.circuit_places.proofs.Places.{Mode, idle, running, answered, returning, inner_may, wave_may, GuardedAt, At, TurnAt, g_rests, g_in, g_past, g_back, rests, at_skip, at_send, at_turn, at_body, turn_rests, at_last, at_member, at_later, Shown, guarded_shown, shown, turn_shown, send_shown, send_fits, GuardedFits, Fits, TurnFits}
 use Rattle.circuit_places.proofs.Meets.{SendMeets, Meets, TurnMeets, sends, turn_sends}
 use Rattle.circuit_places.proofs.Left.{waits, inner_left, again, guarded_left, left, turn_left, Act, followed_act, left_done}
 use Rattle.circuit_places.proofs.Flow.{same_number, or_left, or_right, cases}
-use Rattle.circuit_places.proofs.Change.{Ready, ready_down, Kept, kept_down, ack_here, ack_far, ready_full, kept_none, full_runs, none_mode}
+use Rattle.circuit_places.proofs.Change.{Ready, Kept, ack_here, ack_far, ready_full, kept_none, full_runs, none_mode}
 
 -- a step that passes the number on the channel's rails
 pub record Passes (channels : List Channel) (c : ℕ) (rail : ℕ → Bool → Bool) (x y : Term) : Type 0 where
@@ -108,9 +108,9 @@ module _ (channels : List Channel) (env : Wires) (c : ℕ) (high : env.ack c ≡
       → waits m ((ack_turned env c).ack d) (active (sending d at (constant w v))) ≡ waits m (env.ack d) (active (sending d at (constant w v)))
   send_still d at w v m u h meets r f = cases (d == c)
       (λ (e : (d == c) ≡ true).
-        let none = kept_none channels env c lows d at w v u meets e r in
-        let back = none_mode w u m (env.ack d) meets.some h f none (ap env.ack (same_number d c e) ∙ high) in
-        ap (λ i. waits i ((ack_turned env c).ack d) (active (sending d at (constant w v)))) back ∙ sym (ap (λ i. waits i (env.ack d) (active (sending d at (constant w v)))) back))
+      let none = kept_none channels env c lows d at w v u meets e r in
+      let back = none_mode w u m (env.ack d) meets.some h f none (ap env.ack (same_number d c e) ∙ high) in
+      ap (λ i. waits i ((ack_turned env c).ack d) (active (sending d at (constant w v)))) back ∙ sym (ap (λ i. waits i (env.ack d) (active (sending d at (constant w v)))) back))
       (λ (e : (d == c) ≡ false). ap (λ i. waits m i (active (sending d at (constant w v)))) (ack_far env.ack c d e))
 
   mutual
@@ -133,25 +133,44 @@ module _ (channels : List Channel) (env : Wires) (c : ℕ) (high : env.ack c ≡
     turn_still (at_member {q = q} {more = more} g) meets r f = ap (λ z. followed z (and_member q more)) (guarded_still g meets.0 record { offer = r.offer } f)
     turn_still (at_later g t h) meets r f = turn_still t meets.1 record { offer = r.offer } f
 
--- what is under way stands in the process, and what is held is under way
+-- Where a send on the channel is under way, the channel's rails that are held are those of its number.
+pub record OneSite (channels : List Channel) (c : ℕ) (x : Shown) : Type 0 where
+  pub width : ℕ
+  pub value : ℕ
+  pub wave : Wave width
+  pub meets : SendMeets channels c width value
+  pub is : (i : ℕ) (one : Bool) → x.offer c i one ≡ held width value wave i one
+
+send_site : (channels : List Channel) (d w v : ℕ) (u : Wave w) → SendMeets channels d w v → (c : ℕ) → (d == c) ≡ true → OneSite channels c (send_shown d w v u)
+send_site channels d w v u meets c e = record {
+  width = w;
+  value = v;
+  wave = u;
+  meets = subst (λ (i : ℕ). SendMeets channels i w v) (same_number d c e) meets;
+  is = λ i one. ap (λ b. b && held w v u i one) e;
+}
+
 mutual
-  pub guarded_talks_within : (channels : List Channel) {p : Process} {m : Mode} (g : GuardedAt p m) → Meets channels p → (k : ℕ) → (guarded_shown g).talk k ≡ true → (w : ℕ) × (v : ℕ) × SendMeets channels k w v
-  guarded_talks_within channels (g_in u a h) meets k e = talks_within channels a meets k e
-  guarded_talks_within channels _ meets k e = absurd (cc e)
+  pub guarded_site : (channels : List Channel) {p : Process} {m : Mode} (g : GuardedAt p m) → Meets channels p → (c : ℕ) → (guarded_shown g).talk c ≡ true → OneSite channels c (guarded_shown g)
+  guarded_site channels (g_in u a h) meets c e = site channels a meets c e
+  guarded_site channels g_rests meets c e = absurd (cc e)
+  guarded_site channels g_past meets c e = absurd (cc e)
+  guarded_site channels (g_back u) meets c e = absurd (cc e)
 
-  pub talks_within : (channels : List Channel) {p : Process} {m : Mode} (a : At p m) → Meets channels p → (k : ℕ) → (shown a).talk k ≡ true → (w : ℕ) × (v : ℕ) × SendMeets channels k w v
-  talks_within channels (at_send {c = c} {w = w} {v = v} m u h) meets k e = (w, v, subst (λ (i : ℕ). SendMeets channels i w v) (same_number c k e) meets)
-  talks_within channels (at_turn t) meets k e = turn_talks_within channels t meets k e
-  talks_within channels (at_body a) meets k e = talks_within channels a meets k e
-  talks_within channels rests meets k e = absurd (cc e)
-  talks_within channels (at_skip m h) meets k e = absurd (cc e)
+  pub site : (channels : List Channel) {p : Process} {m : Mode} (a : At p m) → Meets channels p → (c : ℕ) → (shown a).talk c ≡ true → OneSite channels c (shown a)
+  site channels (at_send {c = d} {w = w} {v = v} m u h) meets c e = send_site channels d w v u meets c e
+  site channels (at_turn t) meets c e = turn_site channels t meets c e
+  site channels (at_body a) meets c e = site channels a meets c e
+  site channels rests meets c e = absurd (cc e)
+  site channels (at_skip m h) meets c e = absurd (cc e)
 
-  pub turn_talks_within : (channels : List Channel) {members : Processes} {m : Mode} (t : TurnAt members m) → TurnMeets channels members → (k : ℕ) → (turn_shown t).talk k ≡ true → (w : ℕ) × (v : ℕ) × SendMeets channels k w v
-  turn_talks_within channels (at_last a) meets k e = talks_within channels a meets k e
-  turn_talks_within channels (at_member g) meets k e = guarded_talks_within channels g meets.0 k e
-  turn_talks_within channels (at_later g t h) meets k e = turn_talks_within channels t meets.1 k e
-  turn_talks_within channels turn_rests meets k e = absurd (cc e)
+  pub turn_site : (channels : List Channel) {members : Processes} {m : Mode} (t : TurnAt members m) → TurnMeets channels members → (c : ℕ) → (turn_shown t).talk c ≡ true → OneSite channels c (turn_shown t)
+  turn_site channels (at_last a) meets c e = site channels a meets c e
+  turn_site channels (at_member g) meets c e = guarded_site channels g meets.0 c e
+  turn_site channels (at_later g t h) meets c e = turn_site channels t meets.1 c e
+  turn_site channels turn_rests meets c e = absurd (cc e)
 
+-- what is held is under way
 mutual
   pub guarded_offers_talks : {p : Process} {m : Mode} (g : GuardedAt p m) (k i : ℕ) (one : Bool) → (guarded_shown g).offer k i one ≡ true → (guarded_shown g).talk k ≡ true
   guarded_offers_talks (g_in u a h) k i one e = offers_talks a k i one e
@@ -169,22 +188,3 @@ mutual
   turn_offers_talks (at_member g) k i one e = guarded_offers_talks g k i one e
   turn_offers_talks (at_later g t h) k i one e = turn_offers_talks t k i one e
   turn_offers_talks turn_rests k i one e = absurd (cc e)
-
--- one rail of a bit at most
-mutual
-  pub guarded_one_rail : {p : Process} {m : Mode} (g : GuardedAt p m) (k i : ℕ) → (guarded_shown g).offer k i true ≡ true → (guarded_shown g).offer k i false ≡ true → ⊥
-  guarded_one_rail (g_in u a h) k i x y = one_rail a k i x y
-  guarded_one_rail _ k i x y = absurd (cc x)
-
-  pub one_rail : {p : Process} {m : Mode} (a : At p m) (k i : ℕ) → (shown a).offer k i true ≡ true → (shown a).offer k i false ≡ true → ⊥
-  one_rail (at_send {c = c} {w = w} {v = v} m u h) k i x y = one_held w v u i (snd_true (c == k) (held w v u i true) x) (snd_true (c == k) (held w v u i false) y)
-  one_rail (at_turn t) k i x y = turn_one_rail t k i x y
-  one_rail (at_body a) k i x y = one_rail a k i x y
-  one_rail rests k i x y = absurd (cc x)
-  one_rail (at_skip m h) k i x y = absurd (cc x)
-
-  pub turn_one_rail : {members : Processes} {m : Mode} (t : TurnAt members m) (k i : ℕ) → (turn_shown t).offer k i true ≡ true → (turn_shown t).offer k i false ≡ true → ⊥
-  turn_one_rail (at_last a) k i x y = one_rail a k i x y
-  turn_one_rail (at_member g) k i x y = guarded_one_rail g k i x y
-  turn_one_rail (at_later g t h) k i x y = turn_one_rail t k i x y
-  turn_one_rail turn_rests k i x y = absurd (cc x)

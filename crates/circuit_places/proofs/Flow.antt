@@ -1,12 +1,11 @@
 -- What a move of a statement may do to the wires that others read, and what it comes to.
-use Rattle.std.proofs.Common.{◌≡◌, ◌≢◌, ℕ, ◌==◌, Bool, true, false, refl, sym, ap, ◌∙◌, subst, arith}
+use Rattle.std.proofs.Common.{◌≡◌, ◌≢◌, ℕ, ◌==◌, Bool, true, false, refl, ap, subst, arith}
 use Rattle.std.proofs.lemmas.Bool.Decides.{nat_tests}
-use Rattle.std.specs.Prelude.{not, ◌&&◌, ◌||◌}
-use Rattle.width_check.specs.Processes.{Process, in_turn, repeating, Processes, and_member}
-use Rattle.chp_meaning.specs.Terms.{Term}
+use Rattle.std.specs.Prelude.{◌||◌}
+use Rattle.width_check.specs.Processes.{Process, Processes}
 use Rattle.circuit_places.specs.Circuit.{Wires, GuardedSpot, Spot, TurnSpot, turned_guarded, turned, turned_turn}
-use Rattle.circuit_places.proofs.Places.{Mode, idle, running, answered, returning, asks, acks, GuardedAt, At, TurnAt, guarded_cells, cells, turn_cells, Shown, none_shown, guarded_shown, shown, turn_shown, GuardedFits, Fits, TurnFits, guarded_moves, moves, turn_moves}
-use Rattle.circuit_places.proofs.Meets.{sends, turn_sends}
+use Rattle.circuit_places.proofs.Places.{Mode, idle, running, answered, returning, asks, GuardedAt, At, TurnAt, guarded_cells, cells, turn_cells, Shown, none_shown, guarded_shown, shown, turn_shown, GuardedFits, Fits, TurnFits, guarded_moves, moves, turn_moves}
+use Rattle.circuit_places.proofs.Meets.{sends}
 use Rattle.circuit_places.proofs.Left.{guarded_left, left, turn_left, Follows}
 
 -- how an own move may take a handshake on

@@ -1,15 +1,15 @@
 -- The own moves of skip and of a send.
-use Rattle.std.proofs.Common.{◌≡◌, ◌≢◌, ℕ, ◌==◌, Bool, true, false, refl, sym, ap, ◌∙◌, subst, inl}
-use Rattle.std.specs.Prelude.{not, ◌&&◌}
+use Rattle.std.proofs.Common.{◌≡◌, ◌≢◌, ℕ, ◌==◌, Bool, true, false, refl, sym, ap, ◌∙◌, inl}
+use Rattle.std.specs.Prelude.{◌&&◌}
 use Rattle.chp_base.specs.declared.span.Span.{Span}
 use Rattle.width_check.specs.Processes.{constant, skipping, sending}
 use Rattle.chp_meaning.specs.Terms.{active}
-use Rattle.circuit_places.specs.Circuit.{Pairs, Cells, low, low_pairs, turned_pairs, turned, Wires, Spot, of_skip, of_send, gate}
-use Rattle.circuit_places.proofs.Waves.{Wave, all_up, none_up, flipped, pairs_of, held, gate_moves, fst_true, snd_true, not_true, flip_same, flip_keeps, held_rises, held_falls, none_held, none_low, all_still, none_still, rising_not_all, falling_not_none}
-use Rattle.circuit_places.proofs.Places.{Mode, idle, running, answered, returning, asks, acks, is_idle, wave_may, At, rests, at_skip, at_send, site_of, cells, none_shown, send_shown, shown, send_fits, Fits, moves}
-use Rattle.circuit_places.proofs.Left.{waits, left, skip_follows}
+use Rattle.circuit_places.specs.Circuit.{Pairs, low, Wires, Spot, of_skip, of_send, gate}
+use Rattle.circuit_places.proofs.Waves.{Wave, all_up, none_up, flipped, held, gate_moves, fst_true, snd_true, not_true, flip_same, flip_keeps, held_rises, held_falls, none_held, none_low, none_still, rising_not_all, falling_not_none}
+use Rattle.circuit_places.proofs.Places.{Mode, idle, running, answered, returning, is_idle, wave_may, rests, at_skip, at_send, none_shown, send_shown, send_fits, moves}
+use Rattle.circuit_places.proofs.Left.{waits, skip_follows}
 use Rattle.circuit_places.proofs.Flow.{Flow, flow_same, After, same_number}
-use Rattle.circuit_places.proofs.Begin.{answered_all, answered_moves, fits_low, fits_high}
+use Rattle.circuit_places.proofs.Begin.{answered_moves, fits_low, fits_high}
 
 pub skip_after : (env : Wires) (m : Mode) (h : is_idle m ≡ false) (s : Spot skipping) → moves env (at_skip m h) s ≡ true → After skipping m env (at_skip m h) s
 skip_after env running h of_skip e = record { mode = answered; to = at_skip answered refl; same = refl; way = refl; fits = tt; flow = flow_same env none_shown; term = skip_follows; keeps = λ q ne z. absurd (ne (only q)) }

@@ -1,9 +1,9 @@
 -- What is left of the program at a place, and its steps.
-use Rattle.std.proofs.Common.{◌≡◌, ℕ, Bool, true, false, refl, sym, ap, ◌∙◌, subst, inl, inr, ◌⊎◌}
-use Rattle.std.specs.Prelude.{Option, Some, None}
-use Rattle.width_check.specs.Processes.{constant, Process, skipping, sending, in_turn, repeating, Processes, no_members, and_member}
-use Rattle.chp_meaning.specs.Terms.{Term, finished, active, in_sequence, in_parallel, opened, opened_turn, followed, Place, here, in_first, statement_at, with_left}
-use Rattle.circuit_places.proofs.Places.{Mode, idle, running, answered, returning, link, GuardedAt, At, TurnAt, g_rests, g_in, g_past, g_back, rests, at_skip, at_send, at_turn, at_body, turn_rests, at_last, at_member, at_later}
+use Rattle.std.proofs.Common.{◌≡◌, ℕ, Bool, true, false, refl, sym, ap, subst, inl, inr, ◌⊎◌}
+use Rattle.std.specs.Prelude.{Some}
+use Rattle.width_check.specs.Processes.{constant, Process, skipping, sending, repeating, Processes, no_members, and_member}
+use Rattle.chp_meaning.specs.Terms.{Term, finished, active, in_sequence, in_parallel, opened, followed, Place, here, in_first, statement_at, with_left}
+use Rattle.circuit_places.proofs.Places.{Mode, idle, running, answered, returning, link, GuardedAt, At, TurnAt, g_in, g_past, rests, at_skip, at_send, at_turn, at_body, turn_rests, at_last, at_member, at_later}
 
 -- a statement is left until it is done
 abbrev pub waits : Mode → (over : Bool) → Term → Term

@@ -10,3 +10,10 @@ pub mod Change
 pub mod Sites
 pub mod Fires
 pub mod Rest
+pub mod System
+pub mod WireMoves
+pub mod Apart
+pub mod Follow
+pub mod Ended
+pub mod Absent
+pub mod Carry

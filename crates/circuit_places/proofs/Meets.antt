@@ -1,14 +1,11 @@
 -- What a covered program that is typed keeps at each statement.
-use Rattle.std.proofs.Common.{◌≡◌, ◌≢◌, ℕ, zero, suc, ◌^◌, ◌<◌, ◌≤◌, List, [], ◌∷◌, length, refl, sym, ap, ◌∙◌, subst, Bool, false, arith}
-use Rattle.std.specs.Prelude.{All, ◌==◌, ◌||◌}
+use Rattle.std.proofs.Common.{◌≡◌, ℕ, suc, ◌^◌, ◌<◌, ◌≤◌, List, length, refl, Bool, false, arith}
+use Rattle.std.specs.Prelude.{◌==◌, ◌||◌}
 use Rattle.chp_base.specs.declared.channel.Channel.{Channel}
-use Rattle.chp_base.specs.declared.channel.Kind.{Kind}
-use Rattle.chp_base.specs.declared.channel.Kind.TheVariants.{In, Out, Chan}
 use Rattle.width_check.specs.declared.typed.Var.{Var}
-use Rattle.width_check.specs.Processes.{Formula, constant, reading, joined, inverted, chained, compared, Process, skipping, assigning, sending, receiving, in_turn, side_by_side, choosing, repeating, Processes, no_members, and_member, member_count}
-use Rattle.width_check.specs.Values.{width_of}
-use Rattle.width_check.specs.Typing.{channel_width, IsSend, IsProcess, AreProcesses, IsOfWidth}
-use Rattle.chp_meaning.specs.Terms.{Term, finished, active, in_sequence, opened, opened_turn, followed}
+use Rattle.width_check.specs.Processes.{constant, reading, joined, inverted, chained, compared, Process, skipping, assigning, sending, receiving, in_turn, side_by_side, choosing, repeating, Processes, no_members, and_member, member_count}
+use Rattle.width_check.specs.Typing.{channel_width, IsSend, IsProcess, AreProcesses}
+use Rattle.chp_meaning.specs.Terms.{in_sequence, opened, opened_turn, followed}
 use Rattle.circuit_places.specs.Covered.{IsCovered, AreCovered}
 
 -- a send of the number v, of w bits

@@ -4,7 +4,7 @@ use Rattle.std.specs.Prelude.{not, ◌&&◌, if◌then◌else◌}
 use Rattle.env_script.specs.Environment.{is_odd}
 use Rattle.chp_base.specs.declared.span.Span.{Span}
 use Rattle.width_check.specs.Processes.{Formula, constant, reading, joined, inverted, chained, compared, Process, skipping, assigning, sending, receiving, in_turn, side_by_side, choosing, repeating, Processes, no_members, and_member}
-use Rattle.circuit_places.specs.Circuit.{Guarded, Site, Ring, Turn, Cells, TurnCells, low_pairs, low_guarded, low, low_turn, gate_count, answer, turn_answer, GuardedSpot, Spot, TurnSpot, child, latch, next, inner, of_skip, of_send, gate, in_members, of_loop, ask, in_body, in_last, in_member, in_later, Rule, rule_of, fires, Wires, same_bit, constant_rule, gate_rule, guarded_rule, rule, turn_rule}
+use Rattle.circuit_places.specs.Circuit.{Guarded, Cells, TurnCells, low_pairs, low_guarded, low, low_turn, gate_count, answer, turn_answer, GuardedSpot, Spot, TurnSpot, child, latch, next, inner, of_skip, of_send, gate, in_members, of_loop, ask, in_body, in_last, in_member, in_later, fires, Wires, same_bit, constant_rule, gate_rule, guarded_rule, rule, turn_rule}
 use Rattle.circuit_places.proofs.Waves.{Wave, all_up, none_up, pairs_of, held, gate_moves, never_and, gates_can}
 
 -- how far a handshake is

@@ -1,15 +1,15 @@
 -- Where none of its nodes moves, a statement is done, or waits for an acknowledge.
 use Rattle.std.proofs.Common.{◌≡◌, ◌≢◌, ℕ, ◌==◌, Bool, true, false, List, refl, sym, ap, ◌∙◌, subst}
-use Rattle.std.specs.Prelude.{not, ◌&&◌, Option, Some}
+use Rattle.std.specs.Prelude.{not, ◌&&◌, Some}
 use Rattle.chp_base.specs.declared.channel.Channel.{Channel}
 use Rattle.chp_base.specs.declared.span.Span.{Span}
-use Rattle.width_check.specs.Processes.{constant, Process, skipping, sending, in_turn, repeating, Processes, no_members, and_member}
-use Rattle.chp_meaning.specs.Terms.{Term, finished, active, in_sequence, in_parallel, followed, opened, Place, here as at_here, in_first, in_branch, statement_at}
+use Rattle.width_check.specs.Processes.{constant, Process, sending, Processes, and_member}
+use Rattle.chp_meaning.specs.Terms.{Term, finished, active, in_sequence, in_parallel, followed, Place, here as at_here, in_first, in_branch, statement_at}
 use Rattle.circuit_places.specs.Circuit.{Wires, GuardedSpot, Spot, TurnSpot, child, latch, next, inner, of_skip, of_send, gate, in_members, ask, in_body, in_last, in_member, in_later}
 use Rattle.circuit_places.proofs.Waves.{Wave, all_up, none_up, held, snd_true, both_true, still_all, still_none, none_held, never_and}
-use Rattle.circuit_places.proofs.Places.{Mode, idle, running, answered, returning, asks, acks, inner_may, wave_may, link, GuardedAt, At, TurnAt, g_rests, g_in, g_past, g_back, rests, at_skip, at_send, at_turn, at_body, turn_rests, at_last, at_member, at_later, Shown, guarded_shown, shown, turn_shown, send_shown, send_fits, GuardedFits, Fits, TurnFits, guarded_moves, moves, turn_moves}
-use Rattle.circuit_places.proofs.Meets.{SendMeets, Meets, TurnMeets, opened_then}
-use Rattle.circuit_places.proofs.Left.{waits, inner_left, again, guarded_left, left, turn_left}
+use Rattle.circuit_places.proofs.Places.{Mode, idle, running, answered, returning, asks, acks, wave_may, GuardedAt, At, TurnAt, g_rests, g_in, g_past, g_back, rests, at_skip, at_send, at_turn, at_body, turn_rests, at_last, at_member, at_later, Shown, guarded_shown, shown, turn_shown, send_shown, guarded_moves, moves, turn_moves}
+use Rattle.circuit_places.proofs.Meets.{SendMeets, Meets, TurnMeets}
+use Rattle.circuit_places.proofs.Left.{waits, again, guarded_left, left, turn_left}
 use Rattle.circuit_places.proofs.Flow.{self_number}
 
 -- a send that holds its number's rails, whose acknowledge is low

@@ -7,7 +7,7 @@ use Rattle.width_check.specs.Processes.{Formula, constant, reading, joined, inve
 use Rattle.circuit_places.specs.Circuit.{Pairs, side_of, low_pairs, gate_count, Cells, TurnCells, low, low_turn, same_bit, fires, is_apart, turns, rail_in, result_rail, site_rails, turn_rails}
 use Rattle.circuit_places.specs.Whole.{all_low, merged}
 use Rattle.circuit_places.proofs.Waves.{Wave, bit_pair, pairs_of, held}
-use Rattle.circuit_places.proofs.Places.{Mode, idle, running, answered, returning, link, GuardedAt, At, TurnAt, g_rests, g_in, g_past, g_back, rests, at_skip, at_send, at_turn, at_body, turn_rests, at_last, at_member, at_later, guarded_cells, cells, turn_cells, guarded_shown, shown, turn_shown, not_running}
+use Rattle.circuit_places.proofs.Places.{Mode, running, GuardedAt, At, TurnAt, g_rests, g_in, g_past, g_back, rests, at_skip, at_send, at_turn, at_body, turn_rests, at_last, at_member, at_later, guarded_cells, cells, turn_cells, guarded_shown, shown, turn_shown, not_running}
 
 abbrev pub any : List Bool → Bool
 any xs = list_any (λ b. b) xs

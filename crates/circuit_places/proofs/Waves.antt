@@ -1,7 +1,7 @@
 -- The rails of a send's number: which of its bits have their rail up, and what the rails of its channel say.
-use Rattle.std.proofs.Common.{◌≡◌, ℕ, zero, suc, ◌+◌, ◌*◌, ◌/◌, ◌%◌, ◌^◌, ◌<◌, ◌≤◌, ◌==◌, Bool, true, false, refl, sym, ap, ◌∙◌, subst, arith}
+use Rattle.std.proofs.Common.{◌≡◌, ℕ, zero, suc, ◌+◌, ◌*◌, ◌/◌, ◌%◌, ◌^◌, ◌<◌, ◌≤◌, ◌==◌, Bool, true, false, refl, sym, ap, ◌∙◌, arith}
 use Rattle.std.proofs.lemmas.Bool.{eqb-true}
-use Rattle.std.specs.Prelude.{not, ◌&&◌, if◌then◌else◌, Option, Some, None, is_some, option_map}
+use Rattle.std.specs.Prelude.{not, ◌&&◌, if◌then◌else◌, Option, Some, None, is_some}
 use Rattle.prs_core.specs.Moves.{bit_value, with_bit}
 use Rattle.env_script.specs.Environment.{is_odd}
 use Rattle.circuit_places.specs.Circuit.{Pair, side_of, Pairs, low_pairs, rule_of, fires, is_apart, same_bit, constant_rule, turned_side, turned_pairs}
@@ -311,3 +311,75 @@ empties (suc n) v u rail low holds = both_true (not u.0) (none_up n u.1) (here u
 pub lows_neutral : (n : ℕ) (rail : ℕ → Bool → Bool) → ((i : ℕ) (one : Bool) → rail i one ≡ false) → neutral_on n rail ≡ true
 lows_neutral zero rail low = refl
 lows_neutral (suc n) rail low = both_true _ _ (both_true _ _ (ap not (low zero true)) (ap not (low zero false))) (lows_neutral n (λ i. rail (suc i)) (λ i. low (suc i)))
+
+-- where each bit has a rail high, the site's rails are high
+bit_covers : (o one up t f : Bool) → (t ≡ true → same_bit o true ≡ true) → (f ≡ true → same_bit o false ≡ true) → is_some (bit_value t f) ≡ true → same_bit o one ≡ true → (if one then t else f) ≡ true
+bit_covers o true up true f p q s e = refl
+bit_covers o true up false true p q s e = absurd (here o (q refl) e)
+  where
+    here : (o : Bool) → same_bit o false ≡ true → same_bit o true ≡ true → ⊥
+    here true x y = cc x
+    here false x y = cc y
+bit_covers o true up false false p q s e = absurd (cc s)
+bit_covers o false up t true p q s e = refl
+bit_covers o false up true false p q s e = absurd (here o (p refl) e)
+  where
+    here : (o : Bool) → same_bit o true ≡ true → same_bit o false ≡ true → ⊥
+    here true x y = cc y
+    here false x y = cc x
+bit_covers o false up false false p q s e = absurd (cc s)
+
+some_both : (b rest : Option ℕ) → is_some (with_bit b rest) ≡ true → (is_some b ≡ true) × (is_some rest ≡ true)
+some_both (Some x) (Some y) h = (refl, refl)
+some_both (Some x) None h = absurd (cc h)
+some_both None rest h = absurd (cc h)
+
+pub covers : (n v : ℕ) (u : Wave n) (rail : ℕ → Bool → Bool) → Within n v u rail → is_some (value_on n rail) ≡ true → (i : ℕ) (one : Bool) → held n v u i one ≡ true → rail i one ≡ true
+covers zero v u rail within some i one h = absurd (cc h)
+covers (suc n) v u rail within some zero one h =
+    by_side one (bit_covers (is_odd v) one u.0 (rail zero true) (rail zero false)
+    (λ e. fst_true (same_bit (is_odd v) true) u.0 (within zero true e))
+    (λ e. fst_true (same_bit (is_odd v) false) u.0 (within zero false e))
+    (some_both (bit_value (rail zero true) (rail zero false)) (value_on n (λ i. rail (suc i))) some).0
+    (fst_true (same_bit (is_odd v) one) u.0 h))
+  where
+    by_side : (one : Bool) → (if one then rail zero true else rail zero false) ≡ true → rail zero one ≡ true
+    by_side true e = e
+    by_side false e = e
+covers (suc n) v u rail within some (suc i) one h = covers n (v / 2) u.1 (λ i. rail (suc i)) (λ i one h. within (suc i) one h) (some_both (bit_value (rail zero true) (rail zero false)) (value_on n (λ i. rail (suc i))) some).1 i one h
+
+pub held_below : (n v : ℕ) (u : Wave n) (i : ℕ) (one : Bool) → held n v u i one ≡ true → i < n
+held_below zero v u i one h = absurd (cc h)
+held_below (suc n) v u zero one h = omega arith
+held_below (suc n) v u (suc i) one h = let e : i < n = held_below n (v / 2) u.1 i one h in omega (arith, e)
+
+pub neutral_low : (n : ℕ) (rail : ℕ → Bool → Bool) → neutral_on n rail ≡ true → (i : ℕ) (one : Bool) → i < n → rail i one ≡ false
+neutral_low zero rail low i one below = absurd (let g : ⊥ = omega (arith, below) in g)
+neutral_low (suc n) rail low zero true below = not_true _ (fst_true _ _ (fst_true _ _ low))
+neutral_low (suc n) rail low zero false below = not_true _ (snd_true (not (rail zero true)) _ (fst_true _ _ low))
+neutral_low (suc n) rail low (suc i) one below = neutral_low n (λ i. rail (suc i)) (snd_true _ _ low) i one (let g : i < n = omega (arith, below) in g)
+
+-- rails that agree say the same
+pub value_same : (n : ℕ) (f g : ℕ → Bool → Bool) → ((i : ℕ) (one : Bool) → f i one ≡ g i one) → value_on n f ≡ value_on n g
+value_same zero f g e = refl
+value_same (suc n) f g e =
+    ap (λ b. with_bit (bit_value b (f zero false)) (value_on n (λ i. f (suc i)))) (e zero true)
+    ∙ (ap (λ b. with_bit (bit_value (g zero true) b) (value_on n (λ i. f (suc i)))) (e zero false)
+    ∙ ap (with_bit (bit_value (g zero true) (g zero false))) (value_same n (λ i. f (suc i)) (λ i. g (suc i)) (λ i one. e (suc i) one)))
+
+pub neutral_same : (n : ℕ) (f g : ℕ → Bool → Bool) → ((i : ℕ) (one : Bool) → f i one ≡ g i one) → neutral_on n f ≡ neutral_on n g
+neutral_same zero f g e = refl
+neutral_same (suc n) f g e =
+    ap (λ b. (not b && not (f zero false)) && neutral_on n (λ i. f (suc i))) (e zero true)
+    ∙ (ap (λ b. (not (g zero true) && not b) && neutral_on n (λ i. f (suc i))) (e zero false)
+    ∙ ap (λ b. (not (g zero true) && not (g zero false)) && b) (neutral_same n (λ i. f (suc i)) (λ i. g (suc i)) (λ i one. e (suc i) one)))
+
+-- a valid number of at least one bit has a rail of it high
+pub first_bit : (n : ℕ) (rail : ℕ → Bool → Bool) → 1 ≤ n → is_some (value_on n rail) ≡ true → (side : Bool) × (rail zero side ≡ true)
+first_bit zero rail some valid = absurd (let g : ⊥ = omega (arith, some) in g)
+first_bit (suc n) rail some valid = here (rail zero true) (rail zero false) refl refl (some_both (bit_value (rail zero true) (rail zero false)) (value_on n (λ i. rail (suc i))) valid).0
+  where
+    here : (t f : Bool) → rail zero true ≡ t → rail zero false ≡ f → is_some (bit_value (rail zero true) (rail zero false)) ≡ true → (side : Bool) × (rail zero side ≡ true)
+    here true f ht hf s = (true, ht)
+    here false true ht hf s = (false, hf)
+    here false false ht hf s = absurd (cc (s, ht, hf))

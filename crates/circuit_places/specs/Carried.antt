@@ -6,7 +6,7 @@ use Rattle.width_check.specs.Typing.{IsTyped, channel_width}
 use Rattle.chp_meaning.specs.Terms.{Place, finished}
 use Rattle.chp_meaning.specs.Steps.{Configuration, Step, Leads, start_of}
 use Rattle.circuit_places.specs.Circuit.{is_apart}
-use Rattle.circuit_places.specs.Whole.{Whole, Node, rail_node, ack_node, rule_in, enabled, moved, value_on, neutral_on, Reaches}
+use Rattle.circuit_places.specs.Whole.{Whole, Node, rail_node, ack_node, is_node, rule_in, enabled, moved, value_on, neutral_on, Reaches}
 use Rattle.circuit_places.specs.Covered.{Covered}
 
 -- no move takes away another that is enabled, no node is pulled both ways, and each channel keeps its phases
@@ -18,8 +18,9 @@ pub record IsSafe (P : TypedProgram) (script : List OfferValue) (x : Whole P.bod
   pub ack_up : (k : ℕ) → x.wires.ack k ≡ false → enabled P script x (ack_node k) ≡ true → is_some (value_on (channel_width P.channels k) (x.wires.rail k)) ≡ true
   pub ack_down : (k : ℕ) → x.wires.ack k ≡ true → enabled P script x (ack_node k) ≡ true → neutral_on (channel_width P.channels k) (x.wires.rail k) ≡ true
 
+-- no node's move is enabled
 abbrev pub IsAtRest : (P : TypedProgram) → List OfferValue → Whole P.body → Type 0
-IsAtRest P script x = (n : Node P.body) → enabled P script x n ≡ false
+IsAtRest P script x = (n : Node P.body) → is_node P n ≡ true → enabled P script x n ≡ false
 
 -- the program goes no further, and done is high exactly where it has ended
 pub record IsSettled (P : TypedProgram) (x : Whole P.body) (c : Configuration) : Type 0 where

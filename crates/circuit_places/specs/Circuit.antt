@@ -1,6 +1,6 @@
 -- The circuit of a process as a tree of cells: the values of its own nodes, and the rule of each. A node here has a spot
 -- in the tree and no number.
-use Rattle.std.specs.Prelude.{ℕ, zero, suc, ◌/◌, ◌==◌, Bool, true, false, not, ◌&&◌, if◌then◌else◌, List, [], ◌∷◌, ◌++◌}
+use Rattle.std.specs.Prelude.{ℕ, zero, suc, ◌/◌, ◌==◌, Bool, true, false, not, nat_lt, ◌&&◌, if◌then◌else◌, List, [], ◌∷◌, ◌++◌}
 use Rattle.chp_base.specs.declared.span.Span.{Span}
 use Rattle.env_script.specs.Environment.{is_odd}
 use Rattle.width_check.specs.Processes.{Formula, constant, Process, skipping, sending, in_turn, repeating, Processes, no_members, and_member}
@@ -116,6 +116,23 @@ mutual
     in_last : {p : Process} → Spot p → TurnSpot (and_member p no_members)
     in_member : {p q : Process} {more : Processes} → GuardedSpot p → TurnSpot (and_member p (and_member q more))
     in_later : {p q : Process} {more : Processes} → TurnSpot (and_member q more) → TurnSpot (and_member p (and_member q more))
+
+-- A gate's spot stands for a node where the expression has that bit; each other spot does.
+abbrev mutual
+  pub guarded_stands : {p : Process} → GuardedSpot p → Bool
+  guarded_stands (inner s) = stands s
+  guarded_stands _ = true
+
+  pub stands : {p : Process} → Spot p → Bool
+  stands (gate {e = e} i one) = nat_lt i (gate_count e)
+  stands (in_members s) = turn_stands s
+  stands (in_body s) = stands s
+  stands _ = true
+
+  pub turn_stands : {members : Processes} → TurnSpot members → Bool
+  turn_stands (in_last s) = stands s
+  turn_stands (in_member s) = guarded_stands s
+  turn_stands (in_later s) = turn_stands s
 
 -- a node's value, and whether its up guard and its down guard hold
 pub record Rule : Type 0 where

@@ -1,5 +1,5 @@
 -- The programs whose circuits are proved so far.
-use Rattle.std.specs.Prelude.{◌≡◌, ℕ, All}
+use Rattle.std.specs.Prelude.{◌≡◌, All}
 use Rattle.chp_base.specs.declared.channel.Channel.{Channel}
 use Rattle.chp_base.specs.declared.channel.Kind.TheVariants.{Out}
 use Rattle.width_check.specs.Processes.{Formula, constant, Process, skipping, sending, in_turn, repeating, Processes, no_members, and_member, TypedProgram}

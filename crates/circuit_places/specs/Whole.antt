@@ -1,12 +1,13 @@
 -- The whole circuit of a program: go, the root, the body and the channels' wires; its moves, and which states they reach.
-use Rattle.std.specs.Prelude.{◌≡◌, ℕ, zero, suc, ◌==◌, Bool, true, false, not, ◌&&◌, ◌||◌, if◌then◌else◌, List, [], ◌∷◌, ◌++◌, length, replicate, slice_set, Option, Some, None, is_some}
+use Rattle.std.specs.Prelude.{◌≡◌, ℕ, zero, suc, ◌==◌, Bool, true, false, not, nat_lt, ◌&&◌, ◌||◌, if◌then◌else◌, List, [], ◌∷◌, ◌++◌, length, replicate, slice_set, Option, Some, None, is_some}
 use Rattle.std.specs.List.{list_any, list_all}
+use Rattle.chp_base.specs.declared.channel.Channel.{Channel}
 use Rattle.prs_core.specs.Moves.{bit_value, with_bit}
-use Rattle.env_script.specs.Scripts.{OfferValue, gives, takes, nothing, offer_at, is_over}
+use Rattle.env_script.specs.Scripts.{OfferValue, takes, offer_at, is_over}
 use Rattle.env_script.specs.Runs.{history_at, completed}
 use Rattle.width_check.specs.Processes.{Process, TypedProgram}
 use Rattle.width_check.specs.Typing.{channel_width}
-use Rattle.circuit_places.specs.Circuit.{Guarded, Cells, low_guarded, low, GuardedSpot, Rule, rule_of, no_rule, fires, Wires, same_bit, guarded_rule, turned_guarded, site_rails}
+use Rattle.circuit_places.specs.Circuit.{Guarded, Cells, low_guarded, low, GuardedSpot, guarded_stands, Rule, rule_of, no_rule, fires, Wires, same_bit, guarded_rule, turned_guarded, site_rails}
 
 -- the number on so many pairs of rails, the lowest bit first; none where a pair hasn't exactly one rail high
 abbrev pub value_on : ℕ → (ℕ → Bool → Bool) → Option ℕ
@@ -31,6 +32,13 @@ pub data Node : Process → Type 0 where
   own_node : {p : Process} → GuardedSpot p → Node p
   rail_node : {p : Process} (chan bit : ℕ) (one : Bool) → Node p
   ack_node : {p : Process} (chan : ℕ) → Node p
+
+-- the circuit has the node: a rail of a bit of a channel, an acknowledge of a channel
+abbrev pub is_node : (P : TypedProgram) → Node P.body → Bool
+is_node P go_node = true
+is_node P (own_node s) = guarded_stands s
+is_node P (rail_node k i one) = nat_lt i (channel_width P.channels k)
+is_node P (ack_node k) = nat_lt k (length P.channels)
 
 -- A rail of a channel is the OR of that of the channel's sites: it rises where one of them is high, and falls where all
 -- are low. Without sites it has no rules.
@@ -77,9 +85,9 @@ abbrev pub passed : List (List ℕ) → ℕ → Option ℕ → List (List ℕ)
 passed histories k None = histories
 passed histories k (Some v) = slice_set histories k (history_at histories k ++ v ∷ [])
 
-abbrev pub histories_after : (P : TypedProgram) → Whole P.body → Node P.body → List (List ℕ)
-histories_after P x (ack_node k) = if x.wires.ack k then x.histories else passed x.histories k (value_on (channel_width P.channels k) (x.wires.rail k))
-histories_after P x _ = x.histories
+abbrev pub passed_after : {p : Process} → List Channel → Wires → List (List ℕ) → Node p → List (List ℕ)
+passed_after channels w histories (ack_node k) = if w.ack k then histories else passed histories k (value_on (channel_width channels k) (w.rail k))
+passed_after channels w histories _ = histories
 
 abbrev pub wires_after : {p : Process} → Wires → Node p → Wires
 wires_after w (rail_node k i one) = rail_turned w k i one
@@ -100,7 +108,7 @@ moved P x n = record {
   go = go_after x.go n;
   root = root_after P.body x.root n;
   wires = wires_after x.wires n;
-  histories = histories_after P x n;
+  histories = passed_after P.channels x.wires x.histories n;
 }
 
 -- all nodes are low, and nothing has passed

@@ -1,0 +1,51 @@
+-- A spot that stands for no node never moves.
+use Rattle.std.proofs.Common.{◌≡◌, ℕ, zero, suc, ◌<◌, ◌≤◌, Bool, true, false, refl, arith}
+use Rattle.std.proofs.lemmas.Bool.Decides.{nat_tests}
+use Rattle.std.specs.Prelude.{nat_lt}
+use Rattle.width_check.specs.Processes.{Formula, constant, reading, joined, inverted, chained, compared, Process, skipping, assigning, sending, receiving, in_turn, side_by_side, choosing, repeating, Processes, no_members, and_member}
+use Rattle.circuit_places.specs.Circuit.{Guarded, Cells, TurnCells, Pairs, gate_count, GuardedSpot, Spot, TurnSpot, child, latch, next, inner, of_skip, of_send, gate, in_members, of_loop, ask, in_body, in_last, in_member, in_later, guarded_stands, stands, turn_stands, fires, Wires, constant_rule, gate_rule, guarded_rule, rule, turn_rule}
+
+below_next : (n i : ℕ) → nat_lt (suc i) (suc n) ≡ false → nat_lt i n ≡ false
+below_next n i h = grind (arith, nat_tests)
+
+first_below : (n : ℕ) → nat_lt zero (suc n) ≡ false → ⊥
+first_below n h = grind (arith, nat_tests)
+
+absent_bit : (n v i : ℕ) (r : Bool) (x : Pairs n) (one : Bool) → nat_lt i n ≡ false → fires (constant_rule n v r x i one) ≡ false
+absent_bit zero v i r x one h = refl
+absent_bit (suc n) v zero r x one h = absurd (first_below n h)
+absent_bit (suc n) v (suc i) r x one h = absent_bit n _ i r x.1 one (below_next n i h)
+
+absent_gate : (e : Formula) (i : ℕ) (r : Bool) (x : Pairs (gate_count e)) (one : Bool) → nat_lt i (gate_count e) ≡ false → fires (gate_rule e r x i one) ≡ false
+absent_gate (constant w v) i r x one h = absent_bit w v i r x one h
+absent_gate (reading z high low at) i r x one h = refl
+absent_gate (joined parts) i r x one h = refl
+absent_gate (inverted e) i r x one h = refl
+absent_gate (chained e more) i r x one h = refl
+absent_gate (compared op e f) i r x one h = refl
+
+mutual
+  pub guarded_absent : (p : Process) (env : Wires) (r : Bool) (x : Guarded (Cells p)) (s : GuardedSpot p) → guarded_stands s ≡ false → fires (guarded_rule p env r x s) ≡ false
+  guarded_absent p env r x child h = absurd (cc h)
+  guarded_absent p env r x latch h = absurd (cc h)
+  guarded_absent p env r x next h = absurd (cc h)
+  guarded_absent p env r x (inner s) h = absent p env x.child x.inner s h
+
+  pub absent : (p : Process) (env : Wires) (r : Bool) (x : Cells p) (s : Spot p) → stands s ≡ false → fires (rule p env r x s) ≡ false
+  absent skipping env r x of_skip h = absurd (cc h)
+  absent (sending c at e) env r x of_send h = absurd (cc h)
+  absent (sending c at e) env r x (gate i one) h = absent_gate e i r x.gates one h
+  absent (in_turn members) env r x (in_members s) h = turn_absent members env r x s h
+  absent (repeating p) env r x of_loop h = absurd (cc h)
+  absent (repeating p) env r x ask h = absurd (cc h)
+  absent (repeating p) env r x (in_body s) h = absent p env x.ask x.inner s h
+  absent (assigning z at e) env r x s h = refl
+  absent (receiving c at z to) env r x s h = refl
+  absent (side_by_side _) env r x s h = refl
+  absent (choosing again _) env r x s h = refl
+
+  pub turn_absent : (members : Processes) (env : Wires) (r : Bool) (x : TurnCells members) (s : TurnSpot members) → turn_stands s ≡ false → fires (turn_rule members env r x s) ≡ false
+  turn_absent no_members env r x s h = refl
+  turn_absent (and_member p no_members) env r x (in_last s) h = absent p env r x s h
+  turn_absent (and_member p (and_member q more)) env r x (in_member s) h = guarded_absent p env r x.member s h
+  turn_absent (and_member p (and_member q more)) env r x (in_later s) h = turn_absent (and_member q more) env x.member.next x.later s h

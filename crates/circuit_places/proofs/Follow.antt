@@ -1,0 +1,189 @@
+-- How far the program has come: a run of it, with as many steps as moves at most, that has passed the same values.
+use Rattle.std.proofs.Common.{◌≡◌, ℕ, zero, suc, ◌-◌, ◌≤◌, ◌<◌, ◌==◌, Bool, true, false, List, [], ◌∷◌, ◌++◌, length, refl, sym, ap, ◌∙◌, subst, inl, inr, arith, set, replicate}
+use Rattle.std.proofs.lemmas.List.{get_or-set_other, get_or-set_same, length-set}
+use Rattle.std.proofs.lemmas.Bool.Decides.{nat_tests}
+use Rattle.std.specs.Prelude.{Option, Some, if◌then◌else◌}
+use Rattle.env_script.specs.declared.script.Count.{Count}
+use Rattle.env_script.specs.declared.script.Count.TheVariants.{All, Times}
+use Rattle.env_script.specs.Scripts.{OfferValue, gives, takes, nothing, offer_at, is_over}
+use Rattle.env_script.specs.Runs.{history_at, completed}
+use Rattle.width_check.specs.Processes.{Process, skipping, repeating, TypedProgram}
+use Rattle.width_check.specs.Typing.{channel_width}
+use Rattle.chp_meaning.specs.Terms.{Term, finished, opened, Place, statement_at, with_left}
+use Rattle.chp_meaning.specs.Steps.{Configuration, one_fewer, leaving, passing, offering, Step, a_skip, a_repetition, a_delivery, Leads, no_step, one_step, start_of}
+use Rattle.circuit_places.specs.Circuit.{Wires}
+use Rattle.circuit_places.specs.Whole.{value_on, Node, go_node, own_node, rail_node, ack_node, answers, passed, passed_after}
+use Rattle.circuit_places.proofs.Left.{Act, skips, goes_on, Follows}
+use Rattle.circuit_places.proofs.Flow.{same_number, self_number, cases}
+use Rattle.circuit_places.proofs.Fires.{Passes}
+use Rattle.circuit_places.proofs.System.{Passing, Moves, Fitted, takes_of, may_low}
+
+-- what is left of an offer when so many values have passed
+abbrev pub fewer : Count → ℕ → Count
+fewer All n = All
+fewer (Times m) n = Times (m - n)
+
+abbrev pub left_over : OfferValue → ℕ → OfferValue
+left_over (takes count) n = takes (fewer count n)
+left_over (gives values) n = gives values
+left_over nothing n = nothing
+
+pub record Followed (P : TypedProgram) (script : List OfferValue) (most : ℕ) (hs : List (List ℕ)) (t : Term) : Type 0 where
+  pub to : Configuration
+  pub steps : ℕ
+  pub within : steps ≤ most
+  pub leads : Leads (start_of P script) steps to
+  pub term : to.term ≡ t
+  pub passed : to.histories ≡ hs
+  pub rests : (k : ℕ) → offer_at to.rests k ≡ left_over (offer_at script k) (completed hs k)
+  pub as_many : length to.rests ≡ length P.channels
+  pub as_long : length hs ≡ length P.channels
+
+-- one more step at a run's end
+leads_on : {c d e : Configuration} {at : Place} {n : ℕ} → Leads c n d → Step d at e → Leads c (suc n) e
+leads_on no_step s = one_step s no_step
+leads_on (one_step r l) s = one_step r (leads_on l s)
+
+none_yet : (n k : ℕ) → completed (replicate n []) k ≡ 0
+none_yet zero k = refl
+none_yet (suc n) zero = refl
+none_yet (suc n) (suc k) = none_yet n k
+
+whole_yet : (offer : OfferValue) (n : ℕ) → n ≡ 0 → offer ≡ left_over offer n
+whole_yet (takes All) n e = refl
+whole_yet (takes (Times m)) n e = ap (λ k. takes (Times k)) (let g : m ≡ m - n = omega (arith, e) in g)
+whole_yet (gives values) n e = refl
+whole_yet nothing n e = refl
+
+pub started : (P : TypedProgram) (script : List OfferValue) → Fitted P.channels script → Followed P script 0 (replicate (length P.channels) []) (opened P.body)
+started P script fitted = record {
+  to = start_of P script;
+  steps = 0;
+  within = omega arith;
+  leads = no_step;
+  term = refl;
+  passed = refl;
+  rests = λ k. whole_yet (offer_at script k) (completed (replicate (length P.channels) []) k) (none_yet (length P.channels) k);
+  as_many = fitted.same;
+  as_long = long (length P.channels);
+}
+  where
+    long : (n : ℕ) → length (replicate {A = List ℕ} n []) ≡ n
+    long zero = refl
+    long (suc n) = ap (λ k. suc k) (long n)
+
+module _ {P : TypedProgram} {script : List OfferValue} {most : ℕ} {hs : List (List ℕ)} {t : Term} (r : Followed P script most hs t) where
+  -- no step
+  stays : (y : Term) → y ≡ t → Followed P script (suc most) hs y
+  stays y e = record {
+    to = r.to;
+    steps = r.steps;
+    within = omega (arith, r.within);
+    leads = r.leads;
+    term = r.term ∙ sym e;
+    passed = r.passed;
+    rests = r.rests;
+    as_many = r.as_many;
+    as_long = r.as_long;
+  }
+
+  -- a step that no channel sees
+  leaves : (s : Process) (left y : Term) (a : Act t s left y) → Step r.to a.at (leaving r.to a.at left) → Followed P script (suc most) hs y
+  leaves s left y a step = record {
+    to = leaving r.to a.at left;
+    steps = suc r.steps;
+    within = omega (arith, r.within);
+    leads = leads_on r.leads step;
+    term = ap (λ x. with_left x a.at left) r.term ∙ sym a.then_is;
+    passed = r.passed;
+    rests = r.rests;
+    as_many = r.as_many;
+    as_long = r.as_long;
+  }
+
+  stands : (s : Process) (left y : Term) (a : Act t s left y) → statement_at r.to.term a.at ≡ Some s
+  stands s left y a = ap (λ x. statement_at x a.at) r.term ∙ a.stands
+
+  silent : (y : Term) → Follows t y → Followed P script (suc most) hs y
+  silent y (inl e) = stays y e
+  silent y (inr (skips a)) = leaves skipping finished y a (a_skip (stands skipping finished y a))
+  silent y (inr (goes_on {p = p} a)) = leaves (repeating p) _ y a (a_repetition (stands (repeating p) _ y a))
+
+-- an acceptance is used up
+one_more : (count : Count) (n k : ℕ) → k ≡ suc n → takes (one_fewer (fewer count n)) ≡ left_over (takes count) k
+one_more All n k e = refl
+one_more (Times m) n k e = ap (λ i. takes (Times i)) (let g : m - n - 1 ≡ m - k = omega (arith, e) in g)
+
+still_over : (count : Count) (n : ℕ) → is_over count n ≡ true → is_over (fewer count n) 0 ≡ true
+still_over All n e = refl
+still_over (Times m) n e = grind (arith, nat_tests)
+
+pub over_before : (count : Count) (n : ℕ) → is_over (fewer count n) 0 ≡ true → is_over count n ≡ true
+over_before All n e = refl
+over_before (Times m) n e = grind (arith, nat_tests)
+
+one_longer : (xs : List ℕ) (v : ℕ) → length (xs ++ v ∷ []) ≡ suc (length xs)
+one_longer [] v = refl
+one_longer (x ∷ xs) v = ap (λ k. suc k) (one_longer xs v)
+
+module _ {P : TypedProgram} {script : List OfferValue} {most : ℕ} {hs : List (List ℕ)} {t : Term} (fitted : Fitted P.channels script) (r : Followed P script most hs t) (k : ℕ) where
+  -- a value passes
+  module _ (rail : ℕ → Bool → Bool) (y : Term) (count : Count) (offered : offer_at script k ≡ takes count) (more : is_over count (completed hs k) ≡ true) (pass : Passes P.channels k rail t y) where
+    abbrev now_rests : List OfferValue
+    now_rests = set r.to.rests k (takes (one_fewer (fewer count (completed hs k))))
+
+    abbrev now_histories : List (List ℕ)
+    now_histories = set hs k (history_at hs k ++ pass.value ∷ [])
+
+    rest_at : offer_at r.to.rests k ≡ takes (fewer count (completed hs k))
+    rest_at = r.rests k ∙ ap (λ o. left_over o (completed hs k)) offered
+
+    below : k < length P.channels
+    below = fitted.within k count offered
+
+    step : Step r.to pass.act.at (passing (offering (leaving r.to pass.act.at finished) k (takes (one_fewer (fewer count (completed hs k))))) k pass.value)
+    step = a_delivery (ap (λ x. statement_at x pass.act.at) r.term ∙ pass.act.stands) rest_at (still_over count (completed hs k) more)
+
+    long : completed now_histories k ≡ suc (completed hs k)
+    long = ap length (get_or-set_same hs k (history_at hs k ++ pass.value ∷ []) [] (let g : k < length hs = subst (λ (n : ℕ). k < n) (sym r.as_long) below in g)) ∙ one_longer (history_at hs k) pass.value
+
+    now_rest : (c : ℕ) → offer_at now_rests c ≡ left_over (offer_at script c) (completed now_histories c)
+    now_rest c = cases (c == k)
+        (λ (e : (c == k) ≡ true).
+        let same : c ≡ k = same_number c k e in
+        subst (λ (i : ℕ). offer_at now_rests i ≡ left_over (offer_at script i) (completed now_histories i)) (sym same)
+        (get_or-set_same r.to.rests k (takes (one_fewer (fewer count (completed hs k)))) nothing (let g : k < length r.to.rests = subst (λ (n : ℕ). k < n) (sym r.as_many) below in g)
+        ∙ (one_more count (completed hs k) (completed now_histories k) long ∙ sym (ap (λ o. left_over o (completed now_histories k)) offered))))
+        (λ (e : (c == k) ≡ false).
+        let ne : c ≡ k → ⊥ = λ (same : c ≡ k). absurd (cc (e, ap (λ x. x == k) same, self_number k)) in
+        get_or-set_other r.to.rests k c (takes (one_fewer (fewer count (completed hs k)))) nothing ne
+        ∙ (r.rests c ∙ sym (ap (λ h. left_over (offer_at script c) (length h)) (get_or-set_other hs k c (history_at hs k ++ pass.value ∷ []) [] ne))))
+
+    passes_on : Followed P script (suc most) (passed hs k (value_on (channel_width P.channels k) rail)) y
+    passes_on = subst (λ (o : Option ℕ). Followed P script (suc most) (passed hs k o) y) (sym pass.read) (record {
+      to = passing (offering (leaving r.to pass.act.at finished) k (takes (one_fewer (fewer count (completed hs k))))) k pass.value;
+      steps = suc r.steps;
+      within = omega (arith, r.within);
+      leads = leads_on r.leads step;
+      term = ap (λ x. with_left x pass.act.at finished) r.term ∙ sym pass.act.then_is;
+      passed = ap (λ h. set h k (history_at h k ++ pass.value ∷ [])) r.passed;
+      rests = now_rest;
+      as_many = length-set r.to.rests k (takes (one_fewer (fewer count (completed hs k)))) ∙ r.as_many;
+      as_long = length-set hs k (history_at hs k ++ pass.value ∷ []) ∙ r.as_long;
+    })
+
+  acknowledged : (env : Wires) (y : Term) → answers (channel_width P.channels k) env k (completed hs k) (offer_at script k) ≡ true → (b : Bool) → env.ack k ≡ b → Passing P.channels k (env.rail k) b t y
+      → Followed P script (suc most) (if b then hs else passed hs k (value_on (channel_width P.channels k) (env.rail k))) y
+  acknowledged env y e true h move = stays r y move
+  acknowledged env y e false h move =
+      let o = takes_of (channel_width P.channels k) env k (completed hs k) (offer_at script k) e in
+      passes_on (env.rail k) y o.count o.is (may_low (channel_width P.channels k) env k (is_over o.count (completed hs k)) h o.may).1 move
+
+-- each move of the circuit is a step of the program or none
+pub follows : {P : TypedProgram} {script : List OfferValue} {most : ℕ} {hs : List (List ℕ)} {t : Term} → Fitted P.channels script → Followed P script most hs t → (env : Wires) (y : Term) (n : Node P.body)
+    → ((k : ℕ) → n ≡ ack_node k → answers (channel_width P.channels k) env k (completed hs k) (offer_at script k) ≡ true)
+    → Moves P.channels env t y n → Followed P script (suc most) (passed_after P.channels env hs n) y
+follows fitted r env y go_node e move = silent r y move
+follows fitted r env y (own_node s) e move = silent r y move
+follows fitted r env y (rail_node k i one) e move = silent r y move
+follows fitted r env y (ack_node k) e move = acknowledged fitted r k env y (e k refl) (env.ack k) refl move
