@@ -19,7 +19,7 @@ use Rattle.handshake_expand.specs.Answers as number
 use Rattle.cell_sequence.specs.Sequence.{q_child, q_latch, q_next}
 use Rattle.circuit_places.specs.Covered.{Covered, IsCovered}
 use Rattle.circuit_places.specs.Circuit.{Guarded, Cells, answer, GuardedSpot, Spot, child, latch, next, inner, Rule, rule_of, no_rule, fires, is_apart, turns, Wires, same_bit, guarded_rule, rule, turned, turned_guarded, site_rails}
-use Rattle.circuit_places.specs.Whole.{Whole, Node, go_node, own_node, rail_node, ack_node, merged, all_low, rule_in, receives, answers, env_moves, enabled, moved, ack_turned, rail_turned, passed, histories_after, value_on, neutral_on}
+use Rattle.circuit_places.specs.Whole.{Whole, Node, go_node, own_node, rail_node, ack_node, merged, all_low, rule_in, receives, answers, env_moves, enabled, moved, ack_turned, rail_turned, passed, value_on, neutral_on}
 use Rattle.net_compose.specs.Translation.{translation, all_rules, channels_rules, vars_rules, rules_of, in_body, send_site, rails_at, ack_at, wires_from, body_answer}
 use Rattle.net_compose.proofs.FlatCells.{bits, place, IsFine, length-bits, place_lt, rail_place, rail_place_lt, turned_is, AtPlace, spot_of}
 use Rattle.net_compose.proofs.FlatRules.{Stands, Told, one_high, one_low, high_and_low, or_up, or_down, length-rules, answer_is, rule_is}
@@ -318,3 +318,234 @@ module _ (P : TypedProgram) (given : Given P) where
     -- nothing passes where no acknowledge moves
     still_histories : ((j : ℕ) → j < length P.channels → m ≢ ack_at P j) → (moved_flat (translation P) st m).histories ≡ x.histories
     still_histories far = values_none P (high st.values) 0 P.channels st.histories m (ap length s.histories ∙ s.channels) (λ j low up. far j (omega (arith, up))) ∙ s.histories
+
+    go_far : 0 ≢ m → high (fired st.values m) 0 ≡ x.go
+    go_far ne = fired_far 0 ne ∙ s.go
+
+    done_far : 1 ≢ m → high (fired st.values m) 1 ≡ x.root.next
+    done_far ne = fired_far 1 ne ∙ s.done
+
+    child_far : root_request P ≢ m → high (fired st.values m) (root_request P) ≡ x.root.child
+    child_far ne = fired_far (root_request P) ne ∙ s.child
+
+    latch_far : root_latch P ≢ m → high (fired st.values m) (root_latch P) ≡ x.root.latch
+    latch_far ne = fired_far (root_latch P) ne ∙ s.latch
+
+    body_far : m < body_from P → Stands (high (fired st.values m)) (body_from P) (bits P.body x.root.inner)
+    body_far below = record { at = λ i h. fired_far (body_from P + i) (λ e. absurd (omega (arith, e, below))) ∙ s.body.at i h }
+
+    -- where the node isn't a wire
+    rail_outside : (m < 2) ⊎ (root_request P ≤ m) → (k i : ℕ) (one : Bool) → k < length P.channels → i < channel_width P.channels k → high (fired st.values m) (channel_from P k + rail_place i one) ≡ x.wires.rail k i one
+    rail_outside where_m k i one hk hi =
+        let b = rail_bounds P k i one hk hi in
+        fired_far (channel_from P k + rail_place i one) (λ e. no_wire where_m e b.0 b.1) ∙ s.rail k i one hk hi
+      where
+        no_wire : {n : ℕ} → (m < 2) ⊎ (root_request P ≤ m) → n ≡ m → 2 ≤ n → n < 2 + wires_before P.channels (length P.channels) → ⊥
+        no_wire (inl below) e low up = absurd (omega (arith, below, e, low))
+        no_wire (inr above) e low up = absurd (omega (arith, above, e, up, root_is))
+
+    ack_outside : (m < 2) ⊎ (root_request P ≤ m) → (k : ℕ) → k < length P.channels → high (fired st.values m) (ack_at P k) ≡ x.wires.ack k
+    ack_outside (inl below) k hk = fired_far (ack_at P k) (λ e. below_wires st x s m below k hk (sym e)) ∙ s.ack k hk
+    ack_outside (inr above) k hk = fired_far (ack_at P k) (λ e. above_wires st x s m above k hk (sym e)) ∙ s.ack k hk
+
+    histories_outside : (m < 2) ⊎ (root_request P ≤ m) → (moved_flat (translation P) st m).histories ≡ x.histories
+    histories_outside (inl below) = still_histories (below_wires st x s m below)
+    histories_outside (inr above) = still_histories (above_wires st x s m above)
+
+  -- a Q-element's own node, or one inside of the body
+  own_after : (st : RunState) (x : Whole P.body) (s : Shows st x) (p : GuardedSpot P.body) → own_fine p → Shows (moved_flat (translation P) st (own_number p)) (moved P x (own_node p))
+  own_after st x s next f =
+      let lt : 1 < nodes_of P = omega (arith, root_is) in
+      record {
+        count = fired_count st x s 1 lt;
+        go = go_far st x s 1 lt (λ e. absurd (cc e));
+        done = fired_here st x s 1 lt 1 refl ∙ ap not s.done;
+        child = child_far st x s 1 lt (λ e. absurd (omega (arith, e, root_is)));
+        latch = latch_far st x s 1 lt (λ e. absurd (omega (arith, e, root_is)));
+        body = body_far st x s 1 lt (omega (arith, root_is));
+        rail = rail_outside st x s 1 lt (inl (omega arith));
+        ack = ack_outside st x s 1 lt (inl (omega arith));
+        histories = histories_outside st x s 1 lt (inl (omega arith));
+        channels = s.channels;
+      }
+  own_after st x s child f =
+      let m = root_request P in
+      let lt : root_request P < nodes_of P = omega (arith, root_is) in
+      record {
+        count = fired_count st x s (root_request P) lt;
+        go = go_far st x s (root_request P) lt (λ e. absurd (omega (arith, e, root_is)));
+        done = done_far st x s (root_request P) lt (λ e. absurd (omega (arith, e, root_is)));
+        child = fired_here st x s (root_request P) lt (root_request P) refl ∙ ap not s.child;
+        latch = latch_far st x s (root_request P) lt (λ e. absurd (omega (arith, e)));
+        body = body_far st x s (root_request P) lt (omega arith);
+        rail = rail_outside st x s (root_request P) lt (inr (omega arith));
+        ack = ack_outside st x s (root_request P) lt (inr (omega arith));
+        histories = histories_outside st x s (root_request P) lt (inr (omega arith));
+        channels = s.channels;
+      }
+  own_after st x s latch f =
+      let lt : root_latch P < nodes_of P = omega (arith, root_is) in
+      record {
+        count = fired_count st x s (root_latch P) lt;
+        go = go_far st x s (root_latch P) lt (λ e. absurd (omega (arith, e, root_is)));
+        done = done_far st x s (root_latch P) lt (λ e. absurd (omega (arith, e, root_is)));
+        child = child_far st x s (root_latch P) lt (λ e. absurd (omega (arith, e)));
+        latch = fired_here st x s (root_latch P) lt (root_latch P) refl ∙ ap not s.latch;
+        body = body_far st x s (root_latch P) lt (omega arith);
+        rail = rail_outside st x s (root_latch P) lt (inr (omega arith));
+        ack = ack_outside st x s (root_latch P) lt (inr (omega arith));
+        histories = histories_outside st x s (root_latch P) lt (inr (omega arith));
+        channels = s.channels;
+      }
+  own_after st x s (inner p) f =
+      let m = body_from P + place P P.body p in
+      let k = place_lt P P.body given.covered p f in
+      let lt : body_from P + place P P.body p < nodes_of P = omega (arith, k) in
+      let xs = bits P.body x.root.inner in
+      let long = length-bits P P.body given.covered x.root.inner in
+      record {
+        count = fired_count st x s (body_from P + place P P.body p) lt;
+        go = go_far st x s (body_from P + place P P.body p) lt (λ e. absurd (omega (arith, e, root_is)));
+        done = done_far st x s (body_from P + place P P.body p) lt (λ e. absurd (omega (arith, e, root_is)));
+        child = child_far st x s (body_from P + place P P.body p) lt (λ e. absurd (omega (arith, e)));
+        latch = latch_far st x s (body_from P + place P P.body p) lt (λ e. absurd (omega (arith, e)));
+        body = subst (λ l. Stands (high (fired st.values (body_from P + place P P.body p))) (body_from P) l) (turned_is P P.body given.covered x.root.inner p f) (record {
+          at = λ i h.
+              let below : i < length xs = omega (arith, h, length-set xs (place P P.body p) (not (get_or xs (place P P.body p) false))) in
+              ⊎_elim
+              (λ (e : i ≡ place P P.body p).
+              let n : body_from P + i ≡ body_from P + place P P.body p = ap (λ j. body_from P + j) e in
+              fired_here st x s (body_from P + place P P.body p) lt (body_from P + i) n
+              ∙ (ap not (s.body.at i below ∙ ap (λ j. get_or xs j false) e)
+              ∙ (sym (get_or-set_same xs (place P P.body p) (not (get_or xs (place P P.body p) false)) false (omega (arith, k, long)))
+              ∙ ap (λ j. get_or (set xs (place P P.body p) (not (get_or xs (place P P.body p) false))) j false) (sym e))))
+              (λ (ne : i ≢ place P P.body p).
+              fired_far st x s (body_from P + place P P.body p) lt (body_from P + i) (λ e. ne (omega (arith, e)))
+              ∙ (s.body.at i below ∙ sym (get_or-set_other xs (place P P.body p) i (not (get_or xs (place P P.body p) false)) false ne)))
+              (cases_eq i (place P P.body p));
+        });
+        rail = rail_outside st x s (body_from P + place P P.body p) lt (inr (omega arith));
+        ack = ack_outside st x s (body_from P + place P P.body p) lt (inr (omega arith));
+        histories = histories_outside st x s (body_from P + place P P.body p) lt (inr (omega arith));
+        channels = s.channels;
+      }
+
+  go_after_is : (st : RunState) (x : Whole P.body) → Shows st x → Shows (moved_flat (translation P) st 0) (moved P x go_node)
+  go_after_is st x s =
+      let lt : 0 < nodes_of P = omega (arith, root_is) in
+      record {
+        count = fired_count st x s 0 lt;
+        go = fired_here st x s 0 lt 0 refl ∙ ap not s.go;
+        done = done_far st x s 0 lt (λ e. absurd (cc e));
+        child = child_far st x s 0 lt (λ e. absurd (omega (arith, e, root_is)));
+        latch = latch_far st x s 0 lt (λ e. absurd (omega (arith, e, root_is)));
+        body = body_far st x s 0 lt (omega (arith, root_is));
+        rail = rail_outside st x s 0 lt (inl (omega arith));
+        ack = ack_outside st x s 0 lt (inl (omega arith));
+        histories = histories_outside st x s 0 lt (inl (omega arith));
+        channels = s.channels;
+      }
+
+  -- the test by which a rail is found
+  same_rail : (c k j i : ℕ) (side one : Bool) → ((c == k) && ((j == i) && same_bit side one)) ≡ true → (c ≡ k) × (j ≡ i) × (side ≡ one)
+  same_rail c k j i side one h = by_tests (c == k) (j == i) side one refl refl h
+    where
+      by_tests : (a b side one : Bool) → (c == k) ≡ a → (j == i) ≡ b → (a && (b && same_bit side one)) ≡ true → (c ≡ k) × (j ≡ i) × (side ≡ one)
+      by_tests true true true true ea eb t = (eqb-true c k ea, eqb-true j i eb, refl)
+      by_tests true true true false ea eb t = absurd (cc t)
+      by_tests true true false true ea eb t = absurd (cc t)
+      by_tests true true false false ea eb t = (eqb-true c k ea, eqb-true j i eb, refl)
+      by_tests true false side one ea eb t = absurd (cc t)
+      by_tests false b side one ea eb t = absurd (cc t)
+
+  same_rail_back : (c k j i : ℕ) (side one : Bool) → c ≡ k → j ≡ i → side ≡ one → ((c == k) && ((j == i) && same_bit side one)) ≡ true
+  same_rail_back c k j i side one ec ej es =
+      ap (λ b. b && ((j == i) && same_bit side one)) (eq-eqb c k ec) ∙ (ap (λ b. b && same_bit side one) (eq-eqb j i ej) ∙ (ap (λ b. same_bit b one) es ∙ itself one))
+    where
+      itself : (b : Bool) → same_bit b b ≡ true
+      itself true = refl
+      itself false = refl
+
+  rail_after : (st : RunState) (x : Whole P.body) → Shows st x → (k i : ℕ) (one : Bool) → k < length P.channels → i < channel_width P.channels k → Shows (moved_flat (translation P) st (channel_from P k + rail_place i one)) (moved P x (rail_node k i one))
+  rail_after st x s k i one hk hi =
+      let b = rail_bounds P k i one hk hi in
+      let lt : channel_from P k + rail_place i one < nodes_of P = omega (arith, b.1, root_is) in
+      record {
+        count = fired_count st x s (channel_from P k + rail_place i one) lt;
+        go = go_far st x s (channel_from P k + rail_place i one) lt (λ e. absurd (omega (arith, e, b.0)));
+        done = done_far st x s (channel_from P k + rail_place i one) lt (λ e. absurd (omega (arith, e, b.0)));
+        child = child_far st x s (channel_from P k + rail_place i one) lt (λ e. absurd (omega (arith, e, b.1, root_is)));
+        latch = latch_far st x s (channel_from P k + rail_place i one) lt (λ e. absurd (omega (arith, e, b.1, root_is)));
+        body = body_far st x s (channel_from P k + rail_place i one) lt (omega (arith, b.1, root_is));
+        rail = λ c j side hc hj. by_test lt c j side hc hj ((c == k) && ((j == i) && same_bit side one)) refl;
+        ack = λ c hc. fired_far st x s (channel_from P k + rail_place i one) lt (ack_at P c) (λ e. rail_no_ack P k c i one hk hc hi (sym e)) ∙ s.ack c hc;
+        histories = still_histories st x s (channel_from P k + rail_place i one) lt (λ j hj. rail_no_ack P k j i one hk hj hi);
+        channels = s.channels;
+      }
+    where
+      by_test : channel_from P k + rail_place i one < nodes_of P → (c j : ℕ) (side : Bool) → c < length P.channels → j < channel_width P.channels c → (t : Bool) → ((c == k) && ((j == i) && same_bit side one)) ≡ t
+          → high (fired st.values (channel_from P k + rail_place i one)) (channel_from P c + rail_place j side) ≡ (if t then not (x.wires.rail k i one) else x.wires.rail c j side)
+      by_test lt c j side hc hj true e =
+          let q = same_rail c k j i side one e in
+          let n : channel_from P c + rail_place j side ≡ channel_from P k + rail_place i one = cc (q.0, q.1, q.2) in
+          fired_here st x s (channel_from P k + rail_place i one) lt (channel_from P c + rail_place j side) n
+          ∙ (ap (λ m. not (high st.values m)) n ∙ ap not (s.rail k i one hk hi))
+      by_test lt c j side hc hj false e =
+          fired_far st x s (channel_from P k + rail_place i one) lt (channel_from P c + rail_place j side)
+          (λ z. let q = rail_same P c k j i side one hc hk hj hi z in absurd (cc (same_rail_back c k j i side one q.0 q.1 q.2, e)))
+          ∙ s.rail c j side hc hj
+
+  ack_after : (st : RunState) (x : Whole P.body) → Shows st x → (k : ℕ) → k < length P.channels → Shows (moved_flat (translation P) st (ack_at P k)) (moved P x (ack_node k))
+  ack_after st x s k hk =
+      let b = ack_bounds P k hk in
+      let lt : ack_at P k < nodes_of P = omega (arith, b.1, root_is) in
+      record {
+        count = fired_count st x s (ack_at P k) lt;
+        go = go_far st x s (ack_at P k) lt (λ e. absurd (omega (arith, e, b.0)));
+        done = done_far st x s (ack_at P k) lt (λ e. absurd (omega (arith, e, b.0)));
+        child = child_far st x s (ack_at P k) lt (λ e. absurd (omega (arith, e, b.1, root_is)));
+        latch = latch_far st x s (ack_at P k) lt (λ e. absurd (omega (arith, e, b.1, root_is)));
+        body = body_far st x s (ack_at P k) lt (omega (arith, b.1, root_is));
+        rail = λ c j side hc hj. fired_far st x s (ack_at P k) lt (channel_from P c + rail_place j side) (rail_no_ack P c k j side hc hk hj) ∙ s.rail c j side hc hj;
+        ack = λ c hc. by_test lt c hc (c == k) refl;
+        histories = values_here ∙ by_ack (x.wires.ack k) refl;
+        channels = lengths (x.wires.ack k);
+      }
+    where
+      by_test : ack_at P k < nodes_of P → (c : ℕ) → c < length P.channels → (t : Bool) → (c == k) ≡ t → high (fired st.values (ack_at P k)) (ack_at P c) ≡ (if t then not (x.wires.ack k) else x.wires.ack c)
+      by_test lt c hc true e =
+          let n : ack_at P c ≡ ack_at P k = ap (ack_at P) (eqb-true c k e) in
+          fired_here st x s (ack_at P k) lt (ack_at P c) n ∙ (ap (λ m. not (high st.values m)) n ∙ ap not (s.ack k hk))
+      by_test lt c hc false e =
+          fired_far st x s (ack_at P k) lt (ack_at P c) (λ z. absurd (cc (eq-eqb c k (ack_same P c k hc hk z), e))) ∙ s.ack c hc
+
+      value_here : rail_value_of (high st.values) (rails_of (rails_at P k)) ≡ value_on (channel_width P.channels k) (x.wires.rail k)
+      value_here = value_is (high st.values) (channel_width P.channels k) (channel_from P k) (x.wires.rail k) (λ i one lt. s.rail k i one hk lt)
+
+      values_here : (moved_flat (translation P) st (ack_at P k)).histories ≡ passed x.histories k (if not (x.wires.ack k) then value_on (channel_width P.channels k) (x.wires.rail k) else None)
+      values_here =
+          let e : 0 + k ≡ k = omega arith in
+          values_some P (high st.values) 0 P.channels st.histories (ack_at P k) k (ap length s.histories ∙ s.channels) hk (ap (ack_at P) (sym e))
+          (λ i low up ne z. ne (sym (ack_same P k i hk (omega (arith, up)) z) ∙ sym e))
+          ∙ (ap (λ h. passed h k (if not (high st.values (ack_at P k)) then rail_value_of (high st.values) (rails_of (rails_at P (0 + k))) else None)) s.histories
+          ∙ (ap (λ b. passed x.histories k (if not b then rail_value_of (high st.values) (rails_of (rails_at P (0 + k))) else None)) (s.ack k hk)
+          ∙ (ap (λ j. passed x.histories k (if not (x.wires.ack k) then rail_value_of (high st.values) (rails_of (rails_at P j)) else None)) e
+          ∙ ap (λ o. passed x.histories k (if not (x.wires.ack k) then o else None)) value_here)))
+
+      by_ack : (a : Bool) → x.wires.ack k ≡ a → passed x.histories k (if not a then value_on (channel_width P.channels k) (x.wires.rail k) else None) ≡ (if a then x.histories else passed x.histories k (value_on (channel_width P.channels k) (x.wires.rail k)))
+      by_ack true e = refl
+      by_ack false e = refl
+
+      length-passed : (o : Option ℕ) → length (passed x.histories k o) ≡ length P.channels
+      length-passed None = s.channels
+      length-passed (Some y) = length-set x.histories k (history_at x.histories k ++ y ∷ []) ∙ s.channels
+
+      lengths : (a : Bool) → length (if a then x.histories else passed x.histories k (value_on (channel_width P.channels k) (x.wires.rail k))) ≡ length P.channels
+      lengths true = s.channels
+      lengths false = length-passed (value_on (channel_width P.channels k) (x.wires.rail k))
+
+  pub after_move : (st : RunState) (x : Whole P.body) → Shows st x → (n : Node P.body) → Fine n → Shows (moved_flat (translation P) st (number_of n)) (moved P x n)
+  after_move st x s go_node f = go_after_is st x s
+  after_move st x s (own_node p) f = own_after st x s p f
+  after_move st x s (rail_node k i one) f = rail_after st x s k i one f.0 f.1
+  after_move st x s (ack_node k) f = ack_after st x s k f
