@@ -105,7 +105,7 @@ step_behind {c = c} {d = d} {at = at} s k =
     let r = longer c.histories (deal s).pass k in
     (r.0, ap (λ x. history_at x.histories k) (sym (step_deals s)) ∙ r.1)
 
-run_behind : {c d : Configuration} {n : ℕ} → Leads c n d → IsBehind c d
+pub run_behind : {c d : Configuration} {n : ℕ} → Leads c n d → IsBehind c d
 run_behind {c = c} no_step k = ([], sym (append-nil (history_at c.histories k)))
 run_behind (one_step {c = c} {d = d} {e = e} s l) k =
     let a = step_behind s k in

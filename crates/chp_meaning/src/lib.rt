@@ -3,4 +3,4 @@
 
 mod laws;
 
-pub use laws::{one_history, rounds_hold, steps_taken};
+pub use laws::{one_history, rounds_hold, runs_append, steps_taken};

@@ -1,5 +1,5 @@
 -- The programs whose circuits are proved so far.
-use Rattle.std.specs.Prelude.{◌≡◌, All}
+use Rattle.std.specs.Prelude.{◌≡◌, List, [], All}
 use Rattle.chp_base.specs.declared.channel.Channel.{Channel}
 use Rattle.chp_base.specs.declared.channel.Kind.TheVariants.{Out}
 use Rattle.width_check.specs.Processes.{Formula, constant, Process, skipping, sending, in_turn, repeating, Processes, no_members, and_member, TypedProgram}
@@ -22,7 +22,8 @@ abbrev mutual
   AreCovered no_members = Unit {0}
   AreCovered (and_member p more) = IsCovered p × AreCovered more
 
--- of which the environment receives each
+-- over channels on which the environment receives, without variables
 pub record Covered (P : TypedProgram) : Type 0 where
   pub channels : All (λ (c : Channel). c.kind ≡ Out) P.channels
+  pub vars : P.vars ≡ []
   pub body : IsCovered P.body

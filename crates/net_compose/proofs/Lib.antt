@@ -7,3 +7,4 @@ pub mod FlatRules
 pub mod FlatSites
 pub mod FlatWires
 pub mod FlatNet
+pub mod CoveredCarried

@@ -1,0 +1,395 @@
+-- The net of each covered program carries it.
+use Rattle.std.proofs.Common.{◌≡◌, ◌≢◌, ◌↔◌, ℕ, zero, suc, ◌+◌, ◌-◌, ◌*◌, ◌<◌, ◌≤◌, ◌==◌, Bool, true, false, List, [], ◌∷◌, ◌++◌, map, length, get_or, replicate, Option, Some, None, ◌⊎◌, inl, inr, refl, sym, ap, ◌∙◌, subst, arith, ⊎_elim, append-nil, append_assoc}
+use Rattle.std.specs.Prelude.{not, ◌&&◌, ◌||◌, if◌then◌else◌, is_some, nat_lt, fold, filter, All, slice_set}
+use Rattle.std.proofs.lemmas.Bool.{cases_lt, cases_Bool, eqb-true, and_from}
+use Rattle.std.proofs.lemmas.Bool.Decides.{nat_tests}
+use Rattle.chp_base.specs.declared.channel.Channel.{Channel}
+use Rattle.chp_base.specs.declared.channel.Kind.TheVariants.{In}
+use Rattle.chp_syntax.specs.declared.tree.Op.{Op}
+use Rattle.prs_core.specs.declared.wires.Wires.{Wires as NetWires}
+use Rattle.prs_core.specs.Nets.{NetValue}
+use Rattle.prs_core.specs.Pairs.{rails_of}
+use Rattle.prs_core.specs.Moves.{high, both_ways, rail_value_of, neutral}
+use Rattle.env_script.specs.Scripts.{OfferValue, IsScript}
+use Rattle.env_script.specs.Environment.{valid}
+use Rattle.env_script.specs.Phases.{rail_keeps, rails_keep, ack_keeps, phases_keep, phase_fault}
+use Rattle.env_script.specs.Runs.{RunState, history_at, move_enabled, moved as moved_flat, IsRun, after, begin_at, IsAtRest as IsAtRestFlat, IsApart, IsSafeMove, IsSafeRun}
+use Rattle.width_check.specs.Processes.{Process, skipping, assigning, sending, receiving, in_turn, side_by_side, choosing, repeating, Processes, no_members, and_member, TypedProgram}
+use Rattle.width_check.specs.Typing.{IsTyped, channel_width}
+use Rattle.width_check.specs.Sharing.{Occurrence, Parallel, ParallelInside, MeetsSharing}
+use Rattle.chp_meaning.specs.Terms.{Place, places, finished}
+use Rattle.chp_meaning.specs.Steps.{Configuration, Step, Leads, no_step, one_step, start_of}
+use Rattle.chp_meaning.specs.Rounds.{round, rounds, rounds_from, step_at, is_enabled, enabled_places, taken}
+use Rattle.chp_meaning.specs.Laws.{IsBehind, OneHistory, RoundsHold}
+use Rattle.handshake_expand.specs.Layout.{reads, channel_from, nodes_of, size_of, body_from, root_request, root_latch}
+use Rattle.circuit_places.specs.Covered.{Covered, IsNumber, IsCovered, AreCovered}
+use Rattle.circuit_places.specs.Circuit.{low, GuardedSpot, Spot, TurnSpot, child, latch, next, inner, of_skip, of_send, gate, in_members, of_loop, ask, in_body, in_last, in_member, in_later, gate_count, guarded_stands, stands, turn_stands}
+use Rattle.circuit_places.specs.Whole.{Whole, Node, go_node, own_node, rail_node, ack_node, is_node, rule_in, enabled, moved, first_of, value_on, neutral_on, Reaches, at_first, by_move}
+use Rattle.circuit_places.specs.Carried.{IsSafe, IsAtRest, IsSettled as IsSettledCells, IsCarried, CircuitsCarry}
+use Rattle.net_compose.specs.Translation.{translation, Sites, sites_in, sites_in_turn, hidden_high, vars_high, in_body as in_program, first_values, rails_at, ack_at, wires_from}
+use Rattle.net_compose.specs.Carries.{IsFollowing, IsSettled, IsCarrying, HasChannels, Carries}
+use Rattle.net_compose.proofs.FlatCells.{bits, low_bits, IsFine, IsFineTurn, rail_place}
+use Rattle.net_compose.proofs.FlatRules.{Stands}
+use Rattle.net_compose.proofs.FlatWires.{value_is, neutral_is, rails_kept, position_none, length-wires_from, wires_are}
+use Rattle.net_compose.proofs.FlatNet.{Given, Shows, number_of, Fine, Numbered, node_at, enabled_is, apart_is, past_apart, past_end, after_move}
+
+-- a covered program has no parallel places
+
+mutual
+  none_parallel : (p : Process) → IsCovered p → (a b : Occurrence) → Parallel p a b → ⊥
+  none_parallel skipping c a b h = h
+  none_parallel (sending k at e) c a b h = h
+  none_parallel (in_turn members) c a b h = none_inside members c a b h
+  none_parallel (repeating p) c a b h = none_parallel p c a b h
+  none_parallel (assigning x at e) c a b h = h
+  none_parallel (receiving k at x to) c a b h = h
+  none_parallel (side_by_side members) c a b h = c
+  none_parallel (choosing again choices) c a b h = c
+
+  none_inside : (members : Processes) → AreCovered members → (a b : Occurrence) → ParallelInside members a b → ⊥
+  none_inside no_members c a b h = h
+  none_inside (and_member p more) c a b (inl h) = none_parallel p c.0 a b h
+  none_inside (and_member p more) c a b (inr h) = none_inside more c.1 a b h
+
+pub shares_nothing : (p : Process) → IsCovered p → MeetsSharing p
+shares_nothing p c = record {
+  variables = λ a b h. absurd (none_parallel p c a b h);
+  sends = λ a b h. absurd (none_parallel p c a b h);
+  receives = λ a b h. absurd (none_parallel p c a b h);
+}
+
+-- rounds and runs of the program
+
+rounds_on : (c : Configuration) (n m : ℕ) → rounds_from c (n + m) ≡ rounds_from (rounds_from c n) m
+rounds_on c zero m = let e : 0 + m ≡ m = omega arith in ap (rounds_from c) e
+rounds_on c (suc n) m = let e : suc n + m ≡ suc (n + m) = omega arith in ap (rounds_from c) e ∙ rounds_on (round c) n m
+
+filter_none : (p : Place → Bool) (xs : List Place) → ((x : Place) → p x ≡ false) → filter p xs ≡ []
+filter_none p [] h = refl
+filter_none p (x ∷ xs) h = ap (λ b. keep b) (h x) ∙ filter_none p xs h
+  where
+    keep : Bool → List Place
+    keep b = if b then x ∷ filter p xs else filter p xs
+
+module _ (steps_taken : (c d : Configuration) (at : Place) → step_at c at ≡ Some d → Step c at d) where
+  not_enabled : (c : Configuration) → ((at : Place) (d : Configuration) → ¬ Step c at d) → (at : Place) → is_enabled c at ≡ false
+  not_enabled c still at = by_step (step_at c at) refl
+    where
+      by_step : (o : Option Configuration) → step_at c at ≡ o → is_some o ≡ false
+      by_step None e = refl
+      by_step (Some d) e = absurd (still at d (steps_taken c d at e))
+
+  round_stays : (c : Configuration) → ((at : Place) (d : Configuration) → ¬ Step c at d) → round c ≡ c
+  round_stays c still = ap (λ l. fold taken c l) (filter_none (is_enabled c) (places c.term) (not_enabled c still))
+
+  rounds_stay : (c : Configuration) → ((at : Place) (d : Configuration) → ¬ Step c at d) → (n : ℕ) → rounds_from c n ≡ c
+  rounds_stay c still zero = refl
+  rounds_stay c still (suc n) = ap (λ d. rounds_from d n) (round_stays c still) ∙ rounds_stay c still n
+
+leads_nowhere : (c d : Configuration) (n : ℕ) → ((at : Place) (e : Configuration) → ¬ Step c at e) → Leads c n d → c ≡ d
+leads_nowhere c d zero still no_step = refl
+leads_nowhere c d (suc n) still (one_step {d = e} {at = at} s l) = absurd (still at e s)
+
+behind_same : (c : Configuration) → IsBehind c c
+behind_same c k = ([], sym (append-nil (history_at c.histories k)))
+
+behind_on : (c d e : Configuration) → IsBehind c d → IsBehind d e → IsBehind c e
+behind_on c d e f g k =
+    let a = f k in
+    let b = g k in
+    (a.0 ++ b.0, b.1 ∙ (ap (λ h. h ++ b.0) a.1 ∙ append_assoc (history_at c.histories k) a.0 b.0))
+
+rounds_behind : (P : TypedProgram) (script : List OfferValue) → RoundsHold P script → (n m : ℕ) → IsBehind (rounds P script n) (rounds P script (n + m))
+rounds_behind P script hold n zero = let e : n ≡ n + 0 = omega arith in subst (λ j. IsBehind (rounds P script n) (rounds P script j)) e (behind_same (rounds P script n))
+rounds_behind P script hold n (suc m) =
+    let e : suc (n + m) ≡ n + suc m = omega arith in
+    subst (λ j. IsBehind (rounds P script n) (rounds P script j)) e
+    (behind_on (rounds P script n) (rounds P script (n + m)) (rounds P script (suc (n + m))) (rounds_behind P script hold n m) (hold (n + m)).2)
+
+-- a node that stands is one of the net's
+
+below_told : (i n : ℕ) → nat_lt i n ≡ true → i < n
+below_told i n h = grind (arith, nat_tests)
+
+mutual
+  fine_spot : (P : TypedProgram) (p : Process) (s : Spot p) → stands s ≡ true → IsFine P p s
+  fine_spot P skipping of_skip h = tt
+  fine_spot P (sending chan at e) of_send h = tt
+  fine_spot P (sending chan at e) (gate i one) h = below_told i (gate_count e) h
+  fine_spot P (in_turn members) (in_members s) h = fine_turn P members s h
+  fine_spot P (repeating p) of_loop h = tt
+  fine_spot P (repeating p) ask h = tt
+  fine_spot P (repeating p) (in_body s) h = fine_spot P p s h
+  fine_spot P (assigning x at e) s h = elim s [ ]
+  fine_spot P (receiving k at x to) s h = elim s [ ]
+  fine_spot P (side_by_side members) s h = elim s [ ]
+  fine_spot P (choosing again choices) s h = elim s [ ]
+
+  fine_turn : (P : TypedProgram) (members : Processes) (s : TurnSpot members) → turn_stands s ≡ true → IsFineTurn P members s
+  fine_turn P no_members s h = elim s [ ]
+  fine_turn P (and_member p no_members) (in_last s) h = fine_spot P p s h
+  fine_turn P (and_member p (and_member q more)) (in_member child) h = tt
+  fine_turn P (and_member p (and_member q more)) (in_member latch) h = tt
+  fine_turn P (and_member p (and_member q more)) (in_member next) h = tt
+  fine_turn P (and_member p (and_member q more)) (in_member (inner s)) h = fine_spot P p s h
+  fine_turn P (and_member p (and_member q more)) (in_later s) h = fine_turn P (and_member q more) s h
+
+has_width : (cs : List Channel) (k i : ℕ) → i < channel_width cs k → k < length cs
+has_width [] k i h = absurd (omega (arith, h))
+has_width (c ∷ cs) zero i h = omega arith
+has_width (c ∷ cs) (suc k) i h = let r = has_width cs k i h in omega (arith, r)
+
+fine_node : (P : TypedProgram) (given : Given P) (n : Node P.body) → is_node P n ≡ true → Fine P given n
+fine_node P given go_node h = tt
+fine_node P given (own_node child) h = tt
+fine_node P given (own_node latch) h = tt
+fine_node P given (own_node next) h = tt
+fine_node P given (own_node (inner s)) h = fine_spot P P.body s h
+fine_node P given (rail_node k i one) h = let lt = below_told i (channel_width P.channels k) h in (has_width P.channels k i lt, lt)
+fine_node P given (ack_node k) h = below_told k (length P.channels) h
+
+-- the first state
+
+mutual
+  none_hidden : (P : TypedProgram) (p : Process) → IsCovered p → (from : ℕ) → sites_in P (hidden_high P) p from ≡ []
+  none_hidden P skipping c from = refl
+  none_hidden P (sending k at e) c from = refl
+  none_hidden P (in_turn members) c from = none_hidden_turn P members c from
+  none_hidden P (repeating p) c from = none_hidden P p c (from + 2)
+  none_hidden P (assigning x at e) c from = absurd c
+  none_hidden P (receiving k at x to) c from = absurd c
+  none_hidden P (side_by_side members) c from = absurd c
+  none_hidden P (choosing again choices) c from = absurd c
+
+  none_hidden_turn : (P : TypedProgram) (members : Processes) → AreCovered members → (from : ℕ) → sites_in_turn P (hidden_high P) members from ≡ []
+  none_hidden_turn P no_members c from = refl
+  none_hidden_turn P (and_member p no_members) c from = none_hidden P p c.0 from
+  none_hidden_turn P (and_member p (and_member q more)) c from =
+      ap (λ l. l ++ sites_in_turn P (hidden_high P) (and_member q more) (from + 3 + size_of P p)) (none_hidden P p c.0 (from + 3))
+      ∙ none_hidden_turn P (and_member q more) c.1 (from + 3 + size_of P p)
+
+all_low_at : (n i : ℕ) → get_or (replicate n false) i false ≡ false
+all_low_at zero i = refl
+all_low_at (suc n) zero = refl
+all_low_at (suc n) (suc i) = all_low_at n i
+
+length-replicated : (n : ℕ) → length (replicate n false) ≡ n
+length-replicated zero = refl
+length-replicated (suc n) = ap suc (length-replicated n)
+
+length-histories : (n : ℕ) → length (replicate {A = List ℕ} n []) ≡ n
+length-histories zero = refl
+length-histories (suc n) = ap suc (length-histories n)
+
+module _ (P : TypedProgram) (given : Given P) where
+  first_is : first_values P ≡ replicate (nodes_of P) false
+  first_is =
+      ap (λ vs. fold (λ values node. slice_set values node true) (replicate (nodes_of P) false) (vars_high P 0 vs ++ in_program P (hidden_high P))) given.plain
+      ∙ ap (λ l. fold (λ values node. slice_set values node true) (replicate (nodes_of P) false) l) (none_hidden P P.body given.covered (body_from P))
+
+  low_there : (i : ℕ) → high (first_values P) i ≡ false
+  low_there i = ap (λ l. high l i) first_is ∙ all_low_at (nodes_of P) i
+
+  starts : Shows P given (begin_at (translation P) (translation P).first) (first_of P)
+  starts = record {
+    count = ap length first_is ∙ length-replicated (nodes_of P);
+    go = low_there 0;
+    done = low_there 1;
+    child = low_there (root_request P);
+    latch = low_there (root_latch P);
+    body = record { at = λ i h. low_there (body_from P + i) ∙ sym (ap (λ l. get_or l i false) (low_bits P P.body given.covered) ∙ all_low_at (size_of P P.body) i) };
+    rail = λ k i one hk hi. low_there (channel_from P k + rail_place i one);
+    ack = λ k hk. low_there (ack_at P k);
+    histories = ap (λ n. replicate n []) (length-wires_from P 0 P.channels);
+    channels = length-histories (length P.channels);
+  }
+
+  same_channels : (k : ℕ) (cs : List Channel) → map (λ (w : NetWires). w.channel) (wires_from P k cs) ≡ cs
+  same_channels k [] = refl
+  same_channels k (c ∷ cs) = ap (λ l. c ∷ l) (same_channels (suc k) cs)
+
+  module _ (script : List OfferValue) (fits : IsScript P.channels script) where
+    -- a state of the net, as one of the cells that as many moves lead to
+    record Reached (st : RunState) (moves : ℕ) : Type 0 where
+      cells : Whole P.body
+      reaches : Reaches P script moves cells
+      shows : Shows P given st cells
+
+    record Moving (st : RunState) (moves : ℕ) (r : Reached st moves) (n : ℕ) : Type 0 where
+      node : Node P.body
+      fine : Fine P given node
+      is : number_of P given node ≡ n
+      may : enabled P script r.cells node ≡ true
+
+    moving : (st : RunState) (moves : ℕ) (r : Reached st moves) (n : ℕ) → move_enabled (translation P) script st n ≡ true → Moving st moves r n
+    moving st moves r n on =
+        ⊎_elim
+        (λ (lt : n < nodes_of P).
+        let q = node_at P given n lt in
+        let here : Moving st moves r n = record {
+          node = q.node;
+          fine = q.fine;
+          is = q.is;
+          may = sym (enabled_is P given st r.cells r.shows script fits q.node q.fine) ∙ (ap (move_enabled (translation P) script st) q.is ∙ on);
+        } in
+        here)
+        (λ (le : nodes_of P ≤ n). absurd (cc (past_end P given st r.cells r.shows script fits n le, on)))
+        (cases_lt n (nodes_of P))
+
+    next_shows : (st : RunState) (moves : ℕ) (r : Reached st moves) (n : ℕ) (m : Moving st moves r n) → Shows P given (moved_flat (translation P) st n) (moved P r.cells m.node)
+    next_shows st moves r n m = subst (λ i. Shows P given (moved_flat (translation P) st i) (moved P r.cells m.node)) m.is (after_move P given st r.cells r.shows m.node m.fine)
+
+    one_more : (st : RunState) (moves : ℕ) → Reached st moves → (n : ℕ) → move_enabled (translation P) script st n ≡ true → Reached (moved_flat (translation P) st n) (suc moves)
+    one_more st moves r n on =
+        let m = moving st moves r n on in
+        record { cells = moved P r.cells m.node; reaches = by_move m.node r.reaches m.may; shows = next_shows st moves r n m }
+
+    reach : (ns : List ℕ) (st : RunState) (moves : ℕ) → Reached st moves → IsRun (translation P) script st ns → Reached (after (translation P) st ns) (moves + length ns)
+    reach [] st moves r run = let e : moves ≡ moves + 0 = omega arith in subst (λ k. Reached st k) e r
+    reach (n ∷ ns) st moves r run =
+        let e : suc moves + length ns ≡ moves + suc (length ns) = omega arith in
+        subst (λ k. Reached (after (translation P) (moved_flat (translation P) st n) ns) k) e (reach ns (moved_flat (translation P) st n) (suc moves) (one_more st moves r n run.0) run.1)
+
+    module _ (carried : (moves : ℕ) (x : Whole P.body) → Reaches P script moves x → IsCarried P script moves x) where
+      apart : (st : RunState) (moves : ℕ) → Reached st moves → IsApart (translation P) st
+      apart st moves r n =
+          let safe = (carried moves r.cells r.reaches).safe in
+          ⊎_elim
+          (λ (lt : n < nodes_of P).
+          let q = node_at P given n lt in
+          ap (both_ways (translation P) (high st.values)) (sym q.is) ∙ apart_is P given st r.cells r.shows q.node q.fine (safe.apart q.node))
+          (λ (le : nodes_of P ≤ n). past_apart P given st n le)
+          (cases_lt n (nodes_of P))
+
+      stable : (st : RunState) (moves : ℕ) → Reached st moves → (n : ℕ) → move_enabled (translation P) script st n ≡ true → (m : ℕ) → m ≢ n → move_enabled (translation P) script st m ≡ true → move_enabled (translation P) script (moved_flat (translation P) st n) m ≡ true
+      stable st moves r n on m ne there =
+          let safe = (carried moves r.cells r.reaches).safe in
+          let p = moving st moves r n on in
+          let q = moving st moves r m there in
+          let still = safe.stable q.node p.node (λ (e : q.node ≡ p.node). ne (sym q.is ∙ (ap (number_of P given) e ∙ p.is))) q.may p.may in
+          ap (move_enabled (translation P) script (moved_flat (translation P) st n)) (sym q.is)
+          ∙ (enabled_is P given (moved_flat (translation P) st n) (moved P r.cells p.node) (next_shows st moves r n p) script fits q.node q.fine ∙ still)
+
+      -- each channel keeps its phases
+      module _ (st : RunState) (moves : ℕ) (r : Reached st moves) (n : ℕ) (on : move_enabled (translation P) script st n ≡ true) where
+        may_rail : (k i : ℕ) (one : Bool) → k < length P.channels → i < channel_width P.channels k → n ≡ channel_from P k + rail_place i one → enabled P script r.cells (rail_node k i one) ≡ true
+        may_rail k i one hk hi e = sym (enabled_is P given st r.cells r.shows script fits (rail_node k i one) (hk, hi)) ∙ (ap (move_enabled (translation P) script st) (sym e) ∙ on)
+
+        may_ack : (k : ℕ) → k < length P.channels → n ≡ ack_at P k → enabled P script r.cells (ack_node k) ≡ true
+        may_ack k hk e = sym (enabled_is P given st r.cells r.shows script fits (ack_node k) hk) ∙ (ap (move_enabled (translation P) script st) (sym e) ∙ on)
+
+        rail_keeps_phase : (k i : ℕ) (one : Bool) → k < length P.channels → i < channel_width P.channels k → n ≡ channel_from P k + rail_place i one
+            → rail_keeps (high st.values) (ack_at P k) (channel_from P k + rail_place i one) (channel_from P k + rail_place i (not one)) ≡ true
+        rail_keeps_phase k i one hk hi e =
+            let safe = (carried moves r.cells r.reaches).safe in
+            let s = r.shows in
+            let w = r.cells.wires in
+            ap (λ b. if b then high st.values (ack_at P k) else not (high st.values (ack_at P k)) && not (high st.values (channel_from P k + rail_place i (not one)))) (s.rail k i one hk hi)
+            ∙ (ap (λ b. if w.rail k i one then b else not b && not (high st.values (channel_from P k + rail_place i (not one)))) (s.ack k hk)
+            ∙ (ap (λ b. if w.rail k i one then w.ack k else not (w.ack k) && not b) (s.rail k i (not one) hk hi)
+            ∙ by_value (w.rail k i one) (w.ack k) (w.rail k i (not one)) (λ low. safe.rail_up k i one low (may_rail k i one hk hi e)) (λ up. safe.rail_down k i one up (may_rail k i one hk hi e))))
+          where
+            by_value : (b a o : Bool) → (b ≡ false → (a ≡ false) × (o ≡ false)) → (b ≡ true → a ≡ true) → (if b then a else not a && not o) ≡ true
+            by_value true a o up down = down refl
+            by_value false a o up down = let z = up refl in ap (λ c. not c && not o) z.0 ∙ ap not z.1
+
+        ack_keeps_phase : (k : ℕ) → k < length P.channels → n ≡ ack_at P k → ack_keeps (high st.values) (ack_at P k) (rails_of (rails_at P k)) ≡ true
+        ack_keeps_phase k hk e =
+            let safe = (carried moves r.cells r.reaches).safe in
+            let s = r.shows in
+            let w = r.cells.wires in
+            let width = channel_width P.channels k in
+            let rails : (i : ℕ) (one : Bool) → i < width → high st.values (channel_from P k + rail_place i one) ≡ w.rail k i one = λ i one lt. s.rail k i one hk lt in
+            ap (λ b. if b then neutral (high st.values) (rails_of (rails_at P k)) else valid (high st.values) (rails_of (rails_at P k))) (s.ack k hk)
+            ∙ (ap (λ b. if w.ack k then b else valid (high st.values) (rails_of (rails_at P k))) (neutral_is (high st.values) width (channel_from P k) (w.rail k) rails)
+            ∙ (ap (λ o. if w.ack k then neutral_on width (w.rail k) else is_some o) (value_is (high st.values) width (channel_from P k) (w.rail k) rails)
+            ∙ by_value (w.ack k) (λ up. safe.ack_down k up (may_ack k hk e)) (λ low. safe.ack_up k low (may_ack k hk e))))
+          where
+            by_value : {x y : Bool} → (a : Bool) → (a ≡ true → x ≡ true) → (a ≡ false → y ≡ true) → (if a then x else y) ≡ true
+            by_value true down up = down refl
+            by_value false down up = up refl
+
+        no_channel : NetWires
+        no_channel = record { channel = record { name = []; kind = In; width = 0 }; rails = []; ack = 0 }
+
+        channel_keeps : (k : ℕ) → k < length P.channels → phases_keep (high st.values) (get_or (wires_from P 0 P.channels) k no_channel) n ≡ true
+        channel_keeps k hk =
+            let w = wires_are P 0 P.channels k no_channel hk in
+            let z : 0 + k ≡ k = omega arith in
+            let a : (get_or (wires_from P 0 P.channels) k no_channel).ack ≡ ack_at P k = w.1 ∙ ap (ack_at P) z in
+            let b : (get_or (wires_from P 0 P.channels) k no_channel).rails ≡ rails_of (rails_at P k) = w.0 ∙ ap (λ j. rails_of (rails_at P j)) z in
+            ap (λ l. rails_keep (high st.values) (get_or (wires_from P 0 P.channels) k no_channel).ack l n && (not (n == (get_or (wires_from P 0 P.channels) k no_channel).ack) || ack_keeps (high st.values) (get_or (wires_from P 0 P.channels) k no_channel).ack l)) b
+            ∙ (ap (λ m. rails_keep (high st.values) m (rails_of (rails_at P k)) n && (not (n == m) || ack_keeps (high st.values) m (rails_of (rails_at P k)))) a
+            ∙ and_from (rails_keep (high st.values) (ack_at P k) (rails_of (rails_at P k)) n) (not (n == ack_at P k) || ack_keeps (high st.values) (ack_at P k) (rails_of (rails_at P k)))
+            (rails_kept (high st.values) (channel_width P.channels k) (channel_from P k) (ack_at P k) n (λ i one lt e. rail_keeps_phase k i one hk lt e))
+            (by_test (n == ack_at P k) (λ e. ack_keeps_phase k hk (eqb-true n (ack_at P k) e))))
+          where
+            by_test : {x : Bool} → (b : Bool) → (b ≡ true → x ≡ true) → (not b || x) ≡ true
+            by_test true f = f refl
+            by_test false f = refl
+
+        in_phase : phase_fault (translation P) (high st.values) n ≡ None
+        in_phase = position_none (λ (w : NetWires). not (phases_keep (high st.values) w n)) (wires_from P 0 P.channels) no_channel
+            (λ k lt. ap not (channel_keeps k (omega (arith, lt, length-wires_from P 0 P.channels))))
+
+      safe_run : (ns : List ℕ) (st : RunState) (moves : ℕ) → Reached st moves → IsRun (translation P) script st ns → IsSafeRun (translation P) script st ns
+      safe_run [] st moves r run = apart st moves r
+      safe_run (n ∷ ns) st moves r run =
+          (apart st moves r, record { stable = λ m ne there. stable st moves r n run.0 m ne there; phases = in_phase st moves r n run.0 },
+          safe_run ns (moved_flat (translation P) st n) (suc moves) (one_more st moves r n run.0) run.1)
+
+      at_rest : (st : RunState) (moves : ℕ) (r : Reached st moves) → IsAtRestFlat (translation P) script st → IsAtRest P script r.cells
+      at_rest st moves r still n stands_there =
+          let f = fine_node P given n stands_there in
+          sym (enabled_is P given st r.cells r.shows script fits n f) ∙ still (number_of P given n)
+
+      module _ (steps_taken : (c d : Configuration) (at : Place) → step_at c at ≡ Some d → Step c at d) (append : (c d : Configuration) (n : ℕ) → Leads c n d → IsBehind c d) (one : OneHistory P script) (hold : RoundsHold P script) where
+        following : (st : RunState) (moves : ℕ) → Reached st moves → IsFollowing st (rounds P script moves)
+        following st moves r k =
+            let q = carried moves r.cells r.reaches in
+            let on = one q.steps q.to q.leads in
+            let e : q.steps + (moves - q.steps) ≡ moves = omega (arith, q.within) in
+            let a = behind_on q.to (rounds P script q.steps) (rounds P script (q.steps + (moves - q.steps))) (append q.to (rounds P script q.steps) on.0 on.1) (rounds_behind P script hold q.steps (moves - q.steps)) k in
+            (a.0, ap (λ m. history_at (rounds P script m).histories k) (sym e) ∙ (a.1 ∙ ap (λ hs. history_at hs k ++ a.0) (q.passed ∙ sym r.shows.histories)))
+
+        settled : (st : RunState) (moves : ℕ) → Reached st moves → IsAtRestFlat (translation P) script st → IsSettled st (rounds P script moves)
+        settled st moves r still =
+            let q = carried moves r.cells r.reaches in
+            let z = q.rest (at_rest st moves r still) in
+            let on = one q.steps q.to q.leads in
+            let e : q.steps + (moves - q.steps) ≡ moves = omega (arith, q.within) in
+            let there : rounds P script moves ≡ q.to =
+                ap (rounds P script) (sym e) ∙ (rounds_on (start_of P script) q.steps (moves - q.steps)
+                ∙ (ap (λ c. rounds_from c (moves - q.steps)) (sym (leads_nowhere q.to (rounds P script q.steps) on.0 z.still on.1)) ∙ rounds_stay steps_taken q.to z.still (moves - q.steps))) in
+            subst (λ c. IsSettled st c) (sym there) (record {
+              whole = λ k. ap (λ hs. history_at hs k) (r.shows.histories ∙ sym q.passed);
+              still = z.still;
+              answer = (λ h. z.ended (sym r.shows.done ∙ h), λ over. r.shows.done ∙ high_there (r.cells.root.next) (λ low. z.going low over));
+            })
+          where
+            high_there : (b : Bool) → (b ≡ false → ⊥) → b ≡ true
+            high_there true h = refl
+            high_there false h = absurd (h refl)
+
+        carrying : (ns : List ℕ) → IsRun (translation P) script (begin_at (translation P) (translation P).first) ns → IsCarrying (translation P) P script (translation P).first (length ns) ns
+        carrying ns run =
+            let first : Reached (begin_at (translation P) (translation P).first) 0 = record { cells = first_of P; reaches = at_first; shows = starts } in
+            let e : 0 + length ns ≡ length ns = omega arith in
+            let last : Reached (after (translation P) (begin_at (translation P) (translation P).first) ns) (length ns) = subst (λ k. Reached (after (translation P) (begin_at (translation P) (translation P).first) ns) k) e (reach ns (begin_at (translation P) (translation P).first) 0 first run) in
+            record {
+              safe = safe_run ns (begin_at (translation P) (translation P).first) 0 first run;
+              prefix = following (after (translation P) (begin_at (translation P) (translation P).first) ns) (length ns) last;
+              rest = λ still. settled (after (translation P) (begin_at (translation P) (translation P).first) ns) (length ns) last still;
+            }
+
+-- what is assumed here are laws of steps and rounds, and that of circuits as trees of cells
+pub covered_carried : ((c d : Configuration) (at : Place) → step_at c at ≡ Some d → Step c at d) → ((c d : Configuration) (n : ℕ) → Leads c n d → IsBehind c d)
+    → ((p : TypedProgram) (script : List OfferValue) → MeetsSharing p.body → OneHistory p script) → ((p : TypedProgram) (script : List OfferValue) → MeetsSharing p.body → RoundsHold p script)
+    → CircuitsCarry → (P : TypedProgram) → IsTyped P.channels P.vars P.body → Covered P → Carries (translation P) P
+covered_carried steps_taken append one hold circuits P typed covered =
+    let given : Given P = record { typed = typed.body_is; covered = covered.body; out = covered.channels; plain = covered.vars } in
+    let meets = shares_nothing P.body covered.body in
+    record {
+      channels = same_channels P given 0 P.channels;
+      runs = λ script fits moves run. carrying P given script fits (λ k x r. circuits P typed covered script fits k x r) steps_taken append (one P script meets) (hold P script meets) moves run;
+    }
