@@ -1,3 +1,4 @@
+pub mod Examples
 pub mod Waves
 pub mod Places
 pub mod Meets
