@@ -11,6 +11,8 @@ mod phases;
 mod reader;
 mod script;
 mod step;
+#[cfg(test)]
+mod tests;
 mod words;
 
 pub use environment::env_enabled;
