@@ -5,6 +5,7 @@ pub mod Places
 pub mod OneMore
 pub mod MadeScripts
 pub mod ReadLines
+pub mod OneReading
 pub mod Sayings
 pub mod Comments
 pub mod Commuting

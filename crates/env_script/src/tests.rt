@@ -119,7 +119,11 @@ fn scripts(rt: HostRuntime) -> Result<(), Fail> {
         (b"L: 3 15 0", &[3, 15, 0], Count::All),
         (b"R: 0\n  L:\t0x0F  007 // 9\n", &[15, 7], Count::Times(0)),
         (b"L: 1//x\nR: all//", &[1], Count::All),
-        (b"L:\nR: 18446744073709551615\n", &[], Count::Times(u64::MAX)),
+        (
+            b"L:\nR: 18446744073709551615\n",
+            &[],
+            Count::Times(u64::MAX),
+        ),
     ];
     for (text, values, count) in rows {
         assert!(rt; text.len() <= MOST);

@@ -3,7 +3,8 @@ use Rattle.std.proofs.lemmas.List.{length-map, with_items_is}
 use Rattle.env_script.specs.Offers.{offered}
 use Rattle.env_script.proofs.Sayings.{texts}
 use Rattle.env_script.proofs.MadeScripts.{is_script}
-use Rattle.env_script.proofs.ReadLines.{begun, skip_line, take_line, one_offer_each, refused_at, few_lines}
+use Rattle.env_script.proofs.OneReading.{one_script, no_script, one_refusal}
+use Rattle.env_script.proofs.ReadLines.{begun, skip_line, take_line, one_offer_each, refused_at, few_lines, all_read}
 use Rattle.env_script.proofs.reader.read_script.Goals as goal
 use Rattle.env_script.proofs.reader.read_script.Goals.{in-Skip, in-Take}
 
@@ -48,3 +49,16 @@ loop-at-preserved c =
 pub returns-clause-script : goal.returns-clause-script
 returns-clause-script c =
     is_script c.args.channels.now c.loop-at.invariant.0 _ c.requires.distinct c.loop-at.invariant.1.lines_told.good (c.new.ensures ∙ c.loop-at.invariant.1.made)
+
+pub returns-clause-read : goal.returns-clause-read
+returns-clause-read c =
+    rw c.new.ensures (all_read c.args.channels.now c.args.text.now c.deref-line-items.result.now c.loop-at.at c.loop-at.invariant.0 _ _ _ (ap texts c.deref-line-items.ensures.value ∙ c.in_ok-lines.ensures) c.loop-at-test.false c.loop-at.invariant.1)
+
+pub returns-clause-only : goal.returns-clause-only
+returns-clause-only c = λ t is. one_script c.args.channels.now c.args.text.now t _ is (returns-clause-read c)
+
+pub returns-in-Refused-clause-first : goal.returns-in-Refused-clause-first
+returns-in-Refused-clause-first c = λ f n other. one_refusal c.args.channels.now c.args.text.now f _ n _ other (returns-in-Refused-clause-refused c)
+
+pub returns-in-Refused-clause-none : goal.returns-in-Refused-clause-none
+returns-in-Refused-clause-none c = λ t. no_script c.args.channels.now c.args.text.now t _ _ (returns-in-Refused-clause-refused c)
