@@ -105,6 +105,13 @@ pub record IsScriptText (channels : List Channel) (text : List ℕ) (script : Li
   pub told : IsTold channels (lines_of text) lines
   pub is : script ≡ script_of channels lines
 
+-- the text is no other script of the channels, or none at all
+abbrev pub IsOnlyScript : List Channel → List ℕ → List OfferValue → Type 0
+IsOnlyScript channels text script = (other : List OfferValue) → IsScriptText channels text other → other ≡ script
+
+abbrev pub IsNoScript : List Channel → List ℕ → Type 0
+IsNoScript channels text = (script : List OfferValue) → ¬ IsScriptText channels text script
+
 -- why a line is refused behind lines that are not: of the causes the first one counts
 
 abbrev pub is_told : List Line → List ℕ → Bool
@@ -139,6 +146,10 @@ pub record IsRefused (channels : List Channel) (text : List ℕ) (fault : Script
   pub told : IsTold channels before lines
   pub fault_here : LineFault channels lines (words_of here) fault
   pub number : line ≡ length before + 1
+
+-- it is refused for no other cause, and at no other line
+abbrev pub IsOnlyRefusal : List Channel → List ℕ → ScriptFault → ℕ → Type 0
+IsOnlyRefusal channels text fault line = (f : ScriptFault) (n : ℕ) → IsRefused channels text f n → (f ≡ fault) × (n ≡ line)
 
 -- a fact of the cause and the line for which a text is refused; want of memory is no refusal
 abbrev pub OfRefusal : (ScriptFault → ℕ → Type 0) → ScriptError → Type 0

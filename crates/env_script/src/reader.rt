@@ -1,11 +1,10 @@
 //! The reader of scripts.
 
-ghost use Rattle.std.specs.Prelude.{◌≡◌, ◌≢◌, ◌≤◌, ℕ, List, All, AllPairs, ◌<◌, true, None, [], length, map, slice_set, IfOk, IfErr};
+ghost use Rattle.std.specs.Prelude.{◌≡◌, ◌≢◌, ◌≤◌, All, AllPairs, ◌<◌, true, None, [], length, map, slice_set, IfOk, IfErr};
 ghost use Rattle.chp_base.specs.declared.channel.Channel.{Channel};
-ghost use Rattle.env_script.specs.declared.fault.ScriptFault.{ScriptFault};
-ghost use Rattle.env_script.specs.Scripts.{OfferValue, IsScript};
+ghost use Rattle.env_script.specs.Scripts.{IsScript};
 ghost use Rattle.env_script.specs.Offers.{offered};
-ghost use Rattle.env_script.specs.ScriptText.{offer_of, script_of, is_told, IsScriptText, IsRefused, OfRefusal};
+ghost use Rattle.env_script.specs.ScriptText.{offer_of, script_of, is_told, IsScriptText, IsOnlyScript, IsNoScript, IsRefused, IsOnlyRefusal, OfRefusal};
 
 use crate::fault::ScriptError;
 use crate::script::{Count, Offer, Script};
@@ -68,11 +67,11 @@ pub fn read_script(alloc: Global, text: &[u8], channels: &[Channel]) -> Result<S
     requires distinct { AllPairs (λ (a b : Channel). a.name ≢ b.name) channels.now }
     requires widths { All (λ (c : Channel). (1 ≤ c.width) × (c.width ≤ 64)) channels.now }
     ensures read { IfOk result (IsScriptText channels.now text.now) }
-    ensures only { IfOk result (λ s. (t : List OfferValue) → IsScriptText channels.now text.now t → t ≡ s) }
+    ensures only { IfOk result (IsOnlyScript channels.now text.now) }
     ensures script { IfOk result (IsScript channels.now) }
     ensures refused { IfErr result (OfRefusal (IsRefused channels.now text.now)) }
-    ensures first { IfErr result (OfRefusal (λ fault line. (f : ScriptFault) (n : ℕ) → IsRefused channels.now text.now f n → (f ≡ fault) × (n ≡ line))) }
-    ensures none { IfErr result (OfRefusal (λ fault line. (t : List OfferValue) → ¬ IsScriptText channels.now text.now t)) }
+    ensures first { IfErr result (OfRefusal (IsOnlyRefusal channels.now text.now)) }
+    ensures none { IfErr result (OfRefusal (λ fault line. IsNoScript channels.now text.now)) }
 {
     let lines = lines_of(alloc, text)?;
     let mut offers = first_offers(alloc, channels)?;
