@@ -66,7 +66,7 @@ no_channel net v script done r low up c [] are = refl
 no_channel net v script done r low up c (w ∷ ws) are =
     let is : IsChannel net w = are 0 w (omega arith) in
     or_from _ _ (not_offered v w (script c) (done c) r low (low_at_first net r up w.rails is.rails_low) (λ same. both_ways (first_at net r) (ap (first_at net) same ∙ is.ack_low) up))
-        (no_channel net v script done r low up (suc c) ws (λ k d within. are (suc k) d (omega arith)))
+    (no_channel net v script done r low up (suc c) ws (λ k d within. are (suc k) d (omega arith)))
 
 -- the reset node never rises
 not_risen : (net : NetValue) (script : List OfferValue) (st : RunState) (r : ℕ) → IsNet net → net.reset ≡ Some r → high st.values r ≡ false → move_enabled net script st r ≡ false
@@ -74,9 +74,9 @@ not_risen net script st r is e low =
     let reset = reset_node net is r e in
     let v : ℕ → Bool = high st.values in
     or_from _ _ (no_rule net v r reset.undriven.up reset.undriven.down)
-        (by_reset (in_reset net.reset v) _ _ (ap (λ (o : Option ℕ). in_reset o v) e ∙ low)
-            (or_from _ _ (and_left _ _ (ne_eqb r 0 (λ same. both_ways (first_at net r) (ap (first_at net) same ∙ is.go_low) reset.high)))
-                (no_channel net v (offer_at script) (completed st.histories) r low reset.high 0 net.channels is.channels)))
+    (by_reset (in_reset net.reset v) _ _ (ap (λ (o : Option ℕ). in_reset o v) e ∙ low)
+    (or_from _ _ (and_left _ _ (ne_eqb r 0 (λ same. both_ways (first_at net r) (ap (first_at net) same ∙ is.go_low) reset.high)))
+    (no_channel net v (offer_at script) (completed st.histories) r low reset.high 0 net.channels is.channels)))
   where
     by_reset : (b x y : Bool) → b ≡ false → y ≡ false → (if b then x else y) ≡ false
     by_reset true x y off other = absurd (cc off)
@@ -113,6 +113,7 @@ alone net script st r m is e up enabled apart =
     falls true b x y z off on enabled = absurd (cc off)
     falls false false x y z off on enabled = absurd (cc on)
     falls false true x y z off on enabled = (and_parts x y enabled).1
+
     other : (b x y : Bool) → b ≡ true → x ≡ false → (if b then x else y) ≡ false
     other true x y on none = none
     other false x y on none = absurd (cc on)
@@ -123,6 +124,7 @@ not_reset net script st a b is apart first second r e same = by_value (high st.v
   where
     here : move_enabled net script st r ≡ true
     here = ap (move_enabled net script st) same ∙ first
+
     by_value : (t : Bool) → high st.values r ≡ t → ⊥
     by_value true up = both_ways _ (alone net script st r b is e up here (λ other. apart (sym same ∙ sym other))) second
     by_value false low = both_ways _ (not_risen net script st r is e low) here
@@ -170,9 +172,11 @@ completes_kept v u w a b apart same keeps_a keeps_b agree = rw (eq-eqb a w.ack s
     told : (t x : Bool) → t ≡ true → (not t || x) ≡ true → x ≡ true
     told true x on keeps = keeps
     told false x on keeps = absurd (cc on)
+
     when_low : (t x y : Bool) → t ≡ false → (if t then x else y) ≡ true → y ≡ true
     when_low true x y off keeps = absurd (cc off)
     when_low false x y off keeps = keeps
+
     by_value : (t : Bool) → v a ≡ t → (if not t then rail_value_of u w.rails else None) ≡ (if not t then rail_value_of v w.rails else None)
     by_value true is_up = refl
     by_value false is_low =
@@ -233,6 +237,7 @@ commute net script st a b is apart first second phases_a phases_b =
     freed : (t : Bool) (p : Option ℕ) → t ≡ false → (if t then None else p) ≡ p
     freed true p off = absurd (cc off)
     freed false p off = refl
+
     by_reset : (t ta tb : Bool) → ta ≡ t → tb ≡ t → (fb fa : List (List ℕ) → List (List ℕ)) (hs ha hb : List (List ℕ)) → (t ≡ false → fb ha ≡ fa hb) → (if ta then (if t then hs else ha) else fb (if t then hs else ha)) ≡ (if tb then (if t then hs else hb) else fa (if t then hs else hb))
     by_reset true true true one two fb fa hs ha hb meet = refl
     by_reset true false tb one two fb fa hs ha hb meet = absurd (cc one)

@@ -84,6 +84,6 @@ all_alike net script is (m ∷ ms) ns st all run rests other ended =
 
 pub ends_all : (net : NetValue) (script : List OfferValue) (st : RunState) → IsNet net → AllSafe net script st → (ns : List ℕ) → IsRun net script st ns → IsAtRest net script (after net st ns) → EndsAll net script st ns
 ends_all net script st is all ns run rests = record {
-    most = λ ms other. bounded net script is ms ns st all run rests other;
-    alike = λ ms other ended. all_alike net script is ms ns st all run rests other ended;
-  }
+  most = λ ms other. bounded net script is ms ns st all run rests other;
+  alike = λ ms other ended. all_alike net script is ms ns st all run rests other ended;
+}

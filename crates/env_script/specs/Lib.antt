@@ -6,3 +6,8 @@ pub mod Runs
 pub mod Hazards
 pub mod Wired
 pub mod OneLength
+pub mod Numbers
+pub mod Cutting
+pub mod ScriptText
+pub mod Faults
+pub mod LineSteps

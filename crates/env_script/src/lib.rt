@@ -2,12 +2,22 @@
 #![tactic(auto)]
 
 mod environment;
+mod fault;
 mod hazard;
 pub mod laws;
+mod line;
+mod number;
 mod phases;
+mod reader;
 mod script;
+mod step;
+#[cfg(test)]
+mod tests;
+mod words;
 
 pub use environment::env_enabled;
+pub use fault::{ScriptError, ScriptFault};
 pub use hazard::Hazard;
 pub use phases::keeps_phases;
+pub use reader::read_script;
 pub use script::{Count, Offer, Script};

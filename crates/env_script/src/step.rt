@@ -1,0 +1,192 @@
+//! What a line of a script does.
+
+ghost use Rattle.std.specs.Prelude.{◌≡◌, ◌<◌, ◌≤◌, ◌^◌, nat_lt, ℕ, All, length, position, bytes_eq, Some, None, IfOk, IfSome, IfNone};
+ghost use Rattle.std.specs.List.{list_all};
+ghost use Rattle.chp_base.specs.declared.channel.Channel.{Channel};
+ghost use Rattle.env_script.specs.Cutting.{words_of};
+ghost use Rattle.env_script.specs.Scripts.{takes};
+ghost use Rattle.env_script.specs.Offers.{offered};
+ghost use Rattle.env_script.specs.ScriptText.{is_inside, suits, fits, values_in, fault_on, offer_of, channel_named};
+ghost use Rattle.env_script.specs.LineSteps.{IsPlace, IsStepOf, told_at};
+
+use crate::fault::ScriptFault;
+use crate::line::{Said, line_in};
+use crate::script::{Count, Offer};
+use crate::words::words_of;
+use chp_base::{Channel, Kind};
+use std::alloc::{AllocError, Global};
+
+const MOST_VALUES: usize = 65536;
+
+/// What a line changes.
+#[derive(Drop)]
+pub struct Taken {
+    /// The number of the channel.
+    pub place: usize,
+    /// What the environment does on it.
+    pub offer: Offer,
+    /// How many values the line has.
+    pub values: usize,
+}
+
+/// What a line does.
+#[derive(Drop)]
+pub enum Step {
+    /// It has no words.
+    Skip,
+    Refused(ScriptFault),
+    Take(Taken),
+}
+
+fn is_inside(kind: Kind) -> bool
+    ensures { result ≡ is_inside kind }
+{
+    matches!(kind, Kind::Chan)
+}
+
+/// Whether this can be said of a channel of the kind: values of an `in` channel, one number or `all` of an `out`
+/// channel.
+fn suits(kind: Kind, said: &Said) -> bool
+    ensures { result ≡ suits kind said.now }
+{
+    match (kind, said) {
+        (Kind::In, Said::Numbers(_)) => true,
+        (Kind::Out, Said::Every) => true,
+        (Kind::Out, Said::Numbers(numbers)) => numbers.items().len() == 1,
+        _ => false,
+    }
+}
+
+fn is_below(value: u64, width: u8) -> bool
+    requires { width ≤ 64 }
+    ensures { result ≡ nat_lt value (2 ^ width) }
+{
+    width == 64 || value < 1 << width
+}
+
+fn are_below(values: &[u64], width: u8) -> bool
+    requires { width ≤ 64 }
+    ensures { result ≡ list_all (λ n. nat_lt n (2 ^ width)) values.now }
+{
+    values.iter().all(|value| is_below(*value, width))
+}
+
+/// Whether each value is one of the width.
+fn fits(kind: Kind, width: u8, said: &Said) -> bool
+    requires { width ≤ 64 }
+    ensures { result ≡ fits kind width said.now }
+{
+    match (kind, said) {
+        (Kind::In, Said::Numbers(numbers)) => are_below(numbers.items(), width),
+        _ => true,
+    }
+}
+
+/// How many values are sent.
+fn values_in(kind: Kind, said: &Said) -> usize
+    ensures count { result ≡ values_in kind said.now }
+    ensures small { result < 2 ^ 62 }
+{
+    match (kind, said) {
+        (Kind::In, Said::Numbers(numbers)) => numbers.items().len(),
+        _ => 0,
+    }
+}
+
+/// Why a line of the channel is refused, or None where it isn't: `again` says whether an earlier line was of the
+/// channel, and `values` how many values the earlier lines have.
+fn fault_on(channel: &Channel, again: bool, values: usize, said: &Said) -> Option<ScriptFault>
+    requires width { channel.now.width ≤ 64 }
+    requires values { values ≤ 65536 }
+    ensures { result ≡ fault_on channel.now again values said.now }
+{
+    let kind = channel.kind;
+    if is_inside(kind) {
+        return Some(ScriptFault::NoSuchChannel);
+    }
+    if again {
+        return Some(ScriptFault::DoubleChannel);
+    }
+    if !suits(kind, said) {
+        return Some(ScriptFault::BadLine);
+    }
+    if !fits(kind, channel.width, said) {
+        return Some(ScriptFault::TooWide);
+    }
+    if values + values_in(kind, said) > MOST_VALUES {
+        return Some(ScriptFault::TooManyValues);
+    }
+    None
+}
+
+/// How many values the environment receives, where the numbers of a line are these.
+fn count_of(numbers: &[u64]) -> Count
+    ensures { takes result ≡ offer_of Kind.Out (Some (Said.Numbers numbers.now)) }
+{
+    match numbers {
+        [only] => Count::Times(*only),
+        _ => Count::All,
+    }
+}
+
+/// What the environment does on a channel of the kind, where a line says this.
+fn offer_of(alloc: Global, kind: Kind, said: Said) -> Offer
+    ensures { offered result ≡ offer_of kind (Some said) }
+{
+    match (kind, said) {
+        (Kind::In, Said::Numbers(numbers)) => Offer::Values(numbers.into_items()),
+        (Kind::In, Said::Every) => Offer::Values(Vec::new(alloc)),
+        (Kind::Out, Said::Numbers(numbers)) => Offer::Accept(count_of(numbers.items())),
+        (Kind::Out, Said::Every) => Offer::Accept(Count::All),
+        (Kind::Chan, _) => Offer::Nothing,
+    }
+}
+
+fn is_named(channel: &Channel, name: &[u8]) -> bool
+    ensures { result ≡ bytes_eq channel.now.name name.now }
+{
+    channel.name.bytes() == name
+}
+
+/// The number of the channel with the name, or None where there is none.
+fn place_of(channels: &[Channel], name: &[u8]) -> Option<usize>
+    ensures { result ≡ position (λ (c : Channel). bytes_eq c.name name.now) channels.now }
+{
+    channels.iter().position(|channel| is_named(channel, name))
+}
+
+/// What the line does, where these channels were told of and so many values came before.
+pub fn step_of(
+    alloc: Global,
+    channels: &[Channel],
+    told: &[bool],
+    values: usize,
+    line: &[u8],
+) -> Result<Step, AllocError>
+    requires widths { All (λ (c : Channel). c.width ≤ 64) channels.now }
+    requires told { length told.now ≡ length channels.now }
+    requires values { values ≤ 65536 }
+    ensures { IfOk result (IsStepOf channels.now told.now values (words_of line.now)) }
+{
+    let words = words_of(alloc, line)?;
+    if words.is_empty() {
+        return Ok(Step::Skip);
+    }
+    let Some(line) = line_in(alloc, &words)? else {
+        return Ok(Step::Refused(ScriptFault::BadLine));
+    };
+    let Some(place) = place_of(channels, line.name.bytes()) else {
+        return Ok(Step::Refused(ScriptFault::NoSuchChannel));
+    };
+    let channel = &channels[place];
+    if let Some(fault) = fault_on(channel, told[place], values, &line.said) {
+        return Ok(Step::Refused(fault));
+    }
+    let values = values_in(channel.kind, &line.said);
+    let offer = offer_of(alloc, channel.kind, line.said);
+    Ok(Step::Take(Taken {
+        place,
+        offer,
+        values,
+    }))
+}
