@@ -1,9 +1,13 @@
 mod Against
 mod ChannelLines
 mod ChannelsRead
+mod DrivenNodes
+mod GuardsNamed
 mod HeadLines
 mod Lookups
 mod Names
+mod NetMade
+mod NetSpelled
 mod NodeLines
 mod NodesRead
 mod Openings
@@ -14,8 +18,11 @@ mod RuleLines
 mod Rules
 mod RulesBegin
 mod RulesRead
+mod TableLoop
+mod TableSteps
 mod Taking
 mod TermCounts
 mod TermLines
 mod TermPushes
+mod TurnFaults
 mod Wirings

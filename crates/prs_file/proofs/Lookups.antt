@@ -11,7 +11,7 @@ use Rattle.prs_core.specs.Nets.{rail_names, true_rail, false_rail}
 use Rattle.prs_file.specs.Indexes.{place_in}
 use Rattle.prs_file.specs.WiresFound.{AreFound, some_unknown}
 
-range_more : (n : ℕ) → range_with_len 0 (n + 1) ≡ range_with_len 0 n ++ n ∷ []
+pub range_more : (n : ℕ) → range_with_len 0 (n + 1) ≡ range_with_len 0 n ++ n ∷ []
 range_more n = sym (map-id (range_with_len 0 (n + 1))) ∙ map-range_with_len_more (λ k. k) 0 n n (omega arith) ∙ ap (λ xs. xs ++ n ∷ []) (map-id (range_with_len 0 n))
 
 pub rails_more : (channel : List ℕ) (bit : ℕ) → rail_names channel (bit + 1) ≡ rail_names channel bit ++ (true_rail channel bit ∷ false_rail channel bit ∷ [])

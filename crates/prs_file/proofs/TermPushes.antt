@@ -3,20 +3,9 @@ use Rattle.std.proofs.Common.{◌≡◌, List, [], ◌∷◌, ◌++◌, refl, ap
 use Rattle.prs_file.specs.declared.forms.Lead.{Lead}
 use Rattle.prs_file.specs.declared.forms.Lead.TheVariants.{Rule, And, Or}
 use Rattle.prs_file.specs.declared.rule.Led.{Led}
+use Rattle.prs_file.specs.Named.{add_by}
 use Rattle.prs_file.specs.Reading.{Signed}
 use Rattle.prs_file.specs.Terms.{signed_of, put_by, terms_of}
-
--- a literal at the end of the last term
-abbrev pub at_end : Signed → List (List Signed) → List (List Signed)
-at_end s [] = (s ∷ []) ∷ []
-at_end s (t ∷ []) = (t ++ s ∷ []) ∷ []
-at_end s (t ∷ u ∷ us) = t ∷ at_end s (u ∷ us)
-
--- or a term of its own, by its lead
-abbrev pub add_by : Lead → Signed → List (List Signed) → List (List Signed)
-add_by Rule s g = at_end s g
-add_by And s g = at_end s g
-add_by Or s g = g ++ (s ∷ []) ∷ []
 
 -- the first and the last literal don't meddle with each other
 put_add : (lead further : Lead) (s r : Signed) (t : List Signed) (ts : List (List Signed)) → put_by lead s (add_by further r (t ∷ ts)) ≡ add_by further r (put_by lead s (t ∷ ts))

@@ -1,13 +1,16 @@
 pub mod Channels
 pub mod ChannelsTold
+pub mod DrivenTold
 pub mod Faults
 pub mod Indexes
 pub mod Lines
+pub mod Named
 pub mod NodesTold
 pub mod Openings
 pub mod Reading
 pub mod RuleForms
 pub mod RulesTold
 pub mod Spelling
+pub mod Tables
 pub mod Terms
 pub mod WiresFound

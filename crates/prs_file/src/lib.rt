@@ -3,19 +3,24 @@
 
 mod channel;
 mod channels;
+mod driven;
 mod fault;
 mod form;
 mod forms;
+mod guard;
 mod index;
 mod lookup;
 mod nodes;
 mod opening;
 mod print;
+mod read;
 mod rule;
 mod spelled;
+mod table;
 mod turns;
 mod wiring;
 
 pub use fault::{NetFault, NetReadError};
 pub use forms::{Lead, channel_line, head_line, literal_text, node_line, rule_end};
 pub use print::print_net;
+pub use read::read_net;

@@ -1,20 +1,24 @@
 //! The lines of rules, one after another.
 
-ghost use Rattle.std.specs.Prelude.{◌≡◌, ◌≢◌, ◌<◌, ◌++◌, ℕ, List, Bool, length, IfOk, IfSome, IfNone, is_none, ◌+◌, ◌*◌, Some, None, if◌then◌else◌};
-ghost use Rattle.std.specs.List.{list_any};
-ghost use Rattle.prs_file.specs.declared.rule.Led.{Led as LedValue};
+ghost use Rattle.std.specs.Prelude.{◌≡◌, ◌≢◌, ◌<◌, ◌≤◌, ◌^◌, ◌==◌, ◌++◌, ℕ, List, Bool, length, IfOk, IfErr, IfSome, IfNone, Some, None};
+ghost use Rattle.chp_base.specs.declared.channel.Channel.{Channel as ChannelValue};
+ghost use Rattle.prs_core.specs.Nets.{IsBelow};
+ghost use Rattle.prs_file.specs.DrivenTold.{AreDriven};
 ghost use Rattle.prs_file.specs.Indexes.{place_in};
 ghost use Rattle.prs_file.specs.Lines.{first_line};
+ghost use Rattle.prs_file.specs.Named.{guard_named};
 ghost use Rattle.prs_file.specs.Reading.{Signed, IsForm, form_spelling};
 ghost use Rattle.prs_file.specs.Reading.Form.{rule};
-ghost use Rattle.prs_file.specs.RulesTold.{order_fault_of};
-ghost use Rattle.prs_file.specs.Terms.{terms_of, rule_unknown};
+ghost use Rattle.prs_file.specs.RulesTold.{order_fault_of, rule_fault_of, most_literals as literal_limit};
+ghost use Rattle.prs_file.specs.Tables.{place_at, known_fault_of};
+ghost use Rattle.prs_file.specs.Terms.{terms_of};
 
 use crate::fault::NetFault;
-use crate::index::NodeIndex;
-use crate::rule::{Led, RuleForm, rule_form};
+use crate::guard::guard_of;
+use crate::nodes::Nodes;
+use crate::rule::{RuleForm, rule_form};
 use crate::spelled::cut_line;
-use prs_core::Literal;
+use prs_core::Guard;
 use std::alloc::{AllocError, Global};
 
 /// The rule in the first line, and what stands behind the line, or None where the line is no rule's.
@@ -25,6 +29,7 @@ pub fn next_rule(alloc: Global, text: &[u8]) -> Result<Option<(RuleForm, &[u8])>
     ensures form { IfOk result
         (λ o. IfSome o (λ r. IsForm (rule (terms_of r.0.leds.items) r.0.node r.0.up))) }
     ensures rest { IfOk result (λ o. IfSome o (λ r. text.now ≡ first_line text.now ++ r.1.now)) }
+    ensures some { IfOk result (λ o. IfSome o (λ r. length r.1.now < length text.now)) }
     ensures none { IfOk result
         (λ o. IfNone o
         ((g : List (List Signed)) (name : List ℕ) (up : Bool)
@@ -38,36 +43,16 @@ pub fn next_rule(alloc: Global, text: &[u8]) -> Result<Option<(RuleForm, &[u8])>
     Ok(Some((form, behind)))
 }
 
-fn is_unknown(index: &NodeIndex, name: &[u8]) -> bool
-    ensures { result ≡ is_none (place_in index.now name.now) }
-{
-    index.find(name).is_none()
-}
-
-/// Whether one of the literals names no node.
-fn any_unknown(index: &NodeIndex, leds: &[Led]) -> bool
-    ensures { result ≡ list_any (λ (l : LedValue). is_none (place_in index.now l.name)) leds.now }
-{
-    leds.iter().any(|led| is_unknown(index, led.name.bytes()))
-}
-
-/// Whether the rule names a node that there isn't.
-pub fn names_unknown(index: &NodeIndex, form: &RuleForm) -> bool
-    ensures { result ≡ rule_unknown index.now (terms_of form.now.leds.items) form.now.node }
-{
-    is_unknown(index, form.node.bytes()) || any_unknown(index, &form.leds)
-}
-
 /// The place of a rule in the order of rules: by its node, up before down.
 pub fn place_of(node: u32, up: bool) -> u32
     requires { node < 65537 }
-    ensures { result ≡ 2 * node + (if up then 0 else 1) }
+    ensures { result ≡ place_at node up }
 {
     if up { 2 * node } else { 2 * node + 1 }
 }
 
 /// Why a rule may not stand at its place behind one at the last place, or None where it may.
-pub fn order_fault(last: Option<u32>, place: u32) -> Option<NetFault>
+fn order_fault(last: Option<u32>, place: u32) -> Option<NetFault>
     ensures { result ≡ order_fault_of last place }
 {
     match last {
@@ -78,17 +63,87 @@ pub fn order_fault(last: Option<u32>, place: u32) -> Option<NetFault>
     }
 }
 
-/// The literal by the number of its node, or None where its name is no node's.
-pub fn literal_of(index: &NodeIndex, led: &Led) -> Option<Literal>
-    ensures high { IfSome result (λ literal. literal.high ≡ led.now.high) }
-    ensures node { IfSome result (λ literal. place_in index.now led.now.name ≡ Some literal.node) }
-    ensures none { IfNone result (place_in index.now led.now.name ≡ None) }
+/// The most literals of a file.
+fn most_literals(version: u8) -> usize
+    ensures { result ≡ literal_limit (version == 2) }
 {
-    let Some(node) = index.find(led.name.bytes()) else {
-        return None;
+    if version == 2 { 8_454_144 } else { 4_194_304 }
+}
+
+/// How far the rules are read: the place of the last one, and the literals so far.
+#[derive(Clone, Copy, Debug)]
+pub struct Progress {
+    pub place: Option<u32>,
+    pub literals: usize,
+}
+
+/// Why a rule of this place and with so many literals is refused, where its nodes are known, or None where it
+/// isn't.
+fn known_fault(
+    version: u8,
+    driven: bool,
+    so_far: Progress,
+    place: u32,
+    literals: usize,
+) -> Option<NetFault>
+    requires few { so_far.literals < 2 ^ 32 }
+    requires more { literals < 2 ^ 63 }
+    ensures { result ≡ known_fault_of (version == 2) driven so_far.place so_far.literals place literals }
+{
+    if driven {
+        return Some(NetFault::DrivenWire);
+    }
+    if let Some(fault) = order_fault(so_far.place, place) {
+        return Some(fault);
+    }
+    if most_literals(version) < so_far.literals + literals {
+        return Some(NetFault::TooMany);
+    }
+    None
+}
+
+/// A rule of a net: its node and its guard.
+#[derive(Debug, Drop)]
+pub struct Turn {
+    pub node: u32,
+    pub guard: Guard,
+}
+
+/// The rule of a line by the numbers of nodes, or why it is refused.
+pub fn turn_of(
+    alloc: Global,
+    nodes: &Nodes,
+    driven: &[bool],
+    so_far: Progress,
+    form: &RuleForm,
+) -> Result<Result<Turn, NetFault>, AllocError>
+    requires driven { length driven.now ≡ length nodes.now.index }
+    requires count { length nodes.now.index ≤ 65537 }
+    requires few { so_far.literals < 2 ^ 32 }
+    ensures node { IfOk result (λ r. IfOk r (λ t. place_in nodes.now.index form.now.node ≡ Some t.node)) }
+    ensures guard { IfOk result (λ r. IfOk r (λ t. guard_named nodes.now.index t.guard ≡ terms_of form.now.leds.items)) }
+    ensures within { IfOk result (λ r. IfOk r (λ t. IsBelow (length nodes.now.index) t.guard)) }
+    ensures sound { IfOk result
+        (λ r. IfOk r
+        (λ _t. (channels : List ChannelValue)
+        → AreDriven (nodes.now.version == 2) channels nodes.now.index driven.now
+        → rule_fault_of nodes.now.index channels (nodes.now.version == 2) so_far.place so_far.literals (terms_of form.now.leds.items) form.now.node form.now.up ≡ None)) }
+    ensures fault { IfOk result
+        (λ r. IfErr r
+        (λ fault. (channels : List ChannelValue)
+        → AreDriven (nodes.now.version == 2) channels nodes.now.index driven.now
+        → rule_fault_of nodes.now.index channels (nodes.now.version == 2) so_far.place so_far.literals (terms_of form.now.leds.items) form.now.node form.now.up ≡ Some fault)) }
+{
+    let Some(node) = nodes.index.find(form.node.bytes()) else {
+        return Ok(Err(NetFault::UnknownNode));
     };
-    Some(Literal {
-        node,
-        high: led.high,
-    })
+    let Some(guard) = guard_of(alloc, &nodes.index, &form.leds)? else {
+        return Ok(Err(NetFault::UnknownNode));
+    };
+    let is_driven = driven[node as usize];
+    let place = place_of(node, form.up);
+    match known_fault(nodes.version, is_driven, so_far, place, form.leds.len()) {
+        Some(fault) => Ok(Err(fault)),
+        None => Ok(Ok(Turn { node, guard })),
+    }
 }
