@@ -1,3 +1,4 @@
+pub mod Examples
 pub mod NameLemmas
 pub mod Nothing
 pub mod NothingCarried

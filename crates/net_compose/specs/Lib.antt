@@ -2,5 +2,6 @@ pub mod Errors
 pub mod Translation
 pub mod Built
 pub mod Carries
+pub mod Points
 pub use Rattle.chp_syntax.specs.View
 pub use Rattle.prs_core.specs.Nets
