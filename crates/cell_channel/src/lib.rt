@@ -1,2 +1,6 @@
 //! The two ends of a channel.
 #![tactic(auto)]
+
+mod emit;
+
+pub use emit::emit_end;

@@ -46,11 +46,6 @@ loop_request request body_answer = record {
   down = one_term (is_high body_answer ∷ []);
 }
 
--- the node's guards are as they were
-pub record IsAlone (old new : RulesValue) (node : ℕ) : Type 0 where
-  pub up : slice_index_or new.up node [] ≡ slice_index_or old.up node []
-  pub down : slice_index_or new.down node [] ≡ slice_index_or old.down node []
-
 -- the ports are nodes of the rules, and the Q-element's own nodes are distinct from each other and from its inputs
 pub record IsPorts (count : ℕ) (p : QPorts) : Type 0 where
   pub request : p.request < count

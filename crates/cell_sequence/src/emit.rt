@@ -1,8 +1,8 @@
 //! The rules of the Q-element and of skip.
 
 ghost use Rattle.std.specs.Prelude.{◌≡◌, ◌≢◌, ℕ, ◌<◌, length, OnOk};
-ghost use Rattle.prs_core.specs.Nets.{with_rules};
-ghost use Rattle.cell_sequence.specs.Sequence.{with_q, skip_answer, IsAlone, IsPorts};
+ghost use Rattle.prs_core.specs.Nets.{with_rules, IsAlone};
+ghost use Rattle.cell_sequence.specs.Sequence.{with_q, skip_answer, IsPorts};
 
 use prs_core::{Rules, all_of, high, low};
 use std::alloc::{AllocError, Global};

@@ -155,6 +155,11 @@ pub record NodeRules : Type 0 where
 abbrev pub with_rules : ℕ → NodeRules → RulesValue → RulesValue
 with_rules node n r = record { up = slice_set r.up node n.up; down = slice_set r.down node n.down }
 
+-- the node's guards are as they were
+pub record IsAlone (old new : RulesValue) (node : ℕ) : Type 0 where
+  pub up : slice_index_or new.up node [] ≡ slice_index_or old.up node []
+  pub down : slice_index_or new.down node [] ≡ slice_index_or old.down node []
+
 abbrev pub is_high : ℕ → Literal
 is_high node = record { node = node; high = true }
 

@@ -1,0 +1,66 @@
+//! The OR of some nodes.
+
+ghost use Rattle.std.specs.Prelude.{◌≡◌, ◌≢◌, ℕ, ◌<◌, [], ◌∷◌, All, map, length, OnOk, IfOk};
+ghost use Rattle.prs_core.specs.Nets.{with_rules, is_high, is_low, IsAlone};
+ghost use Rattle.prs_core.specs.Pairs.{or_of, lows};
+
+use prs_core::{Guard, Rules, Term, all_of, high, low};
+use std::alloc::{AllocError, Global};
+
+/// The term that wants one node high.
+fn high_term(alloc: Global, node: u32) -> Result<Term, AllocError>
+    ensures { IfOk result (λ term. term ≡ is_high node ∷ []) }
+{
+    let literals = Vec::from_slice(alloc, &[high(node)])?;
+    Ok(Term::new(literals).unwrap())
+}
+
+/// The guard that holds where one of the nodes is high.
+fn some_high(alloc: Global, nodes: &[u32]) -> Result<Guard, AllocError>
+    ensures { IfOk result (λ guard. guard ≡ map (λ node. is_high node ∷ []) nodes.now) }
+{
+    let mut terms = Vec::new(alloc);
+    for node in nodes {
+        terms.push(high_term(alloc, *node)?)?;
+    }
+    Ok(Guard::new(terms))
+}
+
+/// The guard that holds where all of the nodes are low, of which there is at least one.
+fn all_low(alloc: Global, nodes: &[u32]) -> Result<Guard, AllocError>
+    requires { 0 < length nodes.now }
+    ensures { IfOk result (λ guard. guard ≡ lows nodes.now ∷ []) }
+{
+    let mut literals = Vec::new(alloc);
+    for node in nodes {
+        literals.push(low(*node))?;
+    }
+    all_of(alloc, &literals)
+}
+
+/// Writes the two guards of the OR of some nodes, and no others: it is high once one of them is, and low once none is.
+/// Of no nodes it has no rules, and nothing is written. Where memory runs out, one of the guards may have been written.
+#[tactic(auto, using(crate::proofs::Merges::terms_below, crate::proofs::Merges::lows_below))]
+pub fn emit_or(
+    alloc: Global,
+    inputs: &[u32],
+    node: u32,
+    rules: &mut Rules,
+) -> Result<(), AllocError>
+    requires inputs { All (λ input. input < length rules.old.up) inputs.now }
+    requires node { node < length rules.old.up }
+    requires apart { All (λ input. input ≢ node) inputs.now }
+    ensures made { OnOk result (0 < length inputs.now → rules.new ≡ with_rules node (or_of inputs.now) rules.old) }
+    ensures none { length inputs.now ≡ 0 → rules.new ≡ rules.old }
+    ensures nodes { length rules.new.up ≡ length rules.old.up }
+    ensures others { (other : ℕ) → other ≢ node → IsAlone rules.old rules.new other }
+{
+    if inputs.is_empty() {
+        return Ok(());
+    }
+    let up = some_high(alloc, inputs)?;
+    let down = all_low(alloc, inputs)?;
+    rules.set_up(node, up);
+    rules.set_down(node, down);
+    Ok(())
+}
