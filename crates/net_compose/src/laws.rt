@@ -4,12 +4,34 @@ ghost use Rattle.std.specs.Prelude.{◌≡◌, ◌↔◌, true};
 ghost use Rattle.chp_syntax.specs.Trees.{ProgramTree};
 ghost use Rattle.prs_core.specs.Nets.{NetValue};
 ghost use Rattle.width_check.specs.Accepted.{IsAccepted};
+ghost use Rattle.width_check.specs.Processes.{TypedProgram};
+ghost use Rattle.width_check.specs.Typing.{IsTyped};
+ghost use Rattle.circuit_places.specs.Covered.{Covered};
 ghost use Rattle.width_check.specs.Form.{typed_form};
 ghost use Rattle.width_check.specs.Processes.{TypedProgram};
 ghost use Rattle.net_compose.specs.Translation.{translation};
 ghost use Rattle.net_compose.specs.Built.{is_built};
 ghost use Rattle.net_compose.specs.Carries.{Carries};
 ghost use Rattle.net_compose.specs.Points.{HasPoints};
+
+use chp_meaning::{one_history, rounds_hold, runs_append, steps_taken};
+use circuit_places::circuits_carry;
+
+/// Law: the net of a covered program carries it. Covered are skip, sequences, loops that go on for ever and sends of
+/// numbers, on channels on which the environment receives, of any width and with any number of sends on each. In every
+/// run of the net, under every script and in whatever order the nodes switch, no enabled move is taken away, no node is
+/// pulled both ways and no channel leaves its phases; what has passed on a channel after some moves is a front of what
+/// has passed there after as many rounds of the program; and at rest it is all of it, the program goes no further, and
+/// `done` is high exactly where it has ended.
+pub fn covered_carried()
+    ensures { (p : TypedProgram) → IsTyped p.channels p.vars p.body → Covered p → Carries (translation p) p }
+{
+    steps_taken();
+    runs_append();
+    one_history();
+    rounds_hold();
+    circuits_carry();
+}
 
 /// Law: the net of a program that declares nothing and does nothing carries it, in every run under every script.
 pub fn nothing_carried()
