@@ -5,13 +5,14 @@ use Rattle.std.specs.List.{list_all, range_with_len}
 use Rattle.chp_base.specs.declared.span.Span.{Span}
 use Rattle.chp_syntax.specs.declared.tree.Op.{Op}
 use Rattle.chp_syntax.specs.declared.tree.Op.TheVariants.{And, Or, Xor, Add, Sub, Eq, Ne, Lt, Le, Gt, Ge}
-use Rattle.prs_core.specs.Nets.{NodeRules}
+use Rattle.prs_core.specs.declared.rule.Literal.{Literal}
+use Rattle.prs_core.specs.Nets.{GuardValue, NodeRules}
 use Rattle.prs_core.specs.Moves.{high, guard_holds, rail_value_of}
 use Rattle.prs_core.specs.Pairs.{Pair, pairs_from, rails_of}
 use Rattle.width_check.specs.Processes.{Formula, constant, reading, joined, inverted, chained, compared, no_parts, and_part, no_operations, and_operation}
 use Rattle.width_check.specs.Values.{operated, value}
 use Rattle.handshake_expand.specs.Layout.{operator_size, formula_size}
-use Rattle.function_blocks.specs.Gates.{operator_rules, operator_result}
+use Rattle.function_blocks.specs.Gates.{gate, carries, borrows, operator_rules, operator_result}
 use Rattle.function_blocks.specs.Expressions.{formula_rules, formula_result}
 
 -- the rails of a number of so many bits, the lowest first
@@ -98,6 +99,31 @@ one_bit_sized = refl
 
 two_bits_sized : list_all (is_sized 2) operators ≡ true
 two_bits_sized = refl
+
+-- Two gates written out by hand: the rows of the table in ascending order, where the first input is the lowest bit.
+
+abbrev hi : ℕ → Literal
+hi node = record { node = node; high = true }
+
+abbrev lo : ℕ → Literal
+lo node = record { node = node; high = false }
+
+abbrev turns : (up : GuardValue) → (down : List Literal) → NodeRules
+turns up down = record { up = up; down = down ∷ [] }
+
+-- whether a - b borrows; a is at the nodes 0 and 1, b at 2 and 3
+borrow_of_two : gate (pairs_from 2 0) borrows ≡
+    turns ((hi 1 ∷ hi 2 ∷ []) ∷ []) (lo 0 ∷ lo 1 ∷ lo 2 ∷ lo 3 ∷ [])
+    ∷ turns ((hi 1 ∷ hi 3 ∷ []) ∷ (hi 0 ∷ hi 3 ∷ []) ∷ (hi 0 ∷ hi 2 ∷ []) ∷ []) (lo 0 ∷ lo 1 ∷ lo 2 ∷ lo 3 ∷ [])
+    ∷ []
+borrow_of_two = refl
+
+-- the majority of three bits at the nodes 0 to 5
+carry_of_three : gate (pairs_from 3 0) carries ≡
+    turns ((hi 0 ∷ hi 2 ∷ hi 5 ∷ []) ∷ (hi 0 ∷ hi 3 ∷ hi 4 ∷ []) ∷ (hi 1 ∷ hi 2 ∷ hi 4 ∷ []) ∷ (hi 0 ∷ hi 2 ∷ hi 4 ∷ []) ∷ []) (lo 0 ∷ lo 1 ∷ lo 2 ∷ lo 3 ∷ lo 4 ∷ lo 5 ∷ [])
+    ∷ turns ((hi 1 ∷ hi 3 ∷ hi 5 ∷ []) ∷ (hi 0 ∷ hi 3 ∷ hi 5 ∷ []) ∷ (hi 1 ∷ hi 2 ∷ hi 5 ∷ []) ∷ (hi 1 ∷ hi 3 ∷ hi 4 ∷ []) ∷ []) (lo 0 ∷ lo 1 ∷ lo 2 ∷ lo 3 ∷ lo 4 ∷ lo 5 ∷ [])
+    ∷ []
+carry_of_three = refl
 
 -- Whole expressions over two variables of two bits, whose rails are at nodes 1 to 4 and 5 to 8, under the request 0.
 

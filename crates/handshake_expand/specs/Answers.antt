@@ -1,6 +1,6 @@
 -- Which node answers a statement's request, and where its parts begin, where its own nodes are numbered from `from` on.
-use Rattle.std.specs.Prelude.{ℕ, ◌+◌, ◌-◌, ◌*◌, if◌then◌else◌, List, [], ◌∷◌}
-use Rattle.width_check.specs.Processes.{Process, skipping, assigning, sending, receiving, in_turn, side_by_side, choosing, repeating, Processes, no_members, and_member, member_count, Choices, no_choices, and_choice, choice_count, TypedProgram}
+use Rattle.std.specs.Prelude.{ℕ, ◌+◌, ◌-◌, ◌*◌, if◌then◌else◌}
+use Rattle.width_check.specs.Processes.{Process, assigning, in_turn, side_by_side, Processes, no_members, and_member, Choices, choice_count, TypedProgram}
 use Rattle.width_check.specs.Typing.{var_width}
 use Rattle.handshake_expand.specs.Layout.{formula_size, reads, block_size, size_of, guards_size}
 

@@ -9,6 +9,10 @@ use Rattle.width_check.specs.Processes.{Formula, constant, reading, joined, inve
 use Rattle.width_check.specs.Values.{width_of}
 use Rattle.width_check.specs.Typing.{channel_width, var_width}
 
+-- a number as it is counted: the greatest one of 64 bits stands for all above it
+abbrev pub capped : ℕ → ℕ
+capped n = min n (2 ^ 64 - 1)
+
 -- how many nodes the gates of an operator on two numbers of a width have
 abbrev pub operator_size : Op → (width : ℕ) → ℕ
 operator_size And w = 2 * w
@@ -73,10 +77,13 @@ block_size w = 6 * w - 1
 abbrev pub through_size : (width : ℕ) → Formula → ℕ
 through_size w e = block_size w + 3 + (1 + formula_size e) + (1 + 2 * w)
 
+abbrev pub assign_size : TypedProgram → ℕ → Formula → ℕ
+assign_size p x e = if reads x e then through_size (var_width p.vars x) e else 1 + formula_size e
+
 abbrev mutual
   pub size_of : TypedProgram → Process → ℕ
   size_of p skipping = 1
-  size_of p (assigning x at e) = if reads x e then through_size (var_width p.vars x) e else 1 + formula_size e
+  size_of p (assigning x at e) = assign_size p x e
   size_of p (sending chan at e) = 1 + formula_size e
   size_of p (receiving chan chan_at x var_at) = 2 + 2 * channel_width p.channels chan
   size_of p (in_turn members) = turn_size p members
@@ -147,4 +154,4 @@ nodes_of p = body_from p + size_of p p.body
 
 -- the same, as far as it is counted
 abbrev pub node_count : TypedProgram → ℕ
-node_count p = min (nodes_of p) (2 ^ 64 - 1)
+node_count p = capped (nodes_of p)
