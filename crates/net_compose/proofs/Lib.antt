@@ -1,11 +1,13 @@
 pub mod Examples
 pub mod NameLemmas
 pub mod Nothing
-pub mod NothingCarried
-pub mod NothingAccepted
 pub mod FlatCells
 pub mod FlatRules
 pub mod FlatSites
 pub mod FlatWires
 pub mod FlatNet
 pub mod CoveredCarried
+pub mod BitNames
+pub mod BitNet
+pub mod BitAccepted
+pub mod Forms

@@ -37,7 +37,7 @@ literal_is_below count l h = grind (arith, nat_tests)
 abbrev guard_below : ℕ → GuardValue → Bool
 guard_below count g = list_all (list_all (literal_below count)) g
 
-guards_below : (count : ℕ) (gs : List GuardValue) → list_all (guard_below count) gs ≡ true → All (IsBelow count) gs
+pub guards_below : (count : ℕ) (gs : List GuardValue) → list_all (guard_below count) gs ≡ true → All (IsBelow count) gs
 guards_below count gs h =
     all_by (guard_below count) (IsBelow count)
     (λ g. all_by (list_all (literal_below count)) (λ t. All (λ (l : Literal). l.node < count) t)
@@ -51,7 +51,7 @@ term_is_filled : (t : List Literal) → term_filled t ≡ true → 0 < length t
 term_is_filled [] h = absurd (cc h)
 term_is_filled (l ∷ ls) h = omega arith
 
-guards_filled : (gs : List GuardValue) → list_all (list_all term_filled) gs ≡ true → All IsFilled gs
+pub guards_filled : (gs : List GuardValue) → list_all (list_all term_filled) gs ≡ true → All IsFilled gs
 guards_filled gs h = all_by (list_all term_filled) IsFilled (λ g. all_by term_filled (λ t. 0 < length t) term_is_filled g) gs h
 
 abbrev all_apart : List (List ℕ) → Bool

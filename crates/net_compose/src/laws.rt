@@ -1,16 +1,11 @@
 //! Laws of nets and the programs that they carry.
 
-ghost use Rattle.std.specs.Prelude.{◌≡◌, ◌↔◌, true};
-ghost use Rattle.chp_syntax.specs.Trees.{ProgramTree};
+ghost use Rattle.std.specs.Prelude.{◌↔◌};
 ghost use Rattle.prs_core.specs.Nets.{NetValue};
-ghost use Rattle.width_check.specs.Accepted.{IsAccepted};
 ghost use Rattle.width_check.specs.Processes.{TypedProgram};
 ghost use Rattle.width_check.specs.Typing.{IsTyped};
 ghost use Rattle.circuit_places.specs.Covered.{Covered};
-ghost use Rattle.width_check.specs.Form.{typed_form};
-ghost use Rattle.width_check.specs.Processes.{TypedProgram};
 ghost use Rattle.net_compose.specs.Translation.{translation};
-ghost use Rattle.net_compose.specs.Built.{is_built};
 ghost use Rattle.net_compose.specs.Carries.{Carries};
 ghost use Rattle.net_compose.specs.Points.{HasPoints};
 
@@ -32,16 +27,6 @@ pub fn covered_carried()
     rounds_hold();
     circuits_carry();
 }
-
-/// Law: the net of a program that declares nothing and does nothing carries it, in every run under every script.
-pub fn nothing_carried()
-    ensures { (p : ProgramTree) → is_built p ≡ true → Carries (translation (typed_form p)) (typed_form p) }
-{}
-
-/// Law: a program that declares nothing and does nothing is accepted.
-pub fn nothing_accepted()
-    ensures { (p : ProgramTree) → is_built p ≡ true → IsAccepted p }
-{}
 
 /// Law: a net carries a program exactly where its channels are the program's and each of the three points holds in
 /// every run: it is free of hazards, it is behind the rounds, and at rest it is level with them.

@@ -1,6 +1,7 @@
 //! The composition of a program's circuit.
 #![tactic(auto)]
 
+mod bit;
 pub mod laws;
 mod plain;
 mod translate;

@@ -6,7 +6,7 @@ ghost use Rattle.chp_base.specs.Names.{IsNodeName};
 ghost use Rattle.prs_core.specs.Nets.{RulesValue};
 ghost use Rattle.handshake_expand.specs.Named.{numbered};
 ghost use Rattle.width_check.specs.Form.{typed_form};
-ghost use Rattle.net_compose.specs.Built.{is_built};
+ghost use Rattle.net_compose.specs.Built.{is_idle};
 ghost use Rattle.net_compose.specs.Carries.{idle};
 ghost use Rattle.net_compose.specs.Translation.{translation, composed};
 
@@ -17,7 +17,7 @@ use prs_core::{Net, Rules};
 use std::alloc::{AllocError, Global};
 
 /// The node's name that these bytes are.
-fn name_from(alloc: Global, text: &[u8]) -> Result<Name, AllocError>
+pub fn name_from(alloc: Global, text: &[u8]) -> Result<Name, AllocError>
     requires { IsNodeName text.now }
     ensures { IfOk result (λ name. name ≡ text.now) }
 {
@@ -29,7 +29,7 @@ fn name_from(alloc: Global, text: &[u8]) -> Result<Name, AllocError>
 
 /// The name of the node of this number, which is no wire of a channel or a variable.
 #[tactic(auto, using(crate::proofs::NameLemmas::numbered_is_name))]
-fn numbered_name(alloc: Global, node: u32) -> Result<Name, AllocError>
+pub fn numbered_name(alloc: Global, node: u32) -> Result<Name, AllocError>
     ensures { IfOk result (λ name. name ≡ numbered node) }
 {
     let mut buffer = Buffer::new();
@@ -72,7 +72,7 @@ fn skip_rules(alloc: Global) -> Result<Rules, AllocError>
 }
 
 /// First values: all nodes are low.
-fn all_low(alloc: Global, count: u32) -> Result<Vec<bool>, AllocError>
+pub fn all_low(alloc: Global, count: u32) -> Result<Vec<bool>, AllocError>
     ensures { IfOk result (λ first. first.items ≡ replicate count false) }
 {
     vec![in alloc; false; count as usize]
@@ -80,7 +80,7 @@ fn all_low(alloc: Global, count: u32) -> Result<Vec<bool>, AllocError>
 
 /// The net of a program that does nothing.
 pub fn skip_net(alloc: Global) -> Result<Net, AllocError>
-    ensures { IfOk result (λ net. (p : _) → is_built p ≡ true → net ≡ translation (typed_form p)) }
+    ensures { IfOk result (λ net. (p : _) → is_idle p ≡ true → net ≡ translation (typed_form p)) }
 {
     let names = node_names(alloc, NODES)?;
     let first = all_low(alloc, NODES)?;
