@@ -115,8 +115,8 @@ form_of p name bit f =
 pub idle_carried : ((p : TypedProgram) → IsTyped p.channels p.vars p.body → Covered p → Carries (translation p) p) → (p : ProgramTree) → is_idle p ≡ true → Carries (translation (typed_form p)) (typed_form p)
 idle_carried law p h = subst (λ t. Carries (translation t) t) (sym (idle_form p h)) (law idle idle_typed idle_covered)
 
-pub bit_carried : ((p : TypedProgram) → IsTyped p.channels p.vars p.body → Covered p → Carries (translation p) p) → (p : ProgramTree) (name : List ℕ) (bit : Bool) → IsBitForm p name bit → Carries (translation (typed_form p)) (typed_form p)
-bit_carried law p name bit f =
+pub bit_carried : ((p : TypedProgram) → IsTyped p.channels p.vars p.body → Covered p → Carries (translation p) p) → (p : ProgramTree) (name : List ℕ) (bit : Bool) (net : NetValue) → IsBitForm p name bit → ((at : Span) → net ≡ translation (bit_program name at bit)) → Carries (translation (typed_form p)) (typed_form p)
+bit_carried law p name bit net f is =
     let h = form_of p name bit f in
     subst (λ t. Carries (translation t) t) (sym h.typed) (law (bit_program name h.at bit) (bit_typed name h.at bit h.named) (bit_covered name h.at bit))
 
@@ -142,11 +142,8 @@ not_built p e f = ap (λ b. b || is_bit_form p) e ∙ f
 pub idle_net : (p : ProgramTree) (net : NetValue) → is_idle p ≡ true → ((q : ProgramTree) → is_idle q ≡ true → net ≡ translation (typed_form q)) → net ≡ translation (typed_form p)
 idle_net p net h is = is p h
 
-pub bit_accepted : (p : ProgramTree) (name : List ℕ) (bit : Bool) → IsBitForm p name bit → IsAccepted p
-bit_accepted p name bit f = (form_of p name bit f).accepted
+pub bit_accepted : (p : ProgramTree) (name : List ℕ) (bit : Bool) (net : NetValue) → IsBitForm p name bit → ((at : Span) → net ≡ translation (bit_program name at bit)) → IsAccepted p
+bit_accepted p name bit net f is = (form_of p name bit f).accepted
 
 pub bit_net_is : (p : ProgramTree) (name : List ℕ) (bit : Bool) (net : NetValue) → IsBitForm p name bit → ((at : Span) → net ≡ translation (bit_program name at bit)) → net ≡ translation (typed_form p)
 bit_net_is p name bit net f is = let h = form_of p name bit f in is h.at ∙ ap translation (sym h.typed)
-
-pub bit_name : (p : ProgramTree) (name : List ℕ) (bit : Bool) → IsBitForm p name bit → IsName name
-bit_name p name bit f = (form_of p name bit f).named

@@ -13,7 +13,7 @@ pub returns-in-Ok-bit_net-clause-net : goal.returns-in-Ok-bit_net-clause-net
 returns-in-Ok-bit_net-clause-net c = bit_net_is (program_of c.args.program.now) _ _ _ (search rules) c.in-Ok-bit_net.ensures
 
 pub returns-in-Ok-bit_net-clause-accepted : goal.returns-in-Ok-bit_net-clause-accepted
-returns-in-Ok-bit_net-clause-accepted c = bit_accepted (program_of c.args.program.now) _ _ (search rules)
+returns-in-Ok-bit_net-clause-accepted c = bit_accepted (program_of c.args.program.now) _ _ _ (search rules) c.in-Ok-bit_net.ensures
 
 pub returns-in-Ok-bit_net-clause-carries : goal.returns-in-Ok-bit_net-clause-carries
-returns-in-Ok-bit_net-clause-carries c = bit_carried c.covered_carried.ensures (program_of c.args.program.now) _ _ (search rules)
+returns-in-Ok-bit_net-clause-carries c = bit_carried c.covered_carried.ensures (program_of c.args.program.now) _ _ _ (search rules) c.in-Ok-bit_net.ensures
