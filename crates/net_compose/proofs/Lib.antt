@@ -3,3 +3,4 @@ pub mod NameLemmas
 pub mod Nothing
 pub mod NothingCarried
 pub mod NothingAccepted
+pub mod Sizes
