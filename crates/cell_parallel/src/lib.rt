@@ -1,2 +1,4 @@
 //! The completion tree.
 #![tactic(auto)]
+
+pub mod laws;

@@ -141,11 +141,45 @@ fn limits_are_met_to_the_bracket_and_the_arm(rt: HostRuntime) -> Result<(), Fail
     Ok(())
 }
 
+/// The rule file of the send of one bit, of which the rail `n8` is that of 1 and `n9` that of 0.
+fn sent_bit_file(alloc: Global, rail: &[u8]) -> Result<Vec<u8>, AllocError> {
+    let mut file = Vec::from_slice(
+        alloc,
+        b"prs 1\nnode go 0\nnode done 0\nnode X.0.t 0\nnode X.0.f 0\nnode X.a 0\nnode n5 0\nnode n6 0\nnode n7 0\n\
+node n8 0\nnode n9 0\nout X 1\nrule n6 & ~n7 -> done+\nrule ~n6 -> done-\nrule n8 -> X.0.t+\nrule ~n8 -> X.0.t-\n\
+rule n9 -> X.0.f+\nrule ~n9 -> X.0.f-\nrule go & ~n6 -> n5+\nrule n6 -> n5-\nrule n7 -> n6+\nrule ~go -> n6-\n\
+rule n5 & X.a -> n7+\nrule ~X.a -> n7-\n",
+    )?;
+    for (guard, sign) in [(b"rule n5 -> ".as_slice(), b"+\n".as_slice()), (b"rule ~n5 -> ", b"-\n")] {
+        file.extend_from_slice(guard)?;
+        file.extend_from_slice(rail)?;
+        file.extend_from_slice(sign)?;
+    }
+    Ok(file)
+}
+
+#[test]
+fn a_program_that_sends_one_bit(rt: HostRuntime) -> Result<(), Fail> {
+    for (text, rail) in [
+        (b"out X : 1; begin X!1 end".as_slice(), b"n8".as_slice()),
+        (b"out X : 1; begin X!0 end", b"n9"),
+    ] {
+        let ran = compile(rt.alloc(), text)?;
+        assert_eq!(rt; ran.status, Status::Done);
+        assert_eq!(rt; ran.say.written(), b"".as_slice());
+        let file = sent_bit_file(rt.alloc(), rail)?;
+        assert_eq!(rt; ran.out.written(), file.as_slice());
+    }
+    Ok(())
+}
+
 #[test]
 fn what_is_read_and_not_built(rt: HostRuntime) -> Result<(), Fail> {
-    let texts: [&[u8]; 3] = [
+    let texts: [&[u8]; 5] = [
         b"begin skip ; skip end",
-        b"out X : 1; begin X!1 end",
+        b"out X : 2; begin X!1 end",
+        b"out X : 1; begin X!2 end",
+        b"out X : 1; begin *[X!1] end",
         b"var x : 1; begin skip end",
     ];
     for text in texts {

@@ -1,10 +1,12 @@
 -- The circuit of an expression: dual-rail bits that rise to its value under a request, and fall when that falls.
-use Rattle.std.specs.Prelude.{ℕ, zero, suc, ◌+◌, ◌-◌, ◌*◌, ◌/◌, ◌%◌, ◌==◌, Bool, true, false, List, [], ◌∷◌, ◌++◌, map, take, drop}
+use Rattle.std.specs.Prelude.{◌≡◌, ℕ, ◌<◌, length, zero, suc, ◌+◌, ◌-◌, ◌*◌, ◌/◌, ◌%◌, ◌==◌, Bool, true, false, List, [], ◌∷◌, ◌++◌, map, take, drop}
 use Rattle.prs_core.specs.Nets.{NodeRules, is_high, is_low, one_term}
 use Rattle.prs_core.specs.Pairs.{Pair, pairs_from, exchanged, no_rules}
 use Rattle.chp_syntax.specs.declared.tree.Op.{Op}
+use Rattle.width_check.specs.declared.typed.Var.{Var}
 use Rattle.width_check.specs.Processes.{Formula, constant, reading, joined, inverted, chained, compared, Formulas, no_parts, and_part, Operations, no_operations, and_operation}
 use Rattle.width_check.specs.Values.{width_of}
+use Rattle.width_check.specs.Typing.{var_width}
 use Rattle.handshake_expand.specs.Layout.{formula_size, operator_size}
 use Rattle.function_blocks.specs.Gates.{operator_rules, operator_result}
 
@@ -77,3 +79,7 @@ abbrev mutual
   chained_rules bits width left (and_operation op e more) request from =
       formula_rules bits e request from ++ (operator_rules op left (formula_result e from) (from + formula_size e)
       ++ chained_rules bits width (operator_result op left (from + formula_size e)) more request (from + formula_size e + operator_size op width))
+
+-- each of the variables has as many bits as its width
+abbrev pub HasBits : List Var → (ℕ → List Pair) → Type 0
+HasBits vars bits = (x : ℕ) → x < length vars → length (bits x) ≡ var_width vars x

@@ -1,2 +1,4 @@
 //! The circuits of expressions.
 #![tactic(auto)]
+
+pub mod laws;

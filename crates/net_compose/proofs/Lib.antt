@@ -11,3 +11,4 @@ pub mod BitNames
 pub mod BitNet
 pub mod BitAccepted
 pub mod Forms
+pub mod Sizes

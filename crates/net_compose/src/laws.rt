@@ -5,9 +5,11 @@ ghost use Rattle.prs_core.specs.Nets.{NetValue};
 ghost use Rattle.width_check.specs.Processes.{TypedProgram};
 ghost use Rattle.width_check.specs.Typing.{IsTyped};
 ghost use Rattle.circuit_places.specs.Covered.{Covered};
+ghost use Rattle.handshake_expand.specs.Layout.{nodes_of};
 ghost use Rattle.net_compose.specs.Translation.{translation};
 ghost use Rattle.net_compose.specs.Carries.{Carries};
 ghost use Rattle.net_compose.specs.Points.{HasPoints};
+ghost use Rattle.net_compose.specs.Sized.{IsOfSize};
 
 use chp_meaning::{one_history, rounds_hold, runs_append, steps_taken};
 use circuit_places::circuits_carry;
@@ -33,3 +35,13 @@ pub fn covered_carried()
 pub fn three_points()
     ensures { (net : NetValue) (p : TypedProgram) → Carries net p ↔ HasPoints net p }
 {}
+
+/// Law: the net of a typed program has a name, a first value and two guards for each node that its layout counts, and no
+/// more.
+pub fn all_counted()
+    ensures { (p : TypedProgram) → IsTyped p.channels p.vars p.body → IsOfSize (translation p) (nodes_of p) }
+{
+    function_blocks::laws::bits_counted();
+    function_blocks::laws::rules_counted();
+    cell_parallel::laws::tree_counted();
+}
