@@ -1,14 +1,16 @@
 -- Where nothing speaks against it, a program is compiled.
-use Rattle.std.proofs.Common.{◌≡◌, ℕ, Bool, true, List, length, Option, Some, ◌⊎◌, inl, inr, refl, ap, subst, arith}
+use Rattle.std.proofs.Common.{◌≡◌, ℕ, Bool, true, List, length, Option, Some, ◌⊎◌, inl, inr, refl, ap, ◌∙◌, subst, arith}
 use Rattle.chp_base.specs.declared.fault.Fault.{Fault}
 use Rattle.chp_syntax.specs.Reading.{Reads}
 use Rattle.net_compose.specs.Built.{is_built}
 use Rattle.chp_edge.specs.Faults.{Rose, IsReadFault}
-use Rattle.chp_cli.specs.declared.status.Status.TheVariants.{Done, NoMemory}
+use Rattle.chp_cli.specs.declared.status.Status.TheVariants.{Done, NoMemory, RefusedText, BadFile}
+use Rattle.prs_file.specs.declared.fault.NetFault.{NetFault}
 use Rattle.chp_cli.specs.declared.outcome.Outcome.{Outcome}
 use Rattle.chp_cli.specs.declared.outcome.Outcome.TheVariants as outcome
 use Rattle.chp_cli.specs.Outcomes.{status_of}
-use Rattle.chp_cli.specs.Ends.{Refused, Unbuilt, Overlong, WhenRefused, IsToCompile}
+use Rattle.chp_cli.specs.Ends.{Refused, Unbuilt, Overlong, RefusedBy, SpoiledBy, UnbuiltBy, WhenRefused, WhenSpoiled, WhenTooLong, IsToCompile, most_of, most_of_text}
+use Rattle.chp_cli.specs.Commands.{Asked, compiles}
 
 same_text : {held : Option (List ℕ)} {a b : List ℕ} → held ≡ Some a → held ≡ Some b → a ≡ b
 same_text e f = cc (e, f)
@@ -16,8 +18,8 @@ same_text e f = cc (e, f)
 not_refused : {held : Option (List ℕ)} → IsToCompile held → (fault : Fault) → Refused held fault → ⊥
 not_refused {held} t fault r = r.never t.program (subst (λ (x : List ℕ). Reads x t.program) (same_text t.is r.is) t.reads)
 
-not_long : {held : Option (List ℕ)} → IsToCompile held → Overlong held → ⊥
-not_long {held} t o = let e : length t.text ≡ length o.text = ap length (same_text t.is o.is) in omega (arith, t.short, o.long, e)
+not_long : {held : Option (List ℕ)} (limit : ℕ) → IsToCompile held → limit ≡ most_of_text → Overlong limit held → ⊥
+not_long {held} limit t most o = let e : length t.text ≡ length o.text = ap length (same_text t.is o.is) in omega (arith, t.short, o.long, e, most)
 
 not_unbuilt : {held : Option (List ℕ)} → IsToCompile held → Unbuilt held → ⊥
 not_unbuilt {held} t u =
@@ -25,18 +27,46 @@ not_unbuilt {held} t u =
     cc (ap is_built e, t.built, u.unbuilt)
 
 -- each other outcome has a cause that isn't there
-pub completed : (o : Outcome) (before after : ℕ) (told : Bool) (held : Option (List ℕ)) (out_before out_after : ℕ) → told ≡ true → IsToCompile held → ¬ Rose before after → ¬ Rose out_before out_after
-    → (o ≡ outcome.Usage → ⊥) → WhenRefused o (λ fault. told ≡ true → Refused held fault) → (o ≡ outcome.Read → IsReadFault before after told held) → (o ≡ outcome.Write → Rose out_before out_after)
-    → (o ≡ outcome.TooLong → told ≡ true → Overlong held) → (o ≡ outcome.NotBuilt → told ≡ true → Unbuilt held) → (status_of o ≡ Done) ⊎ (status_of o ≡ NoMemory)
-completed outcome.Done before after told held ob oa y t calm quiet usage refused read write long unbuilt = inl refl
-completed outcome.NoMemory before after told held ob oa y t calm quiet usage refused read write long unbuilt = inr refl
-completed outcome.Usage before after told held ob oa y t calm quiet usage refused read write long unbuilt = absurd (usage refl)
-completed (outcome.RefusedText fault) before after told held ob oa y t calm quiet usage refused read write long unbuilt = absurd (not_refused t fault (refused y))
-completed outcome.Read before after told held ob oa y t calm quiet usage refused read write long unbuilt = absurd (fault_of (read refl))
+pub completed : (a : Option Asked) (name : List ℕ) (o : Outcome) (before after : ℕ) (told : Bool) (held : Option (List ℕ)) (out_before out_after : ℕ) → a ≡ Some (compiles name) → told ≡ true → IsToCompile held → ¬ Rose before after → ¬ Rose out_before out_after
+    → (o ≡ outcome.Usage → ⊥) → WhenRefused o (λ fault. told ≡ true → RefusedBy a held fault) → WhenSpoiled o (λ fault line. told ≡ true → SpoiledBy a held fault line) → (o ≡ outcome.Read → IsReadFault before after told held) → (o ≡ outcome.Write → Rose out_before out_after)
+    → WhenTooLong o (λ limit. (limit ≡ most_of a) × (told ≡ true → Overlong limit held)) → (o ≡ outcome.NotBuilt → told ≡ true → UnbuiltBy a held) → (status_of o ≡ Done) ⊎ (status_of o ≡ NoMemory)
+completed a name outcome.Done before after told held ob oa is y t calm quiet usage refused spoiled read write long unbuilt = inl refl
+completed a name outcome.NoMemory before after told held ob oa is y t calm quiet usage refused spoiled read write long unbuilt = inr refl
+completed a name outcome.Usage before after told held ob oa is y t calm quiet usage refused spoiled read write long unbuilt = absurd (usage refl)
+completed a name (outcome.RefusedText fault) before after told held ob oa is y t calm quiet usage refused spoiled read write long unbuilt =
+    absurd (not_refused t fault (subst (λ (b : Option Asked). RefusedBy b held fault) is (refused y)))
+completed a name (outcome.BadFile fault line) before after told held ob oa is y t calm quiet usage refused spoiled read write long unbuilt =
+    absurd (subst (λ (b : Option Asked). SpoiledBy b held fault line) is (spoiled y))
+completed a name outcome.Read before after told held ob oa is y t calm quiet usage refused spoiled read write long unbuilt = absurd (fault_of (read refl))
   where
     fault_of : IsReadFault before after told held → ⊥
     fault_of (inl rose) = calm rose
     fault_of (inr none) = cc (none.1, t.is)
-completed outcome.Write before after told held ob oa y t calm quiet usage refused read write long unbuilt = absurd (quiet (write refl))
-completed outcome.TooLong before after told held ob oa y t calm quiet usage refused read write long unbuilt = absurd (not_long t (long refl y))
-completed outcome.NotBuilt before after told held ob oa y t calm quiet usage refused read write long unbuilt = absurd (not_unbuilt t (unbuilt refl y))
+completed a name outcome.Write before after told held ob oa is y t calm quiet usage refused spoiled read write long unbuilt = absurd (quiet (write refl))
+completed a name (outcome.TooLong limit) before after told held ob oa is y t calm quiet usage refused spoiled read write long unbuilt =
+    absurd (not_long limit t (long.0 ∙ ap most_of is) (long.1 y))
+completed a name outcome.NotBuilt before after told held ob oa is y t calm quiet usage refused spoiled read write long unbuilt =
+    absurd (not_unbuilt t (subst (λ (b : Option Asked). UnbuiltBy b held) is (unbuilt refl y)))
+
+-- a refusal, by its status
+pub refused_of : (o : Outcome) (P : Fault → Type 0) → status_of o ≡ RefusedText → WhenRefused o P → (fault : Fault) × P fault
+refused_of (outcome.RefusedText fault) P is p = (fault, p)
+refused_of outcome.Done P is p = absurd (cc is)
+refused_of outcome.Usage P is p = absurd (cc is)
+refused_of outcome.Read P is p = absurd (cc is)
+refused_of outcome.Write P is p = absurd (cc is)
+refused_of outcome.NoMemory P is p = absurd (cc is)
+refused_of (outcome.TooLong limit) P is p = absurd (cc is)
+refused_of (outcome.BadFile fault line) P is p = absurd (cc is)
+refused_of outcome.NotBuilt P is p = absurd (cc is)
+
+pub spoiled_of : (o : Outcome) (P : NetFault → ℕ → Type 0) → status_of o ≡ BadFile → WhenSpoiled o P → (fault : NetFault) × (line : ℕ) × P fault line
+spoiled_of (outcome.BadFile fault line) P is p = (fault, line, p)
+spoiled_of (outcome.RefusedText fault) P is p = absurd (cc is)
+spoiled_of outcome.Done P is p = absurd (cc is)
+spoiled_of outcome.Usage P is p = absurd (cc is)
+spoiled_of outcome.Read P is p = absurd (cc is)
+spoiled_of outcome.Write P is p = absurd (cc is)
+spoiled_of outcome.NoMemory P is p = absurd (cc is)
+spoiled_of (outcome.TooLong limit) P is p = absurd (cc is)
+spoiled_of outcome.NotBuilt P is p = absurd (cc is)

@@ -78,16 +78,13 @@ plain_command [] = None
 plain_command (word ∷ rest) =
     option_and_then (λ v. option_map (asked_with v) (plain_file rest)) (verb_of word)
 
--- ---- the file of a command
+-- ---- the command of the words
 
-abbrev pub file_compiled : Option Asked → Option Text
-file_compiled (Some (compiles file)) = Some file
-file_compiled _ = None
+abbrev pub asked_by : List (String Global) → Option Asked
+asked_by words = command_of (texts_of words)
 
--- the file that the words ask to compile
-abbrev pub file_to_compile : List (String Global) → Option Text
-file_to_compile words = file_compiled (command_of (texts_of words))
-
-abbrev pub name_in : Option Text → Text
-name_in None = []
-name_in (Some name) = name
+-- the name of the command's file
+abbrev pub name_of : Option Asked → Text
+name_of None = []
+name_of (Some (compiles file)) = file
+name_of (Some (migrates net)) = net

@@ -1,5 +1,6 @@
 pub mod Commands
 pub mod Forms
+pub mod Migrations
 pub mod Statuses
 pub mod Outcomes
 pub mod Ends

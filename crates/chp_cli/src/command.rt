@@ -1,8 +1,8 @@
 //! The words of a command.
 
-ghost use Rattle.std.specs.Prelude.{◌≡◌, IfOk, IfSome, is_some, option_map, true};
+ghost use Rattle.std.specs.Prelude.{◌≡◌, IfOk, IfSome, Some, is_some, option_map, true};
 ghost use Rattle.clap.specs.Words.{app_of, found_of, matches_of, rows_of, takes};
-ghost use Rattle.chp_cli.specs.Commands.{asked, command_of, file_of, plain_command, plain_file, verb_of};
+ghost use Rattle.chp_cli.specs.Commands.{asked, command_of, file_of, name_of, plain_command, plain_file, verb_of};
 ghost use Rattle.chp_cli.specs.Forms.{is_form, texts_of};
 
 use clap::error::ErrorKind;
@@ -16,6 +16,18 @@ pub enum Command<'a> {
     Compile { file: &'a str },
     /// `migrate FILE`: write the rule file of this name as one of version 2.
     Migrate { net: &'a str },
+}
+
+impl<'a> Command<'a> {
+    /// The name of the command's file.
+    pub fn file(&self) -> &'a str
+        ensures { result.now ≡ name_of (Some (asked self.now)) }
+    {
+        match self {
+            Command::Compile { file } => file,
+            Command::Migrate { net } => net,
+        }
+    }
 }
 
 /// The first word of a command.

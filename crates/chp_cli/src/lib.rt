@@ -2,7 +2,9 @@
 #![tactic(auto)]
 
 mod command;
+mod compile;
 mod main_call;
+mod migrate;
 mod outcome;
 mod say;
 mod status;

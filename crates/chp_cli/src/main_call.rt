@@ -1,68 +1,68 @@
 //! The top call.
 
-ghost use Rattle.std.specs.Prelude.{◌≡◌, ◌≢◌, ◌≤◌, ◌++◌, ℕ, None, Some, take, length, true, IfOk, IfErr, ◌⊎◌};
+ghost use Rattle.std.specs.Prelude.{◌≡◌, ◌≢◌, ◌≤◌, ◌++◌, ℕ, List, None, Some, take, length, true, IfOk, IfErr, ◌⊎◌};
 ghost use Rattle.chp_edge.specs.Faults.{Rose, IsReadFault};
-ghost use Rattle.chp_cli.specs.Commands.{file_to_compile, name_in};
-ghost use Rattle.chp_cli.specs.Ends.{Compiled, Refused, Unbuilt, Overlong, WhenRefused, Says, EndsWithout, IsToCompile};
+ghost use Rattle.chp_cli.specs.Commands.{Asked, asked, asked_by, compiles, name_of};
+ghost use Rattle.chp_cli.specs.Ends.{Output, RefusedBy, UnbuiltBy, SpoiledBy, Overlong, WhenRefused, WhenSpoiled, WhenTooLong, Says, EndsBy, IsToCompile, most_of};
 
 use crate::command::{Command, command_in};
+use crate::compile::rule_file;
+use crate::migrate::migrated;
 use crate::outcome::Outcome;
 use crate::say::tell;
 use crate::status::Status;
-use chp_base::TextError;
 use chp_edge::{Failed, ReadEnd, Shelf, Sink, read_all, write_all};
-use chp_syntax::parse;
-use net_compose::{PlainNetError, translate_plain};
-use prs_file::print_net;
 use std::alloc::{AllocError, Global};
 
-/// The most bytes of a program text.
-const MOST_OF_TEXT: usize = 262144;
-
-/// The rule file of a program text, or how the command ends without one.
-fn rule_file(alloc: Global, text: &[u8]) -> Result<Vec<u8>, Outcome>
-    requires { length text.now ≤ 262144 }
-    ensures file { IfOk result (λ file. Compiled (Some text.now) (λ whole. whole ≡ file.items)) }
-    ensures none { IfErr result (EndsWithout text.now) }
+/// The most bytes of the command's file: a program text, or a rule file.
+fn limit(command: &Command) -> usize
+    ensures { result ≡ most_of (Some (asked command.now)) }
 {
-    let program = match parse(alloc, text) {
-        Ok(program) => program,
-        Err(TextError::Refused(fault)) => return Err(Outcome::RefusedText(fault)),
-        Err(TextError::NoMemory(_)) => return Err(Outcome::NoMemory),
-    };
-    let net = match translate_plain(alloc, &program) {
-        Ok(net) => net,
-        Err(PlainNetError::NotBuilt) => return Err(Outcome::NotBuilt),
-        Err(PlainNetError::NoMemory(_)) => return Err(Outcome::NoMemory),
-    };
-    print_net(alloc, &net).map_err(|_| Outcome::NoMemory)
+    match command {
+        Command::Compile { .. } => 262_144,
+        Command::Migrate { .. } => 268_435_456,
+    }
 }
 
-/// Compiles the program text of the named file, and writes its rule file.
-fn compile<S: Shelf, K: Sink>(alloc: Global, name: &str, shelf: &mut S, out: &mut K) -> Outcome
-    ensures done { result ≡ Outcome.Done → S.tells shelf.old ≡ true → Compiled (S.holds shelf.old name.now)
+/// The output of the command on this text, or how the command ends without one.
+fn output(alloc: Global, command: &Command, text: Vec<u8>) -> Result<Vec<u8>, Outcome>
+    requires { length text.items ≤ most_of (Some (asked command.now)) }
+    ensures file { IfOk result (λ file. Output (Some (asked command.now)) (Some text.items) (λ whole. whole ≡ file.items)) }
+    ensures none { IfErr result (EndsBy (Some (asked command.now)) text.items) }
+{
+    match command {
+        Command::Compile { .. } => rule_file(alloc, &text),
+        Command::Migrate { .. } => migrated(alloc, text),
+    }
+}
+
+/// Reads the command's file, and writes the command's output.
+fn run<S: Shelf, K: Sink>(alloc: Global, command: &Command, shelf: &mut S, out: &mut K) -> Outcome
+    ensures done { result ≡ Outcome.Done → S.tells shelf.old ≡ true → Output (Some (asked command.now)) (S.holds shelf.old (name_of (Some (asked command.now))))
         (λ file. K.tells out.old ≡ true → K.written out.new ≡ K.written out.old ++ file) }
-    ensures refused { WhenRefused result (λ fault. S.tells shelf.old ≡ true → Refused (S.holds shelf.old name.now) fault) }
+    ensures refused { WhenRefused result (λ fault. S.tells shelf.old ≡ true → RefusedBy (Some (asked command.now)) (S.holds shelf.old (name_of (Some (asked command.now)))) fault) }
+    ensures bad_file { WhenSpoiled result (λ fault line. S.tells shelf.old ≡ true → SpoiledBy (Some (asked command.now)) (S.holds shelf.old (name_of (Some (asked command.now)))) fault line) }
     ensures formed { result ≢ Outcome.Usage }
-    ensures read { result ≡ Outcome.Read → IsReadFault (S.faults shelf.old) (S.faults shelf.new) (S.tells shelf.old) (S.holds shelf.old name.now) }
+    ensures read { result ≡ Outcome.Read → IsReadFault (S.faults shelf.old) (S.faults shelf.new) (S.tells shelf.old) (S.holds shelf.old (name_of (Some (asked command.now)))) }
     ensures write { result ≡ Outcome.Write → Rose (K.faults out.old) (K.faults out.new) }
-    ensures part { result ≡ Outcome.Write → S.tells shelf.old ≡ true → Compiled (S.holds shelf.old name.now)
+    ensures part { result ≡ Outcome.Write → S.tells shelf.old ≡ true → Output (Some (asked command.now)) (S.holds shelf.old (name_of (Some (asked command.now))))
         (λ file. K.tells out.old ≡ true → (n : ℕ) × (n ≤ length file) × (K.written out.new ≡ K.written out.old ++ take n file)) }
-    ensures too_large { result ≡ Outcome.TooLong → S.tells shelf.old ≡ true → Overlong (S.holds shelf.old name.now) }
-    ensures not_built { result ≡ Outcome.NotBuilt → S.tells shelf.old ≡ true → Unbuilt (S.holds shelf.old name.now) }
+    ensures too_large { WhenTooLong result (λ limit. (limit ≡ most_of (Some (asked command.now))) × (S.tells shelf.old ≡ true → Overlong limit (S.holds shelf.old (name_of (Some (asked command.now)))))) }
+    ensures not_built { result ≡ Outcome.NotBuilt → S.tells shelf.old ≡ true → UnbuiltBy (Some (asked command.now)) (S.holds shelf.old (name_of (Some (asked command.now)))) }
     ensures silent { result ≢ Outcome.Done → result ≢ Outcome.Write → K.tells out.old ≡ true → K.written out.new ≡ K.written out.old }
     ensures same { S.tells shelf.new ≡ S.tells shelf.old }
     ensures kept { S.holds shelf.new ≡ S.holds shelf.old }
     ensures shelf_faults { S.faults shelf.old ≤ S.faults shelf.new }
     ensures out_faults { K.faults out.old ≤ K.faults out.new }
 {
-    let text = match read_all(alloc, shelf, name, MOST_OF_TEXT) {
+    let most = limit(command);
+    let text = match read_all(alloc, shelf, command.file(), most) {
         Ok(text) => text,
         Err(ReadEnd::Failed) => return Outcome::Read,
-        Err(ReadEnd::TooLong) => return Outcome::TooLong,
+        Err(ReadEnd::TooLong) => return Outcome::TooLong(most),
         Err(ReadEnd::NoMemory) => return Outcome::NoMemory,
     };
-    let file = match rule_file(alloc, &text) {
+    let file = match output(alloc, command, text) {
         Ok(file) => file,
         Err(outcome) => return outcome,
     };
@@ -86,22 +86,23 @@ pub fn chp_main<S: Shelf, K: Sink, W: Sink>(
     out: &mut K,
     say: &mut W,
 ) -> Status
-    ensures usage { result ≡ Status.Usage → file_to_compile words.now ≡ None }
-    ensures formless { file_to_compile words.now ≡ None → (result ≡ Status.Usage) ⊎ (result ≡ Status.NoMemory) }
-    ensures done { result ≡ Status.Done → S.tells shelf.old ≡ true → Compiled (S.holds shelf.old (name_in (file_to_compile words.now)))
+    ensures usage { result ≡ Status.Usage → asked_by words.now ≡ None }
+    ensures formless { asked_by words.now ≡ None → (result ≡ Status.Usage) ⊎ (result ≡ Status.NoMemory) }
+    ensures done { result ≡ Status.Done → S.tells shelf.old ≡ true → Output (asked_by words.now) (S.holds shelf.old (name_of (asked_by words.now)))
         (λ file. K.tells out.old ≡ true → K.written out.new ≡ K.written out.old ++ file) }
-    ensures refused { result ≡ Status.RefusedText → S.tells shelf.old ≡ true → (fault : _) × Refused (S.holds shelf.old (name_in (file_to_compile words.now))) fault }
-    ensures read { result ≡ Status.Read → IsReadFault (S.faults shelf.old) (S.faults shelf.new) (S.tells shelf.old) (S.holds shelf.old (name_in (file_to_compile words.now))) }
+    ensures refused { result ≡ Status.RefusedText → S.tells shelf.old ≡ true → (fault : _) × RefusedBy (asked_by words.now) (S.holds shelf.old (name_of (asked_by words.now))) fault }
+    ensures bad_file { result ≡ Status.BadFile → S.tells shelf.old ≡ true → (fault : _) × (line : ℕ) × SpoiledBy (asked_by words.now) (S.holds shelf.old (name_of (asked_by words.now))) fault line }
+    ensures read { result ≡ Status.Read → IsReadFault (S.faults shelf.old) (S.faults shelf.new) (S.tells shelf.old) (S.holds shelf.old (name_of (asked_by words.now))) }
     ensures write { result ≡ Status.Write → Rose (K.faults out.old) (K.faults out.new) }
-    ensures part { result ≡ Status.Write → S.tells shelf.old ≡ true → Compiled (S.holds shelf.old (name_in (file_to_compile words.now)))
+    ensures part { result ≡ Status.Write → S.tells shelf.old ≡ true → Output (asked_by words.now) (S.holds shelf.old (name_of (asked_by words.now)))
         (λ file. K.tells out.old ≡ true → (n : ℕ) × (n ≤ length file) × (K.written out.new ≡ K.written out.old ++ take n file)) }
-    ensures too_large { result ≡ Status.TooLarge → S.tells shelf.old ≡ true → Overlong (S.holds shelf.old (name_in (file_to_compile words.now))) }
-    ensures not_built { result ≡ Status.NotBuilt → S.tells shelf.old ≡ true → Unbuilt (S.holds shelf.old (name_in (file_to_compile words.now))) }
+    ensures too_large { result ≡ Status.TooLarge → S.tells shelf.old ≡ true → Overlong (most_of (asked_by words.now)) (S.holds shelf.old (name_of (asked_by words.now))) }
+    ensures not_built { result ≡ Status.NotBuilt → S.tells shelf.old ≡ true → UnbuiltBy (asked_by words.now) (S.holds shelf.old (name_of (asked_by words.now))) }
     ensures silent { result ≢ Status.Done → result ≢ Status.Write → K.tells out.old ≡ true → K.written out.new ≡ K.written out.old }
-    ensures complete { S.tells shelf.old ≡ true → IsToCompile (S.holds shelf.old (name_in (file_to_compile words.now))) → file_to_compile words.now ≢ None
+    ensures complete { S.tells shelf.old ≡ true → (name : List ℕ) → asked_by words.now ≡ Some (compiles name) → IsToCompile (S.holds shelf.old name)
         → ¬ Rose (S.faults shelf.old) (S.faults shelf.new) → ¬ Rose (K.faults out.old) (K.faults out.new) → (result ≡ Status.Done) ⊎ (result ≡ Status.NoMemory) }
     ensures said { W.tells say.old ≡ true → ¬ Rose (W.faults say.old) (W.faults say.new) → (line : _)
-        × Says result (S.tells shelf.old) (S.holds shelf.old (name_in (file_to_compile words.now))) (name_in (file_to_compile words.now)) line
+        × Says result (asked_by words.now) (S.tells shelf.old) (S.holds shelf.old (name_of (asked_by words.now))) (name_of (asked_by words.now)) line
         × (W.written say.new ≡ W.written say.old ++ line) }
     ensures same { S.tells shelf.new ≡ S.tells shelf.old }
     ensures kept { S.holds shelf.new ≡ S.holds shelf.old }
@@ -109,9 +110,9 @@ pub fn chp_main<S: Shelf, K: Sink, W: Sink>(
     ensures out_faults { K.faults out.old ≤ K.faults out.new }
     ensures say_faults { W.faults say.old ≤ W.faults say.new }
 {
-    let name = match command_in(alloc, words) {
-        Ok(Some(Command::Compile { file })) => file,
-        Ok(Some(Command::Migrate { .. })) | Ok(None) => {
+    let command = match command_in(alloc, words) {
+        Ok(Some(command)) => command,
+        Ok(None) => {
             tell(say, &Outcome::Usage, "");
             return Status::Usage;
         }
@@ -120,7 +121,7 @@ pub fn chp_main<S: Shelf, K: Sink, W: Sink>(
             return Status::NoMemory;
         }
     };
-    let outcome = compile(alloc, name, shelf, out);
-    tell(say, &outcome, name);
+    let outcome = run(alloc, &command, shelf, out);
+    tell(say, &outcome, command.file());
     outcome.status()
 }

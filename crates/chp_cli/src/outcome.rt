@@ -5,6 +5,7 @@ ghost use Rattle.chp_cli.specs.Outcomes.{status_of};
 
 use crate::status::Status;
 use chp_base::Fault;
+use prs_file::NetFault;
 
 /// How a command ends, with what is told of it.
 #[derive(Clone, Copy, Debug)]
@@ -15,7 +16,10 @@ pub enum Outcome {
     Read,
     Write,
     NoMemory,
-    TooLong,
+    /// A file has more bytes than this limit.
+    TooLong(usize),
+    /// A rule file is refused at this line.
+    BadFile { fault: NetFault, line: u32 },
     NotBuilt,
 }
 
@@ -30,7 +34,8 @@ impl Outcome {
             Outcome::Read => Status::Read,
             Outcome::Write => Status::Write,
             Outcome::NoMemory => Status::NoMemory,
-            Outcome::TooLong => Status::TooLarge,
+            Outcome::TooLong(_) => Status::TooLarge,
+            Outcome::BadFile { .. } => Status::BadFile,
             Outcome::NotBuilt => Status::NotBuilt,
         }
     }

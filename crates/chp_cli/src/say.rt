@@ -5,12 +5,13 @@ ghost use Rattle.std.specs.Prelude.{◌≡◌, ◌≤◌, ◌++◌, true, OnOk, 
 ghost use Rattle.std.specs.List.{flat_map};
 ghost use Rattle.chp_base.specs.Faults.{number_of};
 ghost use Rattle.chp_edge.specs.Faults.{Rose};
-ghost use Rattle.chp_cli.specs.Outcomes.{line_of, refused_line, fault_name, has_two_places};
+ghost use Rattle.chp_cli.specs.Outcomes.{line_of, refused_line, bad_file_line, too_long_line, fault_name, net_fault_name, has_two_places};
 
 use crate::outcome::Outcome;
 use chp_base::{Fault, FaultCode};
 use chp_edge::{Failed, Sink, write_all};
 use itoa::Buffer;
+use prs_file::NetFault;
 
 /// Puts the pieces one behind the other, up to the first fault.
 fn put_pieces<W: Sink>(say: &mut W, pieces: &[&str]) -> Result<(), Failed>
@@ -122,6 +123,51 @@ fn say_refusal<W: Sink>(say: &mut W, fault: &Fault)
     }
 }
 
+/// The name of the cause for which a rule file is refused.
+fn name_of_net_fault(fault: NetFault) -> &'static str
+    ensures { result.now ≡ net_fault_name fault }
+{
+    match fault {
+        NetFault::BadLine => "BadLine",
+        NetFault::UnknownNode => "UnknownNode",
+        NetFault::DoubleRule => "DoubleRule",
+        NetFault::DrivenWire => "DrivenWire",
+        NetFault::TooMany => "TooMany",
+        NetFault::BadVersion => "BadVersion",
+        NetFault::OutOfOrder => "OutOfOrder",
+        NetFault::DoubleName => "DoubleName",
+        NetFault::BadFirst => "BadFirst",
+    }
+}
+
+/// Says the line of a rule file that is refused.
+fn say_bad_file<W: Sink>(say: &mut W, fault: NetFault, line: u32)
+    ensures faults { W.faults say.old ≤ W.faults say.new }
+    ensures same { W.tells say.new ≡ W.tells say.old }
+    ensures said { W.tells say.old ≡ true → ¬ Rose (W.faults say.old) (W.faults say.new) → W.written say.new ≡ W.written say.old ++ bad_file_line fault line }
+{
+    let mut number = Buffer::new();
+    let mut place = Buffer::new();
+    let number = number.format(fault.number());
+    let name = name_of_net_fault(fault);
+    let place = place.format(line);
+    say_pieces(
+        say,
+        &["chp: 8 ", number, " ", name, " at line ", place, "\n"],
+    );
+}
+
+/// Says the line of a file with more bytes than it may have.
+fn say_too_long<W: Sink>(say: &mut W, name: &str, limit: usize)
+    ensures faults { W.faults say.old ≤ W.faults say.new }
+    ensures same { W.tells say.new ≡ W.tells say.old }
+    ensures said { W.tells say.old ≡ true → ¬ Rose (W.faults say.old) (W.faults say.new) → W.written say.new ≡ W.written say.old ++ too_long_line name.now limit }
+{
+    let mut most = Buffer::new();
+    let most = most.format(limit);
+    say_pieces(say, &["chp: 7 bytes ", name, " over ", most, "\n"]);
+}
+
 /// Says the line of the outcome of a command on the file of this name.
 pub fn tell<W: Sink>(say: &mut W, outcome: &Outcome, name: &str)
     ensures faults { W.faults say.old ≤ W.faults say.new }
@@ -135,7 +181,8 @@ pub fn tell<W: Sink>(say: &mut W, outcome: &Outcome, name: &str)
         Outcome::Read => say_pieces(say, &["chp: 3 read ", name, "\n"]),
         Outcome::Write => say_pieces(say, &["chp: 4 write\n"]),
         Outcome::NoMemory => say_pieces(say, &["chp: 6 no memory\n"]),
-        Outcome::TooLong => say_pieces(say, &["chp: 7 bytes ", name, " over 262144\n"]),
+        Outcome::TooLong(limit) => say_too_long(say, name, *limit),
+        Outcome::BadFile { fault, line } => say_bad_file(say, *fault, *line),
         Outcome::NotBuilt => say_pieces(say, &["chp: 19 not built\n"]),
     }
 }

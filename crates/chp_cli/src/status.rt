@@ -20,6 +20,8 @@ pub enum Status {
     NoMemory,
     /// A file has more bytes than it may have.
     TooLarge,
+    /// A rule file isn't in its grammar or limits, or can't be migrated.
+    BadFile,
     /// The program isn't compiled yet.
     NotBuilt,
 }
@@ -37,6 +39,7 @@ impl Status {
             Status::Write => 4,
             Status::NoMemory => 6,
             Status::TooLarge => 7,
+            Status::BadFile => 8,
             Status::NotBuilt => 19,
         }
     }

@@ -7,7 +7,7 @@ use std::alloc::Global;
 use std::test::Fail;
 
 /// The rule file of `begin skip end`.
-const NOTHING: &[u8] = b"prs 1
+pub const NOTHING: &[u8] = b"prs 1
 node go 0
 node done 0
 node n2 0

@@ -4,6 +4,8 @@
 #[cfg(test)]
 mod compile;
 #[cfg(test)]
+mod migrate;
+#[cfg(test)]
 mod printer;
 #[cfg(test)]
 mod round_trip;

@@ -1,11 +1,11 @@
 //! Rule files and readers of two small nets.
 
-ghost use Rattle.std.specs.Prelude.{◌≡◌, ◌∷◌, [], length, codes, None, IfOk, IfSome};
+ghost use Rattle.std.specs.Prelude.{◌≡◌, ◌≤◌, ◌∷◌, [], length, codes, None, IfOk, IfSome};
 
 use crate::by_hand::{Line, names_of, rules_by};
 use chp_base::{Channel, Kind, name_of};
 use prs_core::{Literal, Net, Rails, Wires, fan_of};
-use prs_file::print_net;
+use prs_file::{print_net, read_net};
 use reset_net::with_reset;
 use std::alloc::{AllocError, Global};
 use std::test::Fail;
@@ -243,6 +243,16 @@ fn send_net(alloc: Global) -> Result<Option<Net>, AllocError>
     Ok(Some(Net::new(names, first, rules, channels)))
 }
 
+/// The text of the net that the text spells.
+fn read_back(alloc: Global, text: &[u8]) -> Result<Vec<u8>, Fail>
+    requires { length text.now ≤ 65536 }
+{
+    match read_net(alloc, text) {
+        Ok(net) => Ok(print_net(alloc, &net)?),
+        Err(_) => Err("no net".into()),
+    }
+}
+
 #[test]
 fn skip_file(rt: HostRuntime) -> Result<(), Fail> {
     let net = skip_net(rt.alloc())?.ok_or("no net")?;
@@ -250,6 +260,10 @@ fn skip_file(rt: HostRuntime) -> Result<(), Fail> {
     let expected =
         b"prs 1\nnode go 0\nnode done 0\nnode n2 0\nnode n3 0\nnode n4 0\nrule n3 & ~n4 -> done+\nrule ~n3 -> done-\nrule go & ~n3 -> n2+\nrule n3 -> n2-\nrule n4 -> n3+\nrule ~go -> n3-\nrule n2 -> n4+\nrule ~n2 -> n4-\n";
     assert_eq!(rt; text.as_slice(), expected.as_slice());
+    assert_eq!(rt;
+        read_back(rt.alloc(), expected)?.as_slice(),
+        expected.as_slice()
+    );
     Ok(())
 }
 
@@ -260,6 +274,10 @@ fn send_file(rt: HostRuntime) -> Result<(), Fail> {
     let expected =
         b"prs 1\nnode go 0\nnode done 0\nnode X.0.t 0\nnode X.0.f 0\nnode X.a 0\nnode n5 0\nnode n6 0\nnode n7 0\nnode n8 0\nnode n9 0\nout X 1\nrule n6 & ~n7 -> done+\nrule ~n6 -> done-\nrule n8 -> X.0.t+\nrule ~n8 -> X.0.t-\nrule n9 -> X.0.f+\nrule ~n9 -> X.0.f-\nrule go & ~n6 -> n5+\nrule n6 -> n5-\nrule n7 -> n6+\nrule ~go -> n6-\nrule n5 & X.a -> n7+\nrule ~X.a -> n7-\nrule n5 -> n8+\nrule ~n5 -> n8-\n";
     assert_eq!(rt; text.as_slice(), expected.as_slice());
+    assert_eq!(rt;
+        read_back(rt.alloc(), expected)?.as_slice(),
+        expected.as_slice()
+    );
     let fan = fan_of(rt.alloc(), &net)?;
     assert_eq!(rt; fan.readers(4), [7].as_slice());
     assert_eq!(rt; fan.readers(6), [1, 5].as_slice());
@@ -273,5 +291,9 @@ fn reset_file(rt: HostRuntime) -> Result<(), Fail> {
     let expected =
         b"prs 2\nnode go 0\nnode done 0\nnode n2 0\nnode n3 0\nnode n4 0\nnode reset 1\nrule n3 & ~n4 & ~reset -> done+\nrule ~n3 | reset -> done-\nrule go & ~n3 & ~reset -> n2+\nrule n3 | reset -> n2-\nrule n4 & ~reset -> n3+\nrule ~go | reset -> n3-\nrule n2 & ~reset -> n4+\nrule ~n2 | reset -> n4-\n";
     assert_eq!(rt; text.as_slice(), expected.as_slice());
+    assert_eq!(rt;
+        read_back(rt.alloc(), expected)?.as_slice(),
+        expected.as_slice()
+    );
     Ok(())
 }

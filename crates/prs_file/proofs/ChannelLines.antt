@@ -12,12 +12,12 @@ use Rattle.prs_file.specs.Spelling.{channel_spelling, kind_spelling}
 use Rattle.prs_file.specs.Reading.{IsChannelForm}
 use Rattle.prs_file.specs.Channels.{kind_by_letter, line_of, word_behind}
 
-kind_is : (k : Kind) (name : List ℕ) (width : ℕ) → kind_by_letter (line_of k name width) ≡ k
+pub kind_is : (k : Kind) (name : List ℕ) (width : ℕ) → kind_by_letter (line_of k name width) ≡ k
 kind_is In name width = refl
 kind_is Out name width = refl
 kind_is Chan name width = refl
 
-behind_kind : (k : Kind) (name : List ℕ) (width : ℕ) → drop (length (kind_spelling k)) (line_of k name width) ≡ name ++ (32 ∷ (decimal width ++ (10 ∷ [])))
+pub behind_kind : (k : Kind) (name : List ℕ) (width : ℕ) → drop (length (kind_spelling k)) (line_of k name width) ≡ name ++ (32 ∷ (decimal width ++ (10 ∷ [])))
 behind_kind In name width = refl
 behind_kind Out name width = refl
 behind_kind Chan name width = refl
@@ -35,7 +35,7 @@ word_length (b ∷ bs) rest parts =
     let both = and_parts (word_part b) (list_all word_part bs) parts in
     rw (no_space b both.0) (omega (arith, word_length bs rest both.1))
 
-word_is : (k : Kind) (name : List ℕ) (width : ℕ) → list_all word_part name ≡ true → word_behind k (line_of k name width) ≡ name
+pub word_is : (k : Kind) (name : List ℕ) (width : ℕ) → list_all word_part name ≡ true → word_behind k (line_of k name width) ≡ name
 word_is k name width parts =
     let rest = decimal width ++ (10 ∷ []) in
     rw (behind_kind k name width, word_length name rest parts) (take_at name (32 ∷ rest) (length name) refl)

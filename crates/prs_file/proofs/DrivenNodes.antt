@@ -145,7 +145,7 @@ mark_more old now nodes i node n within is below so_far =
     set_true now node n below ∙ ap (λ b. p node || b) so_far ∙ swap_or (p node) (get_or old n false) (list_any p (take i nodes)) ∙ ap (λ b. get_or old n false || b) (sym more)
 
 -- the nodes of the file itself
-name_at_is : (names : List (List ℕ)) (m n : ℕ) (name : List ℕ) → Distinct names → m < length names → n < length names → get_or names m [] ≡ name → bytes_eq (get_or names n []) name ≡ (m == n)
+pub name_at_is : (names : List (List ℕ)) (m n : ℕ) (name : List ℕ) → Distinct names → m < length names → n < length names → get_or names m [] ≡ name → bytes_eq (get_or names n []) name ≡ (m == n)
 name_at_is names m n name all below within is = by_order (cases_lt m n) (cases_lt n m)
   where
     other : m ≢ n → bytes_eq (get_or names n []) name ≡ (m == n)

@@ -133,10 +133,10 @@ done_good (suc zero) some most = refl
 done_good (suc (suc zero)) some most = refl
 done_good (suc (suc (suc n))) some most = absurd (omega arith)
 
-go_name : IsNodeName (codes "go")
+pub go_name : IsNodeName (codes "go")
 go_name = record { short = omega arith; first = refl; parts = refl }
 
-done_name : IsNodeName (codes "done")
+pub done_name : IsNodeName (codes "done")
 done_name = record { short = omega arith; first = refl; parts = refl }
 
 pub go_taken : (text rest : List ℕ) (v : ℕ) → 1 ≤ v → v ≤ 2 → IsTaken text (head v ∷ []) rest → bytes_eq (first_line rest) (codes "node go 0\n") ≡ true → IsTaken text (head v ∷ go_line ∷ []) (behind_line rest)

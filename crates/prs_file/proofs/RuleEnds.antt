@@ -15,7 +15,7 @@ direction_length false = refl
 end_length : (name : List ℕ) (up : Bool) → length (end_spelling name up) ≡ length name + 6
 end_length name up = omega (arith, length-append name (direction up ++ []), ap length (append-nil (direction up)), direction_length up)
 
-end_word : (text name : List ℕ) (up : Bool) → text ≡ end_spelling name up → take (length text - 2 - 4) (drop 4 text) ≡ name
+pub end_word : (text name : List ℕ) (up : Bool) → text ≡ end_spelling name up → take (length text - 2 - 4) (drop 4 text) ≡ name
 end_word text name up e =
     let count : length text - 2 - 4 ≡ length name = omega (arith, ap length e, end_length name up) in
     ap (λ n. take n (drop 4 text)) count ∙ ap (λ l. take (length name) (drop 4 l)) e ∙ take_at name (direction up ++ []) (length name) refl

@@ -24,7 +24,7 @@ more_is l more n u =
     append_assoc (led_spelling l) (leds_spelling more) (end_spelling n u) ∙ ap (λ xs. xs ++ rule_line_of more n u) (led_is l) ∙ append_assoc (lead_spelling l.lead) (body l) (rule_line_of more n u)
 
 -- behind a literal stands a space
-starts_space : (more : List Led) (n : List ℕ) (u : Bool) → All (λ (k : Led). k.lead ≢ Rule) more → (tail : List ℕ) × (rule_line_of more n u ≡ 32 ∷ tail)
+pub starts_space : (more : List Led) (n : List ℕ) (u : Bool) → All (λ (k : Led). k.lead ≢ Rule) more → (tail : List ℕ) × (rule_line_of more n u ≡ 32 ∷ tail)
 starts_space [] n u further = (_, refl)
 starts_space (k ∷ more) n u further = by_lead k.lead refl
   where
@@ -58,15 +58,15 @@ unsigned_is true [] tail begins = absurd (cc begins)
 unsigned_is true (b ∷ bs) tail begins = rw (no_tilde b begins) refl
 unsigned_is false name tail begins = refl
 
-high_is : (high : Bool) (name tail : List ℕ) → begins_with_letter name ≡ true → is_high ((sign_spelling high ++ name) ++ tail) ≡ high
+pub high_is : (high : Bool) (name tail : List ℕ) → begins_with_letter name ≡ true → is_high ((sign_spelling high ++ name) ++ tail) ≡ high
 high_is true [] tail begins = absurd (cc begins)
 high_is true (b ∷ bs) tail begins = rw (no_tilde b begins) refl
 high_is false name tail begins = refl
 
-word_is : (high : Bool) (name tail : List ℕ) → IsNodeName name → word_in ((sign_spelling high ++ name) ++ (32 ∷ tail)) ≡ name
+pub word_is : (high : Bool) (name tail : List ℕ) → IsNodeName name → word_in ((sign_spelling high ++ name) ++ (32 ∷ tail)) ≡ name
 word_is high name tail is = rw (unsigned_is high name (32 ∷ tail) is.first, word_length name tail is.parts) (take_at name (32 ∷ tail) (length name) refl)
 
-rest_is : (high : Bool) (name tail : List ℕ) → IsNodeName name → behind_word ((sign_spelling high ++ name) ++ (32 ∷ tail)) ≡ 32 ∷ tail
+pub rest_is : (high : Bool) (name tail : List ℕ) → IsNodeName name → behind_word ((sign_spelling high ++ name) ++ (32 ∷ tail)) ≡ 32 ∷ tail
 rest_is high name tail is = rw (unsigned_is high name (32 ∷ tail) is.first, word_length name tail is.parts) (drop_at name (32 ∷ tail) (length name) refl)
 
 -- what each rule that the line is has left behind the literals so far
@@ -81,7 +81,7 @@ pub record IsRead (line : List ℕ) (leds : List Led) (rest : List ℕ) : Type 0
   pub names : All (λ (l : Led). IsNodeName l.name) leds
   pub only : (ls : List Led) (n : List ℕ) (u : Bool) → IsRuleForm ls n → line ≡ rule_line_of ls n u → Left leds rest ls n u
 
-same_led : (l k : Led) → l.lead ≡ k.lead → l.high ≡ k.high → l.name ≡ k.name → l ≡ k
+pub same_led : (l k : Led) → l.lead ≡ k.lead → l.high ≡ k.high → l.name ≡ k.name → l ≡ k
 same_led l k a b c = λ i. record { lead = a i; high = b i; name = c i }
 
 -- a literal at the front of a text is the one that the text was made of
@@ -144,7 +144,7 @@ read_first line text rest l begins lead high name named behind = record {
 second : List ℕ → ℕ
 second xs = get_or xs 1 0
 
-same_sign : (p q : Lead) (x y : List ℕ) → p ≢ Rule → q ≢ Rule → lead_spelling p ++ x ≡ lead_spelling q ++ y → (p ≡ q) × (x ≡ y)
+pub same_sign : (p q : Lead) (x y : List ℕ) → p ≢ Rule → q ≢ Rule → lead_spelling p ++ x ≡ lead_spelling q ++ y → (p ≡ q) × (x ≡ y)
 same_sign Rule q x y a b e = absurd (a refl)
 same_sign And Rule x y a b e = absurd (b refl)
 same_sign Or Rule x y a b e = absurd (b refl)
@@ -153,7 +153,7 @@ same_sign Or Or x y a b e = (refl, ap (drop 3) e)
 same_sign And Or x y a b e = let f : 38 ≡ 124 = ap (λ (xs : List ℕ). get_or xs 1 0) e in absurd (omega (arith, f))
 same_sign Or And x y a b e = let f : 124 ≡ 38 = ap (λ (xs : List ℕ). get_or xs 1 0) e in absurd (omega (arith, f))
 
-sign_no_end : (p : Lead) (x n : List ℕ) (u : Bool) → p ≢ Rule → lead_spelling p ++ x ≡ end_spelling n u → ⊥
+pub sign_no_end : (p : Lead) (x n : List ℕ) (u : Bool) → p ≢ Rule → lead_spelling p ++ x ≡ end_spelling n u → ⊥
 sign_no_end Rule x n u a e = a refl
 sign_no_end And x n u a e = let f : 38 ≡ 45 = ap (λ (xs : List ℕ). get_or xs 1 0) e in omega (arith, f)
 sign_no_end Or x n u a e = let f : 124 ≡ 45 = ap (λ (xs : List ℕ). get_or xs 1 0) e in omega (arith, f)

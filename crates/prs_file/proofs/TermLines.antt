@@ -157,12 +157,17 @@ leads_of : (t : List Signed) (ts : List (List Signed)) → 0 < length t → Lead
 leads_of [] ts some = absurd (omega arith)
 leads_of (s ∷ ss) ts some = (refl, All-append Further (term_leds And ss) (leds_by Or ts) (term_further And ss and_no_rule) (terms_further ts))
 
+pub line_told : (t : List Signed) (ts : List (List Signed)) (name : List ℕ) (up : Bool) → All IsTermForm (t ∷ ts) → form_spelling (rule (t ∷ ts) name up) ≡ rule_line_of (leds_by Rule (t ∷ ts)) name up
+line_told t ts name up all = sym (whole_line (guard_text (t ∷ ts)) name up) ∙ ap (λ x. x ++ end_spelling name up) (sym (guard_spelled t ts all))
+
+pub leds_form : (t : List Signed) (ts : List (List Signed)) (name : List ℕ) (up : Bool) → IsForm (rule (t ∷ ts) name up) → IsRuleForm (leds_by Rule (t ∷ ts)) name
+leds_form t ts name up form = record {
+  leads = leads_of t ts (All-head IsTermForm t ts form.1).some;
+  names = terms_named Rule (t ∷ ts) form.1;
+  node = form.2;
+}
+
 pub no_rule : (line : List ℕ) → ((leds : List Led) (name : List ℕ) (up : Bool) → IsRuleForm leds name → line ≡ rule_line_of leds name up → ⊥) → (g : List (List Signed)) (name : List ℕ) (up : Bool) → IsForm (rule g name up) → line ≡ form_spelling (rule g name up) → ⊥
 no_rule line none [] name up form says = absurd (omega (arith, form.0))
 no_rule line none (t ∷ ts) name up form says =
-    none (leds_by Rule (t ∷ ts)) name up (record {
-      leads = leads_of t ts (All-head IsTermForm t ts form.1).some;
-      names = terms_named Rule (t ∷ ts) form.1;
-      node = form.2;
-    })
-    (says ∙ sym (whole_line (guard_text (t ∷ ts)) name up) ∙ ap (λ x. x ++ end_spelling name up) (sym (guard_spelled t ts form.1)))
+    none (leds_by Rule (t ∷ ts)) name up (leds_form t ts name up form) (says ∙ line_told t ts name up form.1)

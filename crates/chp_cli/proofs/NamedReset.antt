@@ -1,0 +1,22 @@
+-- Where no node is named reset.
+use Rattle.std.proofs.Common.{◌≡◌, ◌≢◌, ℕ, ◌<◌, ◌≤◌, Bool, true, false, cond, List, length, get_or, Option, None, Some, inl, inr, refl, ap, arith}
+use Rattle.std.specs.Prelude.{◌⊎◌, All, bytes_eq, codes, is_some, position}
+use Rattle.std.specs.List.{position_or_len}
+use Rattle.std.specs.Cmp.Lexicographic.{bytes_decides}
+use Rattle.std.proofs.lemmas.Bool.{cases_lt, lt-ltb}
+use Rattle.std.proofs.lemmas.List.Sums.{fails_before_first}
+use Rattle.chp_cli.specs.Migrations.{named_reset}
+
+abbrev is_reset : List ℕ → Bool
+is_reset name = bytes_eq name (codes "reset")
+
+pub free_names : (names : List (List ℕ)) → named_reset names ≡ None → All (λ name. name ≢ codes "reset") names
+free_names names none = λ k d within is. by_order k d within is (cases_lt (position_or_len is_reset names) (length names))
+  where
+    by_order : (k : ℕ) (d : List ℕ) → k < length names → get_or names k d ≡ codes "reset" → (position_or_len is_reset names < length names) ⊎ (length names ≤ position_or_len is_reset names) → ⊥
+    by_order k d within is (inl less) = absurd (cc (none, ap (λ b. cond b (Some (position_or_len is_reset names)) None) (lt-ltb _ _ less)))
+    by_order k d within is (inr past) = absurd (cc (fails_before_first is_reset names k d (omega arith), (bytes_decides _ (codes "reset")).1 is))
+
+pub none_is : (o : Option ℕ) → is_some o ≡ false → o ≡ None
+none_is None is = refl
+none_is (Some k) is = absurd (cc is)
