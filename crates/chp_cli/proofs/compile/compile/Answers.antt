@@ -1,5 +1,5 @@
 use Rattle.chp_cli.proofs.Handed.{handed}
-use Rattle.chp_cli.proofs.main_call.compile.Goals as goal
+use Rattle.chp_cli.proofs.compile.compile.Goals as goal
 
 pub returns-clause-part : goal.returns-clause-part
 returns-clause-part g c =
