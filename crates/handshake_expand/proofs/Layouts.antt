@@ -1,12 +1,12 @@
 -- Where the nodes of some programs stand, by hand from the table of own nodes.
-use Rattle.std.proofs.Common.{◌≡◌, ℕ, true, false, List, [], ◌∷◌, refl}
+use Rattle.std.proofs.Common.{◌≡◌, ℕ, true, false, List, [], ◌∷◌, ◌++◌, refl}
+use Rattle.std.specs.Prelude.{codes, decimal}
 use Rattle.chp_base.specs.declared.span.Span.{Span}
-use Rattle.chp_base.specs.declared.channel.Channel.{Channel}
 use Rattle.chp_base.specs.declared.channel.Kind.TheVariants.{In, Out}
 use Rattle.chp_syntax.specs.declared.tree.Op.TheVariants as op
-use Rattle.width_check.specs.declared.typed.Var.{Var}
 use Rattle.width_check.specs.Processes.{Formula, constant, reading, chained, compared, no_operations, and_operation, Process, skipping, assigning, sending, receiving, in_turn, side_by_side, choosing, repeating, no_members, and_member, Choices, no_choices, and_choice, TypedProgram}
 use Rattle.handshake_expand.specs.Layout.{channel_from, var_from, root_request, root_latch, body_from, size_of}
+use Rattle.handshake_expand.specs.Named.{node_names}
 use Rattle.handshake_expand.specs.Answers.{answer_of, guards_from, bodies_from, select_own, again_own}
 
 abbrev at : Span
@@ -104,3 +104,25 @@ select_answer = refl
 
 loop_answer : answer_of p (repeating (choosing true bits)) 28 ≡ 28
 loop_answer = refl
+
+-- the names of the nodes of out X : 1; var v : 2; begin skip end
+abbrev named : TypedProgram
+named = record {
+  channels = record { name = codes "X"; kind = Out; width = 1 } ∷ [];
+  vars = record { name = codes "v"; width = 2; first = 0 } ∷ [];
+  body = skipping;
+}
+
+abbrev numbered : ℕ → List ℕ
+numbered node = codes "n" ++ decimal node
+
+abbrev of_bit : List ℕ → ℕ → List ℕ → List ℕ
+of_bit name bit tail = name ++ (codes "." ++ (decimal bit ++ tail))
+
+names : node_names named ≡
+    codes "go" ∷ codes "done"
+    ∷ of_bit (codes "X") 0 (codes ".t") ∷ of_bit (codes "X") 0 (codes ".f") ∷ codes "X.a"
+    ∷ of_bit (codes "v") 0 (codes ".t") ∷ of_bit (codes "v") 0 (codes ".f") ∷ of_bit (codes "v") 0 (codes ".wt") ∷ of_bit (codes "v") 0 (codes ".wf") ∷ of_bit (codes "v") 0 (codes ".wa")
+    ∷ of_bit (codes "v") 1 (codes ".t") ∷ of_bit (codes "v") 1 (codes ".f") ∷ of_bit (codes "v") 1 (codes ".wt") ∷ of_bit (codes "v") 1 (codes ".wf") ∷ of_bit (codes "v") 1 (codes ".wa")
+    ∷ numbered 15 ∷ numbered 16 ∷ numbered 17 ∷ numbered 18 ∷ []
+names = refl
