@@ -17,7 +17,7 @@ use Rattle.chp_cli.specs.declared.outcome.Outcome.TheVariants as outcome
 use Rattle.prs_core.specs.Nets.{NetValue, IsNet}
 use Rattle.prs_file.specs.declared.fault.NetFault.{NetFault}
 use Rattle.chp_cli.specs.Commands.{Asked, compiles, migrates}
-use Rattle.chp_cli.specs.Migrations.{resettable, named_reset, BadNet}
+use Rattle.chp_cli.specs.Migrations.{resettable, named_reset, IsFileOf, BadNet}
 use Rattle.chp_cli.specs.Outcomes.{refused_line, bad_file_line, line_of}
 
 -- the most bytes of a program text
@@ -84,8 +84,7 @@ pub record Migrated (held : Option (List ℕ)) (P : List ℕ → Type 0) : Type 
   pub file : List ℕ
   pub is : held ≡ Some text
   pub short : length text ≤ most_of_net
-  pub kept : IsNet net
-  pub spelled : NetText text net
+  pub read : IsFileOf text net
   pub free : net.reset ≡ None → named_reset net.names ≡ None
   pub spells : NetText file (resettable net.reset net)
   pub put : P file
@@ -96,6 +95,16 @@ pub record Spoiled (held : Option (List ℕ)) (fault : NetFault) (line : ℕ) : 
   pub is : held ≡ Some text
   pub short : length text ≤ most_of_net
   pub cause : BadNet text fault line
+
+-- what is to be migrated: a rule file within the limit whose net has a reset node, or no node of its name
+pub record IsToMigrate (held : Option (List ℕ)) : Type 0 where
+  pub text : List ℕ
+  pub net : NetValue
+  pub is : held ≡ Some text
+  pub short : length text ≤ most_of_net
+  pub kept : IsNet net
+  pub spelled : NetText text net
+  pub free : net.reset ≡ None → named_reset net.names ≡ None
 
 -- the text has more bytes than that
 pub record Overlong (limit : ℕ) (held : Option (List ℕ)) : Type 0 where

@@ -2,8 +2,8 @@
 
 ghost use Rattle.std.specs.Prelude.{◌≡◌, ◌≢◌, ◌≤◌, ◌++◌, ℕ, List, None, Some, take, length, true, IfOk, IfErr, ◌⊎◌};
 ghost use Rattle.chp_edge.specs.Faults.{Rose, IsReadFault};
-ghost use Rattle.chp_cli.specs.Commands.{Asked, asked, asked_by, compiles, name_of};
-ghost use Rattle.chp_cli.specs.Ends.{Output, RefusedBy, UnbuiltBy, SpoiledBy, Overlong, WhenRefused, WhenSpoiled, WhenTooLong, Says, EndsBy, IsToCompile, most_of};
+ghost use Rattle.chp_cli.specs.Commands.{asked, asked_by, compiles, migrates, name_of};
+ghost use Rattle.chp_cli.specs.Ends.{Output, RefusedBy, UnbuiltBy, SpoiledBy, Overlong, WhenRefused, WhenSpoiled, WhenTooLong, Says, EndsBy, IsToCompile, IsToMigrate, most_of};
 
 use crate::command::{Command, command_in};
 use crate::compile::rule_file;
@@ -75,7 +75,8 @@ fn run<S: Shelf, K: Sink>(alloc: Global, command: &Command, shelf: &mut S, out: 
 /// Runs the command that the words ask for: reads its file from the shelf, writes its output, and says one line where
 /// it doesn't end well. Faults of `say` change neither the status nor the output.
 ///
-/// Where a program that is compiled stands in the named file, and no device fails, the status is `Done` or `NoMemory`.
+/// Where a program that is compiled, or a rule file that can be migrated, stands in the named file, and no device
+/// fails, the status is `Done` or `NoMemory`.
 ///
 /// With `Done` the whole output was written, with `Write` a front of it, and with every other status nothing. Want of
 /// memory may come at any point, and is merged with no other answer.
@@ -100,6 +101,8 @@ pub fn chp_main<S: Shelf, K: Sink, W: Sink>(
     ensures not_built { result ≡ Status.NotBuilt → S.tells shelf.old ≡ true → UnbuiltBy (asked_by words.now) (S.holds shelf.old (name_of (asked_by words.now))) }
     ensures silent { result ≢ Status.Done → result ≢ Status.Write → K.tells out.old ≡ true → K.written out.new ≡ K.written out.old }
     ensures complete { S.tells shelf.old ≡ true → (name : List ℕ) → asked_by words.now ≡ Some (compiles name) → IsToCompile (S.holds shelf.old name)
+        → ¬ Rose (S.faults shelf.old) (S.faults shelf.new) → ¬ Rose (K.faults out.old) (K.faults out.new) → (result ≡ Status.Done) ⊎ (result ≡ Status.NoMemory) }
+    ensures migrates_all { S.tells shelf.old ≡ true → (name : List ℕ) → asked_by words.now ≡ Some (migrates name) → IsToMigrate (S.holds shelf.old name)
         → ¬ Rose (S.faults shelf.old) (S.faults shelf.new) → ¬ Rose (K.faults out.old) (K.faults out.new) → (result ≡ Status.Done) ⊎ (result ≡ Status.NoMemory) }
     ensures said { W.tells say.old ≡ true → ¬ Rose (W.faults say.old) (W.faults say.new) → (line : _)
         × Says result (asked_by words.now) (S.tells shelf.old) (S.holds shelf.old (name_of (asked_by words.now))) (name_of (asked_by words.now)) line

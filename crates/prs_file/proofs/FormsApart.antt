@@ -86,10 +86,11 @@ same_body : (l k : Led) (ms ks : List Led) (n m : List ℕ) (u v : Bool) → All
 same_body l k ms ks n m u v f g a b e =
     let sl = starts_space ms n u f in
     let sk = starts_space ks m v g in
-    let both : body l ++ (32 ∷ sl.0) ≡ body k ++ (32 ∷ sk.0) = ap (λ t. body l ++ t) (sym sl.1) ∙ e ∙ ap (λ t. body k ++ t) sk.1 in
-    (sym (high_is l.high l.name (32 ∷ sl.0) a.first) ∙ ap is_high both ∙ high_is k.high k.name (32 ∷ sk.0) b.first,
-    sym (word_is l.high l.name sl.0 a) ∙ ap word_in both ∙ word_is k.high k.name sk.0 b,
-    sl.1 ∙ sym (rest_is l.high l.name sl.0 a) ∙ ap behind_word both ∙ rest_is k.high k.name sk.0 b ∙ sym sk.1)
+    let both : body l ++ (32 ∷ sl.0) ≡ body k ++ (32 ∷ sk.0) = ap (λ t. body l ++ t) (sym sl.1) ∙ e ∙ ap (λ t. body k ++ t) sk.1 in (
+      sym (high_is l.high l.name (32 ∷ sl.0) a.first) ∙ ap is_high both ∙ high_is k.high k.name (32 ∷ sk.0) b.first,
+      sym (word_is l.high l.name sl.0 a) ∙ ap word_in both ∙ word_is k.high k.name sk.0 b,
+      sl.1 ∙ sym (rest_is l.high l.name sl.0 a) ∙ ap behind_word both ∙ rest_is k.high k.name sk.0 b ∙ sym sk.1,
+    )
 
 same_rest : (ms ks : List Led) (n m : List ℕ) (u v : Bool) → All Further ms → All Further ks → All Named ms → All Named ks → rule_line_of ms n u ≡ rule_line_of ks m v → (ms ≡ ks) × (n ≡ m) × (u ≡ v)
 same_rest [] [] n m u v f g a b e = let ends = same_end n m u v e in (refl, ends.0, ends.1)

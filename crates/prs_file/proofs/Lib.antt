@@ -11,12 +11,14 @@ mod Names
 mod NetMade
 mod NetSpelled
 mod NetStands
+mod NetTaken
 mod NetsApart
 mod NodeLines
 mod NodesRead
 mod NotRefused
 mod Openings
 mod Pieces
+mod ReadOnce
 mod RuleEnds
 mod RuleFaults
 mod RuleLines

@@ -27,7 +27,7 @@ use Rattle.prs_file.proofs.Wirings.{place_found, numbers_within}
 
 -- the last node line
 
-last_form : (f : Form) (names : List (List ℕ)) (first : List Bool) → length first ≡ length names → 0 < length names → last_of (f ∷ node_forms names first) ≡ Some (node (get_or names (length names - 1) []) (get_or first (length names - 1) false))
+pub last_form : (f : Form) (names : List (List ℕ)) (first : List Bool) → length first ≡ length names → 0 < length names → last_of (f ∷ node_forms names first) ≡ Some (node (get_or names (length names - 1) []) (get_or first (length names - 1) false))
 last_form f [] first same some = absurd (omega arith)
 last_form f (n ∷ names) [] same some = absurd (omega arith)
 last_form f (n ∷ []) (v ∷ []) same some = refl

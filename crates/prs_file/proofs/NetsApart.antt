@@ -184,7 +184,7 @@ picked_in_net version names first ws r k up all ups downs within =
 
 -- numbers by names
 
-same_number : (names : List (List ℕ)) (i j : ℕ) → Distinct names → i < length names → j < length names → get_or names i [] ≡ get_or names j [] → i ≡ j
+pub same_number : (names : List (List ℕ)) (i j : ℕ) → Distinct names → i < length names → j < length names → get_or names i [] ≡ get_or names j [] → i ≡ j
 same_number names i j all within below e = by_order (cases_lt i j) (cases_lt j i)
   where
     by_order : (i < j) ⊎ (j ≤ i) → (j < i) ⊎ (i ≤ j) → i ≡ j
@@ -273,12 +273,12 @@ wires_of_net n (w ∷ ws) same all =
 
 -- the lines of a net say something
 
-node_lines : (names : List (List ℕ)) (first : List Bool) → All IsNodeName names → All IsForm (node_forms names first)
+pub node_lines : (names : List (List ℕ)) (first : List Bool) → All IsNodeName names → All IsForm (node_forms names first)
 node_lines [] first all = All-nil IsForm
 node_lines (n ∷ names) [] all = All-nil IsForm
 node_lines (n ∷ names) (v ∷ first) all = All-cons IsForm (node n v) (node_forms names first) (All-head IsNodeName n names all) (node_lines names first (All-tail IsNodeName n names all))
 
-channel_lines : (n : NetValue) (ws : List Wires) → All (IsChannel n) ws → All IsForm (map (λ (w : Wires). channel w.channel) ws)
+pub channel_lines : (n : NetValue) (ws : List Wires) → All (IsChannel n) ws → All IsForm (map (λ (w : Wires). channel w.channel) ws)
 channel_lines n [] all = All-nil IsForm
 channel_lines n (w ∷ ws) all =
     let is = All-head (IsChannel n) w ws all in
@@ -297,7 +297,7 @@ terms_ok names (t ∷ g) named below filled =
     (record { some = omega (arith, length-map t (signed_by names), All-head (λ (t : List Literal). 0 < length t) t g filled); names = term_named names t named (All-head P t g below) })
     (terms_ok names g named (All-tail P t g below) (All-tail (λ (t : List Literal). 0 < length t) t g filled))
 
-guard_line : (names : List (List ℕ)) (g : GuardValue) (k : ℕ) (up : Bool) → All IsNodeName names → k < length names → IsBelow (length names) g → IsFilled g → All IsForm (guard_forms names g k up)
+pub guard_line : (names : List (List ℕ)) (g : GuardValue) (k : ℕ) (up : Bool) → All IsNodeName names → k < length names → IsBelow (length names) g → IsFilled g → All IsForm (guard_forms names g k up)
 guard_line names [] k up named within below filled = All-nil IsForm
 guard_line names (t ∷ g) k up named within below filled =
     All-cons IsForm (rule (guard_named names (t ∷ g)) (get_or names k []) up) [] (omega arith, terms_ok names (t ∷ g) named below filled, All-get_or IsNodeName names k [] within named) (All-nil IsForm)
@@ -318,12 +318,16 @@ version_known (Some k) = (omega arith, omega arith)
 abbrev pub all_forms : NetValue → List Form
 all_forms n = net_forms (version_of n.reset) n.names n.first n.channels (rules_of n)
 
+pub rules_say : (n : NetValue) → IsNet n → All IsForm (rule_forms n.names (rules_of n))
+rules_say n is =
+    let count = is.named in
+    rule_lines n.names (rules_of n) (length n.names) is.names (omega arith) (is.ups ∙ sym count) (is.downs ∙ sym count) (subst (λ c. All (IsBelow c) n.up) (sym count) is.up_within) (subst (λ c. All (IsBelow c) n.down) (sym count) is.down_within) is.up_filled is.down_filled
+
 pub lines_say : (n : NetValue) → IsNet n → All IsForm (all_forms n)
 lines_say n is =
-    let count = is.named in
     All-append IsForm (channels_told (version_of n.reset) n.names n.first n.channels) (rule_forms n.names (rules_of n))
     (All-cons IsForm (head (version_of n.reset)) (node_forms n.names n.first ++ map (λ (w : Wires). channel w.channel) n.channels) (version_known n.reset) (All-append IsForm (node_forms n.names n.first) (map (λ (w : Wires). channel w.channel) n.channels) (node_lines n.names n.first is.names) (channel_lines n n.channels is.channels)))
-    (rule_lines n.names (rules_of n) (length n.names) is.names (omega arith) (is.ups ∙ sym count) (is.downs ∙ sym count) (subst (λ c. All (IsBelow c) n.up) (sym count) is.up_within) (subst (λ c. All (IsBelow c) n.down) (sym count) is.down_within) is.up_filled is.down_filled)
+    (rules_say n is)
 
 reset_back : (n : NetValue) (o : Option ℕ) → IsReset n o → reset_by (version_of o == 2) n.first ≡ o
 reset_back n None is = refl

@@ -49,6 +49,13 @@ begins (rule g n u) stands = absurd (cc stands)
 version_in' : (f : Form) (v : ℕ) → f ≡ head v → IsForm f → (1 ≤ v) × (v ≤ 2)
 version_in' f v is form = subst IsForm is form
 
+-- a line that says something and may stand is none of an unknown version
+no_bad_form : (before : List Form) (line : List ℕ) (h : Form) → BadVersionAt before line → Says line h → may_stand before h ≡ true → ⊥
+no_bad_form before line h at says stands =
+    let first = begins h (ap (λ s. may_stand s h) (sym at.0) ∙ stands) in
+    let known = version_in' h first.0 first.1 says.form in
+    no_bad_head first.0 at.1 known.0 known.1 (subst (λ l. IsBadVersion l at.1) (says.spelled ∙ ap form_spelling first.1) at.2)
+
 good_line : (start : List Form) (f : Form) (line : List ℕ) (fault : NetFault) → IsForm f → may_stand start f ≡ true → form_fault start f ≡ None → line ≡ form_spelling f → LineFault start line fault → ⊥
 good_line start f line fault form stands good says (bad_version at) =
     let first = begins f (ap (λ s. may_stand s f) (sym at.0) ∙ stands) in
@@ -82,3 +89,53 @@ no_refusal start (f ∷ F) (g ∷ G) rest fault all other e ends refused =
 pub not_refused : (text : List ℕ) (F : List Form) (fault : NetFault) (line : ℕ) → IsTaken text F [] → may_end F ≡ true → IsRefused text fault line → ⊥
 not_refused text F fault line taken ends refused =
     no_refusal [] F refused.before refused.rest fault taken.stand refused.taken.stand (sym (append-nil (flat_map form_spelling F)) ∙ sym taken.told ∙ refused.taken.told) ends refused.here
+
+-- a text is refused for one cause at one line
+
+same_cause : (before : List Form) (line : List ℕ) (f g : NetFault) → LineFault before line f → LineFault before line g → f ≡ g
+same_cause before line f g (bad_version one) (bad_version two) = refl
+same_cause before line f g (bad_version one) (bad_line known none) = absurd (known one)
+same_cause before line f g (bad_version one) (of_form h says stands bad) = absurd (no_bad_form before line h one says stands)
+same_cause before line f g (bad_line known none) (bad_version two) = absurd (known two)
+same_cause before line f g (bad_line known none) (bad_line well over) = refl
+same_cause before line f g (bad_line known none) (of_form h says stands bad) = absurd (cc (stands, none h says))
+same_cause before line f g (of_form h says stands bad) (bad_version two) = absurd (no_bad_form before line h two says stands)
+same_cause before line f g (of_form h says stands bad) (bad_line known none) = absurd (cc (stands, none h says))
+same_cause before line f g (of_form h says stands bad) (of_form k said may wrong) =
+    let same : h ≡ k = same_form h k says.form said.form (sym says.spelled ∙ said.spelled) in
+    let both : Some f ≡ Some g = sym bad ∙ ap (form_fault before) same ∙ wrong in
+    cc both
+
+same_here : (before : List Form) (rest : List ℕ) (f g : NetFault) → RefusedBehind before rest f → RefusedBehind before rest g → f ≡ g
+same_here before rest f g (at_line some one) (at_line more two) = same_cause before (first_line rest) f g one two
+same_here before rest f g (at_line some one) (at_end over stops) = absurd (omega (arith, some, ap length over))
+same_here before rest f g (at_end over stops) (at_line some one) = absurd (omega (arith, some, ap length over))
+same_here before rest f g (at_end over stops) (at_end past halts) = refl
+
+-- not where a good line stands
+no_refusal_here : (start : List Form) (f : Form) (tail rest : List ℕ) (fault : NetFault) → IsForm f → may_stand start f ≡ true → form_fault start f ≡ None → rest ≡ form_spelling f ++ tail → RefusedBehind start rest fault → ⊥
+no_refusal_here start f tail rest fault form stands good e (at_line some bad) =
+    good_line start f (first_line rest) fault form stands good (ap first_line e ∙ (cut_at (form_spelling f) tail (line_of_form f form)).0) bad
+no_refusal_here start f tail rest fault form stands good e (at_end over stops) =
+    omega (arith, ap length e, ap length over, length-append (form_spelling f) tail, some_line f form)
+
+same_refusal : (start F G : List Form) (r s : List ℕ) (f g : NetFault) → AllStand start F → AllStand start G → flat_map form_spelling F ++ r ≡ flat_map form_spelling G ++ s → RefusedBehind (start ++ F) r f → RefusedBehind (start ++ G) s g → (f ≡ g) × (length F ≡ length G)
+same_refusal start [] [] r s f g one two e a b = (same_here (start ++ []) r f g a (subst (λ t. RefusedBehind (start ++ []) t g) (sym e) b), refl)
+same_refusal start (h ∷ F) [] r s f g one two e a b =
+    absurd (no_refusal_here start h (flat_map form_spelling F ++ r) s g one.0 one.1 one.2 (sym e ∙ append_assoc (form_spelling h) (flat_map form_spelling F) r) (subst (λ t. RefusedBehind t s g) (append-nil start) b))
+same_refusal start [] (k ∷ G) r s f g one two e a b =
+    absurd (no_refusal_here start k (flat_map form_spelling G ++ s) r f two.0 two.1 two.2 (e ∙ append_assoc (form_spelling k) (flat_map form_spelling G) s) (subst (λ t. RefusedBehind t r f) (append-nil start) a))
+same_refusal start (h ∷ F) (k ∷ G) r s f g one two e a b =
+    let cut_h = cut_at (form_spelling h) (flat_map form_spelling F ++ r) (line_of_form h one.0) in
+    let cut_k = cut_at (form_spelling k) (flat_map form_spelling G ++ s) (line_of_form k two.0) in
+    let e' = sym (append_assoc (form_spelling h) (flat_map form_spelling F) r) ∙ e ∙ append_assoc (form_spelling k) (flat_map form_spelling G) s in
+    let same : k ≡ h = same_form k h two.0 one.0 (sym cut_k.0 ∙ sym (ap first_line e') ∙ cut_h.0) in
+    let rest = same_refusal (start ++ h ∷ []) F G r s f g one.3 (subst (λ x. AllStand (start ++ x ∷ []) G) same two.3) (sym cut_h.1 ∙ ap behind_line e' ∙ cut_k.1)
+    (subst (λ t. RefusedBehind t r f) (sym (append_assoc start (h ∷ []) F)) a)
+    (subst (λ t. RefusedBehind t s g) (sym (append_assoc start (h ∷ []) G ∙ ap (λ x. start ++ (x ∷ G)) (sym same))) b) in
+    (rest.0, omega (arith, rest.1))
+
+pub one_cause : (text : List ℕ) (f g : NetFault) (l m : ℕ) → IsRefused text f l → IsRefused text g m → (f ≡ g) × (l ≡ m)
+one_cause text f g l m one two =
+    let same = same_refusal [] one.before two.before one.rest two.rest f g one.taken.stand two.taken.stand (sym one.taken.told ∙ two.taken.told) one.here two.here in
+    (same.0, omega (arith, same.1, one.number, two.number))

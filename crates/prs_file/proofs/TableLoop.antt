@@ -41,7 +41,7 @@ loop_begin version names first ws r text rest nodes read over is =
 pub begin_count : (version : ℕ) (names : List (List ℕ)) (first : List Bool) (ws : List Wires) (r : RulesValue) → r ≡ record { up = replicate (length names) []; down = replicate (length names) [] } → length (net_forms version names first ws r) ≡ length (channels_told version names first ws)
 begin_count version names first ws r is = ap length (begin_forms version names first ws r is)
 
-named_literals : (names : List (List ℕ)) (g : GuardValue) → sum_by (λ (t : List Signed). length t) (guard_named names g) ≡ guard_literals g
+pub named_literals : (names : List (List ℕ)) (g : GuardValue) → sum_by (λ (t : List Signed). length t) (guard_named names g) ≡ guard_literals g
 named_literals names [] = refl
 named_literals names (t ∷ g) =
     omega (arith, sum_by-cons (λ (t : List Signed). length t) (map (signed_by names) t) (guard_named names g), sum_by-cons (λ (t : List Literal). length t) t g, named_literals names g, length-map t (signed_by names))

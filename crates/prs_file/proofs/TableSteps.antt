@@ -18,7 +18,7 @@ use Rattle.prs_file.specs.RulesTold.{is_driven, most_literals}
 use Rattle.prs_file.specs.Tables.{guard_forms, node_rules, rule_forms, place_at, with_guard, IsBehind, IsTable}
 use Rattle.prs_file.proofs.Lookups.{range_more}
 
-behind_more : (last : Option ℕ) (p q : ℕ) → IsBehind last p → p ≤ q → IsBehind last q
+pub behind_more : (last : Option ℕ) (p q : ℕ) → IsBehind last p → p ≤ q → IsBehind last q
 behind_more None p q is more = tt
 behind_more (Some l) p q is more = omega arith
 

@@ -1,7 +1,7 @@
 //! Reading a net.
 
 ghost use Rattle.std.specs.Prelude.{◌≡◌, ◌≤◌, ◌==◌, length, IfOk, IfErr};
-ghost use Rattle.prs_core.specs.Nets.{IsNet, net_of};
+ghost use Rattle.prs_core.specs.Nets.{NetValue, IsNet, net_of};
 ghost use Rattle.prs_file.specs.Openings.{OfRefusal};
 ghost use Rattle.prs_file.specs.Reading.{IsRefused};
 ghost use Rattle.prs_file.specs.Spelling.{NetText};
@@ -32,9 +32,8 @@ fn made(nodes: Nodes, channels: Vec<Wires>, rules: Rules) -> Net
     }
 }
 
-/// The net that the text of a rule file spells. A text that spells none is refused at its first line with a fault,
-/// or at its end where a file may not end there.
-pub fn read_net(alloc: Global, text: &[u8]) -> Result<Net, NetReadError>
+/// The net that the text spells, read stage by stage.
+fn read_in_stages(alloc: Global, text: &[u8]) -> Result<Net, NetReadError>
     requires { length text.now ≤ 268435456 }
     ensures net { IfOk result IsNet }
     ensures text { IfOk result (NetText text.now) }
@@ -45,4 +44,18 @@ pub fn read_net(alloc: Global, text: &[u8]) -> Result<Net, NetReadError>
     let (channels, behind_channels) = read_channels(alloc, &nodes, behind_nodes)?;
     let rules = read_rules(alloc, &nodes, &channels, behind_channels)?;
     Ok(made(nodes, channels, rules))
+}
+
+/// The net that the text of a rule file spells, as no other one. A text that spells none is refused at its first line
+/// with a fault, or at its end where a file may not end there.
+pub fn read_net(alloc: Global, text: &[u8]) -> Result<Net, NetReadError>
+    requires { length text.now ≤ 268435456 }
+    ensures net { IfOk result IsNet }
+    ensures text { IfOk result (NetText text.now) }
+    ensures only { IfOk result (λ net. (other : NetValue) → IsNet other → NetText text.now other → other ≡ net) }
+    ensures refused { IfErr result (OfRefusal (IsRefused text.now)) }
+    ensures never { IfErr result
+        (OfRefusal (λ _fault _line. (other : NetValue) → IsNet other → ¬ NetText text.now other)) }
+{
+    read_in_stages(alloc, text)
 }
