@@ -3,7 +3,7 @@
 use crate::run::{compile, run, shelf, wide};
 use chp_cli::{Status, chp_main};
 use chp_edge::{MemSink, SureShelf};
-use std::alloc::Global;
+use std::alloc::{AllocError, Global};
 use std::test::Fail;
 
 /// The rule file of `begin skip end`.
@@ -221,19 +221,22 @@ fn wrong_words_and_a_missing_file(rt: HostRuntime) -> Result<(), Fail> {
 #[test]
 fn faults_of_the_devices(rt: HostRuntime) -> Result<(), Fail> {
     let alloc = rt.alloc();
-    for failing in 1..4 {
-        let mut shelf = shelf(alloc, b"begin skip end", failing)?;
-        let ran = run(alloc, "compile f", &mut shelf, wide(alloc)?, wide(alloc)?)?;
-        assert_eq!(rt; ran.status.number(), 3);
-        assert_eq!(rt; ran.say.written(), b"chp: 3 read f\n".as_slice());
-        assert_eq!(rt; ran.out.written(), b"".as_slice());
+    for text in [b"begin skip end".as_slice(), b"out X : 1; begin X!1 end"] {
+        for failing in 1..4 {
+            let mut shelf = shelf(alloc, text, failing)?;
+            let ran = run(alloc, "compile f", &mut shelf, wide(alloc)?, wide(alloc)?)?;
+            assert_eq!(rt; ran.status.number(), 3);
+            assert_eq!(rt; ran.say.written(), b"chp: 3 read f\n".as_slice());
+            assert_eq!(rt; ran.out.written(), b"".as_slice());
+        }
+        let mut shelf = shelf(alloc, text, 0)?;
+        let out = MemSink::new(alloc, 16, 4096, vec![in alloc; 2]?)?;
+        let ran = run(alloc, "compile f", &mut shelf, out, wide(alloc)?)?;
+        assert_eq!(rt; ran.status.number(), 4);
+        assert_eq!(rt; ran.say.written(), b"chp: 4 write\n".as_slice());
+        assert_eq!(rt; ran.out.written(), b"prs 1\nnode go 0\n".as_slice());
     }
     let mut shelf = shelf(alloc, b"begin skip end", 0)?;
-    let out = MemSink::new(alloc, 16, 4096, vec![in alloc; 2]?)?;
-    let ran = run(alloc, "compile f", &mut shelf, out, wide(alloc)?)?;
-    assert_eq!(rt; ran.status.number(), 4);
-    assert_eq!(rt; ran.say.written(), b"chp: 4 write\n".as_slice());
-    assert_eq!(rt; ran.out.written(), b"prs 1\nnode go 0\n".as_slice());
     let say = MemSink::new(alloc, 16, 4096, vec![in alloc; 1]?)?;
     let ran = run(alloc, "compile g", &mut shelf, wide(alloc)?, say)?;
     assert_eq!(rt; ran.status.number(), 3);
