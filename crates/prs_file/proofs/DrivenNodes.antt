@@ -1,9 +1,9 @@
 -- The nodes that the environment moves, by number and by name.
-use Rattle.std.proofs.Common.{◌≡◌, ◌≢◌, ℕ, zero, suc, ◌+◌, ◌-◌, ◌<◌, ◌≤◌, inl, inr, Bool, true, false, None, Some, List, [], ◌∷◌, ◌++◌, length, map, get_or, take, drop, set, refl, ap, sym, ◌∙◌, subst, arith}
+use Rattle.std.proofs.Common.{◌≡◌, ◌≢◌, ℕ, ◌+◌, ◌-◌, ◌<◌, ◌≤◌, inl, inr, Bool, true, false, Some, List, [], ◌∷◌, ◌++◌, length, map, get_or, take, drop, set, refl, ap, sym, ◌∙◌, subst, arith}
 use Rattle.std.specs.Prelude.{◌||◌, ◌&&◌, ◌==◌, ◌⊎◌, All, AllPairs, bytes_eq, codes, replicate}
 use Rattle.std.specs.List.{list_any}
 use Rattle.std.specs.Cmp.Lexicographic.{bytes_decides}
-use Rattle.std.proofs.lemmas.Bool.{cases_lt, eq-eqb, ne_eqb, or_right, false_from_ne_true}
+use Rattle.std.proofs.lemmas.Bool.{cases_lt, eq-eqb, ne_eqb, false_from_ne_true}
 use Rattle.std.proofs.lemmas.List.{get_or-set_same, get_or-set_other, get_or-replicate, length-set, length-replicate, take_more, take_all, drop_all, append-nil, map_push}
 use Rattle.std.proofs.lemmas.List.Elements.{All-get_or}
 use Rattle.std.proofs.lemmas.List.Folds.{list_any-append}
@@ -12,12 +12,12 @@ use Rattle.chp_base.specs.declared.channel.Kind.{Kind}
 use Rattle.chp_base.specs.declared.channel.Kind.TheVariants.{In, Out, Chan}
 use Rattle.prs_core.specs.declared.wires.Wires.{Wires}
 use Rattle.prs_core.specs.Nets.{wires_from_outside, rail_names, ack_name}
-use Rattle.prs_file.specs.DrivenTold.{AreDriven, EndsInReset, HasItsReset}
+use Rattle.prs_file.specs.DrivenTold.{AreDriven, HasItsReset}
 use Rattle.prs_file.specs.Indexes.{place_in}
 use Rattle.prs_file.specs.NodesTold.{IsNodes}
-use Rattle.prs_file.specs.Reading.{wires_of, outside_of}
+use Rattle.prs_file.specs.Reading.{outside_of}
 use Rattle.prs_file.specs.RulesTold.{is_driven}
-use Rattle.prs_file.specs.WiresFound.{AreFound, IsWired, numbers_of}
+use Rattle.prs_file.specs.WiresFound.{AreFound, IsWired}
 use Rattle.prs_file.proofs.Wirings.{place_found, numbers_within}
 
 abbrev Distinct : List (List ℕ) → Type 0

@@ -1,10 +1,10 @@
 -- The text of a line tells what the line says.
-use Rattle.std.proofs.Common.{◌≡◌, ◌≢◌, ℕ, zero, suc, ◌+◌, ◌-◌, ◌<◌, ◌≤◌, inl, inr, Bool, true, false, List, [], ◌∷◌, ◌++◌, length, get_or, take, drop, refl, ap, sym, ◌∙◌, subst, arith, length-append}
+use Rattle.std.proofs.Common.{◌≡◌, ◌≢◌, ℕ, ◌+◌, ◌<◌, ◌≤◌, inl, inr, Bool, true, false, List, [], ◌∷◌, ◌++◌, length, get_or, drop, refl, ap, sym, ◌∙◌, arith, length-append}
 use Rattle.std.specs.Prelude.{◌⊎◌, All, codes, decimal, if◌then◌else◌}
 use Rattle.std.specs.List.{flat_map}
 use Rattle.std.specs.Str.Parse.{digits_value}
 use Rattle.std.proofs.lemmas.Fmt.{decimal_is_IsNumeral}
-use Rattle.std.proofs.lemmas.List.{append_assoc, append-nil, append_cancel_left, append_cancel_right}
+use Rattle.std.proofs.lemmas.List.{append_cancel_left, append_cancel_right}
 use Rattle.std.proofs.lemmas.List.Elements.{All-head, All-tail}
 use Rattle.chp_base.specs.Names.{IsNodeName}
 use Rattle.chp_base.specs.declared.channel.Channel.{Channel}
@@ -17,11 +17,11 @@ use Rattle.prs_file.specs.Channels.{kind_by_letter, line_of, word_behind}
 use Rattle.prs_file.specs.Lines.{first_line, behind_line}
 use Rattle.prs_file.specs.Reading.{Form, IsForm, IsChannelForm, IsTermForm, Signed, form_spelling}
 use Rattle.prs_file.specs.Reading.Form.{head, node, channel, rule}
-use Rattle.prs_file.specs.RuleForms.{rule_line_of, leds_spelling, Leads, IsRuleForm, is_high, word_in, behind_word}
+use Rattle.prs_file.specs.RuleForms.{rule_line_of, IsRuleForm, is_high, word_in, behind_word}
 use Rattle.prs_file.specs.Spelling.{head_spelling, node_spelling, channel_spelling, kind_spelling, value_spelling, lead_spelling, end_spelling}
-use Rattle.prs_file.specs.Terms.{signed_of, led_by, put_by, terms_of, term_leds, leds_by}
+use Rattle.prs_file.specs.Terms.{put_by, terms_of, term_leds, leds_by}
 use Rattle.prs_file.proofs.ChannelLines.{kind_is, behind_kind, word_is as word_of_channel}
-use Rattle.prs_file.proofs.FormLines.{IsLine, cut_at, line_of_form}
+use Rattle.prs_file.proofs.FormLines.{cut_at, line_of_form}
 use Rattle.prs_file.proofs.HeadLines.{head_is}
 use Rattle.prs_file.proofs.NodeLines.{node_text}
 use Rattle.prs_file.proofs.RuleEnds.{end_word}

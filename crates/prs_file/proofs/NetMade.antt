@@ -1,21 +1,19 @@
 -- The parts that were read make a net.
-use Rattle.std.proofs.Common.{◌≡◌, ◌≢◌, ℕ, zero, suc, ◌+◌, ◌-◌, ◌*◌, ◌<◌, ◌≤◌, inl, inr, Bool, true, false, cond, Option, None, Some, List, [], ◌∷◌, ◌++◌, length, map, get_or, refl, ap, sym, ◌∙◌, subst, arith, length-append}
-use Rattle.std.specs.Prelude.{◌==◌, ◌||◌, ◌&&◌, not, All, AllPairs, bytes_eq, codes, decimal, sum_by}
+use Rattle.std.proofs.Common.{◌≡◌, ◌≢◌, ℕ, zero, suc, ◌+◌, ◌-◌, ◌*◌, ◌<◌, Bool, true, false, cond, Some, List, [], ◌∷◌, ◌++◌, length, map, get_or, refl, ap, sym, ◌∙◌, subst, arith, length-append}
+use Rattle.std.specs.Prelude.{◌==◌, ◌||◌, ◌&&◌, not, All, AllPairs, bytes_eq, codes}
 use Rattle.std.specs.List.{list_any}
 use Rattle.std.specs.Cmp.Lexicographic.{bytes_decides}
-use Rattle.std.proofs.lemmas.Bool.{or_left, or_right, eq-eqb, and_parts}
+use Rattle.std.proofs.lemmas.Bool.{or_left, or_right, and_parts}
 use Rattle.std.proofs.lemmas.List.{length-map, get_or-map}
-use Rattle.std.proofs.lemmas.List.Elements.{All-nil, All-cons, All-head, All-tail, All-pop, All-weaker}
+use Rattle.std.proofs.lemmas.List.Elements.{All-nil, All-cons, All-head, All-tail, All-pop}
 use Rattle.chp_base.specs.declared.channel.Channel.{Channel}
-use Rattle.chp_base.specs.declared.channel.Kind.{Kind}
-use Rattle.chp_base.specs.declared.channel.Kind.TheVariants.{In, Out, Chan}
 use Rattle.prs_core.specs.declared.wires.Wires.{Wires}
-use Rattle.prs_core.specs.Nets.{RulesValue, NetValue, net_of, name_at, first_at, rail_names, ack_name, true_rail, false_rail, wires_from_outside, IsUndriven, IsChannel, IsReset, IsResetNode, IsNet, IsBelow, most_nodes, most_literals}
+use Rattle.prs_core.specs.Nets.{RulesValue, NetValue, net_of, rail_names, ack_name, true_rail, false_rail, wires_from_outside, IsUndriven, IsChannel, IsReset, IsNet, IsBelow, most_nodes, most_literals}
 use Rattle.prs_file.specs.ChannelsTold.{channel_names, IsChannelsRead}
-use Rattle.prs_file.specs.DrivenTold.{EndsInReset, HasItsReset}
+use Rattle.prs_file.specs.DrivenTold.{HasItsReset}
 use Rattle.prs_file.specs.Indexes.{place_in}
-use Rattle.prs_file.specs.NodesTold.{IsNodes, IsNodesRead, node_forms, nodes_told, node_most}
-use Rattle.prs_file.specs.Reading.{Form, IsChannelForm, last_of, ends_nodes, wires_of, outside_of}
+use Rattle.prs_file.specs.NodesTold.{IsNodes, IsNodesRead, node_forms, node_most}
+use Rattle.prs_file.specs.Reading.{Form, IsChannelForm, last_of, ends_nodes, outside_of}
 use Rattle.prs_file.specs.Reading.Form.{head, node}
 use Rattle.prs_file.specs.RulesTold.{is_driven}
 use Rattle.prs_file.specs.Tables.{reset_by, IsTable, IsWholeTable}

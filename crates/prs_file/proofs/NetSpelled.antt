@@ -1,6 +1,6 @@
 -- The lines that were read are the spelling of the net.
-use Rattle.std.proofs.Common.{◌≡◌, ℕ, zero, suc, ◌+◌, ◌<◌, ◌≤◌, Bool, true, false, cond, Option, None, Some, List, [], ◌∷◌, ◌++◌, length, map, get_or, refl, ap, sym, ◌∙◌, subst, arith}
-use Rattle.std.specs.Prelude.{◌==◌, codes, decimal}
+use Rattle.std.proofs.Common.{◌≡◌, ℕ, zero, suc, ◌<◌, ◌≤◌, Bool, true, false, List, [], ◌∷◌, ◌++◌, length, map, get_or, refl, ap, sym, ◌∙◌, arith}
+use Rattle.std.specs.Prelude.{◌==◌, codes}
 use Rattle.std.specs.List.{concat, flat_map, join_by, range_with_len}
 use Rattle.std.proofs.lemmas.Bool.{eqb-true, eqb-false}
 use Rattle.std.proofs.lemmas.List.{append_assoc, append-nil}
@@ -20,7 +20,6 @@ use Rattle.prs_file.specs.Spelling.{version_of, head_spelling, node_spelling, ch
 use Rattle.prs_file.specs.Tables.{guard_forms, node_rules, rule_forms, net_forms, reset_by}
 use Rattle.prs_file.proofs.NetMade.{net_read}
 use Rattle.prs_file.proofs.NodesRead.{count_forms}
-use Rattle.prs_file.proofs.TableSteps.{flat_same}
 
 -- the lines of nodes
 

@@ -1,39 +1,34 @@
 -- The lines of a net stand, none of them with a fault.
-use Rattle.std.proofs.Common.{◌≡◌, ◌≢◌, ℕ, zero, suc, ◌+◌, ◌-◌, ◌*◌, ◌<◌, ◌≤◌, inl, inr, Bool, true, false, cond, Option, None, Some, List, [], ◌∷◌, ◌++◌, length, map, get_or, refl, ap, sym, ◌∙◌, subst, arith, length-append}
-use Rattle.std.specs.Prelude.{Contains, ◌⊎◌, ◌==◌, ◌&&◌, ◌||◌, nat_lt, not, All, AllPairs, bytes_eq, codes, is_none, option_map, sum_by, unwrap_or, if◌then◌else◌}
-use Rattle.std.specs.List.{flat_map, filter_map, list_any, range_with_len}
+use Rattle.std.proofs.Common.{◌≡◌, ◌≢◌, ℕ, zero, suc, ◌+◌, ◌-◌, ◌<◌, ◌≤◌, Bool, true, false, Option, None, Some, List, [], ◌∷◌, ◌++◌, length, map, get_or, refl, ap, sym, ◌∙◌, subst, arith, length-append}
+use Rattle.std.specs.Prelude.{Contains, ◌==◌, ◌&&◌, nat_lt, All, AllPairs, bytes_eq, codes}
+use Rattle.std.specs.List.{flat_map}
 use Rattle.std.specs.Cmp.Lexicographic.{bytes_decides}
-use Rattle.std.proofs.lemmas.Bool.{cases_lt, ne_eqb, eq-eqb, le-ltb, and_left, or_left, or_right, or_from, or_parts, and_parts, false_from_ne_true}
-use Rattle.std.proofs.lemmas.List.{append_assoc, append-nil, length-map, map-append, length_push, get_or_append_left, get_or-map}
+use Rattle.std.proofs.lemmas.Bool.{le-ltb, false_from_ne_true}
+use Rattle.std.proofs.lemmas.List.{append_assoc, append-nil, length-map, map-append, get_or_append_left, get_or-map}
 use Rattle.std.proofs.lemmas.List.Concat.{flat_map-append}
 use Rattle.std.proofs.lemmas.List.Folds.{list_any_none}
-use Rattle.std.proofs.lemmas.List.Elements.{All-nil, All-cons, All-head, All-tail, All-append, All-push, All-get_or, Contains-get_or}
-use Rattle.std.proofs.lemmas.List.Sums.{sum_by-cons}
+use Rattle.std.proofs.lemmas.List.Elements.{All-nil, All-cons, All-head, All-tail, All-append, All-push, Contains-get_or}
 use Rattle.chp_base.specs.Names.{IsNodeName}
 use Rattle.chp_base.specs.declared.channel.Channel.{Channel}
-use Rattle.prs_core.specs.declared.rule.Literal.{Literal}
 use Rattle.prs_core.specs.declared.wires.Wires.{Wires}
-use Rattle.prs_core.specs.Nets.{GuardValue, RulesValue, NetValue, rules_of, rail_names, ack_name, IsBelow, IsFilled, IsChannel, IsReset, IsUndriven, IsNet, most_nodes, wires_from_outside, guard_literals, literals_of}
-use Rattle.prs_file.specs.ChannelsTold.{channel_names, channels_told, IsChannelsRead}
+use Rattle.prs_core.specs.Nets.{GuardValue, RulesValue, NetValue, rail_names, ack_name, IsChannel, IsReset, IsNet, most_nodes}
+use Rattle.prs_file.specs.ChannelsTold.{channel_names, IsChannelsRead}
 use Rattle.prs_file.specs.Indexes.{place_in}
 use Rattle.prs_file.specs.Lines.{first_line}
 use Rattle.prs_file.specs.NodesTold.{node_forms, nodes_told, node_most, IsNodes, IsNodesRead, node_fault_of}
 use Rattle.prs_file.specs.Openings.{opening, text_behind}
-use Rattle.prs_file.specs.Reading.{Form, IsForm, AllStand, IsTaken, IsChannelForm, Signed, form_spelling, last_of, ends_nodes, wires_of}
+use Rattle.prs_file.specs.Reading.{Form, IsForm, AllStand, IsChannelForm, Signed, form_spelling, ends_nodes}
 use Rattle.prs_file.specs.Reading.Form.{head, node, channel, rule}
-use Rattle.prs_file.specs.Spelling.{version_of, node_spelling}
-use Rattle.prs_file.specs.Named.{signed_by, guard_named}
-use Rattle.prs_file.specs.RulesTold.{is_driven, rule_fault_of, most_literals, IsRulesRead}
-use Rattle.prs_file.specs.Tables.{guard_forms, node_rules, rule_forms, place_at, IsBehind}
-use Rattle.prs_file.specs.Terms.{rule_unknown}
+use Rattle.prs_file.specs.Spelling.{version_of}
+use Rattle.prs_file.specs.Named.{guard_named}
+use Rattle.prs_file.specs.Tables.{guard_forms, node_rules}
 use Rattle.prs_file.specs.WiresFound.{AreFound, IsWired, numbers_of}
 use Rattle.prs_file.proofs.FormLines.{cut_at, line_of_form}
-use Rattle.prs_file.proofs.ChannelsRead.{channels_begin, channels_more}
+use Rattle.prs_file.proofs.ChannelsRead.{channels_more}
 use Rattle.prs_file.proofs.FormsApart.{same_form, some_line}
 use Rattle.prs_file.proofs.Lookups.{found_more}
 use Rattle.prs_file.proofs.NetMade.{last_form}
-use Rattle.prs_file.proofs.NodesRead.{nodes_begin, nodes_more, most_small}
-use Rattle.prs_file.proofs.DrivenNodes.{apart_at}
+use Rattle.prs_file.proofs.NodesRead.{nodes_begin, nodes_more}
 use Rattle.prs_file.proofs.Openings.{go_name, done_name}
 use Rattle.prs_file.proofs.Wirings.{fault_none}
 

@@ -1,10 +1,10 @@
 -- The rules of a net stand, none of them with a fault; so a text that spells a net is never refused.
-use Rattle.std.proofs.Common.{◌≡◌, ◌≢◌, ℕ, zero, suc, ◌+◌, ◌-◌, ◌*◌, ◌<◌, ◌≤◌, inl, inr, Bool, true, false, Option, None, Some, List, [], ◌∷◌, ◌++◌, length, map, get_or, refl, ap, sym, ◌∙◌, subst, arith, length-append}
-use Rattle.std.specs.Prelude.{Contains, ◌⊎◌, ◌==◌, ◌&&◌, ◌||◌, nat_lt, All, AllPairs, bytes_eq, codes, is_none, sum_by, unwrap_or}
+use Rattle.std.proofs.Common.{◌≡◌, ℕ, zero, suc, ◌+◌, ◌*◌, ◌<◌, ◌≤◌, inl, inr, Bool, true, false, Option, None, Some, List, [], ◌∷◌, ◌++◌, length, map, get_or, refl, ap, sym, ◌∙◌, subst, arith}
+use Rattle.std.specs.Prelude.{◌⊎◌, ◌==◌, ◌&&◌, ◌||◌, nat_lt, All, bytes_eq, codes, is_none, sum_by, unwrap_or}
 use Rattle.std.specs.List.{flat_map, list_any, range_with_len}
 use Rattle.std.specs.Cmp.Lexicographic.{bytes_decides}
 use Rattle.std.proofs.lemmas.Bool.{ne_eqb, le-ltb, or_cases, or_from, and_parts}
-use Rattle.std.proofs.lemmas.List.{append_assoc, append-nil, length-map}
+use Rattle.std.proofs.lemmas.List.{append_assoc, append-nil}
 use Rattle.std.proofs.lemmas.List.Concat.{flat_map-append}
 use Rattle.std.proofs.lemmas.List.Elements.{All-nil, All-cons, All-head, All-tail, All-append, All-get_or, All-contains}
 use Rattle.std.proofs.lemmas.List.FromFn.{fill_by_all}
@@ -13,23 +13,22 @@ use Rattle.chp_base.specs.Names.{IsNodeName}
 use Rattle.chp_base.specs.declared.channel.Channel.{Channel}
 use Rattle.prs_core.specs.declared.rule.Literal.{Literal}
 use Rattle.prs_core.specs.declared.wires.Wires.{Wires}
-use Rattle.prs_core.specs.Nets.{GuardValue, RulesValue, NetValue, rules_of, IsBelow, IsFilled, IsChannel, IsReset, IsUndriven, IsNet, wires_from_outside, guard_literals, literals_of, most_literals as most_of_net}
+use Rattle.prs_core.specs.Nets.{GuardValue, RulesValue, NetValue, rules_of, IsBelow, IsFilled, IsChannel, IsReset, IsUndriven, IsNet, wires_from_outside, guard_literals, most_literals as most_of_net}
 use Rattle.prs_file.specs.declared.fault.NetFault.{NetFault}
 use Rattle.prs_file.specs.ChannelsTold.{channels_told, IsChannelsRead}
 use Rattle.prs_file.specs.Indexes.{place_in}
 use Rattle.prs_file.specs.Lines.{first_line}
 use Rattle.prs_file.specs.Named.{signed_by, guard_named}
 use Rattle.prs_file.specs.NodesTold.{nodes_told, IsNodesRead}
-use Rattle.prs_file.specs.Reading.{Form, IsForm, IsTaken, IsRefused, IsChannelForm, Signed, form_spelling, may_end, outside_of, same_place, stands_above}
-use Rattle.prs_file.specs.Reading.Form.{head, node, channel, rule}
+use Rattle.prs_file.specs.Reading.{Form, IsForm, IsRefused, IsChannelForm, Signed, form_spelling, outside_of, same_place, stands_above}
+use Rattle.prs_file.specs.Reading.Form.{node, channel, rule}
 use Rattle.prs_file.specs.RulesTold.{is_driven, is_rule, rule_place, rule_fault_of, most_literals, IsRulesRead}
-use Rattle.prs_file.specs.Spelling.{version_of, node_spelling, channel_spelling, spelling, NetText}
+use Rattle.prs_file.specs.Spelling.{version_of, node_spelling, channel_spelling, NetText}
 use Rattle.prs_file.specs.Tables.{guard_forms, node_rules, rule_forms, place_at, IsBehind}
 use Rattle.prs_file.specs.Terms.{rule_unknown}
 use Rattle.prs_file.specs.WiresFound.{AreFound, IsWired}
 use Rattle.prs_file.proofs.ChannelsRead.{channels_begin}
 use Rattle.prs_file.proofs.DrivenNodes.{outside_found}
-use Rattle.prs_file.proofs.FormLines.{cut_at, line_of_form}
 use Rattle.prs_file.proofs.NetsApart.{same_number, channel_lines, guard_line, rules_say, all_forms, lines_spell}
 use Rattle.prs_file.proofs.NetStands.{Distinct, place_at_name, front_line, net_nodes, wired_in, channel_form, channels_walk, apart_names, other_line, is_node, all_rules, all_channels}
 use Rattle.prs_file.proofs.NotRefused.{not_refused}

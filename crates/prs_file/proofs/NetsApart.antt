@@ -1,11 +1,11 @@
 -- A text spells at most one net.
-use Rattle.std.proofs.Common.{◌≡◌, ◌≢◌, ℕ, zero, suc, ◌+◌, ◌-◌, ◌<◌, ◌≤◌, inl, inr, Bool, true, false, cond, Option, None, Some, List, [], ◌∷◌, ◌++◌, length, map, get_or, refl, ap, sym, ◌∙◌, subst, arith, length-append}
+use Rattle.std.proofs.Common.{◌≡◌, ◌≢◌, ℕ, zero, suc, ◌+◌, ◌-◌, ◌<◌, ◌≤◌, inl, inr, Bool, true, false, cond, Option, None, Some, List, [], ◌∷◌, ◌++◌, length, map, get_or, refl, ap, sym, ◌∙◌, subst, arith}
 use Rattle.std.specs.Prelude.{◌⊎◌, ◌==◌, ◌&&◌, not, All, AllPairs, bytes_eq}
 use Rattle.std.specs.List.{flat_map, filter_map, range_with_len}
 use Rattle.std.specs.Cmp.Lexicographic.{bytes_decides}
 use Rattle.std.proofs.lemmas.Bool.{cases_lt, ne_eqb, and_left}
 use Rattle.std.proofs.lemmas.List.{append-nil, length-map, get_or_past}
-use Rattle.std.proofs.lemmas.List.Elements.{All-nil, All-cons, All-head, All-tail, All-append, All-map, All-get_or, filter_map-append}
+use Rattle.std.proofs.lemmas.List.Elements.{All-nil, All-cons, All-head, All-tail, All-append, All-get_or, filter_map-append}
 use Rattle.chp_base.specs.Names.{IsNodeName}
 use Rattle.chp_base.specs.declared.channel.Channel.{Channel}
 use Rattle.prs_core.specs.declared.rule.Literal.{Literal}
@@ -14,7 +14,7 @@ use Rattle.prs_core.specs.Nets.{GuardValue, RulesValue, NetValue, rules_of, rail
 use Rattle.prs_file.specs.ChannelsTold.{channels_told}
 use Rattle.prs_file.specs.Named.{signed_by, guard_named}
 use Rattle.prs_file.specs.NodesTold.{node_forms}
-use Rattle.prs_file.specs.Reading.{Form, IsForm, IsChannelForm, IsTermForm, Signed, form_spelling, node_in, channel_in, nodes_of}
+use Rattle.prs_file.specs.Reading.{Form, IsForm, IsTermForm, Signed, form_spelling, node_in, channel_in, nodes_of}
 use Rattle.prs_file.specs.Reading.Form.{head, node, channel, rule}
 use Rattle.prs_file.specs.Spelling.{version_of, spelling}
 use Rattle.prs_file.specs.Tables.{guard_forms, node_rules, rule_forms, net_forms, reset_by}
@@ -24,7 +24,7 @@ use Rattle.prs_file.proofs.FormsApart.{same_forms}
 use Rattle.prs_file.proofs.NetMade.{net_read}
 use Rattle.prs_file.proofs.NetSpelled.{net_spelled}
 use Rattle.prs_file.proofs.TableLoop.{channels_of}
-use Rattle.prs_file.proofs.TableSteps.{flat_more, flat_above, flat_same}
+use Rattle.prs_file.proofs.TableSteps.{flat_more, flat_above}
 
 abbrev Distinct : List (List ℕ) → Type 0
 Distinct names = AllPairs (λ (a b : List ℕ). a ≢ b) names

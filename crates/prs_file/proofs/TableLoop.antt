@@ -1,6 +1,6 @@
 -- The lines of rules and the guards that they are read into, one after another.
-use Rattle.std.proofs.Common.{◌≡◌, ℕ, ◌+◌, ◌<◌, ◌≤◌, Bool, true, false, Option, None, Some, List, [], ◌∷◌, ◌++◌, length, map, get_or, refl, ap, sym, ◌∙◌, subst, arith, length-append}
-use Rattle.std.specs.Prelude.{◌==◌, All, sum_by, replicate, unwrap_or, if◌then◌else◌}
+use Rattle.std.proofs.Common.{◌≡◌, ℕ, ◌+◌, ◌<◌, ◌≤◌, Bool, false, Option, None, Some, List, [], ◌∷◌, ◌++◌, length, map, get_or, refl, ap, sym, ◌∙◌, subst, arith, length-append}
+use Rattle.std.specs.Prelude.{◌==◌, sum_by, replicate, unwrap_or}
 use Rattle.std.proofs.lemmas.List.{append_assoc, append-nil, length-map}
 use Rattle.std.proofs.lemmas.List.Sums.{sum_by-cons}
 use Rattle.chp_base.specs.declared.channel.Channel.{Channel}
@@ -13,7 +13,7 @@ use Rattle.prs_file.specs.Indexes.{place_in}
 use Rattle.prs_file.specs.Lines.{first_line}
 use Rattle.prs_file.specs.Named.{signed_by, guard_named}
 use Rattle.prs_file.specs.NodesTold.{IsNodes}
-use Rattle.prs_file.specs.Reading.{Form, IsForm, IsTaken, IsChannelForm, Signed, form_spelling}
+use Rattle.prs_file.specs.Reading.{Form, IsForm, IsChannelForm, Signed, form_spelling}
 use Rattle.prs_file.specs.Reading.Form.{rule}
 use Rattle.prs_file.specs.RulesTold.{IsRulesRead, is_driven, rule_place, rule_fault_of, most_literals}
 use Rattle.prs_file.specs.Spelling.{channel_spelling}

@@ -1,10 +1,9 @@
 -- Why a rule is refused, part by part.
-use Rattle.std.proofs.Common.{◌≡◌, ℕ, ◌+◌, ◌<◌, ◌≤◌, Bool, true, false, cond, Option, None, Some, List, [], ◌∷◌, length, get_or, refl, ap, sym, ◌∙◌, arith}
+use Rattle.std.proofs.Common.{◌≡◌, ℕ, ◌+◌, ◌≤◌, Bool, true, false, cond, Option, None, Some, List, length, get_or, refl, ap, sym, ◌∙◌, arith}
 use Rattle.std.specs.Prelude.{◌||◌, is_none, nat_lt, sum_by}
 use Rattle.std.specs.List.{list_any}
 use Rattle.std.proofs.lemmas.Bool.{or_left, or_right, or_from, ltb-false, eqb-false}
 use Rattle.chp_base.specs.declared.channel.Channel.{Channel}
-use Rattle.prs_file.specs.declared.fault.NetFault.{NetFault}
 use Rattle.prs_file.specs.declared.fault.NetFault.TheVariants.{UnknownNode, DoubleRule, DrivenWire, TooMany, OutOfOrder}
 use Rattle.prs_file.specs.declared.rule.Led.{Led}
 use Rattle.prs_file.specs.DrivenTold.{AreDriven}

@@ -1,4 +1,4 @@
-use Rattle.std.proofs.Common.{◌≡◌, ◌<◌, ℕ, false, length, get_or, take}
+use Rattle.std.proofs.Common.{◌≡◌, ℕ, false, get_or, take}
 use Rattle.std.specs.Prelude.{◌==◌, ◌||◌}
 use Rattle.std.specs.List.{list_any}
 use Rattle.prs_file.proofs.driven.mark.Given as goal

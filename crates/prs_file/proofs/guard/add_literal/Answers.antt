@@ -1,11 +1,4 @@
-use Rattle.std.proofs.Common.{◌≡◌, ◌∷◌, [], ◌++◌, List, ap, sym, ◌∙◌, refl}
-use Rattle.std.specs.Prelude.{◌⊎◌}
-use Rattle.std.proofs.Common.{inl, inr}
-use Rattle.prs_core.specs.declared.rule.Literal.{Literal}
-use Rattle.prs_core.specs.Nets.{GuardValue}
-use Rattle.prs_file.specs.declared.forms.Lead.{Lead}
-use Rattle.prs_file.specs.declared.forms.Lead.TheVariants.{Rule, And, Or}
-use Rattle.prs_file.specs.Named.{add_by}
+use Rattle.std.proofs.Common.{◌∷◌, [], ◌++◌, ap, ◌∙◌}
 use Rattle.prs_file.proofs.GuardsNamed.{added_last, added_new}
 use Rattle.prs_file.proofs.guard.add_literal.Goals as goal
 use Rattle.prs_file.proofs.guard.add_literal.Goals.{in-Rule, in-Or+in_ok-push-in-Or}

@@ -1,14 +1,12 @@
-use Rattle.std.proofs.Common.{◌≡◌, ◌<◌, ◌+◌, ◌++◌, ◌∷◌, [], false, Some, None, List, length, take, get_or, refl, sym, ap, ◌∙◌, subst, arith}
+use Rattle.std.proofs.Common.{◌≡◌, ◌<◌, ◌+◌, ◌++◌, ◌∷◌, [], false, length, take, refl, sym, ap, ◌∙◌, subst, arith}
 use Rattle.std.specs.Prelude.{is_none}
 use Rattle.std.specs.List.{list_any}
 use Rattle.std.proofs.lemmas.Bool.{or_from}
 use Rattle.std.proofs.lemmas.List.{take_more, length-take}
 use Rattle.prs_core.specs.Nets.{IsBelow}
-use Rattle.prs_file.specs.declared.rule.Led.{Led}
-use Rattle.prs_file.specs.Indexes.{place_in}
 use Rattle.prs_file.specs.Named.{guard_named}
 use Rattle.prs_file.specs.Terms.{terms_of}
-use Rattle.prs_file.proofs.GuardsNamed.{named_first, named_more, below_first, below_more, none_more, any_at, is_lost, behind_first, further_item, all_taken}
+use Rattle.prs_file.proofs.GuardsNamed.{named_first, named_more, below_first, below_more, none_more, is_lost, further_item}
 use Rattle.prs_file.proofs.guard.guard_of.Goals as goal
 
 pub loop-led-init : goal.loop-led-init

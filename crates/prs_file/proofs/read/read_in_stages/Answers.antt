@@ -1,12 +1,9 @@
-use Rattle.std.specs.Prelude.{◌==◌}
 use Rattle.std.proofs.Common.{◌≡◌, true, sym, ap, ◌∙◌, subst, arith}
 use Rattle.prs_file.specs.NodesTold.{IsNodesRead}
 use Rattle.prs_file.specs.Openings.{opening, text_behind}
 use Rattle.prs_file.specs.Spelling.{spelling}
-use Rattle.prs_file.specs.Tables.{IsWholeTable}
 use Rattle.prs_file.proofs.NetMade.{is_net, reset_told}
 use Rattle.prs_file.proofs.NetSpelled.{text_is}
-use Rattle.prs_file.proofs.TableLoop.{channels_of}
 use Rattle.prs_file.proofs.read.read_in_stages.Goals as goal
 
 pub read_rules-requires-clause-reset : goal.read_rules-requires-clause-reset

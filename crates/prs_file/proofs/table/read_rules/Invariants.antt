@@ -2,7 +2,6 @@ use Rattle.std.proofs.Common.{◌≡◌, ◌+◌, ◌≤◌, length, map}
 use Rattle.std.specs.Prelude.{◌==◌}
 use Rattle.prs_core.specs.declared.wires.Wires.{Wires}
 use Rattle.prs_file.specs.ChannelsTold.{channels_told}
-use Rattle.prs_file.specs.DrivenTold.{AreDriven}
 use Rattle.prs_file.specs.Openings.{text_behind}
 use Rattle.prs_file.specs.RulesTold.{IsRulesRead}
 use Rattle.prs_file.specs.Tables.{net_forms, IsTable}

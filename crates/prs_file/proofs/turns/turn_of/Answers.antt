@@ -1,8 +1,6 @@
-use Rattle.std.proofs.Common.{◌≡◌, ◌<◌, ◌==◌, false, length, get_or, Option, Some, None, refl, sym, ap, ◌∙◌, arith}
-use Rattle.std.specs.List.{list_any}
+use Rattle.std.proofs.Common.{◌≡◌, ◌==◌, false, length, get_or, Some, refl, sym, ap, ◌∙◌, arith}
 use Rattle.prs_file.specs.Indexes.{place_in}
-use Rattle.prs_file.specs.Tables.{known_fault_of, place_at}
-use Rattle.prs_file.proofs.GuardsNamed.{is_lost}
+use Rattle.prs_file.specs.Tables.{known_fault_of}
 use Rattle.prs_file.proofs.TurnFaults.{unknown_literal, known_is}
 use Rattle.prs_file.proofs.Wirings.{place_found}
 use Rattle.prs_file.proofs.turns.turn_of.Goals as goal
