@@ -6,16 +6,8 @@ use Rattle.chp_base.specs.declared.fault.FaultCode.TheVariants as code
 use Rattle.width_check.specs.Sharing.{Deed, reads_var, writes_var, sends_on, receives_on, Occurrence, reads_of, occurrences, occurrences_of_each, occurrences_of_choices, Parallel, ParallelInside, ParallelInChoices, ParallelAcross, Clashes, MeetsSharing}
 use Rattle.chp_meaning.specs.Terms.{Term, Terms, finished, active, in_sequence, in_parallel, no_branches, and_branch, all_finished, together, opened, opened_turn, opened_each, followed, Place, here, in_first, in_branch, statement_at, branch_at, with_left, with_branch}
 use Rattle.chp_meaning.specs.Steps.{Configuration, value_in, open_branches}
+pub use Rattle.chp_meaning.specs.Fitting.{Conflict, Apart, Sound, EachSound, EachApart, ChoicesSound, uses, uses_of_each, Fits, FitEach}
 use Rattle.chp_meaning.proofs.Places.{In, in_left, in_right, in_either}
-
--- what two parallel branches may not both do
-abbrev pub Conflict : Deed → Deed → Type 0
-Conflict (writes_var x) (writes_var y) = x ≡ y
-Conflict (writes_var x) (reads_var y) = x ≡ y
-Conflict (reads_var x) (writes_var y) = x ≡ y
-Conflict (sends_on x) (sends_on y) = x ≡ y
-Conflict (receives_on x) (receives_on y) = x ≡ y
-Conflict _ _ = ⊥
 
 conflict_sym : (a b : Deed) → Conflict a b → Conflict b a
 conflict_sym (writes_var x) (writes_var y) h = sym h
@@ -24,9 +16,6 @@ conflict_sym (reads_var x) (writes_var y) h = sym h
 conflict_sym (sends_on x) (sends_on y) h = sym h
 conflict_sym (receives_on x) (receives_on y) h = sym h
 conflict_sym _ _ h = absurd h
-
-abbrev pub Apart : List Occurrence → List Occurrence → Type 0
-Apart xs ys = (u v : Occurrence) → In xs u → In ys v → ¬ Conflict u.deed v.deed
 
 abbrev pub Within : List Occurrence → List Occurrence → Type 0
 Within xs ys = (u : Occurrence) → In xs u → In ys u
@@ -40,27 +29,6 @@ within_append xs ys us vs f g u h = by_side (in_either xs ys u h)
     by_side : In xs u ⊎ In ys u → In (us ++ vs) u
     by_side (inl k) = in_left us vs u (f u k)
     by_side (inr k) = in_right us vs u (g u k)
-
--- of a statement: no two of its parallel branches are in conflict
-abbrev mutual
-  pub Sound : Process → Type 0
-  Sound (in_turn members) = EachSound members
-  Sound (side_by_side members) = EachSound members × EachApart members
-  Sound (choosing again choices) = ChoicesSound choices
-  Sound (repeating p) = Sound p
-  Sound _ = Unit {0}
-
-  pub EachSound : Processes → Type 0
-  EachSound no_members = Unit {0}
-  EachSound (and_member p more) = Sound p × EachSound more
-
-  pub EachApart : Processes → Type 0
-  EachApart no_members = Unit {0}
-  EachApart (and_member p more) = Apart (occurrences p) (occurrences_of_each more) × EachApart more
-
-  pub ChoicesSound : Choices → Type 0
-  ChoicesSound no_choices = Unit {0}
-  ChoicesSound (and_choice g p more) = Sound p × ChoicesSound more
 
 contains_from : (xs : List Occurrence) (x : Occurrence) → In xs x → Contains xs x
 contains_from [] x h = absurd h
@@ -111,29 +79,6 @@ meeting_sound p meets = clean_sound p (λ a b h c. by_code a b h (conflict_clash
     by_code a b h (inl c) = meets.variables a b h c
     by_code a b h (inr (inl c)) = meets.sends a b h c
     by_code a b h (inr (inr c)) = meets.receives a b h c
-
--- of what is left of a statement
-abbrev mutual
-  pub uses : Term → List Occurrence
-  uses finished = []
-  uses (active p) = occurrences p
-  uses (in_sequence t more) = uses t ++ occurrences_of_each more
-  uses (in_parallel ts) = uses_of_each ts
-
-  pub uses_of_each : Terms → List Occurrence
-  uses_of_each no_branches = []
-  uses_of_each (and_branch t more) = uses t ++ uses_of_each more
-
-abbrev mutual
-  pub Fits : Term → Type 0
-  Fits finished = Unit {0}
-  Fits (active p) = Sound p
-  Fits (in_sequence t more) = Fits t × EachSound more
-  Fits (in_parallel ts) = FitEach ts
-
-  pub FitEach : Terms → Type 0
-  FitEach no_branches = Unit {0}
-  FitEach (and_branch t more) = Fits t × Apart (uses t) (uses_of_each more) × FitEach more
 
 together_fits : (ts : Terms) → FitEach ts → Fits (together ts)
 together_fits ts h = by_test (all_finished ts)

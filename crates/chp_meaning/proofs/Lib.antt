@@ -5,3 +5,15 @@ pub mod Fitting
 pub mod Moves
 pub mod Meeting
 pub mod RoundRuns
+pub mod Rows
+pub mod Guards
+pub mod Planning
+pub mod Settling
+pub mod Leaving
+pub mod Remainders
+pub mod Tables
+pub mod AtOnceRounds
+pub mod Clearing
+pub mod NextRound
+pub mod RoundAnswers
+pub mod Starting

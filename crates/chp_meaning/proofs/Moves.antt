@@ -75,7 +75,7 @@ pub data Port (c : Configuration) (at : Place) (k : ℕ) : Type 0 where
   sends : {s : Span} {e : Formula} → statement_at c.term at ≡ Some (sending k s e) → ((vs : List ℕ) → offer_at c.rests k ≢ gives vs) → Port c at k
   receives : {s t : Span} {x : ℕ} {vs : List ℕ} → statement_at c.term at ≡ Some (receiving k s x t) → offer_at c.rests k ≡ gives vs → Port c at k
 
-ports_apart : (c : Configuration) (a b : Place) (k : ℕ) → Fits c.term → a ≢ b → Port c a k → Port c b k → ⊥
+pub ports_apart : (c : Configuration) (a b : Place) (k : ℕ) → Fits c.term → a ≢ b → Port c a k → Port c b k → ⊥
 ports_apart c a b k f ne (sends {s = s} {e = e} g n) (sends {s = t} {e = i} h m) =
     places_apart c.term a b (sending k s e) (sending k t i) f ne g h (done_at (sends_on k) s) (done_at (sends_on k) t) (inl refl) (inl refl) refl
 ports_apart c a b k f ne (sends g n) (receives {vs = vs} h m) = n vs m
@@ -89,7 +89,7 @@ pub record Receiver (c : Configuration) (o : Place) (k : ℕ) : Type 0 where
   pub var_at : Span
   pub is : statement_at c.term o ≡ Some (receiving k chan_at var var_at)
 
-other_port : {c d : Configuration} {at : Place} (s : Step c at d) (o : Place) → (deal s).other ≡ Some o → (k : ℕ) × Receiver c o k × Port c at k
+pub other_port : {c d : Configuration} {at : Place} (s : Step c at d) (o : Place) → (deal s).other ≡ Some o → (k : ℕ) × Receiver c o k × Port c at k
 other_port (a_communication {c = c} other {k = k} {x = x} {t = t} {u = u} on there inside) o e =
     let same : other ≡ o = cc e in
     (k, record { chan_at = t; var = x; var_at = u; is = subst (λ w. statement_at c.term w ≡ Some (receiving k t x u)) same there }, sends on (λ vs g. absurd (cc (inside, g))))
@@ -114,7 +114,7 @@ pass_port (a_delivery {c = c} {at = at} {k = l} on offered more) k v e = let sam
 pass_port (an_arrival {c = c} {at = at} {k = l} on offered) k v e = let same : l ≡ k = cc e in subst (λ n. Port c at n) same (receives on offered)
 pass_port _ k v e = absurd (cc e)
 
-offer_port : {c d : Configuration} {at : Place} (s : Step c at d) (k : ℕ) (o : OfferValue) → (deal s).offer ≡ Some (entry k o) → Port c at k
+pub offer_port : {c d : Configuration} {at : Place} (s : Step c at d) (k : ℕ) (o : OfferValue) → (deal s).offer ≡ Some (entry k o) → Port c at k
 offer_port (a_delivery {c = c} {at = at} {k = l} on offered more) k o e = let same : l ≡ k = cc e in subst (λ n. Port c at n) same (sends on (λ vs g. absurd (cc (offered, g))))
 offer_port (an_arrival {c = c} {at = at} {k = l} on offered) k o e = let same : l ≡ k = cc e in subst (λ n. Port c at n) same (receives on offered)
 offer_port _ k o e = absurd (cc e)
@@ -123,7 +123,7 @@ offer_port _ k o e = absurd (cc e)
 abbrev pub Part : {c d : Configuration} {at : Place} → Step c at d → Place → Type 0
 Part {at = at} s w = (at ≡ w) ⊎ ((deal s).other ≡ Some w)
 
-record Writer {c d : Configuration} {at : Place} (s : Step c at d) (x : ℕ) : Type 0 where
+pub record Writer {c d : Configuration} {at : Place} (s : Step c at d) (x : ℕ) : Type 0 where
   pub place : Place
   pub process : Process
   pub var_at : Span
@@ -131,7 +131,7 @@ record Writer {c d : Configuration} {at : Place} (s : Step c at d) (x : ℕ) : T
   pub is : statement_at c.term place ≡ Some process
   pub writes : In (occurrences process) (done_at (writes_var x) var_at)
 
-writer : {c d : Configuration} {at : Place} (s : Step c at d) (x v : ℕ) → (deal s).write ≡ Some (entry x v) → Writer s x
+pub writer : {c d : Configuration} {at : Place} (s : Step c at d) (x v : ℕ) → (deal s).write ≡ Some (entry x v) → Writer s x
 writer (an_assignment {c = c} {at = at} {x = y} {s = sp} {e = e} on) x v h =
     let same : y ≡ x = cc h in
     record { place = at; process = assigning y sp e; var_at = sp; part = inl refl; is = on; writes = inl (ap (λ z. done_at (writes_var z) sp) same) }
@@ -155,12 +155,12 @@ stands (a_communication other on there inside) = (_, on)
 stands (a_delivery on offered more) = (_, on)
 stands (an_arrival on offered) = (_, on)
 
-part_stands : {c d : Configuration} {at : Place} (s : Step c at d) (w : Place) → Part s w → (p : Process) × (statement_at c.term w ≡ Some p)
+pub part_stands : {c d : Configuration} {at : Place} (s : Step c at d) (w : Place) → Part s w → (p : Process) × (statement_at c.term w ≡ Some p)
 part_stands {c = c} s w (inr e) = let r = other_port s w e in (receiving r.0 r.1.chan_at r.1.var r.1.var_at, r.1.is)
 part_stands {c = c} {at = at} s w (inl e) = let r = stands s in (r.0, subst (λ a. statement_at c.term a ≡ Some r.0) e r.1)
 
 -- no place takes part in steps at two places
-parts_apart : {c d e : Configuration} {a b : Place} (s : Step c a d) (u : Step c b e) → Fits c.term → a ≢ b → (w x : Place) → Part s w → Part u x → w ≢ x
+pub parts_apart : {c d e : Configuration} {a b : Place} (s : Step c a d) (u : Step c b e) → Fits c.term → a ≢ b → (w x : Place) → Part s w → Part u x → w ≢ x
 parts_apart {a = a} {b = b} s u f ne w x (inl g) (inl h) same = ne (g ∙ (same ∙ sym h))
 parts_apart {c = c} {a = a} {b = b} s u f ne w x (inl g) (inr h) same =
     let r = other_port u x h in
@@ -253,15 +253,15 @@ again (an_arrival {at = at} {k = k} on offered) e kept =
 
 -- what a step at another place leaves alone
 
-left_stays : (t : Term) (a : Place) (l : Term) (o : Option Place) (b : Place) (q : Process) → a ≢ b → ((w : Place) → o ≡ Some w → w ≢ b) → statement_at t b ≡ Some q → statement_at (leave t a l o) b ≡ Some q
+pub left_stays : (t : Term) (a : Place) (l : Term) (o : Option Place) (b : Place) (q : Process) → a ≢ b → ((w : Place) → o ≡ Some w → w ≢ b) → statement_at t b ≡ Some q → statement_at (leave t a l o) b ≡ Some q
 left_stays t a l None b q ne other h = still t a b l q ne h
 left_stays t a l (Some w) b q ne other h = still (with_left t a l) w b finished q (other w refl) (still t a b l q ne h)
 
-unwritten : (store : List ℕ) (w : Option (Entry ℕ)) (x : ℕ) → ((v : ℕ) → w ≢ Some (entry x v)) → slice_index (written store w) x ≡ slice_index store x
+pub unwritten : (store : List ℕ) (w : Option (Entry ℕ)) (x : ℕ) → ((v : ℕ) → w ≢ Some (entry x v)) → slice_index (written store w) x ≡ slice_index store x
 unwritten store None x h = refl
 unwritten store (Some (entry y v)) x h = get_or-set_other store y x v 0 (λ e. h v (ap (λ z. Some (entry z v)) (sym e)))
 
-unoffered : (rests : List OfferValue) (o : Option (Entry OfferValue)) (k : ℕ) → ((v : OfferValue) → o ≢ Some (entry k v)) → offer_at (put rests o) k ≡ offer_at rests k
+pub unoffered : (rests : List OfferValue) (o : Option (Entry OfferValue)) (k : ℕ) → ((v : OfferValue) → o ≢ Some (entry k v)) → offer_at (put rests o) k ≡ offer_at rests k
 unoffered rests None k h = refl
 unoffered rests (Some (entry l v)) k h = get_or-set_other rests l k v nothing (λ e. h v (ap (λ z. Some (entry z v)) (sym e)))
 

@@ -3,12 +3,8 @@ use Rattle.std.proofs.Common.{◌≡◌, ◌≢◌, ◌⊎◌, ℕ, zero, suc, �
 use Rattle.std.specs.Prelude.{◌&&◌, cond, filter, if◌then◌else◌, Some}
 use Rattle.std.proofs.lemmas.Bool.{cases_eq}
 use Rattle.width_check.specs.Processes.{Process, Processes}
+pub use Rattle.chp_meaning.specs.Fitting.{In}
 use Rattle.chp_meaning.specs.Terms.{Term, Terms, finished, active, in_sequence, in_parallel, no_branches, and_branch, is_finished, all_finished, together, followed, Place, here, in_first, in_branch, statement_at, branch_at, with_left, with_branch, places, branch_places}
-
--- an element of a list
-abbrev pub In : {X : Type 0} → List X → X → Type 0
-In [] x = ⊥
-In (y ∷ ys) x = (y ≡ x) ⊎ In ys x
 
 pub in_left : {X : Type 0} (xs ys : List X) (x : X) → In xs x → In (xs ++ ys) x
 in_left [] ys x h = absurd h
@@ -103,19 +99,19 @@ same_place (in_branch i a) (in_branch j b) = by_both (cases_eq i j) (same_place 
     by_both (inr n) f = inr (λ g. n (cc g))
 
 -- where a statement is active the term isn't finished
-followed_on : (x : Term) (more : Processes) (b : Place) (q : Process) → statement_at x b ≡ Some q → followed x more ≡ in_sequence x more
+pub followed_on : (x : Term) (more : Processes) (b : Place) (q : Process) → statement_at x b ≡ Some q → followed x more ≡ in_sequence x more
 followed_on finished more b q h = absurd (cc h)
 followed_on (active p) more b q h = refl
 followed_on (in_sequence t ms) more b q h = refl
 followed_on (in_parallel ts) more b q h = refl
 
-term_on : (x : Term) (b : Place) (q : Process) → statement_at x b ≡ Some q → is_finished x ≡ false
+pub term_on : (x : Term) (b : Place) (q : Process) → statement_at x b ≡ Some q → is_finished x ≡ false
 term_on finished b q h = absurd (cc h)
 term_on (active p) b q h = refl
 term_on (in_sequence t ms) b q h = refl
 term_on (in_parallel ts) b q h = refl
 
-branches_on : (ts : Terms) (j : ℕ) (b : Place) (q : Process) → branch_at ts j b ≡ Some q → all_finished ts ≡ false
+pub branches_on : (ts : Terms) (j : ℕ) (b : Place) (q : Process) → branch_at ts j b ≡ Some q → all_finished ts ≡ false
 branches_on no_branches j b q h = absurd (cc h)
 branches_on (and_branch t more) zero b q h = ap (λ x. x && all_finished more) (term_on t b q h)
 branches_on (and_branch t more) (suc j) b q h = ap (λ x. is_finished t && x) (branches_on more j b q h) ∙ neither (is_finished t)
@@ -124,7 +120,7 @@ branches_on (and_branch t more) (suc j) b q h = ap (λ x. is_finished t && x) (b
     neither true = refl
     neither false = refl
 
-together_on : (ts : Terms) (j : ℕ) (b : Place) (q : Process) → branch_at ts j b ≡ Some q → together ts ≡ in_parallel ts
+pub together_on : (ts : Terms) (j : ℕ) (b : Place) (q : Process) → branch_at ts j b ≡ Some q → together ts ≡ in_parallel ts
 together_on ts j b q h = ap (λ x. if x then finished else in_parallel ts) (branches_on ts j b q h)
 
 -- a statement stays active at its place where something is left at another one
@@ -151,7 +147,7 @@ mutual
       let on = branch_still ts i a j b l q ne h in
       ap (λ x. statement_at x (in_branch j b)) (together_on (with_branch ts i a l) j b q on) ∙ on
 
-  branch_still : (ts : Terms) (i : ℕ) (a : Place) (j : ℕ) (b : Place) (l : Term) (q : Process) → in_branch i a ≢ in_branch j b → branch_at ts j b ≡ Some q → branch_at (with_branch ts i a l) j b ≡ Some q
+  pub branch_still : (ts : Terms) (i : ℕ) (a : Place) (j : ℕ) (b : Place) (l : Term) (q : Process) → in_branch i a ≢ in_branch j b → branch_at ts j b ≡ Some q → branch_at (with_branch ts i a l) j b ≡ Some q
   branch_still no_branches i a j b l q ne h = absurd (cc h)
   branch_still (and_branch t more) zero a zero b l q ne h = still t a b l q (λ e. ne (ap (in_branch zero) e)) h
   branch_still (and_branch t more) zero a (suc j) b l q ne h = h

@@ -17,10 +17,10 @@ use Rattle.chp_meaning.proofs.Fitting.{Fits, meeting_sound, opened_fits}
 use Rattle.chp_meaning.proofs.Moves.{Entry, entry, appended, deal, step_deals, stands}
 use Rattle.chp_meaning.proofs.Meeting.{found, step_fits, joined, lead_on, leads_fit, meets}
 
-abbrev Can : Configuration → Place → Type 0
+abbrev pub Can : Configuration → Place → Type 0
 Can c at = (d : Configuration) × Step c at d
 
-taken_is : {c d : Configuration} {at : Place} → Fits c.term → Step c at d → taken c at ≡ d
+pub taken_is : {c d : Configuration} {at : Place} → Fits c.term → Step c at d → taken c at ≡ d
 taken_is {c = c} f s = ap (λ o. unwrap_or o c) (found f s)
 
 -- steps at different places, one after the other
@@ -51,22 +51,22 @@ some_of : {X : Type 0} (o : Option X) → is_some o ≡ true → (x : X) × (o �
 some_of None e = absurd (cc e)
 some_of (Some x) e = (x, refl)
 
-can_each : (c : Configuration) (q : Place) → In (enabled_places c) q → Can c q
+pub can_each : (c : Configuration) (q : Place) → In (enabled_places c) q → Can c q
 can_each c q i = let r = some_of (step_at c q) (in_filtered (is_enabled c) (places c.term) q i).1 in (r.0, step_is c r.0 q r.1)
 
-each_listed : {c d : Configuration} {at : Place} → Fits c.term → Step c at d → In (enabled_places c) at
+pub each_listed : {c d : Configuration} {at : Place} → Fits c.term → Step c at d → In (enabled_places c) at
 each_listed {c = c} {at = at} f s = let p = stands s in in_filter (is_enabled c) (places c.term) at (listed c.term at p.0 p.1) (ap is_some (found f s))
 
-listed_once : (c : Configuration) → Distinct (enabled_places c)
+pub listed_once : (c : Configuration) → Distinct (enabled_places c)
 listed_once c = distinct_filter (is_enabled c) (places c.term) (places_distinct c.term)
 
-round_leads : (c : Configuration) → Fits c.term → Leads c (length (enabled_places c)) (round c)
+pub round_leads : (c : Configuration) → Fits c.term → Leads c (length (enabled_places c)) (round c)
 round_leads c f = all_taken (enabled_places c) c f (listed_once c) (can_each c)
 
 round_any : {c d : Configuration} {at : Place} → Fits c.term → Step c at d → (n : ℕ) × Leads d n (round c)
 round_any {c = c} {d = d} {at = at} f s = any_first (enabled_places c) c f (listed_once c) (can_each c) at d (each_listed f s) s
 
-rounds_lead : (n : ℕ) (c : Configuration) → Fits c.term → (m : ℕ) × Leads c m (rounds_from c n)
+pub rounds_lead : (n : ℕ) (c : Configuration) → Fits c.term → (m : ℕ) × Leads c m (rounds_from c n)
 rounds_lead zero c f = (0, no_step)
 rounds_lead (suc n) c f =
     let l = round_leads c f in
@@ -112,7 +112,7 @@ run_behind (one_step {c = c} {d = d} {e = e} s l) k =
     let b = run_behind l k in
     (a.0 ++ b.0, b.1 ∙ (ap (λ h. h ++ b.0) a.1 ∙ append_assoc (history_at c.histories k) a.0 b.0))
 
-one_round_more : (n : ℕ) (c : Configuration) → rounds_from c (suc n) ≡ round (rounds_from c n)
+pub one_round_more : (n : ℕ) (c : Configuration) → rounds_from c (suc n) ≡ round (rounds_from c n)
 one_round_more zero c = refl
 one_round_more (suc n) c = one_round_more n (round c)
 

@@ -2,3 +2,8 @@ pub mod Terms
 pub mod Steps
 pub mod Rounds
 pub mod Laws
+pub mod Fitting
+pub mod Remaining
+pub mod AtOnce
+pub mod Standing
+pub mod Ends

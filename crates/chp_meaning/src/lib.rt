@@ -1,6 +1,14 @@
 //! The meaning of programs, in steps and in rounds.
 #![tactic(auto)]
 
+mod config;
 mod laws;
+mod left;
+mod effect;
+mod plan;
+mod run;
+mod settle;
 
+pub use config::{Config, start};
 pub use laws::{one_history, rounds_hold, runs_append, steps_taken};
+pub use run::{RunEnd, round, run_rounds};

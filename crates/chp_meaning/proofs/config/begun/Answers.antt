@@ -1,0 +1,26 @@
+use Rattle.std.proofs.Common.{◌≡◌}
+use Rattle.width_check.specs.View.{process_of}
+use Rattle.chp_meaning.proofs.Starting.{first_stands, first_is}
+use Rattle.chp_meaning.proofs.config.begun.Goals as goal
+
+pub returns-clause-standing : goal.returns-clause-standing
+returns-clause-standing c =
+    first_stands (process_of c.args.body.now) c.args.channels c.args.script.now _ (record {
+      runnable = c.requires.numbers;
+      left_is = c.in_ok-opened.ensures;
+      rests = c.in_ok-whole_script.ensures;
+      histories = c.in_ok-no_values.ensures;
+      sends = c.in_ok-no_sends.ensures;
+      receives = c.in_ok-no_receives.ensures;
+    }) c.requires.script
+
+pub returns-clause-start : goal.returns-clause-start
+returns-clause-start c =
+    first_is (process_of c.args.body.now) c.args.channels c.args.script.now (record { left = c.in_ok-opened.field-0; store = c.args.store; rests = c.in_ok-whole_script.field-0; histories = c.in_ok-no_values.field-0; sends = c.in_ok-no_sends.field-0; receives = c.in_ok-no_receives.field-0 }) (record {
+      runnable = c.requires.numbers;
+      left_is = c.in_ok-opened.ensures;
+      rests = c.in_ok-whole_script.ensures;
+      histories = c.in_ok-no_values.ensures;
+      sends = c.in_ok-no_sends.ensures;
+      receives = c.in_ok-no_receives.ensures;
+    })

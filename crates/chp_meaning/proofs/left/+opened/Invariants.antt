@@ -1,0 +1,10 @@
+use Rattle.std.proofs.Common.{◌≡◌, drop}
+use Rattle.chp_meaning.specs.Remaining.{each_begun, members_of}
+use Rattle.chp_meaning.proofs.Rows.{front}
+use Rattle.chp_meaning.proofs.left.+opened.Given as goal
+
+abbrev pub decreases-opened : goal.decreases-opened
+decreases-opened l = goal.size-opened l
+
+abbrev pub invariant-loop-part : goal.invariant-loop-part
+invariant-loop-part l = front l.lefts.items (each_begun (members_of (drop l.part-index l.part-items))) ≡ each_begun (members_of l.part-items)

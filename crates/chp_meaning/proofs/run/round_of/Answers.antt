@@ -1,0 +1,19 @@
+use Rattle.std.proofs.Common.{◌≡◌, ◌∙◌, ap}
+use Rattle.width_check.specs.View.{process_of}
+use Rattle.chp_meaning.proofs.NextRound.{plan_within, within_after, settled_after, settled_stands, settled_round, planned_of}
+use Rattle.chp_meaning.proofs.run.round_of.Goals as goal
+
+pub settled-requires : goal.settled-requires
+settled-requires c =
+    let plan = planned_of (process_of c.args.body.now) c.args.config.now _ _ _ c.deref.ensures.value c.in_ok-left.ensures.plan in
+    within_after c.args.config.now _ _ c.in_ok-left.ensures.unchanged (plan_within (process_of c.args.body.now) c.args.config.now _ c.requires plan.moves_are)
+
+pub returns-clause-standing : goal.returns-clause-standing
+returns-clause-standing c =
+    let plan = planned_of (process_of c.args.body.now) c.args.config.now _ _ _ c.deref.ensures.value c.in_ok-left.ensures.plan in
+    settled_stands (process_of c.args.body.now) c.args.config.now _ _ _ c.requires plan (settled_after c.args.config.now _ _ _ _ c.in_ok-left.ensures.unchanged c.in_ok-settled.ensures.ok)
+
+pub returns-clause-round : goal.returns-clause-round
+returns-clause-round c = λ fits.
+    let plan = planned_of (process_of c.args.body.now) c.args.config.now _ _ _ c.deref.ensures.value c.in_ok-left.ensures.plan in
+    settled_round (process_of c.args.body.now) c.args.config.now _ _ _ c.requires fits plan (settled_after c.args.config.now _ _ _ _ c.in_ok-left.ensures.unchanged c.in_ok-settled.ensures.ok)

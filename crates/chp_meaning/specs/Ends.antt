@@ -1,0 +1,54 @@
+-- What rounds answer.
+use Rattle.std.specs.Prelude.{◌≡◌, ◌≢◌, ◌↔◌, ℕ, zero, suc, ◌<◌, ◌≤◌, Bool, true, false, List, [], ◌∷◌, length}
+use Rattle.env_script.specs.Scripts.{OfferValue, IsScript}
+use Rattle.width_check.specs.Typed.{TypedValue, program_of}
+use Rattle.width_check.specs.View.{process_of}
+use Rattle.chp_meaning.specs.declared.config.Config.{Config}
+use Rattle.chp_meaning.specs.declared.run.RunEnd.{RunEnd}
+use Rattle.chp_meaning.specs.declared.run.RunEnd.TheVariants.{Rest, Spent, TooMany}
+use Rattle.chp_meaning.specs.Terms.{Place}
+use Rattle.chp_meaning.specs.Steps.{Configuration, Step, Leads, start_of}
+use Rattle.chp_meaning.specs.Rounds.{rounds_from}
+use Rattle.chp_meaning.specs.AtOnce.{held}
+use Rattle.chp_meaning.specs.Standing.{IsStanding, configuration_of}
+
+-- how a program stands
+abbrev pub seen : TypedValue → Config → Configuration
+seen program c = configuration_of (process_of program.body) c
+
+-- the program's steps under some script of its channels lead there
+abbrev pub IsReached : TypedValue → Configuration → Type 0
+IsReached program c = (script : List OfferValue) × (n : ℕ) × IsScript program.channels script × Leads (start_of (program_of program) script) n c
+
+-- the configuration is one of the program
+pub record IsOf (program : TypedValue) (c : Config) : Type 0 where
+  pub standing : IsStanding (process_of program.body) c
+  pub reached : IsReached program (seen program c)
+
+abbrev pub CanStep : Configuration → Type 0
+CanStep c = (at : Place) × (d : Configuration) × Step c at d
+
+-- how many values have passed, on all channels together
+abbrev pub held_in : Configuration → ℕ
+held_in c = held c.histories
+
+-- From the first configuration n rounds are wanted, and the histories may hold so many values. They would hold more, and
+-- this is the last configuration in which they don't; or they hold no more, and no step is left, or one is.
+abbrev pub IsEnd : (n most : ℕ) → Configuration → Configuration → RunEnd → Type 0
+IsEnd n most old new TooMany = (most < held_in (rounds_from old n)) × ((k : ℕ) × (k < n) × (new ≡ rounds_from old k) × (held_in new ≤ most) × (most < held_in (rounds_from old (suc k))))
+IsEnd n most old new Rest = (held_in (rounds_from old n) ≤ most) × (new ≡ rounds_from old n) × ¬ CanStep new
+IsEnd n most old new Spent = (held_in (rounds_from old n) ≤ most) × (new ≡ rounds_from old n) × CanStep new
+
+-- this is the configuration after some number of rounds, at most n
+abbrev pub IsWithin : (n : ℕ) → Configuration → Configuration → Type 0
+IsWithin n old new = (k : ℕ) × (k ≤ n) × (new ≡ rounds_from old k)
+
+-- the moves of some steps
+abbrev pub is_some_step : {X : Type 0} → List X → Bool
+is_some_step [] = false
+is_some_step (x ∷ xs) = true
+
+-- behind rounds that could go on with these
+abbrev pub end_by : {X : Type 0} → List X → RunEnd
+end_by [] = Rest
+end_by (x ∷ xs) = Spent

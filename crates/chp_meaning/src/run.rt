@@ -1,0 +1,191 @@
+//! Rounds.
+
+ghost use Rattle.std.specs.Prelude.{◌≡◌, ◌≤◌, ◌↔◌, List, length, IfOk, OnOk, OnErr, true, is_some, count_by};
+ghost use Rattle.env_script.specs.Scripts.{OfferValue};
+ghost use Rattle.width_check.specs.Sharing.{MeetsSharing};
+ghost use Rattle.width_check.specs.Typed.{program_of};
+ghost use Rattle.width_check.specs.View.{process_of};
+ghost use Rattle.chp_meaning.specs.Fitting.{Fits};
+ghost use Rattle.chp_meaning.specs.Rounds.{round};
+ghost use Rattle.chp_meaning.specs.Laws.{OneHistory, RoundsHold};
+ghost use Rattle.chp_meaning.specs.Remaining.{remains_of, CanRemain};
+ghost use Rattle.chp_meaning.specs.AtOnce.{advanced, moves_of, statements, held};
+ghost use Rattle.chp_meaning.specs.Ends.{seen, IsOf, CanStep, IsEnd, IsWithin, held_in, is_some_step, end_by};
+ghost use Rattle.chp_meaning.specs.Standing.{outset_of, histories_of, items_of, configuration_of, next_moves, Carries, IsStanding, IsPlan, AreWithin, IsSettled, IsUnchanged};
+
+use crate::config::Config;
+use crate::effect::Move;
+use crate::left::Left;
+use crate::plan::{advanced, note};
+use crate::settle::{pass_all, use_all, write_all};
+use std::alloc::{AllocError, Global};
+use width_check::{TStmt, Typed};
+
+/// How a run of rounds ended.
+#[derive(Clone, Copy, Debug, PartialEq, Eq)]
+pub enum RunEnd {
+    /// No step is left.
+    Rest,
+    /// A step is left.
+    Spent,
+    /// One more round would bring more values than allowed.
+    TooMany,
+}
+
+/// What is left after the next round, and its moves, where the ends that wait are noted.
+fn plan(
+    alloc: Global,
+    config: &Config,
+    body: &TStmt,
+) -> Result<(Left, Vec<Move>), AllocError>
+    requires remains { CanRemain (process_of body.now) (remains_of config.now.left) }
+    requires numbers { Carries config.now (process_of body.now) }
+    ensures left { IfOk result (λ plan. remains_of plan.0 ≡ advanced (outset_of config.now) (process_of body.now) (remains_of config.now.left)) }
+    ensures moves { IfOk result (λ plan. plan.1.items ≡ moves_of (outset_of config.now) (statements (process_of body.now) (remains_of config.now.left))) }
+{
+    let mut moves = Vec::new(alloc);
+    let left = advanced(alloc, &config.left, body, config, &mut moves)?;
+    Ok((left, moves))
+}
+
+/// What is left after the next round, and its moves.
+fn planned(
+    alloc: Global,
+    config: &mut Config,
+    body: &TStmt,
+) -> Result<(Left, Vec<Move>), AllocError>
+    requires { IsStanding (process_of body.now) config.old }
+    ensures plan { IfOk result (λ plan. IsPlan (process_of body.now) config.old plan.0 plan.1.items) }
+    ensures unchanged { IsUnchanged config.old config.new }
+{
+    note(&config.left, body, true, &mut config.sends, &mut config.receives);
+    let found = plan(alloc, config, body);
+    note(&config.left, body, false, &mut config.sends, &mut config.receives);
+    found
+}
+
+/// Makes the round of a plan. Where memory runs out nothing is changed.
+fn settled(config: &mut Config, left: Left, moves: &[Move]) -> Result<(), AllocError>
+    requires { AreWithin config.old moves.now }
+    ensures ok { OnOk result (IsSettled config.old config.new left moves.now) }
+    ensures err { OnErr result (IsUnchanged config.old config.new) }
+{
+    pass_all(&mut config.histories, moves)?;
+    write_all(&mut config.store, moves);
+    use_all(&mut config.rests, moves);
+    config.left = left;
+    Ok(())
+}
+
+/// Makes one round of a program that does this.
+pub(crate) fn round_of(alloc: Global, config: &mut Config, body: &TStmt) -> Result<bool, AllocError>
+    requires { IsStanding (process_of body.now) config.old }
+    ensures standing { IsStanding (process_of body.now) config.new }
+    ensures round { Fits (configuration_of (process_of body.now) config.old).term → OnOk result (configuration_of (process_of body.now) config.new ≡ round (configuration_of (process_of body.now) config.old)) }
+    ensures took { IfOk result (λ took. took ≡ is_some_step (next_moves (process_of body.now) config.old)) }
+    ensures err { OnErr result (configuration_of (process_of body.now) config.new ≡ configuration_of (process_of body.now) config.old) }
+{
+    let (left, moves) = planned(alloc, config, body)?;
+    settled(config, left, &moves)?;
+    Ok(!moves.is_empty())
+}
+
+/// Makes one round: each step that is enabled now is taken once, in the order of the places (Martin). Answers whether there
+/// was one. Where memory runs out nothing is changed.
+pub fn round(alloc: Global, config: &mut Config, program: &Typed) -> Result<bool, AllocError>
+    requires sharing { MeetsSharing (process_of program.now.body) }
+    requires of { IsOf program.now config.old }
+    ensures of { IsOf program.now config.new }
+    ensures round { OnOk result (seen program.now config.new ≡ round (seen program.now config.old)) }
+    ensures took { IfOk result (λ took. (took ≡ true) ↔ CanStep (seen program.now config.old)) }
+    ensures err { OnErr result (seen program.now config.new ≡ seen program.now config.old) }
+    // Whatever order steps are taken in leads on to the rounds.
+    ensures one_history { (script : List OfferValue) → OneHistory (program_of program.now) script }
+    // Rounds are steps, and only append to the histories.
+    ensures rounds_hold { (script : List OfferValue) → RoundsHold (program_of program.now) script }
+{
+    round_of(alloc, config, program.body())
+}
+
+/// How many values have passed on all channels together.
+fn held(histories: &[Vec<u64>], most: u32) -> u64
+    requires { held (items_of histories.now) ≤ most }
+    ensures { result ≡ held (items_of histories.now) }
+{
+    let mut count: u64 = 0;
+    for history in histories {
+        count += history.len() as u64;
+    }
+    count
+}
+
+/// How many values pass.
+fn passing(moves: &[Move]) -> u64
+    ensures { result ≡ count_by (λ step. is_some step.pass) moves.now }
+{
+    moves.iter().filter(|step| step.pass.is_some()).count() as u64
+}
+
+/// How a run ends behind which these would be the moves of one more round.
+fn end_by(moves: &[Move]) -> RunEnd
+    ensures { result ≡ end_by moves.now }
+{
+    if moves.is_empty() {
+        RunEnd::Rest
+    } else {
+        RunEnd::Spent
+    }
+}
+
+/// Makes rounds of a program that does this.
+pub(crate) fn run_of(
+    alloc: Global,
+    config: &mut Config,
+    body: &TStmt,
+    n: u32,
+    most: u32,
+) -> Result<RunEnd, AllocError>
+    requires standing { IsStanding (process_of body.now) config.old }
+    requires held { held (histories_of config.old) ≤ most }
+    ensures standing { IsStanding (process_of body.now) config.new }
+    ensures end { Fits (configuration_of (process_of body.now) config.old).term → IfOk result (λ end. IsEnd n most (configuration_of (process_of body.now) config.old) (configuration_of (process_of body.now) config.new) end) }
+    ensures err { Fits (configuration_of (process_of body.now) config.old).term → OnErr result (IsWithin n (configuration_of (process_of body.now) config.old) (configuration_of (process_of body.now) config.new)) }
+{
+    let mut count = held(&config.histories, most);
+    for _made in 0..n {
+        let (left, moves) = planned(alloc, config, body)?;
+        if moves.is_empty() {
+            return Ok(RunEnd::Rest);
+        }
+        count += passing(&moves);
+        if count > u64::from(most) {
+            return Ok(RunEnd::TooMany);
+        }
+        settled(config, left, &moves)?;
+    }
+    let (_, moves) = planned(alloc, config, body)?;
+    Ok(end_by(&moves))
+}
+
+/// Makes `n` rounds, but none that would bring the values that have passed over `most` in all. Stops early where no step
+/// is left. Where memory runs out some of the rounds have been made.
+pub fn run_rounds(
+    alloc: Global,
+    config: &mut Config,
+    program: &Typed,
+    n: u32,
+    most: u32,
+) -> Result<RunEnd, AllocError>
+    requires sharing { MeetsSharing (process_of program.now.body) }
+    requires of { IsOf program.now config.old }
+    requires held { held_in (seen program.now config.old) ≤ most }
+    ensures of { IsOf program.now config.new }
+    ensures end { IfOk result (λ end. IsEnd n most (seen program.now config.old) (seen program.now config.new) end) }
+    ensures err { OnErr result (IsWithin n (seen program.now config.old) (seen program.now config.new)) }
+    // Whatever order steps are taken in leads on to the rounds.
+    ensures one_history { (script : List OfferValue) → OneHistory (program_of program.now) script }
+    // Rounds are steps, and only append to the histories.
+    ensures rounds_hold { (script : List OfferValue) → RoundsHold (program_of program.now) script }
+{
+    run_of(alloc, config, program.body(), n, most)
+}
