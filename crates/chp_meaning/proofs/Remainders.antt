@@ -261,9 +261,10 @@ mutual
 
   each_advanced_can : (n m : ℕ) (o : Outset) (p : Process) (k : ℕ) (rs : Several) → IsRunnable n m p → ((j : ℕ) → j < how_many rs → k + j < part_count p) → EachCanRemain p k rs → EachCanRemain p k (each_advanced o p k rs)
   each_advanced_can n m o p k no_more q lt c = tt
-  each_advanced_can n m o p k (and_left r rest) q lt c =
-      (advanced_can n m o (part_of p k) r (part_runnable n m p k (let first = lt 0 (omega arith) in omega (arith, first)) q) c.0,
-       each_advanced_can n m o p (suc k) rest q (λ j h. let later = lt (suc j) (omega (arith, h)) in omega (arith, later)) c.1)
+  each_advanced_can n m o p k (and_left r rest) q lt c = (
+    advanced_can n m o (part_of p k) r (part_runnable n m p k (let first = lt 0 (omega arith) in omega (arith, first)) q) c.0,
+    each_advanced_can n m o p (suc k) rest q (λ j h. let later = lt (suc j) (omega (arith, h)) in omega (arith, later)) c.1,
+  )
 
 -- the same of terms
 

@@ -134,7 +134,7 @@ pub overfull : (body : Process) (old : Configuration) (i n most : ℕ) (c d : Co
 overfull body old i n most c d left moves f a p lt few many =
     let there = now_is body old i c d a in
     let next : held_in (rounds_from old (suc i)) ≡ held (histories_of c) + passing moves =
-          ap held_in (one_round_more i old ∙ ap round (sym a.so_far)) ∙ planned_held body c left moves a.standing (at_fits body old i c d f a) p in
+    ap held_in (one_round_more i old ∙ ap round (sym a.so_far)) ∙ planned_held body c left moves a.standing (at_fits body old i c d f a) p in
     let more = rounds_held (suc i) n old f (omega (arith, lt)) in
     (omega (arith, next, many, more), (i, lt, there, omega (arith, few, held_there body old i c d a), omega (arith, next, many)))
 

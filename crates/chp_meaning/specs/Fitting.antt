@@ -64,4 +64,3 @@ abbrev mutual
   pub FitEach : Terms → Type 0
   FitEach no_branches = Unit {0}
   FitEach (and_branch t more) = Fits t × Apart (uses t) (uses_of_each more) × FitEach more
-

@@ -2,9 +2,9 @@
 #![tactic(auto)]
 
 mod config;
+mod effect;
 mod laws;
 mod left;
-mod effect;
 mod plan;
 mod run;
 mod settle;

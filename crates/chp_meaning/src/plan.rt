@@ -7,8 +7,8 @@ ghost use Rattle.chp_meaning.specs.AtOnce.{statements, noted_send, noted_receive
 ghost use Rattle.chp_meaning.specs.Standing.{outset_of, Carries};
 
 use crate::config::Config;
-use crate::left::{Left, entered, part, resumed, together};
 use crate::effect::{Move, TrueGuards, chosen, ending, is_met, plain_move};
+use crate::left::{Left, entered, part, resumed, together};
 use std::alloc::{AllocError, Global};
 use width_check::TStmt;
 

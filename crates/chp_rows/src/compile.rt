@@ -150,7 +150,10 @@ node n8 0\nnode n9 0\nout X 1\nrule n6 & ~n7 -> done+\nrule ~n6 -> done-\nrule n
 rule n9 -> X.0.f+\nrule ~n9 -> X.0.f-\nrule go & ~n6 -> n5+\nrule n6 -> n5-\nrule n7 -> n6+\nrule ~go -> n6-\n\
 rule n5 & X.a -> n7+\nrule ~X.a -> n7-\n",
     )?;
-    for (guard, sign) in [(b"rule n5 -> ".as_slice(), b"+\n".as_slice()), (b"rule ~n5 -> ", b"-\n")] {
+    for (guard, sign) in [
+        (b"rule n5 -> ".as_slice(), b"+\n".as_slice()),
+        (b"rule ~n5 -> ", b"-\n"),
+    ] {
         file.extend_from_slice(guard)?;
         file.extend_from_slice(rail)?;
         file.extend_from_slice(sign)?;

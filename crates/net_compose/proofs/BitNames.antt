@@ -59,8 +59,20 @@ names_of_bit name =
 
 pub each_is_name : (name : List ℕ) → IsName name → All IsNodeName (names_of_bit name)
 each_is_name name is = All-from_recursion IsNodeName (names_of_bit name) (
-  go_is_name, (done_is_name, (true_is_name name is, (false_is_name name is, (ack_is_name name is,
-  (numbered_is_name 5 (lit< tt), (numbered_is_name 6 (lit< tt), (numbered_is_name 7 (lit< tt), (numbered_is_name 8 (lit< tt), (numbered_is_name 9 (lit< tt), tt)))))))))
+  go_is_name,
+  (
+    done_is_name,
+    (
+      true_is_name name is,
+      (
+        false_is_name name is,
+        (
+          ack_is_name name is,
+          (numbered_is_name 5 (lit< tt), (numbered_is_name 6 (lit< tt), (numbered_is_name 7 (lit< tt), (numbered_is_name 8 (lit< tt), (numbered_is_name 9 (lit< tt), tt))))),
+        ),
+      ),
+    ),
+  ),
 )
 
 -- names are told apart by whether they have a dot, and by their last byte

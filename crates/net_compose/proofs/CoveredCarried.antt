@@ -334,9 +334,11 @@ module _ (P : TypedProgram) (given : Given P) where
 
       safe_run : (ns : List ℕ) (st : RunState) (moves : ℕ) → Reached st moves → IsRun (translation P) script st ns → IsSafeRun (translation P) script st ns
       safe_run [] st moves r run = apart st moves r
-      safe_run (n ∷ ns) st moves r run =
-          (apart st moves r, record { stable = λ m ne there. stable st moves r n run.0 m ne there; phases = in_phase st moves r n run.0 },
-          safe_run ns (moved_flat (translation P) st n) (suc moves) (one_more st moves r n run.0) run.1)
+      safe_run (n ∷ ns) st moves r run = (
+        apart st moves r,
+        record { stable = λ m ne there. stable st moves r n run.0 m ne there; phases = in_phase st moves r n run.0 },
+        safe_run ns (moved_flat (translation P) st n) (suc moves) (one_more st moves r n run.0) run.1,
+      )
 
       at_rest : (st : RunState) (moves : ℕ) (r : Reached st moves) → IsAtRestFlat (translation P) script st → IsAtRest P script r.cells
       at_rest st moves r still n stands_there =
@@ -359,8 +361,8 @@ module _ (P : TypedProgram) (given : Given P) where
             let on = one q.steps q.to q.leads in
             let e : q.steps + (moves - q.steps) ≡ moves = omega (arith, q.within) in
             let there : rounds P script moves ≡ q.to =
-                ap (rounds P script) (sym e) ∙ (rounds_on (start_of P script) q.steps (moves - q.steps)
-                ∙ (ap (λ c. rounds_from c (moves - q.steps)) (sym (leads_nowhere q.to (rounds P script q.steps) on.0 z.still on.1)) ∙ rounds_stay steps_taken q.to z.still (moves - q.steps))) in
+            ap (rounds P script) (sym e) ∙ (rounds_on (start_of P script) q.steps (moves - q.steps)
+            ∙ (ap (λ c. rounds_from c (moves - q.steps)) (sym (leads_nowhere q.to (rounds P script q.steps) on.0 z.still on.1)) ∙ rounds_stay steps_taken q.to z.still (moves - q.steps))) in
             subst (λ c. IsSettled st c) (sym there) (record {
               whole = λ k. ap (λ hs. history_at hs k) (r.shows.histories ∙ sym q.passed);
               still = z.still;

@@ -246,10 +246,10 @@ module _ (v : ℕ → Bool) where
       let t : n ≡ from → rail_keeps v ack from (from + 1) ≡ true = λ e. ap (λ m. rail_keeps v ack m (from + 1)) (sym z) ∙ h zero true (omega arith) (e ∙ sym z) in
       let f : n ≡ from + 1 → rail_keeps v ack (from + 1) from ≡ true = λ e. ap (λ m. rail_keeps v ack (from + 1) m) (sym z) ∙ h zero false (omega arith) e in
       let more = rails_kept w (from + 2) ack n (λ i one lt e.
-          let a : from + suc (suc (rail_place i one)) ≡ from + 2 + rail_place i one = omega arith in
-          let b : from + suc (suc (rail_place i (not one))) ≡ from + 2 + rail_place i (not one) = omega arith in
-          ap (λ m. rail_keeps v ack m (from + 2 + rail_place i (not one))) (sym a)
-          ∙ (ap (λ m. rail_keeps v ack (from + suc (suc (rail_place i one))) m) (sym b) ∙ h (suc i) one (omega arith) (e ∙ sym a))) in
+      let a : from + suc (suc (rail_place i one)) ≡ from + 2 + rail_place i one = omega arith in
+      let b : from + suc (suc (rail_place i (not one))) ≡ from + 2 + rail_place i (not one) = omega arith in
+      ap (λ m. rail_keeps v ack m (from + 2 + rail_place i (not one))) (sym a)
+      ∙ (ap (λ m. rail_keeps v ack (from + suc (suc (rail_place i one))) m) (sym b) ∙ h (suc i) one (omega arith) (e ∙ sym a))) in
       all_three (not (n == from) || rail_keeps v ack from (from + 1)) (not (n == from + 1) || rail_keeps v ack (from + 1) from) (rails_keep v ack (rails_of (pairs_from w (from + 2))) n)
       (if_there from (rail_keeps v ack from (from + 1)) t) (if_there (from + 1) (rail_keeps v ack (from + 1) from) f) more
     where

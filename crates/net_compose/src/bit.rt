@@ -23,9 +23,13 @@ const NODES: u32 = 10;
 /// The rails of the channel's bit, its acknowledge, and the send's request and answer, with the rails of the bit that it
 /// sends.
 const RAILS: [u32; 2] = [2, 3];
+
 const ACK: u32 = 4;
+
 const REQUEST: u32 = 5;
+
 const ANSWER: u32 = 7;
+
 const SENT: [u32; 2] = [8, 9];
 
 /// Writes the guards of the rail of a constant bit, which follows the request.
@@ -76,14 +80,7 @@ fn wire_name(alloc: Global, channel: &Name, tail: &[u8]) -> Result<Name, AllocEr
 }
 
 /// The names of the nodes.
-#[tactic(
-    auto,
-    using(
-        crate::proofs::BitNames::true_is_name,
-        crate::proofs::BitNames::false_is_name,
-        crate::proofs::BitNames::ack_is_name
-    )
-)]
+#[tactic(auto, using(crate::proofs::BitNames::true_is_name, crate::proofs::BitNames::false_is_name, crate::proofs::BitNames::ack_is_name))]
 fn bit_names(alloc: Global, channel: &Name) -> Result<Vec<Name>, AllocError>
     requires { IsName channel.now }
     ensures { IfOk result
