@@ -13,7 +13,9 @@ use Rattle.chp_meaning.specs.declared.config.Config.{Config}
 use Rattle.chp_meaning.specs.Terms.{opened}
 use Rattle.chp_meaning.specs.Steps.{Configuration, no_step, start_of}
 use Rattle.chp_meaning.specs.Remaining.{remains_of, term_of, begun, IsRunnable, AreRunnable, ChoicesRunnable}
-use Rattle.chp_meaning.specs.Standing.{rest_of, items_of, configuration_of, IsStanding}
+use Rattle.chp_meaning.specs.Standing.{rest_of, items_of, histories_of, configuration_of, IsStanding}
+use Rattle.chp_meaning.specs.AtOnce.{held}
+use Rattle.std.proofs.lemmas.List.Sums.{sum_by-cons}
 use Rattle.chp_meaning.specs.Ends.{seen, IsOf}
 use Rattle.chp_meaning.proofs.Remainders.{begins}
 
@@ -83,3 +85,11 @@ all_begun t script store n (Ok c) fits first count standing is = begins_of t scr
 
 pub program_runs : (t : TypedValue) (n m : ℕ) → IsProcess t.channels t.vars (process_of t.body) → n ≡ length t.channels → m ≡ length t.vars → IsRunnable n m (process_of t.body)
 program_runs t n m is e f = subst (λ k. IsRunnable k m (process_of t.body)) (sym e) (subst (λ k. IsRunnable (length t.channels) k (process_of t.body)) (sym f) (process_runs t.channels t.vars (process_of t.body) is))
+
+-- before the first step no value has passed
+none_held : (n : ℕ) → held (replicate n []) ≡ 0
+none_held zero = refl
+none_held (suc n) = let none : List ℕ = [] in omega (arith, sum_by-cons length none (replicate n none), none_held n)
+
+pub held_at_first : (body : Process) (c : Config) (store : List ℕ) (script : List OfferValue) (n most : ℕ) → configuration_of body c ≡ record { term = opened body; store = store; rests = script; histories = replicate n [] } → held (histories_of c) ≤ most
+held_at_first body c store script n most e = omega (arith, ap (λ (x : Configuration). held x.histories) e, none_held n)
