@@ -1,25 +1,23 @@
 -- A round is one change, in which each active statement does what how things stand at the round's start makes it do.
-use Rattle.std.proofs.Common.{◌≡◌, ◌≢◌, ◌⊎◌, ℕ, zero, suc, ◌+◌, ◌-◌, ◌<◌, ◌≤◌, Bool, true, false, List, [], ◌∷◌, ◌++◌, length, get_or, map, replicate, refl, sym, ap, ◌∙◌, subst, inl, inr, arith}
+use Rattle.std.proofs.Common.{◌≡◌, ◌≢◌, ◌⊎◌, ℕ, suc, ◌+◌, Bool, true, false, List, [], ◌∷◌, ◌++◌, length, get_or, map, replicate, refl, sym, ap, ◌∙◌, subst, inl, inr, arith}
 use Rattle.std.specs.Prelude.{◌==◌, if◌then◌else◌, cond, filter, fold, is_some, option_to_list, slice_index, slice_index_or, slice_set, Option, Some, None}
-use Rattle.std.proofs.lemmas.List.{length-replicate, append-nil}
+use Rattle.std.proofs.lemmas.List.{length-replicate}
 use Rattle.chp_base.specs.declared.span.Span.{Span}
-use Rattle.env_script.specs.declared.script.Count.{Count}
 use Rattle.env_script.specs.Scripts.{OfferValue, gives, takes, nothing, offer_at, is_over}
-use Rattle.env_script.specs.Runs.{history_at}
-use Rattle.width_check.specs.Processes.{Formula, Process, skipping, assigning, sending, receiving, in_turn, side_by_side, choosing, repeating, no_members, and_member, Choices, no_choices, and_choice, choice_count}
+use Rattle.width_check.specs.Processes.{Formula, Process, skipping, assigning, sending, receiving, in_turn, side_by_side, choosing, repeating, no_members, and_member, Choices, no_choices, and_choice}
 use Rattle.width_check.specs.Values.{value}
 use Rattle.width_check.specs.Sharing.{reads_var, writes_var, receives_on, done_at}
 use Rattle.chp_meaning.specs.declared.effect.Move.{Move}
 use Rattle.chp_meaning.specs.declared.effect.TrueGuards.{TrueGuards}
 use Rattle.chp_meaning.specs.declared.effect.TrueGuards.TheVariants.{Zero, One, Several as Many}
 use Rattle.chp_meaning.specs.Terms.{Term, Terms, finished, active, in_sequence, in_parallel, no_branches, and_branch, opened, followed, is_finished, Place, in_first, in_branch, statement_at, branch_at, with_left, places, branch_places}
-use Rattle.chp_meaning.specs.Steps.{Configuration, value_in, open_branches, one_fewer, leaving, storing, passing, offering, Step, a_skip, an_assignment, a_selection, a_turn, an_end, a_repetition, a_communication, a_delivery, an_arrival}
-use Rattle.chp_meaning.specs.Rounds.{step_at, is_enabled, enabled_places, taken, round}
-use Rattle.chp_meaning.specs.Remaining.{begun, term_of, before, branch_of, within, IsRunnable, is_group}
-use Rattle.chp_meaning.specs.AtOnce.{Outset, plain_move, sent_move, meeting_move, next_of, received_move, ending_move, is_inside, is_met, true_guards, counted, choosing_move, move_of, chosen_remains, ended, step_remains, moves_of, noted_send, noted_receive, written_in, written, less, used_on, used, passed_on, passed}
-use Rattle.chp_meaning.proofs.Places.{In, in_left, in_right, in_either, in_filtered, Distinct, same_place, listed}
+use Rattle.chp_meaning.specs.Steps.{Configuration, value_in, open_branches, Step, a_skip, an_assignment, a_selection, a_turn, an_end, a_repetition, a_communication, a_delivery, an_arrival}
+use Rattle.chp_meaning.specs.Rounds.{is_enabled, enabled_places, taken, round}
+use Rattle.chp_meaning.specs.Remaining.{term_of, branch_of, IsRunnable}
+use Rattle.chp_meaning.specs.AtOnce.{Outset, plain_move, sent_move, meeting_move, next_of, received_move, ending_move, is_inside, is_met, true_guards, counted, choosing_move, move_of, chosen_remains, ended, moves_of, noted_send, noted_receive, written_in, written, less, used_on, used, passed_on, passed}
+use Rattle.chp_meaning.proofs.Places.{In, in_left, in_right, in_either, Distinct, same_place}
 use Rattle.chp_meaning.proofs.Fitting.{Fits, places_apart}
-use Rattle.chp_meaning.proofs.Moves.{Entry, entry, Deal, leave, written as deal_written, put, appended, dealt, deal, step_deals, Port, sends, receives, Receiver, other_port, Part as Takes, part_stands, parts_apart, stands, own_apart, Kept, again, undisturbed, left_stays, unwritten, unoffered, writer, ports_apart, offer_port}
+use Rattle.chp_meaning.proofs.Moves.{Entry, entry, Deal, leave, written as deal_written, put, appended, dealt, deal, Port, sends, receives, Part as Takes, part_stands, parts_apart, stands, own_apart, Kept, again, left_stays, unwritten, unoffered, writer, ports_apart, offer_port}
 use Rattle.chp_meaning.proofs.Meeting.{found, step_fits}
 use Rattle.chp_meaning.proofs.RoundRuns.{Can, taken_is, can_each, each_listed, listed_once}
 use Rattle.chp_meaning.proofs.Leaving.{Part, part, leave_all, Stand, Other, Single, at_or, or_else, Lively, all_left, left_at_once, Says}
@@ -54,8 +52,8 @@ receive_waits c m f run w k x s u h =
     let r = runs_at c m run w (receiving k s x u) h in
     let none : Option ℕ = None in
     receive_noted (actives c.term) (replicate (length c.rests) None) k x (omega (arith, r.0.0, length-replicate (length c.rests) none))
-      (λ s' u' y i. let v = active_at c.term (receiving k s' y u') i in (one_receiving c w v.0 k x y s u s' u' f h v.1).1)
-      (inr (s, u, active_in c.term w (receiving k s x u) h))
+    (λ s' u' y i. let v = active_at c.term (receiving k s' y u') i in (one_receiving c w v.0 k x y s u s' u' f h v.1).1)
+    (inr (s, u, active_in c.term w (receiving k s x u) h))
 
 waits_receive : (c : Configuration) (k x : ℕ) → slice_index_or (outset_for c).receives k None ≡ Some x → (w : Place) × (s : Span) × (u : Span) × (statement_at c.term w ≡ Some (receiving k s x u))
 waits_receive c k x e = by_case (noted_receives (actives c.term) (replicate (length c.rests) None) k x e)
@@ -179,16 +177,16 @@ step_move {c = c} m f run (a_communication other {k = k} {x = x} {s = s} {t = t}
     let e : sending k s i ≡ q = cc (on, h) in
     let v = value_in c i in
     subst (λ r. move_of (outset_for c) r ≡ Some (record { write = Some (x, v); uses = None; pass = Some (k, v) })) e
-      (ap (sent_move (outset_for c) k v) inside ∙ ap (meeting_move k v) (receive_waits c m f run other k x t u there))
+    (ap (sent_move (outset_for c) k v) inside ∙ ap (meeting_move k v) (receive_waits c m f run other k x t u there))
 step_move {c = c} m f run (a_delivery {k = k} {s = s} {e = i} {count = count} on offered more) q h =
     let e : sending k s i ≡ q = cc (on, h) in
     let v = value_in c i in
     subst (λ r. move_of (outset_for c) r ≡ Some (record { write = None; uses = Some k; pass = Some (k, v) })) e
-      (ap (sent_move (outset_for c) k v) offered ∙ ap (λ b. if b then Some (record { write = None; uses = Some k; pass = Some (k, v) }) else None) more)
+    (ap (sent_move (outset_for c) k v) offered ∙ ap (λ b. if b then Some (record { write = None; uses = Some k; pass = Some (k, v) }) else None) more)
 step_move {c = c} m f run (an_arrival {k = k} {x = x} {v = v} {s = s} {t = t} on offered) q h =
     let e : receiving k s x t ≡ q = cc (on, h) in
     subst (λ r. move_of (outset_for c) r ≡ Some (record { write = Some (x, v); uses = Some k; pass = Some (k, v) })) e
-      (ap (λ o. received_move k x (next_of o)) offered)
+    (ap (λ o. received_move k x (next_of o)) offered)
 
 -- what a step leaves is what is left of its statement
 
@@ -213,16 +211,16 @@ step_left {c = c} {a = a} m f run (a_selection {choices = cs} {p = p} on true_on
     let o = one_open c cs p true_ones in
     let b = branch_begins (length c.rests) m false cs c.store o.0 (runs_at c m run a (choosing false cs) on).0 o.1 in
     subst (λ r. left_of (outset_for c) r ≡ opened p) e
-      (ap (λ g. term_of (choosing false cs) (chosen_remains (choosing false cs) false g)) o.1 ∙ (b.term ∙ ap opened o.2))
+    (ap (λ g. term_of (choosing false cs) (chosen_remains (choosing false cs) false g)) o.1 ∙ (b.term ∙ ap opened o.2))
 step_left {c = c} {a = a} m f run (a_turn {choices = cs} {p = p} on true_ones) q h =
     let e : choosing true cs ≡ q = cc (on, h) in
     let o = one_open c cs p true_ones in
     let b = branch_begins (length c.rests) m true cs c.store o.0 (runs_at c m run a (choosing true cs) on).0 o.1 in
     subst (λ r. left_of (outset_for c) r ≡ followed (opened p) (and_member (choosing true cs) no_members)) e
-      (ap (λ g. term_of (choosing true cs) (chosen_remains (choosing true cs) true g)) o.1
-      ∙ (ap (λ t. in_sequence t (and_member (choosing true cs) no_members)) b.term
-      ∙ (sym (in_order (opened (branch_of cs o.0)) (choosing true cs) (begun_goes (branch_of cs o.0) b))
-      ∙ ap (λ r. followed (opened r) (and_member (choosing true cs) no_members)) o.2)))
+    (ap (λ g. term_of (choosing true cs) (chosen_remains (choosing true cs) true g)) o.1
+    ∙ (ap (λ t. in_sequence t (and_member (choosing true cs) no_members)) b.term
+    ∙ (sym (in_order (opened (branch_of cs o.0)) (choosing true cs) (begun_goes (branch_of cs o.0) b))
+    ∙ ap (λ r. followed (opened r) (and_member (choosing true cs) no_members)) o.2)))
 step_left {c = c} m f run (an_end {choices = cs} on true_ones) q h =
     let e : choosing true cs ≡ q = cc (on, h) in
     subst (λ r. left_of (outset_for c) r ≡ finished) e (ap (λ g. term_of (choosing true cs) (chosen_remains (choosing true cs) true g)) (none_open c cs true_ones))
@@ -230,7 +228,7 @@ step_left {c = c} {a = a} m f run (a_repetition {p = p} on) q h =
     let e : repeating p ≡ q = cc (on, h) in
     let b = begins (length c.rests) m p (runs_at c m run a (repeating p) on).0 in
     subst (λ r. left_of (outset_for c) r ≡ followed (opened p) (and_member (repeating p) no_members)) e
-      (ap (λ t. in_sequence t (and_member (repeating p) no_members)) b.term ∙ sym (in_order (opened p) (repeating p) (begun_goes p b)))
+    (ap (λ t. in_sequence t (and_member (repeating p) no_members)) b.term ∙ sym (in_order (opened p) (repeating p) (begun_goes p b)))
 step_left {c = c} m f run (a_communication {at = a} other {k = k} {s = s} {e = i} on there inside) q h =
     let e : sending k s i ≡ q = cc (on, h) in
     subst (λ r. left_of (outset_for c) r ≡ finished) e (ends_finished (sending k s i) (ending_move (outset_for c) (sending k s i)) _ false (step_move m f run (a_communication {c = c} other on there inside) (sending k s i) on))
@@ -443,9 +441,10 @@ apart_from s u f ne w takes_part (Some o) e = (parts_apart s u f ne w o takes_pa
 
 apart_from_all : {c d : Configuration} {a : Place} {ps : List Place} (s : Step c a d) (ss : StepsAt c ps) → Fits c.term → ((y : Place) → In ps y → a ≢ y) → (w : Place) → Takes s w → Other w (parts_in ss)
 apart_from_all s no_steps f ne w takes_part = tt
-apart_from_all s (and_step {a = b} u us) f ne w takes_part =
-    (parts_apart s u f (ne b (inl refl)) w b takes_part (inl refl),
-     others_append w (other_parts (deal u).other) (parts_in us) (apart_from s u f (ne b (inl refl)) w takes_part (deal u).other refl) (apart_from_all s us f (λ y i. ne y (inr i)) w takes_part))
+apart_from_all s (and_step {a = b} u us) f ne w takes_part = (
+  parts_apart s u f (ne b (inl refl)) w b takes_part (inl refl),
+  others_append w (other_parts (deal u).other) (parts_in us) (apart_from s u f (ne b (inl refl)) w takes_part (deal u).other refl) (apart_from_all s us f (λ y i. ne y (inr i)) w takes_part),
+)
 
 own_other : {c d : Configuration} {a : Place} (s : Step c a d) (o : Option Place) → (deal s).other ≡ o → Other a (other_parts o)
 own_other s None e = tt
@@ -457,9 +456,10 @@ other_single s ss f ne (Some w) e rest = (apart_from_all s ss f ne w (inr e), re
 
 all_single : {c : Configuration} {ps : List Place} (ss : StepsAt c ps) → Fits c.term → Distinct ps → Single (parts_in ss)
 all_single no_steps f distinct = tt
-all_single (and_step {a = a} s ss) f distinct =
-    (others_append a (other_parts (deal s).other) (parts_in ss) (own_other s (deal s).other refl) (apart_from_all s ss f distinct.0 a (inl refl)),
-     other_single s ss f distinct.0 (deal s).other refl (all_single ss f distinct.1))
+all_single (and_step {a = a} s ss) f distinct = (
+  others_append a (other_parts (deal s).other) (parts_in ss) (own_other s (deal s).other refl) (apart_from_all s ss f distinct.0 a (inl refl)),
+  other_single s ss f distinct.0 (deal s).other refl (all_single ss f distinct.1),
+)
 
 -- what is left at a place is what its statement says
 
@@ -485,6 +485,7 @@ in_other (Some w) a l (inl e) = (ap Some (place_is e), left_is e)
   where
     place_is : part w finished ≡ part a l → w ≡ a
     place_is g = cc g
+
     left_is : part w finished ≡ part a l → finished ≡ l
     left_is g = cc g
 in_other (Some w) a l (inr i) = absurd i
@@ -568,6 +569,7 @@ all_say c m f run a q h = by_place (look_up (parts_in (all_steps c)) a (active q
         let can = move_can c a q w h e in
         let r = step_part (all_steps c) a (each_listed f can.1) in
         absurd (nowhere r.0 r.1)
+
     by_place : Found (parts_in (all_steps c)) a (active q) → at_or (parts_in (all_steps c)) a (active q) ≡ left_of (outset_for c) q
     by_place (inl (l, i, e)) = e ∙ sym (part_says m f run (all_steps c) a l q i h)
     by_place (inr (nowhere, e)) = e ∙ no_move nowhere (move_or_none (move_of (outset_for c) q))
@@ -602,8 +604,8 @@ mutual
   branches_at ts no_branches k lift = tt
   branches_at ts (and_branch t more) k lift =
       at_append (in_parallel ts) (map (in_branch k) (places t)) (branch_places (suc k) more) (actives t) (branch_actives more)
-        (at_map t (in_parallel ts) (in_branch k) (λ a q h. let e : k + 0 ≡ k = omega arith in subst (λ n. branch_at ts n a ≡ Some q) e (lift 0 a q h)) (places t) (actives t) (places_at t))
-        (branches_at ts more (suc k) (λ j a q h. let e : k + suc j ≡ suc k + j = omega arith in subst (λ n. branch_at ts n a ≡ Some q) e (lift (suc j) a q h)))
+      (at_map t (in_parallel ts) (in_branch k) (λ a q h. let e : k + 0 ≡ k = omega arith in subst (λ n. branch_at ts n a ≡ Some q) e (lift 0 a q h)) (places t) (actives t) (places_at t))
+      (branches_at ts more (suc k) (λ j a q h. let e : k + suc j ≡ suc k + j = omega arith in subst (λ n. branch_at ts n a ≡ Some q) e (lift (suc j) a q h)))
 
 moves_are : (c : Configuration) (m : ℕ) → Fits c.term → AllRun c m → (spots : List Place) (qs : List Process) → At c.term spots qs → (ss : StepsAt c (filter (is_enabled c) spots)) → moves_in ss ≡ moves_of (outset_for c) qs
 moves_are c m f run [] [] h no_steps = refl
@@ -617,6 +619,7 @@ moves_are c m f run (a ∷ spots) (q ∷ qs) h ss = by_test (is_enabled c a) ref
         let can = move_can c a q w h.0 e in
         let on : is_enabled c a ≡ true = ap is_some (found f can.1) in
         absurd (cc (sym off ∙ on))
+
     by_test : (b : Bool) → is_enabled c a ≡ b → (us : StepsAt c (cond b (a ∷ filter (is_enabled c) spots) (filter (is_enabled c) spots))) → ((vs : StepsAt c (filter (is_enabled c) spots)) → moves_in vs ≡ moves_of (outset_for c) qs) → moves_in us ≡ option_to_list (move_of (outset_for c) q) ++ moves_of (outset_for c) qs
     by_test true e (and_step s vs) rest =
         ap (λ ms. move_from (deal s) ∷ ms) (rest vs) ∙ sym (ap (λ x. option_to_list x ++ moves_of (outset_for c) qs) (step_move m f run s q h.0))

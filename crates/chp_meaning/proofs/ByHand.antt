@@ -1,5 +1,5 @@
 -- Programs made by hand can be run.
-use Rattle.std.proofs.Common.{◌≡◌, ℕ, ◌+◌, ◌<◌, ◌≤◌, Bool, List, [], ◌∷◌, ◌++◌, length, refl, sym, ap, ◌∙◌, subst, arith}
+use Rattle.std.proofs.Common.{◌≡◌, ℕ, ◌<◌, ◌≤◌, Bool, List, [], ◌∷◌, ◌++◌, length, refl, sym, ap, ◌∙◌, subst, arith}
 use Rattle.std.specs.declared.alloc.Global.{Global}
 use Rattle.std.specs.declared.vec.Vec.{Vec}
 use Rattle.width_check.specs.declared.typed.TStmt.{TStmt, Then, Beside, Select}
@@ -10,7 +10,7 @@ use Rattle.width_check.specs.declared.typed.TExpr.{TExpr, Chain, Row_of-TLink, e
 use Rattle.width_check.specs.declared.typed.TExpr.TheBlock.{hidden-the_row-TLink-1}
 use Rattle.width_check.specs.declared.typed.TLink.{TLink}
 use Rattle.width_check.specs.Values.{width_of, IsWellFormed}
-use Rattle.width_check.specs.Processes.{chained, Operations, no_operations, and_operation, in_turn, side_by_side, choosing, member_count}
+use Rattle.width_check.specs.Processes.{chained, Operations, no_operations, and_operation, member_count}
 use Rattle.width_check.specs.View.{formula_of, operations_of, process_of}
 use Rattle.chp_meaning.specs.Remaining.{IsRunnable, AreRunnable, ChoicesRunnable, members_of, choices_of}
 use Rattle.chp_meaning.proofs.Rows.{then_is, beside_is, select_is, count_members}

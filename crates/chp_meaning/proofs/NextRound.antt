@@ -1,19 +1,17 @@
 -- The plan of a round is the round.
-use Rattle.std.proofs.Common.{◌≡◌, ◌≢◌, ◌⊎◌, ℕ, zero, suc, ◌+◌, ◌<◌, ◌≤◌, Bool, true, false, cond, List, [], ◌∷◌, ◌++◌, length, get_or, drop, map, set, replicate, refl, sym, ap, ◌∙◌, subst, inl, inr, arith}
-use Rattle.std.specs.Prelude.{if◌then◌else◌, nat_lt, fold, All, is_some, option_to_list, slice_index_or, slice_set, sum_by, count_by, Option, Some, None}
+use Rattle.std.proofs.Common.{◌≡◌, ◌⊎◌, ℕ, zero, suc, ◌+◌, ◌<◌, ◌≤◌, Bool, true, false, cond, List, [], ◌∷◌, ◌++◌, length, get_or, drop, map, set, replicate, refl, sym, ap, ◌∙◌, subst, inl, inr, arith}
+use Rattle.std.specs.Prelude.{if◌then◌else◌, fold, All, is_some, option_to_list, slice_index_or, count_by, Option, Some, None}
 use Rattle.std.proofs.lemmas.Bool.{lt-ltb, ltb-true}
-use Rattle.std.proofs.lemmas.List.{length-map, length-replicate, length-set, length-append, drop_more, drop_all}
+use Rattle.std.proofs.lemmas.List.{length-map, length-set, length-append, drop_more, drop_all}
 use Rattle.std.specs.declared.alloc.Global.{Global}
 use Rattle.std.specs.declared.vec.Vec.{Vec}
 use Rattle.std.proofs.lemmas.List.Sums.{sum_by-cons}
 use Rattle.chp_base.specs.declared.span.Span.{Span}
-use Rattle.env_script.specs.declared.script.Count.{Count}
 use Rattle.env_script.specs.Scripts.{OfferValue, gives, takes, nothing, offer_at, is_over}
 use Rattle.env_script.specs.Runs.{history_at}
 use Rattle.width_check.specs.Processes.{Process, skipping, assigning, sending, receiving, in_turn, side_by_side, choosing, repeating}
 use Rattle.width_check.specs.Values.{value}
 use Rattle.chp_meaning.specs.declared.config.Config.{Config}
-use Rattle.chp_meaning.specs.declared.config.Rest.{Rest}
 use Rattle.chp_meaning.specs.declared.effect.Move.{Move}
 use Rattle.chp_meaning.specs.declared.effect.TrueGuards.{TrueGuards}
 use Rattle.chp_meaning.specs.declared.effect.TrueGuards.TheVariants.{Zero, One, Several as Many}
@@ -22,9 +20,9 @@ use Rattle.chp_meaning.specs.Terms.{Place}
 use Rattle.chp_meaning.specs.Steps.{Configuration, Step}
 use Rattle.chp_meaning.specs.Rounds.{round}
 use Rattle.chp_meaning.specs.Remaining.{remains_of, term_of, CanRemain, IsRunnable}
-use Rattle.chp_meaning.specs.AtOnce.{Outset, plain_move, sent_move, meeting_move, next_of, received_move, ending_move, choosing_move, true_guards, counted, move_of, moves_of, noted_send, noted_receive, statements, advanced, written, written_in, less, used, used_on, passed, passed_on, is_below, number_below, held}
+use Rattle.chp_meaning.specs.AtOnce.{Outset, plain_move, sent_move, meeting_move, next_of, received_move, choosing_move, true_guards, counted, move_of, moves_of, noted_send, noted_receive, statements, written, written_in, less, used, used_on, passed, passed_on, is_below, number_below, held}
 use Rattle.chp_meaning.specs.Standing.{rest_of, items_of, histories_of, configuration_of, IsStanding, IsUnchanged, IsPlan, IsSettled, AreWithin, next_outset, next_moves}
-use Rattle.chp_meaning.proofs.Places.{In, in_left, in_right, in_either}
+use Rattle.chp_meaning.proofs.Places.{In, in_either}
 use Rattle.chp_meaning.proofs.Fitting.{Fits}
 use Rattle.chp_meaning.proofs.Settling.{all_passed_length}
 use Rattle.chp_meaning.proofs.Remainders.{actives, statements_are, lively, advanced_can, advanced_term, left_of, Runs, statements_run}
@@ -42,6 +40,7 @@ in_moves o (p ∷ ps) w i = by_side (in_either (option_to_list (move_of o p)) (m
     here None j = absurd j
     here (Some u) (inl e) = ap Some e
     here (Some u) (inr j) = absurd j
+
     by_side : In (option_to_list (move_of o p)) w ⊎ In (moves_of o ps) w → (In (moves_of o ps) w → (q : Process) × In ps q × (move_of o q ≡ Some w)) → (q : Process) × In (p ∷ ps) q × (move_of o q ≡ Some w)
     by_side (inl j) rest = (p, inl refl, here (move_of o p) j)
     by_side (inr j) rest = let r = rest j in (r.0, inr r.1, r.2)
@@ -76,6 +75,7 @@ sent_within n m o k v (takes count) w lt below e = by_count (is_over count 0) e
   where
     made : Move
     made = record { write = None; uses = Some k; pass = Some (k, v) }
+
     by_count : (b : Bool) → (if b then Some (record { write = None; uses = Some k; pass = Some (k, v) }) else None) ≡ Some w → Within n m w
     by_count true g = let same : ◌≡◌ {A = Move} (record { write = None; uses = Some k; pass = Some (k, v) }) w = cc g in subst (Within n m) same (record { passes = lt-ltb k n lt; writes = refl; uses = lt-ltb k n lt })
     by_count false g = absurd (cc g)
@@ -201,12 +201,12 @@ settled_round body c d left moves s f p t =
     let r = round_parts body c s f in
     let ms : moves ≡ moves_of (outset_for (configuration_of body c)) (actives (configuration_of body c).term) = p.moves_are ∙ sym (moves_same body c) in
     same_parts (configuration_of body d) (round (configuration_of body c))
-      (ap (term_of body) (ap remains_of t.left_is ∙ p.left_is)
-      ∙ (advanced_term (length c.rests.items) (length c.store.items) (next_outset body c) body (remains_of c.left) s.runnable s.remains
-      ∙ (ap (λ o. all_left (left_of o) (term_of body (remains_of c.left))) (sym (outset_same body c)) ∙ sym r.term)))
-      (t.store ∙ (ap (fold written c.store.items) ms ∙ sym r.store))
-      (t.rests ∙ (ap (fold used (map rest_of c.rests.items)) ms ∙ sym r.rests))
-      (t.histories ∙ (ap (fold passed (histories_of c)) ms ∙ sym r.histories))
+    (ap (term_of body) (ap remains_of t.left_is ∙ p.left_is)
+    ∙ (advanced_term (length c.rests.items) (length c.store.items) (next_outset body c) body (remains_of c.left) s.runnable s.remains
+    ∙ (ap (λ o. all_left (left_of o) (term_of body (remains_of c.left))) (sym (outset_same body c)) ∙ sym r.term)))
+    (t.store ∙ (ap (fold written c.store.items) ms ∙ sym r.store))
+    (t.rests ∙ (ap (fold used (map rest_of c.rests.items)) ms ∙ sym r.rests))
+    (t.histories ∙ (ap (fold passed (histories_of c)) ms ∙ sym r.histories))
 
 pub no_step_planned : (body : Process) (c : Config) → IsStanding body c → Fits (configuration_of body c).term → next_moves body c ≡ [] → (at : Place) (d : Configuration) → ¬ Step (configuration_of body c) at d
 no_step_planned body c s f e = still_if_none (configuration_of body c) (length c.store.items) f (runs_all body c s) (moves_same body c ∙ e)
@@ -259,8 +259,8 @@ held_passed (w ∷ ms) hs below =
 pub settled_held : (body : Process) (c d : Config) (left : Left) (moves : List Move) → IsStanding body c → IsPlan body c left moves → IsSettled c d left moves → held (histories_of d) ≡ held (histories_of c) + passing moves
 settled_held body c d left moves s p t =
     ap held t.histories ∙ held_passed moves (histories_of c) (λ w i.
-      let j = subst (λ (ms : List Move). In ms w) p.moves_are i in
-      subst (λ n. is_below n w.pass ≡ true) (sym (length-map c.histories.items (λ h. h.items) ∙ s.histories)) (each_within body c s w j).passes)
+    let j = subst (λ (ms : List Move). In ms w) p.moves_are i in
+    subst (λ n. is_below n w.pass ≡ true) (sym (length-map c.histories.items (λ h. h.items) ∙ s.histories)) (each_within body c s w j).passes)
 
 -- a plan stays one where nothing has changed
 
@@ -311,5 +311,5 @@ planned_held body c left moves s f p =
     let r = round_parts body c s f in
     let ms : moves ≡ moves_of (outset_for (configuration_of body c)) (actives (configuration_of body c).term) = p.moves_are ∙ sym (moves_same body c) in
     ap held (r.histories ∙ ap (fold passed (histories_of c)) (sym ms)) ∙ held_passed moves (histories_of c) (λ w i.
-      let j = subst (λ (xs : List Move). In xs w) p.moves_are i in
-      subst (λ n. is_below n w.pass ≡ true) (sym (length-map c.histories.items (λ h. h.items) ∙ s.histories)) (each_within body c s w j).passes)
+    let j = subst (λ (xs : List Move). In xs w) p.moves_are i in
+    subst (λ n. is_below n w.pass ≡ true) (sym (length-map c.histories.items (λ h. h.items) ∙ s.histories)) (each_within body c s w j).passes)

@@ -1,12 +1,12 @@
 -- Which ends wait on the channels, as noted.
-use Rattle.std.proofs.Common.{◌≡◌, ◌≢◌, ◌⊎◌, ℕ, zero, suc, ◌+◌, ◌<◌, ◌≤◌, Bool, true, false, List, [], ◌∷◌, ◌++◌, length, get_or, set, replicate, map, refl, sym, ap, ◌∙◌, subst, inl, inr, arith}
-use Rattle.std.specs.Prelude.{fold, slice_index_or, slice_set, Option, Some, None}
+use Rattle.std.proofs.Common.{◌≡◌, ◌⊎◌, ℕ, zero, suc, ◌<◌, ◌≤◌, Bool, true, false, List, [], ◌∷◌, length, get_or, set, replicate, refl, sym, ap, ◌∙◌, subst, inl, inr}
+use Rattle.std.specs.Prelude.{fold, Option, Some, None}
 use Rattle.std.proofs.lemmas.List.{get_or-set_other, get_or-set_same, set_past, length-replicate, ext_get_or}
 use Rattle.std.proofs.lemmas.Bool.{cases_eq, cases_lt}
 use Rattle.chp_base.specs.declared.span.Span.{Span}
 use Rattle.width_check.specs.Processes.{Formula, Process, skipping, assigning, sending, receiving, in_turn, side_by_side, choosing, repeating}
 use Rattle.chp_meaning.specs.Terms.{Term, Terms, finished, active, in_sequence, in_parallel, no_branches, and_branch, Place, here, in_first, in_branch, statement_at, branch_at}
-use Rattle.chp_meaning.specs.AtOnce.{noted_send, noted_receive, if_waiting}
+use Rattle.chp_meaning.specs.AtOnce.{noted_send, noted_receive}
 use Rattle.chp_meaning.proofs.Places.{In, in_left, in_right, in_either}
 use Rattle.chp_meaning.proofs.Remainders.{actives, branch_actives}
 use Rattle.chp_meaning.proofs.Planning.{send_length, receive_length, sends_length, receives_length}
@@ -217,11 +217,14 @@ send_then_clear n ps k lt = send_noted false ps noted k (subst (λ m. k < m) (sy
   where
     noted : List Bool
     noted = fold (noted_send true) (replicate n false) ps
+
     count : length (fold (noted_send true) (replicate n false) ps) ≡ n
     count = sends_length true (replicate n false) ps ∙ length-replicate n false
+
     by_noted : (get_or (replicate n false) k false ≡ true) ⊎ Sending ps k → (get_or (fold (noted_send true) (replicate n false) ps) k false ≡ false) ⊎ Sending ps k
     by_noted (inl e) = absurd (cc (sym (none_there n k false) ∙ e))
     by_noted (inr s) = inr s
+
     by_entry : (get_or (fold (noted_send true) (replicate n false) ps) k false ≡ false) ⊎ (get_or (fold (noted_send true) (replicate n false) ps) k false ≡ true) → (get_or (fold (noted_send true) (replicate n false) ps) k false ≡ false) ⊎ Sending ps k
     by_entry (inl e) = inl e
     by_entry (inr e) = by_noted (noted_sends ps (replicate n false) k e)
@@ -231,9 +234,11 @@ receive_then_clear n ps k lt = receive_cleared ps (fold (noted_receive true) (re
   where
     count : length (fold (noted_receive true) (replicate n None) ps) ≡ n
     count = receives_length true (replicate n None) ps ∙ length-replicate n None
+
     by_noted : (x : ℕ) → (get_or (replicate n None) k None ≡ Some x) ⊎ Receiving ps k x → (get_or (fold (noted_receive true) (replicate n None) ps) k None ≡ None) ⊎ ((y : ℕ) × Receiving ps k y)
     by_noted x (inl e) = absurd (cc (sym (none_there n k None) ∙ e))
     by_noted x (inr r) = inr (x, r)
+
     by_entry : (get_or (fold (noted_receive true) (replicate n None) ps) k None ≡ None) ⊎ ((x : ℕ) × (get_or (fold (noted_receive true) (replicate n None) ps) k None ≡ Some x)) → (get_or (fold (noted_receive true) (replicate n None) ps) k None ≡ None) ⊎ ((y : ℕ) × Receiving ps k y)
     by_entry (inl e) = inl e
     by_entry (inr (x, e)) = by_noted x (noted_receives ps (replicate n None) k x e)

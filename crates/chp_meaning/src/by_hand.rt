@@ -140,7 +140,11 @@ pub(crate) fn pipeline(alloc: Global, stages: u32) -> Result<TStmt, AllocError>
 {
     let mut parts = Vec::new(alloc);
     for stage in 0..stages {
-        let copy = in_turn(alloc, receive(stage, stage), send(stage + 1, read(stage, 3)))?;
+        let copy = in_turn(
+            alloc,
+            receive(stage, stage),
+            send(stage + 1, read(stage, 3)),
+        )?;
         parts.push(repeat(alloc, copy)?)?;
     }
     Ok(TStmt::Beside { parts })

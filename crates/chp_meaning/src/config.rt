@@ -21,14 +21,9 @@ use width_check::{TStmt, Typed, Var};
 #[derive(Debug, Drop)]
 pub(crate) enum Rest {
     /// It sends these values, from the one of this number on.
-    Gives {
-        values: Vec<u64>,
-        sent: usize,
-    },
+    Gives { values: Vec<u64>, sent: usize },
     /// It receives.
-    Takes {
-        count: Count,
-    },
+    Takes { count: Count },
     /// It has no part in the channel.
     Nothing,
 }

@@ -16,14 +16,9 @@ pub(crate) enum Left {
     /// All of it. It is no sequence and no parallel composition.
     Whole,
     /// Its part, its branch or its body of this number has begun, of which this is left.
-    Inside {
-        index: usize,
-        inner: Box<Left>,
-    },
+    Inside { index: usize, inner: Box<Left> },
     /// This is left of each branch of a parallel composition.
-    Branches {
-        lefts: Vec<Left>,
-    },
+    Branches { lefts: Vec<Left> },
 }
 
 pub(crate) fn is_done(left: &Left) -> bool

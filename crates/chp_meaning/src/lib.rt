@@ -4,9 +4,9 @@
 #[cfg(test)]
 mod by_hand;
 mod config;
+mod effect;
 mod laws;
 mod left;
-mod effect;
 mod plan;
 mod run;
 mod settle;

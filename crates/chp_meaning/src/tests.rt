@@ -61,10 +61,7 @@ fn increment(alloc: Global, width: u8) -> Result<TStmt, AllocError>
 fn copies(alloc: Global) -> Result<TStmt, AllocError>
     ensures { IfOk result (λ s. IsRunnable 2 1 (process_of s)) }
 {
-    repeat(
-        alloc,
-        in_turn(alloc, receive(0, 0), send(1, read(0, 3)))?,
-    )
+    repeat(alloc, in_turn(alloc, receive(0, 0), send(1, read(0, 3)))?)
 }
 
 // x := x + 1; R!x with x = 255 at 8 bits
@@ -72,10 +69,24 @@ fn copies(alloc: Global) -> Result<TStmt, AllocError>
 fn wraps(rt: HostRuntime) -> Result<(), AllocError> {
     let alloc = rt.alloc();
     let body = in_turn(alloc, increment(alloc, 8)?, send(0, read(0, 7)))?;
-    let (end, config) = run(alloc, vec![in alloc; 255]?, &body, vec![in alloc; all()]?, 1, 100)?;
+    let (end, config) = run(
+        alloc,
+        vec![in alloc; 255]?,
+        &body,
+        vec![in alloc; all()]?,
+        1,
+        100,
+    )?;
     assert_eq!(rt; end, RunEnd::Spent);
     assert_eq!(rt; passed(&config, 0), [].as_slice());
-    let (end, config) = run(alloc, vec![in alloc; 255]?, &body, vec![in alloc; all()]?, 9, 100)?;
+    let (end, config) = run(
+        alloc,
+        vec![in alloc; 255]?,
+        &body,
+        vec![in alloc; all()]?,
+        9,
+        100,
+    )?;
     assert_eq!(rt; end, RunEnd::Rest);
     assert_eq!(rt; config.is_done(), true);
     assert_eq!(rt; passed(&config, 0), [0].as_slice());
@@ -85,7 +96,14 @@ fn wraps(rt: HostRuntime) -> Result<(), AllocError> {
 /// The same with the script `L: 3 15 0`.
 fn copied(alloc: Global, most: u32) -> Result<(RunEnd, Config), AllocError> {
     let offers = vec![in alloc; Offer::Values(vec![in alloc; 3, 15, 0]?), all()]?;
-    run(alloc, vec![in alloc; 0]?, &copies(alloc)?, offers, 1000, most)
+    run(
+        alloc,
+        vec![in alloc; 0]?,
+        &copies(alloc)?,
+        offers,
+        1000,
+        most,
+    )
 }
 
 #[test]
@@ -114,9 +132,23 @@ fn meeting(alloc: Global, beside_it: bool, n: u32) -> Result<(RunEnd, Config), A
     let first = vec![in alloc; 0]?;
     if beside_it {
         let late = in_turn(alloc, TStmt::Skip, receive(0, 0))?;
-        run(alloc, first, &beside(alloc, late, send_one(0))?, offers, n, 100)
+        run(
+            alloc,
+            first,
+            &beside(alloc, late, send_one(0))?,
+            offers,
+            n,
+            100,
+        )
     } else {
-        run(alloc, first, &in_turn(alloc, send_one(0), receive(0, 0))?, offers, n, 100)
+        run(
+            alloc,
+            first,
+            &in_turn(alloc, send_one(0), receive(0, 0))?,
+            offers,
+            n,
+            100,
+        )
     }
 }
 
@@ -141,10 +173,23 @@ fn chooses(alloc: Global, again: bool, x: u64) -> Result<(RunEnd, Config), Alloc
     let zero = compare(alloc, Op::Eq, read(0, 1), number(2, 0))?;
     let small = compare(alloc, Op::Lt, read(0, 1), number(2, 2))?;
     let arms = vec![in alloc;
-        TArm { guard: zero, body: send_one(0) },
-        TArm { guard: small, body: send_one(1) },
+        TArm {
+            guard: zero,
+            body: send_one(0)
+        },
+        TArm {
+            guard: small,
+            body: send_one(1)
+        },
     ]?;
-    run(alloc, vec![in alloc; x]?, &select(again, arms), vec![in alloc; all(), all()]?, 5, 100)
+    run(
+        alloc,
+        vec![in alloc; x]?,
+        &select(again, arms),
+        vec![in alloc; all(), all()]?,
+        5,
+        100,
+    )
 }
 
 #[test]
@@ -172,7 +217,12 @@ fn counts(alloc: Global) -> Result<TStmt, AllocError>
     ensures { IfOk result (λ s. IsRunnable 1 1 (process_of s)) }
 {
     let guard = compare(alloc, Op::Lt, read(0, 3), number(4, 3))?;
-    let arms = vec![in alloc; TArm { guard, body: increment(alloc, 4)? }]?;
+    let arms = vec![in alloc;
+        TArm {
+            guard,
+            body: increment(alloc, 4)?
+        },
+    ]?;
     in_turn(alloc, select(true, arms), send(0, read(0, 3)))
 }
 
@@ -180,7 +230,14 @@ fn counts(alloc: Global) -> Result<TStmt, AllocError>
 fn counts_to_three(rt: HostRuntime) -> Result<(), AllocError> {
     let alloc = rt.alloc();
     let body = counts(alloc)?;
-    let (end, config) = run(alloc, vec![in alloc; 0]?, &body, vec![in alloc; all()]?, 8, 100)?;
+    let (end, config) = run(
+        alloc,
+        vec![in alloc; 0]?,
+        &body,
+        vec![in alloc; all()]?,
+        8,
+        100,
+    )?;
     assert_eq!(rt; end, RunEnd::Rest);
     assert_eq!(rt; config.is_done(), true);
     assert_eq!(rt; passed(&config, 0), [3].as_slice());
@@ -195,7 +252,14 @@ fn streams(alloc: Global, n: u32) -> Result<(RunEnd, Config), AllocError> {
         offers.push(Offer::Nothing)?;
     }
     offers.push(all())?;
-    run(alloc, vec![in alloc; 0; 400]?, &pipeline(alloc, 400)?, offers, n, 1_000_000)
+    run(
+        alloc,
+        vec![in alloc; 0; 400]?,
+        &pipeline(alloc, 400)?,
+        offers,
+        n,
+        1_000_000,
+    )
 }
 
 // A benchmark: two rounds a value for each of the stages that are busy.

@@ -1,7 +1,6 @@
-use Rattle.std.proofs.Common.{◌≡◌, ◌∙◌, length, ap, sym, subst, arith, List}
+use Rattle.std.proofs.Common.{length, ap, arith, List}
 use Rattle.std.proofs.lemmas.List.{length_push}
 use Rattle.width_check.specs.declared.typed.TStmt.{TStmt}
-use Rattle.chp_meaning.specs.Remaining.{AreRunnable, members_of}
 use Rattle.chp_meaning.proofs.ByHand.{one_more_runs, all_beside}
 use Rattle.chp_meaning.proofs.by_hand.pipeline.Goals as goal
 

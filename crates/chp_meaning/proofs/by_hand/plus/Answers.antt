@@ -1,4 +1,4 @@
-use Rattle.std.proofs.Common.{◌≡◌, ◌∙◌, ◌++◌, ◌∷◌, [], List, ap, sym}
+use Rattle.std.proofs.Common.{◌∙◌, ◌++◌, ◌∷◌, [], List, ap}
 use Rattle.chp_syntax.specs.declared.tree.Op.TheVariants.{Add}
 use Rattle.width_check.specs.declared.typed.TLink.{TLink}
 use Rattle.chp_meaning.proofs.ByHand.{sum_formed}

@@ -1,31 +1,30 @@
-use Rattle.std.proofs.Common.{◌≡◌, ◌∙◌, ◌+◌, ap, sym, subst, arith}
+use Rattle.std.proofs.Common.{◌≡◌, ◌∙◌, ap, sym, subst, arith}
 use Rattle.width_check.specs.View.{process_of}
 use Rattle.chp_meaning.specs.declared.run.RunEnd.{RunEnd}
 use Rattle.chp_meaning.specs.Rounds.{rounds_from}
-use Rattle.chp_meaning.specs.AtOnce.{held}
-use Rattle.chp_meaning.specs.Standing.{configuration_of, histories_of}
+use Rattle.chp_meaning.specs.Standing.{configuration_of}
 use Rattle.chp_meaning.specs.Ends.{IsEnd}
 use Rattle.chp_meaning.proofs.NextRound.{passing, planned_of, plan_within, within_after, settled_after, settled_stands, settled_held, unchanged_after}
-use Rattle.chp_meaning.proofs.RoundAnswers.{IsAt, stopped, rested, overfull, ended, after_round, nothing_in}
+use Rattle.chp_meaning.proofs.RoundAnswers.{stopped, rested, overfull, ended, after_round, nothing_in}
 use Rattle.chp_meaning.proofs.run.run_of.Goals as goal
 
 pub returns-in_err-left-clause-err : goal.returns-in_err-left-clause-err
 returns-in_err-left-clause-err c = λ fits.
     stopped _ (process_of c.args.body.now) (configuration_of (process_of c.args.body.now) c.args.config.now) c.loop-made._made c.args.n c.loop-made.config _
-      (record { standing = c.loop-made.invariant.standing; so_far = c.loop-made.invariant.so_far fits; unchanged = c.in_err-left.ensures.unchanged }) (omega (arith, c.loop-made-test.true))
+    (record { standing = c.loop-made.invariant.standing; so_far = c.loop-made.invariant.so_far fits; unchanged = c.in_err-left.ensures.unchanged }) (omega (arith, c.loop-made-test.true))
 
 pub returns-then-is_empty-clause-end : goal.returns-then-is_empty-clause-end
 returns-then-is_empty-clause-end c = λ fits.
     rested (process_of c.args.body.now) (configuration_of (process_of c.args.body.now) c.args.config.now) c.loop-made._made c.args.n c.args.most c.loop-made.config _ _ c.in_ok-left.moves.items fits
-      (record { standing = c.loop-made.invariant.standing; so_far = c.loop-made.invariant.so_far fits; unchanged = c.in_ok-left.ensures.unchanged }) c.in_ok-left.ensures.plan
-      (nothing_in c.in_ok-left.moves.items _ c.in_ok-left.moves.ok.0 (sym c.is_empty.ensures ∙ c.if-is_empty.true)) (omega (arith, c.loop-made-test.true)) (omega (arith, c.loop-made.invariant.count, c.loop-made.invariant.most))
+    (record { standing = c.loop-made.invariant.standing; so_far = c.loop-made.invariant.so_far fits; unchanged = c.in_ok-left.ensures.unchanged }) c.in_ok-left.ensures.plan
+    (nothing_in c.in_ok-left.moves.items _ c.in_ok-left.moves.ok.0 (sym c.is_empty.ensures ∙ c.if-is_empty.true)) (omega (arith, c.loop-made-test.true)) (omega (arith, c.loop-made.invariant.count, c.loop-made.invariant.most))
 
 pub returns-then-count-from-clause-end : goal.returns-then-count-from-clause-end
 returns-then-count-from-clause-end c = λ fits.
     overfull (process_of c.args.body.now) (configuration_of (process_of c.args.body.now) c.args.config.now) c.loop-made._made c.args.n c.args.most c.loop-made.config _ _ c.in_ok-left.moves.items fits
-      (record { standing = c.loop-made.invariant.standing; so_far = c.loop-made.invariant.so_far fits; unchanged = c.in_ok-left.ensures.unchanged }) c.in_ok-left.ensures.plan
-      c.loop-made-test.true (omega (arith, c.loop-made.invariant.count, c.loop-made.invariant.most))
-      (omega (arith, c.if-count-from.true, c.from.ensures, c.loop-made.invariant.count, c.passing-count.ensures, ap passing c.deref-in-loop-made.ensures.value))
+    (record { standing = c.loop-made.invariant.standing; so_far = c.loop-made.invariant.so_far fits; unchanged = c.in_ok-left.ensures.unchanged }) c.in_ok-left.ensures.plan
+    c.loop-made-test.true (omega (arith, c.loop-made.invariant.count, c.loop-made.invariant.most))
+    (omega (arith, c.if-count-from.true, c.from.ensures, c.loop-made.invariant.count, c.passing-count.ensures, ap passing c.deref-in-loop-made.ensures.value))
 
 pub settled-requires : goal.settled-requires
 settled-requires c =
@@ -35,7 +34,7 @@ settled-requires c =
 pub returns-in_err-settled-clause-err : goal.returns-in_err-settled-clause-err
 returns-in_err-settled-clause-err c = λ fits.
     stopped _ (process_of c.args.body.now) (configuration_of (process_of c.args.body.now) c.args.config.now) c.loop-made._made c.args.n c.loop-made.config _
-      (record { standing = c.loop-made.invariant.standing; so_far = c.loop-made.invariant.so_far fits; unchanged = unchanged_after _ _ _ c.in_ok-left.ensures.unchanged c.in_err-settled.ensures.err }) (omega (arith, c.loop-made-test.true))
+    (record { standing = c.loop-made.invariant.standing; so_far = c.loop-made.invariant.so_far fits; unchanged = unchanged_after _ _ _ c.in_ok-left.ensures.unchanged c.in_err-settled.ensures.err }) (omega (arith, c.loop-made-test.true))
 
 pub loop-made-preserved : goal.loop-made-preserved
 loop-made-preserved c =
@@ -54,7 +53,7 @@ loop-made-preserved c =
 pub returns-in_err-moves-clause-err : goal.returns-in_err-moves-clause-err
 returns-in_err-moves-clause-err c = λ fits.
     stopped _ (process_of c.args.body.now) (configuration_of (process_of c.args.body.now) c.args.config.now) c.loop-made._made c.args.n c.loop-made.config _
-      (record { standing = c.loop-made.invariant.standing; so_far = c.loop-made.invariant.so_far fits; unchanged = c.in_err-moves.ensures.unchanged }) (omega (arith, c.loop-made.auto))
+    (record { standing = c.loop-made.invariant.standing; so_far = c.loop-made.invariant.so_far fits; unchanged = c.in_err-moves.ensures.unchanged }) (omega (arith, c.loop-made.auto))
 
 pub returns-clause-end : goal.returns-clause-end
 returns-clause-end c = λ fits.
@@ -62,6 +61,6 @@ returns-clause-end c = λ fits.
     let old = configuration_of p c.args.config.now in
     let all : c.loop-made._made ≡ c.args.n = omega (arith, c.loop-made-test.false, c.loop-made.auto) in
     let end = ended p old c.args.n c.args.most c.loop-made.config _ _ c.in_ok-moves.moves.items fits
-          (record { standing = c.loop-made.invariant.standing; so_far = c.loop-made.invariant.so_far fits ∙ ap (rounds_from old) all; unchanged = c.in_ok-moves.ensures.unchanged })
-          c.in_ok-moves.ensures.plan (omega (arith, c.loop-made.invariant.count, c.loop-made.invariant.most)) c.deref-2.result.now c.deref-2.ensures.value in
+    (record { standing = c.loop-made.invariant.standing; so_far = c.loop-made.invariant.so_far fits ∙ ap (rounds_from old) all; unchanged = c.in_ok-moves.ensures.unchanged })
+    c.in_ok-moves.ensures.plan (omega (arith, c.loop-made.invariant.count, c.loop-made.invariant.most)) c.deref-2.result.now c.deref-2.ensures.value in
     subst (λ (x : RunEnd). IsEnd c.args.n c.args.most old (configuration_of p c.planned-2.new.config) x) (sym c.end_by.ensures) end
