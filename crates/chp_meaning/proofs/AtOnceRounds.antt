@@ -1,25 +1,23 @@
 -- A round is one change, in which each active statement does what how things stand at the round's start makes it do.
-use Rattle.std.proofs.Common.{◌≡◌, ◌≢◌, ◌⊎◌, ℕ, zero, suc, ◌+◌, ◌-◌, ◌<◌, ◌≤◌, Bool, true, false, List, [], ◌∷◌, ◌++◌, length, get_or, map, replicate, refl, sym, ap, ◌∙◌, subst, inl, inr, arith}
+use Rattle.std.proofs.Common.{◌≡◌, ◌≢◌, ◌⊎◌, ℕ, suc, ◌+◌, Bool, true, false, List, [], ◌∷◌, ◌++◌, length, get_or, map, replicate, refl, sym, ap, ◌∙◌, subst, inl, inr, arith}
 use Rattle.std.specs.Prelude.{◌==◌, if◌then◌else◌, cond, filter, fold, is_some, option_to_list, slice_index, slice_index_or, slice_set, Option, Some, None}
-use Rattle.std.proofs.lemmas.List.{length-replicate, append-nil}
+use Rattle.std.proofs.lemmas.List.{length-replicate}
 use Rattle.chp_base.specs.declared.span.Span.{Span}
-use Rattle.env_script.specs.declared.script.Count.{Count}
 use Rattle.env_script.specs.Scripts.{OfferValue, gives, takes, nothing, offer_at, is_over}
-use Rattle.env_script.specs.Runs.{history_at}
-use Rattle.width_check.specs.Processes.{Formula, Process, skipping, assigning, sending, receiving, in_turn, side_by_side, choosing, repeating, no_members, and_member, Choices, no_choices, and_choice, choice_count}
+use Rattle.width_check.specs.Processes.{Formula, Process, skipping, assigning, sending, receiving, in_turn, side_by_side, choosing, repeating, no_members, and_member, Choices, no_choices, and_choice}
 use Rattle.width_check.specs.Values.{value}
 use Rattle.width_check.specs.Sharing.{reads_var, writes_var, receives_on, done_at}
 use Rattle.chp_meaning.specs.declared.effect.Move.{Move}
 use Rattle.chp_meaning.specs.declared.effect.TrueGuards.{TrueGuards}
 use Rattle.chp_meaning.specs.declared.effect.TrueGuards.TheVariants.{Zero, One, Several as Many}
 use Rattle.chp_meaning.specs.Terms.{Term, Terms, finished, active, in_sequence, in_parallel, no_branches, and_branch, opened, followed, is_finished, Place, in_first, in_branch, statement_at, branch_at, with_left, places, branch_places}
-use Rattle.chp_meaning.specs.Steps.{Configuration, value_in, open_branches, one_fewer, leaving, storing, passing, offering, Step, a_skip, an_assignment, a_selection, a_turn, an_end, a_repetition, a_communication, a_delivery, an_arrival}
-use Rattle.chp_meaning.specs.Rounds.{step_at, is_enabled, enabled_places, taken, round}
-use Rattle.chp_meaning.specs.Remaining.{begun, term_of, before, branch_of, within, IsRunnable, is_group}
-use Rattle.chp_meaning.specs.AtOnce.{Outset, plain_move, sent_move, meeting_move, next_of, received_move, ending_move, is_inside, is_met, true_guards, counted, choosing_move, move_of, chosen_remains, ended, step_remains, moves_of, noted_send, noted_receive, written_in, written, less, used_on, used, passed_on, passed}
-use Rattle.chp_meaning.proofs.Places.{In, in_left, in_right, in_either, in_filtered, Distinct, same_place, listed}
+use Rattle.chp_meaning.specs.Steps.{Configuration, value_in, open_branches, Step, a_skip, an_assignment, a_selection, a_turn, an_end, a_repetition, a_communication, a_delivery, an_arrival}
+use Rattle.chp_meaning.specs.Rounds.{is_enabled, enabled_places, taken, round}
+use Rattle.chp_meaning.specs.Remaining.{term_of, branch_of, IsRunnable}
+use Rattle.chp_meaning.specs.AtOnce.{Outset, plain_move, sent_move, meeting_move, next_of, received_move, ending_move, is_inside, is_met, true_guards, counted, choosing_move, move_of, chosen_remains, ended, moves_of, noted_send, noted_receive, written_in, written, less, used_on, used, passed_on, passed}
+use Rattle.chp_meaning.proofs.Places.{In, in_left, in_right, in_either, Distinct, same_place}
 use Rattle.chp_meaning.proofs.Fitting.{Fits, places_apart}
-use Rattle.chp_meaning.proofs.Moves.{Entry, entry, Deal, leave, written as deal_written, put, appended, dealt, deal, step_deals, Port, sends, receives, Receiver, other_port, Part as Takes, part_stands, parts_apart, stands, own_apart, Kept, again, undisturbed, left_stays, unwritten, unoffered, writer, ports_apart, offer_port}
+use Rattle.chp_meaning.proofs.Moves.{Entry, entry, Deal, leave, written as deal_written, put, appended, dealt, deal, Port, sends, receives, Part as Takes, part_stands, parts_apart, stands, own_apart, Kept, again, left_stays, unwritten, unoffered, writer, ports_apart, offer_port}
 use Rattle.chp_meaning.proofs.Meeting.{found, step_fits}
 use Rattle.chp_meaning.proofs.RoundRuns.{Can, taken_is, can_each, each_listed, listed_once}
 use Rattle.chp_meaning.proofs.Leaving.{Part, part, leave_all, Stand, Other, Single, at_or, or_else, Lively, all_left, left_at_once, Says}

@@ -1,5 +1,5 @@
 -- The tables of a configuration, noted and cleared again.
-use Rattle.std.proofs.Common.{◌≡◌, ℕ, Bool, true, false, List, length, replicate, fold, refl, sym, ap, ◌∙◌, Option, None}
+use Rattle.std.proofs.Common.{◌≡◌, ℕ, Bool, true, false, List, length, replicate, fold, sym, ap, ◌∙◌, Option, None}
 use Rattle.std.specs.Vec.{with_items}
 use Rattle.std.proofs.lemmas.List.{with_items_is}
 use Rattle.std.specs.declared.alloc.Global.{Global}

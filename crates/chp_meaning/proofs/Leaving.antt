@@ -1,9 +1,9 @@
 -- What is left at several places of a term, place by place and all at once.
-use Rattle.std.proofs.Common.{◌≡◌, ◌≢◌, ◌⊎◌, ℕ, zero, suc, ◌+◌, Bool, true, false, List, [], ◌∷◌, ◌++◌, refl, sym, ap, ◌∙◌, subst, inl, inr, arith}
-use Rattle.std.specs.Prelude.{◌&&◌, if◌then◌else◌, Option, Some, None}
+use Rattle.std.proofs.Common.{◌≡◌, ◌≢◌, ◌⊎◌, ℕ, zero, suc, false, List, [], ◌∷◌, refl, sym, ap, ◌∙◌, subst, inl, inr}
+use Rattle.std.specs.Prelude.{if◌then◌else◌, Some}
 use Rattle.width_check.specs.Processes.{Process, Processes}
 use Rattle.chp_meaning.specs.Terms.{Term, Terms, finished, active, in_sequence, in_parallel, no_branches, and_branch, is_finished, all_finished, together, followed, Place, here, in_first, in_branch, statement_at, branch_at, with_left, with_branch}
-use Rattle.chp_meaning.proofs.Places.{In, same_place, still, branch_still, followed_on, together_on, term_on, branches_on}
+use Rattle.chp_meaning.proofs.Places.{same_place, still, branch_still, followed_on, together_on, term_on, branches_on}
 
 -- this is left at this place
 pub data Part : Type 0 where

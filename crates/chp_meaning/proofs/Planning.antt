@@ -1,6 +1,6 @@
 -- What a plan makes of each statement.
-use Rattle.std.proofs.Common.{◌≡◌, ◌⊎◌, ℕ, zero, suc, ◌+◌, ◌<◌, ◌≤◌, Bool, true, false, List, [], ◌∷◌, ◌++◌, length, get_or, drop, refl, sym, ap, ◌∙◌, subst, inl, inr, arith}
-use Rattle.std.specs.Prelude.{if◌then◌else◌, ◌==◌, slice_index, slice_set, fold, option_to_list, Option, Some, None, Result, Ok, Err, OnOk}
+use Rattle.std.proofs.Common.{◌≡◌, ℕ, suc, ◌+◌, ◌<◌, ◌≤◌, Bool, true, false, List, [], ◌∷◌, ◌++◌, length, get_or, drop, refl, sym, ap, ◌∙◌, subst, inl, inr, arith}
+use Rattle.std.specs.Prelude.{if◌then◌else◌, ◌==◌, slice_index, fold, option_to_list, Option, None, Result, Ok, Err, OnOk}
 use Rattle.std.proofs.lemmas.List.{drop_more, drop_all, length-set, append_assoc, append-nil}
 use Rattle.std.specs.declared.alloc.Global.{Global}
 use Rattle.std.specs.declared.boxed.Box.{Box}
@@ -9,17 +9,17 @@ use Rattle.width_check.specs.declared.typed.TStmt.{TStmt, Select}
 use Rattle.width_check.specs.declared.typed.TArm.{TArm}
 use Rattle.width_check.specs.Processes.{Process, skipping, assigning, sending, receiving, in_turn, side_by_side, choosing, repeating, Choices, no_choices, and_choice, choice_count}
 use Rattle.width_check.specs.Values.{value}
-use Rattle.width_check.specs.View.{formula_of, process_of}
+use Rattle.width_check.specs.View.{process_of}
 use Rattle.chp_meaning.specs.declared.effect.Move.{Move}
 use Rattle.chp_meaning.specs.declared.effect.TrueGuards.{TrueGuards}
 use Rattle.chp_meaning.specs.declared.effect.TrueGuards.TheVariants.{Zero, One, Several as Many}
 use Rattle.chp_meaning.specs.declared.left.Left.{Left, Branches, Inside}
 use Rattle.chp_meaning.specs.declared.config.Config.{Config}
-use Rattle.chp_meaning.specs.Remaining.{Remains, over, whole, within, alongside, Several, no_more, and_left, remains_of, several_of, choices_of, part_of, part_count, is_over, all_over, how_many, is_beside, CanRemain, EachCanRemain, gathered, IsRunnable, RunsOn, ChoicesRunnable, GuardsHaveValues}
+use Rattle.chp_meaning.specs.Remaining.{over, whole, Several, no_more, and_left, remains_of, several_of, choices_of, part_of, part_count, CanRemain, EachCanRemain, gathered, IsRunnable, RunsOn, ChoicesRunnable, GuardsHaveValues}
 use Rattle.chp_meaning.specs.AtOnce.{Outset, plain_move, true_guards, counted, choosing_move, move_of, chosen_remains, step_remains, advanced, each_advanced, statements, each_statements, moves_of, noted_send, noted_receive, if_waiting}
-use Rattle.chp_meaning.specs.Standing.{Carries}
+use Rattle.chp_meaning.specs.Standing.{CanRun}
 use Rattle.chp_meaning.proofs.Places.{In}
-use Rattle.chp_meaning.proofs.Rows.{select_said, inside_said, branches_said, count_arms, count_lefts, part_runnable, front, front_push, front_all}
+use Rattle.chp_meaning.proofs.Rows.{select_said, inside_said, branches_said, count_lefts, part_runnable, front, front_push, front_all}
 
 -- a selection
 
@@ -87,7 +87,7 @@ remains_more p xs i x lt at h = subst (EachCanRemain p i) (left_more xs i x lt a
 pub runs_part : (n : ℕ) (p : Process) (k : ℕ) → k < part_count p → RunsOn n p → RunsOn n (part_of p k)
 runs_part n p k lt r = (r.0, part_runnable n r.0 p k lt r.1)
 
-pub carries_part : (c : Config) (p : Process) (k : ℕ) → k < part_count p → Carries c p → Carries c (part_of p k)
+pub carries_part : (c : Config) (p : Process) (k : ℕ) → k < part_count p → CanRun c p → CanRun c (part_of p k)
 carries_part c p k lt r = record { tables = r.tables; numbers = part_runnable (length c.rests.items) (length c.store.items) p k lt r.numbers }
 
 pub whatever : {X E : Type 0} (r : Result X E) (P : Type 0) → P → OnOk r P

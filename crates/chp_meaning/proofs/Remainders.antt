@@ -6,10 +6,10 @@ use Rattle.width_check.specs.Processes.{Process, skipping, assigning, sending, r
 use Rattle.chp_meaning.specs.declared.effect.Move.{Move}
 use Rattle.chp_meaning.specs.declared.effect.TrueGuards.{TrueGuards}
 use Rattle.chp_meaning.specs.declared.effect.TrueGuards.TheVariants.{Zero, One, Several as Many}
-use Rattle.chp_meaning.specs.Terms.{Term, Terms, finished, active, in_sequence, in_parallel, no_branches, and_branch, is_finished, all_finished, together, opened, opened_turn, opened_each, followed, Place, here, in_first, in_branch, statement_at, branch_at}
-use Rattle.chp_meaning.specs.Remaining.{Remains, over, whole, within, alongside, Several, no_more, and_left, is_over, all_over, how_many, member_at, part_of, part_count, members_from, coming, before, term_of, terms_of, is_beside, is_group, CanRemain, EachCanRemain, begun, first_begun, each_begun, after_part, resumed, gathered, IsRunnable, AreRunnable}
-use Rattle.chp_meaning.specs.AtOnce.{Outset, true_guards, counted, choosing_move, ending_move, is_met, move_of, entered, chosen_remains, ended, step_remains, advanced, each_advanced, statements, each_statements}
-use Rattle.chp_meaning.proofs.Places.{In, in_left, in_right, in_either}
+use Rattle.chp_meaning.specs.Terms.{Term, Terms, finished, active, in_sequence, in_parallel, no_branches, and_branch, is_finished, all_finished, together, opened, opened_turn, opened_each, followed}
+use Rattle.chp_meaning.specs.Remaining.{Remains, over, whole, within, alongside, Several, no_more, and_left, is_over, all_over, how_many, member_at, part_of, part_count, members_from, coming, before, term_of, terms_of, is_beside, is_group, CanRemain, EachCanRemain, begun, each_begun, after_part, resumed, gathered, IsRunnable, AreRunnable}
+use Rattle.chp_meaning.specs.AtOnce.{Outset, true_guards, counted, ending_move, is_met, entered, chosen_remains, ended, step_remains, advanced, each_advanced, statements, each_statements}
+use Rattle.chp_meaning.proofs.Places.{In, in_either}
 use Rattle.chp_meaning.proofs.Rows.{part_runnable}
 use Rattle.chp_meaning.proofs.Planning.{one_below}
 use Rattle.chp_meaning.proofs.Leaving.{Lively, EachLively, all_left, each_left}

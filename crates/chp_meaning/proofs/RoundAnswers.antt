@@ -1,31 +1,30 @@
 -- What rounds answer.
-use Rattle.std.proofs.Common.{◌≡◌, ◌↔◌, ◌⊎◌, ℕ, zero, suc, ◌+◌, ◌-◌, ◌<◌, ◌≤◌, Bool, true, false, List, [], ◌∷◌, ◌++◌, length, get_or, set, refl, sym, ap, ◌∙◌, subst, inl, inr, arith}
-use Rattle.std.specs.Prelude.{◌==◌, fold, filter, cond, is_some, slice_set, Option, Some, None, Result, Ok, Err, IfOk, OnOk, OnErr}
+use Rattle.std.proofs.Common.{◌≡◌, ◌↔◌, ◌⊎◌, ℕ, zero, suc, ◌+◌, ◌-◌, ◌<◌, ◌≤◌, Bool, true, false, List, [], ◌∷◌, ◌++◌, length, refl, sym, ap, ◌∙◌, subst, inl, inr, arith}
+use Rattle.std.specs.Prelude.{◌==◌, fold, slice_set, Option, Some, None, Result, Ok, Err, IfOk, OnOk, OnErr}
 use Rattle.std.proofs.lemmas.Bool.{cases_lt, eqb-true}
-use Rattle.std.proofs.lemmas.List.{set_past, nil_from_length}
-use Rattle.env_script.specs.Scripts.{OfferValue, IsScript}
+use Rattle.std.proofs.lemmas.List.{set_past, nil_from_length, length-set, length-replicate}
 use Rattle.env_script.specs.Runs.{history_at}
 use Rattle.width_check.specs.Processes.{Process}
 use Rattle.width_check.specs.Sharing.{MeetsSharing}
-use Rattle.width_check.specs.Typed.{TypedValue, program_of}
+use Rattle.width_check.specs.Typed.{TypedValue}
 use Rattle.width_check.specs.View.{process_of}
 use Rattle.chp_meaning.specs.declared.config.Config.{Config}
 use Rattle.chp_meaning.specs.declared.effect.Move.{Move}
 use Rattle.chp_meaning.specs.Fitting.{Fits}
-use Rattle.chp_meaning.specs.Terms.{Place, places}
-use Rattle.chp_meaning.specs.Steps.{Configuration, Step, Leads, no_step, one_step, start_of}
-use Rattle.chp_meaning.specs.Rounds.{is_enabled, enabled_places, taken, round, rounds_from}
+use Rattle.chp_meaning.specs.Terms.{Place}
+use Rattle.chp_meaning.specs.Steps.{Configuration, Step, Leads, no_step, one_step}
+use Rattle.chp_meaning.specs.Rounds.{enabled_places, taken, round, rounds_from}
 use Rattle.chp_meaning.specs.AtOnce.{held}
 use Rattle.chp_meaning.specs.declared.left.Left.{Left}
 use Rattle.chp_meaning.specs.declared.run.RunEnd.{RunEnd}
 use Rattle.chp_meaning.specs.declared.run.RunEnd.TheVariants.{Rest, Spent, TooMany}
 use Rattle.chp_meaning.specs.Standing.{configuration_of, histories_of, IsStanding, IsUnchanged, IsPlan, IsSettled, next_moves}
-use Rattle.chp_meaning.specs.Ends.{seen, IsReached, IsOf, CanStep, held_in, is_some_step, IsEnd, IsWithin, end_by}
+use Rattle.chp_meaning.specs.Ends.{IsReached, CanStep, held_in, is_some_step, IsEnd, IsWithin, end_by}
 use Rattle.chp_meaning.proofs.Places.{In}
 use Rattle.chp_meaning.proofs.Fitting.{meeting_sound, opened_fits}
 use Rattle.chp_meaning.proofs.Moves.{Entry, entry, appended, deal, step_deals}
 use Rattle.chp_meaning.proofs.Meeting.{leads_fit, lead_on}
-use Rattle.chp_meaning.proofs.RoundRuns.{can_each, round_leads, rounds_lead, one_round_more}
+use Rattle.chp_meaning.proofs.RoundRuns.{can_each, rounds_lead, one_round_more}
 use Rattle.chp_meaning.proofs.NextRound.{no_step_planned, step_planned, held_set, unchanged_same, planned_held, passing, settled_round, settled_after}
 use Rattle.chp_meaning.proofs.Settling.{on_err}
 
@@ -163,3 +162,19 @@ some_rounds n most old new (Err e) ok err = (err.0, err.2)
 
 pub run_reached : {E : Type 0} (t : TypedValue) (n most : ℕ) (old new : Configuration) (r : Result RunEnd E) → Fits old.term → IsReached t old → IfOk r (λ end. IsEnd n most old new end) → OnErr r (IsWithin n old new) → IsReached t new
 run_reached t n most old new r f reached ok err = let k = some_rounds n most old new r ok err in subst (IsReached t) (sym k.1) (reached_on t old k.0 f reached)
+
+-- there is a history for each channel
+
+step_channels : {c d : Configuration} {a : Place} → Step c a d → length d.histories ≡ length c.histories
+step_channels {c = c} s = sym (ap (λ (x : Configuration). length x.histories) (step_deals s)) ∙ by_pass (deal s).pass
+  where
+    by_pass : (w : Option (Entry ℕ)) → length (appended c.histories w) ≡ length c.histories
+    by_pass None = refl
+    by_pass (Some (entry k v)) = length-set c.histories k (history_at c.histories k ++ v ∷ [])
+
+run_channels : {c d : Configuration} {n : ℕ} → Leads c n d → length d.histories ≡ length c.histories
+run_channels no_step = refl
+run_channels (one_step s l) = run_channels l ∙ step_channels s
+
+pub reached_channels : (t : TypedValue) (c : Configuration) → IsReached t c → length c.histories ≡ length t.channels
+reached_channels t c r = let none : List ℕ = [] in run_channels r.3 ∙ length-replicate (length t.channels) none

@@ -14,7 +14,7 @@ use Rattle.width_check.specs.Processes.{Process, skipping, assigning, sending, r
 use Rattle.width_check.specs.View.{formula_of, process_of, processes_of, choices_of as row_choices}
 use Rattle.chp_meaning.specs.declared.left.Left.{Left, Branches, Inside, Row_of-Left, end_of-Left, more_of-Left, items-the_row-Left, items_hidden-the_row-Left-0}
 use Rattle.chp_meaning.specs.declared.left.Left.TheBlock.{hidden-the_row-Left-0}
-use Rattle.chp_meaning.specs.Remaining.{Remains, within, alongside, Several, no_more, and_left, remains_of, each_of, several_of, members_of, choices_of, member_at, branch_of, part_of, part_count, all_over, is_over, how_many, begun, first_begun, each_begun, after_part, gathered, over, IsRunnable, AreRunnable, ChoicesRunnable, HasMembers}
+use Rattle.chp_meaning.specs.Remaining.{within, alongside, Several, no_more, and_left, remains_of, each_of, several_of, members_of, choices_of, member_at, branch_of, part_of, part_count, all_over, is_over, how_many, begun, first_begun, each_begun, after_part, gathered, over, IsRunnable, AreRunnable, ChoicesRunnable, HasMembers}
 
 members_row : {m : _} (row : Row_of-TStmt m) → processes_of row ≡ members_of (items-the_row-TStmt m row)
 members_row end_of-TStmt = refl

@@ -1,15 +1,15 @@
 -- What moves change, one after another.
-use Rattle.std.proofs.Common.{◌≡◌, ◌≢◌, ℕ, zero, suc, ◌+◌, ◌-◌, ◌<◌, ◌≤◌, Bool, true, false, List, [], ◌∷◌, ◌++◌, length, get_or, take, drop, map, refl, sym, ap, ◌∙◌, subst, arith, length-append}
-use Rattle.std.specs.Prelude.{nat_lt, slice_index_or, slice_set, fold, All, Option, Some, None, Result, Ok, Err, OnErr}
+use Rattle.std.proofs.Common.{◌≡◌, ℕ, zero, suc, ◌+◌, ◌-◌, ◌<◌, ◌≤◌, true, List, [], ◌∷◌, ◌++◌, length, get_or, take, drop, map, refl, sym, ap, ◌∙◌, arith, length-append}
+use Rattle.std.specs.Prelude.{slice_set, fold, Option, Some, None, Result, Ok, Err, OnErr}
 use Rattle.std.proofs.lemmas.Bool.{ltb-true}
-use Rattle.std.proofs.lemmas.List.{map-set, set-get_or, set-set, get_or-set_same, length-set, length-map, take_more, take_at, take_all, drop_more, drop_all}
+use Rattle.std.proofs.lemmas.List.{map-set, set-get_or, set-set, get_or-set_same, length-set, take_more, take_at, take_all, drop_more, drop_all}
 use Rattle.std.specs.declared.alloc.Global.{Global}
 use Rattle.std.specs.declared.vec.Vec.{Vec}
-use Rattle.env_script.specs.Scripts.{OfferValue, gives, takes, nothing, offer_at}
+use Rattle.env_script.specs.Scripts.{gives, offer_at}
 use Rattle.env_script.specs.Runs.{history_at}
 use Rattle.chp_meaning.specs.declared.config.Rest.{Rest}
 use Rattle.chp_meaning.specs.declared.effect.Move.{Move}
-use Rattle.chp_meaning.specs.AtOnce.{written, written_in, less, used, used_on, passed, passed_on, shorter, withdrawn_on, is_below, number_below}
+use Rattle.chp_meaning.specs.AtOnce.{less, used, used_on, passed, passed_on, shorter, withdrawn_on, is_below, number_below}
 use Rattle.chp_meaning.specs.Standing.{items_of, rest_of}
 
 pub on_err : {X E : Type 0} (r : Result X E) (P : Type 0) → P → OnErr r P

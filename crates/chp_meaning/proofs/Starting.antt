@@ -1,9 +1,9 @@
 -- A program before its first step.
-use Rattle.std.proofs.Common.{◌≡◌, ℕ, zero, suc, ◌<◌, ◌≤◌, Bool, true, false, List, [], ◌∷◌, length, map, replicate, refl, sym, ap, ◌∙◌, subst, arith}
-use Rattle.std.specs.Prelude.{Option, None, Result, Ok, Err, IfOk}
+use Rattle.std.proofs.Common.{◌≡◌, ℕ, zero, suc, ◌≤◌, false, List, [], ◌∷◌, length, map, replicate, refl, sym, ap, ◌∙◌, subst, arith}
+use Rattle.std.specs.Prelude.{None, Result, Ok, Err, IfOk}
 use Rattle.std.proofs.lemmas.List.{length-map, length-replicate}
 use Rattle.chp_base.specs.declared.channel.Channel.{Channel}
-use Rattle.env_script.specs.Scripts.{OfferValue, gives, takes, nothing, IsScript}
+use Rattle.env_script.specs.Scripts.{OfferValue, IsScript}
 use Rattle.width_check.specs.declared.typed.Var.{Var}
 use Rattle.width_check.specs.Processes.{Process, skipping, assigning, sending, receiving, in_turn, side_by_side, choosing, repeating, Processes, no_members, and_member, Choices, no_choices, and_choice}
 use Rattle.width_check.specs.Typed.{TypedValue, program_of}
@@ -13,9 +13,12 @@ use Rattle.chp_meaning.specs.declared.config.Config.{Config}
 use Rattle.chp_meaning.specs.Terms.{opened}
 use Rattle.chp_meaning.specs.Steps.{Configuration, no_step, start_of}
 use Rattle.chp_meaning.specs.Remaining.{remains_of, term_of, begun, IsRunnable, AreRunnable, ChoicesRunnable}
-use Rattle.chp_meaning.specs.Standing.{rest_of, items_of, configuration_of, IsStanding}
-use Rattle.chp_meaning.specs.Ends.{seen, IsOf}
+use Rattle.chp_meaning.specs.Standing.{rest_of, items_of, histories_of, configuration_of, IsStanding}
+use Rattle.chp_meaning.specs.AtOnce.{held}
+use Rattle.std.proofs.lemmas.List.Sums.{sum_by-cons}
+use Rattle.chp_meaning.specs.Ends.{seen, IsReached, IsOf}
 use Rattle.chp_meaning.proofs.Remainders.{begins}
+use Rattle.chp_meaning.proofs.RoundAnswers.{reached_channels}
 
 mutual
   pub process_runs : (channels : List Channel) (vars : List Var) (p : Process) → IsProcess channels vars p → IsRunnable (length channels) (length vars) p
@@ -70,7 +73,9 @@ first_is body channels script c f =
     λ i. record { term = t i; store = c.store.items; rests = f.rests i; histories = f.histories i }
 
 pub begins_of : (t : TypedValue) (script : List OfferValue) (c : Config) → IsScript t.channels script → IsStanding (process_of t.body) c → seen t c ≡ start_of (program_of t) script → IsOf t c
-begins_of t script c fits standing is = record { standing = standing; reached = (script, 0, fits, rw is no_step) }
+begins_of t script c fits standing is =
+    let there : IsReached t (seen t c) = (script, 0, fits, rw is no_step) in
+    record { standing = standing; reached = there; channels = reached_channels t (seen t c) there }
 
 -- what was begun is the program's start
 abbrev pub first_of : TypedValue → List ℕ → List OfferValue → ℕ → Configuration
@@ -83,3 +88,11 @@ all_begun t script store n (Ok c) fits first count standing is = begins_of t scr
 
 pub program_runs : (t : TypedValue) (n m : ℕ) → IsProcess t.channels t.vars (process_of t.body) → n ≡ length t.channels → m ≡ length t.vars → IsRunnable n m (process_of t.body)
 program_runs t n m is e f = subst (λ k. IsRunnable k m (process_of t.body)) (sym e) (subst (λ k. IsRunnable (length t.channels) k (process_of t.body)) (sym f) (process_runs t.channels t.vars (process_of t.body) is))
+
+-- before the first step no value has passed
+none_held : (n : ℕ) → held (replicate n []) ≡ 0
+none_held zero = refl
+none_held (suc n) = let none : List ℕ = [] in omega (arith, sum_by-cons length none (replicate n none), none_held n)
+
+pub held_at_first : (body : Process) (c : Config) (store : List ℕ) (script : List OfferValue) (n most : ℕ) → configuration_of body c ≡ record { term = opened body; store = store; rests = script; histories = replicate n [] } → held (histories_of c) ≤ most
+held_at_first body c store script n most e = omega (arith, ap (λ (x : Configuration). held x.histories) e, none_held n)

@@ -1,12 +1,12 @@
 -- Which ends wait on the channels, as noted.
-use Rattle.std.proofs.Common.{◌≡◌, ◌≢◌, ◌⊎◌, ℕ, zero, suc, ◌+◌, ◌<◌, ◌≤◌, Bool, true, false, List, [], ◌∷◌, ◌++◌, length, get_or, set, replicate, map, refl, sym, ap, ◌∙◌, subst, inl, inr, arith}
-use Rattle.std.specs.Prelude.{fold, slice_index_or, slice_set, Option, Some, None}
+use Rattle.std.proofs.Common.{◌≡◌, ◌⊎◌, ℕ, zero, suc, ◌<◌, ◌≤◌, Bool, true, false, List, [], ◌∷◌, length, get_or, set, replicate, refl, sym, ap, ◌∙◌, subst, inl, inr}
+use Rattle.std.specs.Prelude.{fold, Option, Some, None}
 use Rattle.std.proofs.lemmas.List.{get_or-set_other, get_or-set_same, set_past, length-replicate, ext_get_or}
 use Rattle.std.proofs.lemmas.Bool.{cases_eq, cases_lt}
 use Rattle.chp_base.specs.declared.span.Span.{Span}
 use Rattle.width_check.specs.Processes.{Formula, Process, skipping, assigning, sending, receiving, in_turn, side_by_side, choosing, repeating}
 use Rattle.chp_meaning.specs.Terms.{Term, Terms, finished, active, in_sequence, in_parallel, no_branches, and_branch, Place, here, in_first, in_branch, statement_at, branch_at}
-use Rattle.chp_meaning.specs.AtOnce.{noted_send, noted_receive, if_waiting}
+use Rattle.chp_meaning.specs.AtOnce.{noted_send, noted_receive}
 use Rattle.chp_meaning.proofs.Places.{In, in_left, in_right, in_either}
 use Rattle.chp_meaning.proofs.Remainders.{actives, branch_actives}
 use Rattle.chp_meaning.proofs.Planning.{send_length, receive_length, sends_length, receives_length}

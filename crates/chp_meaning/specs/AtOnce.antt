@@ -1,15 +1,13 @@
 -- A round as one change: what each active statement does is settled by how things stand at the round's start.
-use Rattle.std.specs.Prelude.{◌≡◌, ℕ, zero, suc, ◌+◌, ◌-◌, Bool, true, false, ◌==◌, if◌then◌else◌, nat_lt, List, [], ◌∷◌, ◌++◌, length, map, take, fold, option_to_list, slice_index, slice_index_or, slice_set, sum_by, replicate, unwrap_or, Option, Some, None}
-use Rattle.env_script.specs.declared.script.Count.{Count}
+use Rattle.std.specs.Prelude.{ℕ, suc, ◌+◌, ◌-◌, Bool, true, false, ◌==◌, if◌then◌else◌, nat_lt, List, [], ◌∷◌, ◌++◌, length, take, option_to_list, slice_index, slice_index_or, slice_set, sum_by, Option, Some, None}
 use Rattle.env_script.specs.Scripts.{OfferValue, gives, takes, nothing, offer_at, is_over}
 use Rattle.env_script.specs.Runs.{history_at}
-use Rattle.width_check.specs.Processes.{Formula, Process, skipping, assigning, sending, receiving, in_turn, side_by_side, choosing, repeating, Processes, no_members, and_member, Choices, no_choices, and_choice}
+use Rattle.width_check.specs.Processes.{Process, skipping, assigning, sending, receiving, choosing, repeating, Choices, no_choices, and_choice}
 use Rattle.width_check.specs.Values.{value}
 use Rattle.chp_meaning.specs.declared.effect.Move.{Move}
 use Rattle.chp_meaning.specs.declared.effect.TrueGuards.{TrueGuards}
 use Rattle.chp_meaning.specs.declared.effect.TrueGuards.TheVariants.{Zero, One, Several as Many}
-use Rattle.chp_meaning.specs.Terms.{Term, Terms, finished, active, in_sequence, in_parallel, no_branches, and_branch, together, opened, followed}
-use Rattle.chp_meaning.specs.Steps.{Configuration, one_fewer}
+use Rattle.chp_meaning.specs.Steps.{one_fewer}
 use Rattle.chp_meaning.specs.Remaining as left
 use Rattle.chp_meaning.specs.Remaining.{Remains, over, whole, within, alongside, no_more, and_left, part_of, branch_of, begun, resumed, gathered}
 

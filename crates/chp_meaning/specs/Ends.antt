@@ -1,5 +1,5 @@
 -- What rounds answer.
-use Rattle.std.specs.Prelude.{◌≡◌, ◌≢◌, ◌↔◌, ℕ, zero, suc, ◌<◌, ◌≤◌, Bool, true, false, List, [], ◌∷◌, length}
+use Rattle.std.specs.Prelude.{◌≡◌, ℕ, suc, ◌<◌, ◌≤◌, Bool, true, false, List, [], ◌∷◌, length}
 use Rattle.env_script.specs.Scripts.{OfferValue, IsScript}
 use Rattle.width_check.specs.Typed.{TypedValue, program_of}
 use Rattle.width_check.specs.View.{process_of}
@@ -24,6 +24,7 @@ IsReached program c = (script : List OfferValue) × (n : ℕ) × IsScript progra
 pub record IsOf (program : TypedValue) (c : Config) : Type 0 where
   pub standing : IsStanding (process_of program.body) c
   pub reached : IsReached program (seen program c)
+  pub channels : length (seen program c).histories ≡ length program.channels
 
 abbrev pub CanStep : Configuration → Type 0
 CanStep c = (at : Place) × (d : Configuration) × Step c at d

@@ -1,5 +1,5 @@
 -- How a program stands, seen as a configuration.
-use Rattle.std.specs.Prelude.{◌≡◌, ℕ, Bool, true, false, List, map, length, drop, replicate, fold, All, Option, None}
+use Rattle.std.specs.Prelude.{◌≡◌, ℕ, true, false, List, map, length, drop, replicate, fold, All, None}
 use Rattle.std.specs.declared.alloc.Global.{Global}
 use Rattle.std.specs.declared.vec.Vec.{Vec}
 use Rattle.env_script.specs.Scripts.{OfferValue, gives, takes, nothing}
@@ -9,7 +9,6 @@ use Rattle.chp_meaning.specs.declared.effect.Move.{Move}
 use Rattle.chp_meaning.specs.declared.config.Rest.{Rest}
 use Rattle.chp_meaning.specs.declared.config.Rest.TheVariants.{Gives, Takes, Nothing}
 use Rattle.chp_meaning.specs.declared.config.Config.{Config}
-use Rattle.chp_meaning.specs.Terms.{Term}
 use Rattle.chp_meaning.specs.Steps.{Configuration}
 use Rattle.chp_meaning.specs.Remaining.{remains_of, term_of, CanRemain, IsRunnable}
 use Rattle.chp_meaning.specs.AtOnce.{Outset, noted_send, noted_receive, statements, moves_of, advanced, written, used, passed, is_below, number_below}
@@ -89,6 +88,6 @@ pub record HasTables (c : Config) : Type 0 where
   pub receives : length c.receives.items ≡ length c.rests.items
 
 -- the configuration has what a run of the statement asks for
-pub record Carries (c : Config) (p : Process) : Type 0 where
+pub record CanRun (c : Config) (p : Process) : Type 0 where
   pub tables : HasTables c
   pub numbers : IsRunnable (length c.rests.items) (length c.store.items) p

@@ -5,7 +5,7 @@ ghost use Rattle.env_script.specs.Scripts.{offer_at, is_over};
 ghost use Rattle.width_check.specs.View.{process_of};
 ghost use Rattle.chp_meaning.specs.Remaining.{choices_of, GuardsHaveValues};
 ghost use Rattle.chp_meaning.specs.AtOnce.{plain_move, next_of, sent_move, received_move, ending_move, is_met, true_guards, counted};
-ghost use Rattle.chp_meaning.specs.Standing.{rest_of, outset_of, HasTables, Carries};
+ghost use Rattle.chp_meaning.specs.Standing.{rest_of, outset_of, HasTables, CanRun};
 
 use crate::config::{Config, Rest};
 use env_script::Count;
@@ -72,8 +72,8 @@ fn sent(config: &Config, chan: u32, value: u64) -> Option<Move>
             }
         }
         Rest::Nothing => match config.receives[chan as usize] {
-            Some(var) => Some(Move {
-                write: Some((var, value)),
+            Some(target) => Some(Move {
+                write: Some((target, value)),
                 uses: None,
                 pass: Some((chan, value)),
             }),
@@ -99,7 +99,7 @@ fn received(config: &Config, chan: u32, var: u32) -> Option<Move>
 
 /// The step of an active statement that ends with it.
 pub(crate) fn ending(config: &Config, stmt: &TStmt) -> Option<Move>
-    requires { Carries config.now (process_of stmt.now) }
+    requires { CanRun config.now (process_of stmt.now) }
     ensures { result ≡ ending_move (outset_of config.now) (process_of stmt.now) }
 {
     match stmt {
@@ -117,7 +117,7 @@ pub(crate) fn ending(config: &Config, stmt: &TStmt) -> Option<Move>
 
 /// The statement is a receive to which an active send sends.
 pub(crate) fn is_met(config: &Config, stmt: &TStmt) -> bool
-    requires { Carries config.now (process_of stmt.now) }
+    requires { CanRun config.now (process_of stmt.now) }
     ensures { result ≡ is_met (outset_of config.now) (process_of stmt.now) }
 {
     match stmt {

@@ -1,6 +1,8 @@
 //! The meaning of programs, in steps and in rounds.
 #![tactic(auto)]
 
+#[cfg(test)]
+mod by_hand;
 mod config;
 mod effect;
 mod laws;
@@ -8,6 +10,8 @@ mod left;
 mod plan;
 mod run;
 mod settle;
+#[cfg(test)]
+mod tests;
 
 pub use config::{Config, start};
 pub use laws::{one_history, rounds_hold, runs_append, steps_taken};

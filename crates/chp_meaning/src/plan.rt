@@ -4,7 +4,7 @@ ghost use Rattle.std.specs.Prelude.{◌≡◌, ◌++◌, length, fold, option_to
 ghost use Rattle.width_check.specs.View.{process_of};
 ghost use Rattle.chp_meaning.specs.Remaining.{remains_of, CanRemain, RunsOn};
 ghost use Rattle.chp_meaning.specs.AtOnce.{statements, noted_send, noted_receive, step_remains, move_of, advanced, moves_of};
-ghost use Rattle.chp_meaning.specs.Standing.{outset_of, Carries};
+ghost use Rattle.chp_meaning.specs.Standing.{outset_of, CanRun};
 
 use crate::config::Config;
 use crate::effect::{Move, TrueGuards, chosen, ending, is_met, plain_move};
@@ -51,7 +51,7 @@ fn stepped(
     stmt: &TStmt,
     moves: &mut Vec<Move>,
 ) -> Result<Left, AllocError>
-    requires { Carries config.now (process_of stmt.now) }
+    requires { CanRun config.now (process_of stmt.now) }
     ensures left { IfOk result (λ left. remains_of left ≡ step_remains (outset_of config.now) (process_of stmt.now)) }
     ensures moves { OnOk result (moves.new.items ≡ moves.old.items ++ option_to_list (move_of (outset_of config.now) (process_of stmt.now))) }
 {
@@ -99,7 +99,7 @@ pub(crate) fn advanced(
     moves: &mut Vec<Move>,
 ) -> Result<Left, AllocError>
     requires remains { CanRemain (process_of stmt.now) (remains_of left.now) }
-    requires numbers { Carries config.now (process_of stmt.now) }
+    requires numbers { CanRun config.now (process_of stmt.now) }
     ensures left { IfOk result (λ left'. remains_of left' ≡ advanced (outset_of config.now) (process_of stmt.now) (remains_of left.now)) }
     ensures moves { OnOk result (moves.new.items ≡ moves.old.items ++ moves_of (outset_of config.now) (statements (process_of stmt.now) (remains_of left.now))) }
 {

@@ -11,7 +11,7 @@ ghost use Rattle.chp_meaning.specs.Laws.{OneHistory, RoundsHold};
 ghost use Rattle.chp_meaning.specs.Remaining.{remains_of, CanRemain};
 ghost use Rattle.chp_meaning.specs.AtOnce.{advanced, moves_of, statements, held};
 ghost use Rattle.chp_meaning.specs.Ends.{seen, IsOf, CanStep, IsEnd, IsWithin, held_in, is_some_step, end_by};
-ghost use Rattle.chp_meaning.specs.Standing.{outset_of, histories_of, items_of, configuration_of, next_moves, Carries, IsStanding, IsPlan, AreWithin, IsSettled, IsUnchanged};
+ghost use Rattle.chp_meaning.specs.Standing.{outset_of, histories_of, items_of, configuration_of, next_moves, CanRun, IsStanding, IsPlan, AreWithin, IsSettled, IsUnchanged};
 
 use crate::config::Config;
 use crate::effect::Move;
@@ -35,7 +35,7 @@ pub enum RunEnd {
 /// What is left after the next round, and its moves, where the ends that wait are noted.
 fn plan(alloc: Global, config: &Config, body: &TStmt) -> Result<(Left, Vec<Move>), AllocError>
     requires remains { CanRemain (process_of body.now) (remains_of config.now.left) }
-    requires numbers { Carries config.now (process_of body.now) }
+    requires numbers { CanRun config.now (process_of body.now) }
     ensures left { IfOk result (λ plan. remains_of plan.0 ≡ advanced (outset_of config.now) (process_of body.now) (remains_of config.now.left)) }
     ensures moves { IfOk result (λ plan. plan.1.items ≡ moves_of (outset_of config.now) (statements (process_of body.now) (remains_of config.now.left))) }
 {

@@ -1,4 +1,3 @@
-use Rattle.std.proofs.Common.{◌≡◌}
 use Rattle.width_check.specs.View.{process_of}
 use Rattle.chp_meaning.proofs.Starting.{first_stands, first_is}
 use Rattle.chp_meaning.proofs.config.begun.Goals as goal

@@ -1,4 +1,4 @@
-use Rattle.std.proofs.Common.{◌≡◌, ap, sym, ◌∙◌, length, List, ℕ}
+use Rattle.std.proofs.Common.{ap, ◌∙◌, length, List, ℕ}
 use Rattle.std.proofs.lemmas.List.{length-map}
 use Rattle.chp_base.specs.declared.channel.Channel.{Channel}
 use Rattle.width_check.specs.declared.typed.Var.{Var}

@@ -1,5 +1,4 @@
-use Rattle.std.proofs.Common.{rules, ap, ◌∙◌, sym, arith}
-use Rattle.std.specs.Prelude.{IfOk}
+use Rattle.std.proofs.Common.{rules, arith}
 use Rattle.std.proofs.lemmas.List.{get_or_read}
 use Rattle.width_check.specs.declared.typed.TStmt.{the_lemmas}
 use Rattle.chp_meaning.proofs.Rows.{then_some, first_members, branch_members, then_begun, begun_more, begun_all}

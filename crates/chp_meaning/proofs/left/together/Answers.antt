@@ -1,4 +1,4 @@
-use Rattle.std.proofs.Common.{◌≡◌, sym, ◌∙◌}
+use Rattle.std.proofs.Common.{sym, ◌∙◌}
 use Rattle.chp_meaning.proofs.Rows.{gathered_over, gathered_left}
 use Rattle.chp_meaning.proofs.left.together.Goals as goal
 

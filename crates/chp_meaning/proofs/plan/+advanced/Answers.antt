@@ -1,7 +1,7 @@
-use Rattle.std.proofs.Common.{◌≡◌, rules, subst, sym, ap, ◌∙◌, arith, length}
+use Rattle.std.proofs.Common.{rules, ap, ◌∙◌, arith}
 use Rattle.std.proofs.lemmas.List.{get_or_read}
 use Rattle.width_check.specs.View.{process_of}
-use Rattle.chp_meaning.specs.declared.left.Left.{Left, the_lemmas}
+use Rattle.chp_meaning.specs.declared.left.Left.{the_lemmas}
 use Rattle.chp_meaning.specs.Remaining.{several_of}
 use Rattle.chp_meaning.specs.AtOnce.{each_advanced}
 use Rattle.chp_meaning.specs.Standing.{outset_of}

@@ -2,7 +2,7 @@ use Rattle.std.proofs.Common.{◌≡◌, ◌++◌, length, drop}
 use Rattle.width_check.specs.View.{process_of}
 use Rattle.chp_meaning.specs.Remaining.{remains_of, several_of, part_count, EachCanRemain}
 use Rattle.chp_meaning.specs.AtOnce.{statements, each_statements, moves_of, each_advanced}
-use Rattle.chp_meaning.specs.Standing.{outset_of, Carries}
+use Rattle.chp_meaning.specs.Standing.{outset_of}
 use Rattle.chp_meaning.proofs.Rows.{front}
 use Rattle.chp_meaning.proofs.plan.+advanced.Given as goal
 

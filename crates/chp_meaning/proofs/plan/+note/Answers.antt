@@ -1,10 +1,9 @@
-use Rattle.std.proofs.Common.{◌≡◌, rules, subst, sym, ap, ◌∙◌, arith, length}
+use Rattle.std.proofs.Common.{rules, arith}
 use Rattle.std.proofs.lemmas.List.{get_or_read}
 use Rattle.width_check.specs.View.{process_of}
-use Rattle.chp_meaning.specs.declared.left.Left.{Left, the_lemmas}
-use Rattle.chp_meaning.specs.Remaining.{remains_of, CanRemain, RunsOn}
+use Rattle.chp_meaning.specs.declared.left.Left.{the_lemmas}
 use Rattle.chp_meaning.specs.AtOnce.{noted_send, noted_receive}
-use Rattle.chp_meaning.proofs.Planning.{inner_remains, runs_part, remains_start, remains_more, remains_next, folded_start, folded_more, folded_end, sends_length, receives_length}
+use Rattle.chp_meaning.proofs.Planning.{inner_remains, runs_part, remains_start, remains_more, folded_start}
 use Rattle.chp_meaning.proofs.plan.+note.Goals as goal
 
 pub note-requires : goal.note-requires

@@ -1,11 +1,9 @@
-use Rattle.std.proofs.Common.{◌≡◌, ◌∙◌, ap, sym}
-use Rattle.std.specs.Prelude.{is_some}
 use Rattle.std.proofs.lemmas.Result.{IfOk-weaker}
 use Rattle.width_check.specs.Typed.{program_of}
 use Rattle.width_check.specs.View.{process_of}
 use Rattle.chp_meaning.specs.Ends.{seen}
 use Rattle.chp_meaning.proofs.RoundRuns.{one_history, rounds_hold}
-use Rattle.chp_meaning.proofs.RoundAnswers.{reached_fits, round_reached, took_is}
+use Rattle.chp_meaning.proofs.RoundAnswers.{reached_fits, reached_channels, round_reached, took_is}
 use Rattle.chp_meaning.proofs.run.round.Goals as goal
 
 pub returns-clause-of : goal.returns-clause-of
@@ -13,10 +11,8 @@ returns-clause-of c =
     let t = c.args.program.now in
     let fits = reached_fits t (seen t c.args.config.now) c.requires.sharing c.requires.of.reached in
     let made = rw c.body.ensures.body at c.round_of.ensures in
-    record {
-      standing = made.standing;
-      reached = round_reached t (seen t c.args.config.now) (seen t c.round_of.new.config) c.round_of.result fits c.requires.of.reached (made.round fits) made.err;
-    }
+    let there = round_reached t (seen t c.args.config.now) (seen t c.round_of.new.config) c.round_of.result fits c.requires.of.reached (made.round fits) made.err in
+    record { standing = made.standing; reached = there; channels = reached_channels t (seen t c.round_of.new.config) there }
 
 pub returns-clause-round : goal.returns-clause-round
 returns-clause-round c =

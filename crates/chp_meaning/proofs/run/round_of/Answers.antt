@@ -1,4 +1,3 @@
-use Rattle.std.proofs.Common.{◌≡◌, ◌∙◌, ap}
 use Rattle.width_check.specs.View.{process_of}
 use Rattle.chp_meaning.proofs.NextRound.{plan_within, within_after, settled_after, settled_stands, settled_round, planned_of}
 use Rattle.chp_meaning.proofs.run.round_of.Goals as goal

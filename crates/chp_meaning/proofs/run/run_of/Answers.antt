@@ -1,12 +1,11 @@
-use Rattle.std.proofs.Common.{◌≡◌, ◌∙◌, ◌+◌, ap, sym, subst, arith}
+use Rattle.std.proofs.Common.{◌≡◌, ◌∙◌, ap, sym, subst, arith}
 use Rattle.width_check.specs.View.{process_of}
 use Rattle.chp_meaning.specs.declared.run.RunEnd.{RunEnd}
 use Rattle.chp_meaning.specs.Rounds.{rounds_from}
-use Rattle.chp_meaning.specs.AtOnce.{held}
-use Rattle.chp_meaning.specs.Standing.{configuration_of, histories_of}
+use Rattle.chp_meaning.specs.Standing.{configuration_of}
 use Rattle.chp_meaning.specs.Ends.{IsEnd}
 use Rattle.chp_meaning.proofs.NextRound.{passing, planned_of, plan_within, within_after, settled_after, settled_stands, settled_held, unchanged_after}
-use Rattle.chp_meaning.proofs.RoundAnswers.{IsAt, stopped, rested, overfull, ended, after_round, nothing_in}
+use Rattle.chp_meaning.proofs.RoundAnswers.{stopped, rested, overfull, ended, after_round, nothing_in}
 use Rattle.chp_meaning.proofs.run.run_of.Goals as goal
 
 pub returns-in_err-left-clause-err : goal.returns-in_err-left-clause-err

@@ -1,9 +1,7 @@
-use Rattle.std.proofs.Common.{◌≡◌}
 use Rattle.width_check.specs.Typed.{program_of}
-use Rattle.width_check.specs.View.{process_of}
 use Rattle.chp_meaning.specs.Ends.{seen}
 use Rattle.chp_meaning.proofs.RoundRuns.{one_history, rounds_hold}
-use Rattle.chp_meaning.proofs.RoundAnswers.{reached_fits, run_reached}
+use Rattle.chp_meaning.proofs.RoundAnswers.{reached_fits, reached_channels, run_reached}
 use Rattle.chp_meaning.proofs.run.run_rounds.Goals as goal
 
 pub returns-clause-of : goal.returns-clause-of
@@ -11,10 +9,8 @@ returns-clause-of c =
     let t = c.args.program.now in
     let fits = reached_fits t (seen t c.args.config.now) c.requires.sharing c.requires.of.reached in
     let made = rw c.body.ensures.body at c.run_of.ensures in
-    record {
-      standing = made.standing;
-      reached = run_reached t c.args.n c.args.most (seen t c.args.config.now) (seen t c.run_of.new.config) c.run_of.result fits c.requires.of.reached (made.end fits) (made.err fits);
-    }
+    let there = run_reached t c.args.n c.args.most (seen t c.args.config.now) (seen t c.run_of.new.config) c.run_of.result fits c.requires.of.reached (made.end fits) (made.err fits) in
+    record { standing = made.standing; reached = there; channels = reached_channels t (seen t c.run_of.new.config) there }
 
 pub returns-clause-end : goal.returns-clause-end
 returns-clause-end c =

@@ -1,4 +1,3 @@
-use Rattle.std.proofs.Common.{◌<◌, length, arith}
 use Rattle.chp_meaning.proofs.Settling.{on_err, pushed, unpushed, in_range}
 use Rattle.chp_meaning.proofs.settle.pass.Goals as goal
 

@@ -1,4 +1,4 @@
-use Rattle.std.proofs.Common.{◌≡◌, ◌∙◌, sym}
+use Rattle.std.proofs.Common.{◌∙◌, sym}
 use Rattle.width_check.specs.View.{process_of}
 use Rattle.chp_meaning.specs.Remaining.{remains_of}
 use Rattle.chp_meaning.proofs.Remainders.{finished_is}
