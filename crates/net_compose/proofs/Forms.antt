@@ -138,10 +138,6 @@ bit_built p name bit f =
 pub not_built : (p : ProgramTree) → is_idle p ≡ false → is_bit_form p ≡ false → is_built p ≡ false
 not_built p e f = ap (λ b. b || is_bit_form p) e ∙ f
 
--- the net of such a program is that of its typed form
-pub idle_net : (p : ProgramTree) (net : NetValue) → is_idle p ≡ true → ((q : ProgramTree) → is_idle q ≡ true → net ≡ translation (typed_form q)) → net ≡ translation (typed_form p)
-idle_net p net h is = is p h
-
 pub bit_accepted : (p : ProgramTree) (name : List ℕ) (bit : Bool) (net : NetValue) → IsBitForm p name bit → ((at : Span) → net ≡ translation (bit_program name at bit)) → IsAccepted p
 bit_accepted p name bit net f is = (form_of p name bit f).accepted
 

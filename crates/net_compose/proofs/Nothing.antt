@@ -3,6 +3,7 @@ use Rattle.std.proofs.Common.{◌≡◌, ◌≢◌, ℕ, ◌<◌, Bool, true, fa
 use Rattle.std.specs.Prelude.{◌&&◌, not, nat_lt, nat_le, All, AllPairs, codes, decimal}
 use Rattle.std.specs.List.{list_all}
 use Rattle.std.specs.Str.{bytes_eq}
+use Rattle.std.proofs.lemmas.Bool.{and_parts}
 use Rattle.std.proofs.lemmas.Bool.Decides.{nat_tests}
 use Rattle.std.proofs.lemmas.List.Elements.{All-cons, All-nil}
 use Rattle.std.proofs.lemmas.List.Kept.{AllPairs-cons}
@@ -15,18 +16,10 @@ use Rattle.chp_base.specs.Names.{IsNodeName, begins_with_letter, node_part}
 use Rattle.net_compose.specs.Translation.{translation, composed}
 use Rattle.net_compose.specs.Carries.{idle}
 
-left_of : (a b : Bool) → (a && b) ≡ true → a ≡ true
-left_of true b h = refl
-left_of false b h = h
-
-right_of : (a b : Bool) → (a && b) ≡ true → b ≡ true
-right_of true b h = h
-right_of false b h = absurd (cc h)
-
 -- what passes a test has the property
 all_by : {X : Type 0} (test : X → Bool) (P : X → Type 0) → ((x : X) → test x ≡ true → P x) → (xs : List X) → list_all test xs ≡ true → All P xs
 all_by test P tells [] h = All-nil P
-all_by test P tells (x ∷ xs) h = All-cons P x xs (tells x (left_of (test x) _ h)) (all_by test P tells xs (right_of (test x) _ h))
+all_by test P tells (x ∷ xs) h = All-cons P x xs (tells x (and_parts (test x) _ h).0) (all_by test P tells xs (and_parts (test x) _ h).1)
 
 abbrev literal_below : ℕ → Literal → Bool
 literal_below count l = nat_lt l.node count
@@ -64,16 +57,16 @@ not_same x y h same = let e : bytes_eq x y ≡ true = (bytes_eq-Decides x y).1 s
 are_apart : (xs : List (List ℕ)) → all_apart xs ≡ true → AllPairs (λ (a b : List ℕ). a ≢ b) xs
 are_apart [] h = λ i j d below within. absurd (omega arith)
 are_apart (x ∷ xs) h =
-    AllPairs-cons (λ (a b : List ℕ). a ≢ b) x xs (all_by (λ y. not (bytes_eq x y)) (λ y. x ≢ y) (not_same x) xs (left_of _ _ h)) (are_apart xs (right_of (list_all (λ y. not (bytes_eq x y)) xs) _ h))
+    AllPairs-cons (λ (a b : List ℕ). a ≢ b) x xs (all_by (λ y. not (bytes_eq x y)) (λ y. x ≢ y) (not_same x) xs (and_parts (list_all (λ y. not (bytes_eq x y)) xs) _ h).0) (are_apart xs (and_parts (list_all (λ y. not (bytes_eq x y)) xs) _ h).1)
 
 abbrev node_name_test : List ℕ → Bool
 node_name_test bs = nat_le (length bs) 32 && (begins_with_letter bs && list_all node_part bs)
 
 node_name_told : (bs : List ℕ) → node_name_test bs ≡ true → IsNodeName bs
 node_name_told bs h =
-    let short : nat_le (length bs) 32 ≡ true = left_of _ _ h in
-    let rest : (begins_with_letter bs && list_all node_part bs) ≡ true = right_of (nat_le (length bs) 32) _ h in
-    record { short = grind (arith, nat_tests); first = left_of _ _ rest; parts = right_of (begins_with_letter bs) _ rest }
+    let short : nat_le (length bs) 32 ≡ true = (and_parts (nat_le (length bs) 32) _ h).0 in
+    let rest : (begins_with_letter bs && list_all node_part bs) ≡ true = (and_parts (nat_le (length bs) 32) _ h).1 in
+    record { short = grind (arith, nat_tests); first = (and_parts (begins_with_letter bs) _ rest).0; parts = (and_parts (begins_with_letter bs) _ rest).1 }
 
 abbrev plain_names : List (List ℕ)
 plain_names = codes "go" ∷ codes "done" ∷ codes "n2" ∷ codes "n3" ∷ codes "n4" ∷ []
