@@ -1,6 +1,9 @@
+pub mod Breaking
+pub mod Deciding
 pub mod Fans
 pub mod Moves
 pub mod Nets
 pub mod Pairs
 pub mod Parts
 pub mod Keeping
+pub mod Turning
