@@ -6,4 +6,5 @@ pub mod Nets
 pub mod Pairs
 pub mod Parts
 pub mod Keeping
+pub mod Sites
 pub mod Turning
