@@ -1,4 +1,8 @@
 //! The completion tree.
 #![tactic(auto)]
 
-pub mod laws;
+mod laws;
+mod tree;
+
+pub use laws::tree_counted;
+pub use tree::emit_tree;
