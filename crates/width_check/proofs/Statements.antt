@@ -1,6 +1,10 @@
 -- When a statement is one over some channels and variables, member by member and arm by arm.
-use Rattle.std.proofs.Common.{◌≡◌, ◌≢◌, ℕ, zero, suc, ◌+◌, ◌<◌, ◌≤◌, Bool, true, false, List, [], ◌∷◌, length, get_or, drop, refl, sym, ap, ◌∙◌, subst, arith}
+use Rattle.std.proofs.Common.{◌≡◌, ◌≢◌, ℕ, suc, ◌+◌, ◌<◌, ◌≤◌, Bool, true, false, List, [], ◌∷◌, length, get_or, drop, refl, sym, ap, ◌∙◌, subst, arith}
 use Rattle.std.specs.Bool.{Decides}
+use Rattle.std.specs.Prelude.{nat_eq}
+use Rattle.std.proofs.lemmas.Bool.{le-leb, leb-true, ltb-true}
+use Rattle.std.proofs.lemmas.Bool.Decides.{Decides-eqb}
+use lib.Dec.{leb, ltb}
 use Rattle.std.proofs.lemmas.List.{drop_more, drop_all}
 use Rattle.std.specs.declared.alloc.Global.{Global}
 use Rattle.std.specs.declared.vec.Vec.{Vec}
@@ -9,10 +13,12 @@ use Rattle.width_check.specs.declared.typed.Var.{Var}
 use Rattle.width_check.specs.declared.typed.TArm.{TArm}
 use Rattle.width_check.specs.declared.typed.TStmt.{TStmt, Then, Beside, Select, Row_of-TStmt, end_of-TStmt, more_of-TStmt, Row_of-TArm, end_of-TArm, more_of-TArm, items-the_row-TStmt, items-the_row-TArm, items_hidden-the_row-TStmt-0, items_hidden-the_row-TArm-1}
 use Rattle.width_check.specs.declared.typed.TStmt.TheBlock.{hidden-the_row-TStmt-0, hidden-the_row-TArm-1}
-use Rattle.width_check.specs.Processes.{Process, in_turn, side_by_side, choosing, Processes, no_members, and_member, Choices, no_choices, and_choice, member_count, choice_count}
-use Rattle.width_check.specs.Typing.{kind_at, channel_width, var_width, IsOfWidth, IsSend, IsReceive, IsProcess, AreProcesses, AreChoices}
+use Rattle.chp_base.specs.declared.channel.Kind.TheVariants.{In, Out}
+use Rattle.width_check.specs.Processes.{Formula, Process, in_turn, side_by_side, choosing, Processes, no_members, and_member, Choices, no_choices, and_choice, member_count, choice_count}
+use Rattle.width_check.specs.Typing.{var_width, IsOfWidth, IsSend, IsReceive, IsProcess, AreProcesses, AreChoices}
 use Rattle.width_check.specs.View.{formula_of, process_of, processes_of, choices_of}
-use Rattle.width_check.proofs.Alike.{Alike, one_less, one_wrong, two_less, first_wrong, second_wrong, holds, fails, not_so}
+use Rattle.width_check.proofs.Widths.{var_found, channel_found, kind_found}
+use Rattle.width_check.proofs.Alike.{Alike, one_less, one_wrong, two_less, first_wrong, second_wrong, fails, not_so}
 
 -- the members of a statement and the arms of a selection, as lists
 
@@ -124,3 +130,51 @@ pub select_so : (channels : List Channel) (vars : List Var) (s : TStmt) (again :
 select_so channels vars s again v arms r is items all decides =
     let counted = subst (λ n. Decides r ((1 ≤ n) × (n ≤ 16))) (sym (arms_counted arms)) decides in
     same_answer r (IsProcess channels vars) _ (choosing again (arms_of arms)) (select_is s again v is ∙ ap (λ xs. choosing again (arms_of xs)) (sym items)) (λ so. let count = counted.0 so in (count.0, count.1, all), λ whole. counted.1 (whole.0, whole.1))
+
+pub at_least : (k r n : ℕ) → r ≡ n → Decides (leb k r) (k ≤ n)
+at_least k r n is = (λ so. let below = leb-true k r so in omega arith, λ below. le-leb k r (omega arith))
+
+pub in_range : (r n : ℕ) → r ≡ n → 1 ≤ n → Decides (leb r 16) ((1 ≤ n) × (n ≤ 16))
+in_range r n is some =
+    (λ so. let below = leb-true r 16 so in (some, omega arith), λ whole. le-leb r 16 (omega (arith, whole.1)))
+
+pub below_range : (r n : ℕ) → r ≡ n → r < 1 → Decides (leb 1 r) ((1 ≤ n) × (n ≤ 16))
+below_range r n is none =
+    (λ so. let one = leb-true 1 r so in absurd (omega arith), λ whole. le-leb 1 r (omega (arith, whole.0)))
+
+-- what a number names
+
+pub assign_decided : (vars : List Var) (var : ℕ) (v : Var) (e : Formula) (r : Bool) → true ≡ ltb var (length vars) → v ≡ get_or vars var v → Decides r (IsOfWidth vars v.width e) → Decides r ((var < length vars) × IsOfWidth vars (var_width vars var) e)
+assign_decided vars var v e r there is decides =
+    let within = ltb-true var (length vars) (sym there) in
+    let same = var_found vars var v within is in
+    (λ so. (within, subst (λ n. IsOfWidth vars n e) same (decides.0 so)), λ whole. decides.1 (subst (λ n. IsOfWidth vars n e) (sym same) whole.1))
+
+pub send_decided : (channels : List Channel) (vars : List Var) (c : ℕ) (channel : Channel) (e : Formula) (r : Bool) → true ≡ ltb c (length channels) → channel ≡ get_or channels c channel → channel.kind ≢ In → Decides r (IsOfWidth vars channel.width e) → Decides r (IsSend channels vars c e)
+send_decided channels vars c channel e r there is sends decides =
+    let within = ltb-true c (length channels) (sym there) in
+    let same = channel_found channels c channel within is in
+    let kind = kind_found channels c channel within is in
+    (λ so. record { within = within; direction = subst (λ k. k ≢ In) kind sends; sent = subst (λ n. IsOfWidth vars n e) same (decides.0 so) }, λ whole. decides.1 (subst (λ n. IsOfWidth vars n e) (sym same) whole.sent))
+
+pub send_refused : (channels : List Channel) (vars : List Var) (c : ℕ) (channel : Channel) (e : Formula) (r : Bool) → true ≡ ltb c (length channels) → channel ≡ get_or channels c channel → Decides r (channel.kind ≢ In) → r ≡ false → Decides r (IsSend channels vars c e)
+send_refused channels vars c channel e r there is decides so =
+    let within = ltb-true c (length channels) (sym there) in
+    let kind = kind_found channels c channel within is in
+    (λ t. absurd (cc (t, so)), λ whole. absurd (not_so r _ decides so (subst (λ k. k ≢ In) (sym kind) whole.direction)))
+
+pub receive_decided : (channels : List Channel) (vars : List Var) (c var : ℕ) (channel : Channel) (v : Var) → true ≡ ltb c (length channels) → channel ≡ get_or channels c channel → true ≡ ltb var (length vars) → v ≡ get_or vars var v → channel.kind ≢ Out → Decides (nat_eq v.width channel.width) (IsReceive channels vars c var)
+receive_decided channels vars c var channel v there is target declared receives =
+    let within = ltb-true c (length channels) (sym there) in
+    let owned = ltb-true var (length vars) (sym target) in
+    let wide = channel_found channels c channel within is in
+    let same = var_found vars var v owned declared in
+    let kind = kind_found channels c channel within is in
+    let test = Decides-eqb v.width channel.width in
+    (λ so. record { within = within; direction = subst (λ k. k ≢ Out) kind receives; target = owned; widths = sym same ∙ (test.0 so ∙ wide) }, λ whole. test.1 (same ∙ (whole.widths ∙ sym wide)))
+
+pub receive_refused : (channels : List Channel) (vars : List Var) (c var : ℕ) (channel : Channel) (r : Bool) → true ≡ ltb c (length channels) → channel ≡ get_or channels c channel → Decides r (channel.kind ≢ Out) → r ≡ false → Decides r (IsReceive channels vars c var)
+receive_refused channels vars c var channel r there is decides so =
+    let within = ltb-true c (length channels) (sym there) in
+    let kind = kind_found channels c channel within is in
+    (λ t. absurd (cc (t, so)), λ whole. absurd (not_so r _ decides so (subst (λ k. k ≢ Out) (sym kind) whole.direction)))

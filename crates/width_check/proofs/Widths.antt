@@ -1,8 +1,7 @@
 -- When an expression is one over some variables, part by part.
-use Rattle.std.proofs.Common.{◌≡◌, ◌≢◌, ℕ, zero, suc, ◌+◌, ◌-◌, ◌^◌, ◌<◌, ◌≤◌, Bool, true, false, List, [], ◌∷◌, length, get_or, drop, refl, sym, ap, ◌∙◌, subst, arith}
+use Rattle.std.proofs.Common.{◌≡◌, ◌≢◌, ℕ, zero, suc, ◌+◌, ◌-◌, ◌^◌, ◌<◌, ◌≤◌, true, false, List, [], ◌∷◌, length, get_or, drop, refl, sym, ap, ◌∙◌, subst, arith}
 use Rattle.chp_base.specs.declared.span.Span.{Span}
 use Rattle.chp_base.specs.declared.channel.Channel.{Channel}
-use Rattle.chp_base.specs.declared.channel.Kind.{Kind}
 use Rattle.chp_syntax.specs.declared.tree.Op.{Op}
 use Rattle.std.specs.Prelude.{◌==◌, Option, Some, None, IfNone}
 use Rattle.width_check.specs.declared.typed.Var.{Var}
@@ -10,8 +9,8 @@ use Rattle.width_check.specs.declared.typed.TExpr.{TExpr}
 use Rattle.width_check.specs.declared.typed.TLink.{TLink}
 use Rattle.width_check.specs.View.{formula_of}
 use Rattle.width_check.specs.Processes.{Formula, constant, reading, joined, inverted, chained, compared, Formulas, no_parts, and_part, Operations, no_operations, and_operation, part_count, operation_count}
-use Rattle.width_check.specs.Typing.{kind_at, channel_width, var_width, ReadsFrom, EachReadsFrom, AllReadFrom, IsOfWidth}
-use Rattle.width_check.specs.Values.{width_of, widths_of, is_comparison, IsWellFormed, AreWellFormed, AreOperations}
+use Rattle.width_check.specs.Typing.{kind_at, channel_width, var_width, EachReadsFrom, AllReadFrom, IsOfWidth}
+use Rattle.width_check.specs.Values.{width_of, widths_of, is_comparison, AreWellFormed, AreOperations}
 use Rattle.width_check.proofs.Bounds.{width_most, widths_some}
 use Rattle.width_check.proofs.Alike.{Alike}
 use Rattle.width_check.proofs.Rows.{parts_of, part_at, no_more_parts, links_of, link_at, no_more_links}

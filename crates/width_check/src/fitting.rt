@@ -1,6 +1,6 @@
 //! Checks of expressions and statements over declared channels and variables.
 
-ghost use Rattle.std.specs.Prelude.{◌≡◌, ◌<◌, ◌≤◌, ℕ, length, IfSome, IfNone};
+ghost use Rattle.std.specs.Prelude.{◌≡◌, ◌≢◌, ◌<◌, ◌≤◌, ℕ, length, IfSome, IfNone};
 ghost use Rattle.std.specs.Bool.{Decides};
 ghost use Rattle.width_check.specs.Typing.{var_width, IsOfWidth, IsSend, IsReceive, IsProcess};
 ghost use Rattle.width_check.specs.Values.{is_comparison};
@@ -94,11 +94,29 @@ fn is_assign(vars: &[Var], var: u32, value: &TExpr) -> bool
     }
 }
 
+fn program_sends(kind: Kind) -> bool
+    ensures { Decides result (kind ≢ Kind.In) }
+{
+    match kind {
+        Kind::In => false,
+        Kind::Out | Kind::Chan => true,
+    }
+}
+
+fn program_receives(kind: Kind) -> bool
+    ensures { Decides result (kind ≢ Kind.Out) }
+{
+    match kind {
+        Kind::Out => false,
+        Kind::In | Kind::Chan => true,
+    }
+}
+
 fn is_send(channels: &[Channel], vars: &[Var], chan: u32, value: &TExpr) -> bool
     ensures { Decides result (IsSend channels.now vars.now chan (formula_of value.now)) }
 {
     match channels.get(chan as usize) {
-        Some(channel) => channel.kind != Kind::In && is_of_width(vars, channel.width, value),
+        Some(channel) => program_sends(channel.kind) && is_of_width(vars, channel.width, value),
         None => false,
     }
 }
@@ -108,7 +126,7 @@ fn is_receive(channels: &[Channel], vars: &[Var], chan: u32, var: u32) -> bool
 {
     match (channels.get(chan as usize), vars.get(var as usize)) {
         (Some(channel), Some(declared)) => {
-            channel.kind != Kind::Out && declared.width == channel.width
+            program_receives(channel.kind) && declared.width == channel.width
         }
         _ => false,
     }

@@ -1,8 +1,7 @@
-use Rattle.std.proofs.Common.{◌≡◌, List, [], ◌∷◌, drop, ap, sym, ◌∙◌, subst}
+use Rattle.std.proofs.Common.{List, [], sym, ◌∙◌, subst}
 use Rattle.std.specs.List.{IsDistinct}
 use Rattle.std.specs.Str.{bytes_eq}
-use Rattle.std.proofs.lemmas.List.{drop_more, drop_all}
-use Rattle.chp_base.specs.declared.channel.Channel.{Channel}
+use Rattle.std.proofs.lemmas.List.{drop_all}
 use Rattle.width_check.specs.declared.typed.Var.{Var}
 use Rattle.width_check.specs.Typing.{names_of}
 use Rattle.width_check.proofs.Alike.{Alike, holds, fails}

@@ -1,4 +1,4 @@
-use Rattle.std.proofs.Common.{List, [], drop}
+use Rattle.std.proofs.Common.{[], drop}
 use Rattle.std.specs.List.{IsDistinct}
 use Rattle.std.specs.Str.{bytes_eq}
 use Rattle.width_check.specs.Typing.{names_of}

@@ -1,4 +1,3 @@
-use Rattle.std.proofs.Common.{◌≡◌, ap, sym, ◌∙◌}
 use Rattle.width_check.proofs.Declaring.{among}
 use Rattle.width_check.proofs.declared.is_among.Goals as goal
 

@@ -1,6 +1,6 @@
 use Rattle.std.proofs.lemmas.Bool.Decides.{Decides-eqb}
-use Rattle.std.proofs.Common.{◌≡◌, ℕ, vec_len, length, ap, sym, ◌∙◌, subst, arith}
-use Rattle.width_check.specs.Processes.{Formula, joined, chained}
+use Rattle.std.proofs.Common.{vec_len, length, ap, sym, ◌∙◌, subst, arith}
+use Rattle.width_check.specs.Processes.{joined, chained}
 use Rattle.width_check.specs.Typing.{IsOfWidth}
 use Rattle.width_check.specs.View.{formula_of}
 use Rattle.width_check.proofs.Rows.{parts_of, joined_parts, links_of, chained_links}
@@ -50,8 +50,8 @@ returns-then-is_comparison-clause-none t c =
     let left = links_at _ _ _ c.loop-link.link-index _ c.loop-link-test.true c.link-item.is c.loop-link.invariant in
     let first : IsOfWidth c.args.vars.now c.in_ok-width-in-Chain.width (formula_of c.in-Chain.first.value) = rw (← c.deref-in-Chain.ensures) c.in_ok-width-in-Chain.ensures.some in
     elim c.then-is_comparison.branch [
-      then-is_comparison-via-then-is_comparison w ↦ not_over _ _ _ is (λ u. chain_compares _ _ u _ _ _ _ _ left first (sym c.is_comparison.ensures ∙ w.if-is_comparison.true))
-    | then-is_comparison-via-else-is_comparison+then-right-width w ↦ not_over _ _ _ is (λ u. chain_other _ _ _ u _ _ _ _ _ left first c.in_ok-right-in-Chain.ensures.some w.if-right-width.true)
+      | then-is_comparison-via-then-is_comparison w ↦ not_over _ _ _ is (λ u. chain_compares _ _ u _ _ _ _ _ left first (sym c.is_comparison.ensures ∙ w.if-is_comparison.true))
+      | then-is_comparison-via-else-is_comparison+then-right-width w ↦ not_over _ _ _ is (λ u. chain_other _ _ _ u _ _ _ _ _ left first c.in_ok-right-in-Chain.ensures.some w.if-right-width.true)
     ]
 
 pub returns-then-is_empty-clause-none : goal.returns-then-is_empty-clause-none

@@ -1,6 +1,4 @@
-use Rattle.std.proofs.Common.{◌≡◌, ◌+◌, ◌≤◌, drop}
-use Rattle.width_check.specs.View.{formula_of}
-use Rattle.width_check.specs.Typing.{IsOfWidth}
+use Rattle.std.proofs.Common.{drop}
 use Rattle.width_check.proofs.Alike.{Alike}
 use Rattle.width_check.proofs.Rows.{parts_of, links_of}
 use Rattle.width_check.proofs.Widths.{IsJoining, AreLinks}
