@@ -1,7 +1,9 @@
 //! Programs whose names and widths are checked.
 #![tactic(auto)]
 
+mod declared;
 mod evaluate;
+mod fitting;
 mod operate;
 #[cfg(test)]
 mod tests;

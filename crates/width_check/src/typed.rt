@@ -3,6 +3,8 @@
 
 ghost use Rattle.std.specs.Prelude.{◌≡◌};
 
+use crate::declared::{are_declared, are_distinct};
+use crate::fitting::is_process;
 use chp_base::{Bits, Channel, Name, Span};
 use chp_syntax::Op;
 use std::marker::Model;
@@ -138,8 +140,30 @@ impl Model for Typed {
 }
 
 impl Typed {
+    ghost use Rattle.std.specs.Prelude.{IfSome, IfNone};
+    ghost use Rattle.width_check.specs.Typed.{typed_value};
     ghost use Rattle.width_check.specs.View.{process_of};
     ghost use Rattle.width_check.specs.Typing.{IsTyped};
+
+    /// The program of these parts, or None where they don't meet what the type keeps. So a program can be made without a
+    /// text, as by a tool that writes programs, or by a test. Each name is compared with each other one.
+    pub fn new(channels: Vec<Channel>, vars: Vec<Var>, body: TStmt) -> Option<Typed>
+        ensures some { IfSome result (λ t. t ≡ typed_value channels.items vars.items body) }
+        ensures none { IfNone result (¬ IsTyped channels.items vars.items (process_of body)) }
+    {
+        let meets = are_declared(&channels, &vars)
+            && are_distinct(&channels, &vars)
+            && is_process(&channels, &vars, &body);
+        if meets {
+            Some(Typed {
+                channels,
+                vars,
+                body,
+            })
+        } else {
+            None
+        }
+    }
 
     /// The channels in order of declaration.
     pub fn channels(&self) -> &[Channel]

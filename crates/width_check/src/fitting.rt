@@ -1,0 +1,170 @@
+//! Checks of expressions and statements over declared channels and variables.
+
+ghost use Rattle.std.specs.Prelude.{◌≡◌, ◌≢◌, ◌<◌, ◌≤◌, ℕ, length, IfSome, IfNone};
+ghost use Rattle.std.specs.Bool.{Decides};
+ghost use Rattle.width_check.specs.Typing.{var_width, IsOfWidth, IsSend, IsReceive, IsProcess};
+ghost use Rattle.width_check.specs.Values.{is_comparison};
+ghost use Rattle.width_check.specs.View.{formula_of, process_of};
+
+use crate::typed::{TExpr, TStmt, Var};
+use chp_base::{Channel, Kind};
+use chp_syntax::Op;
+
+fn is_comparison(op: Op) -> bool
+    ensures { result ≡ is_comparison op }
+{
+    matches!(op, Op::Eq | Op::Ne | Op::Lt | Op::Le | Op::Gt | Op::Ge)
+}
+
+/// Whether the variable of this number has the bits from `low` to `high`.
+#[tactic(auto, using(crate::proofs::Widths::var_found))]
+fn has_bits(vars: &[Var], var: u32, high: u8, low: u8) -> bool
+    ensures { Decides result ((var < length vars.now) × (high < var_width vars.now var) × (low ≤ high) × (high ≤ 63)) }
+{
+    match vars.get(var as usize) {
+        Some(declared) => low <= high && high < declared.width && high <= 63,
+        None => false,
+    }
+}
+
+/// The number of bits of an expression over these variables, or None where it isn't well formed or reads bits that the
+/// variables don't have.
+fn width_over(vars: &[Var], e: &TExpr) -> Option<u8>
+    ensures some { IfSome result (λ width. IsOfWidth vars.now width (formula_of e.now)) }
+    ensures none { IfNone result ((width : ℕ) → ¬ IsOfWidth vars.now width (formula_of e.now)) }
+{
+    match e {
+        TExpr::Number { bits } => Some(bits.width()),
+        TExpr::Read { var, high, low, .. } => {
+            if has_bits(vars, *var, *high, *low) {
+                Some(*high + 1 - *low)
+            } else {
+                None
+            }
+        }
+        TExpr::Join { parts } => {
+            let mut width = 0;
+            for part in parts {
+                width += width_over(vars, part)?;
+                if width > 64 {
+                    return None;
+                }
+            }
+            if width == 0 { None } else { Some(width) }
+        }
+        TExpr::Not { inner } => width_over(vars, inner),
+        TExpr::Chain { first, rest } => {
+            let width = width_over(vars, first)?;
+            for link in rest {
+                let right = width_over(vars, &link.right)?;
+                if is_comparison(link.op) || right != width {
+                    return None;
+                }
+            }
+            if rest.is_empty() { None } else { Some(width) }
+        }
+        TExpr::Compare { op, left, right } => {
+            let one = width_over(vars, left)?;
+            let other = width_over(vars, right)?;
+            if is_comparison(*op) && one == other {
+                Some(1)
+            } else {
+                None
+            }
+        }
+    }
+}
+
+/// Whether an expression over these variables is of the width.
+fn is_of_width(vars: &[Var], width: u8, e: &TExpr) -> bool
+    ensures { Decides result (IsOfWidth vars.now width (formula_of e.now)) }
+{
+    match width_over(vars, e) {
+        Some(own) => own == width,
+        None => false,
+    }
+}
+
+fn is_assign(vars: &[Var], var: u32, value: &TExpr) -> bool
+    ensures { Decides result ((var < length vars.now) × IsOfWidth vars.now (var_width vars.now var) (formula_of value.now)) }
+{
+    match vars.get(var as usize) {
+        Some(declared) => is_of_width(vars, declared.width, value),
+        None => false,
+    }
+}
+
+fn program_sends(kind: Kind) -> bool
+    ensures { Decides result (kind ≢ Kind.In) }
+{
+    match kind {
+        Kind::In => false,
+        Kind::Out | Kind::Chan => true,
+    }
+}
+
+fn program_receives(kind: Kind) -> bool
+    ensures { Decides result (kind ≢ Kind.Out) }
+{
+    match kind {
+        Kind::Out => false,
+        Kind::In | Kind::Chan => true,
+    }
+}
+
+fn is_send(channels: &[Channel], vars: &[Var], chan: u32, value: &TExpr) -> bool
+    ensures { Decides result (IsSend channels.now vars.now chan (formula_of value.now)) }
+{
+    match channels.get(chan as usize) {
+        Some(channel) => program_sends(channel.kind) && is_of_width(vars, channel.width, value),
+        None => false,
+    }
+}
+
+fn is_receive(channels: &[Channel], vars: &[Var], chan: u32, var: u32) -> bool
+    ensures { Decides result (IsReceive channels.now vars.now chan var) }
+{
+    match (channels.get(chan as usize), vars.get(var as usize)) {
+        (Some(channel), Some(declared)) => {
+            program_receives(channel.kind) && declared.width == channel.width
+        }
+        _ => false,
+    }
+}
+
+/// Whether a statement is one over these channels and variables.
+pub(crate) fn is_process(channels: &[Channel], vars: &[Var], s: &TStmt) -> bool
+    ensures { Decides result (IsProcess channels.now vars.now (process_of s.now)) }
+{
+    match s {
+        TStmt::Skip => true,
+        TStmt::Assign { var, value, .. } => is_assign(vars, *var, value),
+        TStmt::Send { chan, value, .. } => is_send(channels, vars, *chan, value),
+        TStmt::Receive { chan, var, .. } => is_receive(channels, vars, *chan, *var),
+        TStmt::Then { parts } => {
+            for part in parts {
+                if !is_process(channels, vars, part) {
+                    return false;
+                }
+            }
+            2 <= parts.len()
+        }
+        TStmt::Beside { parts } => {
+            for branch in parts {
+                if !is_process(channels, vars, branch) {
+                    return false;
+                }
+            }
+            2 <= parts.len()
+        }
+        TStmt::Select { arms, .. } => {
+            for arm in arms {
+                if !is_of_width(vars, 1, &arm.guard) || !is_process(channels, vars, &arm.body) {
+                    return false;
+                }
+            }
+            1 <= arms.len() && arms.len() <= 16
+        }
+        TStmt::Repeat { body } => is_process(channels, vars, body),
+    }
+}
