@@ -1,7 +1,7 @@
 -- The ends of a channel at some nodes, written out by hand.
 use Rattle.std.proofs.Common.{◌≡◌, true, false, ℕ, List, [], ◌∷◌, refl}
 use Rattle.prs_core.specs.declared.rule.Literal.{Literal}
-use Rattle.prs_core.specs.Nets.{GuardValue, NodeRules}
+use Rattle.prs_core.specs.Nets.{NodeRules}
 use Rattle.prs_core.specs.Pairs.{pairs_from}
 use Rattle.cell_channel.specs.Ends.{end_answer, port_rules}
 

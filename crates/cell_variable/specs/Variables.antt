@@ -2,6 +2,7 @@
 use Rattle.std.specs.Prelude.{ℕ, zero, suc, ◌+◌, ◌*◌, ◌/◌, ◌%◌, ◌==◌, if◌then◌else◌, List, [], ◌∷◌, ◌++◌, map}
 use Rattle.prs_core.specs.Nets.{NodeRules, is_high, is_low, one_term}
 use Rattle.prs_core.specs.Pairs.{Pair, merged_true, merged_false}
+use Rattle.prs_core.specs.Sites.{site_answer}
 use Rattle.cell_parallel.specs.Trees.{tree_rules, tree_top}
 
 -- a bit's nodes: its two rails, the two by which it is written, and the one that says that it is
@@ -59,4 +60,4 @@ high_first (suc n) value from = (if value % 2 == 1 then from else from + 1) ∷ 
 
 -- a write site answers once all bits are written: r & va -> k+, ~va -> k-
 abbrev pub write_answer : (request all_written : ℕ) → NodeRules
-write_answer request va = record { up = one_term (is_high request ∷ is_high va ∷ []); down = one_term (is_low va ∷ []) }
+write_answer request va = site_answer request va

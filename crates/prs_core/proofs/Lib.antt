@@ -1,2 +1,4 @@
 mod FanLemmas
 mod RailValues
+mod SiteKept
+mod WrongSites

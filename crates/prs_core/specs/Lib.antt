@@ -1,6 +1,10 @@
+pub mod Breaking
+pub mod Deciding
 pub mod Fans
 pub mod Moves
 pub mod Nets
 pub mod Pairs
 pub mod Parts
 pub mod Keeping
+pub mod Sites
+pub mod Turning

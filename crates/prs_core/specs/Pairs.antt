@@ -1,7 +1,7 @@
 -- Bits on two rails each (dual-rail code): rail t is high for 1, rail f for 0, both are low between two values.
 use Rattle.std.specs.Prelude.{ℕ, zero, suc, ◌+◌, List, [], ◌∷◌, map, slice_index_or}
 use Rattle.prs_core.specs.declared.rule.Literal.{Literal}
-use Rattle.prs_core.specs.Nets.{GuardValue, NodeRules, is_high, is_low, one_term}
+use Rattle.prs_core.specs.Nets.{NodeRules, is_high, is_low, one_term}
 
 pub record Pair : Type 0 where
   pub t : ℕ
