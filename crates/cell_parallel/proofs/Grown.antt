@@ -1,12 +1,11 @@
 -- A tree that grows level upon level.
 use Rattle.std.proofs.Common.{◌≡◌, ◌≢◌, ℕ, zero, suc, ◌+◌, ◌-◌, ◌/◌, ◌≤◌, ◌<◌, List, [], ◌∷◌, ◌++◌, length, All, refl, sym, ap, subst, ◌∙◌, arith}
-use Rattle.std.proofs.lemmas.List.{length-append, append-nil}
-use Rattle.std.proofs.lemmas.List.Elements.{All-nil, All-cons, All-head, All-tail, All-append}
+use Rattle.std.proofs.lemmas.List.Elements.{All-nil, All-cons, All-head, All-tail}
 use Rattle.prs_core.specs.Nets.{RulesValue, NodeRules, IsAlone, with_rules}
 use Rattle.prs_core.specs.Parts.{Owned, owned, owned_from, with_owned}
 use Rattle.cell_parallel.specs.Trees.{level_rules, next_level, levels_rules, tree_rules, tree_owned}
 use Rattle.cell_parallel.proofs.Sizes.{level_length, next_length}
-use Rattle.cell_parallel.proofs.Levels.{IsOther, alone_same, alone_on, short_rules, short_next}
+use Rattle.cell_parallel.proofs.Levels.{IsOther, alone_same, alone_on, short_rules}
 
 -- more levels than are needed are none
 enough : (n m : ℕ) (ls : List ℕ) (from : ℕ) → length ls ≤ suc n → length ls ≤ suc m → levels_rules n ls from ≡ levels_rules m ls from
