@@ -1,12 +1,12 @@
 -- A tree that grows level upon level.
 use Rattle.std.proofs.Common.{◌≡◌, ◌≢◌, ℕ, zero, suc, ◌+◌, ◌-◌, ◌/◌, ◌≤◌, ◌<◌, List, [], ◌∷◌, ◌++◌, length, All, refl, sym, ap, subst, ◌∙◌, arith}
-use Rattle.std.proofs.lemmas.List.{length-append, append-nil}
-use Rattle.std.proofs.lemmas.List.Elements.{All-nil, All-cons, All-head, All-tail, All-append}
+use Rattle.std.proofs.lemmas.List.Elements.{All-nil, All-cons, All-head, All-tail}
 use Rattle.prs_core.specs.Nets.{RulesValue, NodeRules, IsAlone, with_rules}
 use Rattle.prs_core.specs.Parts.{Owned, owned, owned_from, with_owned}
 use Rattle.cell_parallel.specs.Trees.{level_rules, next_level, levels_rules, tree_rules, tree_owned}
 use Rattle.cell_parallel.proofs.Sizes.{level_length, next_length}
-use Rattle.cell_parallel.proofs.Levels.{IsOther, alone_same, alone_on, short_rules, short_next}
+use Rattle.prs_core.specs.Writing.{IsOther, alone_same, alone_on, with_append, other_left, other_right}
+use Rattle.cell_parallel.proofs.Levels.{short_rules}
 
 -- more levels than are needed are none
 enough : (n m : ℕ) (ls : List ℕ) (from : ℕ) → length ls ≤ suc n → length ls ≤ suc m → levels_rules n ls from ≡ levels_rules m ls from
@@ -32,18 +32,6 @@ tree_parts ls from =
     ap (owned_from from) (tree_is ls from)
     ∙ (owned_append from (level_rules ls) (tree_rules (next_level ls from) (from + length ls / 2))
     ∙ ap (λ k. owned_from from (level_rules ls) ++ owned_from (from + k) (tree_rules (next_level ls from) (from + length ls / 2))) (level_length ls))
-
-pub with_append : (os us : List Owned) (r : RulesValue) → with_owned (os ++ us) r ≡ with_owned us (with_owned os r)
-with_append [] us r = refl
-with_append (o ∷ os) us r = with_append os us (with_rules o.node o.rules r)
-
-left_other : (node : ℕ) (os us : List Owned) → IsOther node (os ++ us) → IsOther node os
-left_other node [] us h = All-nil (λ (o : Owned). o.node ≢ node)
-left_other node (o ∷ os) us h = All-cons (λ (o : Owned). o.node ≢ node) o os (All-head (λ (o : Owned). o.node ≢ node) o (os ++ us) h) (left_other node os us (All-tail (λ (o : Owned). o.node ≢ node) o (os ++ us) h))
-
-right_other : (node : ℕ) (os us : List Owned) → IsOther node (os ++ us) → IsOther node us
-right_other node [] us h = h
-right_other node (o ∷ os) us h = right_other node os us (All-tail (λ (o : Owned). o.node ≢ node) o (os ++ us) h)
 
 next_within : (bound : ℕ) (ls : List ℕ) (from : ℕ) → All (λ n. n < bound) ls → from + length ls / 2 ≤ bound → All (λ n. n < bound) (next_level ls from)
 next_within bound [] from h few = h
@@ -83,15 +71,15 @@ grown_more leaves from old level next now above then later so_far fits long up a
       place = omega (arith, size, so_far.place);
       written = ap (with_owned us) is ∙ (sym (with_append os us now) ∙ (ap (λ l. with_owned l now) (sym (tree_parts level next)) ∙ so_far.written));
       count = same ∙ so_far.count;
-      others = λ node o. alone_on old now later node (so_far.others node o) (far node (left_other node os us (subst (IsOther node) (tree_parts level next) (so_far.rest node o))));
-      rest = λ node o. right_other node os us (subst (IsOther node) (tree_parts level next) (so_far.rest node o));
+      others = λ node o. alone_on old now later node (so_far.others node o) (far node (other_left node os us (subst (IsOther node) (tree_parts level next) (so_far.rest node o))));
+      rest = λ node o. other_right node os us (subst (IsOther node) (tree_parts level next) (so_far.rest node o));
     }
 
 -- also where memory runs out in a level
 pub grown_alone : (leaves : List ℕ) (from : ℕ) (old : RulesValue) (level : List ℕ) (next : ℕ) (now later : RulesValue) → Grown leaves from old level next now → ((node : ℕ) → IsOther node (owned_from next (level_rules level)) → IsAlone now later node) → (node : ℕ) → IsOther node (tree_owned leaves from) → IsAlone old later node
 grown_alone leaves from old level next now later so_far far node o =
     let us : List Owned = tree_owned (next_level level next) (next + length level / 2) in
-    alone_on old now later node (so_far.others node o) (far node (left_other node (owned_from next (level_rules level)) us (subst (IsOther node) (tree_parts level next) (so_far.rest node o))))
+    alone_on old now later node (so_far.others node o) (far node (other_left node (owned_from next (level_rules level)) us (subst (IsOther node) (tree_parts level next) (so_far.rest node o))))
 
 pub grown_end : (leaves : List ℕ) (from : ℕ) (old : RulesValue) (level : List ℕ) (next : ℕ) (now : RulesValue) → Grown leaves from old level next now → length level ≤ 1 → now ≡ with_owned (tree_owned leaves from) old
 grown_end leaves from old [] next now so_far short = so_far.written

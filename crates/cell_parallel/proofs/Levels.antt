@@ -1,21 +1,11 @@
 -- What the levels of a tree write.
-use Rattle.std.proofs.Common.{◌≡◌, ◌≢◌, ℕ, zero, suc, ◌+◌, ◌-◌, ◌/◌, ◌≤◌, ◌<◌, List, [], ◌∷◌, ◌++◌, length, get_or, take, drop, All, refl, sym, ap, subst, ◌∙◌, arith, append_assoc}
-use Rattle.std.proofs.lemmas.List.{length-append, length_push, append-nil, take_all}
-use Rattle.std.proofs.lemmas.List.Elements.{All-nil, All-cons, All-head, All-tail, All-append}
-use Rattle.prs_core.specs.Nets.{RulesValue, NodeRules, IsAlone, with_rules}
+use Rattle.std.proofs.Common.{◌≡◌, ◌≢◌, ℕ, ◌+◌, ◌-◌, ◌/◌, ◌≤◌, ◌<◌, List, [], ◌∷◌, ◌++◌, length, get_or, take, drop, All, refl, sym, ap, subst, ◌∙◌, arith, append_assoc}
+use Rattle.std.proofs.lemmas.List.{length_push, take_all}
+use Rattle.std.proofs.lemmas.List.Elements.{All-head, All-tail}
+use Rattle.prs_core.specs.Nets.{RulesValue, IsAlone, with_rules}
 use Rattle.prs_core.specs.Parts.{Owned, owned, owned_from, with_owned}
-use Rattle.cell_parallel.specs.Trees.{c_element, level_rules, next_level, levels_rules, tree_rules, tree_owned}
-use Rattle.cell_parallel.proofs.Sizes.{level_length, next_length}
-
-pub alone_same : (r : RulesValue) (node : ℕ) → IsAlone r r node
-alone_same r node = record { up = refl; down = refl }
-
-pub alone_on : (a b c : RulesValue) (node : ℕ) → IsAlone a b node → IsAlone b c node → IsAlone a c node
-alone_on a b c node h k = record { up = k.up ∙ h.up; down = k.down ∙ h.down }
-
--- the node isn't one of these
-abbrev pub IsOther : ℕ → List Owned → Type 0
-IsOther node os = All (λ (o : Owned). o.node ≢ node) os
+use Rattle.prs_core.specs.Writing.{IsOther, alone_same, alone_on}
+use Rattle.cell_parallel.specs.Trees.{c_element, level_rules, next_level}
 
 -- while a level is joined: what is left of it, and the nodes of the level above so far
 pub record Joined (nodes : List ℕ) (from : ℕ) (old : RulesValue) (left above : List ℕ) (now : RulesValue) : Type 0 where
