@@ -1,1 +1,4 @@
 pub mod Examples
+pub mod PairLists
+pub mod GuardLemmas
+pub mod Emitted

@@ -1,1 +1,3 @@
 pub mod Selections
+pub mod Contract
+pub mod PortNodes

@@ -1,2 +1,7 @@
 //! Selection and guarded repetition.
 #![tactic(auto)]
+
+mod emit;
+mod guards;
+
+pub use emit::{AgainPorts, SelectPorts, emit_again, emit_select};

@@ -1,0 +1,255 @@
+-- What the loops over the branches have written so far.
+use Rattle.std.proofs.Common.{◌≡◌, ◌≢◌, ℕ, zero, suc, ◌<◌, ◌*◌, ◌+◌, List, [], ◌∷◌, ◌++◌, All, length, map, take, drop, slice_index_or, arith, ap, sym, ◌∙◌, refl, subst}
+use Rattle.std.proofs.lemmas.List.{take_more}
+use Rattle.std.proofs.Math.Seq.{drop-cons}
+use Rattle.prs_core.specs.declared.rule.Literal.{Literal}
+use Rattle.std.proofs.lemmas.List.Elements.{All-nil, All-cons, All-head, All-tail}
+use Rattle.prs_core.specs.Nets.{GuardValue, NodeRules, RulesValue, IsAlone, is_high, is_low, one_term, with_rules}
+use Rattle.prs_core.specs.Pairs.{Pair, rails_of, lows, or_of}
+use Rattle.prs_core.specs.Parts.{Owned, owned, owned_at, with_owned}
+use Rattle.cell_select.specs.Selections.{all_false, only_one_true, latches, started, starts, joined_answer, evaluation, turn_request, leave_latch, leave_answer}
+use Rattle.cell_select.specs.Contract.{latches_of, starts_of, answers_of, guards_of, select_owned, again_owned}
+use Rattle.cell_select.specs.PortNodes.{pairs_of, branches_from, select_of, again_of, AreBranches}
+use Rattle.cell_select.specs.declared.emit.SelectPorts.{SelectPorts}
+use Rattle.cell_select.specs.declared.emit.AgainPorts.{AgainPorts}
+use Rattle.cell_select.proofs.PairLists.{pair_is, pair_in, rails_again, pairs_length}
+use Rattle.cell_select.proofs.GuardLemmas.{alone_then}
+
+abbrev pub latch_of : (request : ℕ) → List Literal → NodeRules
+latch_of request wanted = record { up = one_term wanted; down = one_term (is_low request ∷ []) }
+
+abbrev pub latches_behind : (request : ℕ) → (before behind : List Pair) → List NodeRules
+latches_behind request before behind = map (latch_of request) (only_one_true before behind)
+
+-- those that are left lead on to what all of them make
+pub record LatchesSoFar (request : ℕ) (nodes : List ℕ) (hs : List Pair) (i : ℕ) (old now : RulesValue) : Type 0 where
+  pub rest : with_owned (owned_at (drop i nodes) (latches_behind request (take i hs) (drop i hs))) now ≡ with_owned (owned_at nodes (latches request hs)) old
+  pub count : length now.up ≡ length old.up
+  pub others : (other : ℕ) → All (λ n. n ≢ other) nodes → IsAlone old now other
+
+pub record StartsSoFar (nodes latched : List ℕ) (hs : List Pair) (i : ℕ) (old now : RulesValue) : Type 0 where
+  pub rest : with_owned (owned_at (drop i nodes) (starts (drop i latched) hs)) now ≡ with_owned (owned_at nodes (starts latched hs)) old
+  pub count : length now.up ≡ length old.up
+  pub others : (other : ℕ) → All (λ n. n ≢ other) nodes → IsAlone old now other
+
+one_latch : (request n : ℕ) (ns : List ℕ) (before : List Pair) (h : Pair) (behind : List Pair) (now : RulesValue) → with_owned (owned_at (n ∷ ns) (latches_behind request before (h ∷ behind))) now ≡ with_owned (owned_at ns (latches_behind request (before ++ h ∷ []) behind)) (with_rules n (latch_of request (all_false before ++ is_high h.t ∷ all_false behind)) now)
+one_latch request n ns before h behind now = refl
+
+abbrev no_pair : Pair
+no_pair = record { t = 0; f = 0 }
+
+dropped : {X : Type 0} (xs : List X) (i : ℕ) (d : X) → i < length xs → drop i xs ≡ slice_index_or xs i d ∷ drop (i + 1) xs
+dropped xs i d lt =
+    let e : suc i ≡ i + 1 = omega arith in
+    drop-cons xs i d lt ∙ ap (λ k. slice_index_or xs i d ∷ drop k xs) e
+
+latches_next : (request : ℕ) (nodes : List ℕ) (hs : List Pair) (i : ℕ) (h : Pair) → i < length nodes → i < length hs → slice_index_or hs i no_pair ≡ h → (now : RulesValue) → with_owned (owned_at (drop (i + 1) nodes) (latches_behind request (take (i + 1) hs) (drop (i + 1) hs))) (with_rules (slice_index_or nodes i 0) (latch_of request (all_false (take i hs) ++ is_high h.t ∷ all_false (drop (i + 1) hs))) now) ≡ with_owned (owned_at (drop i nodes) (latches_behind request (take i hs) (drop i hs))) now
+latches_next request nodes hs i h ln lh at now =
+    let was : drop i hs ≡ h ∷ drop (i + 1) hs = dropped hs i no_pair lh ∙ ap (λ (x : Pair). x ∷ drop (i + 1) hs) at in
+    let more : take (i + 1) hs ≡ take i hs ++ h ∷ [] = take_more hs i no_pair lh ∙ ap (λ (x : Pair). take i hs ++ x ∷ []) at in
+    ap (λ xs. with_owned (owned_at (drop (i + 1) nodes) (latches_behind request xs (drop (i + 1) hs))) (with_rules (slice_index_or nodes i 0) (latch_of request (all_false (take i hs) ++ is_high h.t ∷ all_false (drop (i + 1) hs))) now)) more
+    ∙ sym (one_latch request (slice_index_or nodes i 0) (drop (i + 1) nodes) (take i hs) h (drop (i + 1) hs) now)
+    ∙ ap (λ ns. with_owned (owned_at ns (latches_behind request (take i hs) (h ∷ drop (i + 1) hs))) now) (sym (dropped nodes i 0 ln))
+    ∙ ap (λ xs. with_owned (owned_at (drop i nodes) (latches_behind request (take i hs) xs)) now) (sym was)
+
+pub latches_step : (request : ℕ) (nodes rails : List ℕ) (i : ℕ) (old now new : RulesValue) (up down : GuardValue) → length rails ≡ 2 * length nodes → i < length nodes → LatchesSoFar request nodes (pairs_of rails) i old now → up ≡ one_term (all_false (take i (pairs_of rails)) ++ is_high (slice_index_or rails (2 * i) 0) ∷ all_false (drop (i + 1) (pairs_of rails))) → down ≡ one_term (is_low request ∷ []) → new ≡ with_rules (slice_index_or nodes i 0) (record { up = up; down = down }) now → length new.up ≡ length now.up → ((other : ℕ) → other ≢ slice_index_or nodes i 0 → IsAlone now new other) → LatchesSoFar request nodes (pairs_of rails) (i + 1) old new
+latches_step request nodes rails i old now new up down even lt before ups downs made count others =
+    let hs = pairs_of rails in
+    let same : length hs ≡ length nodes = pairs_length (length nodes) rails even in
+    let wrote : new ≡ with_rules (slice_index_or nodes i 0) (latch_of request (all_false (take i hs) ++ is_high (slice_index_or rails (2 * i) 0) ∷ all_false (drop (i + 1) hs))) now = made ∙ ap (λ (g : GuardValue). with_rules (slice_index_or nodes i 0) (record { up = g; down = down }) now) ups ∙ ap (λ (g : GuardValue). with_rules (slice_index_or nodes i 0) (record { up = one_term (all_false (take i hs) ++ is_high (slice_index_or rails (2 * i) 0) ∷ all_false (drop (i + 1) hs)); down = g }) now) downs in
+    record {
+      rest = ap (λ r. with_owned (owned_at (drop (i + 1) nodes) (latches_behind request (take (i + 1) hs) (drop (i + 1) hs))) r) wrote ∙ latches_next request nodes hs i (pair_in rails i) lt (omega (arith, same, lt)) (pair_is (length nodes) rails i no_pair even lt) now ∙ before.rest;
+      count = count ∙ before.count;
+      others = λ other h. alone_then old now new other (before.others other h) (others other (λ e. h i 0 lt (sym e)));
+    }
+
+starts_next : (nodes latched : List ℕ) (hs : List Pair) (i : ℕ) → i < length nodes → i < length latched → (now : RulesValue) → with_owned (owned_at (drop (i + 1) nodes) (starts (drop (i + 1) latched) hs)) (with_rules (slice_index_or nodes i 0) (started (slice_index_or latched i 0) hs) now) ≡ with_owned (owned_at (drop i nodes) (starts (drop i latched) hs)) now
+starts_next nodes latched hs i ln ll now =
+    ap (λ ns. with_owned (owned_at ns (starts (slice_index_or latched i 0 ∷ drop (i + 1) latched) hs)) now) (sym (dropped nodes i 0 ln))
+    ∙ ap (λ ls. with_owned (owned_at (drop i nodes) (starts ls hs)) now) (sym (dropped latched i 0 ll))
+
+pub starts_step : (nodes latched rails : List ℕ) (i : ℕ) (old now new : RulesValue) (up down : GuardValue) → length rails ≡ 2 * length latched → length nodes ≡ length latched → i < length nodes → StartsSoFar nodes latched (pairs_of rails) i old now → up ≡ one_term (is_high (slice_index_or latched i 0) ∷ lows rails) → down ≡ one_term (is_low (slice_index_or latched i 0) ∷ []) → new ≡ with_rules (slice_index_or nodes i 0) (record { up = up; down = down }) now → length new.up ≡ length now.up → ((other : ℕ) → other ≢ slice_index_or nodes i 0 → IsAlone now new other) → StartsSoFar nodes latched (pairs_of rails) (i + 1) old new
+starts_step nodes latched rails i old now new up down even same lt before ups downs made count others =
+    let hs = pairs_of rails in
+    let again : rails_of hs ≡ rails = rails_again (length latched) rails even in
+    let wanted : up ≡ (started (slice_index_or latched i 0) hs).up = ups ∙ ap (λ ns. one_term (is_high (slice_index_or latched i 0) ∷ lows ns)) (sym again) in
+    let wrote : new ≡ with_rules (slice_index_or nodes i 0) (started (slice_index_or latched i 0) hs) now = made ∙ ap (λ (g : GuardValue). with_rules (slice_index_or nodes i 0) (record { up = g; down = down }) now) wanted ∙ ap (λ (g : GuardValue). with_rules (slice_index_or nodes i 0) (record { up = (started (slice_index_or latched i 0) hs).up; down = g }) now) downs in
+    record {
+      rest = ap (λ r. with_owned (owned_at (drop (i + 1) nodes) (starts (drop (i + 1) latched) hs)) r) wrote ∙ starts_next nodes latched hs i lt (omega (arith, same, lt)) now ∙ before.rest;
+      count = count ∙ before.count;
+      others = λ other h. alone_then old now new other (before.others other h) (others other (λ e. h i 0 lt (sym e)));
+    }
+
+pub record BranchLists (ls ss ans : List ℕ) (hs : List Pair) : Type 0 where
+  pub latches : latches_of (branches_from ls ss ans hs) ≡ ls
+  pub started : starts_of (branches_from ls ss ans hs) ≡ ss
+  pub answered : answers_of (branches_from ls ss ans hs) ≡ ans
+  pub guards : guards_of (branches_from ls ss ans hs) ≡ hs
+
+pub branch_lists : (ls ss ans : List ℕ) (hs : List Pair) → length ss ≡ length ls → length ans ≡ length ls → length hs ≡ length ls → BranchLists ls ss ans hs
+branch_lists [] [] [] [] a b c = record { latches = refl; started = refl; answered = refl; guards = refl }
+branch_lists (l ∷ ls) (s ∷ ss) (d ∷ ans) (h ∷ hs) a b c =
+    let rest = branch_lists ls ss ans hs (omega (arith, a)) (omega (arith, b)) (omega (arith, c)) in
+    record {
+      latches = ap (λ (xs : List ℕ). l ∷ xs) rest.latches;
+      started = ap (λ (xs : List ℕ). s ∷ xs) rest.started;
+      answered = ap (λ (xs : List ℕ). d ∷ xs) rest.answered;
+      guards = ap (λ (xs : List Pair). h ∷ xs) rest.guards;
+    }
+branch_lists ls ss ans hs a b c = absurd (omega (arith, a, b, c))
+
+owned_append : (ns ms : List ℕ) (rs qs : List NodeRules) → length ns ≡ length rs → owned_at (ns ++ ms) (rs ++ qs) ≡ owned_at ns rs ++ owned_at ms qs
+owned_append [] ms [] qs e = refl
+owned_append (n ∷ ns) ms (r ∷ rs) qs e = ap (λ os. owned n r ∷ os) (owned_append ns ms rs qs (omega (arith, e)))
+owned_append [] ms (r ∷ rs) qs e = absurd (omega (arith, e))
+owned_append (n ∷ ns) ms [] qs e = absurd (omega (arith, e))
+
+with_owned_append : (os ps : List Owned) (r : RulesValue) → with_owned (os ++ ps) r ≡ with_owned ps (with_owned os r)
+with_owned_append [] ps r = refl
+with_owned_append (o ∷ os) ps r = with_owned_append os ps (with_rules o.node o.rules r)
+
+wanted_length : (before behind : List Pair) → length (only_one_true before behind) ≡ length behind
+wanted_length before [] = refl
+wanted_length before (h ∷ behind) = let rest = wanted_length (before ++ h ∷ []) behind in omega (arith, rest)
+
+latches_length : (request : ℕ) (wanted : List (List Literal)) → length (map (latch_of request) wanted) ≡ length wanted
+latches_length request [] = refl
+latches_length request (w ∷ ws) = let rest = latches_length request ws in omega (arith, rest)
+
+starts_length : (ls : List ℕ) (hs : List Pair) → length (starts ls hs) ≡ length ls
+starts_length [] hs = refl
+starts_length (l ∷ ls) hs = let rest = starts_length ls hs in omega (arith, rest)
+
+-- the latches and the starts, one after the other
+pub branches_made : (request : ℕ) (ls ss : List ℕ) (hs : List Pair) (a b c : RulesValue) → length hs ≡ length ls → b ≡ with_owned (owned_at ls (latches request hs)) a → c ≡ with_owned (owned_at ss (starts ls hs)) b → c ≡ with_owned (owned_at (ls ++ ss) (latches request hs ++ starts ls hs)) a
+branches_made request ls ss hs a b c same first second =
+    let count : length ls ≡ length (latches request hs) = sym same ∙ sym (wanted_length [] hs) ∙ sym (latches_length request (only_one_true [] hs)) in
+    second ∙ ap (with_owned (owned_at ss (starts ls hs))) first ∙ sym (with_owned_append (owned_at ls (latches request hs)) (owned_at ss (starts ls hs)) a)
+    ∙ ap (λ os. with_owned os a) (sym (owned_append ls ss (latches request hs) (starts ls hs) count))
+
+-- which nodes are none of these
+pub nodes_apart : (node : ℕ) (ns : List ℕ) (rs : List NodeRules) → length ns ≡ length rs → All (λ (o : Owned). o.node ≢ node) (owned_at ns rs) → All (λ n. n ≢ node) ns
+nodes_apart node [] rs e h = All-nil (λ n. n ≢ node)
+nodes_apart node (n ∷ ns) [] e h = absurd (omega (arith, e))
+nodes_apart node (n ∷ ns) (r ∷ rs) e h =
+    All-cons (λ n. n ≢ node) n ns (All-head (λ (o : Owned). o.node ≢ node) (owned n r) (owned_at ns rs) h) (nodes_apart node ns rs (omega (arith, e)) (All-tail (λ (o : Owned). o.node ≢ node) (owned n r) (owned_at ns rs) h))
+
+all_left : {X : Type 0} (P : X → Type 0) (xs ys : List X) → All P (xs ++ ys) → All P xs
+all_left P [] ys h = All-nil P
+all_left P (x ∷ xs) ys h = All-cons P x xs (All-head P x (xs ++ ys) h) (all_left P xs ys (All-tail P x (xs ++ ys) h))
+
+all_right : {X : Type 0} (P : X → Type 0) (xs ys : List X) → All P (xs ++ ys) → All P ys
+all_right P [] ys h = h
+all_right P (x ∷ xs) ys h = all_right P xs ys (All-tail P x (xs ++ ys) h)
+
+pub record BranchesApart (node : ℕ) (ls ss : List ℕ) : Type 0 where
+  pub latches : All (λ n. n ≢ node) ls
+  pub started : All (λ n. n ≢ node) ss
+
+branches_apart : (node request : ℕ) (ls ss : List ℕ) (hs : List Pair) → length hs ≡ length ls → length ss ≡ length ls → All (λ (o : Owned). o.node ≢ node) (owned_at (ls ++ ss) (latches request hs ++ starts ls hs)) → BranchesApart node ls ss
+branches_apart node request ls ss hs same started h =
+    let count : length ls ≡ length (latches request hs) = sym same ∙ sym (wanted_length [] hs) ∙ sym (latches_length request (only_one_true [] hs)) in
+    let both = subst (All (λ (o : Owned). o.node ≢ node)) (owned_append ls ss (latches request hs) (starts ls hs) count) h in
+    record {
+      latches = nodes_apart node ls (latches request hs) count (all_left (λ (o : Owned). o.node ≢ node) (owned_at ls (latches request hs)) (owned_at ss (starts ls hs)) both);
+      started = nodes_apart node ss (starts ls hs) (started ∙ sym (starts_length ls hs)) (all_right (λ (o : Owned). o.node ≢ node) (owned_at ls (latches request hs)) (owned_at ss (starts ls hs)) both);
+    }
+
+abbrev select_first : (request answer eval any : ℕ) → (ls ans : List ℕ) → List Owned
+select_first request answer eval any ls ans =
+    owned answer (joined_answer any ans) ∷ owned eval (evaluation request any) ∷ owned any (or_of ls) ∷ []
+
+abbrev select_lists : (request answer eval any : ℕ) → (ls ss ans : List ℕ) → List Pair → List Owned
+select_lists request answer eval any ls ss ans hs = select_first request answer eval any ls ans ++ owned_at (ls ++ ss) (latches request hs ++ starts ls hs)
+
+select_lists_are : (p : SelectPorts) → AreBranches p.latches.items p.starts.items p.answers.items p.guard_rails.items → select_owned (select_of p) ≡ select_lists p.request p.answer p.eval p.any p.latches.items p.starts.items p.answers.items (pairs_of p.guard_rails.items)
+select_lists_are p are =
+    let hs = pairs_of p.guard_rails.items in
+    let lists = branch_lists p.latches.items p.starts.items p.answers.items hs are.started are.answered (pairs_length (length p.latches.items) p.guard_rails.items are.railed) in
+    rw (lists.latches, lists.started, lists.answered, lists.guards) refl
+
+pub select_made : (p : SelectPorts) (a b c d e f : RulesValue) → AreBranches p.latches.items p.starts.items p.answers.items p.guard_rails.items → b ≡ with_rules p.answer (joined_answer p.any p.answers.items) a → c ≡ with_rules p.eval (evaluation p.request p.any) b → d ≡ with_rules p.any (or_of p.latches.items) c → e ≡ with_owned (owned_at p.latches.items (latches p.request (pairs_of p.guard_rails.items))) d → f ≡ with_owned (owned_at p.starts.items (starts p.latches.items (pairs_of p.guard_rails.items))) e → f ≡ with_owned (select_owned (select_of p)) a
+select_made p a b c d e f are first second third fourth fifth =
+    let hs = pairs_of p.guard_rails.items in
+    let same : length hs ≡ length p.latches.items = pairs_length (length p.latches.items) p.guard_rails.items are.railed in
+    branches_made p.request p.latches.items p.starts.items hs d e f same fourth fifth
+    ∙ ap (with_owned (owned_at (p.latches.items ++ p.starts.items) (latches p.request hs ++ starts p.latches.items hs))) (third ∙ ap (with_rules p.any (or_of p.latches.items)) (second ∙ ap (with_rules p.eval (evaluation p.request p.any)) first))
+    ∙ ap (λ os. with_owned os a) (sym (select_lists_are p are))
+
+pub record SelectApart (node : ℕ) (p : SelectPorts) : Type 0 where
+  pub answer : node ≢ p.answer
+  pub eval : node ≢ p.eval
+  pub any : node ≢ p.any
+  pub branches : BranchesApart node p.latches.items p.starts.items
+
+pub select_apart : (node : ℕ) (p : SelectPorts) → AreBranches p.latches.items p.starts.items p.answers.items p.guard_rails.items → All (λ (o : Owned). o.node ≢ node) (select_owned (select_of p)) → SelectApart node p
+select_apart node p are h =
+    let hs = pairs_of p.guard_rails.items in
+    let same : length hs ≡ length p.latches.items = pairs_length (length p.latches.items) p.guard_rails.items are.railed in
+    let whole = subst (All (λ (o : Owned). o.node ≢ node)) (select_lists_are p are) h in
+    record {
+      answer = λ e. whole 0 (owned 0 (record { up = []; down = [] })) (omega arith) (sym e);
+      eval = λ e. whole 1 (owned 0 (record { up = []; down = [] })) (omega arith) (sym e);
+      any = λ e. whole 2 (owned 0 (record { up = []; down = [] })) (omega arith) (sym e);
+      branches = branches_apart node p.request p.latches.items p.starts.items hs same are.started (all_right (λ (o : Owned). o.node ≢ node) (select_first p.request p.answer p.eval p.any p.latches.items p.answers.items) (owned_at (p.latches.items ++ p.starts.items) (latches p.request hs ++ starts p.latches.items hs)) whole);
+    }
+
+abbrev again_six : AgainPorts → List Pair → List Owned
+again_six p hs =
+    let ls = p.latches.items in
+    owned p.answer (leave_answer p.leave p.any hs) ∷ owned p.loop_request (turn_request p.request p.joined) ∷ owned p.joined (joined_answer p.any p.answers.items)
+    ∷ owned p.eval (evaluation p.loop_request p.any) ∷ owned p.any (or_of (p.leave ∷ ls)) ∷ owned p.leave (leave_latch p.loop_request hs) ∷ []
+
+abbrev again_lists : AgainPorts → List Pair → List Owned
+again_lists p hs = again_six p hs ++ owned_at (p.latches.items ++ p.starts.items) (latches p.loop_request hs ++ starts p.latches.items hs)
+
+again_lists_are : (p : AgainPorts) → AreBranches p.latches.items p.starts.items p.answers.items p.guard_rails.items → again_owned (again_of p) ≡ again_lists p (pairs_of p.guard_rails.items)
+again_lists_are p are =
+    let hs = pairs_of p.guard_rails.items in
+    let lists = branch_lists p.latches.items p.starts.items p.answers.items hs are.started are.answered (pairs_length (length p.latches.items) p.guard_rails.items are.railed) in
+    rw (lists.latches, lists.started, lists.answered, lists.guards) refl
+
+-- what the first six calls make
+abbrev pub again_first : AgainPorts → RulesValue → RulesValue
+again_first p a =
+    let hs = pairs_of p.guard_rails.items in
+    with_rules p.leave (leave_latch p.loop_request hs) (with_rules p.any (or_of (p.leave ∷ p.latches.items)) (with_rules p.eval (evaluation p.loop_request p.any)
+    (with_rules p.joined (joined_answer p.any p.answers.items) (with_rules p.loop_request (turn_request p.request p.joined) (with_rules p.answer (leave_answer p.leave p.any hs) a)))))
+
+pub again_made : (p : AgainPorts) (a g h i : RulesValue) → AreBranches p.latches.items p.starts.items p.answers.items p.guard_rails.items → g ≡ again_first p a → h ≡ with_owned (owned_at p.latches.items (latches p.loop_request (pairs_of p.guard_rails.items))) g → i ≡ with_owned (owned_at p.starts.items (starts p.latches.items (pairs_of p.guard_rails.items))) h → i ≡ with_owned (again_owned (again_of p)) a
+again_made p a g h i are first second third =
+    let hs = pairs_of p.guard_rails.items in
+    let same : length hs ≡ length p.latches.items = pairs_length (length p.latches.items) p.guard_rails.items are.railed in
+    branches_made p.loop_request p.latches.items p.starts.items hs g h i same second third
+    ∙ ap (with_owned (owned_at (p.latches.items ++ p.starts.items) (latches p.loop_request hs ++ starts p.latches.items hs))) first
+    ∙ ap (λ os. with_owned os a) (sym (again_lists_are p are))
+
+pub record AgainApart (node : ℕ) (p : AgainPorts) : Type 0 where
+  pub answer : node ≢ p.answer
+  pub turn : node ≢ p.loop_request
+  pub joined : node ≢ p.joined
+  pub eval : node ≢ p.eval
+  pub any : node ≢ p.any
+  pub leave : node ≢ p.leave
+  pub branches : BranchesApart node p.latches.items p.starts.items
+
+pub again_apart : (node : ℕ) (p : AgainPorts) → AreBranches p.latches.items p.starts.items p.answers.items p.guard_rails.items → All (λ (o : Owned). o.node ≢ node) (again_owned (again_of p)) → AgainApart node p
+again_apart node p are h =
+    let hs = pairs_of p.guard_rails.items in
+    let same : length hs ≡ length p.latches.items = pairs_length (length p.latches.items) p.guard_rails.items are.railed in
+    let whole = subst (All (λ (o : Owned). o.node ≢ node)) (again_lists_are p are) h in
+    let none = owned 0 (record { up = []; down = [] }) in
+    let P : Owned → Type 0 = λ o. o.node ≢ node in
+    record {
+      answer = λ e. whole 0 none (omega arith) (sym e);
+      turn = λ e. whole 1 none (omega arith) (sym e);
+      joined = λ e. whole 2 none (omega arith) (sym e);
+      eval = λ e. whole 3 none (omega arith) (sym e);
+      any = λ e. whole 4 none (omega arith) (sym e);
+      leave = λ e. whole 5 none (omega arith) (sym e);
+      branches = branches_apart node p.loop_request p.latches.items p.starts.items hs same are.started (all_right P (again_six p hs) (owned_at (p.latches.items ++ p.starts.items) (latches p.loop_request hs ++ starts p.latches.items hs)) whole);
+    }
+
+-- the node's guards are as they were, through one more call
+pub all_alone : (a b : RulesValue) (ns : List ℕ) (n : ℕ) → All (λ k. k ≢ n) ns → ((m : ℕ) → All (λ k. k ≢ m) ns → IsAlone a b m) → IsAlone a b n
+all_alone a b ns n apart h = h n apart

@@ -1,0 +1,18 @@
+use Rattle.std.proofs.Common.{rules, ◌≡◌, ◌≢◌, ◌<◌, ◌≤◌, ◌+◌, ◌-◌, ◌*◌, ℕ, [], ◌∷◌, ◌++◌, map, length, take, drop, slice_index_or, OnOk, IfOk, arith, ap, sym, ◌∙◌, refl, subst, All}
+use Rattle.prs_core.specs.declared.rule.Literal.{Literal}
+use Rattle.prs_core.specs.Nets.{RulesValue, NodeRules, GuardValue, with_rules, one_term, is_high, is_low}
+use Rattle.prs_core.specs.Pairs.{lows}
+use Rattle.cell_select.specs.Selections.{all_false, leave_answer}
+use Rattle.cell_select.specs.PortNodes.{pairs_of}
+use Rattle.cell_select.proofs.GuardLemmas.{some_within, lows_within, with_lows_within, none_within, only_within, alone_then, within_still}
+use Rattle.cell_select.proofs.Emitted.{latches_step, starts_step}
+use Rattle.cell_select.proofs.PairLists.{pairs_length, rails_again, pair_is, pair_in}
+use Rattle.cell_select.proofs.emit.emit_latches.Goals as goal
+
+pub set_both-requires-clause-up : goal.set_both-requires-clause-up
+set_both-requires-clause-up c =
+    only_within (length c.loop-guard.rules.up) (length c.args.nodes.now) c.loop-guard.guard c.args.rails.now _ c.in_ok-up.ensures c.requires.agree c.loop-guard-test.true (within_still (length c.args.rules.now.up) (length c.loop-guard.rules.up) c.args.rails.now c.loop-guard.invariant.count c.requires.rails)
+
+pub loop-guard-preserved : goal.loop-guard-preserved
+loop-guard-preserved c =
+    latches_step c.args.request c.args.nodes.now c.args.rails.now c.loop-guard.guard c.args.rules.now c.loop-guard.rules c.set_both.new.rules c.in_ok-up.up c.in_ok-down.down c.requires.agree c.loop-guard-test.true c.loop-guard.invariant c.in_ok-up.ensures (c.in_ok-down.ensures ∙ ap (λ (l : Literal). (l ∷ []) ∷ []) c.low.ensures) c.set_both.ensures.made c.set_both.ensures.nodes c.set_both.ensures.others

@@ -1,0 +1,54 @@
+use Rattle.std.proofs.Common.{rules, ◌≡◌, ◌≢◌, ◌<◌, ◌≤◌, ◌+◌, ◌-◌, ◌*◌, ◌/◌, ℕ, List, [], ◌∷◌, ◌++◌, map, length, take, drop, slice_index_or, OnOk, IfOk, arith, ap, sym, ◌∙◌, refl, subst, All}
+use Rattle.std.proofs.lemmas.List.{append_assoc}
+use Rattle.prs_core.specs.declared.rule.Literal.{Literal}
+use Rattle.prs_core.specs.Nets.{RulesValue, NodeRules, GuardValue, IsAlone, with_rules, one_term, is_high, is_low}
+use Rattle.prs_core.specs.Pairs.{Pair, lows, or_of}
+use Rattle.prs_core.specs.Parts.{owned_at, with_owned}
+use Rattle.cell_select.specs.Selections.{all_false, joined_answer, evaluation, leave_answer, leave_latch, turn_request, latches, starts}
+use Rattle.cell_select.specs.PortNodes.{pairs_of}
+use Rattle.cell_select.proofs.GuardLemmas.{some_within, lows_within, with_lows_within, none_within, only_within, alone_then, within_still}
+use Rattle.cell_select.proofs.Emitted.{latches_step, starts_step, select_made, select_apart, again_made, again_apart, again_first}
+use Rattle.cell_select.proofs.PairLists.{pairs_length, rails_again, pair_is, pair_in, falses_step, falses_all, falses_behind}
+use Rattle.cell_select.proofs.emit.emit_select.Goals as goal
+
+pub returns-clause-made : goal.returns-clause-made
+returns-clause-made c =
+    let first = subst (λ ns. c.emit_joined.new.rules ≡ with_rules c.args.p.now.answer (joined_answer c.args.p.now.any ns) c.args.rules.now) c.deref.ensures.value c.in_ok-emit_joined.ensures.made in
+    let third = subst (λ ns. c.emit_any.new.rules ≡ with_rules c.args.p.now.any (or_of ns) c.emit_evaluation.new.rules) c.deref-2.ensures.value c.in_ok-emit_any.ensures.made in
+    let fourth = c.in_ok-emit_latches.ensures.made ∙ ap (λ ns. with_owned (owned_at ns (latches c.args.p.now.request (pairs_of c.deref-4.result.now))) c.emit_any.new.rules) c.deref-3.ensures.value ∙ ap (λ ns. with_owned (owned_at c.args.p.now.latches.items (latches c.args.p.now.request (pairs_of ns))) c.emit_any.new.rules) c.deref-4.ensures.value in
+    let fifth =
+    c.in_ok-emit_starts.ensures.made ∙ ap (λ ns. with_owned (owned_at ns (starts c.deref-6.result.now (pairs_of c.deref-7.result.now))) c.emit_latches.new.rules) c.deref-5.ensures.value
+    ∙ ap (λ ns. with_owned (owned_at c.args.p.now.starts.items (starts ns (pairs_of c.deref-7.result.now))) c.emit_latches.new.rules) c.deref-6.ensures.value
+    ∙ ap (λ ns. with_owned (owned_at c.args.p.now.starts.items (starts c.args.p.now.latches.items (pairs_of ns))) c.emit_latches.new.rules) c.deref-7.ensures.value in
+    select_made c.args.p.now c.args.rules.now c.emit_joined.new.rules c.emit_evaluation.new.rules c.emit_any.new.rules c.emit_latches.new.rules c.emit_starts.new.rules c.requires.branches
+    first c.in_ok-emit_evaluation.ensures.made third fourth fifth
+
+pub returns-in_err-emit_joined-clause-others : goal.returns-in_err-emit_joined-clause-others
+returns-in_err-emit_joined-clause-others c node h =
+    let apart = select_apart node c.args.p.now c.requires.branches h in
+    c.emit_joined.ensures.others node apart.answer
+
+pub returns-in_err-emit_evaluation-clause-others : goal.returns-in_err-emit_evaluation-clause-others
+returns-in_err-emit_evaluation-clause-others c node h =
+    let apart = select_apart node c.args.p.now c.requires.branches h in
+    alone_then _ _ _ node (c.emit_joined.ensures.others node apart.answer) (c.emit_evaluation.ensures.others node apart.eval)
+
+pub returns-in_err-emit_any-clause-others : goal.returns-in_err-emit_any-clause-others
+returns-in_err-emit_any-clause-others c node h =
+    let apart = select_apart node c.args.p.now c.requires.branches h in
+    alone_then _ _ _ node (alone_then _ _ _ node (c.emit_joined.ensures.others node apart.answer) (c.emit_evaluation.ensures.others node apart.eval)) (c.emit_any.ensures.others node apart.any)
+
+pub returns-in_err-emit_latches-clause-others : goal.returns-in_err-emit_latches-clause-others
+returns-in_err-emit_latches-clause-others c node h =
+    let apart = select_apart node c.args.p.now c.requires.branches h in
+    alone_then _ _ _ node (alone_then _ _ _ node (alone_then _ _ _ node (c.emit_joined.ensures.others node apart.answer) (c.emit_evaluation.ensures.others node apart.eval)) (c.emit_any.ensures.others node apart.any)) (c.emit_latches.ensures.others node (subst (All (λ n. n ≢ node)) (sym c.deref-3.ensures.value) apart.branches.latches))
+
+pub returns-in_err-emit_starts-clause-others : goal.returns-in_err-emit_starts-clause-others
+returns-in_err-emit_starts-clause-others c node h =
+    let apart = select_apart node c.args.p.now c.requires.branches h in
+    alone_then _ _ _ node (alone_then _ _ _ node (alone_then _ _ _ node (alone_then _ _ _ node (c.emit_joined.ensures.others node apart.answer) (c.emit_evaluation.ensures.others node apart.eval)) (c.emit_any.ensures.others node apart.any)) (c.emit_latches.ensures.others node (subst (All (λ n. n ≢ node)) (sym c.deref-3.ensures.value) apart.branches.latches))) (c.emit_starts.ensures.others node (subst (All (λ n. n ≢ node)) (sym c.deref-5.ensures.value) apart.branches.started))
+
+pub returns-clause-others : goal.returns-clause-others
+returns-clause-others c node h =
+    let apart = select_apart node c.args.p.now c.requires.branches h in
+    alone_then _ _ _ node (alone_then _ _ _ node (alone_then _ _ _ node (alone_then _ _ _ node (c.emit_joined.ensures.others node apart.answer) (c.emit_evaluation.ensures.others node apart.eval)) (c.emit_any.ensures.others node apart.any)) (c.emit_latches.ensures.others node (subst (All (λ n. n ≢ node)) (sym c.deref-3.ensures.value) apart.branches.latches))) (c.emit_starts.ensures.others node (subst (All (λ n. n ≢ node)) (sym c.deref-5.ensures.value) apart.branches.started))

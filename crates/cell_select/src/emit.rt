@@ -1,0 +1,265 @@
+//! The rules of the selection and of the guarded repetition.
+
+ghost use Rattle.std.specs.Prelude.{◌≡◌, ◌≢◌, ◌<◌, ◌*◌, ℕ, [], ◌∷◌, All, length, OnOk};
+ghost use Rattle.prs_core.specs.Nets.{with_rules, IsAlone};
+ghost use Rattle.prs_core.specs.Pairs.{or_of};
+ghost use Rattle.prs_core.specs.Parts.{Owned, owned_at, with_owned};
+ghost use Rattle.cell_select.specs.Selections.{joined_answer, evaluation, turn_request, leave_latch, leave_answer, latches, starts};
+ghost use Rattle.cell_select.specs.Contract.{select_owned, again_owned};
+ghost use Rattle.cell_select.specs.PortNodes.{pairs_of, select_of, again_of, IsSelect, IsAgain};
+
+use crate::guards::{all_low, either, none_true, only_true, set_both, some_high, with_lows};
+use prs_core::{Rules, all_of, high, low};
+use std::alloc::{AllocError, Global};
+
+/// The nodes at a selection (Martin). Under `request` the guards are evaluated, under their own request `eval`; the latch
+/// of the one that is true rises, and `any` says that one is up; then the guards are let go, and the branch's start rises.
+/// The branch's answer becomes `answer`. The own nodes are `answer`, `eval`, `any`, `latches` and `starts`. `answers` are
+/// the branches' answers, and `guard_rails` has rail t and rail f of each guard, in order.
+#[derive(Debug, Drop)]
+pub struct SelectPorts {
+    pub request: u32,
+    pub answer: u32,
+    pub eval: u32,
+    pub any: u32,
+    pub latches: Vec<u32>,
+    pub starts: Vec<u32>,
+    pub answers: Vec<u32>,
+    pub guard_rails: Vec<u32>,
+}
+
+/// The nodes at a guarded repetition (Martin). It is a selection under a request of its own for each turn, `loop_request`,
+/// whose branches' answers are joined in `joined`. `leave` is the latch that rises where all guards are false; once the
+/// guards are let go it makes the answer. The own nodes are `answer`, `loop_request`, `joined`, `eval`, `any`, `leave`,
+/// `latches` and `starts`.
+#[derive(Debug, Drop)]
+pub struct AgainPorts {
+    pub request: u32,
+    pub answer: u32,
+    pub loop_request: u32,
+    pub joined: u32,
+    pub eval: u32,
+    pub any: u32,
+    pub leave: u32,
+    pub latches: Vec<u32>,
+    pub starts: Vec<u32>,
+    pub answers: Vec<u32>,
+    pub guard_rails: Vec<u32>,
+}
+
+/// Writes the guards of the branches' answers joined into one.
+#[tactic(auto, using(crate::proofs::GuardLemmas::some_within, crate::proofs::GuardLemmas::with_lows_within))]
+fn emit_joined(
+    alloc: Global,
+    node: u32,
+    any: u32,
+    answers: &[u32],
+    rules: &mut Rules,
+) -> Result<(), AllocError>
+    requires node { node < length rules.old.up }
+    requires any { any < length rules.old.up }
+    requires answers { All (λ n. n < length rules.old.up) answers.now }
+    ensures made { OnOk result (rules.new ≡ with_rules node (joined_answer any answers.now) rules.old) }
+    ensures nodes { length rules.new.up ≡ length rules.old.up }
+    ensures others { (other : ℕ) → other ≢ node → IsAlone rules.old rules.new other }
+{
+    let up = some_high(alloc, answers)?;
+    let down = with_lows(alloc, low(any), answers)?;
+    set_both(rules, node, up, down);
+    Ok(())
+}
+
+/// Writes the guards of the request of the guards.
+fn emit_evaluation(
+    alloc: Global,
+    node: u32,
+    request: u32,
+    any: u32,
+    rules: &mut Rules,
+) -> Result<(), AllocError>
+    requires node { node < length rules.old.up }
+    requires request { request < length rules.old.up }
+    requires any { any < length rules.old.up }
+    ensures made { OnOk result (rules.new ≡ with_rules node (evaluation request any) rules.old) }
+    ensures nodes { length rules.new.up ≡ length rules.old.up }
+    ensures others { (other : ℕ) → other ≢ node → IsAlone rules.old rules.new other }
+{
+    let up = all_of(alloc, &[high(request), low(any)])?;
+    let down = all_of(alloc, &[high(any)])?;
+    set_both(rules, node, up, down);
+    Ok(())
+}
+
+/// Writes the guards of the OR of some nodes, of which there is at least one.
+#[tactic(auto, using(crate::proofs::GuardLemmas::some_within, crate::proofs::GuardLemmas::lows_within))]
+fn emit_any(alloc: Global, node: u32, inputs: &[u32], rules: &mut Rules) -> Result<(), AllocError>
+    requires node { node < length rules.old.up }
+    requires some { 0 < length inputs.now }
+    requires inputs { All (λ n. n < length rules.old.up) inputs.now }
+    ensures made { OnOk result (rules.new ≡ with_rules node (or_of inputs.now) rules.old) }
+    ensures nodes { length rules.new.up ≡ length rules.old.up }
+    ensures others { (other : ℕ) → other ≢ node → IsAlone rules.old rules.new other }
+{
+    let up = some_high(alloc, inputs)?;
+    let down = all_low(alloc, inputs)?;
+    set_both(rules, node, up, down);
+    Ok(())
+}
+
+/// Writes the guards of the latches.
+#[tactic(auto, using(crate::proofs::GuardLemmas::only_within, crate::proofs::GuardLemmas::alone_then, crate::proofs::GuardLemmas::alone_still))]
+fn emit_latches(
+    alloc: Global,
+    request: u32,
+    nodes: &[u32],
+    rails: &[u32],
+    rules: &mut Rules,
+) -> Result<(), AllocError>
+    requires request { request < length rules.old.up }
+    requires nodes { All (λ n. n < length rules.old.up) nodes.now }
+    requires rails { All (λ n. n < length rules.old.up) rails.now }
+    requires agree { length rails.now ≡ 2 * length nodes.now }
+    ensures made { OnOk result (rules.new ≡ with_owned (owned_at nodes.now (latches request (pairs_of rails.now))) rules.old) }
+    ensures nodes { length rules.new.up ≡ length rules.old.up }
+    ensures others { (other : ℕ) → All (λ n. n ≢ other) nodes.now → IsAlone rules.old rules.new other }
+{
+    for guard in 0..nodes.len() {
+        let up = only_true(alloc, rails, guard)?;
+        let down = all_of(alloc, &[low(request)])?;
+        set_both(rules, nodes[guard], up, down);
+    }
+    Ok(())
+}
+
+/// Writes the guards of the starts.
+#[tactic(auto, using(crate::proofs::GuardLemmas::with_lows_within, crate::proofs::GuardLemmas::alone_then, crate::proofs::GuardLemmas::alone_still))]
+fn emit_starts(
+    alloc: Global,
+    nodes: &[u32],
+    latched: &[u32],
+    rails: &[u32],
+    rules: &mut Rules,
+) -> Result<(), AllocError>
+    requires nodes { All (λ n. n < length rules.old.up) nodes.now }
+    requires latched { All (λ n. n < length rules.old.up) latched.now }
+    requires rails { All (λ n. n < length rules.old.up) rails.now }
+    requires agree { length nodes.now ≡ length latched.now }
+    requires pairs { length rails.now ≡ 2 * length latched.now }
+    ensures made { OnOk result (rules.new ≡ with_owned (owned_at nodes.now (starts latched.now (pairs_of rails.now))) rules.old) }
+    ensures nodes { length rules.new.up ≡ length rules.old.up }
+    ensures others { (other : ℕ) → All (λ n. n ≢ other) nodes.now → IsAlone rules.old rules.new other }
+{
+    for branch in 0..nodes.len() {
+        let up = with_lows(alloc, high(latched[branch]), rails)?;
+        let down = all_of(alloc, &[low(latched[branch])])?;
+        set_both(rules, nodes[branch], up, down);
+    }
+    Ok(())
+}
+
+/// Writes the guards of the request of one turn.
+fn emit_turn(
+    alloc: Global,
+    node: u32,
+    request: u32,
+    joined: u32,
+    rules: &mut Rules,
+) -> Result<(), AllocError>
+    requires node { node < length rules.old.up }
+    requires request { request < length rules.old.up }
+    requires joined { joined < length rules.old.up }
+    ensures made { OnOk result (rules.new ≡ with_rules node (turn_request request joined) rules.old) }
+    ensures nodes { length rules.new.up ≡ length rules.old.up }
+    ensures others { (other : ℕ) → other ≢ node → IsAlone rules.old rules.new other }
+{
+    let up = all_of(alloc, &[high(request), low(joined)])?;
+    let down = either(alloc, high(joined), low(request))?;
+    set_both(rules, node, up, down);
+    Ok(())
+}
+
+/// Writes the guards of the latch of the end.
+#[tactic(auto, using(crate::proofs::GuardLemmas::none_within))]
+fn emit_leave(
+    alloc: Global,
+    node: u32,
+    turn: u32,
+    rails: &[u32],
+    rules: &mut Rules,
+) -> Result<(), AllocError>
+    requires node { node < length rules.old.up }
+    requires turn { turn < length rules.old.up }
+    requires rails { All (λ n. n < length rules.old.up) rails.now }
+    requires pairs { (guards : ℕ) × (length rails.now ≡ 2 * guards) × (0 < guards) }
+    ensures made { OnOk result (rules.new ≡ with_rules node (leave_latch turn (pairs_of rails.now)) rules.old) }
+    ensures nodes { length rules.new.up ≡ length rules.old.up }
+    ensures others { (other : ℕ) → other ≢ node → IsAlone rules.old rules.new other }
+{
+    let up = none_true(alloc, rails)?;
+    let down = all_of(alloc, &[low(turn)])?;
+    set_both(rules, node, up, down);
+    Ok(())
+}
+
+/// Writes the guards of the answer of a guarded repetition.
+#[tactic(auto, using(crate::proofs::GuardLemmas::with_lows_within, crate::proofs::PairLists::rails_again))]
+fn emit_end(
+    alloc: Global,
+    node: u32,
+    leave: u32,
+    any: u32,
+    rails: &[u32],
+    rules: &mut Rules,
+) -> Result<(), AllocError>
+    requires node { node < length rules.old.up }
+    requires leave { leave < length rules.old.up }
+    requires any { any < length rules.old.up }
+    requires rails { All (λ n. n < length rules.old.up) rails.now }
+    requires pairs { (guards : ℕ) × (length rails.now ≡ 2 * guards) }
+    ensures made { OnOk result (rules.new ≡ with_rules node (leave_answer leave any (pairs_of rails.now)) rules.old) }
+    ensures nodes { length rules.new.up ≡ length rules.old.up }
+    ensures others { (other : ℕ) → other ≢ node → IsAlone rules.old rules.new other }
+{
+    let up = with_lows(alloc, high(leave), rails)?;
+    let down = all_of(alloc, &[low(any)])?;
+    set_both(rules, node, up, down);
+    Ok(())
+}
+
+/// Writes the guards of the selection's own nodes, and no others. There are 1 to 16 latches, as many starts and answers,
+/// and twice as many guard rails. Where memory runs out, some of the own nodes may have their guards.
+pub fn emit_select(alloc: Global, p: &SelectPorts, rules: &mut Rules) -> Result<(), AllocError>
+    requires { IsSelect (length rules.old.up) p.now }
+    ensures made { OnOk result (rules.new ≡ with_owned (select_owned (select_of p.now)) rules.old) }
+    ensures nodes { length rules.new.up ≡ length rules.old.up }
+    ensures others { (node : ℕ) → All (λ (o : Owned). o.node ≢ node) (select_owned (select_of p.now)) → IsAlone rules.old rules.new node }
+{
+    emit_joined(alloc, p.answer, p.any, &p.answers, rules)?;
+    emit_evaluation(alloc, p.eval, p.request, p.any, rules)?;
+    emit_any(alloc, p.any, &p.latches, rules)?;
+    emit_latches(alloc, p.request, &p.latches, &p.guard_rails, rules)?;
+    emit_starts(alloc, &p.starts, &p.latches, &p.guard_rails, rules)?;
+    Ok(())
+}
+
+/// Writes the guards of the guarded repetition's own nodes, and no others. There are 1 to 16 latches, as many starts and
+/// answers, and twice as many guard rails. Where memory runs out, some of the own nodes may have their guards.
+pub fn emit_again(alloc: Global, p: &AgainPorts, rules: &mut Rules) -> Result<(), AllocError>
+    requires { IsAgain (length rules.old.up) p.now }
+    ensures made { OnOk result (rules.new ≡ with_owned (again_owned (again_of p.now)) rules.old) }
+    ensures nodes { length rules.new.up ≡ length rules.old.up }
+    ensures others { (node : ℕ) → All (λ (o : Owned). o.node ≢ node) (again_owned (again_of p.now)) → IsAlone rules.old rules.new node }
+{
+    let mut ends = Vec::new(alloc);
+    ends.push(p.leave)?;
+    ends.extend_from_slice(&p.latches)?;
+    emit_end(alloc, p.answer, p.leave, p.any, &p.guard_rails, rules)?;
+    emit_turn(alloc, p.loop_request, p.request, p.joined, rules)?;
+    emit_joined(alloc, p.joined, p.any, &p.answers, rules)?;
+    emit_evaluation(alloc, p.eval, p.loop_request, p.any, rules)?;
+    emit_any(alloc, p.any, &ends, rules)?;
+    emit_leave(alloc, p.leave, p.loop_request, &p.guard_rails, rules)?;
+    emit_latches(alloc, p.loop_request, &p.latches, &p.guard_rails, rules)?;
+    emit_starts(alloc, &p.starts, &p.latches, &p.guard_rails, rules)?;
+    Ok(())
+}
