@@ -1,2 +1,8 @@
 pub mod Examples
 pub mod Sizes
+pub mod Levels
+pub mod Grown
+pub mod Joins
+pub mod Settling
+pub mod TreeKeeps
+pub mod WrongTrees

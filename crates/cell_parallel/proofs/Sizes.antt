@@ -5,12 +5,12 @@ use Rattle.cell_parallel.specs.Trees.{level_rules, next_level, levels_rules, tre
 
 -- a level halves the nodes
 
-level_length : (ls : List ℕ) → length (level_rules ls) ≡ length ls / 2
+pub level_length : (ls : List ℕ) → length (level_rules ls) ≡ length ls / 2
 level_length [] = refl
 level_length (p ∷ []) = refl
 level_length (p ∷ q ∷ rest) = let e : length (level_rules rest) ≡ length rest / 2 = level_length rest in omega arith
 
-next_length : (ls : List ℕ) (from : ℕ) → length (next_level ls from) ≡ length ls - length ls / 2
+pub next_length : (ls : List ℕ) (from : ℕ) → length (next_level ls from) ≡ length ls - length ls / 2
 next_length [] from = refl
 next_length (p ∷ []) from = refl
 next_length (p ∷ q ∷ rest) from =

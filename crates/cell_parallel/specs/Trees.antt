@@ -1,6 +1,7 @@
 -- The completion tree (Martin): C-elements that together are high once all of the leaves are, and low once none is.
 use Rattle.std.specs.Prelude.{ℕ, zero, suc, ◌+◌, ◌/◌, List, [], ◌∷◌, ◌++◌, length}
 use Rattle.prs_core.specs.Nets.{NodeRules, is_high, is_low, one_term}
+use Rattle.prs_core.specs.Parts.{Owned, owned_from}
 
 -- a C-element of two nodes: p & q -> c+, ~p & ~q -> c-
 abbrev pub c_element : (p q : ℕ) → NodeRules
@@ -31,3 +32,7 @@ abbrev pub tree_top : (leaves : List ℕ) → (from : ℕ) → ℕ
 tree_top [] from = from
 tree_top (leaf ∷ []) from = leaf
 tree_top (a ∷ b ∷ rest) from = from + length rest
+
+-- the tree's own nodes
+abbrev pub tree_owned : (leaves : List ℕ) → (from : ℕ) → List Owned
+tree_owned leaves from = owned_from from (tree_rules leaves from)

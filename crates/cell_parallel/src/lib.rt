@@ -1,4 +1,10 @@
 //! The completion tree.
 #![tactic(auto)]
 
-pub mod laws;
+mod laws;
+#[cfg(test)]
+mod tests;
+mod tree;
+
+pub use laws::{tree_counted, tree_keeps, tree_settles};
+pub use tree::emit_tree;

@@ -8,3 +8,4 @@ pub mod Parts
 pub mod Keeping
 pub mod Sites
 pub mod Turning
+pub mod Writing

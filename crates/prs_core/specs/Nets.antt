@@ -1,5 +1,5 @@
 -- What a net of production rules is.
-use Rattle.std.specs.Prelude.{◌≡◌, ◌≢◌, ℕ, ◌+◌, ◌*◌, ◌<◌, ◌≤◌, Bool, true, false, List, [], ◌∷◌, ◌++◌, length, map, All, AllPairs, sum_by, slice_index_or, slice_set, Option, Some, None, codes, decimal}
+use Rattle.std.specs.Prelude.{◌≡◌, ◌≢◌, ℕ, ◌+◌, ◌*◌, ◌^◌, ◌<◌, ◌≤◌, Bool, true, false, List, [], ◌∷◌, ◌++◌, length, map, All, AllPairs, sum_by, slice_index_or, slice_set, Option, Some, None, codes, decimal}
 use Rattle.std.specs.List.{flat_map, range_with_len}
 use Rattle.chp_base.specs.Names.{IsName, IsNodeName}
 use Rattle.chp_base.specs.declared.channel.Kind.{Kind}
@@ -52,8 +52,9 @@ IsBelow count g = All (λ t. All (λ (l : Literal). l.node < count) t) g
 abbrev pub IsFilled : GuardValue → Type 0
 IsFilled g = All (λ (t : List Literal). 0 < length t) g
 
--- two guards for each node, over these nodes alone
+-- two guards for each node, over these nodes alone, each of which has a number of 32 bits
 pub record IsRules (r : RulesValue) : Type 0 where
+  pub few : length r.up < 2 ^ 32
   pub downs : length r.down ≡ length r.up
   pub up_within : All (IsBelow (length r.up)) r.up
   pub down_within : All (IsBelow (length r.up)) r.down

@@ -45,6 +45,13 @@ impl Rules {
         Ok(Rules { up, down })
     }
 
+    /// How many nodes the rules are for.
+    pub fn nodes(&self) -> u32
+        ensures { result ≡ length self.now.up }
+    {
+        self.up.len() as u32
+    }
+
     /// Replaces the node's up guard.
     pub fn set_up(&mut self, node: u32, guard: Guard)
         requires node { node < length self.old.up }
