@@ -3,4 +3,4 @@
 
 mod emit;
 
-pub use emit::emit_end;
+pub use emit::{emit_end, emit_receive_port};
