@@ -1,2 +1,6 @@
 mod Examples
 mod Port
+mod PortKeeps
+mod PortPlaces
+mod PortTable
+mod WrongPorts

@@ -1,11 +1,11 @@
 -- While a receive port is written.
-use Rattle.std.proofs.Common.{◌≡◌, ◌≢◌, ℕ, suc, ◌+◌, ◌<◌, List, [], ◌∷◌, length, All, take, drop, refl, sym, ap, subst, ◌∙◌, arith, slice_index_or}
+use Rattle.std.proofs.Common.{◌≡◌, ◌≢◌, ℕ, ◌+◌, ◌<◌, List, ◌∷◌, length, drop, sym, ap, subst, ◌∙◌, arith, slice_index_or}
 use Rattle.std.proofs.lemmas.List.{drop_more}
 use Rattle.std.proofs.lemmas.List.Elements.{All-head, All-tail}
 use Rattle.prs_core.specs.Nets.{RulesValue, IsAlone, with_rules}
-use Rattle.prs_core.specs.Parts.{Owned, owned, owned_from, with_owned}
-use Rattle.prs_core.specs.Writing.{IsOther, alone_same, alone_on}
-use Rattle.cell_channel.specs.Ends.{taken_rail, taken_rails, port_owned}
+use Rattle.prs_core.specs.Parts.{Owned, owned, with_owned}
+use Rattle.prs_core.specs.Writing.{IsOther, alone_on}
+use Rattle.cell_channel.specs.Ends.{taken_rail, port_owned}
 
 -- what is written, then what is left to write from this rail on
 pub record Taken (request : ℕ) (rails : List ℕ) (from : ℕ) (old : RulesValue) (done node : ℕ) (now : RulesValue) : Type 0 where

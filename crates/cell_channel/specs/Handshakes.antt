@@ -1,9 +1,10 @@
--- The contract of a receive port (Martin).
+-- The contracts of a channel's ends (Martin).
 use Rattle.std.specs.Prelude.{ℕ, ◌+◌, Bool, not, ◌&&◌, ◌||◌, List, [], ◌∷◌, map}
 use Rattle.std.specs.List.{list_all, flat_map}
 use Rattle.prs_core.specs.Pairs.{Pair, pair_at, rails_of}
-use Rattle.prs_core.specs.Parts.{Part, Owned, Moment, Wire, wire, owned_at, is_valid, never_blocked, no_notes}
-use Rattle.cell_channel.specs.Ends.{port_rules}
+use Rattle.prs_core.specs.Parts.{Part, Wire, wire, owned, owned_at, is_valid, never_blocked, no_notes}
+use Rattle.prs_core.specs.Sites.{site_part}
+use Rattle.cell_channel.specs.Ends.{end_answer, port_rules}
 
 -- a bit at a receive port: its rails on the channel, and those by which the port takes them
 pub record PortBit : Type 0 where
@@ -69,3 +70,7 @@ port_nodes bits = flat_map (λ (b : PortBit). b.rail.t ∷ b.rail.f ∷ b.taken.
 abbrev pub port_bits : List Pair → (from : ℕ) → List PortBit
 port_bits [] from = []
 port_bits (x ∷ xs) from = port_bit x (pair_at from) ∷ port_bits xs (from + 2)
+
+-- the answer of a send or a receive, at an end of the channel that it shares with the sites of these other requests
+abbrev pub end_part : (others : List ℕ) (request ack answer : ℕ) → Part
+end_part others request ack answer = record (site_part others request ack answer) { own = owned answer (end_answer request ack) ∷ [] }
