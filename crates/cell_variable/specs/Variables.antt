@@ -1,9 +1,11 @@
 -- The circuit of a variable: its bits, the merges of what is written to it, and the completion of a write.
 use Rattle.std.specs.Prelude.{ℕ, zero, suc, ◌+◌, ◌*◌, ◌/◌, ◌%◌, ◌==◌, if◌then◌else◌, List, [], ◌∷◌, ◌++◌, map}
+use Rattle.std.specs.List.{flat_map}
 use Rattle.prs_core.specs.Nets.{NodeRules, is_high, is_low, one_term}
+use Rattle.prs_core.specs.Parts.{Owned, owned}
 use Rattle.prs_core.specs.Pairs.{Pair, merged_true, merged_false}
 use Rattle.prs_core.specs.Sites.{site_answer}
-use Rattle.cell_parallel.specs.Trees.{tree_rules, tree_top}
+use Rattle.cell_parallel.specs.Trees.{tree_rules, tree_owned, tree_top}
 
 -- a bit's nodes: its two rails, the two by which it is written, and the one that says that it is
 pub record Bit : Type 0 where
@@ -52,6 +54,23 @@ all_written width from = tree_top (written_leaves width from) (from + 5 * width)
 abbrev pub variable_rules : (width from : ℕ) → (sites : List (List Pair)) → List NodeRules
 variable_rules width from sites =
     bits_rules sites 0 (bits_from width from) ++ tree_rules (written_leaves width from) (from + 5 * width)
+
+-- the bit's own nodes: not those by which it is written, which are merges, and parts of their own
+abbrev pub bit_owned : Bit → List Owned
+bit_owned b =
+    owned b.x.t (kept_rail b.w.t b.x.f b.w.f)
+    ∷ owned b.x.f (kept_rail b.w.f b.x.t b.w.t)
+    ∷ owned b.written (bit_written b)
+    ∷ []
+
+-- the variable's own nodes
+abbrev pub variable_owned : (width from : ℕ) → List Owned
+variable_owned width from = flat_map bit_owned (bits_from width from) ++ tree_owned (written_leaves width from) (from + 5 * width)
+
+-- the merges beside them, where the bits are those from this place on
+abbrev pub merges_owned : (sites : List (List Pair)) → (place : ℕ) → List Bit → List Owned
+merges_owned sites place [] = []
+merges_owned sites place (b ∷ bs) = owned b.w.t (merged_true sites place) ∷ owned b.w.f (merged_false sites place) ∷ merges_owned sites (suc place) bs
 
 -- the rails that are high at first: one of each bit
 abbrev pub high_first : (width value from : ℕ) → List ℕ

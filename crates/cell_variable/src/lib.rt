@@ -2,5 +2,7 @@
 #![tactic(auto)]
 
 mod merge;
+mod variable;
 
 pub use merge::emit_or;
+pub use variable::{emit_variable, emit_write_site};
