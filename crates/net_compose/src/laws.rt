@@ -43,5 +43,5 @@ pub fn all_counted()
 {
     function_blocks::laws::bits_counted();
     function_blocks::laws::rules_counted();
-    cell_parallel::laws::tree_counted();
+    cell_parallel::tree_counted();
 }
