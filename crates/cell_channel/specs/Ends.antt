@@ -2,12 +2,15 @@
 use Rattle.std.specs.Prelude.{ℕ, List, [], ◌∷◌, map}
 use Rattle.prs_core.specs.Nets.{NodeRules, is_high, is_low, one_term}
 use Rattle.prs_core.specs.Pairs.{Pair, rails_of}
-use Rattle.prs_core.specs.Parts.{Owned, owned_from}
+use Rattle.prs_core.specs.Parts.{Owned, owned, owned_from}
 use Rattle.prs_core.specs.Sites.{site_answer}
 
 -- the site answers with the channel's acknowledge, under its own request: r & X.a -> a+, ~X.a -> a-
 abbrev pub end_answer : (request ack : ℕ) → NodeRules
 end_answer request ack = site_answer request ack
+
+abbrev pub end_owned : (request ack answer : ℕ) → List Owned
+end_owned request ack answer = owned answer (end_answer request ack) ∷ []
 
 -- a rail is taken over under the request, and let go once both are low: r & x -> q+, ~r & ~x -> q-
 abbrev pub taken_rail : (request rail : ℕ) → NodeRules

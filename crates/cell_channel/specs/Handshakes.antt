@@ -2,9 +2,9 @@
 use Rattle.std.specs.Prelude.{ℕ, ◌+◌, Bool, not, ◌&&◌, ◌||◌, List, [], ◌∷◌, map}
 use Rattle.std.specs.List.{list_all, flat_map}
 use Rattle.prs_core.specs.Pairs.{Pair, pair_at, rails_of}
-use Rattle.prs_core.specs.Parts.{Part, Wire, wire, owned, owned_at, is_valid, never_blocked, no_notes}
+use Rattle.prs_core.specs.Parts.{Part, Wire, wire, owned_at, is_valid, never_blocked, no_notes}
 use Rattle.prs_core.specs.Sites.{site_part}
-use Rattle.cell_channel.specs.Ends.{end_answer, port_rules}
+use Rattle.cell_channel.specs.Ends.{end_owned, port_rules}
 
 -- a bit at a receive port: its rails on the channel, and those by which the port takes them
 pub record PortBit : Type 0 where
@@ -73,4 +73,4 @@ port_bits (x ∷ xs) from = port_bit x (pair_at from) ∷ port_bits xs (from + 2
 
 -- the answer of a send or a receive, at an end of the channel that it shares with the sites of these other requests
 abbrev pub end_part : (others : List ℕ) (request ack answer : ℕ) → Part
-end_part others request ack answer = record (site_part others request ack answer) { own = owned answer (end_answer request ack) ∷ [] }
+end_part others request ack answer = record (site_part others request ack answer) { own = end_owned request ack answer }

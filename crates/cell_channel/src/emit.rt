@@ -1,9 +1,9 @@
-//! The rules of a channel's ends.
+//! The rules of a channel's ends: what answers a send or a receive, and the port by which a receive takes a value.
 
 ghost use Rattle.std.specs.Prelude.{◌≡◌, ◌≢◌, ℕ, ◌+◌, ◌<◌, ◌≤◌, length, All, OnOk};
 ghost use Rattle.prs_core.specs.Nets.{with_rules, IsAlone};
 ghost use Rattle.prs_core.specs.Parts.{Owned, with_owned};
-ghost use Rattle.cell_channel.specs.Ends.{end_answer, taken_rail, port_owned};
+ghost use Rattle.cell_channel.specs.Ends.{end_owned, taken_rail, port_owned};
 
 use prs_core::{Rules, all_of, high, low};
 use std::alloc::{AllocError, Global};
@@ -22,7 +22,7 @@ pub fn emit_end(
     requires answer { answer < length rules.old.up }
     requires distinct_request { request ≢ answer }
     requires distinct_ack { ack ≢ answer }
-    ensures made { OnOk result (rules.new ≡ with_rules answer (end_answer request ack) rules.old) }
+    ensures made { OnOk result (rules.new ≡ with_owned (end_owned request ack answer) rules.old) }
     ensures nodes { length rules.new.up ≡ length rules.old.up }
     ensures others { (node : ℕ) → node ≢ answer → IsAlone rules.old rules.new node }
 {

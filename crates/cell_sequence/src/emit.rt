@@ -1,9 +1,9 @@
 //! The rules of the Q-element, of skip and of the loop.
 
 ghost use Rattle.std.specs.Prelude.{◌≡◌, ◌≢◌, ℕ, ◌<◌, length, OnOk};
-ghost use Rattle.prs_core.specs.Nets.{with_rules, IsAlone};
+ghost use Rattle.prs_core.specs.Nets.{IsAlone};
 ghost use Rattle.prs_core.specs.Parts.{with_owned};
-ghost use Rattle.cell_sequence.specs.Sequence.{with_q, skip_answer, loop_owned, IsPorts};
+ghost use Rattle.cell_sequence.specs.Sequence.{with_q, skip_owned, loop_owned, IsPorts};
 
 use prs_core::{Rules, all_of, high, low};
 use std::alloc::{AllocError, Global};
@@ -54,7 +54,7 @@ pub fn emit_skip(
     requires request { request < length rules.old.up }
     requires answer { answer < length rules.old.up }
     requires distinct { request ≢ answer }
-    ensures made { OnOk result (rules.new ≡ with_rules answer (skip_answer request) rules.old) }
+    ensures made { OnOk result (rules.new ≡ with_owned (skip_owned request answer) rules.old) }
     ensures nodes { length rules.new.up ≡ length rules.old.up }
     ensures others { (node : ℕ) → node ≢ answer → IsAlone rules.old rules.new node }
 {
