@@ -6,3 +6,4 @@ pub mod BitTable
 pub mod BitPlaces
 pub mod VariableKeeps
 pub mod Divided
+pub mod WrongVariables

@@ -441,7 +441,7 @@ module _ (width from : ℕ) (some : 1 ≤ width) (settles : (leaves : List ℕ) 
   waits m h none =
       let (leaf, among, is) = known.waits m.value h.settled (λ o among. none o (Contains-append_right (flat_map bit_owned (bits_from width from)) tree o among)) in
       let (s, bit, at) = leaf_bit width from leaf among in
-      by s bit (or_cases (may write_t (now m.value (m.value ack) s)) (may write_f (now m.value (m.value ack) s)) (table.waits (now m.value (m.value ack) s) (h.legal s bit) (ap m.value (sym at) ∙ is) (at_one s bit _ (0, omega arith, refl)) (at_one s bit _ (1, omega arith, refl)) (at_one s bit _ (2, omega arith, refl))))
+      by s bit (waiting s bit (ap m.value (sym at) ∙ is))
     where
       by : (s : ℕ) → IsBit width from s → (may write_t (now m.value (m.value ack) s) ≡ true) ⊎ (may write_f (now m.value (m.value ack) s) ≡ true) → (w : Wire) × Contains part.allows w × (may_move m w ≡ true)
       by s bit (inl f) = (write_wire_t s, among_bits (bit_allows ack) width from (write_wire_t s) s bit (0, omega arith, refl), f)
@@ -449,6 +449,15 @@ module _ (width from : ℕ) (some : 1 ≤ width) (settles : (leaves : List ℕ) 
 
       at_one : (s : ℕ) → IsBit width from s → (o : Owned) → Contains (bit_owned (bit_at s)) o → fires m.value o ≡ false
       at_one s bit o here = none o (Contains-append_left (flat_map bit_owned (bits_from width from)) tree o (among_bits bit_owned width from o s bit here))
+
+      waiting : (s : ℕ) → IsBit width from s → m.value (s + 4) ≡ m.value ack → (may write_t (now m.value (m.value ack) s) ≡ true) ⊎ (may write_f (now m.value (m.value ack) s) ≡ true)
+      waiting s bit same =
+          let n = now m.value (m.value ack) s in
+          or_cases (may write_t n) (may write_f n)
+          (table.waits n (h.legal s bit) same
+          (at_one s bit (owned s (kept_rail (s + 2) (s + 1) (s + 3))) (0, omega arith, refl))
+          (at_one s bit (owned (s + 1) (kept_rail (s + 3) s (s + 2))) (1, omega arith, refl))
+          (at_one s bit (owned (s + 4) (bit_written (bit_at s))) (2, omega arith, refl)))
 
   kept : (m : Moment) (node : ℕ) → Holds m → IsMove part m node → Holds (after part m node)
   kept m node h move =
