@@ -98,7 +98,7 @@ branch_lists (l ∷ ls) (s ∷ ss) (d ∷ ans) (h ∷ hs) a b c =
     }
 branch_lists ls ss ans hs a b c = absurd (omega (arith, a, b, c))
 
-owned_append : (ns ms : List ℕ) (rs qs : List NodeRules) → length ns ≡ length rs → owned_at (ns ++ ms) (rs ++ qs) ≡ owned_at ns rs ++ owned_at ms qs
+pub owned_append : (ns ms : List ℕ) (rs qs : List NodeRules) → length ns ≡ length rs → owned_at (ns ++ ms) (rs ++ qs) ≡ owned_at ns rs ++ owned_at ms qs
 owned_append [] ms [] qs e = refl
 owned_append (n ∷ ns) ms (r ∷ rs) qs e = ap (λ os. owned n r ∷ os) (owned_append ns ms rs qs (omega (arith, e)))
 owned_append [] ms (r ∷ rs) qs e = absurd (omega (arith, e))

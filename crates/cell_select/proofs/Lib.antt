@@ -2,3 +2,12 @@ pub mod Examples
 pub mod PairLists
 pub mod GuardLemmas
 pub mod Emitted
+pub mod Tables
+pub mod Distinct
+pub mod Places
+pub mod Rails
+pub mod RailMoves
+pub mod Machines
+pub mod Views
+pub mod Waiting
+pub mod SelectKeeps

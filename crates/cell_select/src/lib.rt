@@ -3,5 +3,7 @@
 
 mod emit;
 mod guards;
+mod laws;
 
 pub use emit::{AgainPorts, SelectPorts, emit_again, emit_select};
+pub use laws::select_keeps;
