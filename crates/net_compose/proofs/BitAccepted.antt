@@ -1,6 +1,6 @@
 -- A program that sends one bit on its only channel: its typed form, and that it is accepted and covered.
-use Rattle.std.proofs.Common.{◌≡◌, ◌≢◌, ℕ, zero, suc, ◌+◌, ◌<◌, ◌≤◌, ◌^◌, ◌==◌, Bool, true, false, List, [], ◌∷◌, length, Option, Some, None, ◌⊎◌, inl, inr, refl, sym, ap, ◌∙◌, subst, arith, lit<, lit≤, cond}
-use Rattle.std.specs.Prelude.{◌&&◌, not, nat_lt, nat_le, if◌then◌else◌, is_some, Contains, All, AllPairs, slice_get, bytes_eq, unwrap_or, option_map}
+use Rattle.std.proofs.Common.{◌≡◌, ◌≢◌, ℕ, zero, suc, ◌<◌, ◌≤◌, ◌^◌, ◌==◌, Bool, true, false, List, [], ◌∷◌, length, Some, None, ◌⊎◌, inl, inr, refl, sym, ap, ◌∙◌, subst, arith, lit<, lit≤, cond}
+use Rattle.std.specs.Prelude.{◌&&◌, not, nat_lt, nat_le, if◌then◌else◌, Contains, slice_get, bytes_eq, unwrap_or, option_map}
 use Rattle.std.specs.List.{list_all, position_or_len}
 use Rattle.std.proofs.lemmas.List.Sums.{position_or_len_is}
 use Rattle.std.proofs.lemmas.Bool.{and_parts, eqb-true}
@@ -16,10 +16,8 @@ use Rattle.chp_syntax.specs.declared.tree.Ident.{Ident}
 use Rattle.chp_syntax.specs.declared.tree.Decl.{Decl}
 use Rattle.chp_syntax.specs.declared.tree.DeclKind.{DeclKind}
 use Rattle.chp_syntax.specs.declared.tree.DeclKind.TheVariants as declares
-use Rattle.chp_syntax.specs.Trees.{Procedure, Expression, number, whole, slice, bit, join, negation, chain, Statement, skips, assigns, sends, receives, follows, besides, selects, repeats, calls, ProgramTree}
-use Rattle.width_check.specs.declared.typed.Var.{Var}
-use Rattle.width_check.specs.Processes.{constant, sending, Process, TypedProgram}
-use Rattle.width_check.specs.Values.{one_if, width_of}
+use Rattle.chp_syntax.specs.Trees.{Procedure, Expression, number, whole, slice, bit, join, negation, chain, Statement, skips, assigns, sends, receives, follows, besides, selects, repeats, calls}
+use Rattle.width_check.specs.Values.{one_if}
 use Rattle.width_check.specs.Typing.{IsTyped, IsDeclaredChannel, IsDeclaredVar}
 use Rattle.width_check.specs.Form.{typed_form, process_form}
 use Rattle.width_check.specs.Places.{declaration, declared_width, is_var, sent_on, received_on, Use, Expected, expect}

@@ -1,10 +1,9 @@
 -- The net of a program that sends one bit on its only channel is a net.
-use Rattle.std.proofs.Common.{◌≡◌, ◌≢◌, ℕ, ◌<◌, ◌≤◌, Bool, true, false, List, [], ◌∷◌, ◌++◌, None, length, refl, sym, ap, ◌∙◌, subst, arith, lit≤, lit<}
+use Rattle.std.proofs.Common.{◌≡◌, ◌≢◌, ℕ, ◌<◌, ◌≤◌, Bool, true, false, List, [], ◌∷◌, None, length, refl, sym, ◌∙◌, subst, arith, lit≤, lit<}
 use Rattle.std.specs.Prelude.{All, AllPairs, replicate}
 use Rattle.std.proofs.lemmas.List.Elements.{All-nil, All-cons}
 use Rattle.chp_base.specs.Names.{IsName, IsNodeName}
 use Rattle.chp_base.specs.declared.span.Span.{Span}
-use Rattle.chp_base.specs.declared.channel.Channel.{Channel}
 use Rattle.chp_base.specs.declared.channel.Kind.TheVariants as kind
 use Rattle.prs_core.specs.declared.wires.Wires.{Wires}
 use Rattle.prs_core.specs.Nets.{RulesValue, NetValue, net_of, IsBelow, IsFilled, literals_of, IsNet, IsChannel, IsUndriven, first_at}

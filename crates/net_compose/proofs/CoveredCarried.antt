@@ -1,37 +1,34 @@
 -- The net of each covered program carries it.
-use Rattle.std.proofs.Common.{◌≡◌, ◌≢◌, ◌↔◌, ℕ, zero, suc, ◌+◌, ◌-◌, ◌*◌, ◌<◌, ◌≤◌, ◌==◌, Bool, true, false, List, [], ◌∷◌, ◌++◌, map, length, get_or, replicate, Option, Some, None, ◌⊎◌, inl, inr, refl, sym, ap, ◌∙◌, subst, arith, ⊎_elim, append-nil, append_assoc}
-use Rattle.std.specs.Prelude.{not, ◌&&◌, ◌||◌, if◌then◌else◌, is_some, nat_lt, fold, filter, All, slice_set}
-use Rattle.std.proofs.lemmas.Bool.{cases_lt, cases_Bool, eqb-true, and_from}
+use Rattle.std.proofs.Common.{◌≡◌, ◌≢◌, ℕ, zero, suc, ◌+◌, ◌-◌, ◌<◌, ◌≤◌, ◌==◌, Bool, true, false, List, [], ◌∷◌, ◌++◌, map, length, get_or, replicate, Option, Some, None, inl, inr, refl, sym, ap, ◌∙◌, subst, arith, ⊎_elim, append-nil, append_assoc}
+use Rattle.std.specs.Prelude.{not, ◌&&◌, ◌||◌, if◌then◌else◌, is_some, nat_lt, fold, filter, slice_set}
+use Rattle.std.proofs.lemmas.Bool.{cases_lt, eqb-true, and_from}
 use Rattle.std.proofs.lemmas.Bool.Decides.{nat_tests}
 use Rattle.chp_base.specs.declared.channel.Channel.{Channel}
 use Rattle.chp_base.specs.declared.channel.Kind.TheVariants.{In}
-use Rattle.chp_syntax.specs.declared.tree.Op.{Op}
 use Rattle.prs_core.specs.declared.wires.Wires.{Wires as NetWires}
-use Rattle.prs_core.specs.Nets.{NetValue}
 use Rattle.prs_core.specs.Pairs.{rails_of}
-use Rattle.prs_core.specs.Moves.{high, both_ways, rail_value_of, neutral}
+use Rattle.prs_core.specs.Moves.{high, both_ways, neutral}
 use Rattle.env_script.specs.Scripts.{OfferValue, IsScript}
 use Rattle.env_script.specs.Environment.{valid}
 use Rattle.env_script.specs.Phases.{rail_keeps, rails_keep, ack_keeps, phases_keep, phase_fault}
-use Rattle.env_script.specs.Runs.{RunState, history_at, move_enabled, moved as moved_flat, IsRun, after, begin_at, IsAtRest as IsAtRestFlat, IsApart, IsSafeMove, IsSafeRun}
+use Rattle.env_script.specs.Runs.{RunState, history_at, move_enabled, moved as moved_flat, IsRun, after, begin_at, IsAtRest as IsAtRestFlat, IsApart, IsSafeRun}
 use Rattle.width_check.specs.Processes.{Process, skipping, assigning, sending, receiving, in_turn, side_by_side, choosing, repeating, Processes, no_members, and_member, TypedProgram}
 use Rattle.width_check.specs.Typing.{IsTyped, channel_width}
 use Rattle.width_check.specs.Sharing.{Occurrence, Parallel, ParallelInside, MeetsSharing}
-use Rattle.chp_meaning.specs.Terms.{Place, places, finished}
+use Rattle.chp_meaning.specs.Terms.{Place, places}
 use Rattle.chp_meaning.specs.Steps.{Configuration, Step, Leads, no_step, one_step, start_of}
-use Rattle.chp_meaning.specs.Rounds.{round, rounds, rounds_from, step_at, is_enabled, enabled_places, taken}
+use Rattle.chp_meaning.specs.Rounds.{round, rounds, rounds_from, step_at, is_enabled, taken}
 use Rattle.chp_meaning.specs.Laws.{IsBehind, OneHistory, RoundsHold}
-use Rattle.handshake_expand.specs.Layout.{reads, channel_from, nodes_of, size_of, body_from, root_request, root_latch}
-use Rattle.circuit_places.specs.Covered.{Covered, IsNumber, IsCovered, AreCovered}
-use Rattle.circuit_places.specs.Circuit.{low, GuardedSpot, Spot, TurnSpot, child, latch, next, inner, of_skip, of_send, gate, in_members, of_loop, ask, in_body, in_last, in_member, in_later, gate_count, guarded_stands, stands, turn_stands}
-use Rattle.circuit_places.specs.Whole.{Whole, Node, go_node, own_node, rail_node, ack_node, is_node, rule_in, enabled, moved, first_of, value_on, neutral_on, Reaches, at_first, by_move}
-use Rattle.circuit_places.specs.Carried.{IsSafe, IsAtRest, IsSettled as IsSettledCells, IsCarried, CircuitsCarry}
-use Rattle.net_compose.specs.Translation.{translation, Sites, sites_in, sites_in_turn, hidden_high, vars_high, in_body as in_program, first_values, rails_at, ack_at, wires_from}
-use Rattle.net_compose.specs.Carries.{IsFollowing, IsSettled, IsCarrying, HasChannels, Carries}
-use Rattle.net_compose.proofs.FlatCells.{bits, low_bits, IsFine, IsFineTurn, rail_place}
-use Rattle.net_compose.proofs.FlatRules.{Stands}
+use Rattle.handshake_expand.specs.Layout.{channel_from, nodes_of, size_of, body_from, root_request, root_latch}
+use Rattle.circuit_places.specs.Covered.{Covered, IsCovered, AreCovered}
+use Rattle.circuit_places.specs.Circuit.{Spot, TurnSpot, child, latch, next, inner, of_skip, of_send, gate, in_members, of_loop, ask, in_body, in_last, in_member, in_later, gate_count, stands, turn_stands}
+use Rattle.circuit_places.specs.Whole.{Whole, Node, go_node, own_node, rail_node, ack_node, is_node, enabled, moved, first_of, neutral_on, Reaches, at_first, by_move}
+use Rattle.circuit_places.specs.Carried.{IsAtRest, IsCarried, CircuitsCarry}
+use Rattle.net_compose.specs.Translation.{translation, sites_in, sites_in_turn, hidden_high, vars_high, in_body as in_program, first_values, rails_at, ack_at, wires_from}
+use Rattle.net_compose.specs.Carries.{IsFollowing, IsSettled, IsCarrying, Carries}
+use Rattle.net_compose.proofs.FlatCells.{low_bits, IsFine, IsFineTurn, rail_place}
 use Rattle.net_compose.proofs.FlatWires.{value_is, neutral_is, rails_kept, position_none, length-wires_from, wires_are}
-use Rattle.net_compose.proofs.FlatNet.{Given, Shows, number_of, Fine, Numbered, node_at, enabled_is, apart_is, past_apart, past_end, after_move}
+use Rattle.net_compose.proofs.FlatNet.{Given, Shows, number_of, Fine, node_at, enabled_is, apart_is, past_apart, past_end, after_move}
 
 -- a covered program has no parallel places
 

@@ -6,7 +6,7 @@ use Rattle.std.proofs.lemmas.List.{get_or_append_left, set-append_left, set-appe
 use Rattle.width_check.specs.Processes.{Formula, constant, reading, joined, inverted, chained, compared, Process, skipping, assigning, sending, receiving, in_turn, side_by_side, choosing, repeating, Processes, no_members, and_member, TypedProgram}
 use Rattle.handshake_expand.specs.Layout.{formula_size, size_of, turn_size}
 use Rattle.circuit_places.specs.Covered.{IsNumber, IsCovered, AreCovered}
-use Rattle.circuit_places.specs.Circuit.{Pairs, side_of, gate_count, Guarded, Cells, TurnCells, low_pairs, low, low_turn, GuardedSpot, Spot, TurnSpot, child, latch, next, inner, of_skip, of_send, gate, in_members, of_loop, ask, in_body, in_last, in_member, in_later, turned_pairs, turned_guarded, turned, turned_turn}
+use Rattle.circuit_places.specs.Circuit.{Pairs, gate_count, Cells, TurnCells, low_pairs, low, low_turn, Spot, TurnSpot, child, latch, next, inner, of_skip, of_send, gate, in_members, of_loop, ask, in_body, in_last, in_member, in_later, turned_pairs, turned, turned_turn}
 
 -- an expression of a covered program is a number
 pub by_number : (Q : Formula → Type 0) → ((w v : ℕ) → Q (constant w v)) → (e : Formula) → IsNumber e → Q e

@@ -1,30 +1,27 @@
 -- The net of a covered program, read at its numbers, moves as its circuit of cells does.
-use Rattle.std.proofs.Common.{◌≡◌, ◌≢◌, ℕ, zero, suc, ◌+◌, ◌-◌, ◌*◌, ◌<◌, ◌≤◌, ◌==◌, Bool, true, false, List, [], ◌∷◌, ◌++◌, map, length, get_or, set, replicate, Option, Some, None, ◌⊎◌, inl, inr, refl, sym, ap, ◌∙◌, subst, arith, length-append, length-set, get_or-append-add, get_or-set_same, get_or-set_other, ⊎_elim}
-use Rattle.std.specs.Prelude.{not, ◌&&◌, ◌||◌, if◌then◌else◌, is_some, slice_set, All}
-use Rattle.std.specs.List.{list_any, list_all}
-use Rattle.std.proofs.lemmas.Bool.{cases_lt, cases_eq, eqb-true, eq-eqb, ne_eqb, cases_Bool}
-use Rattle.std.proofs.lemmas.List.{get_or_append_left, get_or_past}
-use Rattle.chp_base.specs.declared.channel.Channel.{Channel}
-use Rattle.chp_base.specs.declared.channel.Kind.TheVariants.{Out}
-use Rattle.prs_core.specs.Nets.{NodeRules, NetValue, up_of, down_of}
+use Rattle.std.proofs.Common.{◌≡◌, ◌≢◌, ℕ, zero, suc, ◌+◌, ◌-◌, ◌*◌, ◌<◌, ◌≤◌, ◌==◌, Bool, true, false, List, [], ◌∷◌, ◌++◌, map, length, get_or, set, Option, Some, None, ◌⊎◌, inl, inr, refl, sym, ap, ◌∙◌, subst, arith, length-append, length-set, get_or-append-add, get_or-set_same, get_or-set_other, ⊎_elim}
+use Rattle.std.specs.Prelude.{not, ◌&&◌, ◌||◌, if◌then◌else◌, is_some}
+use Rattle.std.specs.List.{list_any}
+use Rattle.std.proofs.lemmas.Bool.{cases_lt, cases_eq, eqb-true, eq-eqb, ne_eqb}
+use Rattle.std.proofs.lemmas.List.{get_or_past}
+use Rattle.prs_core.specs.Nets.{NodeRules, up_of, down_of}
 use Rattle.prs_core.specs.Pairs.{rails_of, no_rules, or_of}
 use Rattle.prs_core.specs.Moves.{high, guard_holds, rule_enabled, both_ways, fired, rail_value_of, neutral}
-use Rattle.env_script.specs.Scripts.{OfferValue, takes, offer_at, is_over, IsScript}
+use Rattle.env_script.specs.Scripts.{OfferValue, offer_at, is_over, IsScript}
 use Rattle.env_script.specs.Environment.{env_enabled, channels_move, valid}
-use Rattle.env_script.specs.Runs.{RunState, history_at, completed, move_enabled, moved as moved_flat, histories_after as histories_flat, with_values}
-use Rattle.width_check.specs.Processes.{Process, TypedProgram}
-use Rattle.width_check.specs.Typing.{IsProcess, IsTyped, channel_width}
-use Rattle.handshake_expand.specs.Layout.{size_of, wires_size, wires_before, channel_from, vars_from, var_from, blocks_before, root_request, root_latch, body_from, nodes_of, go_node as go_number}
-use Rattle.handshake_expand.specs.Answers as number
+use Rattle.env_script.specs.Runs.{RunState, history_at, completed, move_enabled, moved as moved_flat}
+use Rattle.width_check.specs.Processes.{TypedProgram}
+use Rattle.width_check.specs.Typing.{IsProcess, channel_width}
+use Rattle.handshake_expand.specs.Layout.{wires_before, channel_from, blocks_before, root_request, root_latch, body_from, nodes_of, go_node as go_number}
 use Rattle.cell_sequence.specs.Sequence.{q_child, q_latch, q_next}
-use Rattle.circuit_places.specs.Covered.{Covered, IsCovered}
-use Rattle.circuit_places.specs.Circuit.{Guarded, Cells, answer, GuardedSpot, Spot, child, latch, next, inner, Rule, rule_of, no_rule, fires, is_apart, turns, Wires, same_bit, guarded_rule, rule, turned, turned_guarded, site_rails}
-use Rattle.circuit_places.specs.Whole.{Whole, Node, go_node, own_node, rail_node, ack_node, merged, all_low, rule_in, receives, answers, env_moves, enabled, moved, ack_turned, rail_turned, passed, value_on, neutral_on}
+use Rattle.circuit_places.specs.Covered.{IsCovered}
+use Rattle.circuit_places.specs.Circuit.{answer, GuardedSpot, child, latch, next, inner, Rule, no_rule, fires, is_apart, same_bit, guarded_rule, rule, site_rails}
+use Rattle.circuit_places.specs.Whole.{Whole, Node, go_node, own_node, rail_node, ack_node, merged, all_low, rule_in, answers, env_moves, enabled, moved, passed, value_on, neutral_on}
 use Rattle.net_compose.specs.Translation.{translation, all_rules, channels_rules, vars_rules, rules_of, in_body, send_site, rails_at, ack_at, wires_from, body_answer}
-use Rattle.net_compose.proofs.FlatCells.{bits, place, IsFine, length-bits, place_lt, rail_place, rail_place_lt, turned_is, AtPlace, spot_of}
-use Rattle.net_compose.proofs.FlatRules.{Stands, Told, one_high, one_low, high_and_low, or_up, or_down, length-rules, answer_is, rule_is}
+use Rattle.net_compose.proofs.FlatCells.{bits, place, IsFine, length-bits, place_lt, rail_place, turned_is, spot_of}
+use Rattle.net_compose.proofs.FlatRules.{Stands, one_high, one_low, high_and_low, or_up, or_down, length-rules, answer_is, rule_is}
 use Rattle.net_compose.proofs.FlatSites.{at_site, sites_are}
-use Rattle.net_compose.proofs.FlatWires.{wires_below, Wire, a_rail, an_ack, wire_of, rail_same, ack_same, rail_no_ack, rail_bounds, ack_bounds, length-channels_rules, AllOut, rail_rules_at, ack_rules_at, value_is, neutral_is, takes_at, Takes, moves_none, moves_some, values_none, values_some}
+use Rattle.net_compose.proofs.FlatWires.{Wire, a_rail, an_ack, wire_of, rail_same, ack_same, rail_no_ack, rail_bounds, ack_bounds, length-channels_rules, AllOut, rail_rules_at, ack_rules_at, value_is, neutral_is, takes_at, moves_none, moves_some, values_none, values_some}
 
 -- the two guards of a node of the net are those of its rules
 up_told : (xs : List NodeRules) (n : ℕ) → get_or (map (λ (r : NodeRules). r.up) xs) n [] ≡ (get_or xs n no_rules).up

@@ -1,22 +1,22 @@
 -- What the guards of a covered circuit's own nodes say, read at their numbers, is what the rules of its cells say.
-use Rattle.std.proofs.Common.{◌≡◌, ℕ, zero, suc, ◌+◌, ◌*◌, ◌/◌, ◌%◌, ◌<◌, ◌≤◌, ◌==◌, Bool, true, false, List, [], ◌∷◌, ◌++◌, map, length, get_or, refl, sym, ap, ◌∙◌, arith, length-append, get_or-append-add}
-use Rattle.std.specs.Prelude.{not, ◌&&◌, ◌||◌, if◌then◌else◌}
+use Rattle.std.proofs.Common.{◌≡◌, ℕ, zero, suc, ◌+◌, ◌*◌, ◌/◌, ◌<◌, ◌≤◌, Bool, true, false, List, [], ◌∷◌, ◌++◌, map, length, get_or, refl, sym, ap, ◌∙◌, arith, length-append, get_or-append-add}
+use Rattle.std.specs.Prelude.{not, ◌&&◌, ◌||◌}
 use Rattle.std.specs.List.{list_any, list_all}
 use Rattle.std.proofs.lemmas.List.{get_or_append_left}
-use Rattle.prs_core.specs.Nets.{GuardValue, NodeRules, is_high, is_low, one_term}
-use Rattle.prs_core.specs.Pairs.{Pair, no_rules, or_of, lows, pair_at, pairs_from, pair_of}
-use Rattle.prs_core.specs.Moves.{literal_holds, term_holds, guard_holds}
+use Rattle.prs_core.specs.Nets.{NodeRules, is_high, is_low, one_term}
+use Rattle.prs_core.specs.Pairs.{no_rules, or_of, lows}
+use Rattle.prs_core.specs.Moves.{term_holds, guard_holds}
 use Rattle.env_script.specs.Environment.{is_odd}
-use Rattle.width_check.specs.Processes.{Formula, constant, reading, joined, inverted, chained, compared, Process, skipping, assigning, sending, receiving, in_turn, side_by_side, choosing, repeating, Processes, no_members, and_member, member_count, TypedProgram}
+use Rattle.width_check.specs.Processes.{Formula, Process, skipping, assigning, sending, receiving, in_turn, side_by_side, choosing, repeating, Processes, no_members, and_member, member_count, TypedProgram}
 use Rattle.width_check.specs.Typing.{IsProcess, AreProcesses}
 use Rattle.handshake_expand.specs.Layout.{formula_size, size_of, turn_size}
 use Rattle.handshake_expand.specs.Answers as number
 use Rattle.function_blocks.specs.Expressions.{constant_bit, constant_bits, formula_rules}
 use Rattle.circuit_places.specs.Covered.{IsNumber, IsCovered, AreCovered}
-use Rattle.circuit_places.specs.Circuit.{Pairs, side_of, gate_count, Guarded, Cells, TurnCells, answer, turn_answer, GuardedSpot, Spot, TurnSpot, child, latch, next, inner, of_skip, of_send, gate, in_members, of_loop, ask, in_body, in_last, in_member, in_later, Rule, rule_of, no_rule, Wires, same_bit, constant_rule, gate_rule, guarded_rule, rule, turn_rule}
+use Rattle.circuit_places.specs.Circuit.{Pairs, side_of, gate_count, Cells, TurnCells, answer, turn_answer, Spot, TurnSpot, child, latch, next, inner, of_skip, of_send, gate, in_members, of_loop, ask, in_body, in_last, in_member, in_later, Rule, rule_of, Wires, same_bit, constant_rule, gate_rule, rule, turn_rule}
 use Rattle.circuit_places.specs.Whole.{all_low}
-use Rattle.net_compose.specs.Translation.{rules_of, turn_rules, q_rules, bits_at, ack_at}
-use Rattle.net_compose.proofs.FlatCells.{by_number, pair_bits, rail_place, rail_place_is, rail_place_lt, bits, turn_bits, place, turn_place, IsFine, IsFineTurn, length-bits, place_lt}
+use Rattle.net_compose.specs.Translation.{rules_of, turn_rules, bits_at, ack_at}
+use Rattle.net_compose.proofs.FlatCells.{by_number, pair_bits, rail_place, bits, turn_bits, place, turn_place, IsFine, IsFineTurn, length-bits, place_lt}
 
 -- the nodes from a number on have these values
 pub record Stands (v : ℕ → Bool) (from : ℕ) (xs : List Bool) : Type 0 where

@@ -1,15 +1,15 @@
 -- The rails that a channel merges, read at their numbers, are those of its sites.
 use Rattle.std.proofs.Common.{◌≡◌, ℕ, zero, suc, ◌+◌, ◌<◌, ◌==◌, Bool, true, false, List, [], ◌∷◌, ◌++◌, map, refl, sym, ap, ◌∙◌, arith}
 use Rattle.std.specs.Prelude.{if◌then◌else◌}
-use Rattle.std.proofs.lemmas.Bool.{eqb-true, cases_Bool}
-use Rattle.prs_core.specs.Pairs.{Pair, pair_at, pairs_from, pair_of}
-use Rattle.width_check.specs.Processes.{Formula, constant, Process, skipping, assigning, sending, receiving, in_turn, side_by_side, choosing, repeating, Processes, no_members, and_member, TypedProgram}
+use Rattle.std.proofs.lemmas.Bool.{eqb-true}
+use Rattle.prs_core.specs.Pairs.{Pair, pairs_from, pair_of}
+use Rattle.width_check.specs.Processes.{Formula, Process, skipping, assigning, sending, receiving, in_turn, side_by_side, choosing, repeating, Processes, no_members, and_member, TypedProgram}
 use Rattle.width_check.specs.Values.{width_of}
 use Rattle.width_check.specs.Typing.{IsProcess, AreProcesses, channel_width}
 use Rattle.handshake_expand.specs.Layout.{size_of}
 use Rattle.function_blocks.specs.Expressions.{formula_result}
 use Rattle.circuit_places.specs.Covered.{IsNumber, IsCovered, AreCovered}
-use Rattle.circuit_places.specs.Circuit.{Pairs, side_of, gate_count, Cells, TurnCells, rail_in, result_rail, site_rails, turn_rails}
+use Rattle.circuit_places.specs.Circuit.{Pairs, gate_count, Cells, TurnCells, rail_in, result_rail, site_rails, turn_rails}
 use Rattle.net_compose.specs.Translation.{sites_in, sites_in_turn, send_site}
 use Rattle.net_compose.proofs.FlatCells.{by_number, pair_bits, bits, turn_bits}
 use Rattle.net_compose.proofs.FlatRules.{Stands, stands_after, stands_head, stands_member, stands_later, stands_body}

@@ -1,29 +1,27 @@
 -- The wires of channels: where they are numbered, their rules, what the environment may move, and what passes.
-use Rattle.std.proofs.Common.{◌≡◌, ◌≢◌, ℕ, zero, suc, ◌+◌, ◌-◌, ◌*◌, ◌<◌, ◌≤◌, ◌==◌, Bool, true, false, List, [], ◌∷◌, ◌++◌, map, length, get_or, replicate, Option, Some, None, ◌⊎◌, inl, inr, refl, sym, ap, ◌∙◌, subst, arith, length-append, append_assoc, get_or-append-add, ⊎_elim, cond}
-use Rattle.std.specs.Prelude.{not, ◌&&◌, ◌||◌, if◌then◌else◌, is_some, position, slice_set, nat_lt, option_map, All}
-use Rattle.std.specs.List.{list_any, list_all, position_or_len}
+use Rattle.std.proofs.Common.{◌≡◌, ◌≢◌, ℕ, zero, suc, ◌+◌, ◌-◌, ◌*◌, ◌<◌, ◌≤◌, ◌==◌, Bool, true, false, List, [], ◌∷◌, ◌++◌, map, length, get_or, Option, Some, None, refl, sym, ap, ◌∙◌, subst, arith, length-append, append_assoc, get_or-append-add, ⊎_elim, cond}
+use Rattle.std.specs.Prelude.{not, ◌&&◌, ◌||◌, if◌then◌else◌, position, nat_lt, All}
+use Rattle.std.specs.List.{position_or_len}
 use Rattle.std.proofs.lemmas.Bool.{cases_lt, cases_eq, eqb-true, eq-eqb, ne_eqb}
 use Rattle.std.proofs.lemmas.Bool.Decides.{nat_tests}
 use Rattle.std.proofs.lemmas.List.{get_or_append_left}
 use Rattle.std.proofs.lemmas.List.Elements.{All-head, All-tail}
 use Rattle.std.proofs.lemmas.List.Sums.{position_or_len_is}
 use Rattle.chp_base.specs.declared.channel.Channel.{Channel}
-use Rattle.chp_base.specs.declared.channel.Kind.{Kind}
-use Rattle.chp_base.specs.declared.channel.Kind.TheVariants.{In, Out, Chan}
+use Rattle.chp_base.specs.declared.channel.Kind.TheVariants.{Out}
 use Rattle.prs_core.specs.declared.wires.Wires.{Wires as NetWires}
 use Rattle.prs_core.specs.Nets.{NodeRules}
 use Rattle.prs_core.specs.Moves.{bit_value, with_bit, rail_value_of, neutral}
-use Rattle.prs_core.specs.Pairs.{Pair, pair_at, pairs_from, rails_of, no_rules, or_of}
+use Rattle.prs_core.specs.Pairs.{Pair, pairs_from, rails_of, no_rules, or_of}
 use Rattle.env_script.specs.declared.script.Count.{Count}
 use Rattle.env_script.specs.Scripts.{OfferValue, gives, takes, nothing, offer_at, is_over, Suits, IsScript}
-use Rattle.env_script.specs.Environment.{offer_moves, receiver_moves, channels_move, valid}
-use Rattle.env_script.specs.Phases.{rail_keeps, pair_keeps, rails_keep}
-use Rattle.env_script.specs.Runs.{history_at, completes, with_value, with_values}
+use Rattle.env_script.specs.Environment.{offer_moves, channels_move, valid}
+use Rattle.env_script.specs.Phases.{rail_keeps, rails_keep}
+use Rattle.env_script.specs.Runs.{completes, with_value, with_values}
 use Rattle.width_check.specs.Processes.{TypedProgram}
 use Rattle.width_check.specs.Typing.{channel_width}
 use Rattle.handshake_expand.specs.Layout.{wires_size, wires_before, channel_from}
-use Rattle.circuit_places.specs.Circuit.{Wires}
-use Rattle.circuit_places.specs.Whole.{value_on, neutral_on, receives, answers, passed}
+use Rattle.circuit_places.specs.Whole.{value_on, neutral_on, passed}
 use Rattle.net_compose.specs.Translation.{rails_at, ack_at, in_body, send_site, rail_rules, channel_rules, channels_rules, wires_from}
 use Rattle.net_compose.proofs.FlatCells.{rail_place, rail_place_lt, rail_of}
 use Rattle.net_compose.proofs.FlatSites.{at_site}

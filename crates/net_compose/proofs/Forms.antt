@@ -1,7 +1,7 @@
 -- The programs that are compiled so far are accepted, typed and covered.
-use Rattle.std.proofs.Common.{◌≡◌, ℕ, Bool, true, false, List, [], ◌∷◌, Some, ◌⊎◌, inl, inr, refl, sym, ap, ◌∙◌, subst, arith}
-use Rattle.std.specs.Prelude.{◌&&◌, ◌||◌, Contains, is_some, Option, None}
-use Rattle.std.proofs.lemmas.Bool.{and_parts, or_cases}
+use Rattle.std.proofs.Common.{◌≡◌, ℕ, Bool, true, false, List, [], ◌∷◌, inl, inr, refl, sym, ap, ◌∙◌, subst, arith}
+use Rattle.std.specs.Prelude.{◌&&◌, ◌||◌, Contains, is_some}
+use Rattle.std.proofs.lemmas.Bool.{and_parts}
 use Rattle.chp_base.specs.declared.span.Span.{Span}
 use Rattle.chp_base.specs.declared.fault.FaultCode.TheVariants as code
 use Rattle.chp_base.specs.Names.{IsName}
@@ -18,7 +18,7 @@ use Rattle.width_check.specs.Faults.{FaultAt}
 use Rattle.width_check.specs.Accepted.{IsAccepted}
 use Rattle.circuit_places.specs.Covered.{Covered}
 use Rattle.net_compose.specs.Carries.{idle, Carries}
-use Rattle.net_compose.specs.Built.{does_nothing, is_none, is_bit_out, bit_sent, is_idle, sends_bit, is_bit_form, is_built, IsBitForm, bit_program}
+use Rattle.net_compose.specs.Built.{does_nothing, is_none, bit_sent, is_idle, sends_bit, is_bit_form, is_built, IsBitForm, bit_program}
 use Rattle.net_compose.specs.Translation.{translation}
 use Rattle.net_compose.proofs.BitAccepted.{bit_told, sent_told, typed_is, accepted_is, bit_typed, bit_covered}
 

@@ -1,13 +1,13 @@
 -- The guards of a net with a reset node: over its nodes, with no empty term, and not many literals more.
-use Rattle.std.proofs.Common.{◌≡◌, ℕ, zero, suc, ◌+◌, ◌-◌, ◌*◌, ◌<◌, ◌≤◌, Bool, true, false, not, List, [], ◌∷◌, ◌++◌, length, get_or, map, refl, ap, sym, ◌∙◌, inl, inr, arith, length-append}
-use Rattle.std.specs.Prelude.{All, sum_by, ◌⊎◌}
-use Rattle.std.proofs.lemmas.List.Elements.{All-append, All-cons, All-nil, All-map, All-weaker, All-head, All-tail, All-push, All-get_or}
+use Rattle.std.proofs.Common.{ℕ, ◌+◌, ◌*◌, ◌<◌, ◌≤◌, Bool, true, false, not, List, [], ◌∷◌, ◌++◌, length, get_or, inl, inr, arith}
+use Rattle.std.specs.Prelude.{All, ◌⊎◌}
+use Rattle.std.proofs.lemmas.List.Elements.{All-cons, All-nil, All-map, All-weaker, All-head, All-tail, All-push, All-get_or}
 use Rattle.std.proofs.lemmas.List.Sums.{sum_by-cons, sum_by_push}
 use Rattle.std.proofs.lemmas.List.{get_or_past, length_push}
 use Rattle.std.proofs.lemmas.Bool.{cases_lt}
 use Rattle.prs_core.specs.declared.rule.Literal.{Literal}
-use Rattle.prs_core.specs.Nets.{GuardValue, NetValue, IsNet, IsBelow, IsFilled, guard_literals, first_at, up_of, down_of}
-use Rattle.reset_net.specs.Resets.{reset_literal, held, forced, has_rules, reset_guard, reset_up, reset_down}
+use Rattle.prs_core.specs.Nets.{GuardValue, IsBelow, IsFilled, guard_literals}
+use Rattle.reset_net.specs.Resets.{reset_literal, held, forced, reset_guard}
 
 abbrev TermBelow : ℕ → List Literal → Type 0
 TermBelow count t = All (λ (l : Literal). l.node < count) t

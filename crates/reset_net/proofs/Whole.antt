@@ -1,9 +1,9 @@
 -- The net with a reset node is a net.
-use Rattle.std.proofs.Common.{◌≡◌, ℕ, zero, suc, ◌+◌, ◌-◌, ◌*◌, ◌<◌, ◌≤◌, Bool, true, false, cond, not, List, [], ◌∷◌, ◌++◌, length, get_or, map, Option, Some, None, refl, ap, sym, subst, ◌∙◌, arith, length-append}
-use Rattle.std.specs.Prelude.{◌≢◌, All, AllPairs, sum_by, codes}
-use Rattle.std.specs.List.{flat_map, range_with_len}
+use Rattle.std.proofs.Common.{◌≡◌, ℕ, ◌+◌, ◌-◌, ◌*◌, ◌<◌, ◌≤◌, Bool, true, false, cond, not, List, [], ◌∷◌, ◌++◌, length, get_or, map, Some, None, refl, ap, sym, ◌∙◌, arith}
+use Rattle.std.specs.Prelude.{◌≢◌, All, sum_by, codes}
+use Rattle.std.specs.List.{range_with_len}
 use Rattle.std.proofs.lemmas.List.{get_or_append_left, get_or_push, length_push}
-use Rattle.std.proofs.lemmas.List.Elements.{All-push, All-map, All-weaker, All-get_or, All-nil, All-cons, All-head, All-tail}
+use Rattle.std.proofs.lemmas.List.Elements.{All-push, All-map, All-weaker, All-nil, All-cons, All-head, All-tail}
 use Rattle.std.proofs.lemmas.List.Quantifiers.{all_pairs_push}
 use Rattle.std.proofs.lemmas.List.Sums.{sum_by-cons, sum_by_push}
 use Rattle.std.proofs.lemmas.List.FromFn.{length-map-range_with_len, get_or-map-range_with_len, fill_by_all, length-range_with_len}
@@ -11,7 +11,7 @@ use Rattle.chp_base.specs.Names.{IsNodeName}
 use Rattle.chp_base.specs.declared.channel.Kind.{Kind}
 use Rattle.chp_base.specs.declared.channel.Kind.TheVariants.{In, Out, Chan}
 use Rattle.prs_core.specs.declared.wires.Wires.{Wires}
-use Rattle.prs_core.specs.Nets.{GuardValue, NetValue, RulesValue, IsNet, IsBelow, IsFilled, IsUndriven, IsChannel, IsResetNode, guard_literals, literals_of, name_at, first_at, up_of, down_of, net_of, rules_of, wires_from_outside}
+use Rattle.prs_core.specs.Nets.{GuardValue, NetValue, RulesValue, IsNet, IsBelow, IsFilled, IsUndriven, IsChannel, guard_literals, literals_of, name_at, first_at, up_of, down_of, net_of, rules_of, wires_from_outside}
 use Rattle.reset_net.specs.Resets.{reset_guard, reset_up, reset_down, reset_of, has_rules}
 use Rattle.reset_net.proofs.Guards.{at_each, guard_below, guard_filled, both_literals, nothing_below}
 

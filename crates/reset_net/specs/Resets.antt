@@ -1,5 +1,5 @@
 -- A net that is right from every power-up state: while its reset node is high, each node is driven to its first value.
-use Rattle.std.specs.Prelude.{ℕ, Bool, true, false, not, List, [], ◌∷◌, ◌++◌, length, map, Option, Some, codes, if◌then◌else◌}
+use Rattle.std.specs.Prelude.{ℕ, Bool, true, false, not, [], ◌∷◌, ◌++◌, length, map, Some, codes, if◌then◌else◌}
 use Rattle.std.specs.List.{range_with_len}
 use Rattle.prs_core.specs.declared.rule.Literal.{Literal}
 use Rattle.prs_core.specs.Nets.{GuardValue, NetValue, first_at, up_of, down_of}

@@ -1,4 +1,4 @@
-use Rattle.std.proofs.Common.{◌≡◌, ◌+◌, ◌<◌, ◌≤◌, length, ap, ◌∙◌, arith}
+use Rattle.std.proofs.Common.{◌≡◌, ◌+◌, ◌<◌, length, ap, ◌∙◌, arith}
 use Rattle.prs_core.specs.Nets.{RulesValue}
 use Rattle.reset_net.specs.Resets.{reset_up, reset_down}
 use Rattle.reset_net.proofs.Laid.{laid, laid_count, laid_step}
