@@ -17,4 +17,4 @@ pub mod Clearing
 pub mod NextRound
 pub mod RoundAnswers
 pub mod Starting
-pub mod ByHand
+pub mod Stages

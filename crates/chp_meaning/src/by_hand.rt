@@ -1,24 +1,37 @@
 //! Programs made by hand, for the tests.
 
-ghost use Rattle.std.specs.Prelude.{◌≡◌, ◌+◌, ◌<◌, ◌≤◌, ◌^◌, ℕ, length, IfOk, true, false};
-ghost use Rattle.width_check.specs.Values.{width_of, IsWellFormed, is_comparison};
+ghost use Rattle.std.specs.Prelude.{◌≡◌, ◌+◌, ◌<◌, ◌≤◌, ◌^◌, [], IfOk};
+ghost use Rattle.width_check.specs.Processes.{reading, sending, receiving, repeating};
+ghost use Rattle.width_check.specs.Sharing.{MeetsSharing, reads_of};
 ghost use Rattle.width_check.specs.View.{formula_of, process_of};
-ghost use Rattle.chp_meaning.specs.Remaining.{IsRunnable, ChoicesRunnable, choices_of};
+ghost use Rattle.chp_meaning.specs.Apart.{IsSequential, AreSequential, IsStage, both, alongside_it, here};
+ghost use Rattle.chp_meaning.specs.Remaining.{choices_of};
 
-use chp_base::{Bits, Span};
+use chp_base::{Bits, Channel, Kind, Span, name_of};
 use chp_syntax::Op;
 use std::alloc::{AllocError, Global};
-use width_check::{TArm, TExpr, TLink, TStmt};
+use std::test::Fail;
+use width_check::{TArm, TExpr, TLink, TStmt, Var};
 
-fn at() -> Span {
+fn at() -> Span
+    ensures { result ≡ here }
+{
     Span { from: 0, to: 1 }
+}
+
+pub(crate) fn channel(alloc: Global, name: &[u8], kind: Kind, width: u8) -> Result<Channel, Fail> {
+    let name = name_of(alloc, name)?.ok_or("no name")?;
+    Ok(Channel { name, kind, width })
+}
+
+pub(crate) fn var(alloc: Global, name: &[u8], width: u8, first: u64) -> Result<Var, Fail> {
+    let name = name_of(alloc, name)?.ok_or("no name")?;
+    Ok(Var { name, width, first })
 }
 
 /// The bits from `high` down of a variable.
 pub(crate) fn read(var: u32, high: u8) -> TExpr
-    requires { high ≤ 63 }
-    ensures formed { IsWellFormed (formula_of result) }
-    ensures width { width_of (formula_of result) ≡ high + 1 }
+    ensures { formula_of result ≡ reading var high 0 here }
 {
     TExpr::Read {
         var,
@@ -32,8 +45,7 @@ pub(crate) fn number(width: u8, value: u64) -> TExpr
     requires some { 1 ≤ width }
     requires most { width ≤ 64 }
     requires fits { value < 2 ^ width }
-    ensures formed { IsWellFormed (formula_of result) }
-    ensures width { width_of (formula_of result) ≡ width }
+    ensures { reads_of (formula_of result) ≡ [] }
 {
     match Bits::new(width, value) {
         Some(bits) => TExpr::Number { bits },
@@ -41,24 +53,18 @@ pub(crate) fn number(width: u8, value: u64) -> TExpr
     }
 }
 
-pub(crate) fn compare(alloc: Global, op: Op, left: TExpr, right: TExpr) -> Result<TExpr, AllocError>
-    requires op { is_comparison op ≡ true }
-    requires widths { width_of (formula_of right) ≡ width_of (formula_of left) }
-    requires left { IsWellFormed (formula_of left) }
-    requires right { IsWellFormed (formula_of right) }
-    ensures { IfOk result (λ e. IsWellFormed (formula_of e)) }
-{
+pub(crate) fn compare(
+    alloc: Global,
+    op: Op,
+    left: TExpr,
+    right: TExpr,
+) -> Result<TExpr, AllocError> {
     let left = Box::new(alloc, left)?;
     let right = Box::new(alloc, right)?;
     Ok(TExpr::Compare { op, left, right })
 }
 
-pub(crate) fn plus(alloc: Global, left: TExpr, right: TExpr) -> Result<TExpr, AllocError>
-    requires widths { width_of (formula_of right) ≡ width_of (formula_of left) }
-    requires left { IsWellFormed (formula_of left) }
-    requires right { IsWellFormed (formula_of right) }
-    ensures { IfOk result (λ e. IsWellFormed (formula_of e)) }
-{
+pub(crate) fn plus(alloc: Global, left: TExpr, right: TExpr) -> Result<TExpr, AllocError> {
     let first = Box::new(alloc, left)?;
     let mut rest = Vec::new(alloc);
     rest.push(TLink { op: Op::Add, right })?;
@@ -66,8 +72,7 @@ pub(crate) fn plus(alloc: Global, left: TExpr, right: TExpr) -> Result<TExpr, Al
 }
 
 pub(crate) fn assign(var: u32, value: TExpr) -> TStmt
-    requires { IsWellFormed (formula_of value) }
-    ensures { (n m : ℕ) → var < m → IsRunnable n m (process_of result) }
+    ensures { IsSequential (process_of result) }
 {
     TStmt::Assign {
         var,
@@ -77,8 +82,8 @@ pub(crate) fn assign(var: u32, value: TExpr) -> TStmt
 }
 
 pub(crate) fn send(chan: u32, value: TExpr) -> TStmt
-    requires { IsWellFormed (formula_of value) }
-    ensures { (n m : ℕ) → chan < n → IsRunnable n m (process_of result) }
+    ensures made { process_of result ≡ sending chan here (formula_of value) }
+    ensures sequential { IsSequential (process_of result) }
 {
     TStmt::Send {
         chan,
@@ -88,7 +93,8 @@ pub(crate) fn send(chan: u32, value: TExpr) -> TStmt
 }
 
 pub(crate) fn receive(chan: u32, var: u32) -> TStmt
-    ensures { (n m : ℕ) → chan < n → var < m → IsRunnable n m (process_of result) }
+    ensures made { process_of result ≡ receiving chan here var here }
+    ensures sequential { IsSequential (process_of result) }
 {
     TStmt::Receive {
         chan,
@@ -100,7 +106,8 @@ pub(crate) fn receive(chan: u32, var: u32) -> TStmt
 
 /// `S; T`
 pub(crate) fn in_turn(alloc: Global, first: TStmt, second: TStmt) -> Result<TStmt, AllocError>
-    ensures { IfOk result (λ s. (n m : ℕ) → IsRunnable n m (process_of first) → IsRunnable n m (process_of second) → IsRunnable n m (process_of s)) }
+    ensures made { IfOk result (λ s. process_of s ≡ both (process_of first) (process_of second)) }
+    ensures sequential { IfOk result (λ s. IsSequential (process_of first) → IsSequential (process_of second) → IsSequential (process_of s)) }
 {
     let mut parts = Vec::new(alloc);
     parts.push(first)?;
@@ -109,8 +116,8 @@ pub(crate) fn in_turn(alloc: Global, first: TStmt, second: TStmt) -> Result<TStm
 }
 
 /// `S || T`
-pub(crate) fn beside(alloc: Global, first: TStmt, second: TStmt) -> Result<TStmt, AllocError>
-    ensures { IfOk result (λ s. (n m : ℕ) → IsRunnable n m (process_of first) → IsRunnable n m (process_of second) → IsRunnable n m (process_of s)) }
+fn beside(alloc: Global, first: TStmt, second: TStmt) -> Result<TStmt, AllocError>
+    ensures { IfOk result (λ s. process_of s ≡ alongside_it (process_of first) (process_of second)) }
 {
     let mut parts = Vec::new(alloc);
     parts.push(first)?;
@@ -120,7 +127,8 @@ pub(crate) fn beside(alloc: Global, first: TStmt, second: TStmt) -> Result<TStmt
 
 /// `*[S]`
 pub(crate) fn repeat(alloc: Global, body: TStmt) -> Result<TStmt, AllocError>
-    ensures { IfOk result (λ s. (n m : ℕ) → IsRunnable n m (process_of body) → IsRunnable n m (process_of s)) }
+    ensures made { IfOk result (λ s. process_of s ≡ repeating (process_of body)) }
+    ensures sequential { IfOk result (λ s. IsSequential (process_of body) → IsSequential (process_of s)) }
 {
     let body = Box::new(alloc, body)?;
     Ok(TStmt::Repeat { body })
@@ -128,24 +136,36 @@ pub(crate) fn repeat(alloc: Global, body: TStmt) -> Result<TStmt, AllocError>
 
 /// A selection, or a guarded repetition.
 pub(crate) fn select(again: bool, arms: Vec<TArm>) -> TStmt
-    ensures { (n m : ℕ) → ChoicesRunnable n m (choices_of arms.items) → IsRunnable n m (process_of result) }
+    ensures { AreSequential (choices_of arms.items) → IsSequential (process_of result) }
 {
     TStmt::Select { again, arms }
+}
+
+/// `(skip; X?v) || X!1`
+pub(crate) fn meets_late(alloc: Global) -> Result<TStmt, AllocError>
+    ensures { IfOk result (λ s. MeetsSharing (process_of s)) }
+{
+    let late = in_turn(alloc, TStmt::Skip, receive(0, 0))?;
+    beside(alloc, late, send(0, number(1, 1)))
+}
+
+/// `*[L?x; R!x]` with the channels of these numbers and the variable of L's number, of 4 bits.
+pub(crate) fn copies(alloc: Global, from: u32, to: u32) -> Result<TStmt, AllocError>
+    ensures sequential { IfOk result (λ s. IsSequential (process_of s)) }
+    ensures stage { IfOk result (λ s. to ≡ from + 1 → IsStage from (process_of s)) }
+{
+    let copy = in_turn(alloc, receive(from, from), send(to, read(from, 3)))?;
+    repeat(alloc, copy)
 }
 
 /// Stages `*[L?x; R!x]` in a row, each of which sends to the next one, with one variable each.
 pub(crate) fn pipeline(alloc: Global, stages: u32) -> Result<TStmt, AllocError>
     requires { stages < 1000 }
-    ensures { IfOk result (λ s. (n m : ℕ) → 0 < stages → stages < n → stages ≤ m → IsRunnable n m (process_of s)) }
+    ensures { IfOk result (λ s. MeetsSharing (process_of s)) }
 {
     let mut parts = Vec::new(alloc);
     for stage in 0..stages {
-        let copy = in_turn(
-            alloc,
-            receive(stage, stage),
-            send(stage + 1, read(stage, 3)),
-        )?;
-        parts.push(repeat(alloc, copy)?)?;
+        parts.push(copies(alloc, stage, stage + 1)?)?;
     }
     Ok(TStmt::Beside { parts })
 }

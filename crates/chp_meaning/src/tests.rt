@@ -1,36 +1,67 @@
 //! Rounds of programs made by hand.
 
-ghost use Rattle.std.specs.Prelude.{◌≡◌, ◌<◌, ◌≤◌, ℕ, length, IfOk};
+ghost use Rattle.std.specs.Prelude.{◌≡◌, ◌≤◌, length, IfOk};
+ghost use Rattle.width_check.specs.Sharing.{MeetsSharing};
 ghost use Rattle.width_check.specs.View.{process_of};
-ghost use Rattle.chp_meaning.specs.AtOnce.{held};
-ghost use Rattle.chp_meaning.specs.Remaining.{IsRunnable};
-ghost use Rattle.chp_meaning.specs.Standing.{IsStanding, histories_of};
+ghost use Rattle.chp_meaning.specs.Apart.{IsSequential};
+ghost use Rattle.chp_meaning.specs.Ends.{seen, held_in, IsOf};
 
 use crate::by_hand::{
-    assign, beside, compare, in_turn, number, pipeline, plus, read, receive, repeat, select, send,
+    assign, channel, compare, copies, in_turn, meets_late, number, pipeline, plus, read, receive,
+    select, send, var,
 };
-use crate::config::{Config, begun};
-use crate::run::{RunEnd, run_of};
+use crate::{Config, RunEnd, round, run_rounds, start};
+use chp_base::{Channel, Kind};
 use chp_syntax::Op;
-use env_script::{Count, Offer, Script};
+use env_script::{ScriptError, read_script};
 use std::alloc::{AllocError, Global};
-use width_check::{TArm, TStmt};
+use std::test::Fail;
+use width_check::{TArm, TStmt, Typed, Var};
+
+/// The program of these parts.
+fn program(channels: Vec<Channel>, vars: Vec<Var>, body: TStmt) -> Result<Typed, Fail>
+    ensures { IfOk result (λ p. p.body ≡ body) }
+{
+    match Typed::new(channels, vars, body) {
+        Some(program) => Ok(program),
+        None => Err("no program".into()),
+    }
+}
+
+/// The program of these parts, without parallel composition.
+fn sequential(channels: Vec<Channel>, vars: Vec<Var>, body: TStmt) -> Result<Typed, Fail>
+    requires { IsSequential (process_of body) }
+    ensures { IfOk result (λ p. MeetsSharing (process_of p.body)) }
+{
+    program(channels, vars, body)
+}
+
+/// The program under the script of this text, before its first step.
+fn begin(alloc: Global, program: &Typed, script: &[u8]) -> Result<Config, Fail>
+    requires { length script.now ≤ 2097152 }
+    ensures of { IfOk result (λ config. IsOf program.now config) }
+    ensures held { IfOk result (λ config. held_in (seen program.now config) ≡ 0) }
+{
+    let _typed = program.body();
+    match read_script(alloc, script, program.channels()) {
+        Ok(script) => Ok(start(alloc, program, &script)?),
+        Err(_) => Err("no script".into()),
+    }
+}
 
 /// How a run of so many rounds from the start ended, and the configuration after it.
-#[tactic(auto, using(crate::proofs::Starting::held_at_first))]
 fn run(
     alloc: Global,
-    first: Vec<u64>,
-    body: &TStmt,
-    offers: Vec<Offer>,
+    program: &Typed,
+    script: &[u8],
     n: u32,
     most: u32,
-) -> Result<(RunEnd, Config), AllocError>
-    requires { IsRunnable (length offers.items) (length first.items) (process_of body.now) }
+) -> Result<(RunEnd, Config), Fail>
+    requires script { length script.now ≤ 2097152 }
+    requires sharing { MeetsSharing (process_of program.now.body) }
 {
-    let channels = offers.len();
-    let mut config = begun(alloc, channels, first, body, &Script::new(offers))?;
-    let end = run_of(alloc, &mut config, body, n, most)?;
+    let mut config = begin(alloc, program, script)?;
+    let end = run_rounds(alloc, &mut config, program, n, most)?;
     Ok((end, config))
 }
 
@@ -43,157 +74,145 @@ fn passed(config: &Config, chan: u32) -> &[u64] {
     }
 }
 
-fn all() -> Offer {
-    Offer::Accept(Count::All)
-}
-
 /// `x := x + 1` where x has `width` bits.
 fn increment(alloc: Global, width: u8) -> Result<TStmt, AllocError>
     requires some { 1 ≤ width }
     requires most { width ≤ 64 }
-    ensures { IfOk result (λ s. IsRunnable 1 1 (process_of s)) }
+    ensures { IfOk result (λ s. IsSequential (process_of s)) }
 {
     let sum = plus(alloc, read(0, width - 1), number(width, 1))?;
     Ok(assign(0, sum))
 }
 
-/// `*[L?x; R!x]`
-fn copies(alloc: Global) -> Result<TStmt, AllocError>
-    ensures { IfOk result (λ s. IsRunnable 2 1 (process_of s)) }
+/// `out R : 8; var x : 8 = 255; begin x := x + 1; R!x end`
+fn wraps(alloc: Global) -> Result<Typed, Fail>
+    ensures { IfOk result (λ p. MeetsSharing (process_of p.body)) }
 {
-    repeat(alloc, in_turn(alloc, receive(0, 0), send(1, read(0, 3)))?)
+    let channels = vec![in alloc; channel(alloc, b"R", Kind::Out, 8)?]?;
+    let vars = vec![in alloc; var(alloc, b"x", 8, 255)?]?;
+    let body = in_turn(alloc, increment(alloc, 8)?, send(0, read(0, 7)))?;
+    sequential(channels, vars, body)
 }
 
-// x := x + 1; R!x with x = 255 at 8 bits
 #[test]
-fn wraps(rt: HostRuntime) -> Result<(), AllocError> {
+fn wraps_at_the_width(rt: HostRuntime) -> Result<(), Fail> {
     let alloc = rt.alloc();
-    let body = in_turn(alloc, increment(alloc, 8)?, send(0, read(0, 7)))?;
-    let (end, config) = run(
-        alloc,
-        vec![in alloc; 255]?,
-        &body,
-        vec![in alloc; all()]?,
-        1,
-        100,
-    )?;
+    let program = wraps(alloc)?;
+    let (end, config) = run(alloc, &program, b"", 1, 100)?;
     assert_eq!(rt; end, RunEnd::Spent);
+    assert_eq!(rt; config.is_done(), false);
     assert_eq!(rt; passed(&config, 0), [].as_slice());
-    let (end, config) = run(
-        alloc,
-        vec![in alloc; 255]?,
-        &body,
-        vec![in alloc; all()]?,
-        9,
-        100,
-    )?;
+    let (end, config) = run(alloc, &program, b"", 9, 100)?;
     assert_eq!(rt; end, RunEnd::Rest);
     assert_eq!(rt; config.is_done(), true);
     assert_eq!(rt; passed(&config, 0), [0].as_slice());
     Ok(())
 }
 
-/// The same with the script `L: 3 15 0`.
-fn copied(alloc: Global, most: u32) -> Result<(RunEnd, Config), AllocError> {
-    let offers = vec![in alloc; Offer::Values(vec![in alloc; 3, 15, 0]?), all()]?;
-    run(
-        alloc,
-        vec![in alloc; 0]?,
-        &copies(alloc)?,
-        offers,
-        1000,
-        most,
-    )
+/// `in L : 4; out R : 4; var x : 4; begin *[L?x; R!x] end`
+fn copying(alloc: Global) -> Result<Typed, Fail>
+    ensures { IfOk result (λ p. MeetsSharing (process_of p.body)) }
+{
+    let channels = vec![in alloc;
+        channel(alloc, b"L", Kind::In, 4)?,
+        channel(alloc, b"R", Kind::Out, 4)?,
+    ]?;
+    let vars = vec![in alloc; var(alloc, b"x", 4, 0)?]?;
+    sequential(channels, vars, copies(alloc, 0, 1)?)
 }
 
 #[test]
-fn stops_before_too_many(rt: HostRuntime) -> Result<(), AllocError> {
+fn stops_before_too_many(rt: HostRuntime) -> Result<(), Fail> {
     let alloc = rt.alloc();
-    for (most, count, end) in [(5, 2, RunEnd::TooMany), (6, 3, RunEnd::Rest)] {
-        let (ended, config) = copied(alloc, most)?;
+    let program = copying(alloc)?;
+    for (most, end, last) in [
+        (5, RunEnd::TooMany, [3, 15].as_slice()),
+        (6, RunEnd::Rest, &[3, 15, 0]),
+    ] {
+        let (ended, config) = run(alloc, &program, b"L: 3 15 0", 1000, most)?;
         assert_eq!(rt; ended, end);
         assert_eq!(rt; passed(&config, 0), [3, 15, 0].as_slice());
-        assert_eq!(rt; passed(&config, 1).len(), count);
+        assert_eq!(rt; passed(&config, 1), last);
         assert_eq!(rt; config.is_done(), false);
     }
     Ok(())
 }
 
-/// `X!1`
-fn send_one(chan: u32) -> TStmt
-    ensures { (n m : ℕ) → chan < n → IsRunnable n m (process_of result) }
-{
-    send(chan, number(1, 1))
+/// `chan X : 1; var v : 1`
+fn inside(alloc: Global) -> Result<(Vec<Channel>, Vec<Var>), Fail> {
+    let channels = vec![in alloc; channel(alloc, b"X", Kind::Chan, 1)?]?;
+    let vars = vec![in alloc; var(alloc, b"v", 1, 0)?]?;
+    Ok((channels, vars))
 }
 
-/// `X!1; X?v` and `(skip; X?v) || X!1` on a channel inside.
-fn meeting(alloc: Global, beside_it: bool, n: u32) -> Result<(RunEnd, Config), AllocError> {
-    let offers = vec![in alloc; Offer::Nothing]?;
-    let first = vec![in alloc; 0]?;
-    if beside_it {
-        let late = in_turn(alloc, TStmt::Skip, receive(0, 0))?;
-        run(
-            alloc,
-            first,
-            &beside(alloc, late, send_one(0))?,
-            offers,
-            n,
-            100,
-        )
-    } else {
-        run(
-            alloc,
-            first,
-            &in_turn(alloc, send_one(0), receive(0, 0))?,
-            offers,
-            n,
-            100,
-        )
-    }
+/// `chan X : 1; var v : 1; begin X!1; X?v end`
+fn waits_for_itself(alloc: Global) -> Result<Typed, Fail>
+    ensures { IfOk result (λ p. MeetsSharing (process_of p.body)) }
+{
+    let (channels, vars) = inside(alloc)?;
+    let body = in_turn(alloc, send(0, number(1, 1)), receive(0, 0))?;
+    sequential(channels, vars, body)
 }
 
 #[test]
-fn meets(rt: HostRuntime) -> Result<(), AllocError> {
+fn never_meets_itself(rt: HostRuntime) -> Result<(), Fail> {
     let alloc = rt.alloc();
-    for (beside_it, n, end, done, count) in [
-        (false, 1000, RunEnd::Rest, false, 0),
-        (true, 1, RunEnd::Spent, false, 0),
-        (true, 2, RunEnd::Rest, true, 1),
-    ] {
-        let (ended, config) = meeting(alloc, beside_it, n)?;
-        assert_eq!(rt; ended, end);
-        assert_eq!(rt; config.is_done(), done);
-        assert_eq!(rt; passed(&config, 0).len(), count);
-    }
+    let (end, config) = run(alloc, &waits_for_itself(alloc)?, b"", 1000, 100)?;
+    assert_eq!(rt; end, RunEnd::Rest);
+    assert_eq!(rt; config.is_done(), false);
+    assert_eq!(rt; passed(&config, 0), [].as_slice());
     Ok(())
 }
 
-/// `[x = 0 -> A!1 [] x < 2 -> B!1]` with x at 2 bits, or the guarded repetition of these arms.
-fn chooses(alloc: Global, again: bool, x: u64) -> Result<(RunEnd, Config), AllocError> {
+/// `chan X : 1; var v : 1; begin (skip; X?v) || X!1 end`
+fn meeting(alloc: Global) -> Result<Typed, Fail>
+    ensures { IfOk result (λ p. MeetsSharing (process_of p.body)) }
+{
+    let (channels, vars) = inside(alloc)?;
+    program(channels, vars, meets_late(alloc)?)
+}
+
+#[test]
+fn meets_in_the_second_round(rt: HostRuntime) -> Result<(), Fail> {
+    let alloc = rt.alloc();
+    let program = meeting(alloc)?;
+    let mut config = begin(alloc, &program, b"")?;
+    assert_eq!(rt; round(alloc, &mut config, &program)?, true);
+    assert_eq!(rt; passed(&config, 0), [].as_slice());
+    assert_eq!(rt; round(alloc, &mut config, &program)?, true);
+    assert_eq!(rt; passed(&config, 0), [1].as_slice());
+    assert_eq!(rt; config.is_done(), true);
+    assert_eq!(rt; round(alloc, &mut config, &program)?, false);
+    Ok(())
+}
+
+/// `out A : 1; out B : 1; var x : 2; begin [x = 0 -> A!1 [] x < 2 -> B!1] end` with another first value of x, or the guarded
+/// repetition of these arms.
+fn chooses(alloc: Global, again: bool, x: u64) -> Result<Typed, Fail>
+    ensures { IfOk result (λ p. MeetsSharing (process_of p.body)) }
+{
+    let channels = vec![in alloc;
+        channel(alloc, b"A", Kind::Out, 1)?,
+        channel(alloc, b"B", Kind::Out, 1)?,
+    ]?;
+    let vars = vec![in alloc; var(alloc, b"x", 2, x)?]?;
     let zero = compare(alloc, Op::Eq, read(0, 1), number(2, 0))?;
     let small = compare(alloc, Op::Lt, read(0, 1), number(2, 2))?;
     let arms = vec![in alloc;
         TArm {
             guard: zero,
-            body: send_one(0)
+            body: send(0, number(1, 1))
         },
         TArm {
             guard: small,
-            body: send_one(1)
+            body: send(1, number(1, 1))
         },
     ]?;
-    run(
-        alloc,
-        vec![in alloc; x]?,
-        &select(again, arms),
-        vec![in alloc; all(), all()]?,
-        5,
-        100,
-    )
+    sequential(channels, vars, select(again, arms))
 }
 
 #[test]
-fn chooses_where_one_is_true(rt: HostRuntime) -> Result<(), AllocError> {
+fn chooses_where_one_is_true(rt: HostRuntime) -> Result<(), Fail> {
     let alloc = rt.alloc();
     for (again, x, end, done, count) in [
         (false, 0, RunEnd::Rest, false, 0),
@@ -203,7 +222,7 @@ fn chooses_where_one_is_true(rt: HostRuntime) -> Result<(), AllocError> {
         (true, 1, RunEnd::Spent, false, 2),
         (true, 2, RunEnd::Rest, true, 0),
     ] {
-        let (ended, config) = chooses(alloc, again, x)?;
+        let (ended, config) = run(alloc, &chooses(alloc, again, x)?, b"", 5, 100)?;
         assert_eq!(rt; ended, end);
         assert_eq!(rt; config.is_done(), done);
         assert_eq!(rt; passed(&config, 0).len(), 0);
@@ -212,10 +231,12 @@ fn chooses_where_one_is_true(rt: HostRuntime) -> Result<(), AllocError> {
     Ok(())
 }
 
-/// `*[x < 3 -> x := x + 1]; R!x`
-fn counts(alloc: Global) -> Result<TStmt, AllocError>
-    ensures { IfOk result (λ s. IsRunnable 1 1 (process_of s)) }
+/// `out R : 4; var x : 4; begin *[x < 3 -> x := x + 1]; R!x end`
+fn counts(alloc: Global) -> Result<Typed, Fail>
+    ensures { IfOk result (λ p. MeetsSharing (process_of p.body)) }
 {
+    let channels = vec![in alloc; channel(alloc, b"R", Kind::Out, 4)?]?;
+    let vars = vec![in alloc; var(alloc, b"x", 4, 0)?]?;
     let guard = compare(alloc, Op::Lt, read(0, 3), number(4, 3))?;
     let arms = vec![in alloc;
         TArm {
@@ -223,51 +244,57 @@ fn counts(alloc: Global) -> Result<TStmt, AllocError>
             body: increment(alloc, 4)?
         },
     ]?;
-    in_turn(alloc, select(true, arms), send(0, read(0, 3)))
+    let body = in_turn(alloc, select(true, arms), send(0, read(0, 3)))?;
+    sequential(channels, vars, body)
 }
 
 #[test]
-fn counts_to_three(rt: HostRuntime) -> Result<(), AllocError> {
+fn counts_to_three(rt: HostRuntime) -> Result<(), Fail> {
     let alloc = rt.alloc();
-    let body = counts(alloc)?;
-    let (end, config) = run(
-        alloc,
-        vec![in alloc; 0]?,
-        &body,
-        vec![in alloc; all()]?,
-        8,
-        100,
-    )?;
+    let (end, config) = run(alloc, &counts(alloc)?, b"", 8, 100)?;
     assert_eq!(rt; end, RunEnd::Rest);
     assert_eq!(rt; config.is_done(), true);
     assert_eq!(rt; passed(&config, 0), [3].as_slice());
     Ok(())
 }
 
-/// 400 stages in a row, a script of 1,000 values, and so many rounds.
-fn streams(alloc: Global, n: u32) -> Result<(RunEnd, Config), AllocError> {
-    let mut offers = Vec::new(alloc);
-    offers.push(Offer::Values(vec![in alloc; 5; 1000]?))?;
-    for _inside in 0..399u32 {
-        offers.push(Offer::Nothing)?;
+/// 400 stages in a row, between an `in` and an `out` channel.
+fn streams(alloc: Global) -> Result<Typed, Fail>
+    ensures { IfOk result (λ p. MeetsSharing (process_of p.body)) }
+{
+    let mut channels = vec![in alloc; channel(alloc, b"c0", Kind::In, 4)?]?;
+    let mut vars = Vec::new(alloc);
+    for stage in 1..401u32 {
+        let kind = if stage < 400 { Kind::Chan } else { Kind::Out };
+        let name = format!(in alloc; "c{stage}")?;
+        channels.push(channel(alloc, name.as_bytes(), kind, 4)?)?;
+        let name = format!(in alloc; "v{stage}")?;
+        vars.push(var(alloc, name.as_bytes(), 4, 0)?)?;
     }
-    offers.push(all())?;
-    run(
-        alloc,
-        vec![in alloc; 0; 400]?,
-        &pipeline(alloc, 400)?,
-        offers,
-        n,
-        1_000_000,
-    )
+    program(channels, vars, pipeline(alloc, 400)?)
 }
 
-// A benchmark: two rounds a value for each of the stages that are busy.
+/// A script with 1,000 values.
+fn long_script(alloc: Global) -> Result<Vec<u8>, AllocError>
+    ensures { IfOk result (λ text. length text.items ≤ 2097152) }
+{
+    let mut text = Vec::from_slice(alloc, b"c0:")?;
+    for _value in 0..1000u32 {
+        text.push(b' ')?;
+        text.push(b'5')?;
+    }
+    Ok(text)
+}
+
+// A benchmark. A stage begins again, receives and sends in three rounds, so the value of number n, counted from 0, passes on the
+// channel of number c in round c + 2 + 3 * n.
 #[test]
-fn streams_through_many_stages(rt: HostRuntime) -> Result<(), AllocError> {
+fn streams_through_many_stages(rt: HostRuntime) -> Result<(), Fail> {
     let alloc = rt.alloc();
-    let (end, config) = streams(alloc, 1000)?;
+    let script = long_script(alloc)?;
+    let (end, config) = run(alloc, &streams(alloc)?, &script, 1000, 1_000_000)?;
     assert_eq!(rt; end, RunEnd::Spent);
     assert_eq!(rt; config.is_done(), false);
+    assert_eq!(rt; passed(&config, 399).len(), 200);
     Ok(())
 }

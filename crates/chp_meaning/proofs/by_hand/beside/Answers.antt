@@ -1,6 +1,6 @@
 use Rattle.std.proofs.Common.{◌∙◌, ◌++◌, ◌∷◌, [], List, ap}
 use Rattle.width_check.specs.declared.typed.TStmt.{TStmt}
-use Rattle.chp_meaning.proofs.ByHand.{two_beside}
+use Rattle.chp_meaning.proofs.Stages.{two_beside}
 use Rattle.chp_meaning.proofs.by_hand.beside.Goals as goal
 
 pub returns : goal.returns

@@ -1,9 +1,16 @@
-use Rattle.std.proofs.Common.{◌∙◌, ◌++◌, ◌∷◌, [], List, ap}
+use Rattle.std.proofs.Common.{◌∙◌, ◌++◌, ◌∷◌, [], List, ap, sym, subst}
 use Rattle.width_check.specs.declared.typed.TStmt.{TStmt}
-use Rattle.chp_meaning.proofs.ByHand.{two_in_turn}
+use Rattle.width_check.specs.Processes.{Process}
+use Rattle.width_check.specs.View.{process_of}
+use Rattle.chp_meaning.specs.Apart.{IsSequential}
+use Rattle.chp_meaning.proofs.Stages.{two_in_turn, both_sequential}
 use Rattle.chp_meaning.proofs.by_hand.in_turn.Goals as goal
 
 pub returns : goal.returns
 returns c =
     let one = c.in_ok-push.ensures.items ∙ ap (λ (xs : List TStmt). xs ++ c.args.first ∷ []) c.new-parts.ensures.items in
-    two_in_turn c.push-2.new.self c.args.first c.args.second (c.in_ok-push-2.ensures.items ∙ ap (λ (xs : List TStmt). xs ++ c.args.second ∷ []) one)
+    let made = two_in_turn c.push-2.new.self c.args.first c.args.second (c.in_ok-push-2.ensures.items ∙ ap (λ (xs : List TStmt). xs ++ c.args.second ∷ []) one) in
+    record {
+      made = made;
+      sequential = λ first second. subst (λ (p : Process). IsSequential p) (sym made) (both_sequential (process_of c.args.first) (process_of c.args.second) first second);
+    }
