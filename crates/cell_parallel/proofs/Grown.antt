@@ -1,7 +1,7 @@
 -- A tree that grows level upon level.
-use Rattle.std.proofs.Common.{◌≡◌, ◌≢◌, ℕ, zero, suc, ◌+◌, ◌-◌, ◌/◌, ◌≤◌, ◌<◌, List, [], ◌∷◌, ◌++◌, length, All, refl, sym, ap, subst, ◌∙◌, arith}
-use Rattle.std.proofs.lemmas.List.Elements.{All-nil, All-cons, All-head, All-tail}
-use Rattle.prs_core.specs.Nets.{RulesValue, NodeRules, IsAlone, with_rules}
+use Rattle.std.proofs.Common.{◌≡◌, ℕ, zero, suc, ◌+◌, ◌-◌, ◌/◌, ◌≤◌, ◌<◌, List, [], ◌∷◌, ◌++◌, length, All, refl, sym, ap, subst, ◌∙◌, arith}
+use Rattle.std.proofs.lemmas.List.Elements.{All-cons, All-tail}
+use Rattle.prs_core.specs.Nets.{RulesValue, NodeRules, IsAlone}
 use Rattle.prs_core.specs.Parts.{Owned, owned, owned_from, with_owned}
 use Rattle.cell_parallel.specs.Trees.{level_rules, next_level, levels_rules, tree_rules, tree_owned}
 use Rattle.cell_parallel.proofs.Sizes.{level_length, next_length}

@@ -206,10 +206,13 @@ unique leaves from j i (k, within, is) (l, inside, same) e =
 pub top_join : (leaves : List ℕ) (from : ℕ) → 1 < length leaves → (j : Join) × Contains (tree_joins leaves from) j × (j.node ≡ tree_top leaves from)
 top_join [] from long = absurd (omega arith)
 top_join (p ∷ []) from long = absurd (omega arith)
-top_join (p ∷ q ∷ ls) from long =
-    let (o, among, at) = a_node from (tree_rules (p ∷ q ∷ ls) from) (length ls) (omega (arith, tree_length (p ∷ q ∷ ls) from)) in
-    let (j, here, is) = join_of (p ∷ q ∷ ls) from o among in
-    (j, here, ap (λ (x : Owned). x.node) is ∙ at)
+top_join (p ∷ q ∷ ls) from long = of (a_node from (tree_rules (p ∷ q ∷ ls) from) (length ls) (omega (arith, tree_length (p ∷ q ∷ ls) from)))
+  where
+    back : (o : Owned) → o.node ≡ from + length ls → ((j : Join) × Contains (tree_joins (p ∷ q ∷ ls) from) j × (as_owned j ≡ o)) → (j : Join) × Contains (tree_joins (p ∷ q ∷ ls) from) j × (j.node ≡ from + length ls)
+    back o at (j, here, is) = (j, here, ap (λ (x : Owned). x.node) is ∙ at)
+
+    of : ((o : Owned) × Contains (tree_owned (p ∷ q ∷ ls) from) o × (o.node ≡ from + length ls)) → (j : Join) × Contains (tree_joins (p ∷ q ∷ ls) from) j × (j.node ≡ from + length ls)
+    of (o, among, at) = back o at (join_of (p ∷ q ∷ ls) from o among)
 
 pub some_joins : (leaves : List ℕ) (from : ℕ) (j : Join) → Contains (tree_joins leaves from) j → 1 < length leaves
 some_joins leaves from j (k, within, is) = omega (arith, within, joins_length leaves from)

@@ -1,11 +1,10 @@
 -- Where the bits of a variable are, and what a move does to one of them.
-use Rattle.std.proofs.Common.{◌≡◌, ◌≢◌, ℕ, zero, suc, ◌+◌, ◌*◌, ◌≤◌, ◌<◌, Bool, true, false, List, [], ◌∷◌, ◌++◌, length, map, Contains, refl, sym, ap, subst, ◌∙◌, arith, ◌⊎◌, inl, inr}
-use Rattle.std.specs.Prelude.{not, ◌&&◌, ◌||◌, if◌then◌else◌}
+use Rattle.std.proofs.Common.{◌≡◌, ◌≢◌, ℕ, zero, suc, ◌+◌, ◌*◌, ◌≤◌, ◌<◌, Bool, true, List, [], ◌∷◌, map, Contains, refl, sym, ap, subst, arith, ◌⊎◌, inl, inr}
+use Rattle.std.specs.Prelude.{not, ◌&&◌}
 use Rattle.std.specs.List.{flat_map, list_all}
-use Rattle.std.proofs.lemmas.Bool.{cases_eq}
 use Rattle.std.proofs.lemmas.List.Elements.{Contains-append_left, Contains-append_right, Contains-append_cases}
 use Rattle.prs_core.specs.Nets.{NodeRules}
-use Rattle.prs_core.specs.Pairs.{Pair, rails_of}
+use Rattle.prs_core.specs.Pairs.{rails_of}
 use Rattle.prs_core.specs.Parts.{Owned, owned, owned_from, turned, all_low, is_valid}
 use Rattle.prs_core.specs.Turning.{turned_here, turned_apart, among_cases, none_among}
 use Rattle.prs_core.specs.Deciding.{left_of, right_of, both_of}

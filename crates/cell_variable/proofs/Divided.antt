@@ -6,7 +6,7 @@ use Rattle.std.proofs.lemmas.List.Elements.{Contains-append_left, Contains-appen
 use Rattle.prs_core.specs.Nets.{NodeRules}
 use Rattle.prs_core.specs.Pairs.{Pair, merged_true, merged_false}
 use Rattle.prs_core.specs.Parts.{Owned, owned, owned_from}
-use Rattle.prs_core.specs.Turning.{among_cases, none_among}
+use Rattle.prs_core.specs.Turning.{none_among}
 use Rattle.cell_parallel.specs.Trees.{tree_rules, tree_owned}
 use Rattle.cell_variable.specs.Variables.{Bit, bit_at, bits_from, kept_rail, bit_written, bit_owned, bit_rules, bits_rules, written_leaves, variable_rules, variable_owned, merges_owned}
 

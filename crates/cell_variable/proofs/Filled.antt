@@ -1,13 +1,13 @@
 -- A variable's nodes that are written bit by bit.
-use Rattle.std.proofs.Common.{◌≡◌, ◌≢◌, ℕ, zero, suc, ◌+◌, ◌*◌, ◌≤◌, ◌<◌, List, [], ◌∷◌, ◌++◌, length, map, All, refl, sym, ap, subst, ◌∙◌, arith, append_assoc}
+use Rattle.std.proofs.Common.{◌≡◌, ◌≢◌, ℕ, zero, suc, ◌+◌, ◌*◌, ◌≤◌, ◌<◌, List, [], ◌∷◌, ◌++◌, length, All, refl, sym, ap, subst, ◌∙◌, arith, append_assoc}
 use Rattle.std.specs.List.{flat_map}
-use Rattle.std.proofs.lemmas.List.{append-nil, length_push, length-map}
+use Rattle.std.proofs.lemmas.List.{append-nil}
 use Rattle.std.proofs.lemmas.List.Elements.{All-nil, All-cons, All-head, All-tail}
 use Rattle.prs_core.specs.Nets.{RulesValue, IsAlone}
 use Rattle.prs_core.specs.Parts.{Owned, owned, with_owned}
 use Rattle.prs_core.specs.Writing.{IsOther, alone_same, alone_on, with_append, other_left, other_right}
 use Rattle.cell_parallel.specs.Trees.{tree_owned}
-use Rattle.cell_variable.specs.Variables.{Bit, bit_at, bits_from, bit_owned, bit_written, kept_rail, written_leaves, variable_owned}
+use Rattle.cell_variable.specs.Variables.{bit_at, bits_from, bit_owned, bit_written, kept_rail, written_leaves, variable_owned}
 
 -- the three nodes of a bit
 pub record AreOther (bit node : ℕ) : Type 0 where

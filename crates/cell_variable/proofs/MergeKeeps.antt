@@ -1,12 +1,12 @@
 -- A merge keeps its contract: in every state.
 use Rattle.std.proofs.Common.{◌≡◌, ◌≢◌, ℕ, ◌<◌, Bool, true, false, List, [], ◌∷◌, length, map, Contains, refl, sym, ap, subst, ◌∙◌, arith, ◌⊎◌, inl, inr}
 use Rattle.std.specs.Prelude.{not, ◌&&◌, ◌||◌, if◌then◌else◌}
-use Rattle.std.specs.List.{list_any, list_all}
+use Rattle.std.specs.List.{list_any}
 use Rattle.std.proofs.lemmas.Bool.{true≢false}
-use Rattle.prs_core.specs.Nets.{is_high, is_low}
+use Rattle.prs_core.specs.Nets.{is_high}
 use Rattle.prs_core.specs.Pairs.{lows, or_of}
 use Rattle.prs_core.specs.Moves.{guard_holds, term_holds}
-use Rattle.prs_core.specs.Parts.{Part, Owned, Wire, Moment, IsMove, IsKept, Keeps, owned, wire, fires, turned, may_move, all_low}
+use Rattle.prs_core.specs.Parts.{Part, Owned, Wire, Moment, IsMove, Keeps, owned, wire, fires, turned, may_move, all_low}
 use Rattle.prs_core.specs.Keeping.{kept_by}
 use Rattle.prs_core.specs.Turning.{among_cases, none_among, among_mapped, mapped_among, some_high}
 use Rattle.cell_variable.specs.VariableParts.{merge_part}

@@ -1,8 +1,8 @@
 -- Bits and merges that are wrong don't keep their contracts: for each a run after which it moves what it may not.
-use Rattle.std.proofs.Common.{ℕ, Bool, true, false, List, [], ◌∷◌, refl}
+use Rattle.std.proofs.Common.{false, [], ◌∷◌, refl}
 use Rattle.std.specs.Prelude.{◌==◌}
 use Rattle.prs_core.specs.Nets.{NodeRules, is_high, is_low, one_term}
-use Rattle.prs_core.specs.Parts.{Part, Owned, Moment, Keeps, at_first, owned}
+use Rattle.prs_core.specs.Parts.{Part, Moment, Keeps, at_first, owned}
 use Rattle.prs_core.specs.Breaking.{broken}
 use Rattle.cell_variable.specs.Variables.{bit_at, kept_rail, bit_written}
 use Rattle.cell_variable.specs.VariableParts.{merge_part, variable_part}

@@ -1,7 +1,7 @@
 -- The contracts of a merge and of a variable, each alone.
-use Rattle.std.specs.Prelude.{ℕ, ◌+◌, ◌*◌, Bool, not, ◌&&◌, ◌||◌, List, [], ◌∷◌, ◌++◌, map}
+use Rattle.std.specs.Prelude.{ℕ, ◌+◌, ◌*◌, Bool, ◌&&◌, ◌||◌, List, [], ◌∷◌, ◌++◌, map}
 use Rattle.std.specs.List.{list_any, list_all, flat_map}
-use Rattle.prs_core.specs.Pairs.{Pair, rails_of, or_of}
+use Rattle.prs_core.specs.Pairs.{rails_of, or_of}
 use Rattle.prs_core.specs.Parts.{Owned, Part, Wire, Moment, owned, wire, all_low, is_valid, never_blocked, no_notes}
 use Rattle.cell_parallel.specs.Trees.{tree_owned}
 use Rattle.cell_variable.specs.Variables.{Bit, bits_from, variable_owned, written_leaves, all_written}

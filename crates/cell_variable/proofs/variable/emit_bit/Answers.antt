@@ -1,4 +1,3 @@
-use Rattle.std.proofs.Common.{◌≡◌}
 use Rattle.prs_core.specs.Writing.{alone_on}
 use Rattle.cell_variable.proofs.Filled.{are_other}
 use Rattle.cell_variable.proofs.variable.emit_bit.Goals as goal

@@ -1,4 +1,3 @@
-use Rattle.std.proofs.Common.{arith}
 use Rattle.std.proofs.lemmas.Result.{on_ok_weaker}
 use Rattle.cell_variable.proofs.Filled.{filled_begin, filled_more, filled_alone, filled_fits, filled_end}
 use Rattle.cell_variable.proofs.variable.emit_variable.Goals as goal
