@@ -11,3 +11,4 @@ pub mod Machines
 pub mod Views
 pub mod Waiting
 pub mod SelectKeeps
+pub mod AgainKeeps
