@@ -12,3 +12,4 @@ pub mod Views
 pub mod Waiting
 pub mod SelectKeeps
 pub mod AgainKeeps
+pub mod WrongBodies
