@@ -11,3 +11,5 @@ pub mod Machines
 pub mod Views
 pub mod Waiting
 pub mod SelectKeeps
+pub mod AgainKeeps
+pub mod WrongBodies

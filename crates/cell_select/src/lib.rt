@@ -6,4 +6,4 @@ mod guards;
 mod laws;
 
 pub use emit::{AgainPorts, SelectPorts, emit_again, emit_select};
-pub use laws::select_keeps;
+pub use laws::{again_keeps, select_keeps};
