@@ -3,6 +3,8 @@
 
 mod count;
 mod expr;
+#[cfg(test)]
+mod tests;
 
 pub use count::count_nodes;
 pub use expr::{expr_nodes, operator_nodes, reads};

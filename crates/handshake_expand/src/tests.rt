@@ -1,0 +1,168 @@
+//! How many nodes the circuits of some programs have, by hand from the layout.
+
+ghost use Rattle.std.specs.Prelude.{◌≤◌};
+
+use crate::count_nodes;
+use chp_base::{Bits, Channel, Kind, Span, name_of};
+use chp_syntax::Op;
+use std::alloc::{AllocError, Global};
+use std::test::Fail;
+use width_check::{TArm, TExpr, TLink, TStmt, Typed, Var};
+
+fn at() -> Span {
+    Span { from: 0, to: 1 }
+}
+
+fn channel(alloc: Global, name: &[u8], kind: Kind, width: u8) -> Result<Channel, Fail> {
+    let name = name_of(alloc, name)?.ok_or("no name")?;
+    Ok(Channel { name, kind, width })
+}
+
+fn var(alloc: Global, name: &[u8], width: u8, first: u64) -> Result<Var, Fail> {
+    let name = name_of(alloc, name)?.ok_or("no name")?;
+    Ok(Var { name, width, first })
+}
+
+/// All bits of the variable of this number, whose highest is `high`.
+fn read(var: u32, high: u8) -> TExpr {
+    TExpr::Read {
+        var,
+        high,
+        low: 0,
+        at: at(),
+    }
+}
+
+fn number(width: u8, value: u64) -> Result<TExpr, Fail> {
+    let bits = Bits::new(width, value).ok_or("no number")?;
+    Ok(TExpr::Number { bits })
+}
+
+fn compare(alloc: Global, op: Op, left: TExpr, right: TExpr) -> Result<TExpr, AllocError> {
+    let left = Box::new(alloc, left)?;
+    let right = Box::new(alloc, right)?;
+    Ok(TExpr::Compare { op, left, right })
+}
+
+fn plus(alloc: Global, left: TExpr, right: TExpr) -> Result<TExpr, AllocError> {
+    let first = Box::new(alloc, left)?;
+    let rest = vec![in alloc; TLink { op: Op::Add, right }]?;
+    Ok(TExpr::Chain { first, rest })
+}
+
+fn send(chan: u32, value: TExpr) -> TStmt {
+    TStmt::Send {
+        chan,
+        at: at(),
+        value,
+    }
+}
+
+fn receive(chan: u32, var: u32) -> TStmt {
+    TStmt::Receive {
+        chan,
+        chan_at: at(),
+        var,
+        var_at: at(),
+    }
+}
+
+/// How many nodes the program of these parts has.
+fn nodes(channels: Vec<Channel>, vars: Vec<Var>, body: TStmt) -> Result<u64, Fail> {
+    let program = Typed::new(channels, vars, body).ok_or("no program")?;
+    Ok(count_nodes(&program))
+}
+
+// begin skip end; out X : 1; begin X!1 end
+#[test]
+fn counts_the_smallest(rt: HostRuntime) -> Result<(), Fail> {
+    let alloc = rt.alloc();
+    assert_eq!(rt; nodes(Vec::new(alloc), Vec::new(alloc), TStmt::Skip)?, 5);
+    let channels = vec![in alloc; channel(alloc, b"X", Kind::Out, 1)?]?;
+    let body = send(0, number(1, 1)?);
+    assert_eq!(rt; nodes(channels, Vec::new(alloc), body)?, 10);
+    Ok(())
+}
+
+// in L : 4; out R : 4; var x : 4; begin *[L?x; R!x] end
+#[test]
+fn counts_a_loop(rt: HostRuntime) -> Result<(), Fail> {
+    let alloc = rt.alloc();
+    let channels = vec![in alloc;
+        channel(alloc, b"L", Kind::In, 4)?,
+        channel(alloc, b"R", Kind::Out, 4)?,
+    ]?;
+    let vars = vec![in alloc; var(alloc, b"x", 4, 0)?]?;
+    let parts = vec![in alloc; receive(0, 0), send(1, read(0, 3))]?;
+    let body = Box::new(alloc, TStmt::Then { parts })?;
+    assert_eq!(rt; nodes(channels, vars, TStmt::Repeat { body })?, 69);
+    Ok(())
+}
+
+// chan X : 1; var v : 1; begin X!1 || X?v end
+#[test]
+fn counts_branches(rt: HostRuntime) -> Result<(), Fail> {
+    let alloc = rt.alloc();
+    let channels = vec![in alloc; channel(alloc, b"X", Kind::Chan, 1)?]?;
+    let vars = vec![in alloc; var(alloc, b"v", 1, 0)?]?;
+    let parts = vec![in alloc; send(0, number(1, 1)?), receive(0, 0)]?;
+    assert_eq!(rt; nodes(channels, vars, TStmt::Beside { parts })?, 26);
+    Ok(())
+}
+
+// out A : 1; out B : 1; var x : 2; begin [x = 0 -> A!1 [] x < 2 -> B!1] end
+#[test]
+fn counts_a_selection(rt: HostRuntime) -> Result<(), Fail> {
+    let alloc = rt.alloc();
+    let channels = vec![in alloc;
+        channel(alloc, b"A", Kind::Out, 1)?,
+        channel(alloc, b"B", Kind::Out, 1)?,
+    ]?;
+    let vars = vec![in alloc; var(alloc, b"x", 2, 0)?]?;
+    let zero = TArm {
+        guard: compare(alloc, Op::Eq, read(0, 1), number(2, 0)?)?,
+        body: send(0, number(1, 1)?),
+    };
+    let small = TArm {
+        guard: compare(alloc, Op::Lt, read(0, 1), number(2, 2)?)?,
+        body: send(1, number(1, 1)?),
+    };
+    let arms = vec![in alloc; zero, small]?;
+    assert_eq!(rt;
+        nodes(channels, vars, TStmt::Select { again: false, arms })?,
+        60
+    );
+    Ok(())
+}
+
+// out R : 8; var x : 8 = 255; begin x := x + 1; R!x end
+#[test]
+fn counts_a_hidden_variable(rt: HostRuntime) -> Result<(), Fail> {
+    let alloc = rt.alloc();
+    let channels = vec![in alloc; channel(alloc, b"R", Kind::Out, 8)?]?;
+    let vars = vec![in alloc; var(alloc, b"x", 8, 255)?]?;
+    let more = TStmt::Assign {
+        var: 0,
+        at: at(),
+        value: plus(alloc, read(0, 7), number(8, 1)?)?,
+    };
+    let parts = vec![in alloc; more, send(0, read(0, 7))]?;
+    assert_eq!(rt; nodes(channels, vars, TStmt::Then { parts })?, 218);
+    Ok(())
+}
+
+// chan X : 1; begin skip; skip; .. end: 4 for each skip, and 4 more
+#[test]
+fn counts_members(rt: HostRuntime) -> Result<(), Fail> {
+    let alloc = rt.alloc();
+    for members in 2..200u64 {
+        let channels = vec![in alloc; channel(alloc, b"X", Kind::Chan, 1)?]?;
+        let mut parts = Vec::new(alloc);
+        for _member in 0..members {
+            parts.push(TStmt::Skip)?;
+        }
+        let count = nodes(channels, Vec::new(alloc), TStmt::Then { parts })?;
+        assert_eq!(rt; count, 4 * members + 4);
+    }
+    Ok(())
+}
