@@ -1,1 +1,6 @@
-pub mod Examples
+mod Examples
+mod Port
+mod PortKeeps
+mod PortPlaces
+mod PortTable
+mod WrongPorts

@@ -1,8 +1,9 @@
-//! The rules of a channel's ends.
+//! The rules of a channel's ends: what answers a send or a receive, and the port by which a receive takes a value.
 
-ghost use Rattle.std.specs.Prelude.{◌≡◌, ◌≢◌, ℕ, ◌<◌, length, OnOk};
+ghost use Rattle.std.specs.Prelude.{◌≡◌, ◌≢◌, ℕ, ◌+◌, ◌<◌, ◌≤◌, length, All, OnOk};
 ghost use Rattle.prs_core.specs.Nets.{with_rules, IsAlone};
-ghost use Rattle.cell_channel.specs.Ends.{end_answer};
+ghost use Rattle.prs_core.specs.Parts.{Owned, with_owned};
+ghost use Rattle.cell_channel.specs.Ends.{end_owned, taken_rail, port_owned};
 
 use prs_core::{Rules, all_of, high, low};
 use std::alloc::{AllocError, Global};
@@ -21,11 +22,58 @@ pub fn emit_end(
     requires answer { answer < length rules.old.up }
     requires distinct_request { request ≢ answer }
     requires distinct_ack { ack ≢ answer }
-    ensures made { OnOk result (rules.new ≡ with_rules answer (end_answer request ack) rules.old) }
+    ensures made { OnOk result (rules.new ≡ with_owned (end_owned request ack answer) rules.old) }
     ensures nodes { length rules.new.up ≡ length rules.old.up }
     ensures others { (node : ℕ) → node ≢ answer → IsAlone rules.old rules.new node }
 {
     rules.set_up(answer, all_of(alloc, &[high(request), high(ack)])?);
     rules.set_down(answer, all_of(alloc, &[low(ack)])?);
+    Ok(())
+}
+
+/// Writes the two guards of the node by which a receive port takes a rail.
+fn emit_taken_rail(
+    alloc: Global,
+    request: u32,
+    rail: u32,
+    node: u32,
+    rules: &mut Rules,
+) -> Result<(), AllocError>
+    requires request { request < length rules.old.up }
+    requires rail { rail < length rules.old.up }
+    requires node { node < length rules.old.up }
+    ensures made { OnOk result (rules.new ≡ with_rules node (taken_rail request rail) rules.old) }
+    ensures nodes { length rules.new.up ≡ length rules.old.up }
+    ensures others { (other : ℕ) → other ≢ node → IsAlone rules.old rules.new other }
+{
+    rules.set_up(node, all_of(alloc, &[high(request), high(rail)])?);
+    rules.set_down(node, all_of(alloc, &[low(request), low(rail)])?);
+    Ok(())
+}
+
+/// Writes the guards of a receive port (Martin), and no others: under `request` each of the channel's `rails` is taken
+/// by a node of its own, numbered from `from` on in the order of the rails, and let go once the request and the rail
+/// are low. The rails are those of bit 0, t before f, then those of bit 1, and so on. Where memory runs out, some of the
+/// guards may have been written.
+pub fn emit_receive_port(
+    alloc: Global,
+    request: u32,
+    rails: &[u32],
+    from: u32,
+    rules: &mut Rules,
+) -> Result<(), AllocError>
+    requires request { request < length rules.old.up }
+    requires rails { All (λ rail. rail < length rules.old.up) rails.now }
+    requires own { from + length rails.now ≤ length rules.old.up }
+    ensures made { OnOk result (rules.new ≡ with_owned (port_owned request rails.now from) rules.old) }
+    ensures nodes { length rules.new.up ≡ length rules.old.up }
+    ensures others { (node : ℕ) → All (λ (o : Owned). o.node ≢ node) (port_owned request rails.now from) → IsAlone rules.old rules.new node }
+{
+    let _count = rules.nodes();
+    let mut node = from;
+    for rail in rails {
+        emit_taken_rail(alloc, request, *rail, node, rules)?;
+        node += 1;
+    }
     Ok(())
 }

@@ -2,5 +2,9 @@
 #![tactic(auto)]
 
 mod emit;
+mod laws;
+#[cfg(test)]
+mod tests;
 
-pub use emit::emit_end;
+pub use emit::{emit_end, emit_receive_port};
+pub use laws::ends_keep;

@@ -1,0 +1,5 @@
+mod Kept
+mod Numbered
+mod Renamed
+mod Tabled
+mod WrongParts

@@ -1,1 +1,2 @@
+pub mod Handshakes
 pub mod Sequence

@@ -1,6 +1,7 @@
--- The rules of the Q-element and of skip (Martin; Burns and Martin).
-use Rattle.std.specs.Prelude.{◌≡◌, ◌≢◌, ℕ, ◌<◌, List, [], ◌∷◌, length, slice_index_or, All}
-use Rattle.prs_core.specs.Nets.{RulesValue, NodeRules, with_rules, is_high, is_low, one_term}
+-- The rules of the Q-element, of skip and of the loop (Martin; Burns and Martin).
+use Rattle.std.specs.Prelude.{◌≢◌, ℕ, ◌<◌, List, [], ◌∷◌, All}
+use Rattle.prs_core.specs.Nets.{RulesValue, NodeRules, is_high, is_low, one_term}
+use Rattle.prs_core.specs.Parts.{Owned, owned, with_owned}
 use Rattle.cell_sequence.specs.declared.emit.QPorts.{QPorts}
 
 -- A Q-element runs its child's whole handshake, and only then asks what follows:
@@ -26,11 +27,15 @@ q_next latch child_answer = record {
   down = one_term (is_low latch ∷ []);
 }
 
+abbrev pub q_owned : QPorts → List Owned
+q_owned p =
+    owned p.child_request (q_child p.request p.latch)
+    ∷ owned p.latch (q_latch p.request p.child_answer)
+    ∷ owned p.next (q_next p.latch p.child_answer)
+    ∷ []
+
 abbrev pub with_q : QPorts → RulesValue → RulesValue
-with_q p rules =
-    with_rules p.next (q_next p.latch p.child_answer)
-    (with_rules p.latch (q_latch p.request p.child_answer)
-    (with_rules p.child_request (q_child p.request p.latch) rules))
+with_q p = with_owned (q_owned p)
 
 -- skip answers its request at once: r -> a+, ~r -> a-
 abbrev pub skip_answer : (request : ℕ) → NodeRules
@@ -39,12 +44,18 @@ skip_answer request = record {
   down = one_term (is_low request ∷ []);
 }
 
+abbrev pub skip_owned : (request answer : ℕ) → List Owned
+skip_owned request answer = owned answer (skip_answer request) ∷ []
+
 -- a loop asks its body again once that has let go: r & ~la -> lr+, la -> lr-; its own answer has no rules
 abbrev pub loop_request : (request body_answer : ℕ) → NodeRules
 loop_request request body_answer = record {
   up = one_term (is_high request ∷ is_low body_answer ∷ []);
   down = one_term (is_high body_answer ∷ []);
 }
+
+abbrev pub loop_owned : (request body_request body_answer : ℕ) → List Owned
+loop_owned request body_request body_answer = owned body_request (loop_request request body_answer) ∷ []
 
 -- the ports are nodes of the rules, and the Q-element's own nodes are distinct from each other and from its inputs
 pub record IsPorts (count : ℕ) (p : QPorts) : Type 0 where

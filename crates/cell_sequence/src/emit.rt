@@ -1,8 +1,9 @@
-//! The rules of the Q-element and of skip.
+//! The rules of the Q-element, of skip and of the loop.
 
 ghost use Rattle.std.specs.Prelude.{◌≡◌, ◌≢◌, ℕ, ◌<◌, length, OnOk};
-ghost use Rattle.prs_core.specs.Nets.{with_rules, IsAlone};
-ghost use Rattle.cell_sequence.specs.Sequence.{with_q, skip_answer, IsPorts};
+ghost use Rattle.prs_core.specs.Nets.{IsAlone};
+ghost use Rattle.prs_core.specs.Parts.{with_owned};
+ghost use Rattle.cell_sequence.specs.Sequence.{with_q, skip_owned, loop_owned, IsPorts};
 
 use prs_core::{Rules, all_of, high, low};
 use std::alloc::{AllocError, Global};
@@ -53,11 +54,38 @@ pub fn emit_skip(
     requires request { request < length rules.old.up }
     requires answer { answer < length rules.old.up }
     requires distinct { request ≢ answer }
-    ensures made { OnOk result (rules.new ≡ with_rules answer (skip_answer request) rules.old) }
+    ensures made { OnOk result (rules.new ≡ with_owned (skip_owned request answer) rules.old) }
     ensures nodes { length rules.new.up ≡ length rules.old.up }
     ensures others { (node : ℕ) → node ≢ answer → IsAlone rules.old rules.new node }
 {
     rules.set_up(answer, all_of(alloc, &[high(request)])?);
     rules.set_down(answer, all_of(alloc, &[low(request)])?);
+    Ok(())
+}
+
+/// Writes the two guards of the request by which a loop asks its body, and no others. Under the loop's own `request` the
+/// body is asked, and asked again once it has let go. The loop's own answer never rises, so it has no rules. Where memory
+/// runs out, one of the guards may have been written.
+pub fn emit_loop(
+    alloc: Global,
+    request: u32,
+    body_request: u32,
+    body_answer: u32,
+    rules: &mut Rules,
+) -> Result<(), AllocError>
+    requires request { request < length rules.old.up }
+    requires body_request { body_request < length rules.old.up }
+    requires body_answer { body_answer < length rules.old.up }
+    requires distinct_request { request ≢ body_request }
+    requires distinct_answer { body_answer ≢ body_request }
+    ensures made { OnOk result (rules.new ≡ with_owned (loop_owned request body_request body_answer) rules.old) }
+    ensures nodes { length rules.new.up ≡ length rules.old.up }
+    ensures others { (node : ℕ) → node ≢ body_request → IsAlone rules.old rules.new node }
+{
+    rules.set_up(
+        body_request,
+        all_of(alloc, &[high(request), low(body_answer)])?,
+    );
+    rules.set_down(body_request, all_of(alloc, &[high(body_answer)])?);
     Ok(())
 }

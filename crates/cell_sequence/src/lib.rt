@@ -1,6 +1,10 @@
-//! The circuits of control that are one after the other: the Q-element and skip.
+//! The circuits of control that are one after the other: the Q-element, skip and the loop.
 #![tactic(auto)]
 
 mod emit;
+mod laws;
+#[cfg(test)]
+mod tests;
 
-pub use emit::{QPorts, emit_q, emit_skip};
+pub use emit::{QPorts, emit_loop, emit_q, emit_skip};
+pub use laws::q_keeps;

@@ -1,0 +1,142 @@
+//! The rules at the nodes of some programs, written out by hand from the layout of their circuits.
+
+ghost use Rattle.std.specs.Prelude.{◌≡◌, ◌<◌, length};
+
+use crate::{QPorts, emit_loop, emit_q, emit_skip};
+use prs_core::{Guard, Literal, Rules, high, low};
+use std::test::Fail;
+
+/// Whether the guard has this one term.
+fn is_term(guard: &Guard, literals: &[Literal]) -> bool {
+    match guard.terms() {
+        [term] => term.literals() == literals,
+        _ => false,
+    }
+}
+
+/// Whether the node rises where all of the first literals hold and falls where all of the second ones do.
+fn turns(rules: &Rules, node: u32, up: &[Literal], down: &[Literal]) -> bool
+    requires { node < length rules.now.up }
+{
+    is_term(rules.up(node), up) && is_term(rules.down(node), down)
+}
+
+/// `begin skip end`: the root is a Q-element under the node 0, whose next request is the node 1.
+#[test]
+fn skips(rt: HostRuntime) -> Result<(), Fail> {
+    let alloc = rt.alloc();
+    let root = QPorts {
+        request: 0,
+        child_request: 2,
+        child_answer: 4,
+        latch: 3,
+        next: 1,
+    };
+    let mut rules = Rules::new(alloc, 5)?;
+    emit_q(alloc, &root, &mut rules)?;
+    emit_skip(alloc, 2, 4, &mut rules)?;
+    assert!(rt; turns(&rules, 1, &[high(3), low(4)], &[low(3)]));
+    assert!(rt; turns(&rules, 2, &[high(0), low(3)], &[high(3)]));
+    assert!(rt; turns(&rules, 3, &[high(4)], &[low(0)]));
+    assert!(rt; turns(&rules, 4, &[high(2)], &[low(2)]));
+    assert!(rt; rules.up(0).terms().is_empty());
+    assert!(rt; rules.down(0).terms().is_empty());
+    Ok(())
+}
+
+/// `in L : 4; out R : 4; var x : 4; begin *[L?x; R!x] end`: the loop has the nodes 45 and 46, the Q-element between
+/// receive and send the nodes 47 to 49, and 60 is the answer of the send.
+#[test]
+fn copies_again_and_again(rt: HostRuntime) -> Result<(), Fail> {
+    let alloc = rt.alloc();
+    let between = QPorts {
+        request: 46,
+        child_request: 47,
+        child_answer: 50,
+        latch: 48,
+        next: 49,
+    };
+    let mut rules = Rules::new(alloc, 69)?;
+    emit_loop(alloc, 43, 46, 60, &mut rules)?;
+    emit_q(alloc, &between, &mut rules)?;
+    assert!(rt; rules.up(45).terms().is_empty());
+    assert!(rt; rules.down(45).terms().is_empty());
+    assert!(rt; turns(&rules, 46, &[high(43), low(60)], &[high(60)]));
+    assert!(rt; turns(&rules, 47, &[high(46), low(48)], &[high(48)]));
+    assert!(rt; turns(&rules, 48, &[high(50)], &[low(46)]));
+    assert!(rt; turns(&rules, 49, &[high(48), low(50)], &[low(48)]));
+    Ok(())
+}
+
+/// `chan X : 1; var v : 1; begin X!1 || X?v end`: each branch stands behind a Q-element under the node 10.
+#[test]
+fn sends_beside_a_receive(rt: HostRuntime) -> Result<(), Fail> {
+    let alloc = rt.alloc();
+    let send = QPorts {
+        request: 10,
+        child_request: 12,
+        child_answer: 15,
+        latch: 13,
+        next: 14,
+    };
+    let receive = QPorts {
+        request: 10,
+        child_request: 18,
+        child_answer: 21,
+        latch: 19,
+        next: 20,
+    };
+    let mut rules = Rules::new(alloc, 26)?;
+    emit_q(alloc, &send, &mut rules)?;
+    emit_q(alloc, &receive, &mut rules)?;
+    assert!(rt; turns(&rules, 12, &[high(10), low(13)], &[high(13)]));
+    assert!(rt; turns(&rules, 13, &[high(15)], &[low(10)]));
+    assert!(rt; turns(&rules, 14, &[high(13), low(15)], &[low(13)]));
+    assert!(rt; turns(&rules, 18, &[high(10), low(19)], &[high(19)]));
+    assert!(rt; turns(&rules, 19, &[high(21)], &[low(10)]));
+    assert!(rt; turns(&rules, 20, &[high(19), low(21)], &[low(19)]));
+    Ok(())
+}
+
+/// The root's Q-element at its child's request, latch and child's answer.
+fn is_root(rules: &Rules, request: u32, latch: u32, answer: u32) -> bool
+    requires done { 1 < length rules.now.up }
+    requires request { request < length rules.now.up }
+    requires latch { latch < length rules.now.up }
+{
+    turns(rules, 1, &[high(latch), low(answer)], &[low(latch)])
+        && turns(rules, request, &[high(0), low(latch)], &[high(latch)])
+        && turns(rules, latch, &[high(answer)], &[low(0)])
+}
+
+fn root(child_request: u32, latch: u32, child_answer: u32) -> QPorts
+    ensures { result ≡ record { request = 0; child_request = child_request; child_answer = child_answer; latch = latch; next = 1 } }
+{
+    QPorts {
+        request: 0,
+        child_request,
+        child_answer,
+        latch,
+        next: 1,
+    }
+}
+
+/// The roots of `out X : 1; begin X!1 end`, of the program that copies, of the send beside a receive, and of
+/// `out A : 1; out B : 1; var x : 2; begin [x = 0 -> A!1 [] x < 2 -> B!1] end`.
+#[test]
+fn roots(rt: HostRuntime) -> Result<(), Fail> {
+    let alloc = rt.alloc();
+    let mut send = Rules::new(alloc, 10)?;
+    emit_q(alloc, &root(5, 6, 7), &mut send)?;
+    assert!(rt; is_root(&send, 5, 6, 7));
+    let mut copy = Rules::new(alloc, 69)?;
+    emit_q(alloc, &root(43, 44, 45), &mut copy)?;
+    assert!(rt; is_root(&copy, 43, 44, 45));
+    let mut beside = Rules::new(alloc, 26)?;
+    emit_q(alloc, &root(10, 11, 25), &mut beside)?;
+    assert!(rt; is_root(&beside, 10, 11, 25));
+    let mut choice = Rules::new(alloc, 60)?;
+    emit_q(alloc, &root(19, 20, 21), &mut choice)?;
+    assert!(rt; is_root(&choice, 19, 20, 21));
+    Ok(())
+}
