@@ -1,8 +1,8 @@
 -- What is written into rules, and what is left alone: for proofs of calls that write the guards of several nodes.
-use Rattle.std.specs.Prelude.{◌≡◌, ◌≢◌, ℕ, zero, suc, ◌<◌, ◌⊎◌, List, [], ◌∷◌, ◌++◌, length, slice_index_or, All, AllPairs, Contains}
-use Rattle.std.proofs.Common.{refl, sym, subst, ◌∙◌, inl, inr, suc-le-suc}
+use Rattle.std.specs.Prelude.{◌≡◌, ◌≢◌, ℕ, zero, suc, ◌<◌, ◌⊎◌, List, [], ◌∷◌, ◌++◌, length, slice_index_or, slice_set, All, AllPairs, Contains}
+use Rattle.std.proofs.Common.{refl, sym, ap, subst, ◌∙◌, inl, inr, suc-le-suc}
 use Rattle.std.proofs.Math.Nat.{zero-lt-suc}
-use Rattle.std.proofs.lemmas.List.{get_or-set_same, get_or-set_other, length-set}
+use Rattle.std.proofs.lemmas.List.{append-nil, get_or-set_same, get_or-set_other, length-set, set_comm}
 use Rattle.std.proofs.lemmas.List.Elements.{All-nil, All-cons, All-head, All-tail}
 use Rattle.prs_core.specs.Nets.{RulesValue, IsAlone, with_rules}
 use Rattle.prs_core.specs.Parts.{Owned, with_owned}
@@ -66,3 +66,22 @@ has_rules (p ∷ ps) r o distinct among up down =
     by : (p ≡ o) ⊎ Contains ps o → (Contains ps o → HasRules (with_owned ps next) o) → HasRules (with_owned ps next) o
     by (inl e) rest = subst (HasRules (with_owned ps next)) e (first (subst (λ (x : Owned). x.node < length r.up) (sym e) up) (subst (λ (x : Owned). x.node < length r.down) (sym e) down))
     by (inr there) rest = rest there
+
+-- nodes that differ may be written in any order
+with_past : (o : Owned) (os : List Owned) (r : RulesValue) → IsOther o.node os → with_owned os (with_rules o.node o.rules r) ≡ with_rules o.node o.rules (with_owned os r)
+with_past o [] r other = refl
+with_past o (p ∷ ps) r other =
+    let apart = All-head (λ (x : Owned). x.node ≢ o.node) p ps other in
+    ap (with_owned ps)
+    (ap (λ u. record { up = u; down = slice_set (slice_set r.down o.node o.rules.down) p.node p.rules.down }) (set_comm r.up o.node p.node o.rules.up p.rules.up (λ e. apart (sym e)))
+    ∙ ap (λ d. record { up = slice_set (slice_set r.up p.node p.rules.up) o.node o.rules.up; down = d }) (set_comm r.down o.node p.node o.rules.down p.rules.down (λ e. apart (sym e))))
+    ∙ with_past o ps (with_rules p.node p.rules r) (All-tail (λ (x : Owned). x.node ≢ o.node) p ps other)
+
+pub with_exchanged : (os us : List Owned) (r : RulesValue) → ((o : Owned) → Contains os o → IsOther o.node us) → with_owned (os ++ us) r ≡ with_owned (us ++ os) r
+with_exchanged [] us r apart = ap (λ l. with_owned l r) (sym (append-nil us))
+with_exchanged (o ∷ os) us r apart =
+    let next = with_rules o.node o.rules r in
+    with_exchanged os us next (λ x (k, within, is). apart x (suc k, suc-le-suc within, is))
+    ∙ (with_append us os next
+    ∙ (ap (with_owned os) (with_past o us r (apart o (zero, zero-lt-suc _, refl)))
+    ∙ sym (with_append us (o ∷ os) r)))
