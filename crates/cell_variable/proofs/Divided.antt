@@ -1,14 +1,16 @@
 -- A variable's block is made of the variable's own nodes and its merges.
-use Rattle.std.proofs.Common.{◌≡◌, ℕ, zero, suc, ◌+◌, ◌*◌, List, [], ◌∷◌, ◌++◌, length, Contains, refl, sym, ap, subst, ◌∙◌, arith, ◌⊎◌, inl, inr}
+use Rattle.std.proofs.Common.{◌≡◌, ◌≢◌, ◌≤◌, ◌<◌, ℕ, zero, suc, ◌+◌, ◌*◌, List, [], ◌∷◌, ◌++◌, length, Contains, refl, sym, ap, subst, ◌∙◌, arith, ◌⊎◌, inl, inr}
 use Rattle.std.specs.Prelude.{◌↔◌}
 use Rattle.std.specs.List.{flat_map}
-use Rattle.std.proofs.lemmas.List.Elements.{Contains-append_left, Contains-append_right, Contains-append_cases}
-use Rattle.prs_core.specs.Nets.{NodeRules}
+use Rattle.std.proofs.lemmas.List.Elements.{Contains-append_left, Contains-append_right, Contains-append_cases, Contains-get_or}
+use Rattle.prs_core.specs.Nets.{RulesValue, NodeRules}
 use Rattle.prs_core.specs.Pairs.{Pair, merged_true, merged_false}
-use Rattle.prs_core.specs.Parts.{Owned, owned, owned_from}
+use Rattle.prs_core.specs.Parts.{Owned, owned, owned_from, with_owned}
 use Rattle.prs_core.specs.Turning.{none_among}
+use Rattle.prs_core.specs.Writing.{IsOther, with_append, with_exchanged}
 use Rattle.cell_parallel.specs.Trees.{tree_rules, tree_owned}
 use Rattle.cell_variable.specs.Variables.{Bit, bit_at, bits_from, kept_rail, bit_written, bit_owned, bit_rules, bits_rules, written_leaves, variable_rules, variable_owned, merges_owned}
+use Rattle.cell_variable.proofs.BitPlaces.{not_before}
 
 owned_append : (from : ℕ) (rs us : List NodeRules) → owned_from from (rs ++ us) ≡ owned_from from rs ++ owned_from (from + length rs) us
 owned_append from [] us = let e : from + 0 ≡ from = omega arith in ap (λ k. owned_from k us) (sym e)
@@ -168,3 +170,90 @@ variable_divided width from sites o = (apart, together)
         by : Contains (own ++ tree) o ⊎ Contains merges o → Contains (bits ++ tree) o
         by (inr merged) = Contains-append_left bits tree o (joined sites 0 width from o (inr merged))
         by (inl there) = inner (Contains-append_cases own tree o there)
+
+-- the merges of the bits lie before what follows the bits, and the nodes of the bits behind the first of them
+merges_before : (sites : List (List Pair)) (at width from : ℕ) (o : Owned) → Contains (Merges sites at width from) o → o.node < from + 5 * width
+merges_before sites at zero from o among = absurd (none_among o among)
+merges_before sites at (suc n) from o (zero, within, is) = let e : from + 2 ≡ o.node = ap (λ (x : Owned). x.node) is in omega (arith, e)
+merges_before sites at (suc n) from o (suc zero, within, is) = let e : from + 3 ≡ o.node = ap (λ (x : Owned). x.node) is in omega (arith, e)
+merges_before sites at (suc n) from o (suc (suc k), within, is) = let less : o.node < from + 5 + 5 * n = merges_before sites (suc at) n (from + 5) o (k, omega arith, is) in omega (arith, less)
+
+own_behind : (width from : ℕ) (o : Owned) → Contains (Own width from) o → from ≤ o.node
+own_behind zero from o among = absurd (none_among o among)
+own_behind (suc n) from o (zero, within, is) = let e : from ≡ o.node = ap (λ (x : Owned). x.node) is in omega (arith, e)
+own_behind (suc n) from o (suc zero, within, is) = let e : from + 1 ≡ o.node = ap (λ (x : Owned). x.node) is in omega (arith, e)
+own_behind (suc n) from o (suc (suc zero), within, is) = let e : from + 4 ≡ o.node = ap (λ (x : Owned). x.node) is in omega (arith, e)
+own_behind (suc n) from o (suc (suc (suc k)), within, is) = let less : from + 5 ≤ o.node = own_behind n (from + 5) o (k, omega arith, is) in omega (arith, less)
+
+others_from : (node : ℕ) (os : List Owned) → ((o : Owned) → Contains os o → o.node ≢ node) → IsOther node os
+others_from node os far k d within = far _ (Contains-get_or os k d within)
+
+abbrev Pair_of : (sites : List (List Pair)) → (at from : ℕ) → List Owned
+Pair_of sites at from = owned (from + 2) (merged_true sites at) ∷ owned (from + 3) (merged_false sites at) ∷ []
+
+-- a bit's block is written as its own nodes and then its merges
+block_written : (sites : List (List Pair)) (at from : ℕ) (r : RulesValue) → with_owned (bit_block sites at from) r ≡ with_owned (Pair_of sites at from) (with_owned (bit_owned (bit_at from)) r)
+block_written sites at from r =
+    let b = bit_at from in
+    with_exchanged (Pair_of sites at from) (owned (from + 4) (bit_written b) ∷ []) (with_owned (owned from (kept_rail b.w.t b.x.f b.w.f) ∷ owned (from + 1) (kept_rail b.w.f b.x.t b.w.t) ∷ []) r)
+    (λ o among. others_from o.node (owned (from + 4) (bit_written b) ∷ []) (λ x here e. apart o among (only x here ∙ e)))
+  where
+    only : (x : Owned) → Contains (owned (from + 4) (bit_written (bit_at from)) ∷ []) x → from + 4 ≡ x.node
+    only x (zero, within, is) = ap (λ (y : Owned). y.node) is
+    only x (suc k, within, is) = absurd (omega arith)
+
+    apart : (o : Owned) → Contains (Pair_of sites at from) o → from + 4 ≢ o.node
+    apart o (zero, within, is) e = let same : from + 2 ≡ o.node = ap (λ (y : Owned). y.node) is in omega (arith, same, e)
+    apart o (suc zero, within, is) e = let same : from + 3 ≡ o.node = ap (λ (y : Owned). y.node) is in omega (arith, same, e)
+    apart o (suc (suc k), within, is) e = absurd (omega arith)
+
+pair_past : (sites : List (List Pair)) (at n from : ℕ) (r : RulesValue) → with_owned (Own n (from + 5)) (with_owned (Pair_of sites at from) r) ≡ with_owned (Pair_of sites at from) (with_owned (Own n (from + 5)) r)
+pair_past sites at n from r =
+    with_exchanged (Pair_of sites at from) (Own n (from + 5)) r (λ o among. others_from o.node (Own n (from + 5)) (λ x here e. apart o among x here e))
+    ∙ with_append (Own n (from + 5)) (Pair_of sites at from) r
+  where
+    apart : (o : Owned) → Contains (Pair_of sites at from) o → (x : Owned) → Contains (Own n (from + 5)) x → x.node ≢ o.node
+    apart o (zero, within, is) x here e = let same : from + 2 ≡ o.node = ap (λ (y : Owned). y.node) is in let far = own_behind n (from + 5) x here in omega (arith, same, far, e)
+    apart o (suc zero, within, is) x here e = let same : from + 3 ≡ o.node = ap (λ (y : Owned). y.node) is in let far = own_behind n (from + 5) x here in omega (arith, same, far, e)
+    apart o (suc (suc k), within, is) x here e = absurd (omega arith)
+
+bits_written : (sites : List (List Pair)) (at width from : ℕ) (r : RulesValue) → with_owned (owned_from from (bits_rules sites at (bits_from width from))) r ≡ with_owned (Merges sites at width from) (with_owned (Own width from) r)
+bits_written sites at zero from r = refl
+bits_written sites at (suc n) from r =
+    let deeper = owned_from (from + 5) (bits_rules sites (suc at) (bits_from n (from + 5))) in
+    let pair = Pair_of sites at from in
+    let mine = with_owned (bit_owned (bit_at from)) r in
+    let merges = Merges sites (suc at) n (from + 5) in
+    ap (λ l. with_owned l r) (bits_block sites at n from)
+    ∙ (with_append (bit_block sites at from) deeper r
+    ∙ (ap (with_owned deeper) (block_written sites at from r)
+    ∙ (bits_written sites (suc at) n (from + 5) (with_owned pair mine)
+    ∙ (ap (with_owned merges) (pair_past sites at n from mine)
+    ∙ ap (λ x. with_owned merges (with_owned pair x)) (sym (with_append (bit_owned (bit_at from)) (Own n (from + 5)) r))))))
+
+pub variable_written : (width from : ℕ) (sites : List (List Pair)) (r : RulesValue) → with_owned (merges_owned sites 0 (bits_from width from)) (with_owned (variable_owned width from) r) ≡ with_owned (owned_from from (variable_rules width from sites)) r
+variable_written width from sites r =
+    sym (ap (λ l. with_owned l r) whole
+    ∙ (with_append bits tree r
+    ∙ (ap (with_owned tree) (bits_written sites 0 width from r)
+    ∙ (sym (with_append merges tree (with_owned own r))
+    ∙ (with_exchanged merges tree (with_owned own r) (λ o among. others_from o.node tree (λ x here e. let before = merges_before sites 0 width from o among in let behind = not_before (from + 5 * width) (tree_rules (written_leaves width from) (from + 5 * width)) x here in omega (arith, before, behind, e)))
+    ∙ (with_append tree merges (with_owned own r)
+    ∙ ap (with_owned merges) (sym (with_append own tree r))))))))
+  where
+    bits : List Owned
+    bits = owned_from from (bits_rules sites 0 (bits_from width from))
+
+    tree : List Owned
+    tree = tree_owned (written_leaves width from) (from + 5 * width)
+
+    own : List Owned
+    own = Own width from
+
+    merges : List Owned
+    merges = Merges sites 0 width from
+
+    whole : owned_from from (variable_rules width from sites) ≡ bits ++ tree
+    whole =
+        owned_append from (bits_rules sites 0 (bits_from width from)) (tree_rules (written_leaves width from) (from + 5 * width))
+        ∙ ap (λ k. bits ++ owned_from (from + k) (tree_rules (written_leaves width from) (from + 5 * width))) (bits_length sites 0 width from)

@@ -80,3 +80,6 @@ high_first (suc n) value from = (if value % 2 == 1 then from else from + 1) ∷ 
 -- a write site answers once all bits are written: r & va -> k+, ~va -> k-
 abbrev pub write_answer : (request all_written : ℕ) → NodeRules
 write_answer request va = site_answer request va
+
+abbrev pub write_owned : (request all_written answer : ℕ) → List Owned
+write_owned request va answer = owned answer (write_answer request va) ∷ []

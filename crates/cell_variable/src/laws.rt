@@ -1,8 +1,9 @@
 //! Laws of variables, their merges and their write sites.
 
-ghost use Rattle.std.specs.Prelude.{◌≢◌, ◌<◌, ◌≤◌, ◌∷◌, ◌+◌, ◌↔◌, ◌++◌, List, ℕ, length, AllPairs, Contains};
+ghost use Rattle.std.specs.Prelude.{◌≡◌, ◌≢◌, ◌<◌, ◌≤◌, ◌∷◌, ◌+◌, ◌↔◌, ◌++◌, List, ℕ, length, AllPairs, Contains};
+ghost use Rattle.prs_core.specs.Nets.{RulesValue};
 ghost use Rattle.prs_core.specs.Pairs.{Pair};
-ghost use Rattle.prs_core.specs.Parts.{Owned, Keeps, owned_from};
+ghost use Rattle.prs_core.specs.Parts.{Owned, Keeps, owned_from, with_owned};
 ghost use Rattle.prs_core.specs.Sites.{site_part};
 ghost use Rattle.cell_variable.specs.Variables.{bits_from, variable_rules, variable_owned, merges_owned};
 ghost use Rattle.cell_variable.specs.VariableParts.{merge_part, variable_part};
@@ -21,8 +22,11 @@ pub fn variable_keeps()
     site_keeps();
 }
 
-/// Law: the nodes of a variable's block with their rules are the variable's own and its merges.
+/// Law: the nodes of a variable's block with their rules are the variable's own and its merges, and to write the own
+/// nodes and then the merges is to write the block.
 pub fn variable_divided()
-    ensures { (width from : ℕ) (sites : List (List Pair)) (o : Owned)
+    ensures nodes { (width from : ℕ) (sites : List (List Pair)) (o : Owned)
         → Contains (owned_from from (variable_rules width from sites)) o ↔ Contains (variable_owned width from ++ merges_owned sites 0 (bits_from width from)) o }
+    ensures written { (width from : ℕ) (sites : List (List Pair)) (r : RulesValue)
+        → with_owned (merges_owned sites 0 (bits_from width from)) (with_owned (variable_owned width from) r) ≡ with_owned (owned_from from (variable_rules width from sites)) r }
 {}

@@ -3,7 +3,7 @@
 ghost use Rattle.std.specs.Prelude.{◌≡◌, ◌≢◌, ℕ, ◌+◌, ◌*◌, ◌<◌, ◌≤◌, [], ◌∷◌, length, All, OnOk, IfOk};
 ghost use Rattle.prs_core.specs.Nets.{with_rules, is_high, IsAlone};
 ghost use Rattle.prs_core.specs.Parts.{Owned, with_owned};
-ghost use Rattle.cell_variable.specs.Variables.{kept_rail, bit_at, bit_written, bit_owned, variable_owned, write_answer};
+ghost use Rattle.cell_variable.specs.Variables.{kept_rail, bit_at, bit_written, bit_owned, variable_owned, write_owned};
 
 use cell_parallel::emit_tree;
 use prs_core::{Guard, Rules, Term, all_of, high, low};
@@ -112,7 +112,7 @@ pub fn emit_write_site(
     requires all_written { all_written < length rules.old.up }
     requires answer { answer < length rules.old.up }
     requires apart { All (λ node. node ≢ answer) (request ∷ all_written ∷ []) }
-    ensures made { OnOk result (rules.new ≡ with_rules answer (write_answer request all_written) rules.old) }
+    ensures made { OnOk result (rules.new ≡ with_owned (write_owned request all_written answer) rules.old) }
     ensures nodes { length rules.new.up ≡ length rules.old.up }
     ensures others { (node : ℕ) → node ≢ answer → IsAlone rules.old rules.new node }
 {
