@@ -13,3 +13,4 @@ pub mod Waiting
 pub mod SelectKeeps
 pub mod AgainKeeps
 pub mod WrongBodies
+pub mod Worked
