@@ -51,6 +51,7 @@ taken_wire request rail taken = wire taken (λ m. m.value request && m.value rai
 abbrev pub taken_wires : (request : ℕ) → List PortBit → List Wire
 taken_wires request bits = flat_map (λ (b : PortBit). taken_wire request b.rail.t b.taken.t ∷ taken_wire request b.rail.f b.taken.f ∷ []) bits
 
+-- A receive port takes what is on the channel's rails while it is asked, and holds it until both have let go.
 abbrev pub port_part : (request ack : ℕ) → List PortBit → Part
 port_part request ack bits = record {
   own = owned_at (rails_of (taken_pairs bits)) (port_rules request (channel_pairs bits));
@@ -63,6 +64,7 @@ port_part request ack bits = record {
   notes = no_notes;
 }
 
+-- all nodes at its bits
 abbrev pub port_nodes : List PortBit → List ℕ
 port_nodes bits = flat_map (λ (b : PortBit). b.rail.t ∷ b.rail.f ∷ b.taken.t ∷ b.taken.f ∷ []) bits
 

@@ -16,6 +16,7 @@ answering request answer = wire answer (λ m. m.value request) (λ m. not (m.val
 abbrev pub moved_since : (request : ℕ) → Moment → ℕ → ℕ → Bool
 moved_since request m moved node = if moved == request then false else moved == node || m.noted node
 
+-- A skip answers its request.
 abbrev pub skip_part : (request answer : ℕ) → Part
 skip_part request answer = record {
   own = skip_owned request answer;
@@ -28,7 +29,7 @@ skip_part request answer = record {
   notes = no_notes;
 }
 
--- Its child's request rises once for each request, and the next request rises once that handshake is over.
+-- A Q-element asks its child once for each request of its own, and raises the next request once that handshake is over.
 abbrev pub q_part : QPorts → Part
 q_part p = record {
   own = q_owned p;
@@ -47,7 +48,7 @@ q_part p = record {
 abbrev pub q_nodes : QPorts → List ℕ
 q_nodes p = p.request ∷ p.child_request ∷ p.child_answer ∷ p.latch ∷ p.next ∷ []
 
--- Its request rises once and never falls. Under it the body is asked again and again. The loop's own answer never moves.
+-- A loop's request rises once and never falls. Under it the body is asked again and again. The loop's own answer never moves.
 abbrev pub loop_part : (request answer body_request body_answer : ℕ) → Part
 loop_part request answer body_request body_answer = record {
   own = owned answer no_rules ∷ loop_owned request body_request body_answer;

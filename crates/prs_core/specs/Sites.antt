@@ -1,4 +1,4 @@
--- The answer of a site, where several sites share the request and acknowledge of one channel or variable, one at a time.
+-- The answer of a site (Martin): several sites share the acknowledge of one end of a channel, or of one variable, one at a time.
 use Rattle.std.specs.Prelude.{ℕ, Bool, not, ◌&&◌, List, [], ◌∷◌, map}
 use Rattle.prs_core.specs.Nets.{NodeRules, is_high, is_low, one_term}
 use Rattle.prs_core.specs.Parts.{Part, Moment, Wire, wire, owned, all_low, never_blocked, no_notes}
