@@ -1,20 +1,19 @@
 -- A guarded repetition keeps its contract: it is such a machine, and its table is tried out.
-use Rattle.std.proofs.Common.{◌≡◌, ◌≢◌, ℕ, zero, suc, ◌<◌, ◌+◌, Bool, true, false, not, List, [], ◌∷◌, ◌++◌, length, map, slice_index_or, arith, ap, sym, ◌∙◌, refl, subst, inl, inr, ◌⊎◌}
+use Rattle.std.proofs.Common.{◌≡◌, ℕ, ◌<◌, Bool, true, false, not, List, [], ◌∷◌, length, map, arith, ap, sym, ◌∙◌, refl, subst, inl, inr, ◌⊎◌}
 use Rattle.std.specs.Prelude.{◌&&◌, ◌||◌, if◌then◌else◌, ◌==◌, Contains}
 use Rattle.std.proofs.Math.Logic.{⊎_elim}
-use Rattle.prs_core.specs.Nets.{is_high, is_low, one_term}
-use Rattle.prs_core.specs.Moves.{guard_holds, literal_holds, term_holds}
-use Rattle.prs_core.specs.Pairs.{rails_of, lows, or_of}
-use Rattle.prs_core.specs.Parts.{Owned, owned, Part, Moment, Wire, IsFirst, IsMove, IsKept, Keeps, all_low, fires, may_move, turned, after}
+use Rattle.prs_core.specs.Moves.{guard_holds}
+use Rattle.prs_core.specs.Pairs.{rails_of, or_of}
+use Rattle.prs_core.specs.Parts.{Owned, owned, Moment, Wire, IsFirst, IsKept, Keeps, all_low, fires, may_move}
 use Rattle.prs_core.specs.Keeping.{kept_by}
 use Rattle.cell_select.specs.Selections.{joined_answer, evaluation, turn_request, leave_latch, leave_answer}
-use Rattle.cell_select.specs.Contract.{Branch, Place, AgainNodes, again_nodes, again_owned, again_part, again_own, again_answer, rises_under, eval_wire, start_wire, start_wires, request_wire, branch_wires, latches_of, starts_of, answers_of, guards_of, controls_of, guards_neutral, guards_valid, guards_false, none_true, alone_true, one_true, branches_idle, AreApart, as_evaluated}
+use Rattle.cell_select.specs.Contract.{Branch, Place, AgainNodes, again_nodes, again_owned, again_part, again_own, again_answer, rises_under, eval_wire, start_wire, start_wires, request_wire, branch_wires, latches_of, starts_of, answers_of, guards_of, guards_neutral, guards_valid, guards_false, none_true, alone_true, one_true, AreApart}
 use Rattle.cell_select.proofs.Tables.{implies, implies_at, and_left, and_right, both, not_true, true_not, true_false}
-use Rattle.cell_select.proofs.Distinct.{Distinct, distinct_from}
-use Rattle.cell_select.proofs.Places.{IsPlace, Among, Apart, at_place, one_or_apart, contains_cons, contains_none, contains_here, contains_next, latch_owned, start_owned, IsMade, branches_owned, branch_own, latch_there, start_there, place_in, IsBranchWire, wire_in, d_wire}
-use Rattle.cell_select.proofs.Rails.{seen_rails, consistent, rails_consistent, is_calm, IsQuiet, quiet_among, some_terms, low_terms, or_up, or_down, only_latch, only_start, only_answer, falses_are}
-use Rattle.cell_select.proofs.Machines.{Machine, Setting, View, bit_at, can, when, when_at, whole_test, controls, state_of, extra_of}
-use Rattle.cell_select.proofs.Views.{IsStill, AsRule, AsPlaced, InFrame, InBranch, IsPart, fires_is, aim, all_quiet, view_kept, firm_of, apart_of, promised_of, IsPromise, FramePromise, StartPromise}
+use Rattle.cell_select.proofs.Distinct.{distinct_from}
+use Rattle.cell_select.proofs.Places.{IsPlace, Apart, at_place, one_or_apart, contains_cons, contains_none, contains_here, contains_next, latch_owned, start_owned, IsMade, branches_owned, branch_own, latch_there, start_there, place_in, wire_in}
+use Rattle.cell_select.proofs.Rails.{seen_rails, consistent, rails_consistent, quiet_among, some_terms, low_terms, only_latch, only_start, only_answer, falses_are}
+use Rattle.cell_select.proofs.Machines.{Machine, Setting, View, bit_at, can, whole_test, controls, state_of, extra_of}
+use Rattle.cell_select.proofs.Views.{AsRule, AsPlaced, InFrame, InBranch, IsPart, fires_is, all_quiet, view_kept, firm_of, apart_of, promised_of, IsPromise}
 use Rattle.cell_select.proofs.Waiting.{or_cases, some_rail, low_guard, one_place, alone_valid, valid_false, false_valid, MayMove, high_may, low_may, answer_may, latch_up, start_up, latch_still, start_still, idle_is, first_wires, low_append, controls_low, singles_first}
 
 -- the request, the answer, the request of a turn, the joined answers, the request of the guards, whether a latch is up, the latch of the

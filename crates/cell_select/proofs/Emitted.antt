@@ -1,5 +1,5 @@
 -- What the loops over the branches have written so far.
-use Rattle.std.proofs.Common.{◌≡◌, ◌≢◌, ℕ, zero, suc, ◌<◌, ◌*◌, ◌+◌, List, [], ◌∷◌, ◌++◌, All, length, map, take, drop, slice_index_or, arith, ap, sym, ◌∙◌, refl, subst}
+use Rattle.std.proofs.Common.{◌≡◌, ◌≢◌, ℕ, suc, ◌<◌, ◌*◌, ◌+◌, List, [], ◌∷◌, ◌++◌, All, length, map, take, drop, slice_index_or, arith, ap, sym, ◌∙◌, refl, subst}
 use Rattle.std.proofs.lemmas.List.{take_more}
 use Rattle.std.proofs.Math.Seq.{drop-cons}
 use Rattle.prs_core.specs.declared.rule.Literal.{Literal}

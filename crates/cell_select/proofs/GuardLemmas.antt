@@ -1,10 +1,9 @@
 -- The guards are over the nodes that they are given, and the rules of several nodes one after another.
-use Rattle.std.proofs.Common.{◌≡◌, ◌≢◌, ℕ, zero, suc, ◌<◌, ◌*◌, ◌+◌, List, [], ◌∷◌, ◌++◌, All, length, map, take, drop, slice_index_or, arith, ap, sym, ◌∙◌, refl, subst}
+use Rattle.std.proofs.Common.{◌≡◌, ℕ, zero, suc, ◌<◌, ◌*◌, ◌+◌, List, [], ◌∷◌, ◌++◌, All, length, map, take, drop, slice_index_or, arith, sym, ◌∙◌, refl, subst}
 use Rattle.std.proofs.lemmas.List.Elements.{All-nil, All-cons, All-head, All-tail, All-append}
 use Rattle.prs_core.specs.declared.rule.Literal.{Literal}
-use Rattle.prs_core.specs.Nets.{GuardValue, NodeRules, RulesValue, IsBelow, IsAlone, is_high, is_low, with_rules}
+use Rattle.prs_core.specs.Nets.{GuardValue, RulesValue, IsBelow, IsAlone, is_high, is_low}
 use Rattle.prs_core.specs.Pairs.{Pair, lows, rails_of}
-use Rattle.prs_core.specs.Parts.{Owned, owned, owned_at, with_owned}
 use Rattle.cell_select.specs.Selections.{all_false}
 use Rattle.cell_select.specs.PortNodes.{pairs_of}
 use Rattle.cell_select.proofs.PairLists.{rails_again}

@@ -14,3 +14,4 @@ pub mod SelectKeeps
 pub mod AgainKeeps
 pub mod WrongBodies
 pub mod Worked
+pub mod Written

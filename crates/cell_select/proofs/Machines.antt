@@ -1,19 +1,17 @@
 -- A selection or a guarded repetition as a machine of few truth values, and the theorem that both stand on. Its controls are the values of
 -- the nodes at hand, the last three those of the latch, the start and the answer of one branch; beside them stands what its rails say.
-use Rattle.std.proofs.Common.{◌≡◌, ◌≢◌, ℕ, zero, suc, ◌<◌, ◌+◌, Bool, true, false, not, List, [], ◌∷◌, ◌++◌, length, map, slice_index_or, arith, ap, sym, ◌∙◌, refl, subst, inl, inr, ◌⊎◌, eqb-true}
+use Rattle.std.proofs.Common.{◌≡◌, ◌≢◌, ℕ, zero, suc, ◌<◌, ◌+◌, Bool, true, false, not, List, [], ◌∷◌, ◌++◌, length, map, slice_index_or, arith, ap, sym, ◌∙◌, refl, subst, eqb-true}
 use Rattle.std.specs.Prelude.{◌&&◌, ◌||◌, if◌then◌else◌, ◌==◌}
-use Rattle.std.specs.List.{list_all}
 use Rattle.std.proofs.Math.Logic.{⊎_elim}
 use Rattle.std.proofs.lemmas.List.{append_assoc}
-use Rattle.prs_core.specs.Moves.{guard_holds}
 use Rattle.prs_core.specs.Pairs.{rails_of}
-use Rattle.prs_core.specs.Parts.{Owned, Moment, turned, all_low, fires}
-use Rattle.cell_select.specs.Contract.{Branch, Place, guards_of, controls_of, guards_neutral, guards_false, none_true, alone_true, as_evaluated}
+use Rattle.prs_core.specs.Parts.{Moment, turned, all_low}
+use Rattle.cell_select.specs.Contract.{Branch, Place, guards_of, controls_of, as_evaluated}
 use Rattle.cell_select.proofs.Tables.{implies, implies_at, and_left, and_right, both, not_true, true_not, true_false, all_lists, all_lists_at, all_below, all_below_at, other, same_number, other_number}
-use Rattle.cell_select.proofs.Distinct.{Fresh, Distinct, Cross, flip, flips, still, value_at, one_place, cross_at, distinct_left, distinct_right, distinct_cross, fresh_left, fresh_right, swapped, low_still, cross_turned, cross_left, cross_right}
-use Rattle.cell_select.proofs.Places.{IsPlace, Among, Apart, one_or_apart}
-use Rattle.cell_select.proofs.Rails.{guards_single, is_won, seen_rails, consistent, rails_go, rails_consistent, is_calm, IsQuiet, quiet_among, false_among}
-use Rattle.cell_select.proofs.RailMoves.{IsRail, RailMoved, rail_moved, seen_still, singles_still}
+use Rattle.cell_select.proofs.Distinct.{Fresh, Distinct, Cross, flip, flips, still, value_at, one_place, cross_at, distinct_left, distinct_right, distinct_cross, fresh_left, fresh_right, swapped, low_still, cross_turned}
+use Rattle.cell_select.proofs.Places.{IsPlace}
+use Rattle.cell_select.proofs.Rails.{guards_single, seen_rails, consistent, rails_go, is_calm}
+use Rattle.cell_select.proofs.RailMoves.{IsRail, rail_moved, seen_still, singles_still}
 
 pub record Machine : Type 0 where
   -- the number of its controls, the place of the guards' request, and that of the latch, before the start and the answer

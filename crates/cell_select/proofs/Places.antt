@@ -1,10 +1,10 @@
 -- Places of branches in a list, and what stands in the lists that are made of the branches.
-use Rattle.std.proofs.Common.{◌≡◌, ◌≢◌, ℕ, zero, suc, ◌<◌, ◌+◌, Bool, true, false, List, [], ◌∷◌, ◌++◌, length, map, slice_index_or, arith, ap, sym, ◌∙◌, refl, subst, inl, inr, ◌⊎◌}
+use Rattle.std.proofs.Common.{◌≡◌, ℕ, zero, suc, ◌<◌, List, [], ◌∷◌, ◌++◌, length, map, slice_index_or, arith, ap, sym, ◌∙◌, refl, subst, inl, inr, ◌⊎◌}
 use Rattle.std.specs.Prelude.{Contains}
 use Rattle.std.proofs.Math.Logic.{⊎_elim}
 use Rattle.std.proofs.lemmas.List.{append_assoc, map-append, append-nil}
 use Rattle.std.proofs.lemmas.List.Elements.{Contains-append_left, Contains-append_right, Contains-append_cases}
-use Rattle.prs_core.specs.Nets.{NodeRules, is_high}
+use Rattle.prs_core.specs.Nets.{is_high}
 use Rattle.prs_core.specs.Pairs.{Pair}
 use Rattle.prs_core.specs.Parts.{Owned, owned, owned_at, Wire}
 use Rattle.cell_select.specs.Selections.{all_false, latches, started, starts}

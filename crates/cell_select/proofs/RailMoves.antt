@@ -1,14 +1,13 @@
 -- What the rails say after one of them has moved, or a node that is no rail.
-use Rattle.std.proofs.Common.{◌≡◌, ◌≢◌, ℕ, zero, suc, ◌<◌, ◌+◌, Bool, true, false, not, List, [], ◌∷◌, ◌++◌, length, map, arith, ap, sym, ◌∙◌, refl, subst, inl, inr, ◌⊎◌, eqb-true}
-use Rattle.std.specs.Prelude.{◌&&◌, ◌||◌, if◌then◌else◌, ◌==◌}
-use Rattle.std.specs.List.{list_all}
+use Rattle.std.proofs.Common.{◌≡◌, ◌≢◌, ℕ, Bool, true, false, not, List, [], ◌∷◌, ◌++◌, ap, sym, ◌∙◌, refl, subst, inl, inr, ◌⊎◌, eqb-true}
+use Rattle.std.specs.Prelude.{◌&&◌, if◌then◌else◌, ◌==◌}
 use Rattle.std.proofs.Math.Logic.{⊎_elim}
 use Rattle.prs_core.specs.Pairs.{Pair, rails_of}
-use Rattle.prs_core.specs.Parts.{turned, all_low}
+use Rattle.prs_core.specs.Parts.{turned}
 use Rattle.cell_select.specs.Contract.{Branch, Place, guards_of, guards_neutral, guards_false, none_true, alone_true}
 use Rattle.cell_select.proofs.Tables.{implies, and_left, and_right, both, not_true, true_not, true_false}
-use Rattle.cell_select.proofs.Distinct.{Fresh, Distinct, turned_here, turned_other, fresh_left, fresh_right, low_still}
-use Rattle.cell_select.proofs.Places.{IsPlace, Among, Apart, at_place, one_or_apart}
+use Rattle.cell_select.proofs.Distinct.{Fresh, Distinct, turned_here, turned_other, low_still}
+use Rattle.cell_select.proofs.Places.{IsPlace, Apart, one_or_apart}
 use Rattle.cell_select.proofs.Rails.{is_single, guards_single, is_won, seen_rails, consistent, rails_go, rails_consistent, false_among, false_at, neutral_at}
 
 abbrev pub IsRail : Place → ℕ → Type 0

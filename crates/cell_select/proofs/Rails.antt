@@ -1,18 +1,17 @@
 -- What the rails of the guards say, seen from one branch and from all.
-use Rattle.std.proofs.Common.{◌≡◌, ◌≢◌, ℕ, zero, suc, ◌<◌, ◌+◌, Bool, true, false, not, List, [], ◌∷◌, ◌++◌, length, map, arith, ap, sym, ◌∙◌, refl, subst, inl, inr, ◌⊎◌}
+use Rattle.std.proofs.Common.{◌≡◌, ℕ, Bool, true, false, not, List, [], ◌∷◌, ◌++◌, map, ap, sym, ◌∙◌, refl, subst, inl, inr, ◌⊎◌}
 use Rattle.std.specs.Prelude.{◌&&◌, ◌||◌, if◌then◌else◌}
 use Rattle.std.specs.List.{list_all, list_any}
 use Rattle.std.proofs.Math.Logic.{⊎_elim}
 use Rattle.prs_core.specs.declared.rule.Literal.{Literal}
-use Rattle.prs_core.specs.Nets.{NodeRules, is_high, is_low, one_term}
-use Rattle.prs_core.specs.Moves.{literal_holds, term_holds, guard_holds}
-use Rattle.prs_core.specs.Pairs.{Pair, lows, rails_of, or_of}
-use Rattle.prs_core.specs.Parts.{turned, all_low, is_valid}
+use Rattle.prs_core.specs.Nets.{is_high, one_term}
+use Rattle.prs_core.specs.Moves.{literal_holds, term_holds}
+use Rattle.prs_core.specs.Pairs.{Pair, lows, or_of}
+use Rattle.prs_core.specs.Parts.{all_low}
 use Rattle.cell_select.specs.Selections.{all_false}
-use Rattle.cell_select.specs.Contract.{Branch, Place, latches_of, starts_of, answers_of, guards_of, controls_of, guards_neutral, guards_valid, guards_false, none_true, alone_true, one_true, branches_idle}
-use Rattle.cell_select.proofs.Tables.{implies, implies_at, and_left, and_right, both, not_true, true_not, true_false, all_lists, all_lists_at}
-use Rattle.cell_select.proofs.Distinct.{Fresh, Distinct, Cross, flip, still, turned_here, turned_other, low_still, fresh_left, fresh_right}
-use Rattle.cell_select.proofs.Places.{IsPlace, Among, Apart, at_place, one_or_apart, among_middle}
+use Rattle.cell_select.specs.Contract.{Branch, Place, latches_of, starts_of, answers_of, guards_of, controls_of, guards_neutral, guards_false, none_true, alone_true}
+use Rattle.cell_select.proofs.Tables.{implies, implies_at, and_left, and_right, both, not_true, all_lists_at}
+use Rattle.cell_select.proofs.Places.{IsPlace, Among, among_middle}
 
 -- one rail of a guard at most is high
 abbrev pub is_single : (ℕ → Bool) → Pair → Bool

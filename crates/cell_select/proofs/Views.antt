@@ -1,18 +1,17 @@
 -- Every move seen from a branch that it concerns, and what holds of all parts that are such machines.
 use Rattle.std.proofs.Common.{◌≡◌, ◌≢◌, ℕ, zero, suc, ◌<◌, ◌+◌, Bool, true, false, not, List, [], ◌∷◌, ◌++◌, length, map, slice_index_or, arith, ap, sym, ◌∙◌, refl, subst, inl, inr, ◌⊎◌}
-use Rattle.std.specs.Prelude.{◌&&◌, ◌||◌, if◌then◌else◌, ◌==◌, Contains}
-use Rattle.std.specs.List.{list_all}
+use Rattle.std.specs.Prelude.{◌&&◌, ◌||◌, if◌then◌else◌, Contains}
 use Rattle.std.proofs.Math.Logic.{⊎_elim}
 use Rattle.prs_core.specs.Moves.{guard_holds}
 use Rattle.prs_core.specs.Pairs.{rails_of}
-use Rattle.prs_core.specs.Parts.{Owned, Part, Moment, Wire, IsMove, IsOwnMove, IsNeighbours, turned, all_low, fires, may_move}
+use Rattle.prs_core.specs.Parts.{Owned, Part, Moment, Wire, IsMove, turned, all_low, fires, may_move}
 use Rattle.cell_select.specs.Contract.{Branch, Place, guards_of, controls_of, guards_neutral, guards_false, none_true, alone_true, as_evaluated, request_wire}
-use Rattle.cell_select.proofs.Tables.{implies, implies_at, and_left, and_right, both, not_true, true_not, true_false}
-use Rattle.cell_select.proofs.Distinct.{Fresh, Distinct, flip, value_at, one_place, distinct_left, distinct_right, distinct_cross, cross_at, fresh_left, fresh_right}
+use Rattle.cell_select.proofs.Tables.{implies_at, and_left, and_right, both, not_true, true_not, true_false}
+use Rattle.cell_select.proofs.Distinct.{Fresh, flip, value_at, one_place, distinct_left, distinct_cross, cross_at, fresh_left, fresh_right}
 use Rattle.cell_select.proofs.Places.{IsPlace, Among, Apart, one_or_apart, IsBranchWire, t_wire, f_wire, d_wire}
-use Rattle.cell_select.proofs.Rails.{is_won, seen_rails, consistent, rails_consistent, is_calm, IsQuiet, quiet_among, false_among, among_cases}
+use Rattle.cell_select.proofs.Rails.{is_won, seen_rails, rails_consistent, is_calm, IsQuiet, quiet_among, false_among, among_cases}
 use Rattle.cell_select.proofs.RailMoves.{IsRail}
-use Rattle.cell_select.proofs.Machines.{Machine, Setting, View, bit_at, can, under_way, won_bit, same_seen, controls, controls_length, around, state_of, step_of, won_of, both_of, aim_of, control_moved, control_kept, RailMay, rail_kept}
+use Rattle.cell_select.proofs.Machines.{Machine, Setting, View, bit_at, can, under_way, won_bit, controls, controls_length, around, state_of, step_of, won_of, both_of, aim_of, control_moved, control_kept, RailMay, rail_kept}
 
 get_right : (xs ys : List ℕ) (i : ℕ) → slice_index_or (xs ++ ys) (length xs + i) 0 ≡ slice_index_or ys i 0
 get_right [] ys i = let e : 0 + i ≡ i = omega arith in ap (λ k. slice_index_or ys k 0) e

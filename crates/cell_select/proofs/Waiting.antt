@@ -1,15 +1,13 @@
 -- Rails that may move, and guards that are valid.
-use Rattle.std.proofs.Common.{◌≡◌, ◌≢◌, ℕ, zero, suc, Bool, true, false, not, List, [], ◌∷◌, ◌++◌, length, map, arith, ap, sym, ◌∙◌, refl, subst, inl, inr, ◌⊎◌}
+use Rattle.std.proofs.Common.{◌≡◌, ℕ, Bool, true, false, not, List, [], ◌∷◌, ◌++◌, map, ap, sym, ◌∙◌, refl, subst, inl, inr, ◌⊎◌}
 use Rattle.std.specs.Prelude.{◌&&◌, ◌||◌, if◌then◌else◌, Contains}
-use Rattle.std.specs.List.{list_all}
 use Rattle.std.proofs.Math.Logic.{⊎_elim}
 use Rattle.std.proofs.lemmas.List.Folds.{list_all-append}
-use Rattle.prs_core.specs.Nets.{is_high, is_low}
-use Rattle.prs_core.specs.Moves.{literal_holds, guard_holds}
-use Rattle.prs_core.specs.Pairs.{Pair, lows, rails_of}
-use Rattle.prs_core.specs.Parts.{Moment, Wire, all_low, is_valid, may_move, fires}
+use Rattle.prs_core.specs.Moves.{guard_holds}
+use Rattle.prs_core.specs.Pairs.{rails_of}
+use Rattle.prs_core.specs.Parts.{Moment, Wire, all_low, is_valid, may_move}
 use Rattle.cell_select.specs.Contract.{Branch, Place, latches_of, starts_of, answers_of, guards_of, controls_of, guards_neutral, guards_valid, guards_false, none_true, alone_true, one_true, branches_idle, branch_wires}
-use Rattle.cell_select.proofs.Tables.{implies, and_left, and_right, both, not_true, true_not, true_false}
+use Rattle.cell_select.proofs.Tables.{and_left, and_right, both, not_true, true_not}
 use Rattle.cell_select.proofs.Places.{IsPlace, at_place, t_wire, f_wire, d_wire, t_there, f_there, d_there, latch_owned, start_owned}
 use Rattle.cell_select.proofs.Rails.{is_single, guards_single, wanted_is, low_terms, is_calm, only_start, only_answer}
 use Rattle.cell_select.proofs.Views.{IsStill}

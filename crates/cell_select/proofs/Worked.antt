@@ -1,11 +1,11 @@
 -- The numbers of the worked selection are as its call asks.
-use Rattle.std.proofs.Common.{◌≡◌, ◌≢◌, ℕ, ◌<◌, ◌*◌, Bool, true, false, not, List, [], ◌∷◌, ◌++◌, All, length, arith, ap, sym, ◌∙◌, refl, subst}
+use Rattle.std.proofs.Common.{◌≡◌, ◌≢◌, ℕ, ◌<◌, Bool, true, not, List, [], ◌∷◌, All, length, arith, ap, sym, ◌∙◌, refl, subst}
 use Rattle.std.specs.Prelude.{◌&&◌, ◌==◌}
 use Rattle.std.specs.List.{list_all}
 use Rattle.std.proofs.lemmas.List.Elements.{All-nil, All-cons}
 use Rattle.std.proofs.lemmas.List.Kept.{AllPairs-cons}
 use Rattle.cell_select.specs.Contract.{AreApart, select_nodes}
-use Rattle.cell_select.specs.PortNodes.{AreBranches, IsSelect, select_of, pairs_of}
+use Rattle.cell_select.specs.PortNodes.{AreBranches, IsSelect, select_of}
 use Rattle.cell_select.specs.declared.emit.SelectPorts.{SelectPorts}
 use Rattle.cell_select.proofs.Tables.{and_left, and_right, same_number, not_true, true_false}
 

@@ -1,14 +1,14 @@
 -- Templates with one mistake each, and for each a run of moves after which the contract is broken. The numbers of the nodes are those of the
 -- examples.
-use Rattle.std.proofs.Common.{◌≡◌, ◌≢◌, ℕ, zero, suc, ◌<◌, ◌+◌, Bool, true, false, not, List, [], ◌∷◌, ◌++◌, length, map, drop, slice_index_or, arith, ap, sym, ◌∙◌, refl, subst, inl, inr, ◌⊎◌, eqb-true}
+use Rattle.std.proofs.Common.{◌≡◌, ℕ, Bool, true, false, List, [], ◌∷◌, ◌++◌, map, drop, slice_index_or, arith, sym, refl, inl, inr, eqb-true}
 use Rattle.std.specs.Prelude.{◌&&◌, ◌||◌, if◌then◌else◌, ◌==◌, Contains}
 use Rattle.std.specs.List.{list_any}
 use Rattle.std.proofs.Math.Logic.{⊎_elim}
 use Rattle.prs_core.specs.Nets.{NodeRules, is_high, is_low, one_term}
-use Rattle.prs_core.specs.Pairs.{Pair, or_of, lows}
-use Rattle.prs_core.specs.Parts.{Owned, owned, owned_at, Part, Moment, Wire, IsFirst, IsMove, IsKept, Keeps, Reached, at_first, and_then, all_low, fires, may_move, turned, after}
-use Rattle.cell_select.specs.Selections.{joined_answer, evaluation, latches, starts}
-use Rattle.cell_select.specs.Contract.{Branch, SelectNodes, select_owned, select_part, select_own, select_answer, eval_wire, AgainNodes, again_owned, again_part, again_answer, latches_of, starts_of, answers_of, guards_of}
+use Rattle.prs_core.specs.Pairs.{or_of}
+use Rattle.prs_core.specs.Parts.{Owned, owned, owned_at, Part, Moment, Wire, IsFirst, IsMove, Keeps, Reached, at_first, and_then, fires, may_move, after}
+use Rattle.cell_select.specs.Selections.{joined_answer, evaluation, starts}
+use Rattle.cell_select.specs.Contract.{Branch, SelectNodes, select_owned, select_part, select_own, select_answer, eval_wire, AgainNodes, again_owned, again_part, again_answer, guards_of}
 use Rattle.cell_select.proofs.Tables.{and_left, and_right, true_false}
 use Rattle.cell_select.proofs.Places.{contains_here, contains_next}
 use Rattle.cell_select.proofs.Waiting.{or_cases}

@@ -1,6 +1,6 @@
 -- What a selection and a guarded repetition keep alone, against every neighbour that keeps its own side (Martin; four-phase
 -- handshakes). The guards answer their request by their rails, each branch answers its start.
-use Rattle.std.specs.Prelude.{◌≢◌, ◌<◌, ℕ, Bool, true, false, not, ◌&&◌, ◌==◌, if◌then◌else◌, List, [], ◌∷◌, ◌++◌, length, map, AllPairs}
+use Rattle.std.specs.Prelude.{◌≢◌, ℕ, Bool, false, not, ◌&&◌, ◌==◌, if◌then◌else◌, List, [], ◌∷◌, ◌++◌, map, AllPairs}
 use Rattle.std.specs.List.{list_all}
 use Rattle.prs_core.specs.Pairs.{Pair, rails_of}
 use Rattle.prs_core.specs.Parts.{Owned, owned_at, Part, Wire, wire, Moment, all_low, is_valid}

@@ -1,5 +1,5 @@
 -- The nodes that the calls are given, as those of the contracts.
-use Rattle.std.specs.Prelude.{◌≡◌, ◌≢◌, ◌<◌, ◌≤◌, ◌*◌, ℕ, List, [], ◌∷◌, ◌++◌, length, All, AllPairs}
+use Rattle.std.specs.Prelude.{◌≡◌, ◌<◌, ◌≤◌, ◌*◌, ℕ, List, [], ◌∷◌, length, All}
 use Rattle.prs_core.specs.Pairs.{Pair}
 use Rattle.cell_select.specs.Contract.{Branch, SelectNodes, AgainNodes, select_nodes, again_nodes, AreApart}
 use Rattle.cell_select.specs.declared.emit.SelectPorts.{SelectPorts}

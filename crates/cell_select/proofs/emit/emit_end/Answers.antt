@@ -1,12 +1,11 @@
-use Rattle.std.proofs.Common.{rules, ◌≡◌, ◌≢◌, ◌<◌, ◌≤◌, ◌+◌, ◌-◌, ◌*◌, ℕ, [], ◌∷◌, ◌++◌, map, length, take, drop, slice_index_or, OnOk, IfOk, arith, ap, sym, ◌∙◌, refl, subst, All}
+use Rattle.std.proofs.Common.{◌≡◌, ◌<◌, [], ◌∷◌, length, ap, sym, ◌∙◌, subst}
 use Rattle.prs_core.specs.declared.rule.Literal.{Literal}
-use Rattle.prs_core.specs.Nets.{RulesValue, NodeRules, GuardValue, with_rules, one_term, is_high, is_low}
+use Rattle.prs_core.specs.Nets.{GuardValue, with_rules, is_high}
 use Rattle.prs_core.specs.Pairs.{lows}
-use Rattle.cell_select.specs.Selections.{all_false, leave_answer}
+use Rattle.cell_select.specs.Selections.{leave_answer}
 use Rattle.cell_select.specs.PortNodes.{pairs_of}
-use Rattle.cell_select.proofs.GuardLemmas.{some_within, lows_within, with_lows_within, none_within, only_within, alone_then, within_still}
-use Rattle.cell_select.proofs.Emitted.{latches_step, starts_step}
-use Rattle.cell_select.proofs.PairLists.{pairs_length, rails_again, pair_is, pair_in}
+use Rattle.cell_select.proofs.GuardLemmas.{with_lows_within}
+use Rattle.cell_select.proofs.PairLists.{rails_again}
 use Rattle.cell_select.proofs.emit.emit_end.Goals as goal
 
 pub set_both-requires-clause-up : goal.set_both-requires-clause-up

@@ -1,4 +1,3 @@
-use Rattle.std.proofs.Common.{◌≡◌}
 use Rattle.cell_select.specs.PortNodes.{pairs_of}
 use Rattle.cell_select.proofs.Emitted.{LatchesSoFar}
 use Rattle.cell_select.proofs.emit.emit_latches.Given as goal

@@ -1,4 +1,3 @@
-use Rattle.std.proofs.Common.{◌≡◌}
 use Rattle.cell_select.specs.PortNodes.{pairs_of}
 use Rattle.cell_select.proofs.Emitted.{StartsSoFar}
 use Rattle.cell_select.proofs.emit.emit_starts.Given as goal

@@ -1,5 +1,9 @@
 use Rattle.cell_select.proofs.SelectKeeps.{select_keeps}
+use Rattle.cell_select.proofs.Written.{select_written}
 use Rattle.cell_select.proofs.laws.select_keeps.Goals as goal
 
-pub returns : goal.returns
-returns c = select_keeps
+pub returns-clause-all : goal.returns-clause-all
+returns-clause-all c = select_keeps
+
+pub returns-clause-written : goal.returns-clause-written
+returns-clause-written c = select_written
