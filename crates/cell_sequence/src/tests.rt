@@ -14,11 +14,25 @@ fn is_term(guard: &Guard, literals: &[Literal]) -> bool {
     }
 }
 
-/// Whether the node rises where all of the first literals hold and falls where all of the second ones do.
-fn turns(rules: &Rules, node: u32, up: &[Literal], down: &[Literal]) -> bool
+/// Whether the node rises where the first literal holds and falls where the second one does.
+fn follows(rules: &Rules, node: u32, up: Literal, down: Literal) -> bool
     requires { node < length rules.now.up }
 {
-    is_term(rules.up(node), up) && is_term(rules.down(node), down)
+    is_term(rules.up(node), &[up]) && is_term(rules.down(node), &[down])
+}
+
+/// Whether the node rises where two literals hold and falls where the third one does.
+fn joins(rules: &Rules, node: u32, one: Literal, other: Literal, down: Literal) -> bool
+    requires { node < length rules.now.up }
+{
+    is_term(rules.up(node), &[one, other]) && is_term(rules.down(node), &[down])
+}
+
+/// Whether no rule turns the node over.
+fn is_still(rules: &Rules, node: u32) -> bool
+    requires { node < length rules.now.up }
+{
+    rules.up(node).terms().is_empty() && rules.down(node).terms().is_empty()
 }
 
 /// `begin skip end`: the root is a Q-element under the node 0, whose next request is the node 1.
@@ -35,12 +49,12 @@ fn skips(rt: HostRuntime) -> Result<(), Fail> {
     let mut rules = Rules::new(alloc, 5)?;
     emit_q(alloc, &root, &mut rules)?;
     emit_skip(alloc, 2, 4, &mut rules)?;
-    assert!(rt; turns(&rules, 1, &[high(3), low(4)], &[low(3)]));
-    assert!(rt; turns(&rules, 2, &[high(0), low(3)], &[high(3)]));
-    assert!(rt; turns(&rules, 3, &[high(4)], &[low(0)]));
-    assert!(rt; turns(&rules, 4, &[high(2)], &[low(2)]));
-    assert!(rt; rules.up(0).terms().is_empty());
-    assert!(rt; rules.down(0).terms().is_empty());
+    let as_written = joins(&rules, 1, high(3), low(4), low(3))
+        && joins(&rules, 2, high(0), low(3), high(3))
+        && follows(&rules, 3, high(4), low(0))
+        && follows(&rules, 4, high(2), low(2))
+        && is_still(&rules, 0);
+    assert!(rt; as_written);
     Ok(())
 }
 
@@ -59,12 +73,12 @@ fn copies_again_and_again(rt: HostRuntime) -> Result<(), Fail> {
     let mut rules = Rules::new(alloc, 69)?;
     emit_loop(alloc, 43, 46, 60, &mut rules)?;
     emit_q(alloc, &between, &mut rules)?;
-    assert!(rt; rules.up(45).terms().is_empty());
-    assert!(rt; rules.down(45).terms().is_empty());
-    assert!(rt; turns(&rules, 46, &[high(43), low(60)], &[high(60)]));
-    assert!(rt; turns(&rules, 47, &[high(46), low(48)], &[high(48)]));
-    assert!(rt; turns(&rules, 48, &[high(50)], &[low(46)]));
-    assert!(rt; turns(&rules, 49, &[high(48), low(50)], &[low(48)]));
+    let as_written = is_still(&rules, 45)
+        && joins(&rules, 46, high(43), low(60), high(60))
+        && joins(&rules, 47, high(46), low(48), high(48))
+        && follows(&rules, 48, high(50), low(46))
+        && joins(&rules, 49, high(48), low(50), low(48));
+    assert!(rt; as_written);
     Ok(())
 }
 
@@ -89,12 +103,13 @@ fn sends_beside_a_receive(rt: HostRuntime) -> Result<(), Fail> {
     let mut rules = Rules::new(alloc, 26)?;
     emit_q(alloc, &send, &mut rules)?;
     emit_q(alloc, &receive, &mut rules)?;
-    assert!(rt; turns(&rules, 12, &[high(10), low(13)], &[high(13)]));
-    assert!(rt; turns(&rules, 13, &[high(15)], &[low(10)]));
-    assert!(rt; turns(&rules, 14, &[high(13), low(15)], &[low(13)]));
-    assert!(rt; turns(&rules, 18, &[high(10), low(19)], &[high(19)]));
-    assert!(rt; turns(&rules, 19, &[high(21)], &[low(10)]));
-    assert!(rt; turns(&rules, 20, &[high(19), low(21)], &[low(19)]));
+    let as_written = joins(&rules, 12, high(10), low(13), high(13))
+        && follows(&rules, 13, high(15), low(10))
+        && joins(&rules, 14, high(13), low(15), low(13))
+        && joins(&rules, 18, high(10), low(19), high(19))
+        && follows(&rules, 19, high(21), low(10))
+        && joins(&rules, 20, high(19), low(21), low(19));
+    assert!(rt; as_written);
     Ok(())
 }
 
@@ -104,9 +119,9 @@ fn is_root(rules: &Rules, request: u32, latch: u32, answer: u32) -> bool
     requires request { request < length rules.now.up }
     requires latch { latch < length rules.now.up }
 {
-    turns(rules, 1, &[high(latch), low(answer)], &[low(latch)])
-        && turns(rules, request, &[high(0), low(latch)], &[high(latch)])
-        && turns(rules, latch, &[high(answer)], &[low(0)])
+    joins(rules, 1, high(latch), low(answer), low(latch))
+        && joins(rules, request, high(0), low(latch), high(latch))
+        && follows(rules, latch, high(answer), low(0))
 }
 
 fn root(child_request: u32, latch: u32, child_answer: u32) -> QPorts
