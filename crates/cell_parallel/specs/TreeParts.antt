@@ -46,7 +46,8 @@ pub record Settles (leaves : List ℕ) (from : ℕ) : Type 0 where
   -- it is settled where all its nodes have one value, and stays so
   pub first : (v : ℕ → Bool) → ((o : Owned) → Contains (tree_owned leaves from) o → v o.node ≡ v (tree_top leaves from)) → IsSettled leaves from v
   pub stays : (v : ℕ → Bool) (node : ℕ) → IsSettled leaves from v → TreeMove leaves from v node → IsSettled leaves from (turned v node)
-  -- its nodes leave the top's value alone, and are neither kept from it nor pulled both ways
+  -- a node of its own moves only away from the top's value; where its rule is enabled no other move disables it, and none is
+  -- pulled both ways
   pub leaves_it : (v : ℕ → Bool) (o : Owned) → IsSettled leaves from v → Contains (tree_owned leaves from) o → fires v o ≡ true → v o.node ≡ v (tree_top leaves from)
   pub firm : (v : ℕ → Bool) (o : Owned) (node : ℕ) → IsSettled leaves from v → Contains (tree_owned leaves from) o → fires v o ≡ true → TreeMove leaves from v node → node ≢ o.node → fires (turned v node) o ≡ true
   pub apart : (v : ℕ → Bool) (o : Owned) → Contains (tree_owned leaves from) o → (guard_holds v o.rules.up && guard_holds v o.rules.down) ≡ false
