@@ -11,10 +11,10 @@ use Rattle.cell_select.specs.Contract.{Branch, Place, AgainNodes, again_nodes, a
 use Rattle.cell_select.proofs.Tables.{implies, implies_at, and_left, and_right, both, not_true, true_not, true_false}
 use Rattle.cell_select.proofs.Distinct.{distinct_from}
 use Rattle.cell_select.proofs.Places.{IsPlace, Apart, at_place, one_or_apart, contains_cons, contains_none, contains_here, contains_next, latch_owned, start_owned, IsMade, branches_owned, branch_own, latch_there, start_there, place_in, wire_in}
-use Rattle.cell_select.proofs.Rails.{seen_rails, consistent, rails_consistent, quiet_among, some_terms, low_terms, only_latch, only_start, only_answer, falses_are}
+use Rattle.cell_select.proofs.Rails.{seen_rails, consistent, rails_consistent, quiet_among, some_terms, low_terms, only_latch, only_start, only_answer, falses_hold}
 use Rattle.cell_select.proofs.Machines.{Machine, Setting, View, bit_at, can, whole_test, controls, state_of, extra_of}
 use Rattle.cell_select.proofs.Views.{AsRule, AsPlaced, InFrame, InBranch, IsPart, fires_is, all_quiet, view_kept, firm_of, apart_of, promised_of, IsPromise}
-use Rattle.cell_select.proofs.Waiting.{or_cases, some_rail, low_guard, one_place, alone_valid, valid_false, false_valid, MayMove, high_may, low_may, answer_may, latch_up, start_up, latch_still, start_still, idle_is, first_wires, low_append, controls_low, singles_first}
+use Rattle.cell_select.proofs.Waiting.{or_rest, weaker, or_cases, some_rail, low_guard, one_place, alone_valid, valid_false, false_valid, MayMove, high_may, low_may, answer_may, latch_up, start_up, latch_still, start_still, idle_is, first_wires, low_append, controls_low, neutral_single}
 
 -- the request, the answer, the request of a turn, the joined answers, the request of the guards, whether a latch is up, the latch of the
 -- end; the latch, the start and the answer of a branch
@@ -89,17 +89,7 @@ again_extra c q =
     implies (can again_moves 1 c q) (answer_promise c q) && (implies (can again_moves 4 c q) (eval_promise c q) && (implies (can again_moves 8 c q) (start_promise c q) && (at_first c && waits_test c q)))
 
 abbrev again_machine : Machine
-again_machine = record {
-  size = 10;
-  eval = 4;
-  latch = 7;
-  own = λ j. not (j == 0) && not (j == 9);
-  up = again_up;
-  down = again_down;
-  control = again_control;
-  fit = again_fit;
-  extra = again_extra;
-}
+again_machine = record again_moves { extra = again_extra }
 
 again_whole : whole_test again_machine ≡ true
 again_whole = refl
@@ -181,7 +171,7 @@ leave_rule c p is = record {
   less = omega arith;
   own = refl;
   at = refl;
-  up = λ v noted calm. ap (λ b. b || false) (falses_are v c.branches);
+  up = λ v noted calm. ap (λ b. b || false) (falses_hold v c.branches);
   down = λ v noted calm. refl;
 }
 
@@ -298,10 +288,6 @@ answer_holds c apart m p view may =
     let promise = implies_at _ (answer_promise (ctl c m p) (rls c m p)) (extras c apart m p view).answers may in
     ap (λ i. if v c.answer then not (v c.request) && (not (v c.eval) && (guards_neutral v c.branches && i)) else v c.request && (guards_false m.noted c.branches && (not (v c.eval) && (guards_neutral v c.branches && i)))) (idle_is v c.branches p view.is view.calm) ∙ promise
 
-weaker : (e w x rest other : Bool) → (w ≡ true → x ≡ true) → (if e then w && rest else other) ≡ true → (if e then x && rest else other) ≡ true
-weaker true w x rest other h f = both _ _ (h (and_left w rest f)) (and_right w rest f)
-weaker false w x rest other h f = f
-
 eval_holds : (c : AgainNodes) → AreApart (again_nodes c) → (m : Moment) (p : Place) → Sees c m p → can again_machine 4 (ctl c m p) (rls c m p) ≡ true → may_move m (rises_under c.request (eval_wire c.turn c.answer c.eval c.branches)) ≡ true
 eval_holds c apart m p view may =
     let v = m.value in
@@ -352,10 +338,6 @@ lows_of c apart m p view low =
     (low_append v (latches_of c.branches) (starts_of c.branches)
     ∙ both _ _ (ap (λ (xs : List Branch). all_low v (latches_of xs)) view.is ∙ only_latch v p view.calm ∙ and_left (not (v p.this.latch)) _ sixth) (ap (λ (xs : List Branch). all_low v (starts_of xs)) view.is ∙ only_start v p view.calm ∙ and_right (not (v p.this.latch)) _ sixth)))))))
 
-or_rest : (a b : Bool) → a ≡ false → (a || b) ≡ true → b ≡ true
-or_rest true b e h = absurd (cc e)
-or_rest false b e h = h
-
 abbrev Waits : AgainNodes → Moment → Type 0
 Waits c m = ((w : Wire) × Contains (again_part c).allows w × (may_move m w ≡ true)) ⊎ ((again_part c).blocked m.value ≡ true)
 
@@ -373,7 +355,7 @@ latch_fires c m q low alone =
 
 leave_fires : (c : AgainNodes) (m : Moment) → m.value c.leave ≡ false → guards_false m.value c.branches ≡ true → fires m.value (leave_owned c) ≡ true
 leave_fires c m low none =
-    ap (λ b. if b then guard_holds m.value (leave_owned c).rules.down else guard_holds m.value (leave_owned c).rules.up) low ∙ ap (λ b. b || false) (falses_are m.value c.branches ∙ none)
+    ap (λ b. if b then guard_holds m.value (leave_owned c).rules.down else guard_holds m.value (leave_owned c).rules.up) low ∙ ap (λ b. b || false) (falses_hold m.value c.branches ∙ none)
 
 awaits : (c : AgainNodes) (m : Moment) (p : Place) → Sees c m p → ((o : Owned) → Contains (again_owned c) o → fires m.value o ≡ false) → m.value c.eval ≡ true → m.value p.this.latch ≡ false → m.value c.leave ≡ false → (valid zero_true one : Bool) → guards_valid m.value c.branches ≡ valid → none_true m.value c.branches ≡ zero_true → one_true m.value c.branches ≡ one → Waits c m
 awaits c m p view none e low out false zero_true one is_valid is_none is_one = by_branch c m (low_may m c.eval c.branches e (low_guard m.value c.branches view.single is_valid))
@@ -440,7 +422,7 @@ first_by c apart b rest is v first =
     let sixth = and_right (not (v c.any)) _ fifth in
     let last = sym (low_append v (latches_of c.branches) (starts_of c.branches)) ∙ and_right (not (v c.leave)) _ sixth in
     let quiet = all_quiet v c.branches p is (controls_low v c.branches (and_left (all_low v (latches_of c.branches)) _ last) (and_right (all_low v (latches_of c.branches)) _ last) wires.answers) in
-    let single = singles_first v c.branches wires.neutral in
+    let single = neutral_single v c.branches wires.neutral in
     let low : map v (controls (again_frame c) p) ≡ all_down =
     rw (not_true _ (and_left (not (v c.request)) _ first.outside), not_true _ (and_left (not (v c.answer)) _ own), not_true _ (and_left (not (v c.turn)) _ second), not_true _ (and_left (not (v c.joined)) _ third), not_true _ (and_left (not (v c.eval)) _ fourth), not_true _ (and_left (not (v c.any)) _ fifth), not_true _ (and_left (not (v c.leave)) _ sixth), quiet.quiet.latch, quiet.quiet.start, quiet.quiet.answer) refl in
     let noted : ℕ → Bool = λ n. false in (

@@ -249,7 +249,3 @@ again_apart node p are h =
       leave = λ e. whole 5 none (omega arith) (sym e);
       branches = branches_apart node p.loop_request p.latches.items p.starts.items hs same are.started (all_right P (again_six p hs) (owned_at (p.latches.items ++ p.starts.items) (latches p.loop_request hs ++ starts p.latches.items hs)) whole);
     }
-
--- the node's guards are as they were, through one more call
-pub all_alone : (a b : RulesValue) (ns : List ℕ) (n : ℕ) → All (λ k. k ≢ n) ns → ((m : ℕ) → All (λ k. k ≢ m) ns → IsAlone a b m) → IsAlone a b n
-all_alone a b ns n apart h = h n apart

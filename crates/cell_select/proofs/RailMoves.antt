@@ -5,7 +5,7 @@ use Rattle.std.proofs.Math.Logic.{⊎_elim}
 use Rattle.prs_core.specs.Pairs.{Pair, rails_of}
 use Rattle.prs_core.specs.Parts.{turned}
 use Rattle.cell_select.specs.Contract.{Branch, Place, guards_of, guards_neutral, guards_false, none_true, alone_true}
-use Rattle.cell_select.proofs.Tables.{implies, and_left, and_right, both, not_true, true_not, true_false}
+use Rattle.cell_select.proofs.Tables.{implies, and_left, and_right, both, not_true, true_not, true_false, no_true}
 use Rattle.cell_select.proofs.Distinct.{Fresh, Distinct, turned_here, turned_other, low_still}
 use Rattle.cell_select.proofs.Places.{IsPlace, Apart, one_or_apart}
 use Rattle.cell_select.proofs.Rails.{is_single, guards_single, is_won, seen_rails, consistent, rails_go, rails_consistent, false_among, false_at, neutral_at}
@@ -16,10 +16,6 @@ IsRail q rail = (rail ≡ q.this.guard.t) ⊎ (rail ≡ q.this.guard.f)
 and_false : (x : Bool) → not (x && false) ≡ true
 and_false true = refl
 and_false false = refl
-
-no_true : (b : Bool) → (b ≡ true → ⊥) → b ≡ false
-no_true true h = absurd (h refl)
-no_true false h = refl
 
 -- a rail that falls leaves low what is low
 below : (v : ℕ → Bool) (rail k : ℕ) (b : Bool) → (k == rail) ≡ b → v rail ≡ true → v k ≡ false → turned v rail k ≡ false

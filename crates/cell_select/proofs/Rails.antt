@@ -120,12 +120,9 @@ pub some_terms : (v : ℕ → Bool) (ns : List ℕ) → list_any (term_holds v) 
 some_terms v [] = refl
 some_terms v (n ∷ ns) = ap (λ r. (v n && true) || r) (some_terms v ns) ∙ some_more (v n) (all_low v ns)
 
-falses_hold : (v : ℕ → Bool) (bs : List Branch) → list_all (literal_holds v) (all_false (guards_of bs)) ≡ guards_false v bs
+pub falses_hold : (v : ℕ → Bool) (bs : List Branch) → list_all (literal_holds v) (all_false (guards_of bs)) ≡ guards_false v bs
 falses_hold v [] = refl
 falses_hold v (b ∷ bs) = ap (λ r. v b.guard.f && r) (falses_hold v bs)
-
-pub falses_are : (v : ℕ → Bool) (bs : List Branch) → list_all (literal_holds v) (all_false (guards_of bs)) ≡ guards_false v bs
-falses_are v bs = falses_hold v bs
 
 around : (a t b : Bool) → (a && (t && b)) ≡ (t && (a && b))
 around true true b = refl

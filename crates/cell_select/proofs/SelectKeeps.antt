@@ -14,7 +14,7 @@ use Rattle.cell_select.proofs.Places.{IsPlace, Apart, at_place, one_or_apart, co
 use Rattle.cell_select.proofs.Rails.{seen_rails, consistent, rails_consistent, is_calm, quiet_among, some_terms, low_terms, or_up, or_down, only_latch, only_start, only_answer}
 use Rattle.cell_select.proofs.Machines.{Machine, Setting, View, bit_at, can, whole_test, controls, state_of, extra_of}
 use Rattle.cell_select.proofs.Views.{AsRule, AsPlaced, InFrame, InBranch, IsPart, fires_is, all_quiet, view_kept, firm_of, apart_of, promised_of, IsPromise}
-use Rattle.cell_select.proofs.Waiting.{or_cases, some_rail, low_guard, one_place, alone_valid, MayMove, high_may, low_may, answer_may, latch_up, start_up, latch_still, start_still, idle_is, first_wires, low_append, controls_low, singles_first}
+use Rattle.cell_select.proofs.Waiting.{or_rest, weaker, or_cases, some_rail, low_guard, one_place, alone_valid, MayMove, high_may, low_may, answer_may, latch_up, start_up, latch_still, start_still, idle_is, first_wires, low_append, controls_low, neutral_single}
 
 -- the request, the answer, the request of the guards, whether a latch is up; the latch, the start and the answer of a branch
 abbrev select_up : ℕ → List Bool → List Bool → Bool
@@ -75,24 +75,14 @@ select_moves = record {
 }
 
 abbrev waits_test : Machine → List Bool → List Bool → Bool
-waits_test M c q = (can M 1 c q || (can M 2 c q || (can M 3 c q || (can M 4 c q || can M 5 c q)))) || may_wait M c q
+waits_test M c q = can M 1 c q || (can M 2 c q || (can M 3 c q || (can M 4 c q || (can M 5 c q || may_wait M c q))))
 
 abbrev select_extra : List Bool → List Bool → Bool
 select_extra c q =
     implies (can select_moves 1 c q) (answer_promise c q) && (implies (can select_moves 2 c q) (eval_promise c q) && (implies (can select_moves 5 c q) (start_promise c q) && (at_first c && waits_test select_moves c q)))
 
 abbrev select_machine : Machine
-select_machine = record {
-  size = 7;
-  eval = 2;
-  latch = 4;
-  own = λ j. not (j == 0) && not (j == 6);
-  up = select_up;
-  down = select_down;
-  control = select_control;
-  fit = select_fit;
-  extra = select_extra;
-}
+select_machine = record select_moves { extra = select_extra }
 
 select_whole : whole_test select_machine ≡ true
 select_whole = refl
@@ -210,10 +200,6 @@ answer_holds c apart m p view may =
     ap (λ i. if v c.answer then not (v c.request) && (not (v c.eval) && i) else v c.request && not (all_low v (answers_of c.branches))) (idle_is v c.branches p view.is view.calm)
     ∙ ap (λ i. if v c.answer then not (v c.request) && (not (v c.eval) && (not (v p.this.start) && not (v p.this.answer))) else v c.request && not i) (answers_is c v p view.is view.calm) ∙ promise
 
-weaker : (e w x rest other : Bool) → (w ≡ true → x ≡ true) → (if e then w && rest else other) ≡ true → (if e then x && rest else other) ≡ true
-weaker true w x rest other h f = both _ _ (h (and_left w rest f)) (and_right w rest f)
-weaker false w x rest other h f = f
-
 eval_holds : (c : SelectNodes) → AreApart (select_nodes c) → (m : Moment) (p : Place) → Sees c m p → can select_machine 2 (ctl c m p) (rls c m p) ≡ true → may_move m (eval_wire c.request c.answer c.eval c.branches) ≡ true
 eval_holds c apart m p view may =
     let v = m.value in
@@ -257,18 +243,6 @@ lows_of c apart m p view low =
     both _ _ a (both _ _ (and_left (not (v c.eval)) _ first) (both _ _ (and_left (not (v c.any)) _ second)
     (low_append v (latches_of c.branches) (starts_of c.branches)
     ∙ both _ _ (ap (λ (xs : List Branch). all_low v (latches_of xs)) view.is ∙ only_latch v p view.calm ∙ and_left (not (v p.this.latch)) _ third) (ap (λ (xs : List Branch). all_low v (starts_of xs)) view.is ∙ only_start v p view.calm ∙ and_right (not (v p.this.latch)) _ third))))
-
-or_rest : (a b : Bool) → a ≡ false → (a || b) ≡ true → b ≡ true
-or_rest true b e h = absurd (cc e)
-or_rest false b e h = h
-
-or_five : (a b c d e : Bool) → a ≡ false → b ≡ false → c ≡ false → d ≡ false → e ≡ false → (a || (b || (c || (d || e)))) ≡ false
-or_five false false false false false p q r s t = refl
-or_five true b c d e p q r s t = absurd (cc p)
-or_five false true c d e p q r s t = absurd (cc q)
-or_five false false true d e p q r s t = absurd (cc r)
-or_five false false false true e p q r s t = absurd (cc s)
-or_five false false false false true p q r s t = absurd (cc t)
 
 abbrev Waits : SelectNodes → Moment → Type 0
 Waits c m = ((w : Wire) × Contains (select_part c).allows w × (may_move m w ≡ true)) ⊎ ((select_part c).blocked m.value ≡ true)
@@ -318,7 +292,7 @@ waits_of c apart m p view none =
     let three = sym (fires_is select_machine (select_frame c) c.branches c.eval v m.noted p n 3 s view.calm (any_rule c p view.is)) ∙ none n (contains_next a (e ∷ n ∷ rest) n (contains_next e (n ∷ rest) n (contains_here n rest))) in
     let four = sym (fires_is select_machine (select_frame c) c.branches c.eval v m.noted p l 4 s view.calm (latch_placed c p view.is).rule) ∙ none l (behind l latch_in) in
     let five = sym (fires_is select_machine (select_frame c) c.branches c.eval v m.noted p st 5 s view.calm (start_placed c p view.is).rule) ∙ none st (behind st start_in) in
-    let wait = or_rest _ (may_wait select_moves cs q) (or_five (can select_machine 1 cs q) (can select_machine 2 cs q) (can select_machine 3 cs q) (can select_machine 4 cs q) (can select_machine 5 cs q) one two three four five) tests in
+    let wait = or_rest (can select_machine 5 cs q) (may_wait select_moves cs q) five (or_rest (can select_machine 4 cs q) _ four (or_rest (can select_machine 3 cs q) _ three (or_rest (can select_machine 2 cs q) _ two (or_rest (can select_machine 1 cs q) _ one tests)))) in
     ⊎_elim
     (λ (h : (can select_machine 0 cs q || can select_machine 6 cs q) ≡ true). ⊎_elim
     (λ (r : can select_machine 0 cs q ≡ true). inl (request_wire c.request c.answer, contains_here (request_wire c.request c.answer) (branch_wires c.eval c.branches), r))
@@ -347,7 +321,7 @@ first_by c apart b rest is v first =
     let third = and_right (not (v c.eval)) _ second in
     let fourth = sym (low_append v (latches_of c.branches) (starts_of c.branches)) ∙ and_right (not (v c.any)) _ third in
     let quiet = all_quiet v c.branches p is (controls_low v c.branches (and_left (all_low v (latches_of c.branches)) _ fourth) (and_right (all_low v (latches_of c.branches)) _ fourth) wires.answers) in
-    let single = singles_first v c.branches wires.neutral in
+    let single = neutral_single v c.branches wires.neutral in
     let low : map v (controls (select_frame c) p) ≡ false ∷ false ∷ false ∷ false ∷ false ∷ false ∷ false ∷ [] =
     rw (not_true _ (and_left (not (v c.request)) _ first.outside), not_true _ (and_left (not (v c.answer)) _ own), not_true _ (and_left (not (v c.eval)) _ second), not_true _ (and_left (not (v c.any)) _ third), quiet.quiet.latch, quiet.quiet.start, quiet.quiet.answer) refl in
     let noted : ℕ → Bool = λ n. false in (

@@ -67,3 +67,7 @@ same_number n = grind (arith, nat_tests)
 
 pub other_number : (n m : ℕ) → n ≢ m → (n == m) ≡ false
 other_number n m h = grind (arith, nat_tests)
+
+pub no_true : (b : Bool) → (b ≡ true → ⊥) → b ≡ false
+no_true true h = absurd (h refl)
+no_true false h = refl

@@ -6,7 +6,7 @@ use Rattle.prs_core.specs.Moves.{guard_holds}
 use Rattle.prs_core.specs.Pairs.{rails_of}
 use Rattle.prs_core.specs.Parts.{Owned, Part, Moment, Wire, IsMove, turned, all_low, fires, may_move}
 use Rattle.cell_select.specs.Contract.{Branch, Place, guards_of, controls_of, guards_neutral, guards_false, none_true, alone_true, as_evaluated, request_wire}
-use Rattle.cell_select.proofs.Tables.{implies_at, and_left, and_right, both, not_true, true_not, true_false}
+use Rattle.cell_select.proofs.Tables.{implies_at, and_left, and_right, both, not_true, true_not, true_false, no_true}
 use Rattle.cell_select.proofs.Distinct.{Fresh, flip, value_at, one_place, distinct_left, distinct_cross, cross_at, fresh_left, fresh_right}
 use Rattle.cell_select.proofs.Places.{IsPlace, Among, Apart, one_or_apart, IsBranchWire, t_wire, f_wire, d_wire}
 use Rattle.cell_select.proofs.Rails.{is_won, seen_rails, rails_consistent, is_calm, IsQuiet, quiet_among, false_among, among_cases}
@@ -48,10 +48,6 @@ pub record IsStill (v : ℕ → Bool) (q : Place) : Type 0 where
 or_false : (a b : Bool) → (a || b) ≡ false → (a ≡ false) × (b ≡ false)
 or_false true b h = absurd (cc h)
 or_false false b h = (refl, h)
-
-no_true : (b : Bool) → (b ≡ true → ⊥) → b ≡ false
-no_true true h = absurd (h refl)
-no_true false h = refl
 
 same_bit : (b : Bool) → (if b then b else not b) ≡ true
 same_bit true = refl
@@ -202,22 +198,17 @@ Seen M frame bs eval m P node = (p : Place) × (P p) × (View M frame bs m p) ×
 own_turn : (M : Machine) (frame : List ℕ) (bs : List Branch) (eval : ℕ) (m : Moment) (p : Place) (o : Owned) (j node : ℕ) → Setting M frame bs eval → View M frame bs m p → AsRule M frame bs p o j → fires m.value o ≡ true → node ≡ o.node → Turn M frame bs eval m p node
 own_turn M frame bs eval m p o j node s view r f at = inl (j, record { less = r.less; at = at ∙ r.at; may = sym (fires_is M frame bs eval m.value m.noted p o j s view.calm r) ∙ f })
 
+frame_there : (xs ys : List ℕ) (i : ℕ) → i < length xs → slice_index_or (xs ++ ys) i 0 ≡ slice_index_or xs i 0
+frame_there [] ys i lt = absurd (omega (arith, lt))
+frame_there (x ∷ xs) ys zero lt = refl
+frame_there (x ∷ xs) ys (suc i) lt = frame_there xs ys i (omega (arith, lt))
+
 frame_value : (M : Machine) (frame : List ℕ) (bs : List Branch) (eval : ℕ) (v : ℕ → Bool) (p : Place) (i : ℕ) → Setting M frame bs eval → i < M.latch → bit_at (map v (controls frame p)) i ≡ v (slice_index_or frame i 0)
 frame_value M frame bs eval v p i s lt =
     let long = controls_length M frame bs eval p s in
     let size = s.size in
     let all = s.long in
-    value_at v (controls frame p) i (omega (arith, lt, long, size)) ∙ ap v (frame_left frame (p.this.latch ∷ p.this.start ∷ p.this.answer ∷ []) i (omega (arith, lt, all)))
-  where
-    frame_left : (xs ys : List ℕ) (i : ℕ) → i < length xs → slice_index_or (xs ++ ys) i 0 ≡ slice_index_or xs i 0
-    frame_left [] ys i lt = absurd (omega (arith, lt))
-    frame_left (x ∷ xs) ys zero lt = refl
-    frame_left (x ∷ xs) ys (suc i) lt = frame_left xs ys i (omega (arith, lt))
-
-frame_there : (xs ys : List ℕ) (i : ℕ) → i < length xs → slice_index_or (xs ++ ys) i 0 ≡ slice_index_or xs i 0
-frame_there [] ys i lt = absurd (omega (arith, lt))
-frame_there (x ∷ xs) ys zero lt = refl
-frame_there (x ∷ xs) ys (suc i) lt = frame_there xs ys i (omega (arith, lt))
+    value_at v (controls frame p) i (omega (arith, lt, long, size)) ∙ ap v (frame_there frame (p.this.latch ∷ p.this.start ∷ p.this.answer ∷ []) i (omega (arith, lt, all)))
 
 pub request_turn : (M : Machine) (frame : List ℕ) (bs : List Branch) (request answer eval : ℕ) (m : Moment) (p : Place) (node : ℕ) → Setting M frame bs eval → slice_index_or frame 0 0 ≡ request → slice_index_or frame 1 0 ≡ answer → may_move m (request_wire request answer) ≡ true → node ≡ request → Turn M frame bs eval m p node
 request_turn M frame bs request answer eval m p node s first second may at =

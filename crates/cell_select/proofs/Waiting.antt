@@ -12,6 +12,15 @@ use Rattle.cell_select.proofs.Places.{IsPlace, at_place, t_wire, f_wire, d_wire,
 use Rattle.cell_select.proofs.Rails.{is_single, guards_single, wanted_is, low_terms, is_calm, only_start, only_answer}
 use Rattle.cell_select.proofs.Views.{IsStill}
 
+pub or_rest : (a b : Bool) → a ≡ false → (a || b) ≡ true → b ≡ true
+or_rest true b e h = absurd (cc e)
+or_rest false b e h = h
+
+-- a weaker test in place of one
+pub weaker : (e w x rest other : Bool) → (w ≡ true → x ≡ true) → (if e then w && rest else other) ≡ true → (if e then x && rest else other) ≡ true
+weaker true w x rest other h f = both _ _ (h (and_left w rest f)) (and_right w rest f)
+weaker false w x rest other h f = f
+
 pub or_cases : (a b : Bool) → (a || b) ≡ true → (a ≡ true) ⊎ (b ≡ true)
 or_cases true b h = inl refl
 or_cases false b h = inr h
@@ -186,11 +195,8 @@ controls_low v (b ∷ bs) h k l =
     both _ _ (and_left (not (v b.latch)) (all_low v (latches_of bs)) h) (both _ _ (and_left (not (v b.start)) (all_low v (starts_of bs)) k) (both _ _ (and_left (not (v b.answer)) (all_low v (answers_of bs)) l)
     (controls_low v bs (and_right (not (v b.latch)) _ h) (and_right (not (v b.start)) _ k) (and_right (not (v b.answer)) _ l))))
 
-neutral_single : (v : ℕ → Bool) (bs : List Branch) → guards_neutral v bs ≡ true → guards_single v bs ≡ true
+pub neutral_single : (v : ℕ → Bool) (bs : List Branch) → guards_neutral v bs ≡ true → guards_single v bs ≡ true
 neutral_single v [] h = refl
 neutral_single v (b ∷ bs) h =
     let rest = and_right (not (v b.guard.t)) (not (v b.guard.f) && guards_neutral v bs) h in
     both _ _ (ap (λ t. not (t && v b.guard.f)) (not_true _ (and_left (not (v b.guard.t)) (not (v b.guard.f) && guards_neutral v bs) h))) (neutral_single v bs (and_right (not (v b.guard.f)) (guards_neutral v bs) rest))
-
-pub singles_first : (v : ℕ → Bool) (bs : List Branch) → guards_neutral v bs ≡ true → guards_single v bs ≡ true
-singles_first v bs h = neutral_single v bs h

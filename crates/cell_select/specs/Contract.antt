@@ -95,7 +95,7 @@ branches_idle v bs = all_low v (starts_of bs) && all_low v (answers_of bs)
 abbrev pub guards_false : (ℕ → Bool) → List Branch → Bool
 guards_false v bs = list_all (λ (b : Branch). v b.guard.f) bs
 
--- a branch with those before it and those behind it
+-- A branch with those before it and those behind it, since a guard is judged beside all others. Below: each branch of a list so.
 pub record Place : Type 0 where
   pub before : List Branch
   pub this : Branch
@@ -114,10 +114,12 @@ abbrev pub one_true : (ℕ → Bool) → List Branch → Bool
 one_true v [] = false
 one_true v (b ∷ bs) = if v b.guard.t then list_all (λ (b : Branch). not (v b.guard.t)) bs else one_true v bs
 
+-- no guard is true
 abbrev pub none_true : (ℕ → Bool) → List Branch → Bool
 none_true v bs = list_all (λ (b : Branch). not (v b.guard.t)) bs
 
--- what was on the nodes when the guards' request last fell is noted
+-- The contract notes what the guards' rails were when the guards' request last fell: by then they are evaluated, and after it they
+-- fall. (It notes all nodes; only rails are asked for.)
 abbrev pub as_evaluated : (eval : ℕ) → Moment → ℕ → ℕ → Bool
 as_evaluated eval m moved node = if moved == eval && m.value eval then m.value node else m.noted node
 

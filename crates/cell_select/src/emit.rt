@@ -31,7 +31,7 @@ pub struct SelectPorts {
 /// The nodes at a guarded repetition (Martin). It is a selection under a request of its own for each turn, `loop_request`,
 /// whose branches' answers are joined in `joined`. `leave` is the latch that rises where all guards are false; once the
 /// guards are let go it makes the answer. The own nodes are `answer`, `loop_request`, `joined`, `eval`, `any`, `leave`,
-/// `latches` and `starts`.
+/// `latches` and `starts`; `answers` and `guard_rails` are as at a selection.
 #[derive(Debug, Drop)]
 pub struct AgainPorts {
     pub request: u32,
