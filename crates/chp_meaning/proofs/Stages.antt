@@ -5,7 +5,6 @@ use Rattle.std.proofs.lemmas.List.Elements.{All-cons, All-nil, All-contains, Con
 use Rattle.std.specs.declared.alloc.Global.{Global}
 use Rattle.std.specs.declared.vec.Vec.{Vec}
 use Rattle.chp_base.specs.declared.channel.Channel.{Channel}
-use Rattle.chp_base.specs.declared.fault.FaultCode.{FaultCode}
 use Rattle.chp_base.specs.declared.fault.FaultCode.TheVariants as code
 use Rattle.width_check.specs.declared.typed.Var.{Var}
 use Rattle.width_check.specs.Typing.{names_of, IsTyped}

@@ -1,5 +1,5 @@
 use Rattle.std.proofs.Common.{◌≡◌, ◌+◌, ◌∙◌, ap}
-use Rattle.width_check.specs.Processes.{Process, repeating, receiving, sending}
+use Rattle.width_check.specs.Processes.{repeating, receiving}
 use Rattle.width_check.specs.View.{process_of, formula_of}
 use Rattle.chp_meaning.specs.Apart.{both, here, IsStage}
 use Rattle.chp_meaning.proofs.Stages.{copy_stage, if_ok_more}

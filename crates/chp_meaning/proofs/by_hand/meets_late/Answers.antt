@@ -1,7 +1,7 @@
-use Rattle.std.proofs.Common.{◌∙◌, ap, sym}
-use Rattle.width_check.specs.Processes.{skipping, receiving}
+use Rattle.std.proofs.Common.{◌∙◌, ap}
+use Rattle.width_check.specs.Processes.{skipping}
 use Rattle.width_check.specs.View.{process_of, formula_of}
-use Rattle.chp_meaning.specs.Apart.{both, alongside_it, here}
+use Rattle.chp_meaning.specs.Apart.{both, alongside_it}
 use Rattle.chp_meaning.proofs.Stages.{late_meets, if_ok_more}
 use Rattle.chp_meaning.proofs.by_hand.meets_late.Goals as goal
 

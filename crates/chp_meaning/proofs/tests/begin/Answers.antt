@@ -1,5 +1,3 @@
-use Rattle.std.proofs.Common.{◌≡◌, List, subst, sym}
-use Rattle.std.specs.Prelude.{AllPairs, All}
 use Rattle.chp_meaning.proofs.Stages.{channels_distinct, channels_wide}
 use Rattle.chp_meaning.proofs.tests.begin.Goals as goal
 

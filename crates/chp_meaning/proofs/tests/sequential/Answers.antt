@@ -1,4 +1,4 @@
-use Rattle.std.proofs.Common.{◌≡◌, ap, sym, subst}
+use Rattle.std.proofs.Common.{◌≡◌, sym, subst}
 use Rattle.width_check.specs.Sharing.{MeetsSharing}
 use Rattle.width_check.specs.View.{process_of}
 use Rattle.width_check.specs.declared.typed.TStmt.{TStmt}
