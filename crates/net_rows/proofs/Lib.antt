@@ -1,1 +1,2 @@
 mod NetTests
+pub mod ScriptChannels

@@ -3,6 +3,7 @@
 ghost use Rattle.std.specs.Prelude.{◌≡◌, ◌≤◌, ◌∷◌, [], length, codes, None, IfOk, IfSome};
 
 use crate::by_hand::{Line, names_of, rules_by};
+use crate::texts::{SEND, SKIP};
 use chp_base::{Channel, Kind, name_of};
 use prs_core::{Literal, Net, Rails, Wires, fan_of};
 use prs_file::{print_net, read_net};
@@ -257,13 +258,8 @@ fn read_back(alloc: Global, text: &[u8]) -> Result<Vec<u8>, Fail>
 fn skip_file(rt: HostRuntime) -> Result<(), Fail> {
     let net = skip_net(rt.alloc())?.ok_or("no net")?;
     let text = print_net(rt.alloc(), &net)?;
-    let expected =
-        b"prs 1\nnode go 0\nnode done 0\nnode n2 0\nnode n3 0\nnode n4 0\nrule n3 & ~n4 -> done+\nrule ~n3 -> done-\nrule go & ~n3 -> n2+\nrule n3 -> n2-\nrule n4 -> n3+\nrule ~go -> n3-\nrule n2 -> n4+\nrule ~n2 -> n4-\n";
-    assert_eq!(rt; text.as_slice(), expected.as_slice());
-    assert_eq!(rt;
-        read_back(rt.alloc(), expected)?.as_slice(),
-        expected.as_slice()
-    );
+    assert_eq!(rt; text.as_slice(), SKIP);
+    assert_eq!(rt; read_back(rt.alloc(), SKIP)?.as_slice(), SKIP);
     Ok(())
 }
 
@@ -271,13 +267,8 @@ fn skip_file(rt: HostRuntime) -> Result<(), Fail> {
 fn send_file(rt: HostRuntime) -> Result<(), Fail> {
     let net = send_net(rt.alloc())?.ok_or("no net")?;
     let text = print_net(rt.alloc(), &net)?;
-    let expected =
-        b"prs 1\nnode go 0\nnode done 0\nnode X.0.t 0\nnode X.0.f 0\nnode X.a 0\nnode n5 0\nnode n6 0\nnode n7 0\nnode n8 0\nnode n9 0\nout X 1\nrule n6 & ~n7 -> done+\nrule ~n6 -> done-\nrule n8 -> X.0.t+\nrule ~n8 -> X.0.t-\nrule n9 -> X.0.f+\nrule ~n9 -> X.0.f-\nrule go & ~n6 -> n5+\nrule n6 -> n5-\nrule n7 -> n6+\nrule ~go -> n6-\nrule n5 & X.a -> n7+\nrule ~X.a -> n7-\nrule n5 -> n8+\nrule ~n5 -> n8-\n";
-    assert_eq!(rt; text.as_slice(), expected.as_slice());
-    assert_eq!(rt;
-        read_back(rt.alloc(), expected)?.as_slice(),
-        expected.as_slice()
-    );
+    assert_eq!(rt; text.as_slice(), SEND);
+    assert_eq!(rt; read_back(rt.alloc(), SEND)?.as_slice(), SEND);
     let fan = fan_of(rt.alloc(), &net)?;
     assert_eq!(rt; fan.readers(4), [7].as_slice());
     assert_eq!(rt; fan.readers(6), [1, 5].as_slice());

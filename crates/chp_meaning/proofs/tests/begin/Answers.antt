@@ -1,4 +1,3 @@
-use Rattle.std.proofs.Common.{◌≡◌}
 use Rattle.chp_meaning.proofs.Stages.{channels_distinct, channels_wide}
 use Rattle.chp_meaning.proofs.tests.begin.Goals as goal
 
