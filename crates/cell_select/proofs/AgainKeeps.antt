@@ -4,33 +4,33 @@ use Rattle.std.specs.Prelude.{◌&&◌, ◌||◌, if◌then◌else◌, ◌==◌,
 use Rattle.std.proofs.Math.Logic.{⊎_elim}
 use Rattle.prs_core.specs.Moves.{guard_holds}
 use Rattle.prs_core.specs.Pairs.{rails_of, or_of}
-use Rattle.prs_core.specs.Parts.{Owned, owned, Moment, Wire, IsFirst, IsKept, Keeps, all_low, fires, may_move}
-use Rattle.prs_core.specs.Keeping.{kept_by}
+use Rattle.prs_core.specs.Parts.{Owned, owned, Moment, Wire, IsFirst, IsKept, all_low, fires, may_move}
 use Rattle.cell_select.specs.Selections.{joined_answer, evaluation, turn_request, leave_latch, leave_answer}
-use Rattle.cell_select.specs.Contract.{Branch, Place, AgainNodes, again_nodes, again_owned, again_part, again_own, again_answer, rises_under, eval_wire, start_wire, start_wires, request_wire, branch_wires, latches_of, starts_of, answers_of, guards_of, guards_neutral, guards_valid, guards_false, none_true, alone_true, one_true, AreApart}
+use Rattle.cell_select.specs.Contract.{Branch, Place, AgainNodes, again_nodes, again_owned, again_own, again_answer, rises_under, eval_wire, start_wire, start_wires, request_wire, branch_wires, latches_of, starts_of, answers_of, guards_of, guards_neutral, guards_valid, guards_false, none_true, alone_true, one_true, AreApart}
+use Rattle.cell_select.proofs.Plain.{plain_again}
 use Rattle.cell_select.proofs.Tables.{implies, implies_at, and_left, and_right, both, not_true, true_not, true_false}
 use Rattle.cell_select.proofs.Distinct.{distinct_from}
-use Rattle.cell_select.proofs.Places.{IsPlace, Apart, at_place, one_or_apart, contains_cons, contains_none, contains_here, contains_next, latch_owned, start_owned, IsMade, branches_owned, branch_own, latch_there, start_there, place_in, wire_in}
+use Rattle.cell_select.proofs.Places.{IsPlace, Apart, at_place, one_or_apart, contains_cons, contains_here, contains_next, latch_owned, start_owned, IsMade, branches_owned, branch_own, latch_there, start_there, place_in, map_in, wire_in}
 use Rattle.cell_select.proofs.Rails.{seen_rails, consistent, rails_consistent, quiet_among, some_terms, low_terms, only_latch, only_start, only_answer, falses_hold}
 use Rattle.cell_select.proofs.Machines.{Machine, Setting, View, bit_at, can, whole_test, controls, state_of, extra_of}
-use Rattle.cell_select.proofs.Views.{AsRule, AsPlaced, InFrame, InBranch, IsPart, fires_is, all_quiet, view_kept, firm_of, apart_of, promised_of, IsPromise}
+use Rattle.cell_select.proofs.Views.{AsRule, AsPlaced, InFrame, InBranch, IsPart, fires_is, all_quiet, firm_of, apart_of, promised_of, IsPromise}
 use Rattle.cell_select.proofs.Waiting.{or_rest, weaker, or_cases, some_rail, low_guard, one_place, alone_valid, valid_false, false_valid, MayMove, high_may, low_may, answer_may, latch_up, start_up, latch_still, start_still, idle_is, first_wires, low_append, controls_low, neutral_single}
 
 -- the request, the answer, the request of a turn, the joined answers, the request of the guards, whether a latch is up, the latch of the
 -- end; the latch, the start and the answer of a branch
-abbrev again_up : ℕ → List Bool → List Bool → Bool
+abbrev pub again_up : ℕ → List Bool → List Bool → Bool
 again_up j (r ∷ a ∷ lr ∷ d ∷ e ∷ m ∷ v ∷ l ∷ s ∷ x ∷ []) (n ∷ w ∷ u ∷ k ∷ z ∷ y ∷ kz ∷ []) =
     bit_at (not a ∷ ((v && n) || false) ∷ ((r && (not d && true)) || false) ∷ not (not x) ∷ ((lr && (not m && true)) || false) ∷ not (not v && not l) ∷ (z || false) ∷ (w || false) ∷ ((l && n) || false) ∷ s ∷ []) j
 again_up j _ _ = false
 
-abbrev again_down : ℕ → List Bool → List Bool → Bool
+abbrev pub again_down : ℕ → List Bool → List Bool → Bool
 again_down j (r ∷ a ∷ lr ∷ d ∷ e ∷ m ∷ v ∷ l ∷ s ∷ x ∷ []) q =
     bit_at (a ∷ ((not m && true) || false) ∷ ((d && true) || ((not r && true) || false)) ∷ ((not m && not x) || false) ∷ ((m && true) || false) ∷ ((not v && not l) || false) ∷ ((not lr && true) || false) ∷ ((not lr && true) || false) ∷ ((not l && true) || false) ∷ not s ∷ []) j
 again_down j _ _ = false
 
 -- the end is latched while no branch is under way; a branch is under way only under the request; without it all falls in order; between two
 -- turns nothing but the joined answers is left; once it has answered, the turn has ended; within a turn it is a selection
-abbrev again_control : List Bool → Bool
+abbrev pub again_control : List Bool → Bool
 again_control (r ∷ a ∷ lr ∷ d ∷ e ∷ m ∷ v ∷ l ∷ s ∷ x ∷ []) =
     implies v (not l && (not s && not x)) && (implies (d || (l || (s || x))) (r && not v) && (implies (not r) (implies lr a && (implies v m && implies m a))
     && (implies (r && not lr) (not a && (not v && implies m d)) && (implies (lr && a) (v && not e)
@@ -40,30 +40,30 @@ again_control _ = false
 
 -- the rails are low but while the guards are evaluated and let go; the branch under way is the one whose guard was true alone, and where the
 -- end is latched no guard was true
-abbrev again_fit : List Bool → List Bool → Bool
+abbrev pub again_fit : List Bool → List Bool → Bool
 again_fit (r ∷ a ∷ lr ∷ d ∷ e ∷ m ∷ v ∷ l ∷ s ∷ x ∷ []) (n ∷ w ∷ u ∷ k ∷ z ∷ y ∷ kz ∷ []) =
     consistent (n ∷ w ∷ u ∷ k ∷ z ∷ y ∷ kz ∷ []) && (implies (not lr || (s || ((not e && not m) || a))) n && (implies (lr && l) (if e then w else k) && (implies (lr && v) (y && (if e then z else kz)) && implies (l || (s || x)) u)))
 again_fit _ _ = false
 
-abbrev answer_promise : List Bool → List Bool → Bool
+abbrev pub answer_promise : List Bool → List Bool → Bool
 answer_promise (r ∷ a ∷ lr ∷ d ∷ e ∷ m ∷ v ∷ l ∷ s ∷ x ∷ []) (n ∷ w ∷ u ∷ k ∷ z ∷ y ∷ kz ∷ []) =
     if a then not r && (not e && (n && (not s && not x))) else r && (kz && (not e && (n && (not s && not x))))
 answer_promise _ _ = false
 
-abbrev eval_promise : List Bool → List Bool → Bool
+abbrev pub eval_promise : List Bool → List Bool → Bool
 eval_promise (r ∷ a ∷ lr ∷ d ∷ e ∷ m ∷ v ∷ l ∷ s ∷ x ∷ []) (n ∷ w ∷ u ∷ k ∷ z ∷ y ∷ kz ∷ []) = if e then (w || z) && (not s && not x) else r && (lr && (not a && (n && (not s && not x))))
 eval_promise _ _ = false
 
-abbrev start_promise : List Bool → List Bool → Bool
+abbrev pub start_promise : List Bool → List Bool → Bool
 start_promise (r ∷ a ∷ lr ∷ d ∷ e ∷ m ∷ v ∷ l ∷ s ∷ x ∷ []) (n ∷ w ∷ u ∷ k ∷ z ∷ y ∷ kz ∷ []) =
     if s then x else r && (lr && (k && (not e && (not a && (n && (not s && not x))))))
 start_promise _ _ = false
 
-abbrev at_first : List Bool → Bool
+abbrev pub at_first : List Bool → Bool
 at_first (r ∷ a ∷ lr ∷ d ∷ e ∷ m ∷ v ∷ l ∷ s ∷ x ∷ []) = implies (not r && not a) (not lr && (not d && (not e && (not m && (not v && (not l && not s))))))
 at_first _ = false
 
-abbrev again_moves : Machine
+abbrev pub again_moves : Machine
 again_moves = record {
   size = 10;
   eval = 4;
@@ -77,27 +77,27 @@ again_moves = record {
 }
 
 -- where nothing of its own may move the request or a branch's answer may, or a rail, or a guard is awaited
-abbrev may_wait : List Bool → List Bool → Bool
+abbrev pub may_wait : List Bool → List Bool → Bool
 may_wait c q = (can again_moves 0 c q || can again_moves 9 c q) || ((not (bit_at c 4) && not (bit_at q 0)) || (bit_at c 4 && (not (bit_at c 7) && not (bit_at c 6))))
 
-abbrev waits_test : List Bool → List Bool → Bool
+abbrev pub waits_test : List Bool → List Bool → Bool
 waits_test c q =
     can again_moves 1 c q || (can again_moves 2 c q || (can again_moves 3 c q || (can again_moves 4 c q || (can again_moves 5 c q || (can again_moves 6 c q || (can again_moves 7 c q || (can again_moves 8 c q || may_wait c q)))))))
 
-abbrev again_extra : List Bool → List Bool → Bool
+abbrev pub again_extra : List Bool → List Bool → Bool
 again_extra c q =
     implies (can again_moves 1 c q) (answer_promise c q) && (implies (can again_moves 4 c q) (eval_promise c q) && (implies (can again_moves 8 c q) (start_promise c q) && (at_first c && waits_test c q)))
 
-abbrev again_machine : Machine
+abbrev pub again_machine : Machine
 again_machine = record again_moves { extra = again_extra }
 
 again_whole : whole_test again_machine ≡ true
 again_whole = refl
 
-abbrev again_frame : AgainNodes → List ℕ
+abbrev pub again_frame : AgainNodes → List ℕ
 again_frame c = c.request ∷ c.answer ∷ c.turn ∷ c.joined ∷ c.eval ∷ c.any ∷ c.leave ∷ []
 
-again_setting : (c : AgainNodes) → AreApart (again_nodes c) → Setting again_machine (again_frame c) c.branches c.eval
+pub again_setting : (c : AgainNodes) → AreApart (again_nodes c) → Setting again_machine (again_frame c) c.branches c.eval
 again_setting c apart = record {
   apart = distinct_from (again_nodes c) apart;
   long = refl;
@@ -241,7 +241,7 @@ behind_any c o h =
 behind_all : (c : AgainNodes) (o : Owned) → Contains (from_branches c) o → Contains (again_owned c) o
 behind_all c o h = behind_any c o (contains_next (leave_owned c) (from_branches c) o h)
 
-again_is_part : (c : AgainNodes) → IsPart again_machine (again_frame c) c.branches c.request c.answer c.eval (again_part c)
+pub again_is_part : (c : AgainNodes) → IsPart again_machine (again_frame c) c.branches c.request c.answer c.eval (plain_again c)
 again_is_part c = record {
   own = again_owns c;
   wires = λ w h. ⊎_elim (λ e. inl e) (λ more. inr (wire_in c.eval [] c.branches w more)) (contains_cons (request_wire c.request c.answer) (branch_wires c.eval c.branches) w h);
@@ -256,7 +256,7 @@ ctl c m p = map m.value (controls (again_frame c) p)
 abbrev rls : AgainNodes → Moment → Place → List Bool
 rls c m p = seen_rails m.value m.noted c.branches p
 
-abbrev Sees : AgainNodes → Moment → Place → Type 0
+abbrev pub Sees : AgainNodes → Moment → Place → Type 0
 Sees c m p = View again_machine (again_frame c) c.branches m p
 
 record Extras (c q : List Bool) : Type 0 where
@@ -302,12 +302,7 @@ start_holds c apart m p view may =
     let promise = implies_at _ (start_promise (ctl c m p) (rls c m p)) (extras c apart m p view).starts may in
     ap (λ i. if v p.this.start then v p.this.answer else v c.request && (v c.turn && (alone_true m.noted p && (not (v c.eval) && (not (v c.answer) && (guards_neutral v c.branches && i)))))) (idle_is v c.branches p view.is view.calm) ∙ promise
 
-map_in : (f : Wire → Wire) (ws : List Wire) (w : Wire) → Contains (map f ws) w → (u : Wire) × Contains ws u × (w ≡ f u)
-map_in f [] w h = absurd (contains_none w h)
-map_in f (x ∷ ws) w h =
-    ⊎_elim (λ (e : w ≡ f x). (x, contains_here x ws, e)) (λ more. let r = map_in f ws w more in (r.0, contains_next x ws r.0 r.1, r.2)) (contains_cons (f x) (map f ws) w h)
-
-promise_of : (c : AgainNodes) → AreApart (again_nodes c) → (m : Moment) (w : Wire) → Contains (again_part c).promises w → IsPromise again_machine (again_frame c) c.branches m w
+promise_of : (c : AgainNodes) → AreApart (again_nodes c) → (m : Moment) (w : Wire) → Contains (plain_again c).promises w → IsPromise again_machine (again_frame c) c.branches m w
 promise_of c apart m w h =
     let e = eval_wire c.turn c.answer c.eval c.branches in
     let starts = start_wires c.turn c.answer c.eval c.branches in
@@ -339,7 +334,7 @@ lows_of c apart m p view low =
     ∙ both _ _ (ap (λ (xs : List Branch). all_low v (latches_of xs)) view.is ∙ only_latch v p view.calm ∙ and_left (not (v p.this.latch)) _ sixth) (ap (λ (xs : List Branch). all_low v (starts_of xs)) view.is ∙ only_start v p view.calm ∙ and_right (not (v p.this.latch)) _ sixth)))))))
 
 abbrev Waits : AgainNodes → Moment → Type 0
-Waits c m = ((w : Wire) × Contains (again_part c).allows w × (may_move m w ≡ true)) ⊎ ((again_part c).blocked m.value ≡ true)
+Waits c m = ((w : Wire) × Contains (plain_again c).allows w × (may_move m w ≡ true)) ⊎ ((plain_again c).blocked m.value ≡ true)
 
 by_branch : (c : AgainNodes) (m : Moment) → MayMove m c.eval c.branches → Waits c m
 by_branch c m h = inl (h.0, contains_next (request_wire c.request c.answer) (branch_wires c.eval c.branches) h.0 h.1, h.2)
@@ -400,7 +395,7 @@ waits_of c apart m p view none =
     (or_cases (not (v c.eval) && not (guards_neutral v c.branches)) (v c.eval && (not (v p.this.latch) && not (v c.leave))) h))
     (or_cases (can again_machine 0 cs q || can again_machine 9 cs q) _ wait)
 
-abbrev Reaches : AgainNodes → Moment → Type 0
+abbrev pub Reaches : AgainNodes → Moment → Type 0
 Reaches c m = (p : Place) × Sees c m p
 
 -- first values
@@ -410,7 +405,7 @@ all_down = false ∷ false ∷ false ∷ false ∷ false ∷ false ∷ false ∷
 fit_first : (q : List Bool) (n w u k z y kz : Bool) → q ≡ n ∷ w ∷ u ∷ k ∷ z ∷ y ∷ kz ∷ [] → n ≡ true → consistent q ≡ true → again_fit all_down q ≡ true
 fit_first q n w u k z y kz e low con = ap (again_fit all_down) e ∙ both _ _ (ap consistent (sym e) ∙ con) (both _ _ low refl)
 
-first_by : (c : AgainNodes) → AreApart (again_nodes c) → (b : Branch) (rest : List Branch) → c.branches ≡ b ∷ rest → (v : ℕ → Bool) → IsFirst (again_part c) v → Reaches c (record { value = v; noted = λ n. false })
+first_by : (c : AgainNodes) → AreApart (again_nodes c) → (b : Branch) (rest : List Branch) → c.branches ≡ b ∷ rest → (v : ℕ → Bool) → IsFirst (plain_again c) v → Reaches c (record { value = v; noted = λ n. false })
 first_by c apart b rest is v first =
     let p = at_place [] b rest in
     let wires = first_wires v c.eval c.branches (and_right (not (v c.request)) _ first.outside) in
@@ -437,25 +432,19 @@ first_by c apart b rest is v first =
       },
     )
 
-first_of : (c : AgainNodes) → AreApart (again_nodes c) → (bs : List Branch) → c.branches ≡ bs → 0 < length bs → (v : ℕ → Bool) → IsFirst (again_part c) v → Reaches c (record { value = v; noted = λ n. false })
+pub first_of : (c : AgainNodes) → AreApart (again_nodes c) → (bs : List Branch) → c.branches ≡ bs → 0 < length bs → (v : ℕ → Bool) → IsFirst (plain_again c) v → Reaches c (record { value = v; noted = λ n. false })
 first_of c apart [] is some v first = absurd (omega (arith, some))
 first_of c apart (b ∷ rest) is some v first = first_by c apart b rest is v first
 
-kept_of : (c : AgainNodes) → AreApart (again_nodes c) → (m : Moment) → Reaches c m → IsKept (again_part c) m
+pub kept_of : (c : AgainNodes) → AreApart (again_nodes c) → (m : Moment) → Reaches c m → IsKept (plain_again c) m
 kept_of c apart m h =
     let s = again_setting c apart in
     let part_is = again_is_part c in
     record {
-      promised = λ o among f w promise e. promised_of again_machine (again_frame c) c.branches c.request c.answer c.eval (again_part c) m h.0 s part_is h.1 o among f w (promise_of c apart m w promise) e;
-      firm = λ o among f node move ne. firm_of again_machine (again_frame c) c.branches c.request c.answer c.eval (again_part c) m h.0 s part_is h.1 o among f node move ne;
-      apart = λ o among. apart_of again_machine (again_frame c) c.branches c.request c.answer c.eval (again_part c) m h.0 s part_is h.1 o among;
+      promised = λ o among f w promise e. promised_of again_machine (again_frame c) c.branches c.request c.answer c.eval (plain_again c) m h.0 s part_is h.1 o among f w (promise_of c apart m w promise) e;
+      firm = λ o among f node move ne. firm_of again_machine (again_frame c) c.branches c.request c.answer c.eval (plain_again c) m h.0 s part_is h.1 o among f node move ne;
+      apart = λ o among. apart_of again_machine (again_frame c) c.branches c.request c.answer c.eval (plain_again c) m h.0 s part_is h.1 o among;
       lows = λ low. lows_of c apart m h.0 h.1 low;
       bits = λ low. refl;
       waits = λ none. waits_of c apart m h.0 h.1 none;
     }
-
-pub again_keeps : (c : AgainNodes) → 0 < length c.branches → AreApart (again_nodes c) → Keeps (again_part c)
-again_keeps c some apart =
-    kept_by (again_part c) (Reaches c) (λ v first. first_of c apart c.branches refl some v first)
-    (λ m node h move. view_kept again_machine (again_frame c) c.branches c.request c.answer c.eval (again_part c) m h.0 node (again_setting c apart) (again_is_part c) h.1 move)
-    (λ m h. kept_of c apart m h)

@@ -7,11 +7,15 @@ pub mod Distinct
 pub mod Places
 pub mod Rails
 pub mod RailMoves
+pub mod Plain
 pub mod Machines
 pub mod Views
 pub mod Waiting
+pub mod Once
 pub mod SelectKeeps
 pub mod AgainKeeps
+pub mod SelectOnce
+pub mod AgainOnce
 pub mod WrongBodies
 pub mod Worked
 pub mod Written

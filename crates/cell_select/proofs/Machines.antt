@@ -127,7 +127,7 @@ controls_length M frame bs eval p s =
     let size = s.size in
     omega (arith, l, long, size)
 
-values_length : (M : Machine) (frame : List ℕ) (bs : List Branch) (eval : ℕ) (v : ℕ → Bool) (p : Place) → Setting M frame bs eval → length (map v (controls frame p)) ≡ M.size
+pub values_length : (M : Machine) (frame : List ℕ) (bs : List Branch) (eval : ℕ) (v : ℕ → Bool) (p : Place) → Setting M frame bs eval → length (map v (controls frame p)) ≡ M.size
 values_length M frame bs eval v p s = map_length v (controls frame p) ∙ controls_length M frame bs eval p s
 
 -- the distinct nodes as they lie round one branch
@@ -304,7 +304,7 @@ rail_off frame bs p q rail is at which d =
 rails_distinct : (frame : List ℕ) (bs : List Branch) → Distinct (frame ++ (controls_of bs ++ rails_of (guards_of bs))) → Distinct (rails_of (guards_of bs))
 rails_distinct frame bs d = distinct_right (controls_of bs) (rails_of (guards_of bs)) (distinct_right frame (controls_of bs ++ rails_of (guards_of bs)) d)
 
-fresh_place : (ns : List ℕ) (n i : ℕ) → i < length ns → Fresh n ns → n ≢ slice_index_or ns i 0
+pub fresh_place : (ns : List ℕ) (n i : ℕ) → i < length ns → Fresh n ns → n ≢ slice_index_or ns i 0
 fresh_place [] n i lt h = absurd (omega (arith, lt))
 fresh_place (m ∷ ns) n zero lt h = h.0
 fresh_place (m ∷ ns) n (suc i) lt h = fresh_place ns n i (omega (arith, lt)) h.1

@@ -201,3 +201,9 @@ f_there eval (x ∷ before) b behind = over_three eval x (before ++ b ∷ behind
 pub d_there : (eval : ℕ) (before : List Branch) (b : Branch) (behind : List Branch) → Contains (branch_wires eval (before ++ b ∷ behind)) (answer_wire b)
 d_there eval [] b behind = contains_next (rail_wire eval b.guard b.guard.t) (rail_wire eval b.guard b.guard.f ∷ answer_wire b ∷ branch_wires eval behind) (answer_wire b) (contains_next (rail_wire eval b.guard b.guard.f) (answer_wire b ∷ branch_wires eval behind) (answer_wire b) (contains_here (answer_wire b) (branch_wires eval behind)))
 d_there eval (x ∷ before) b behind = over_three eval x (before ++ b ∷ behind) (answer_wire b) (d_there eval before b behind)
+
+-- a wire that is made of another
+pub map_in : (f : Wire → Wire) (ws : List Wire) (w : Wire) → Contains (map f ws) w → (u : Wire) × Contains ws u × (w ≡ f u)
+map_in f [] w h = absurd (contains_none w h)
+map_in f (x ∷ ws) w h =
+    ⊎_elim (λ (e : w ≡ f x). (x, contains_here x ws, e)) (λ more. let r = map_in f ws w more in (r.0, contains_next x ws r.0 r.1, r.2)) (contains_cons (f x) (map f ws) w h)

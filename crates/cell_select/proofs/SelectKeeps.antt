@@ -4,64 +4,64 @@ use Rattle.std.specs.Prelude.{◌&&◌, ◌||◌, if◌then◌else◌, ◌==◌,
 use Rattle.std.proofs.Math.Logic.{⊎_elim}
 use Rattle.prs_core.specs.Moves.{guard_holds}
 use Rattle.prs_core.specs.Pairs.{or_of}
-use Rattle.prs_core.specs.Parts.{Owned, owned, Moment, Wire, IsFirst, IsKept, Keeps, all_low, fires, may_move}
-use Rattle.prs_core.specs.Keeping.{kept_by}
+use Rattle.prs_core.specs.Parts.{Owned, owned, Moment, Wire, IsFirst, IsKept, all_low, fires, may_move}
 use Rattle.cell_select.specs.Selections.{joined_answer, evaluation}
-use Rattle.cell_select.specs.Contract.{Branch, Place, SelectNodes, select_nodes, select_owned, select_part, select_own, select_answer, eval_wire, start_wire, start_wires, request_wire, branch_wires, latches_of, starts_of, answers_of, guards_of, guards_neutral, guards_valid, guards_false, none_true, alone_true, one_true, AreApart}
+use Rattle.cell_select.specs.Contract.{Branch, Place, SelectNodes, select_nodes, select_owned, select_own, select_answer, eval_wire, start_wire, start_wires, request_wire, branch_wires, latches_of, starts_of, answers_of, guards_of, guards_neutral, guards_valid, guards_false, none_true, alone_true, one_true, AreApart}
+use Rattle.cell_select.proofs.Plain.{plain_select}
 use Rattle.cell_select.proofs.Tables.{implies, implies_at, and_left, and_right, both, not_true, true_not, true_false}
 use Rattle.cell_select.proofs.Distinct.{distinct_from}
 use Rattle.cell_select.proofs.Places.{IsPlace, Apart, at_place, one_or_apart, contains_cons, contains_here, contains_next, latch_owned, start_owned, IsMade, branches_owned, branch_own, latch_there, start_there, place_in, wire_in}
 use Rattle.cell_select.proofs.Rails.{seen_rails, consistent, rails_consistent, is_calm, quiet_among, some_terms, low_terms, or_up, or_down, only_latch, only_start, only_answer}
 use Rattle.cell_select.proofs.Machines.{Machine, Setting, View, bit_at, can, whole_test, controls, state_of, extra_of}
-use Rattle.cell_select.proofs.Views.{AsRule, AsPlaced, InFrame, InBranch, IsPart, fires_is, all_quiet, view_kept, firm_of, apart_of, promised_of, IsPromise}
+use Rattle.cell_select.proofs.Views.{AsRule, AsPlaced, InFrame, InBranch, IsPart, fires_is, all_quiet, firm_of, apart_of, promised_of, IsPromise}
 use Rattle.cell_select.proofs.Waiting.{or_rest, weaker, or_cases, some_rail, low_guard, one_place, alone_valid, MayMove, high_may, low_may, answer_may, latch_up, start_up, latch_still, start_still, idle_is, first_wires, low_append, controls_low, neutral_single}
 
 -- the request, the answer, the request of the guards, whether a latch is up; the latch, the start and the answer of a branch
-abbrev select_up : ℕ → List Bool → List Bool → Bool
+abbrev pub select_up : ℕ → List Bool → List Bool → Bool
 select_up j (r ∷ a ∷ e ∷ m ∷ l ∷ s ∷ d ∷ []) (n ∷ w ∷ u ∷ k ∷ z ∷ y ∷ kz ∷ []) =
     bit_at (not a ∷ not (not d) ∷ ((r && (not m && true)) || false) ∷ not (not l) ∷ (w || false) ∷ ((l && n) || false) ∷ s ∷ []) j
 select_up j _ _ = false
 
-abbrev select_down : ℕ → List Bool → List Bool → Bool
+abbrev pub select_down : ℕ → List Bool → List Bool → Bool
 select_down j (r ∷ a ∷ e ∷ m ∷ l ∷ s ∷ d ∷ []) q =
     bit_at (a ∷ ((not m && not d) || false) ∷ ((m && true) || false) ∷ (not l || false) ∷ ((not r && true) || false) ∷ ((not l && true) || false) ∷ not s ∷ []) j
 select_down j _ _ = false
 
 -- under the request the answer follows the branch's, which follows its start, which follows its latch; a latch is up once one is; without
 -- it all of them fall in the same order
-abbrev select_control : List Bool → Bool
+abbrev pub select_control : List Bool → Bool
 select_control (r ∷ a ∷ e ∷ m ∷ l ∷ s ∷ d ∷ []) =
     if r then implies d s && (implies s l && (implies s (not e) && (implies a d && (implies m l && implies (l && not e) m))))
     else not e && (implies l s && (implies l m && (implies s d && (implies d a && implies m a))))
 select_control _ = false
 
 -- the rails are low but while the guards are evaluated and let go; the branch under way is the one whose guard was true alone
-abbrev select_fit : List Bool → List Bool → Bool
+abbrev pub select_fit : List Bool → List Bool → Bool
 select_fit (r ∷ a ∷ e ∷ m ∷ l ∷ s ∷ d ∷ []) (n ∷ w ∷ u ∷ k ∷ z ∷ y ∷ kz ∷ []) =
     consistent (n ∷ w ∷ u ∷ k ∷ z ∷ y ∷ kz ∷ []) && (implies (not r || (s || (not e && not m))) n && (implies (r && l) (if e then w else k) && implies (l || (s || d)) u))
 select_fit _ _ = false
 
-abbrev answer_promise : List Bool → List Bool → Bool
+abbrev pub answer_promise : List Bool → List Bool → Bool
 answer_promise (r ∷ a ∷ e ∷ m ∷ l ∷ s ∷ d ∷ []) q = if a then not r && (not e && (not s && not d)) else r && not (not d)
 answer_promise _ _ = false
 
-abbrev eval_promise : List Bool → List Bool → Bool
+abbrev pub eval_promise : List Bool → List Bool → Bool
 eval_promise (r ∷ a ∷ e ∷ m ∷ l ∷ s ∷ d ∷ []) (n ∷ w ∷ u ∷ k ∷ z ∷ y ∷ kz ∷ []) = if e then w && (not s && not d) else r && (not a && (n && (not s && not d)))
 eval_promise _ _ = false
 
-abbrev start_promise : List Bool → List Bool → Bool
+abbrev pub start_promise : List Bool → List Bool → Bool
 start_promise (r ∷ a ∷ e ∷ m ∷ l ∷ s ∷ d ∷ []) (n ∷ w ∷ u ∷ k ∷ z ∷ y ∷ kz ∷ []) = if s then d else r && (k && (not e && (not a && (n && (not s && not d)))))
 start_promise _ _ = false
 
-abbrev at_first : List Bool → Bool
+abbrev pub at_first : List Bool → Bool
 at_first (r ∷ a ∷ e ∷ m ∷ l ∷ s ∷ d ∷ []) = implies (not r && not a) (not e && (not m && (not l && not s)))
 at_first _ = false
 
 -- where nothing of its own may move the request or a branch's answer may, or a rail, or a guard is awaited
-abbrev may_wait : Machine → List Bool → List Bool → Bool
+abbrev pub may_wait : Machine → List Bool → List Bool → Bool
 may_wait M c q = (can M 0 c q || can M 6 c q) || ((not (bit_at c 2) && not (bit_at q 0)) || (bit_at c 2 && not (bit_at c 4)))
 
-abbrev select_moves : Machine
+abbrev pub select_moves : Machine
 select_moves = record {
   size = 7;
   eval = 2;
@@ -74,20 +74,20 @@ select_moves = record {
   extra = λ c q. true;
 }
 
-abbrev waits_test : Machine → List Bool → List Bool → Bool
+abbrev pub waits_test : Machine → List Bool → List Bool → Bool
 waits_test M c q = can M 1 c q || (can M 2 c q || (can M 3 c q || (can M 4 c q || (can M 5 c q || may_wait M c q))))
 
-abbrev select_extra : List Bool → List Bool → Bool
+abbrev pub select_extra : List Bool → List Bool → Bool
 select_extra c q =
     implies (can select_moves 1 c q) (answer_promise c q) && (implies (can select_moves 2 c q) (eval_promise c q) && (implies (can select_moves 5 c q) (start_promise c q) && (at_first c && waits_test select_moves c q)))
 
-abbrev select_machine : Machine
+abbrev pub select_machine : Machine
 select_machine = record select_moves { extra = select_extra }
 
 select_whole : whole_test select_machine ≡ true
 select_whole = refl
 
-abbrev select_frame : SelectNodes → List ℕ
+abbrev pub select_frame : SelectNodes → List ℕ
 select_frame c = c.request ∷ c.answer ∷ c.eval ∷ c.any ∷ []
 
 pub select_setting : (c : SelectNodes) → AreApart (select_nodes c) → Setting select_machine (select_frame c) c.branches c.eval
@@ -169,7 +169,7 @@ select_owns c o h =
     (contains_cons e (m ∷ rest) o more))
     (contains_cons a (e ∷ m ∷ rest) o h)
 
-select_is_part : (c : SelectNodes) → IsPart select_machine (select_frame c) c.branches c.request c.answer c.eval (select_part c)
+pub select_is_part : (c : SelectNodes) → IsPart select_machine (select_frame c) c.branches c.request c.answer c.eval (plain_select c)
 select_is_part c = record {
   own = select_owns c;
   wires = λ w h. ⊎_elim (λ e. inl e) (λ more. inr (wire_in c.eval [] c.branches w more)) (contains_cons (request_wire c.request c.answer) (branch_wires c.eval c.branches) w h);
@@ -184,7 +184,7 @@ ctl c m p = map m.value (controls (select_frame c) p)
 abbrev rls : SelectNodes → Moment → Place → List Bool
 rls c m p = seen_rails m.value m.noted c.branches p
 
-abbrev Sees : SelectNodes → Moment → Place → Type 0
+abbrev pub Sees : SelectNodes → Moment → Place → Type 0
 Sees c m p = View select_machine (select_frame c) c.branches m p
 
 extras : (c : SelectNodes) → AreApart (select_nodes c) → (m : Moment) (p : Place) → Sees c m p → select_extra (ctl c m p) (rls c m p) ≡ true
@@ -217,7 +217,7 @@ start_holds c apart m p view may =
     let promise = implies_at _ (start_promise (ctl c m p) q) (and_left (implies (can select_machine 5 (ctl c m p) q) (start_promise (ctl c m p) q)) _ tests) may in
     ap (λ i. if v p.this.start then v p.this.answer else v c.request && (alone_true m.noted p && (not (v c.eval) && (not (v c.answer) && (guards_neutral v c.branches && i))))) (idle_is v c.branches p view.is view.calm) ∙ promise
 
-promise_of : (c : SelectNodes) → AreApart (select_nodes c) → (m : Moment) (w : Wire) → Contains (select_part c).promises w → IsPromise select_machine (select_frame c) c.branches m w
+promise_of : (c : SelectNodes) → AreApart (select_nodes c) → (m : Moment) (w : Wire) → Contains (plain_select c).promises w → IsPromise select_machine (select_frame c) c.branches m w
 promise_of c apart m w h =
     let e = eval_wire c.request c.answer c.eval c.branches in
     let starts = start_wires c.request c.answer c.eval c.branches in
@@ -245,7 +245,7 @@ lows_of c apart m p view low =
     ∙ both _ _ (ap (λ (xs : List Branch). all_low v (latches_of xs)) view.is ∙ only_latch v p view.calm ∙ and_left (not (v p.this.latch)) _ third) (ap (λ (xs : List Branch). all_low v (starts_of xs)) view.is ∙ only_start v p view.calm ∙ and_right (not (v p.this.latch)) _ third))))
 
 abbrev Waits : SelectNodes → Moment → Type 0
-Waits c m = ((w : Wire) × Contains (select_part c).allows w × (may_move m w ≡ true)) ⊎ ((select_part c).blocked m.value ≡ true)
+Waits c m = ((w : Wire) × Contains (plain_select c).allows w × (may_move m w ≡ true)) ⊎ ((plain_select c).blocked m.value ≡ true)
 
 by_branch : (c : SelectNodes) (m : Moment) → MayMove m c.eval c.branches → Waits c m
 by_branch c m h = inl (h.0, contains_next (request_wire c.request c.answer) (branch_wires c.eval c.branches) h.0 h.1, h.2)
@@ -304,7 +304,7 @@ waits_of c apart m p view none =
     (or_cases (not (v c.eval) && not (guards_neutral v c.branches)) (v c.eval && not (v p.this.latch)) h))
     (or_cases (can select_machine 0 cs q || can select_machine 6 cs q) _ wait)
 
-abbrev Reaches : SelectNodes → Moment → Type 0
+abbrev pub Reaches : SelectNodes → Moment → Type 0
 Reaches c m = (p : Place) × Sees c m p
 
 -- first values
@@ -312,7 +312,7 @@ fit_first : (q : List Bool) (n w u k z y kz : Bool) → q ≡ n ∷ w ∷ u ∷ 
 fit_first q n w u k z y kz e low con =
     ap (select_fit (false ∷ false ∷ false ∷ false ∷ false ∷ false ∷ false ∷ [])) e ∙ both _ _ (ap consistent (sym e) ∙ con) (both _ _ low refl)
 
-first_by : (c : SelectNodes) → AreApart (select_nodes c) → (b : Branch) (rest : List Branch) → c.branches ≡ b ∷ rest → (v : ℕ → Bool) → IsFirst (select_part c) v → Reaches c (record { value = v; noted = λ n. false })
+first_by : (c : SelectNodes) → AreApart (select_nodes c) → (b : Branch) (rest : List Branch) → c.branches ≡ b ∷ rest → (v : ℕ → Bool) → IsFirst (plain_select c) v → Reaches c (record { value = v; noted = λ n. false })
 first_by c apart b rest is v first =
     let p = at_place [] b rest in
     let wires = first_wires v c.eval c.branches (and_right (not (v c.request)) _ first.outside) in
@@ -336,25 +336,19 @@ first_by c apart b rest is v first =
       },
     )
 
-first_of : (c : SelectNodes) → AreApart (select_nodes c) → (bs : List Branch) → c.branches ≡ bs → 0 < length bs → (v : ℕ → Bool) → IsFirst (select_part c) v → Reaches c (record { value = v; noted = λ n. false })
+pub first_of : (c : SelectNodes) → AreApart (select_nodes c) → (bs : List Branch) → c.branches ≡ bs → 0 < length bs → (v : ℕ → Bool) → IsFirst (plain_select c) v → Reaches c (record { value = v; noted = λ n. false })
 first_of c apart [] is some v first = absurd (omega (arith, some))
 first_of c apart (b ∷ rest) is some v first = first_by c apart b rest is v first
 
-kept_of : (c : SelectNodes) → AreApart (select_nodes c) → (m : Moment) → Reaches c m → IsKept (select_part c) m
+pub kept_of : (c : SelectNodes) → AreApart (select_nodes c) → (m : Moment) → Reaches c m → IsKept (plain_select c) m
 kept_of c apart m h =
     let s = select_setting c apart in
     let part_is = select_is_part c in
     record {
-      promised = λ o among f w promise e. promised_of select_machine (select_frame c) c.branches c.request c.answer c.eval (select_part c) m h.0 s part_is h.1 o among f w (promise_of c apart m w promise) e;
-      firm = λ o among f node move ne. firm_of select_machine (select_frame c) c.branches c.request c.answer c.eval (select_part c) m h.0 s part_is h.1 o among f node move ne;
-      apart = λ o among. apart_of select_machine (select_frame c) c.branches c.request c.answer c.eval (select_part c) m h.0 s part_is h.1 o among;
+      promised = λ o among f w promise e. promised_of select_machine (select_frame c) c.branches c.request c.answer c.eval (plain_select c) m h.0 s part_is h.1 o among f w (promise_of c apart m w promise) e;
+      firm = λ o among f node move ne. firm_of select_machine (select_frame c) c.branches c.request c.answer c.eval (plain_select c) m h.0 s part_is h.1 o among f node move ne;
+      apart = λ o among. apart_of select_machine (select_frame c) c.branches c.request c.answer c.eval (plain_select c) m h.0 s part_is h.1 o among;
       lows = λ low. lows_of c apart m h.0 h.1 low;
       bits = λ low. refl;
       waits = λ none. waits_of c apart m h.0 h.1 none;
     }
-
-pub select_keeps : (c : SelectNodes) → 0 < length c.branches → AreApart (select_nodes c) → Keeps (select_part c)
-select_keeps c some apart =
-    kept_by (select_part c) (Reaches c) (λ v first. first_of c apart c.branches refl some v first)
-    (λ m node h move. view_kept select_machine (select_frame c) c.branches c.request c.answer c.eval (select_part c) m h.0 node (select_setting c apart) (select_is_part c) h.1 move)
-    (λ m h. kept_of c apart m h)

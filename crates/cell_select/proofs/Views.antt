@@ -373,7 +373,7 @@ fresh_among n b (x ∷ bs) (inl e) h = (λ same. h.0 (same ∙ ap (λ (y : Branc
 fresh_among n b (x ∷ bs) (inr a) h = fresh_among n b bs a h.1.1.1
 
 -- two controls seen from one branch that are one node
-one_control : (M : Machine) (frame : List ℕ) (bs : List Branch) (eval : ℕ) (p : Place) (i j : ℕ) → Setting M frame bs eval → IsPlace bs p → i < M.size → j < M.size → slice_index_or (controls frame p) i 0 ≡ slice_index_or (controls frame p) j 0 → i ≡ j
+pub one_control : (M : Machine) (frame : List ℕ) (bs : List Branch) (eval : ℕ) (p : Place) (i j : ℕ) → Setting M frame bs eval → IsPlace bs p → i < M.size → j < M.size → slice_index_or (controls frame p) i 0 ≡ slice_index_or (controls frame p) j 0 → i ≡ j
 one_control M frame bs eval p i j s is lt less e =
     let long = controls_length M frame bs eval p s in
     one_place (controls frame p) (distinct_left (controls frame p) (controls_of p.before ++ (controls_of p.behind ++ rails_of (guards_of bs))) (around frame bs p is s.apart)) i j (omega (arith, lt, long)) (omega (arith, less, long)) e

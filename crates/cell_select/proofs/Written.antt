@@ -7,8 +7,8 @@ use Rattle.cell_select.specs.declared.emit.SelectPorts.{SelectPorts}
 use Rattle.cell_select.specs.declared.emit.AgainPorts.{AgainPorts}
 use Rattle.cell_select.proofs.PairLists.{pairs_length}
 use Rattle.cell_select.proofs.Emitted.{branch_lists}
-use Rattle.cell_select.proofs.SelectKeeps.{select_keeps}
-use Rattle.cell_select.proofs.AgainKeeps.{again_keeps}
+use Rattle.cell_select.proofs.SelectOnce.{select_keeps}
+use Rattle.cell_select.proofs.AgainOnce.{again_keeps}
 
 latches_count : (bs : List Branch) → length (latches_of bs) ≡ length bs
 latches_count [] = refl

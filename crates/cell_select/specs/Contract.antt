@@ -1,6 +1,6 @@
 -- What a selection and a guarded repetition keep alone, against every neighbour that keeps its own side (Martin; four-phase
 -- handshakes). The guards answer their request by their rails, each branch answers its start.
-use Rattle.std.specs.Prelude.{◌≢◌, ℕ, Bool, false, not, ◌&&◌, ◌==◌, if◌then◌else◌, List, [], ◌∷◌, ◌++◌, map, AllPairs}
+use Rattle.std.specs.Prelude.{◌||◌, ◌≢◌, ℕ, Bool, false, not, ◌&&◌, ◌==◌, if◌then◌else◌, List, [], ◌∷◌, ◌++◌, map, AllPairs}
 use Rattle.std.specs.List.{list_all}
 use Rattle.prs_core.specs.Pairs.{Pair, rails_of}
 use Rattle.prs_core.specs.Parts.{Owned, owned_at, Part, Wire, wire, Moment, all_low, is_valid}
@@ -118,10 +118,26 @@ one_true v (b ∷ bs) = if v b.guard.t then list_all (λ (b : Branch). not (v b.
 abbrev pub none_true : (ℕ → Bool) → List Branch → Bool
 none_true v bs = list_all (λ (b : Branch). not (v b.guard.t)) bs
 
--- The contract notes what the guards' rails were when the guards' request last fell: by then they are evaluated, and after it they
--- fall. (It notes all nodes; only rails are asked for.)
+-- what was on a node when the guards' request last fell: by then the guards are evaluated, and after it their rails fall
 abbrev pub as_evaluated : (eval : ℕ) → Moment → ℕ → ℕ → Bool
 as_evaluated eval m moved node = if moved == eval && m.value eval then m.value node else m.noted node
+
+-- whether a node is a rail of a guard
+abbrev pub is_rail : List Branch → ℕ → Bool
+is_rail [] node = false
+is_rail (b ∷ bs) node = node == b.guard.t || (node == b.guard.f || is_rail bs node)
+
+-- The contract notes of the guards' rails what they were when the guards' request last fell; of that request, whether it has
+-- moved since the request last did; and of every other node, whether it has moved since the guards' request last did.
+abbrev pub noting : (request eval : ℕ) → List Branch → Moment → ℕ → ℕ → Bool
+noting request eval bs m moved node =
+    if is_rail bs node then as_evaluated eval m moved node
+    else if moved == (if node == eval then request else eval) then false
+    else moved == node || m.noted node
+
+-- as a wire that rises only where it hasn't moved since
+abbrev pub once : Wire → Wire
+once w = wire w.node (λ m. w.rises m && not (m.noted w.node)) w.falls
 
 -- A rail rises where the guards are asked for and neither rail of its guard is high, and falls where they aren't.
 abbrev pub rail_wire : (eval : ℕ) → Pair → ℕ → Wire
@@ -165,17 +181,18 @@ select_answer c =
     (λ m. m.value c.request && not (all_low m.value (answers_of c.branches)))
     (λ m. not (m.value c.request) && (not (m.value c.eval) && branches_idle m.value c.branches))
 
--- It may wait for ever where all guards are evaluated and not exactly one of them is true.
+-- It asks for the guards once for each request, and starts a branch once for each time that they were asked for. It may wait
+-- for ever where all guards are evaluated and not exactly one of them is true.
 abbrev pub select_part : SelectNodes → Part
 select_part c = record {
   own = select_owned c;
-  promises = select_answer c ∷ eval_wire c.request c.answer c.eval c.branches ∷ start_wires c.request c.answer c.eval c.branches;
+  promises = select_answer c ∷ map once (eval_wire c.request c.answer c.eval c.branches ∷ start_wires c.request c.answer c.eval c.branches);
   allows = request_wire c.request c.answer ∷ branch_wires c.eval c.branches;
   lows = select_own c;
   bits = [];
   ports = c.request ∷ c.answer ∷ [];
   blocked = λ v. guards_valid v c.branches && not (one_true v c.branches);
-  notes = as_evaluated c.eval;
+  notes = noting c.request c.eval c.branches;
 }
 
 -- A guarded repetition answers once all guards were false, and moves its answer only where the guards are let go and no
@@ -190,18 +207,18 @@ again_answer c =
 abbrev pub rises_under : (request : ℕ) → Wire → Wire
 rises_under request w = wire w.node (λ m. m.value request && w.rises m) w.falls
 
--- In each turn it does as a selection does, under the request of the turn. It may wait for ever where all guards are evaluated
--- and two or more of them are true.
+-- In each turn it does as a selection does, under the request of the turn: it starts a branch once for each time that the guards
+-- were asked for. It may wait for ever where all guards are evaluated and two or more of them are true.
 abbrev pub again_part : AgainNodes → Part
 again_part c = record {
   own = again_owned c;
-  promises = again_answer c ∷ map (rises_under c.request) (eval_wire c.turn c.answer c.eval c.branches ∷ start_wires c.turn c.answer c.eval c.branches);
+  promises = again_answer c ∷ map (rises_under c.request) (eval_wire c.turn c.answer c.eval c.branches ∷ map once (start_wires c.turn c.answer c.eval c.branches));
   allows = request_wire c.request c.answer ∷ branch_wires c.eval c.branches;
   lows = again_own c;
   bits = [];
   ports = c.request ∷ c.answer ∷ [];
   blocked = λ v. guards_valid v c.branches && (not (none_true v c.branches) && not (one_true v c.branches));
-  notes = as_evaluated c.eval;
+  notes = noting c.request c.eval c.branches;
 }
 
 -- all nodes are distinct numbers

@@ -1,4 +1,4 @@
-use Rattle.cell_select.proofs.AgainKeeps.{again_keeps}
+use Rattle.cell_select.proofs.AgainOnce.{again_keeps}
 use Rattle.cell_select.proofs.Written.{again_written}
 use Rattle.cell_select.proofs.laws.again_keeps.Goals as goal
 

@@ -1,4 +1,4 @@
-use Rattle.cell_select.proofs.SelectKeeps.{select_keeps}
+use Rattle.cell_select.proofs.SelectOnce.{select_keeps}
 use Rattle.cell_select.proofs.Written.{select_written}
 use Rattle.cell_select.proofs.laws.select_keeps.Goals as goal
 

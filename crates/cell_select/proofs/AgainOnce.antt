@@ -1,0 +1,125 @@
+-- A guarded repetition starts a branch once for each time that the guards were asked for: what is noted beside the invariants
+-- of the values, and that the whole contract is kept.
+use Rattle.std.proofs.Common.{◌≡◌, ℕ, ◌<◌, Bool, true, false, not, [], ◌∷◌, length, map, ap, sym, ◌∙◌, refl, subst, inl, inr}
+use Rattle.std.specs.Prelude.{◌&&◌, if◌then◌else◌, Contains}
+use Rattle.std.proofs.Math.Logic.{⊎_elim}
+use Rattle.prs_core.specs.Parts.{Owned, Moment, Wire, IsFirst, IsMove, IsKept, Keeps, after, fires, may_move}
+use Rattle.prs_core.specs.Keeping.{kept_by}
+use Rattle.prs_core.specs.Turning.{mapped_among}
+use Rattle.cell_select.specs.Contract.{Place, AgainNodes, again_nodes, again_owned, again_part, again_answer, rises_under, eval_wire, start_wire, start_wires, guards_neutral, branches_idle, alone_true, once, AreApart}
+use Rattle.cell_select.proofs.Plain.{plain_again}
+use Rattle.cell_select.proofs.Tables.{and_left, and_right, both, not_true}
+use Rattle.cell_select.proofs.Places.{IsPlace, contains_cons, contains_here, contains_next, place_in, map_in}
+use Rattle.cell_select.proofs.Machines.{Setting}
+use Rattle.cell_select.proofs.Views.{view_kept}
+use Rattle.cell_select.proofs.AgainKeeps.{again_machine, again_frame, again_setting, again_is_part, Reaches, first_of, kept_of}
+use Rattle.cell_select.proofs.Once.{Agree, agree_after, alone_agrees, all_false_agrees, same_may, tried, start_ok, start_new, start_test, start_latched, started_after, ok_new}
+
+starts_tried : tried again_machine (start_test again_machine) ≡ true
+starts_tried = refl
+
+-- what is noted, beside a state that is reached whatever is noted
+record Noted (c : AgainNodes) (m : Moment) : Type 0 where
+  old : ℕ → Bool
+  reaches : Reaches c (record { value = m.value; noted = old })
+  agree : Agree c.branches old m.noted
+  started : (y : Place) → IsPlace c.branches y → start_ok (m.value c.eval) (m.value y.this.latch) (m.value y.this.start) (m.noted y.this.start) ≡ true
+
+abbrev plain : Moment → (ℕ → Bool) → Moment
+plain m old = record { value = m.value; noted = old }
+
+plain_move : (c : AgainNodes) (m : Moment) (old : ℕ → Bool) (node : ℕ) → IsMove (again_part c) m node → IsMove (plain_again c) (plain m old) node
+plain_move c m old node (inl own) = inl (record { o = own.o; among = own.among; enabled = own.enabled; at = own.at })
+plain_move c m old node (inr theirs) = inr (record {
+  w = theirs.w;
+  among = theirs.among;
+  may = sym (same_may c.request c.answer c.eval c.branches m.value old m.noted theirs.w ((again_is_part c).wires theirs.w theirs.among)) ∙ theirs.may;
+  at = theirs.at;
+})
+
+first_noted : (c : AgainNodes) → AreApart (again_nodes c) → 0 < length c.branches → (v : ℕ → Bool) → IsFirst (again_part c) v → Noted c (record { value = v; noted = λ n. false })
+first_noted c apart some v first = record {
+  old = λ n. false;
+  reaches = first_of c apart c.branches refl some v (record { outside = first.outside; own = first.own; bits = first.bits });
+  agree = record { trues = λ b a. refl; falses = λ b a. refl };
+  started = λ y is. ok_new (v c.eval) (v y.this.latch) (v y.this.start) false refl;
+}
+
+module _ (c : AgainNodes) (apart : AreApart (again_nodes c)) (m : Moment) (node : ℕ) (h : Noted c m) (move : IsMove (plain_again c) (plain m h.old) node) where
+  abbrev v : ℕ → Bool
+  v = m.value
+
+  setting : Setting again_machine (again_frame c) c.branches c.eval
+  setting = again_setting c apart
+
+  noted_after : Noted c (after (again_part c) m node)
+  noted_after = record {
+    old = (after (plain_again c) (plain m h.old) node).noted;
+    reaches = view_kept again_machine (again_frame c) c.branches c.request c.answer c.eval (plain_again c) (plain m h.old) h.reaches.0 node setting (again_is_part c) h.reaches.1 move;
+    agree = agree_after c.request c.eval c.branches v h.old m.noted node h.agree;
+    started = λ y is. started_after again_machine (again_frame c) c.branches c.request c.answer c.eval (plain_again c) v h.old h.reaches.0 node setting (again_is_part c) h.reaches.1 move starts_tried y is m.noted (h.started y is);
+  }
+
+  abbrev within : Bool
+  within = not (v c.eval) && (not (v c.answer) && (guards_neutral v c.branches && branches_idle v c.branches))
+
+  start_by : (y : Place) → IsPlace c.branches y → node ≡ y.this.start → (b : Bool) → v y.this.start ≡ b → may_move (plain m h.old) (rises_under c.request (start_wire c.turn c.answer c.eval c.branches y)) ≡ true → may_move m (rises_under c.request (once (start_wire c.turn c.answer c.eval c.branches y))) ≡ true
+  start_by y is same true high may =
+      ap (λ b. if b then v y.this.answer else v c.request && ((v c.turn && (alone_true m.noted y && within)) && not (m.noted y.this.start))) high
+      ∙ sym (ap (λ b. if b then v y.this.answer else v c.request && (v c.turn && (alone_true h.old y && within))) high) ∙ may
+  start_by y is same false low may =
+      let rises = sym (ap (λ b. if b then v y.this.answer else v c.request && (v c.turn && (alone_true h.old y && within))) low) ∙ may in
+      let under = and_right (v c.request) _ rises in
+      let rest = and_right (v c.turn) _ under in
+      let e = not_true (v c.eval) (and_left (not (v c.eval)) _ (and_right (alone_true h.old y) _ rest)) in
+      let latched = start_latched again_machine (again_frame c) c.branches c.request c.answer c.eval (plain_again c) v h.old h.reaches.0 node setting (again_is_part c) h.reaches.1 move starts_tried y is same low in
+      ap (λ b. if b then v y.this.answer else v c.request && ((v c.turn && (alone_true m.noted y && within)) && not (m.noted y.this.start))) low
+      ∙ both _ _ (and_left (v c.request) _ rises)
+      (both _ _ (ap (λ k. v c.turn && (k && within)) (sym (alone_agrees c.branches h.old m.noted y is h.agree)) ∙ under)
+      (start_new (v c.eval) (v y.this.latch) (v y.this.start) (m.noted y.this.start) (h.started y is) latched e low))
+
+  answer_by : may_move (plain m h.old) (again_answer c) ≡ true → may_move m (again_answer c) ≡ true
+  answer_by may =
+      ap (λ k. if v c.answer then not (v c.request) && (not (v c.eval) && (guards_neutral v c.branches && branches_idle v c.branches)) else v c.request && (k && (not (v c.eval) && (guards_neutral v c.branches && branches_idle v c.branches)))) (sym (all_false_agrees c.branches h.old m.noted h.agree)) ∙ may
+
+promised_once : (c : AgainNodes) → AreApart (again_nodes c) → (m : Moment) → (h : Noted c m) → (o : Owned) → Contains (again_owned c) o → fires m.value o ≡ true → (w : Wire) → Contains (again_part c).promises w → w.node ≡ o.node → may_move m w ≡ true
+promised_once c apart m h o among f w promise e =
+    let under = rises_under c.request in
+    let evals = eval_wire c.turn c.answer c.eval c.branches in
+    let starts = start_wires c.turn c.answer c.eval c.branches in
+    let kept = kept_of c apart (plain m h.old) h.reaches in
+    let move : IsMove (plain_again c) (plain m h.old) o.node = inl (record { o = o; among = among; enabled = f; at = refl }) in
+    ⊎_elim
+    (λ (same : w ≡ again_answer c). ap (may_move m) same ∙ answer_by c apart m o.node h move (kept.promised o among f (again_answer c) (contains_here (again_answer c) (map under (evals ∷ starts))) (ap (λ (w : Wire). w.node) (sym same) ∙ e)))
+    (λ more. ⊎_elim
+    (λ (same : w ≡ under evals). ap (may_move m) same ∙ kept.promised o among f (under evals) (contains_next (again_answer c) (map under (evals ∷ starts)) (under evals) (contains_here (under evals) (map under starts))) (ap (λ (w : Wire). w.node) (sym same) ∙ e))
+    (λ last. let u = map_in under (map once starts) w last in
+    let x = map_in once starts u.0 u.1 in
+    let r = place_in (start_wire c.turn c.answer c.eval c.branches) [] c.branches x.0 x.1 in
+    let start = start_wire c.turn c.answer c.eval c.branches r.0 in
+    let is : w ≡ under (once start) = u.2 ∙ ap under (x.2 ∙ ap once r.2) in
+    let at : start.node ≡ o.node = ap (λ (w : Wire). w.node) (sym is) ∙ e in
+    let there = subst (λ (w : Wire). Contains starts w) r.2 x.1 in
+    ap (may_move m) is
+    ∙ start_by c apart m o.node h move r.0 r.1 (sym at) (m.value r.0.this.start) refl
+    (kept.promised o among f (under start) (contains_next (again_answer c) (map under (evals ∷ starts)) (under start) (contains_next (under evals) (map under starts) (under start) (mapped_among under starts start there))) at))
+    (contains_cons (under evals) (map under (map once starts)) w more))
+    (contains_cons (again_answer c) (map under (evals ∷ map once starts)) w promise)
+
+kept_noted : (c : AgainNodes) → AreApart (again_nodes c) → (m : Moment) → Noted c m → IsKept (again_part c) m
+kept_noted c apart m h =
+    let kept = kept_of c apart (plain m h.old) h.reaches in
+    record {
+      promised = promised_once c apart m h;
+      firm = λ o among f node move ne. kept.firm o among f node (plain_move c m h.old node move) ne;
+      apart = kept.apart;
+      lows = kept.lows;
+      bits = kept.bits;
+      waits = λ none. ⊎_elim
+          (λ (w : (w : Wire) × Contains (again_part c).allows w × (may_move (plain m h.old) w ≡ true)). inl (w.0, w.1, same_may c.request c.answer c.eval c.branches m.value h.old m.noted w.0 ((again_is_part c).wires w.0 w.1) ∙ w.2))
+          (λ blocked. inr blocked) (kept.waits none);
+    }
+
+pub again_keeps : (c : AgainNodes) → 0 < length c.branches → AreApart (again_nodes c) → Keeps (again_part c)
+again_keeps c some apart =
+    kept_by (again_part c) (Noted c) (first_noted c apart some) (λ m node h move. noted_after c apart m node h (plain_move c m h.old node move)) (kept_noted c apart)
