@@ -69,6 +69,7 @@ pub fn emit_receive_port(
     ensures nodes { length rules.new.up ≡ length rules.old.up }
     ensures others { (node : ℕ) → All (λ (o : Owned). o.node ≢ node) (port_owned request rails.now from) → IsAlone rules.old rules.new node }
 {
+    // tells the proof that there are fewer than 2^32 nodes, so that the numbers from `from` on fit
     let _count = rules.nodes();
     let mut node = from;
     for rail in rails {

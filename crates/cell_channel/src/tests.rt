@@ -57,7 +57,11 @@ fn receives_four_bits(rt: HostRuntime) -> Result<(), Fail> {
     let as_written = is_still(&rules, 51)
         && takes(&rules, 52, 47, 2)
         && takes(&rules, 53, 47, 3)
+        && takes(&rules, 54, 47, 4)
+        && takes(&rules, 55, 47, 5)
         && takes(&rules, 56, 47, 6)
+        && takes(&rules, 57, 47, 7)
+        && takes(&rules, 58, 47, 8)
         && takes(&rules, 59, 47, 9)
         && is_still(&rules, 60);
     assert!(rt; as_written);

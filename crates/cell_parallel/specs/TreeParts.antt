@@ -51,7 +51,8 @@ pub record Settles (leaves : List ℕ) (from : ℕ) : Type 0 where
   pub leaves_it : (v : ℕ → Bool) (o : Owned) → IsSettled leaves from v → Contains (tree_owned leaves from) o → fires v o ≡ true → v o.node ≡ v (tree_top leaves from)
   pub firm : (v : ℕ → Bool) (o : Owned) (node : ℕ) → IsSettled leaves from v → Contains (tree_owned leaves from) o → fires v o ≡ true → TreeMove leaves from v node → node ≢ o.node → fires (turned v node) o ≡ true
   pub apart : (v : ℕ → Bool) (o : Owned) → Contains (tree_owned leaves from) o → (guard_holds v o.rules.up && guard_holds v o.rules.down) ≡ false
-  -- the top turns once all leaves have; where it is low with all leaves, all nodes are; where nothing moves, some leaf has its value
+  -- the top turns once all leaves have; where it is low with all leaves, all nodes are; where nothing moves, some leaf has
+  -- its value
   pub turns : (v : ℕ → Bool) (o : Owned) → IsSettled leaves from v → Contains (tree_owned leaves from) o → fires v o ≡ true → o.node ≡ tree_top leaves from → All (λ leaf. v leaf ≡ not (v (tree_top leaves from))) leaves
   pub rests : (v : ℕ → Bool) → IsSettled leaves from v → v (tree_top leaves from) ≡ false → All (λ leaf. v leaf ≡ false) leaves → (o : Owned) → Contains (tree_owned leaves from) o → v o.node ≡ false
   pub waits : (v : ℕ → Bool) → IsSettled leaves from v → ((o : Owned) → Contains (tree_owned leaves from) o → fires v o ≡ false) → (leaf : ℕ) × Contains leaves leaf × (v leaf ≡ v (tree_top leaves from))

@@ -44,6 +44,7 @@ fn join_level(
     ensures nodes { length rules.new.up ≡ length rules.old.up }
     ensures others { (node : ℕ) → All (λ (o : Owned). o.node ≢ node) (owned_from from (level_rules nodes.now)) → IsAlone rules.old rules.new node }
 {
+    // tells the proof that there are fewer than 2^32 nodes, so that the numbers from `from` on fit
     let _count = rules.nodes();
     let mut above = Vec::new(alloc);
     let mut left = nodes;
@@ -74,6 +75,7 @@ pub fn emit_tree(
     ensures nodes { length rules.new.up ≡ length rules.old.up }
     ensures others { (node : ℕ) → All (λ (o : Owned). o.node ≢ node) (tree_owned leaves.now from) → IsAlone rules.old rules.new node }
 {
+    // tells the proof that there are fewer than 2^32 nodes, so that the numbers from `from` on fit
     let _count = rules.nodes();
     let mut level = Vec::from_slice(alloc, leaves)?;
     let mut node = from;

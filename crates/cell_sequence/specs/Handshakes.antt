@@ -48,7 +48,8 @@ q_part p = record {
 abbrev pub q_nodes : QPorts → List ℕ
 q_nodes p = p.request ∷ p.child_request ∷ p.child_answer ∷ p.latch ∷ p.next ∷ []
 
--- A loop's request rises once and never falls. Under it the body is asked again and again. The loop's own answer never moves.
+-- A loop's request rises once and never falls. Under it the body is asked again and again. The loop's own answer never
+-- moves.
 abbrev pub loop_part : (request answer body_request body_answer : ℕ) → Part
 loop_part request answer body_request body_answer = record {
   own = owned answer no_rules ∷ loop_owned request body_request body_answer;

@@ -58,6 +58,22 @@ fn skips(rt: HostRuntime) -> Result<(), Fail> {
     Ok(())
 }
 
+/// `var x : 1 = 1; begin *[x = 0 -> skip] end`: the root asks the repetition, whose answer is the node 9, and the skip
+/// is its branch, under the start 16.
+#[test]
+fn skips_in_a_repetition(rt: HostRuntime) -> Result<(), Fail> {
+    let alloc = rt.alloc();
+    let mut rules = Rules::new(alloc, 24)?;
+    emit_q(alloc, &root(7, 8, 9), &mut rules)?;
+    emit_skip(alloc, 16, 23, &mut rules)?;
+    let as_written = is_root(&rules, 7, 8, 9)
+        && follows(&rules, 23, high(16), low(16))
+        && is_still(&rules, 9)
+        && is_still(&rules, 16);
+    assert!(rt; as_written);
+    Ok(())
+}
+
 /// `in L : 4; out R : 4; var x : 4; begin *[L?x; R!x] end`: the loop has the nodes 45 and 46, the Q-element between
 /// receive and send the nodes 47 to 49, and 60 is the answer of the send.
 #[test]

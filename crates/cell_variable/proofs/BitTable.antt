@@ -34,7 +34,8 @@ abbrev pub same : Now → Bool
 same n = n.wt && n.xt || n.wf && n.xf
 
 -- At most one rail of a pair is high. The bit has a value where nothing is written. The wave turns at the acknowledge: while
--- it is low the bit is written only if it has the value, while it is high it has the value and is written as long as it is there.
+-- it is low the bit is written only if it has the value, while it is high it has the value and is written as long as it is
+-- there.
 abbrev pub legal : Now → Bool
 legal n =
     not (n.xt && n.xf)

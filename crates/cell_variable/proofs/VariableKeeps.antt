@@ -16,7 +16,7 @@ use Rattle.cell_variable.specs.Variables.{Bit, bit_at, bits_from, kept_rail, bit
 use Rattle.cell_variable.specs.VariableParts.{has_written, bit_promises, bit_allows, variable_part}
 use Rattle.cell_variable.proofs.Filled.{leaves_length}
 use Rattle.cell_variable.proofs.BitTable as table
-use Rattle.cell_variable.proofs.BitTable.{Now, Role, rail_t, rail_f, write_t, write_f, written, turn, may, legal, is_own, is_other, ready, both_turned, acknowledged}
+use Rattle.cell_variable.proofs.BitTable.{Role, rail_t, rail_f, write_t, write_f, written, turn, may, legal, is_own, is_other, ready, both_turned, acknowledged}
 use Rattle.cell_variable.proofs.BitPlaces.{IsBit, place, now, bits_among, among_bits, leaf_bit, bit_leaf, low_writes, writes_low, valid_bits, bits_valid, all_written_bits, Five, carry, five_at, five_beside, IsBeside, not_before}
 
 low_from_not : (b : Bool) → not b ≡ true → b ≡ false

@@ -52,7 +52,12 @@ fn four_bits(rt: HostRuntime) -> Result<(), Fail> {
         (23, "", ""),
         (24, "22 & 20 | 23 & 21", "~22 & ~23"),
         (25, "27 & ~26", "28"),
+        (26, "28 & ~25", "27"),
+        (29, "27 & 25 | 28 & 26", "~27 & ~28"),
+        (30, "32 & ~31", "33"),
+        (31, "33 & ~30", "32"),
         (34, "32 & 30 | 33 & 31", "~32 & ~33"),
+        (35, "37 & ~36", "38"),
         (36, "38 & ~35", "37"),
         (39, "37 & 35 | 38 & 36", "~37 & ~38"),
         (40, "24 & 29", "~24 & ~29"),
@@ -139,5 +144,70 @@ fn merges(rt: HostRuntime) -> Result<(), Fail> {
         (4, "", ""),
     ];
     assert!(rt; agree(alloc, &rules, &rows)?);
+    Ok(())
+}
+
+/// Whether merges, each of one site that is numbered above it, have these guards.
+fn merges_agree(
+    alloc: Global,
+    rules: &mut Rules,
+    rows: &[(u32, u32, &str, &str)],
+) -> Result<bool, AllocError> {
+    for (merge, site, _up, _down) in rows {
+        if *merge >= *site || *site >= rules.nodes() {
+            return Ok(false);
+        }
+        emit_or(alloc, &[*site], *merge, rules)?;
+    }
+    for (merge, _site, up, down) in rows {
+        if !agree(alloc, rules, &[(*merge, *up, *down)])? {
+            return Ok(false);
+        }
+    }
+    Ok(true)
+}
+
+/// `in L : 4; out R : 4; var x : 4; begin *[L?x; R!x] end`: the acknowledge of L, the rails of R and those that write x.
+#[test]
+fn merges_of_a_copy(rt: HostRuntime) -> Result<(), Fail> {
+    let alloc = rt.alloc();
+    let mut rules = Rules::new(alloc, 69)?;
+    let rows = [
+        (10, 51, "51", "~51"),
+        (11, 61, "61", "~61"),
+        (12, 62, "62", "~62"),
+        (13, 63, "63", "~63"),
+        (14, 64, "64", "~64"),
+        (15, 65, "65", "~65"),
+        (16, 66, "66", "~66"),
+        (17, 67, "67", "~67"),
+        (18, 68, "68", "~68"),
+        (22, 52, "52", "~52"),
+        (23, 53, "53", "~53"),
+        (27, 54, "54", "~54"),
+        (28, 55, "55", "~55"),
+        (32, 56, "56", "~56"),
+        (33, 57, "57", "~57"),
+        (37, 58, "58", "~58"),
+        (38, 59, "59", "~59"),
+    ];
+    assert!(rt; merges_agree(alloc, &mut rules, &rows)?);
+    assert!(rt; agree(alloc, &rules, &[(9, "", ""), (19, "", "")])?);
+    Ok(())
+}
+
+/// `out A : 1; out B : 1; var x : 2; begin [x = 0 -> A!1 [] x < 2 -> B!1] end`: the rails of A and of B.
+#[test]
+fn merges_of_a_choice(rt: HostRuntime) -> Result<(), Fail> {
+    let alloc = rt.alloc();
+    let mut rules = Rules::new(alloc, 60)?;
+    let rows = [
+        (2, 55, "55", "~55"),
+        (3, 56, "56", "~56"),
+        (5, 58, "58", "~58"),
+        (6, 59, "59", "~59"),
+    ];
+    assert!(rt; merges_agree(alloc, &mut rules, &rows)?);
+    assert!(rt; agree(alloc, &rules, &[(4, "", ""), (7, "", "")])?);
     Ok(())
 }

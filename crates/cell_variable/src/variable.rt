@@ -48,6 +48,7 @@ fn emit_written(alloc: Global, bit: u32, rules: &mut Rules) -> Result<(), AllocE
     ensures nodes { length rules.new.up ≡ length rules.old.up }
     ensures others { (k : ℕ) → k ≢ bit + 4 → IsAlone rules.old rules.new k }
 {
+    // tells the proof that there are fewer than 2^32 nodes, so that the numbers from `bit` on fit
     let _count = rules.nodes();
     let mut terms = Vec::new(alloc);
     terms.push(both_high(alloc, bit + 2, bit)?)?;
@@ -65,6 +66,7 @@ fn emit_bit(alloc: Global, bit: u32, rules: &mut Rules) -> Result<(), AllocError
     ensures nodes { length rules.new.up ≡ length rules.old.up }
     ensures others { (k : ℕ) → All (λ (o : Owned). o.node ≢ k) (bit_owned (bit_at bit)) → IsAlone rules.old rules.new k }
 {
+    // tells the proof that there are fewer than 2^32 nodes, so that the numbers from `bit` on fit
     let _count = rules.nodes();
     emit_rail(alloc, bit, bit + 1, bit + 2, bit + 3, rules)?;
     emit_rail(alloc, bit + 1, bit, bit + 3, bit + 2, rules)?;
@@ -88,6 +90,7 @@ pub fn emit_variable(
     ensures nodes { length rules.new.up ≡ length rules.old.up }
     ensures others { (node : ℕ) → All (λ (o : Owned). o.node ≢ node) (variable_owned width from) → IsAlone rules.old rules.new node }
 {
+    // tells the proof that there are fewer than 2^32 nodes, so that the numbers from `from` on fit
     let _count = rules.nodes();
     let mut leaves = Vec::new(alloc);
     let mut bit = from;
