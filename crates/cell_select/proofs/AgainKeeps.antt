@@ -6,8 +6,8 @@ use Rattle.prs_core.specs.Moves.{guard_holds}
 use Rattle.prs_core.specs.Pairs.{rails_of, or_of}
 use Rattle.prs_core.specs.Parts.{Owned, owned, Moment, Wire, IsFirst, IsKept, all_low, fires, may_move}
 use Rattle.cell_select.specs.Selections.{joined_answer, evaluation, turn_request, leave_latch, leave_answer}
-use Rattle.cell_select.specs.Contract.{Branch, Place, AgainNodes, again_nodes, again_owned, again_own, again_answer, rises_under, eval_wire, start_wire, start_wires, request_wire, branch_wires, latches_of, starts_of, answers_of, guards_of, guards_neutral, guards_valid, guards_false, none_true, alone_true, one_true, AreApart}
-use Rattle.cell_select.proofs.Plain.{plain_again}
+use Rattle.cell_select.specs.Contract.{Branch, Place, AgainNodes, again_nodes, again_owned, again_own, rises_under, eval_wire, start_wire, start_wires, request_wire, branch_wires, latches_of, starts_of, answers_of, guards_of, guards_neutral, guards_valid, guards_false, none_true, alone_true, one_true, AreApart}
+use Rattle.cell_select.proofs.Plain.{plain_again, plain_answer}
 use Rattle.cell_select.proofs.Tables.{implies, implies_at, and_left, and_right, both, not_true, true_not, true_false}
 use Rattle.cell_select.proofs.Distinct.{distinct_from}
 use Rattle.cell_select.proofs.Places.{IsPlace, Apart, at_place, one_or_apart, contains_cons, contains_here, contains_next, latch_owned, start_owned, IsMade, branches_owned, branch_own, latch_there, start_there, place_in, map_in, wire_in}
@@ -282,7 +282,7 @@ extras c apart m p view =
       waits = and_right (at_first cs) _ fourth;
     }
 
-answer_holds : (c : AgainNodes) → AreApart (again_nodes c) → (m : Moment) (p : Place) → Sees c m p → can again_machine 1 (ctl c m p) (rls c m p) ≡ true → may_move m (again_answer c) ≡ true
+answer_holds : (c : AgainNodes) → AreApart (again_nodes c) → (m : Moment) (p : Place) → Sees c m p → can again_machine 1 (ctl c m p) (rls c m p) ≡ true → may_move m (plain_answer c) ≡ true
 answer_holds c apart m p view may =
     let v = m.value in
     let promise = implies_at _ (answer_promise (ctl c m p) (rls c m p)) (extras c apart m p view).answers may in
@@ -308,7 +308,7 @@ promise_of c apart m w h =
     let starts = start_wires c.turn c.answer c.eval c.branches in
     let under = rises_under c.request in
     ⊎_elim
-    (λ (same : w ≡ again_answer c). inl (1, record { less = omega arith; at = λ p is. ap (λ (w : Wire). w.node) same; holds = λ p view may. ap (may_move m) same ∙ answer_holds c apart m p view may }))
+    (λ (same : w ≡ plain_answer c). inl (1, record { less = omega arith; at = λ p is. ap (λ (w : Wire). w.node) same; holds = λ p view may. ap (may_move m) same ∙ answer_holds c apart m p view may }))
     (λ more. ⊎_elim
     (λ (same : w ≡ under e). inl (4, record { less = omega arith; at = λ p is. ap (λ (w : Wire). w.node) same; holds = λ p view may. ap (may_move m) same ∙ eval_holds c apart m p view may }))
     (λ last. let u = map_in under starts w last in
@@ -316,7 +316,7 @@ promise_of c apart m w h =
     let is = u.2 ∙ ap under r.2 in
     inr (r.0, record { is = r.1; at = ap (λ (w : Wire). w.node) is; holds = λ view may. ap (may_move m) is ∙ start_holds c apart m r.0 view may }))
     (contains_cons (under e) (map under starts) w more))
-    (contains_cons (again_answer c) (map under (e ∷ starts)) w h)
+    (contains_cons (plain_answer c) (map under (e ∷ starts)) w h)
 
 -- as at first where the request and the answer are low
 lows_of : (c : AgainNodes) → AreApart (again_nodes c) → (m : Moment) (p : Place) → Sees c m p → all_low m.value (c.request ∷ c.answer ∷ []) ≡ true → all_low m.value (again_own c) ≡ true

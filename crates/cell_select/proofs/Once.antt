@@ -275,6 +275,74 @@ module _ (v n1 : ℕ → Bool) (request eval any node : ℕ) (er : eval ≢ any)
   pub eval_step : Later
   eval_step = ways (node == request) (node == eval) (node == any) refl refl refl
 
+-- the guards' request under a request: where it or the latch of the end is high, it has moved since
+abbrev pub ended_ok : (r e l b : Bool) → Bool
+ended_ok r e l b = implies (r && (e || l)) b
+
+pub ended_new : (r e l b : Bool) → ended_ok r e l b ≡ true → r ≡ true → l ≡ true → b ≡ true
+ended_new r e l b h hr hl = implies_at (r && (e || l)) b h (both r (e || l) hr (or_second e l hl))
+
+pub ended_idle : (r e l b : Bool) → r ≡ false → ended_ok r e l b ≡ true
+ended_idle true e l b h = absurd (cc h)
+ended_idle false e l b h = refl
+
+ended_low : (r e l b : Bool) → e ≡ false → l ≡ false → ended_ok r e l b ≡ true
+ended_low true true l b h k = absurd (cc h)
+ended_low true false true b h k = absurd (cc k)
+ended_low true false false b h k = refl
+ended_low false e l b h k = refl
+
+ended_noted : (r e l b : Bool) → b ≡ true → ended_ok r e l b ≡ true
+ended_noted true true l b h = h
+ended_noted true false true b h = h
+ended_noted true false false b h = refl
+ended_noted false e l b h = refl
+
+ended_less : (r e b : Bool) → ended_ok r e true b ≡ true → ended_ok r e false b ≡ true
+ended_less true true b h = h
+ended_less true false b h = refl
+ended_less false e b h = refl
+
+ended_more : (r e b : Bool) → e ≡ true → ended_ok r e false b ≡ true → ended_ok r e true b ≡ true
+ended_more r true b he h = h
+ended_more r false b he h = absurd (cc he)
+
+module _ (v n1 : ℕ → Bool) (request eval leave node : ℕ) (re : request ≢ eval) (rl : request ≢ leave) (rise_fact : node ≡ request → v request ≡ false → (v eval ≡ false) × (v leave ≡ false)) (leave_fact : node ≡ leave → v leave ≡ false → v eval ≡ true) (holds : ended_ok (v request) (v eval) (v leave) (n1 eval) ≡ true) where
+  abbrev Note : Bool
+  Note = if node == request then false else node == eval || n1 eval
+
+  abbrev Since : Type 0
+  Since = ended_ok (turned v node request) (turned v node eval) (turned v node leave) Note ≡ true
+
+  at_request : (b : Bool) → v request ≡ b → node ≡ request → Since
+  at_request true is same = ended_idle (turned v node request) (turned v node eval) (turned v node leave) Note (moved_to v node request true same is)
+  at_request false is same =
+      let low = rise_fact same is in
+      ended_low (turned v node request) (turned v node eval) (turned v node leave) Note (turned_other v node eval (λ e. re (sym same ∙ e)) ∙ low.0) (turned_other v node leave (λ e. rl (sym same ∙ e)) ∙ low.1)
+
+  same_note : (node == request) ≡ false → (node == eval) ≡ false → Note ≡ n1 eval
+  same_note ex ey = ap (λ b. if b then false else node == eval || n1 eval) ex ∙ ap (λ b. b || n1 eval) ey
+
+  same_but : (l : Bool) → turned v node leave ≡ l → (node == request) ≡ false → (node == eval) ≡ false → ended_ok (v request) (v eval) l (n1 eval) ≡ true → Since
+  same_but l is ex ey h =
+      ap (ended_ok (turned v node request) (turned v node eval) (turned v node leave)) (same_note ex ey)
+      ∙ ap (λ b. ended_ok b (turned v node eval) (turned v node leave) (n1 eval)) (turned_other v node request (apart_by node request ex))
+      ∙ ap (λ b. ended_ok (v request) b (turned v node leave) (n1 eval)) (turned_other v node eval (apart_by node eval ey))
+      ∙ ap (λ b. ended_ok (v request) (v eval) b (n1 eval)) is ∙ h
+
+  at_leave : (b : Bool) → v leave ≡ b → node ≡ leave → (node == request) ≡ false → (node == eval) ≡ false → Since
+  at_leave true is same ex ey = same_but false (moved_to v node leave true same is) ex ey (ended_less (v request) (v eval) (n1 eval) (ap (λ b. ended_ok (v request) (v eval) b (n1 eval)) (sym is) ∙ holds))
+  at_leave false is same ex ey = same_but true (moved_to v node leave false same is) ex ey (ended_more (v request) (v eval) (n1 eval) (leave_fact same is) (ap (λ b. ended_ok (v request) (v eval) b (n1 eval)) (sym is) ∙ holds))
+
+  courses : (x y z : Bool) → (node == request) ≡ x → (node == eval) ≡ y → (node == leave) ≡ z → Since
+  courses true y z ex ey ez = at_request (v request) refl (eqb-true node request ex)
+  courses false true z ex ey ez = ended_noted (turned v node request) (turned v node eval) (turned v node leave) Note (ap (λ b. if b then false else node == eval || n1 eval) ex ∙ ap (λ b. b || n1 eval) ey)
+  courses false false true ex ey ez = at_leave (v leave) refl (eqb-true node leave ez) ex ey
+  courses false false false ex ey ez = same_but (v leave) (turned_other v node leave (apart_by node leave ez)) ex ey holds
+
+  pub ended_step : Since
+  ended_step = courses (node == request) (node == eval) (node == leave) refl refl refl
+
 -- a wire that rises once
 pub once_may : (v n0 n1 : ℕ → Bool) (u : Wire) (b : Bool) → v u.node ≡ b → may_move (record { value = v; noted = n0 }) u ≡ true → u.falls (record { value = v; noted = n1 }) ≡ u.falls (record { value = v; noted = n0 }) → (b ≡ false → u.rises (record { value = v; noted = n0 }) ≡ true → (u.rises (record { value = v; noted = n1 }) && not (n1 u.node)) ≡ true) → may_move (record { value = v; noted = n1 }) (once u) ≡ true
 once_may v n0 n1 u true is may falls rises =

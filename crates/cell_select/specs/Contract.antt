@@ -195,12 +195,12 @@ select_part c = record {
   notes = noting c.request c.eval c.branches;
 }
 
--- A guarded repetition answers once all guards were false, and moves its answer only where the guards are let go and no
--- branch is under way.
+-- A guarded repetition answers once the guards were asked for under its request and all were false, and moves its answer only
+-- where the guards are let go and no branch is under way.
 abbrev pub again_answer : AgainNodes → Wire
 again_answer c =
     wire c.answer
-    (λ m. m.value c.request && (guards_false m.noted c.branches && (not (m.value c.eval) && (guards_neutral m.value c.branches && branches_idle m.value c.branches))))
+    (λ m. m.value c.request && (m.noted c.eval && (guards_false m.noted c.branches && (not (m.value c.eval) && (guards_neutral m.value c.branches && branches_idle m.value c.branches)))))
     (λ m. not (m.value c.request) && (not (m.value c.eval) && (guards_neutral m.value c.branches && branches_idle m.value c.branches)))
 
 -- as wires that move only where the request is high too
