@@ -65,6 +65,20 @@ pub restless_breaks : ¬ Keeps restless_select
 restless_breaks =
     broken restless_select _ (5 ∷ 11 ∷ 20 ∷ 23 ∷ 13 ∷ 12 ∷ 11 ∷ 20 ∷ 23 ∷ 15 ∷ 30 ∷ 15 ∷ 30 ∷ []) (at_first all_low_first (record { outside = refl; own = refl; bits = refl })) refl
 
+-- It asks for its guards again once the branch has run: a_i -> l_i-, and never answers.
+abbrev let_go_latches : List NodeRules
+let_go_latches =
+    record { up = one_term (is_high 20 ∷ is_high 23 ∷ []); down = one_term (is_high 30 ∷ []) } ∷ record { up = one_term (is_high 21 ∷ is_high 22 ∷ []); down = one_term (is_high 31 ∷ []) } ∷ []
+
+abbrev asking_select : Part
+asking_select = record (select_part two_guards) {
+  own = owned_at (select_own two_guards) (no_rules ∷ evaluation 5 12 ∷ or_of (13 ∷ 14 ∷ []) ∷ (let_go_latches ++ starts (13 ∷ 14 ∷ []) (guards_of two_branches)));
+}
+
+pub asking_breaks : ¬ Keeps asking_select
+asking_breaks =
+    broken asking_select _ (5 ∷ 11 ∷ 20 ∷ 23 ∷ 13 ∷ 12 ∷ 11 ∷ 20 ∷ 23 ∷ 15 ∷ 30 ∷ 13 ∷ 15 ∷ 30 ∷ 12 ∷ []) (at_first all_low_first (record { outside = refl; own = refl; bits = refl })) refl
+
 -- It answers where all guards are false and hasn't let them go: l_0 -> a+, without the rails.
 abbrev hasty_end : NodeRules
 hasty_end = record { up = one_term (is_high 19 ∷ []); down = one_term (is_low 12 ∷ []) }
@@ -96,3 +110,17 @@ restless_again = record (again_part two_turns) {
 pub restless_again_breaks : ¬ Keeps restless_again
 restless_again_breaks =
     broken restless_again _ (5 ∷ 17 ∷ 11 ∷ 20 ∷ 23 ∷ 13 ∷ 12 ∷ 11 ∷ 20 ∷ 23 ∷ 15 ∷ 30 ∷ 15 ∷ 30 ∷ []) (at_first all_low_first (record { outside = refl; own = refl; bits = refl })) refl
+
+-- It answers its second request as it did the first, and doesn't ask: l_0 is never let go, and ~r -> a-.
+abbrev kept_end : List Owned
+kept_end = with_other 19 (record { up = one_term (is_high 21 ∷ is_high 23 ∷ []); down = [] }) (again_owned two_turns)
+
+abbrev unasking_answer : NodeRules
+unasking_answer = record { up = one_term (is_high 5 ∷ is_high 19 ∷ lows (rails_of (guards_of two_branches))); down = one_term (is_low 5 ∷ []) }
+
+abbrev unasking_again : Part
+unasking_again = record (again_part two_turns) { own = with_other 10 unasking_answer kept_end }
+
+pub unasking_breaks : ¬ Keeps unasking_again
+unasking_breaks =
+    broken unasking_again _ (5 ∷ 17 ∷ 11 ∷ 21 ∷ 23 ∷ 19 ∷ 12 ∷ 11 ∷ 21 ∷ 23 ∷ 10 ∷ 5 ∷ 10 ∷ 5 ∷ []) (at_first all_low_first (record { outside = refl; own = refl; bits = refl })) refl

@@ -7,7 +7,7 @@ use Rattle.width_check.specs.declared.typed.Var.{Var}
 use Rattle.width_check.specs.Processes.{TypedProgram}
 use Rattle.handshake_expand.specs.Layout.{block_size, vars_from, root_request, size_of}
 
--- a node of a tree, of the root, of the body or of a hidden variable is named n and its number
+-- every other node is called by its number behind an n: those of statements and trees, of the root and of hidden variables
 abbrev pub numbered : ℕ → List ℕ
 numbered node = codes "n" ++ decimal node
 

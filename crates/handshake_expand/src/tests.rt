@@ -166,3 +166,54 @@ fn counts_members(rt: HostRuntime) -> Result<(), Fail> {
     }
     Ok(())
 }
+
+// out X : 1; begin *[X!1; X!0] end, and out R : 4; var x : 4 = 5; begin R!x end
+#[test]
+fn counts_sends(rt: HostRuntime) -> Result<(), Fail> {
+    let alloc = rt.alloc();
+    let channels = vec![in alloc; channel(alloc, b"X", Kind::Out, 1)?]?;
+    let parts = vec![in alloc; send(0, number(1, 1)?), send(0, number(1, 0)?)]?;
+    let body = Box::new(alloc, TStmt::Then { parts })?;
+    assert_eq!(rt;
+        nodes(channels, Vec::new(alloc), TStmt::Repeat { body })?,
+        18
+    );
+    let channels = vec![in alloc; channel(alloc, b"R", Kind::Out, 4)?]?;
+    let vars = vec![in alloc; var(alloc, b"x", 4, 5)?]?;
+    assert_eq!(rt; nodes(channels, vars, send(0, read(0, 3)))?, 45);
+    Ok(())
+}
+
+/// `*[G -> S]`
+fn again(alloc: Global, guard: TExpr, body: TStmt) -> Result<TStmt, AllocError> {
+    let arms = vec![in alloc; TArm { guard, body }]?;
+    Ok(TStmt::Select { again: true, arms })
+}
+
+// var x : 1 = 1; begin *[x = 0 -> skip] end
+#[test]
+fn counts_a_repetition(rt: HostRuntime) -> Result<(), Fail> {
+    let alloc = rt.alloc();
+    let vars = vec![in alloc; var(alloc, b"x", 1, 1)?]?;
+    let guard = compare(alloc, Op::Eq, read(0, 0), number(1, 0)?)?;
+    let body = again(alloc, guard, TStmt::Skip)?;
+    assert_eq!(rt; nodes(Vec::new(alloc), vars, body)?, 24);
+    Ok(())
+}
+
+// out R : 4; var x : 4; begin *[x < 3 -> x := x + 1]; R!x end
+#[test]
+fn counts_a_counter(rt: HostRuntime) -> Result<(), Fail> {
+    let alloc = rt.alloc();
+    let channels = vec![in alloc; channel(alloc, b"R", Kind::Out, 4)?]?;
+    let vars = vec![in alloc; var(alloc, b"x", 4, 0)?]?;
+    let guard = compare(alloc, Op::Lt, read(0, 3), number(4, 3)?)?;
+    let more = TStmt::Assign {
+        var: 0,
+        at: at(),
+        value: plus(alloc, read(0, 3), number(4, 1)?)?,
+    };
+    let parts = vec![in alloc; again(alloc, guard, more)?, send(0, read(0, 3))]?;
+    assert_eq!(rt; nodes(channels, vars, TStmt::Then { parts })?, 146);
+    Ok(())
+}

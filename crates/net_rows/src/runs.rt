@@ -180,6 +180,9 @@ fn hazards(rt: HostRuntime) -> Result<(), Fail> {
         assert_eq!(rt; ran.moves.as_slice(), moves);
         assert_eq!(rt; ran.hazard, Some(hazard));
         assert_eq!(rt; ran.done, false);
+        for history in &ran.passed {
+            assert_eq!(rt; history.len(), 0);
+        }
     }
     Ok(())
 }
