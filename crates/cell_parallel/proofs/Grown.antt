@@ -4,7 +4,7 @@ use Rattle.std.proofs.lemmas.List.Elements.{All-cons, All-tail}
 use Rattle.prs_core.specs.Nets.{RulesValue, NodeRules, IsAlone}
 use Rattle.prs_core.specs.Parts.{Owned, owned, owned_from, with_owned}
 use Rattle.cell_parallel.specs.Trees.{level_rules, next_level, levels_rules, tree_rules, tree_owned}
-use Rattle.cell_parallel.proofs.Sizes.{level_length, next_length}
+use Rattle.cell_parallel.specs.Sizes.{level_length, next_length}
 use Rattle.prs_core.specs.Writing.{IsOther, alone_same, alone_on, with_append, other_left, other_right}
 use Rattle.cell_parallel.proofs.Levels.{short_rules}
 

@@ -6,7 +6,7 @@ use Rattle.prs_core.specs.Nets.{NodeRules}
 use Rattle.prs_core.specs.Parts.{Owned, owned, owned_from}
 use Rattle.prs_core.specs.Turning.{among_cases, none_among, among_mapped, mapped_among}
 use Rattle.cell_parallel.specs.Trees.{c_element, level_rules, next_level, levels_rules, tree_rules, tree_top, tree_owned}
-use Rattle.cell_parallel.proofs.Sizes.{level_length, next_length, tree_length}
+use Rattle.cell_parallel.specs.Sizes.{level_length, next_length, tree_length}
 use Rattle.cell_parallel.proofs.Grown.{owned_append}
 
 pub record Join : Type 0 where

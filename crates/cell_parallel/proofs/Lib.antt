@@ -1,5 +1,4 @@
 pub mod Examples
-pub mod Sizes
 pub mod Levels
 pub mod Grown
 pub mod Joins

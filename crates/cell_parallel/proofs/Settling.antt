@@ -71,6 +71,14 @@ low_with_inputs false p q s ep eq = refl
 low_with_inputs true true q s ep eq = absurd (cc ep)
 low_with_inputs true false q s ep eq = absurd (cc s)
 
+with_inputs : (t c p q : Bool) → settled t c p q ≡ true → p ≡ t → q ≡ t → c ≡ t
+with_inputs true true p q s ep eq = refl
+with_inputs false false p q s ep eq = refl
+with_inputs true false false q s ep eq = absurd (cc ep)
+with_inputs true false true q s ep eq = absurd (cc s)
+with_inputs false true true q s ep eq = absurd (cc ep)
+with_inputs false true false q s ep eq = absurd (cc s)
+
 never_both : (p q : Bool) → ((p && (q && true) || false) && (not p && (not q && true) || false)) ≡ false
 never_both true true = refl
 never_both true false = refl
@@ -270,6 +278,10 @@ module _ (leaves : List ℕ) (from : ℕ) (some : 0 < length leaves) (outside : 
   rests v s low all =
       (up (λ n. v n ≡ false) (length leaves) leaves from (omega arith) (λ j among l r. low_with_inputs (v j.node) (v j.left) (v j.right) (subst (λ b. settled b (v j.node) (v j.left) (v j.right) ≡ true) low (s j among)) l r) (recursion_from_All (λ leaf. v leaf ≡ false) leaves all)).nodes
 
+  flat : (v : ℕ → Bool) → Settled v → All (λ leaf. v leaf ≡ v top) leaves → (j : Join) → Contains joins j → v j.node ≡ v top
+  flat v s all =
+      (up (λ n. v n ≡ v top) (length leaves) leaves from (omega arith) (λ j among l r. with_inputs (v top) (v j.node) (v j.left) (v j.right) (s j among) l r) (recursion_from_All (λ leaf. v leaf ≡ v top) leaves all)).nodes
+
   waits : (v : ℕ → Bool) → Settled v → ((j : Join) → Contains joins j → moves (v j.node) (v j.left) (v j.right) ≡ false) → (leaf : ℕ) × Contains leaves leaf × (v leaf ≡ v top)
   waits v s still = by (all_or_one v (v top) leaves)
     where
@@ -296,6 +308,9 @@ module _ (leaves : List ℕ) (from : ℕ) (some : 0 < length leaves) (outside : 
     rests = λ v s low all o among.
         let (j, here, is) = join_of leaves from o among in
         subst (λ (x : Owned). v x.node ≡ false) is (rests v (to_joins v s) low all j here);
+    flat = λ v s all o among.
+        let (j, here, is) = join_of leaves from o among in
+        subst (λ (x : Owned). v x.node ≡ v top) is (flat v (to_joins v s) all j here);
     waits = λ v s still. waits v (to_joins v s) (λ j among. still (as_owned j) (owned_of leaves from j among));
     top = λ long.
         let (j, here, at) = top_join leaves from long in

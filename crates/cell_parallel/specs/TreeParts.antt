@@ -55,6 +55,8 @@ pub record Settles (leaves : List ℕ) (from : ℕ) : Type 0 where
   -- its value
   pub turns : (v : ℕ → Bool) (o : Owned) → IsSettled leaves from v → Contains (tree_owned leaves from) o → fires v o ≡ true → o.node ≡ tree_top leaves from → All (λ leaf. v leaf ≡ not (v (tree_top leaves from))) leaves
   pub rests : (v : ℕ → Bool) → IsSettled leaves from v → v (tree_top leaves from) ≡ false → All (λ leaf. v leaf ≡ false) leaves → (o : Owned) → Contains (tree_owned leaves from) o → v o.node ≡ false
+  -- where all leaves have the top's value, all nodes have it
+  pub flat : (v : ℕ → Bool) → IsSettled leaves from v → All (λ leaf. v leaf ≡ v (tree_top leaves from)) leaves → (o : Owned) → Contains (tree_owned leaves from) o → v o.node ≡ v (tree_top leaves from)
   pub waits : (v : ℕ → Bool) → IsSettled leaves from v → ((o : Owned) → Contains (tree_owned leaves from) o → fires v o ≡ false) → (leaf : ℕ) × Contains leaves leaf × (v leaf ≡ v (tree_top leaves from))
   -- the top is one of its nodes, but for a leaf alone
   pub top : 1 < length leaves → (o : Owned) × Contains (tree_owned leaves from) o × (o.node ≡ tree_top leaves from)

@@ -9,8 +9,9 @@ use Rattle.env_script.specs.declared.script.Count.TheVariants.{All, Times}
 use Rattle.env_script.specs.Scripts.{gives, takes, nothing}
 use Rattle.width_check.specs.declared.typed.Var.{Var}
 use Rattle.width_check.specs.Processes.{Formula, constant, reading, chained, compared, no_operations, and_operation, Process, skipping, assigning, sending, receiving, in_turn, side_by_side, choosing, repeating, no_members, and_member, no_choices, and_choice, TypedProgram}
-use Rattle.chp_meaning.specs.Terms.{finished, active, in_parallel, no_branches, and_branch}
+use Rattle.chp_meaning.specs.Terms.{finished, active, in_sequence, in_parallel, no_branches, and_branch}
 use Rattle.chp_meaning.specs.Rounds.{rounds, enabled_places}
+use Rattle.chp_meaning.specs.Halves.{halved_program}
 
 abbrev at : Span
 at = record { from = 0; to = 1 }
@@ -107,3 +108,31 @@ awaited_not_yet = refl
 
 awaited_then : (rounds awaited (nothing ∷ []) 2).histories ≡ (1 ∷ []) ∷ []
 awaited_then = refl
+
+-- in halves: x := x + 1 beside y := y + 1 gets two hidden variables, and as many steps more; the rest stays
+abbrev pair : TypedProgram
+pair = record { channels = channel Out 8 ∷ []; vars = var 8 254 ∷ var 4 15 ∷ []; body = both (beside (assigning 0 at (plus_one 8)) (in_turn (and_member (assigning 1 at (chained (reading 1 3 0 at) (and_operation op.Add (constant 4 1) no_operations))) (and_member (assigning 1 at (constant 4 7)) no_members)))) (sending 0 at (reading 0 7 0 at)) }
+
+pair_in_halves : halved_program pair ≡ record {
+  channels = pair.channels;
+  vars = var 8 254 ∷ var 4 15 ∷ var 8 0 ∷ var 4 0 ∷ [];
+  body = both (beside
+      (both (assigning 2 at (plus_one 8)) (assigning 0 at (reading 2 7 0 at)))
+      (both (both (assigning 3 at (chained (reading 1 3 0 at) (and_operation op.Add (constant 4 1) no_operations))) (assigning 1 at (reading 3 3 0 at))) (assigning 1 at (constant 4 7))))
+      (sending 0 at (reading 0 7 0 at));
+}
+pair_in_halves = refl
+
+pair_between : rounds (halved_program pair) (takes All ∷ []) 1 ≡ record {
+  term = in_sequence (in_parallel (and_branch (active (assigning 0 at (reading 2 7 0 at))) (and_branch (in_sequence (active (assigning 1 at (reading 3 3 0 at))) (and_member (assigning 1 at (constant 4 7)) no_members)) no_branches))) (and_member (sending 0 at (reading 0 7 0 at)) no_members);
+  store = 254 ∷ 15 ∷ 255 ∷ 0 ∷ [];
+  rests = takes All ∷ [];
+  histories = [] ∷ [];
+}
+pair_between = refl
+
+pair_end : rounds (halved_program pair) (takes All ∷ []) 4 ≡ record { term = finished; store = 255 ∷ 7 ∷ 255 ∷ 0 ∷ []; rests = takes All ∷ []; histories = (255 ∷ []) ∷ [] }
+pair_end = refl
+
+pair_end_as_before : (rounds pair (takes All ∷ []) 3).histories ≡ (255 ∷ []) ∷ []
+pair_end_as_before = refl

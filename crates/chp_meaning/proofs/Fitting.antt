@@ -9,7 +9,7 @@ use Rattle.chp_meaning.specs.Steps.{Configuration, value_in, open_branches}
 pub use Rattle.chp_meaning.specs.Fitting.{Conflict, Apart, Sound, EachSound, EachApart, ChoicesSound, uses, uses_of_each, Fits, FitEach}
 use Rattle.chp_meaning.proofs.Places.{In, in_left, in_right, in_either}
 
-conflict_sym : (a b : Deed) → Conflict a b → Conflict b a
+pub conflict_sym : (a b : Deed) → Conflict a b → Conflict b a
 conflict_sym (writes_var x) (writes_var y) h = sym h
 conflict_sym (writes_var x) (reads_var y) h = sym h
 conflict_sym (reads_var x) (writes_var y) h = sym h

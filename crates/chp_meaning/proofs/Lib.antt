@@ -18,3 +18,7 @@ pub mod NextRound
 pub mod RoundAnswers
 pub mod Starting
 pub mod Stages
+pub mod Alike
+pub mod Halves
+pub mod HalvedPrograms
+pub mod HalvedTyping

@@ -181,7 +181,7 @@ parts_apart {c = c} {a = a} {b = b} s u f ne w x (inr g) (inr h) same =
     channel k s x t l u y v h = cc h
 
 -- an expression has one value in two stores that agree where it reads
-abbrev Agree : (ℕ → ℕ) → (ℕ → ℕ) → List Occurrence → Type 0
+abbrev pub Agree : (ℕ → ℕ) → (ℕ → ℕ) → List Occurrence → Type 0
 Agree f g reads = (x : ℕ) (at : Span) → In reads (done_at (reads_var x) at) → f x ≡ g x
 
 agree_left : (f g : ℕ → ℕ) (xs ys : List Occurrence) → Agree f g (xs ++ ys) → Agree f g xs
@@ -191,7 +191,7 @@ agree_right : (f g : ℕ → ℕ) (xs ys : List Occurrence) → Agree f g (xs ++
 agree_right f g xs ys h x at i = h x at (in_right xs ys (done_at (reads_var x) at) i)
 
 mutual
-  value_same : (f g : ℕ → ℕ) (e : Formula) → Agree f g (reads_of e) → value f e ≡ value g e
+  pub value_same : (f g : ℕ → ℕ) (e : Formula) → Agree f g (reads_of e) → value f e ≡ value g e
   value_same f g (constant width v) h = refl
   value_same f g (reading var high low at) h = rw (h var at (inl refl)) refl
   value_same f g (joined parts) h = joined_same f g parts h

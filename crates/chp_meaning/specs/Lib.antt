@@ -8,3 +8,4 @@ pub mod AtOnce
 pub mod Standing
 pub mod Ends
 pub mod Apart
+pub mod Halves

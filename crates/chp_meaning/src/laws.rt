@@ -8,6 +8,7 @@ ghost use Rattle.chp_meaning.specs.Terms.{Place};
 ghost use Rattle.chp_meaning.specs.Steps.{Configuration, Step, Leads};
 ghost use Rattle.chp_meaning.specs.Rounds.{step_at};
 ghost use Rattle.chp_meaning.specs.Laws.{IsBehind, OneHistory, RoundsHold};
+ghost use Rattle.chp_meaning.specs.Halves.{HalvesFollow, HalvesArePlain};
 
 /// Law: what a round does at a place is a step at that place.
 pub fn steps_taken()
@@ -28,4 +29,17 @@ pub fn one_history()
 /// Law: of such a program each number of rounds is a run, and one round more only appends to the histories.
 pub fn rounds_hold()
     ensures { (p : TypedProgram) (script : List OfferValue) → MeetsSharing p.body → RoundsHold p script }
+{}
+
+/// Law: a typed program that meets the sharing rule may be taken in halves, each `x := e` with x in e as
+/// `h := e; x := h`. To each run of it in halves there is one of its own, of no more steps, with the same histories; if
+/// it can go on then, so can it in halves; and one of the two has ended exactly where the other has.
+pub fn halves_follow()
+    ensures { HalvesFollow }
+{}
+
+/// Law: such a program in halves meets the sharing rule too, it is typed but for the names of the variables h, and no
+/// assignment of it reads its own target.
+pub fn halves_are_plain()
+    ensures { HalvesArePlain }
 {}

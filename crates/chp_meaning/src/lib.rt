@@ -14,5 +14,7 @@ mod settle;
 mod tests;
 
 pub use config::{Config, start};
-pub use laws::{one_history, rounds_hold, runs_append, steps_taken};
+pub use laws::{
+    halves_are_plain, halves_follow, one_history, rounds_hold, runs_append, steps_taken,
+};
 pub use run::{RunEnd, round, run_rounds};

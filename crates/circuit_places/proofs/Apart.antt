@@ -1,10 +1,12 @@
 -- No own node is pulled both ways.
-use Rattle.std.proofs.Common.{◌≡◌, ℕ, Bool, true, false, refl, sym, ◌∙◌, subst}
+use Rattle.std.proofs.Common.{◌≡◌, ℕ, Bool, true, false, List, refl, sym, ◌∙◌, subst}
 use Rattle.std.specs.Prelude.{not, ◌&&◌}
-use Rattle.width_check.specs.Processes.{Formula, constant, reading, joined, inverted, chained, compared, Process, skipping, assigning, sending, receiving, in_turn, side_by_side, choosing, repeating, Processes, no_members, and_member}
-use Rattle.circuit_places.specs.Circuit.{Pairs, low_pairs, gate_count, low_guarded, low, low_turn, answer, GuardedSpot, Spot, TurnSpot, child, latch, next, inner, of_skip, of_send, gate, in_members, of_loop, ask, in_body, in_last, in_member, in_later, is_apart, Wires, gate_rule, guarded_rule, rule, turn_rule}
-use Rattle.circuit_places.proofs.Waves.{pairs_of, gates_apart}
-use Rattle.circuit_places.proofs.Places.{Mode, asks, GuardedAt, At, TurnAt, g_rests, g_in, g_past, g_back, rests, at_skip, at_send, at_turn, at_body, turn_rests, at_last, at_member, at_later, guarded_cells, cells, turn_cells, low_answer, next_is, link_asks, link_next}
+use Rattle.width_check.specs.Processes.{Formula, constant, reading, joined, inverted, chained, compared, Process, skipping, assigning, sending, receiving, in_turn, side_by_side, choosing, repeating, Processes, no_members, and_member, member_count}
+use Rattle.circuit_places.specs.Lines.{Line, of_channel, of_var, same_line, site_statement, line_width, Rails, Seen}
+use Rattle.circuit_places.specs.Circuit.{Site, SiteSpot, site_rule, low_site, Pairs, low_pairs, gate_count, low_guarded, low, low_turn, low_bits, bit_at, joint_count, low_branches, branch_ends, same_bit, answer, GuardedSpot, Spot, TurnSpot, BranchSpot, child, latch, next, inner, of_skip, done, gate, of_assign, of_send, in_members, of_branch, joint, in_this, in_others, of_loop, ask, in_body, in_last, in_member, in_later, is_apart, gate_rule, guarded_rule, rule, turn_rule, branch_rule}
+use Rattle.circuit_places.proofs.Waves.{pairs_of, gates_apart, fst_true, snd_true, same_value}
+use Rattle.circuit_places.proofs.Trees.{joint_apart}
+use Rattle.circuit_places.proofs.Places.{Mode, asks, acks, site_of, all_ask, GuardedAt, At, TurnAt, BranchesAt, g_rests, g_in, g_past, g_back, rests, at_skip, at_assign, at_send, at_turn, at_side, at_body, no_more, and_at, turn_rests, at_last, at_member, at_later, guarded_cells, cells, turn_cells, branch_cells, low_answer, next_is, link_asks, link_next}
 
 both_of : (r u : Bool) → not ((r && not u) && u) ≡ true
 both_of true true = refl
@@ -42,34 +44,43 @@ gate_apart (inverted e) r x i one = refl
 gate_apart (chained e more) r x i one = refl
 gate_apart (compared op e f) r x i one = refl
 
+site_apart : (e : Formula) (ack r : Bool) (x : Site (gate_count e)) (s : SiteSpot e) → is_apart (site_rule e ack r x s) ≡ true
+site_apart e ack r x done = ack_apart r ack
+site_apart e ack r x (gate i one) = gate_apart e r x.gates i one
+
 mutual
-  low_guarded_apart : (p : Process) (env : Wires) (s : GuardedSpot p) → is_apart (guarded_rule p env false (low_guarded (low p)) s) ≡ true
+  low_guarded_apart : (p : Process) (env : Seen) (s : GuardedSpot p) → is_apart (guarded_rule p env false (low_guarded (low p)) s) ≡ true
   low_guarded_apart p env child = refl
   low_guarded_apart p env latch = latch_apart (answer p (low p)) false (λ e. low_answer p)
   low_guarded_apart p env next = refl
   low_guarded_apart p env (inner s) = low_apart p env s
 
-  low_apart : (p : Process) (env : Wires) (s : Spot p) → is_apart (rule p env false (low p) s) ≡ true
+  low_apart : (p : Process) (env : Seen) (s : Spot p) → is_apart (rule p env false (low p) s) ≡ true
   low_apart skipping env of_skip = refl
-  low_apart (sending c at e) env of_send = refl
-  low_apart (sending c at e) env (gate i one) = gate_apart e false (low_pairs (gate_count e)) i one
+  low_apart (assigning x at e) env (of_assign s) = site_apart e (env.ack (of_var x)) false (low_site e) s
+  low_apart (sending c at e) env (of_send s) = site_apart e (env.ack (of_channel c)) false (low_site e) s
   low_apart (in_turn members) env (in_members s) = low_turn_apart members env s
   low_apart (repeating p) env of_loop = refl
   low_apart (repeating p) env ask = refl
   low_apart (repeating p) env (in_body s) = low_apart p env s
-  low_apart (assigning x at e) env s = refl
   low_apart (receiving c at x to) env s = refl
-  low_apart (side_by_side _) env s = refl
+  low_apart (side_by_side members) env (of_branch s) = low_branch_apart members env s
+  low_apart (side_by_side members) env (joint k) = joint_apart (member_count members) (branch_ends members (low_branches members)) (bit_at (joint_count (member_count members)) (low_bits (joint_count (member_count members)))) k
   low_apart (choosing again _) env s = refl
 
-  low_turn_apart : (members : Processes) (env : Wires) (s : TurnSpot members) → is_apart (turn_rule members env false (low_turn members) s) ≡ true
+  low_branch_apart : (members : Processes) (env : Seen) (s : BranchSpot members) → is_apart (branch_rule members env false (low_branches members) s) ≡ true
+  low_branch_apart no_members env s = refl
+  low_branch_apart (and_member p more) env (in_this s) = low_guarded_apart p env s
+  low_branch_apart (and_member p more) env (in_others s) = low_branch_apart more env s
+
+  low_turn_apart : (members : Processes) (env : Seen) (s : TurnSpot members) → is_apart (turn_rule members env false (low_turn members) s) ≡ true
   low_turn_apart no_members env s = refl
   low_turn_apart (and_member p no_members) env (in_last s) = low_apart p env s
   low_turn_apart (and_member p (and_member q more)) env (in_member s) = low_guarded_apart p env s
   low_turn_apart (and_member p (and_member q more)) env (in_later s) = low_turn_apart (and_member q more) env s
 
 mutual
-  pub guarded_apart : {p : Process} {m : Mode} (env : Wires) (g : GuardedAt p m) (s : GuardedSpot p) → is_apart (guarded_rule p env (asks m) (guarded_cells g) s) ≡ true
+  pub guarded_apart : {p : Process} {m : Mode} (env : Seen) (g : GuardedAt p m) (s : GuardedSpot p) → is_apart (guarded_rule p env (asks m) (guarded_cells g) s) ≡ true
   guarded_apart {p = p} env g_rests s = low_guarded_apart p env s
   guarded_apart {p = p} env (g_in u a h) child = not_then u
   guarded_apart {p = p} env (g_in u a h) latch = latch_apart (answer p (cells a)) true (λ e. absurd (cc e))
@@ -84,17 +95,24 @@ mutual
   guarded_apart {p = p} env (g_back u) next = and_not u (answer p (low p))
   guarded_apart {p = p} env (g_back u) (inner s) = low_apart p env s
 
-  pub own_apart : {p : Process} {m : Mode} (env : Wires) (a : At p m) (s : Spot p) → is_apart (rule p env (asks m) (cells a) s) ≡ true
+  pub own_apart : {p : Process} {m : Mode} (env : Seen) (a : At p m) (s : Spot p) → is_apart (rule p env (asks m) (cells a) s) ≡ true
   own_apart {p = p} env rests s = low_apart p env s
   own_apart env (at_skip m h) of_skip = either_way (asks m)
-  own_apart env (at_send {c = c} m u h) of_send = ack_apart (asks m) (env.ack c)
-  own_apart env (at_send {w = w} {v = v} m u h) (gate i one) = gates_apart w v (asks m) (pairs_of w v u) i one
+  own_apart env (at_assign {x = x} {w = w} {v = v} m u h) (of_assign s) = site_apart (constant w v) (env.ack (of_var x)) (asks m) (site_of w v (acks m) u) s
+  own_apart env (at_send {c = c} {w = w} {v = v} m u h) (of_send s) = site_apart (constant w v) (env.ack (of_channel c)) (asks m) (site_of w v (acks m) u) s
   own_apart env (at_turn t) (in_members s) = turn_apart env t s
+  own_apart env (at_side m t b h) (of_branch s) = branch_apart env (asks m) b h.asked s
+  own_apart env (at_side {members = members} m t b h) (joint k) = joint_apart (member_count members) (branch_ends members (branch_cells b)) (bit_at (joint_count (member_count members)) t) k
   own_apart env (at_body a) of_loop = refl
   own_apart env (at_body {p = p} a) ask = not_then (answer p (cells a))
   own_apart env (at_body a) (in_body s) = own_apart env a s
 
-  pub turn_apart : {members : Processes} {m : Mode} (env : Wires) (t : TurnAt members m) (s : TurnSpot members) → is_apart (turn_rule members env (asks m) (turn_cells t) s) ≡ true
+  branch_apart : {members : Processes} {ks : List Mode} (env : Seen) (r : Bool) (b : BranchesAt members ks) → all_ask r ks ≡ true → (s : BranchSpot members) → is_apart (branch_rule members env r (branch_cells b) s) ≡ true
+  branch_apart env r no_more h s = refl
+  branch_apart env r (and_at {p = p} {k = k} {ks = ks} g b) h (in_this s) = subst (λ (x : Bool). is_apart (guarded_rule p env x (guarded_cells g) s) ≡ true) (same_value (asks k) r (fst_true (same_bit (asks k) r) (all_ask r ks) h)) (guarded_apart env g s)
+  branch_apart env r (and_at {k = k} {ks = ks} g b) h (in_others s) = branch_apart env r b (snd_true (same_bit (asks k) r) (all_ask r ks) h) s
+
+  pub turn_apart : {members : Processes} {m : Mode} (env : Seen) (t : TurnAt members m) (s : TurnSpot members) → is_apart (turn_rule members env (asks m) (turn_cells t) s) ≡ true
   turn_apart {members = members} env turn_rests s = low_turn_apart members env s
   turn_apart env (at_last a) (in_last s) = own_apart env a s
   turn_apart env (at_member g) (in_member s) = guarded_apart env g s

@@ -1,24 +1,29 @@
 -- A statement at rest and answered; what begins where its request rises, and goes on where it falls.
-use Rattle.std.proofs.Common.{◌≡◌, ℕ, ◌==◌, Bool, true, false, List, refl, ap, ◌∙◌}
+use Rattle.std.proofs.Common.{◌≡◌, ℕ, zero, suc, ◌==◌, ◌<◌, Bool, true, false, List, [], ◌∷◌, length, refl, sym, ap, ◌∙◌, subst, arith}
 use Rattle.std.specs.Prelude.{not, ◌&&◌}
-use Rattle.chp_base.specs.declared.channel.Channel.{Channel}
+use Rattle.std.proofs.Math.Path.{fun_ext}
 use Rattle.chp_base.specs.declared.span.Span.{Span}
-use Rattle.width_check.specs.Processes.{constant, reading, joined, inverted, chained, compared, Process, skipping, assigning, sending, receiving, in_turn, side_by_side, choosing, repeating, Processes, no_members, and_member}
-use Rattle.chp_meaning.specs.Terms.{active, opened, opened_turn}
-use Rattle.circuit_places.specs.Circuit.{Pairs, low_guarded, low, low_turn, Wires, GuardedSpot, Spot, TurnSpot, of_skip, of_send, gate, in_members, in_last, in_member, in_later}
-use Rattle.circuit_places.proofs.Waves.{no_wave, all_up, none_up, never_and, none_of, none_held, none_low, all_still}
-use Rattle.circuit_places.proofs.Places.{idle, running, answered, returning, wave_may, GuardedAt, At, TurnAt, g_rests, g_in, g_past, g_back, rests, at_skip, at_send, at_turn, at_body, turn_rests, at_last, at_member, at_later, guarded_of, guarded_cells, cells, turn_cells, Shown, none_shown, guarded_shown, shown, turn_shown, send_fits, Fits, TurnFits, guarded_moves, moves, turn_moves}
+use Rattle.width_check.specs.Processes.{constant, reading, joined, inverted, chained, compared, Process, skipping, assigning, sending, receiving, in_turn, side_by_side, choosing, repeating, Processes, no_members, and_member, member_count, TypedProgram}
+use Rattle.chp_meaning.specs.Terms.{Terms, active, opened, opened_turn, opened_each, and_branch, together}
+use Rattle.circuit_places.specs.Lines.{Line, of_channel, of_var, same_line, site_statement, line_width, Rails, Seen}
+use Rattle.circuit_places.specs.Circuit.{Pairs, Bits, low_guarded, low, low_site, SiteSpot, low_turn, low_branches, low_bits, bit_at, joint_count, GuardedSpot, Spot, TurnSpot, BranchSpot, of_skip, done, gate, of_assign, of_send, in_members, of_branch, joint, in_this, in_others, in_last, in_member, in_later}
+use Rattle.circuit_places.proofs.Waves.{Wave, no_wave, all_up, none_up, never_and, none_of, none_held, none_low, all_still, fst_true, snd_true}
+use Rattle.circuit_places.proofs.Trees.{Settled, settled_low, top_low, top_of, flat_stands}
+use Rattle.circuit_places.proofs.Places.{Mode, idle, running, answered, returning, wave_may, all_ask, all_ack, all_idle, ends, SideMay, GuardedAt, At, TurnAt, BranchesAt, g_rests, g_in, g_past, g_back, rests, at_skip, at_assign, at_send, at_turn, at_side, at_body, no_more, and_at, turn_rests, at_last, at_member, at_later, guarded_of, sides_of, guarded_cells, cells, turn_cells, branch_cells, Shown, none_shown, both_shown, guarded_shown, shown, turn_shown, branches_shown, site_of, site_shown, site_moves, send_fits, Fits, TurnFits, BranchesFit, guarded_moves, moves, turn_moves, branch_moves}
 use Rattle.circuit_places.proofs.Meets.{Meets, TurnMeets, opened_then, sends}
-use Rattle.circuit_places.proofs.Left.{waits, left, turn_left}
-use Rattle.circuit_places.proofs.Flow.{Flow, Quiet, self_number, or_left}
+use Rattle.circuit_places.proofs.Left.{waits, left, turn_left, branches_left}
+use Rattle.circuit_places.proofs.Flow.{Flow, Quiet, or_left}
+use Rattle.circuit_places.proofs.LineNames.{self_number, same_number, self_line, same_line_is}
 
 -- a statement that rests
 mutual
   pub idle_is : {p : Process} (a : At p idle) → (cells a ≡ low p) × (shown a ≡ none_shown)
   idle_is rests = (refl, refl)
   idle_is (at_skip _ h) = absurd (cc h)
+  idle_is (at_assign _ u h) = absurd (cc h)
   idle_is (at_send _ u h) = absurd (cc h)
   idle_is (at_turn t) = turn_idle_is t
+  idle_is (at_side _ t b h) = absurd (cc h.awake)
 
   pub turn_idle_is : {members : Processes} (t : TurnAt members idle) → (turn_cells t ≡ low_turn members) × (turn_shown t ≡ none_shown)
   turn_idle_is turn_rests = (refl, refl)
@@ -29,22 +34,24 @@ pub guarded_idle_is : {p : Process} (g : GuardedAt p idle) → guarded_cells g �
 guarded_idle_is g_rests = refl
 
 mutual
-  pub idle_moves : {p : Process} (env : Wires) (a : At p idle) (s : Spot p) → moves env a s ≡ false
+  pub idle_moves : {p : Process} (env : Seen) (a : At p idle) (s : Spot p) → moves env a s ≡ false
   idle_moves env rests s = refl
   idle_moves env (at_skip _ h) s = absurd (cc h)
+  idle_moves env (at_assign _ u h) s = absurd (cc h)
   idle_moves env (at_send _ u h) s = absurd (cc h)
   idle_moves env (at_turn t) (in_members s) = turn_idle_moves env t s
+  idle_moves env (at_side _ t b h) s = absurd (cc h.awake)
 
-  pub turn_idle_moves : {members : Processes} (env : Wires) (t : TurnAt members idle) (s : TurnSpot members) → turn_moves env t s ≡ false
+  pub turn_idle_moves : {members : Processes} (env : Seen) (t : TurnAt members idle) (s : TurnSpot members) → turn_moves env t s ≡ false
   turn_idle_moves env turn_rests s = refl
   turn_idle_moves env (at_last a) (in_last s) = idle_moves env a s
   turn_idle_moves env (at_later g t h) s = absurd (cc h)
 
-pub guarded_idle_moves : {p : Process} (env : Wires) (g : GuardedAt p idle) (s : GuardedSpot p) → guarded_moves env g s ≡ false
+pub guarded_idle_moves : {p : Process} (env : Seen) (g : GuardedAt p idle) (s : GuardedSpot p) → guarded_moves env g s ≡ false
 guarded_idle_moves env g_rests s = refl
 
 -- no own node moves where the handshake is answered
-pub guarded_past_moves : {p : Process} (env : Wires) (g : GuardedAt p answered) (s : GuardedSpot p) → guarded_moves env g s ≡ false
+pub guarded_past_moves : {p : Process} (env : Seen) (g : GuardedAt p answered) (s : GuardedSpot p) → guarded_moves env g s ≡ false
 guarded_past_moves env g_past s = refl
 
 pub guarded_past_is : {p : Process} (g : GuardedAt p answered) → (guarded_cells g ≡ guarded_of false true true (low p)) × (guarded_shown g ≡ none_shown)
@@ -54,33 +61,76 @@ pub answered_all : (b : Bool) → wave_may answered b ≡ true → b ≡ true
 answered_all true h = refl
 answered_all false h = absurd (cc h)
 
-mutual
-  pub answered_moves : {p : Process} (env : Wires) (a : At p answered) → Fits a env → (s : Spot p) → moves env a s ≡ false
-  answered_moves env (at_skip _ h) f of_skip = refl
-  answered_moves env (at_send _ u h) f of_send = ap not f
-  answered_moves env (at_send {w = w} {v = v} _ u h) f (gate i one) = all_still w v u (answered_all (all_up w u) h) i one
-  answered_moves env (at_turn t) f (in_members s) = turn_answered_moves env t f s
+-- branches that all rest
+pub branches_idle : {members : Processes} {ks : List Mode} (b : BranchesAt members ks) → all_idle ks ≡ true → (branch_cells b ≡ low_branches members) × (branches_shown b ≡ none_shown)
+branches_idle no_more h = (refl, refl)
+branches_idle (and_at {p = p} {k = idle} g_rests b) h = let r = branches_idle b h in (ap (λ x. (low_guarded (low p), x)) r.0, ap (both_shown none_shown) r.1)
+branches_idle (and_at {k = running} g b) h = absurd (cc h)
+branches_idle (and_at {k = answered} g b) h = absurd (cc h)
+branches_idle (and_at {k = returning} g b) h = absurd (cc h)
 
-  pub turn_answered_moves : {members : Processes} (env : Wires) (t : TurnAt members answered) → TurnFits t env → (s : TurnSpot members) → turn_moves env t s ≡ false
+pub branches_idle_moves : {members : Processes} {ks : List Mode} (env : Seen) (b : BranchesAt members ks) → all_idle ks ≡ true → (s : BranchSpot members) → branch_moves env b s ≡ false
+branches_idle_moves env no_more h s = refl
+branches_idle_moves env (and_at {k = idle} g b) h (in_this s) = guarded_idle_moves env g s
+branches_idle_moves env (and_at {k = idle} g b) h (in_others s) = branches_idle_moves env b h s
+branches_idle_moves env (and_at {k = running} g b) h s = absurd (cc h)
+branches_idle_moves env (and_at {k = answered} g b) h s = absurd (cc h)
+branches_idle_moves env (and_at {k = returning} g b) h s = absurd (cc h)
+
+-- branches that have all ended
+pub as_many : {members : Processes} {ks : List Mode} → BranchesAt members ks → length ks ≡ member_count members
+as_many no_more = refl
+as_many (and_at g b) = ap (λ k. suc k) (as_many b)
+
+pub end_high : (ks : List Mode) → all_ack ks ≡ true → (i : ℕ) → i < length ks → ends ks i ≡ true
+end_high [] h i less = absurd (omega arith)
+end_high (k ∷ ks) h zero less = fst_true _ _ h
+end_high (k ∷ ks) h (suc i) less = end_high ks (snd_true _ _ h) i (omega arith)
+
+pub ends_high : {members : Processes} {ks : List Mode} → BranchesAt members ks → all_ack ks ≡ true → (i : ℕ) → i < member_count members → ends ks i ≡ true
+ends_high {members = members} {ks = ks} b h i less = end_high ks h i (subst (λ (n : ℕ). i < n) (sym (as_many b)) less)
+
+branches_past_moves : {members : Processes} {ks : List Mode} (env : Seen) (b : BranchesAt members ks) → all_ask true ks ≡ true → all_ack ks ≡ true → (s : BranchSpot members) → branch_moves env b s ≡ false
+branches_past_moves env no_more h k s = refl
+branches_past_moves env (and_at {k = answered} g b) h k (in_this s) = guarded_past_moves env g s
+branches_past_moves env (and_at {k = idle} g b) h k s = absurd (cc h)
+branches_past_moves env (and_at {k = running} g b) h k s = absurd (cc k)
+branches_past_moves env (and_at {k = returning} g b) h k s = absurd (cc h)
+branches_past_moves env (and_at {k = answered} g b) h k (in_others s) = branches_past_moves env b h k s
+
+pub site_answered_moves : (w v : ℕ) (ack : Bool) (u : Wave w) → wave_may answered (all_up w u) ≡ true → send_fits answered (all_up w u) (none_up w u) ack ≡ true → (s : SiteSpot (constant w v)) → site_moves ack w v answered u s ≡ false
+site_answered_moves w v ack u h f done = ap not f
+site_answered_moves w v ack u h f (gate i one) = all_still w v u (answered_all (all_up w u) h) i one
+
+mutual
+  pub answered_moves : {p : Process} (env : Seen) (a : At p answered) → Fits a env → (s : Spot p) → moves env a s ≡ false
+  answered_moves env (at_skip _ h) f of_skip = refl
+  answered_moves env (at_assign {x = x} {w = w} {v = v} _ u h) f (of_assign s) = site_answered_moves w v (env.ack (of_var x)) u h f s
+  answered_moves env (at_send {c = c} {w = w} {v = v} _ u h) f (of_send s) = site_answered_moves w v (env.ack (of_channel c)) u h f s
+  answered_moves env (at_turn t) f (in_members s) = turn_answered_moves env t f s
+  answered_moves env (at_side _ t b h) f (of_branch s) = branches_past_moves env b h.asked (h.all refl) s
+  answered_moves env (at_side {members = members} {ks = ks} _ t b h) f (joint k) = flat_stands (member_count members) h.known h.some (ends ks) (bit_at (joint_count (member_count members)) t) true h.settles h.top (ends_high b (h.all refl)) k
+
+  pub turn_answered_moves : {members : Processes} (env : Seen) (t : TurnAt members answered) → TurnFits t env → (s : TurnSpot members) → turn_moves env t s ≡ false
   turn_answered_moves env (at_last a) f (in_last s) = answered_moves env a f s
   turn_answered_moves env (at_later {k = answered} {n = answered} g t h) f (in_member s) = guarded_past_moves env g s
   turn_answered_moves env (at_later {k = answered} {n = answered} g t h) f (in_later s) = turn_answered_moves env t f s
   turn_answered_moves env (at_later {k = k} {n = n} g t h) f s = absurd (cc h)
 
 -- what begins where a request rises
-pub record Begun (p : Process) (env : Wires) : Type 0 where
+pub record Begun (p : Process) (env : Seen) : Type 0 where
   pub place : At p running
   pub same : cells place ≡ low p
   pub fits : Fits place env
-  pub offer : (k i : ℕ) (one : Bool) → (shown place).offer k i one ≡ false
+  pub offer : (k : Line) (i : ℕ) (one : Bool) → (shown place).offer k i one ≡ false
   pub take : (k : ℕ) → (shown place).take k ≡ false
   pub term : left env.ack place ≡ opened p
 
-pub record TurnBegun (members : Processes) (env : Wires) : Type 0 where
+pub record TurnBegun (members : Processes) (env : Seen) : Type 0 where
   pub place : TurnAt members running
   pub same : turn_cells place ≡ low_turn members
   pub fits : TurnFits place env
-  pub offer : (k i : ℕ) (one : Bool) → (turn_shown place).offer k i one ≡ false
+  pub offer : (k : Line) (i : ℕ) (one : Bool) → (turn_shown place).offer k i one ≡ false
   pub take : (k : ℕ) → (turn_shown place).take k ≡ false
   pub term : turn_left env.ack place ≡ opened_turn members
 
@@ -92,56 +142,135 @@ pub fits_high : (f n : Bool) → send_fits returning f n true ≡ true
 fits_high f true = refl
 fits_high f false = refl
 
-send_begun : (c : ℕ) (at : Span) (w v : ℕ) (env : Wires) → env.ack c ≡ false → Begun (sending c at (constant w v)) env
+-- the gates of a site at first
+pub site_low : (w v : ℕ) → site_of w v false (no_wave w) ≡ low_site (constant w v)
+site_low w v = ap (λ (x : Pairs w). record { answer = false; gates = x }) (none_low w v (no_wave w) (none_of w))
+
+site_fits_low : (w : ℕ) (ack : Bool) → ack ≡ false → send_fits running (all_up w (no_wave w)) (none_up w (no_wave w)) ack ≡ true
+site_fits_low w ack low = ap (send_fits running (all_up w (no_wave w)) (none_up w (no_wave w))) low ∙ fits_low _ _
+
+site_offers_none : (d : Line) (w v : ℕ) (k : Line) (i : ℕ) (one : Bool) → (site_shown d w v (no_wave w)).offer k i one ≡ false
+site_offers_none d w v k i one = ap (λ b. same_line d k && b) (none_held w v (no_wave w) (none_of w) i one) ∙ never_and (same_line d k)
+
+assign_begun : (x : ℕ) (at : Span) (w v : ℕ) (env : Seen) → env.ack (of_var x) ≡ false → Begun (assigning x at (constant w v)) env
+assign_begun x at w v env low = record {
+  place = at_assign running (no_wave w) refl;
+  same = site_low w v;
+  fits = site_fits_low w (env.ack (of_var x)) low;
+  offer = site_offers_none (of_var x) w v;
+  take = λ k. refl;
+  term = ap (λ b. waits running b (active (assigning x at (constant w v)))) low;
+}
+
+send_begun : (c : ℕ) (at : Span) (w v : ℕ) (env : Seen) → env.ack (of_channel c) ≡ false → Begun (sending c at (constant w v)) env
 send_begun c at w v env low = record {
   place = at_send running (no_wave w) refl;
-  same = ap (λ (x : Pairs w). record { answer = false; gates = x }) (none_low w v (no_wave w) (none_of w));
-  fits = ap (send_fits running (all_up w (no_wave w)) (none_up w (no_wave w))) low ∙ fits_low _ _;
-  offer = λ k i one. ap (λ b. (c == k) && b) (none_held w v (no_wave w) (none_of w) i one) ∙ never_and (c == k);
+  same = site_low w v;
+  fits = site_fits_low w (env.ack (of_channel c)) low;
+  offer = site_offers_none (of_channel c) w v;
   take = λ k. refl;
   term = ap (λ b. waits running b (active (sending c at (constant w v)))) low;
 }
 
-mutual
-  pub begun : (channels : List Channel) (p : Process) (env : Wires) → Meets channels p → Quiet p env → Begun p env
-  begun channels skipping env h n = record { place = at_skip running refl; same = refl; fits = tt; offer = λ k i one. refl; take = λ k. refl; term = refl }
-  begun channels (sending c at (constant w v)) env h n = send_begun c at w v env (n.send c (self_number c))
-  begun channels (in_turn members) env h n =
-      let b = turn_begun channels members env h record { send = n.send } in
-      record { place = at_turn b.place; same = b.same; fits = b.fits; offer = b.offer; take = b.take; term = b.term }
-  begun channels (repeating p) env h n = record { place = at_body rests; same = refl; fits = tt; offer = λ k i one. refl; take = λ k. refl; term = refl }
-  begun channels (sending c at (reading x high low to)) env h n = absurd h
-  begun channels (sending c at (joined parts)) env h n = absurd h
-  begun channels (sending c at (inverted e)) env h n = absurd h
-  begun channels (sending c at (chained e more)) env h n = absurd h
-  begun channels (sending c at (compared op e f)) env h n = absurd h
-  begun channels (assigning x at e) env h n = absurd h
-  begun channels (receiving c at x to) env h n = absurd h
-  begun channels (side_by_side _) env h n = absurd h
-  begun channels (choosing again _) env h n = absurd h
+-- branches under a request that rose
+abbrev pub modes_of : Mode → Processes → List Mode
+modes_of k no_members = []
+modes_of k (and_member p more) = k ∷ modes_of k more
 
-  pub turn_begun : (channels : List Channel) (members : Processes) (env : Wires) → TurnMeets channels members → Quiet (in_turn members) env → TurnBegun members env
-  turn_begun channels no_members env h n = absurd h
-  turn_begun channels (and_member p no_members) env h n =
-      let b = begun channels p env h record { send = λ k e. n.send k (or_left (sends p k) false e) } in
+abbrev asked_all : (members : Processes) → BranchesAt members (modes_of running members)
+asked_all no_members = no_more
+asked_all (and_member p more) = and_at (g_in false rests refl) (asked_all more)
+
+asked_same : (members : Processes) → branch_cells (asked_all members) ≡ low_branches members
+asked_same no_members = refl
+asked_same (and_member p more) = ap (λ x. (low_guarded (low p), x)) (asked_same more)
+
+asked_fits : (members : Processes) (env : Seen) → BranchesFit (asked_all members) env
+asked_fits no_members env = tt
+asked_fits (and_member p more) env = (tt, asked_fits more env)
+
+asked_shows : (members : Processes) → branches_shown (asked_all members) ≡ none_shown
+asked_shows no_members = refl
+asked_shows (and_member p more) = ap (both_shown none_shown) (asked_shows more)
+
+asked_left : (members : Processes) (ack : Line → Bool) → branches_left ack (asked_all members) ≡ opened_each members
+asked_left no_members ack = refl
+asked_left (and_member p more) ack = ap (λ (z : Terms). and_branch (opened p) z) (asked_left more ack)
+
+asked_ask : (members : Processes) → all_ask true (modes_of running members) ≡ true
+asked_ask no_members = refl
+asked_ask (and_member p more) = asked_ask more
+
+asked_end : (members : Processes) (i : ℕ) → ends (modes_of running members) i ≡ false
+asked_end no_members i = refl
+asked_end (and_member p more) zero = refl
+asked_end (and_member p more) (suc i) = asked_end more i
+
+sides_begun : (P : TypedProgram) (members : Processes) (env : Seen) → Meets P (side_by_side members) → Begun (side_by_side members) env
+sides_begun P members env h =
+    let n = member_count members in
+    record {
+      place = at_side running (low_bits (joint_count n)) (asked_all members) (record {
+        some = h.0;
+        known = h.1;
+        awake = refl;
+        asked = asked_ask members;
+        settles = settled_low n h.1 (ends (modes_of running members)) (asked_end members);
+        top = top_low n h.1 (ends (modes_of running members)) (asked_end members);
+        all = λ e. absurd (cc e);
+      });
+      same = ap (λ x. sides_of members x (low_bits (joint_count n))) (asked_same members);
+      fits = asked_fits members env;
+      offer = λ k i one. ap (λ (x : Shown). x.offer k i one) (asked_shows members);
+      take = λ k. ap (λ (x : Shown). x.take k) (asked_shows members);
+      term = ap together (asked_left members env.ack);
+    }
+
+mutual
+  pub begun : (P : TypedProgram) (p : Process) (env : Seen) → Meets P p → Quiet p env → Begun p env
+  begun P skipping env h n = record { place = at_skip running refl; same = refl; fits = tt; offer = λ k i one. refl; take = λ k. refl; term = refl }
+  begun P (assigning x at (constant w v)) env h n = assign_begun x at w v env (n.send (of_var x) (self_line (of_var x)))
+  begun P (sending c at (constant w v)) env h n = send_begun c at w v env (n.send (of_channel c) (self_line (of_channel c)))
+  begun P (in_turn members) env h n =
+      let b = turn_begun P members env h record { send = n.send } in
+      record { place = at_turn b.place; same = b.same; fits = b.fits; offer = b.offer; take = b.take; term = b.term }
+  begun P (repeating p) env h n = record { place = at_body rests; same = refl; fits = tt; offer = λ k i one. refl; take = λ k. refl; term = refl }
+  begun P (sending c at (reading x high low to)) env h n = absurd h
+  begun P (sending c at (joined parts)) env h n = absurd h
+  begun P (sending c at (inverted e)) env h n = absurd h
+  begun P (sending c at (chained e more)) env h n = absurd h
+  begun P (sending c at (compared op e f)) env h n = absurd h
+  begun P (assigning x at (reading y high low to)) env h n = absurd h
+  begun P (assigning x at (joined parts)) env h n = absurd h
+  begun P (assigning x at (inverted e)) env h n = absurd h
+  begun P (assigning x at (chained e more)) env h n = absurd h
+  begun P (assigning x at (compared op e f)) env h n = absurd h
+  begun P (receiving c at x to) env h n = absurd h
+  begun P (side_by_side members) env h n = sides_begun P members env h
+  begun P (choosing again _) env h n = absurd h
+
+  pub turn_begun : (P : TypedProgram) (members : Processes) (env : Seen) → TurnMeets P members → Quiet (in_turn members) env → TurnBegun members env
+  turn_begun P no_members env h n = absurd h
+  turn_begun P (and_member p no_members) env h n =
+      let b = begun P p env h record { send = λ k e. n.send k (or_left (sends p k) false e) } in
       record { place = at_last b.place; same = b.same; fits = b.fits; offer = b.offer; take = b.take; term = b.term }
-  turn_begun channels (and_member p (and_member q more)) env h n = record {
+  turn_begun P (and_member p (and_member q more)) env h n = record {
     place = at_member (g_in false rests refl);
     same = refl;
     fits = tt;
     offer = λ k i one. refl;
     take = λ k. refl;
-    term = opened_then channels p h.0 (and_member q more);
+    term = opened_then P p h.0 (and_member q more);
   }
 
 -- what goes on where a request falls
-pub record Lowered (p : Process) (a : At p answered) (env : Wires) : Type 0 where
+pub record Lowered (p : Process) (a : At p answered) (env : Seen) : Type 0 where
   pub place : At p returning
   pub same : cells place ≡ cells a
   pub fits : Fits place env
   pub shows : shown place ≡ shown a
 
-pub record TurnLowered (members : Processes) (t : TurnAt members answered) (env : Wires) : Type 0 where
+pub record TurnLowered (members : Processes) (t : TurnAt members answered) (env : Seen) : Type 0 where
   pub place : TurnAt members returning
   pub same : turn_cells place ≡ turn_cells t
   pub fits : TurnFits place env
@@ -151,35 +280,92 @@ still_fits : (f n a : Bool) → send_fits answered f n a ≡ true → send_fits 
 still_fits f true a h = refl
 still_fits f false a h = h
 
+-- branches under a request that fell
+record BranchesLowered (members : Processes) (ks : List Mode) (env : Seen) (b : BranchesAt members ks) : Type 0 where
+  pub modes : List Mode
+  pub place : BranchesAt members modes
+  pub same : branch_cells place ≡ branch_cells b
+  pub fits : BranchesFit place env
+  pub shows : branches_shown place ≡ branches_shown b
+  pub asked : all_ask false modes ≡ true
+  pub ends_stay : (i : ℕ) → ends modes i ≡ ends ks i
+
+branches_lowered : {members : Processes} {ks : List Mode} (env : Seen) (b : BranchesAt members ks) → all_ask true ks ≡ true → all_ack ks ≡ true → BranchesLowered members ks env b
+branches_lowered env no_more h k = record { modes = []; place = no_more; same = refl; fits = tt; shows = refl; asked = refl; ends_stay = λ i. refl }
+branches_lowered env (and_at {k = idle} g b) h k = absurd (cc h)
+branches_lowered env (and_at {k = running} g b) h k = absurd (cc k)
+branches_lowered env (and_at {k = returning} g b) h k = absurd (cc h)
+branches_lowered env (and_at {p = p} {k = answered} {ks = ks} g_past b) h k =
+    let r = branches_lowered env b h k in
+    record {
+      modes = returning ∷ r.modes;
+      place = and_at (g_back true) r.place;
+      same = ap (λ x. (guarded_of false true true (low p), x)) r.same;
+      fits = (tt, r.fits);
+      shows = ap (both_shown none_shown) r.shows;
+      asked = r.asked;
+      ends_stay = shifted r.modes ks r.ends_stay;
+    }
+  where
+    shifted : (ls ks : List Mode) → ((i : ℕ) → ends ls i ≡ ends ks i) → (i : ℕ) → ends (returning ∷ ls) i ≡ ends (answered ∷ ks) i
+    shifted ls ks f zero = refl
+    shifted ls ks f (suc i) = f i
+
+sides_lowered : {members : Processes} {ks : List Mode} (env : Seen) (t : Bits (joint_count (member_count members))) (b : BranchesAt members ks) (h : SideMay (member_count members) answered ks t) → BranchesFit b env → Lowered (side_by_side members) (at_side answered t b h) env
+sides_lowered {members = members} {ks = ks} env t b h f =
+    let n = member_count members in
+    let r = branches_lowered env b h.asked (h.all refl) in
+    let same : ends r.modes ≡ ends ks = fun_ext r.ends_stay in
+    record {
+      place = at_side returning t r.place (record {
+        some = h.some;
+        known = h.known;
+        awake = refl;
+        asked = r.asked;
+        settles = subst (λ (x : ℕ → Bool). Settled n x t) (sym same) h.settles;
+        top = ap (λ (x : ℕ → Bool). top_of n x t) same ∙ h.top;
+        all = λ e. absurd (cc e);
+      });
+      same = ap (λ x. sides_of members x t) r.same;
+      fits = r.fits;
+      shows = r.shows;
+    }
+
 mutual
-  pub lowered : {p : Process} (env : Wires) (a : At p answered) → Fits a env → Lowered p a env
+  pub lowered : {p : Process} (env : Seen) (a : At p answered) → Fits a env → Lowered p a env
   lowered env (at_skip _ h) f = record { place = at_skip returning refl; same = refl; fits = tt; shows = refl }
-  lowered env (at_send {c = c} {w = w} _ u h) f = record { place = at_send returning u refl; same = refl; fits = still_fits (all_up w u) (none_up w u) (env.ack c) f; shows = refl }
+  lowered env (at_assign {x = x} {w = w} _ u h) f = record { place = at_assign returning u refl; same = refl; fits = still_fits (all_up w u) (none_up w u) (env.ack (of_var x)) f; shows = refl }
+  lowered env (at_send {c = c} {w = w} _ u h) f = record { place = at_send returning u refl; same = refl; fits = still_fits (all_up w u) (none_up w u) (env.ack (of_channel c)) f; shows = refl }
+  lowered env (at_side _ t b h) f = sides_lowered env t b h f
   lowered env (at_turn t) f = let b = turn_lowered env t f in record { place = at_turn b.place; same = b.same; fits = b.fits; shows = b.shows }
 
-  pub turn_lowered : {members : Processes} (env : Wires) (t : TurnAt members answered) → TurnFits t env → TurnLowered members t env
+  pub turn_lowered : {members : Processes} (env : Seen) (t : TurnAt members answered) → TurnFits t env → TurnLowered members t env
   turn_lowered env (at_last a) f = let b = lowered env a f in record { place = at_last b.place; same = b.same; fits = b.fits; shows = b.shows }
   turn_lowered env (at_later {k = answered} {n = answered} g_past t h) f = record { place = at_later (g_back true) t refl; same = refl; fits = f; shows = refl }
   turn_lowered env (at_later {k = k} {n = n} g t h) f = absurd (cc h)
 
 -- from what is shown at rest to what is shown where a handshake begins
-pub flow_begun : (env : Wires) (x y : Shown) → x ≡ none_shown → ((k i : ℕ) (one : Bool) → y.offer k i one ≡ false) → ((k : ℕ) → y.take k ≡ false) → Flow env x y
+pub flow_begun : (env : Seen) (x y : Shown) → x ≡ none_shown → ((k : Line) (i : ℕ) (one : Bool) → y.offer k i one ≡ false) → ((c : ℕ) → y.take c ≡ false) → Flow env x y
 flow_begun env x y z offer take = record {
   talk = λ k e h. absurd (cc (ap (λ (x : Shown). x.talk k) z, h));
-  listen = λ k e h. absurd (cc (ap (λ (x : Shown). x.listen k) z, h));
   rises = λ k i one e h. absurd (cc (ap (λ (x : Shown). x.offer k i one) z, h));
   falls = λ k i one e h. absurd (cc (offer k i one, h));
-  holds = λ k e h. absurd (cc (ap (λ (x : Shown). x.take k) z, h));
-  drops = λ k e h. absurd (cc (take k, h));
+  listen = λ c e h. absurd (cc (ap (λ (x : Shown). x.listen c) z, h));
+  holds = λ c e h. absurd (cc (ap (λ (x : Shown). x.take c) z, h));
+  drops = λ c e h. absurd (cc (take c, h));
+  taken = λ c e h. absurd (cc (take c, h));
+  left = λ c e h. absurd (cc (ap (λ (x : Shown). x.take c) z, e));
 }
 
 -- what is shown at last is nothing, and then a handshake begins
-pub flow_then : (env : Wires) (a x y : Shown) → x ≡ none_shown → ((k i : ℕ) (one : Bool) → y.offer k i one ≡ false) → ((k : ℕ) → y.take k ≡ false) → Flow env a x → Flow env a y
+pub flow_then : (env : Seen) (a x y : Shown) → x ≡ none_shown → ((k : Line) (i : ℕ) (one : Bool) → y.offer k i one ≡ false) → ((c : ℕ) → y.take c ≡ false) → Flow env a x → Flow env a y
 flow_then env a x y e offer take f = record {
   talk = λ k g h. absurd (cc (f.talk k g h, ap (λ (z : Shown). z.talk k) e));
-  listen = λ k g h. absurd (cc (f.listen k g h, ap (λ (z : Shown). z.listen k) e));
   rises = λ k i one g h. absurd (cc (f.rises k i one g h, ap (λ (z : Shown). z.offer k i one) e));
   falls = λ k i one g h. absurd (cc (offer k i one, h));
-  holds = λ k g h. absurd (cc (f.holds k g h, ap (λ (z : Shown). z.take k) e));
-  drops = λ k g h. absurd (cc (take k, h));
+  listen = λ c g h. absurd (cc (f.listen c g h, ap (λ (z : Shown). z.listen c) e));
+  holds = λ c g h. absurd (cc (f.holds c g h, ap (λ (z : Shown). z.take c) e));
+  drops = λ c g h. absurd (cc (take c, h));
+  taken = λ c g h. absurd (cc (take c, h));
+  left = λ c g h. f.left c g (ap (λ (z : Shown). z.take c) e);
 }

@@ -1,9 +1,9 @@
 -- Each covered program's circuit carries it.
-use Rattle.std.proofs.Common.{◌≡◌, ◌≢◌, ℕ, zero, suc, ◌<◌, ◌≤◌, Bool, true, false, List, [], ◌∷◌, length, refl, sym, ap, ◌∙◌, subst, arith}
+use Rattle.std.proofs.Common.{◌≡◌, ◌≢◌, ℕ, zero, suc, ◌/◌, ◌<◌, ◌≤◌, ◌⊎◌, inl, inr, Bool, true, false, List, [], ◌∷◌, length, refl, sym, ap, ◌∙◌, subst, arith}
 use Rattle.std.proofs.Math.ListN.{get_or-eq_default}
 use Rattle.std.proofs.lemmas.Bool.Decides.{nat_tests}
 use Rattle.std.proofs.lemmas.List.Elements.{All-head, All-tail}
-use Rattle.std.specs.Prelude.{not, nat_lt, ◌||◌, All}
+use Rattle.std.specs.Prelude.{not, nat_lt, ◌&&◌, ◌||◌, if◌then◌else◌, All}
 use Rattle.chp_base.specs.declared.channel.Channel.{Channel}
 use Rattle.chp_base.specs.declared.channel.Kind.{Kind}
 use Rattle.chp_base.specs.declared.channel.Kind.TheVariants.{Out}
@@ -11,21 +11,33 @@ use Rattle.env_script.specs.declared.script.Count.{Count}
 use Rattle.env_script.specs.Scripts.{OfferValue, gives, takes, nothing, offer_at, IsScript, Suits}
 use Rattle.env_script.specs.Runs.{completed}
 use Rattle.width_check.specs.Processes.{TypedProgram}
-use Rattle.width_check.specs.Typing.{channel_width, IsDeclaredChannel, IsTyped}
-use Rattle.circuit_places.specs.Circuit.{low, Guarded, Cells, turns, fires, no_rule, is_apart, guarded_rule, site_rails}
-use Rattle.circuit_places.specs.Whole.{Whole, Node, go_node, own_node, rail_node, ack_node, is_node, rule_in, answers, enabled, wires_after, go_after, root_after, moved, first_of, Reaches, at_first, by_move}
+use Rattle.width_check.specs.Typing.{kind_at, channel_width, var_width, IsDeclaredChannel}
+use Rattle.width_check.specs.declared.typed.Var.{Var}
+use Rattle.width_check.specs.Sharing.{Occurrence, Parallel}
+use Rattle.env_script.specs.Environment.{is_odd}
+use Rattle.cell_parallel.specs.Trees.{tree_top}
+use Rattle.std.specs.List.{range_with_len}
+use Rattle.std.proofs.lemmas.Bool.{cases_lt}
+use Rattle.circuit_places.specs.Lines.{Line, of_channel, of_var, line_width}
+use Rattle.circuit_places.specs.Circuit.{low, joint_count, tree_answer, same_bit, Guarded, Cells, turns, fires, no_rule, is_apart, guarded_rule, site_rails}
+use Rattle.circuit_places.specs.Whole.{seen, line_ack, is_sent, is_merged, merged, bit_rule, wrote_rule, first_bit, first_bits, Whole, Node, go_node, own_node, rail_node, ack_node, bit_node, wrote_node, joint_node, is_node, rule_in, answers, enabled, wires_after, go_after, root_after, moved, first_of, Reaches, at_first, by_move}
+use Rattle.chp_meaning.specs.Halves.{IsSized}
 use Rattle.circuit_places.specs.Covered.{Covered}
 use Rattle.circuit_places.specs.Carried.{IsSafe, IsCarried, CircuitsCarry}
-use Rattle.circuit_places.proofs.Places.{Mode, idle, running, answered, returning, asks, is_idle, GuardedAt, g_rests, guarded_cells, guarded_shown, guarded_can_is}
-use Rattle.circuit_places.proofs.Meets.{Meets, meets}
+use Rattle.circuit_places.proofs.Places.{Mode, idle, running, answered, returning, asks, is_idle, GuardedAt, g_rests, guarded_cells, guarded_shown, guarded_writing, guarded_can_is}
+use Rattle.circuit_places.proofs.Writing.{first_numbers}
+use Rattle.circuit_places.proofs.Meets.{Meets, Clash, meets}
+use Rattle.circuit_places.proofs.Trees.{TreesSettle, tree_over, all_low_value, settling_low, joint_apart, joint_absent}
+use Rattle.circuit_places.proofs.BitTable.{valid, legal_at_first}
+use Rattle.circuit_places.proofs.Blocks.{Block, now_at, bit_apart, wrote_apart}
 use Rattle.circuit_places.proofs.Sites.{any, merged_can, merged_apart, same_sites, guarded_offered}
 use Rattle.circuit_places.proofs.System.{Good, can, root_left, Fitted, takes_of, may_low, may_high}
-use Rattle.circuit_places.proofs.WireMoves.{next_of, phase_up, phase_down}
+use Rattle.circuit_places.proofs.LineMoves.{offered_below, phase_up, phase_down}
+use Rattle.circuit_places.proofs.BlockMoves.{some_of, next_of}
 use Rattle.circuit_places.proofs.Apart.{guarded_apart}
 use Rattle.circuit_places.proofs.Follow.{Followed, started, follows}
 use Rattle.circuit_places.proofs.Flow.{cases}
-use Rattle.circuit_places.proofs.Waves.{held_below}
-use Rattle.circuit_places.proofs.Fires.{guarded_site, guarded_offers_talks}
+use Rattle.circuit_places.proofs.Waves.{never_and}
 use Rattle.circuit_places.proofs.Absent.{guarded_absent}
 use Rattle.circuit_places.proofs.Ended.{at_end}
 
@@ -55,19 +67,26 @@ has_bits [] each k below = absurd (let g : ⊥ = omega (arith, below) in g)
 has_bits (c ∷ cs) each zero below = (All-head IsDeclaredChannel c cs each).some
 has_bits (c ∷ cs) each (suc k) below = has_bits cs (All-tail IsDeclaredChannel c cs each) k (let g : k < length cs = omega (arith, below) in g)
 
+all_sent : (channels : List Channel) → All (λ (c : Channel). c.kind ≡ Out) channels → (k : ℕ) → k < length channels → is_sent (kind_at channels k) ≡ true
+all_sent [] out k below = refl
+all_sent (c ∷ cs) out zero below = ap is_sent (All-head (λ (c : Channel). c.kind ≡ Out) c cs out)
+all_sent (c ∷ cs) out (suc k) below = all_sent cs (All-tail (λ (c : Channel). c.kind ≡ Out) c cs out) k (let g : k < length cs = omega (arith, below) in g)
+
 takes_within : (script : List OfferValue) (k : ℕ) (count : Count) → offer_at script k ≡ takes count → k < length script
 takes_within [] k count e = absurd (cc e)
 takes_within (o ∷ os) zero count e = omega arith
 takes_within (o ∷ os) (suc k) count e = let g : k < length os = takes_within os k count e in omega (arith, g)
 
-fits : (P : TypedProgram) (script : List OfferValue) → IsTyped P.channels P.vars P.body → Covered P → IsScript P.channels script → Fitted P.channels script
+fits : (P : TypedProgram) (script : List OfferValue) → IsSized P.channels P.vars P.body → Covered P → IsScript P.channels script → Fitted P script
 fits P script typed covered s =
     let same = as_many P.channels script s in
     record {
       within = λ k count e. subst (λ (n : ℕ). k < n) same (takes_within script k count e);
       wide = has_bits P.channels typed.each_channel;
+      merged = all_sent P.channels covered.channels;
       out = takes_all P.channels script s covered.channels;
       same = same;
+      firsts = first_numbers P.vars typed.each_var;
     }
 
 -- where a state stands
@@ -77,8 +96,8 @@ pub record Reached (P : TypedProgram) (script : List OfferValue) (moves : ℕ) (
   pub root : mode ≢ returning
   pub go : x.go ≡ asks mode
   pub same : x.root ≡ guarded_cells place
-  pub good : Good P.channels P.body mode place x.wires
-  pub followed : Followed P script moves x.histories (root_left x.wires.ack place)
+  pub good : Good P mode place x.wires
+  pub followed : Followed P script moves x.histories (root_left (line_ack P x.wires) place) x.wires.bit (guarded_writing (line_ack P x.wires) place)
 
 or_false : (b : Bool) → (b || false) ≡ b
 or_false true = refl
@@ -95,20 +114,37 @@ go_is answered ne = refl
 go_is returning ne = absurd (ne refl)
 
 module _ (P : TypedProgram) (script : List OfferValue) {moves : ℕ} {x : Whole P.body} (r : Reached P script moves x) where
-  rail_is : (k i : ℕ) (one : Bool) → fires (rule_in P.body x (rail_node k i one)) ≡ turns (x.wires.rail k i one) ((guarded_shown r.place).offer k i one) (not ((guarded_shown r.place).offer k i one))
-  rail_is k i one =
-      merged_can (x.wires.rail k i one) (site_rails P.body x.root.inner k i one) (λ e. same_sites P.body x.root.inner (low P.body) k i one ∙ r.good.sited k i one e)
-      ∙ ap (λ b. turns (x.wires.rail k i one) b (not b)) (ap (λ (g : Guarded (Cells P.body)). any (site_rails P.body g.inner k i one)) r.same ∙ guarded_offered r.place k i one)
+  rail_is : (k : Line) (i : ℕ) (one : Bool) → fires (rule_in P x (rail_node k i one)) ≡ (is_merged P k && turns (x.wires.rail k i one) ((guarded_shown r.place).offer k i one) (not ((guarded_shown r.place).offer k i one)))
+  rail_is k i one = here (is_merged P k)
+    where
+      here : (b : Bool) → fires (if b then merged (x.wires.rail k i one) (site_rails P.body x.root.inner k i one) else no_rule (x.wires.rail k i one)) ≡ (b && turns (x.wires.rail k i one) ((guarded_shown r.place).offer k i one) (not ((guarded_shown r.place).offer k i one)))
+      here true =
+          merged_can (x.wires.rail k i one) (site_rails P.body x.root.inner k i one) (λ e. same_sites P.body x.root.inner (low P.body) k i one ∙ r.good.sited k i one e)
+          ∙ ap (λ b. turns (x.wires.rail k i one) b (not b)) (ap (λ (g : Guarded (Cells P.body)). any (site_rails P.body g.inner k i one)) r.same ∙ guarded_offered r.place k i one)
+      here false = no_fire (x.wires.rail k i one)
+
+  by_bits : (v i : ℕ) {A : Type 0} → (i < var_width P.vars v → A) → ((i < var_width P.vars v → ⊥) → A) → A
+  by_bits v i {A = A} f g = here (cases_lt i (var_width P.vars v))
+    where
+      here : (i < var_width P.vars v) ⊎ (var_width P.vars v ≤ i) → A
+      here (inl less) = f less
+      here (inr out) = g (λ less. omega (arith, less, out))
+
+  low_rail : (v i : ℕ) (one : Bool) → (i < var_width P.vars v → ⊥) → x.wires.rail (of_var v) i one ≡ false
+  low_rail v i one out = cases (x.wires.rail (of_var v) i one) (λ (h : x.wires.rail (of_var v) i one ≡ true). absurd (out (r.good.wide (of_var v) i one h))) (λ (h : x.wires.rail (of_var v) i one ≡ false). h)
 
   -- which moves are enabled in it
   pub enabled_is : (n : Node P.body) → enabled P script x n ≡ can P script r.place x.wires x.histories n
   enabled_is go_node = ap (λ b. fires (no_rule b) || not b) r.go ∙ go_is r.mode r.root
   enabled_is (own_node s) =
-      or_false (fires (guarded_rule P.body x.wires x.go x.root s))
-      ∙ (ap (λ b. fires (guarded_rule P.body x.wires b x.root s)) r.go
-      ∙ (ap (λ g. fires (guarded_rule P.body x.wires (asks r.mode) g s)) r.same ∙ guarded_can_is x.wires r.place s))
-  enabled_is (rail_node k i one) = or_false (fires (rule_in P.body x (rail_node k i one))) ∙ rail_is k i one
+      or_false (fires (guarded_rule P.body (seen P x.wires) x.go x.root s))
+      ∙ (ap (λ b. fires (guarded_rule P.body (seen P x.wires) b x.root s)) r.go
+      ∙ (ap (λ g. fires (guarded_rule P.body (seen P x.wires) (asks r.mode) g s)) r.same ∙ guarded_can_is (seen P x.wires) r.place s))
+  enabled_is (rail_node k i one) = or_false (fires (rule_in P x (rail_node k i one))) ∙ rail_is k i one
   enabled_is (ack_node k) = ap (λ b. b || answers (channel_width P.channels k) x.wires k (completed x.histories k) (offer_at script k)) (no_fire (x.wires.ack k))
+  enabled_is (bit_node v i one) = or_false (fires (rule_in P x (bit_node v i one)))
+  enabled_is (wrote_node v i) = or_false (fires (rule_in P x (wrote_node v i)))
+  enabled_is (joint_node v k) = or_false (fires (rule_in P x (joint_node v k)))
 
   may : (n : Node P.body) → enabled P script x n ≡ true → can P script r.place x.wires x.histories n ≡ true
   may n e = sym (enabled_is n) ∙ e
@@ -116,7 +152,7 @@ module _ (P : TypedProgram) (script : List OfferValue) {moves : ℕ} {x : Whole 
   ack_may : (n : Node P.body) → enabled P script x n ≡ true → (k : ℕ) → n ≡ ack_node k → answers (channel_width P.channels k) x.wires k (completed x.histories k) (offer_at script k) ≡ true
   ack_may n e k is = may (ack_node k) (ap (enabled P script x) (sym is) ∙ e)
 
-  abbrev next_reached : Fitted P.channels script → (n : Node P.body) → enabled P script x n ≡ true → Reached P script (suc moves) (moved P x n)
+  abbrev next_reached : Fitted P script → (n : Node P.body) → enabled P script x n ≡ true → Reached P script (suc moves) (moved P x n)
   next_reached fitted n e =
       let y = next_of P script fitted x.histories r.good n (may n e) in
       record {
@@ -126,34 +162,87 @@ module _ (P : TypedProgram) (script : List OfferValue) {moves : ℕ} {x : Whole 
         go = ap (λ b. go_after b n) r.go ∙ sym y.go;
         same = ap (λ g. root_after P.body g n) r.same ∙ sym y.same;
         good = y.good;
-        followed = follows fitted r.followed x.wires (root_left (wires_after x.wires n).ack y.to) n (ack_may n e) (y.term r.root);
+        followed = follows x.wires (guarded_writing (line_ack P x.wires) r.place) (guarded_writing (line_ack P (wires_after x.wires n)) y.to) fitted r.followed (root_left (line_ack P (wires_after x.wires n)) y.to) n (ack_may n e) y.frees (y.term r.root);
       }
 
-  apart : (n : Node P.body) → is_apart (rule_in P.body x n) ≡ true
+  apart : (n : Node P.body) → is_apart (rule_in P x n) ≡ true
   apart go_node = refl
   apart (own_node s) =
-      ap (λ b. is_apart (guarded_rule P.body x.wires b x.root s)) r.go
-      ∙ (ap (λ g. is_apart (guarded_rule P.body x.wires (asks r.mode) g s)) r.same ∙ guarded_apart x.wires r.place s)
-  apart (rail_node k i one) = merged_apart (x.wires.rail k i one) (site_rails P.body x.root.inner k i one)
+      ap (λ b. is_apart (guarded_rule P.body (seen P x.wires) b x.root s)) r.go
+      ∙ (ap (λ g. is_apart (guarded_rule P.body (seen P x.wires) (asks r.mode) g s)) r.same ∙ guarded_apart (seen P x.wires) r.place s)
+  apart (rail_node k i one) = here (is_merged P k)
+    where
+      here : (b : Bool) → is_apart (if b then merged (x.wires.rail k i one) (site_rails P.body x.root.inner k i one) else no_rule (x.wires.rail k i one)) ≡ true
+      here true = merged_apart (x.wires.rail k i one) (site_rails P.body x.root.inner k i one)
+      here false = refl
   apart (ack_node k) = refl
+  apart (bit_node v i one) = by_bits v i
+      (λ less. bit_apart (var_width P.vars v) (x.wires.bit v) (x.wires.rail (of_var v)) (x.wires.wrote v) (x.wires.joint v) (r.good.block v (some_of less)) i one less)
+      (λ out. ap (λ b. not ((b && not (x.wires.bit v i (not one))) && x.wires.rail (of_var v) i (not one))) (low_rail v i one out))
+  apart (wrote_node v i) = by_bits v i
+      (λ less. wrote_apart (var_width P.vars v) (x.wires.bit v) (x.wires.rail (of_var v)) (x.wires.wrote v) (x.wires.joint v) (r.good.block v (some_of less)) i less)
+      (λ out. ap (λ b. not (((b && x.wires.bit v i true) || (x.wires.rail (of_var v) i false && x.wires.bit v i false)) && (not b && not (x.wires.rail (of_var v) i false)))) (low_rail v i true out)
+      ∙ ap (λ b. not ((b && x.wires.bit v i false) && not b)) (low_rail v i false out))
+  apart (joint_node v k) = joint_apart (var_width P.vars v) (x.wires.wrote v) (x.wires.joint v) k
 
-stable : (P : TypedProgram) (script : List OfferValue) → Fitted P.channels script → {moves : ℕ} (x : Whole P.body) → Reached P script moves x → (n m : Node P.body) → n ≢ m → enabled P script x n ≡ true → enabled P script x m ≡ true → enabled P script (moved P x m) n ≡ true
+stable : (P : TypedProgram) (script : List OfferValue) → Fitted P script → {moves : ℕ} (x : Whole P.body) → Reached P script moves x → (n m : Node P.body) → n ≢ m → enabled P script x n ≡ true → enabled P script x m ≡ true → enabled P script (moved P x m) n ≡ true
 stable P script fitted x r n m ne hn hm =
     let y = next_of P script fitted x.histories r.good m (may P script r m hm) in
     enabled_is P script (next_reached P script r fitted m hm) n ∙ y.keeps n ne (may P script r n hn)
 
-safe : (P : TypedProgram) (script : List OfferValue) → Fitted P.channels script → {moves : ℕ} (x : Whole P.body) → Reached P script moves x → IsSafe P script x
+safe : (P : TypedProgram) (script : List OfferValue) → Fitted P script → {moves : ℕ} (x : Whole P.body) → Reached P script moves x → IsSafe P script x
 safe P script fitted x r = record {
   stable = stable P script fitted x r;
   apart = apart P script r;
-  rail_up = λ k i one h e. phase_up P script x.histories r.good k i one h (may P script r (rail_node k i one) e);
-  rail_down = λ k i one h e. phase_down P script x.histories r.good k i one h (may P script r (rail_node k i one) e);
+  rail_up = λ k i one h e. phase_up P script x.histories r.good (of_channel k) i one h (may P script r (rail_node (of_channel k) i one) e);
+  rail_down = λ k i one h e. phase_down P script x.histories r.good (of_channel k) i one h (may P script r (rail_node (of_channel k) i one) e);
   ack_up = λ k h e. let t = takes_of (channel_width P.channels k) x.wires k (completed x.histories k) (offer_at script k) (may P script r (ack_node k) e) in (may_low (channel_width P.channels k) x.wires k _ h t.may).0;
   ack_down = λ k h e. let t = takes_of (channel_width P.channels k) x.wires k (completed x.histories k) (offer_at script k) (may P script r (ack_node k) e) in may_high (channel_width P.channels k) x.wires k _ h t.may;
 }
 
-first_reached : (P : TypedProgram) (script : List OfferValue) → Fitted P.channels script → Meets P.channels P.body → Reached P script 0 (first_of P)
-first_reached P script fitted meets = record {
+-- the first values of variables
+first_bit_valid : (n v i : ℕ) → i < n → valid (first_bit n v i true) (first_bit n v i false) ≡ true
+first_bit_valid zero v i less = absurd (let g : ⊥ = omega (arith, less) in g)
+first_bit_valid (suc n) v zero less = here (is_odd v)
+  where
+    here : (o : Bool) → valid (same_bit o true) (same_bit o false) ≡ true
+    here true = refl
+    here false = refl
+first_bit_valid (suc n) v (suc i) less = first_bit_valid n (v / 2) i (omega (arith, less))
+
+first_bit_below : (n v i : ℕ) (one : Bool) → first_bit n v i one ≡ true → i < n
+first_bit_below zero v i one e = absurd (cc e)
+first_bit_below (suc n) v zero one e = omega arith
+first_bit_below (suc n) v (suc i) one e = let g : i < n = first_bit_below n (v / 2) i one e in omega (arith, g)
+
+first_valid : (vars : List Var) (x i : ℕ) → i < var_width vars x → valid (first_bits vars x i true) (first_bits vars x i false) ≡ true
+first_valid [] x i less = absurd (let g : ⊥ = omega (arith, less) in g)
+first_valid (v ∷ vs) zero i less = first_bit_valid v.width v.first i less
+first_valid (v ∷ vs) (suc x) i less = first_valid vs x i less
+
+first_below : (vars : List Var) (x i : ℕ) (one : Bool) → first_bits vars x i one ≡ true → i < var_width vars x
+first_below [] x i one e = absurd (cc e)
+first_below (v ∷ vs) zero i one e = first_bit_below v.width v.first i one e
+first_below (v ∷ vs) (suc x) i one e = first_below vs x i one e
+
+none_high : (n : ℕ) → tree_answer n (λ (i : ℕ). false) (λ (k : ℕ). false) ≡ false
+none_high n = all_low_value n (λ i. false) (λ k. false) (λ i. refl) (λ k. refl) (tree_top (range_with_len 0 n) n)
+
+first_low : (P : TypedProgram) (k : Line) → line_ack P (first_of P).wires k ≡ false
+first_low P (of_channel c) = refl
+first_low P (of_var x) = none_high (var_width P.vars x)
+
+first_block : TreesSettle → (P : TypedProgram) (x : ℕ) → 1 ≤ var_width P.vars x → Block (var_width P.vars x) (first_bits P.vars x) (λ i one. false) (λ i. false) (λ k. false)
+first_block law P x some =
+    let n = var_width P.vars x in
+    record {
+      known = tree_over n law some;
+      bits = λ i less. legal_at_first (now_at (first_bits P.vars x) (λ i one. false) (λ i. false) (tree_answer n (λ i. false) (λ k. false)) i) (first_valid P.vars x i less) refl refl (none_high n) refl;
+      tree = settling_low n (tree_over n law some) (λ i. false) (λ k. false) (λ i. refl) (λ k. refl);
+    }
+
+first_reached : TreesSettle → (P : TypedProgram) (script : List OfferValue) → Fitted P script → Meets P P.body → Reached P script 0 (first_of P)
+first_reached law P script fitted meets = record {
   mode = idle;
   place = g_rests;
   root = λ e. cc e;
@@ -162,34 +251,45 @@ first_reached P script fitted meets = record {
   good = record {
     meets = meets;
     fits = tt;
-    talk = λ k h. absurd (cc h);
-    rising = λ k i one h z. absurd (cc z);
-    falling = λ k i one h z. absurd (cc h);
+    talk = λ k n h. absurd (cc (first_low P k, h));
+    rising = λ k i one n h z. absurd (cc z);
+    falling = λ k i one h z. absurd (cc z);
     wide = λ k i one z. absurd (cc z);
     sited = λ k i one z. absurd (cc z);
+    block = first_block law P;
+    no_bit = first_below P.vars;
+    no_wrote = λ x i z. absurd (cc z);
   };
   followed = started P script fitted;
 }
 
-reach : (P : TypedProgram) (script : List OfferValue) → Fitted P.channels script → Meets P.channels P.body → (moves : ℕ) (x : Whole P.body) → Reaches P script moves x → Reached P script moves x
-reach P script fitted meets _ _ at_first = first_reached P script fitted meets
-reach P script fitted meets _ _ (by_move {k = k} {x = x} n run e) = next_reached P script (reach P script fitted meets k x run) fitted n e
+reach : TreesSettle → (P : TypedProgram) (script : List OfferValue) → Fitted P script → Meets P P.body → (moves : ℕ) (x : Whole P.body) → Reaches P script moves x → Reached P script moves x
+reach law P script fitted meets _ _ at_first = first_reached law P script fitted meets
+reach law P script fitted meets _ _ (by_move {k = k} {x = x} n run e) = next_reached P script (reach law P script fitted meets k x run) fitted n e
 
 -- what isn't a node of the circuit doesn't move
-module _ (P : TypedProgram) (script : List OfferValue) (fitted : Fitted P.channels script) {moves : ℕ} {x : Whole P.body} (r : Reached P script moves x) where
-  no_rail : (k i : ℕ) (one : Bool) → nat_lt i (channel_width P.channels k) ≡ false → enabled P script x (rail_node k i one) ≡ false
-  no_rail k i one h = enabled_is P script r (rail_node k i one) ∙ here (x.wires.rail k i one) ((guarded_shown r.place).offer k i one) refl refl
-    where
-      out : i < channel_width P.channels k → ⊥
-      out below = let g : nat_lt i (channel_width P.channels k) ≡ true = grind (arith, nat_tests) in cc (g, h)
+module _ (P : TypedProgram) (script : List OfferValue) (fitted : Fitted P script) {moves : ℕ} {x : Whole P.body} (r : Reached P script moves x) where
+  not_there : (i n : ℕ) → nat_lt i n ≡ false → i < n → ⊥
+  not_there i n h below = let g : nat_lt i n ≡ true = grind (arith, nat_tests) in cc (g, h)
 
+  no_rail : (k : Line) (i : ℕ) (one : Bool) → nat_lt i (line_width P k) ≡ false → enabled P script x (rail_node k i one) ≡ false
+  no_rail k i one h = enabled_is P script r (rail_node k i one) ∙ (ap (λ b. is_merged P k && b) (here (x.wires.rail k i one) ((guarded_shown r.place).offer k i one) refl refl) ∙ never_and (is_merged P k))
+    where
       here : (v o : Bool) → x.wires.rail k i one ≡ v → (guarded_shown r.place).offer k i one ≡ o → turns (x.wires.rail k i one) ((guarded_shown r.place).offer k i one) (not ((guarded_shown r.place).offer k i one)) ≡ false
-      here true o hv ho = absurd (out (r.good.wide k i one hv))
-      here false true hv ho =
-          let y = guarded_site P.channels r.place r.good.meets k (guarded_offers_talks r.place k i one ho) in
-          let below : i < y.width = held_below y.width y.value y.wave i one (sym (y.is i one) ∙ ho) in
-          absurd (out (subst (λ (n : ℕ). i < n) y.meets.agrees below))
+      here true o hv ho = absurd (not_there i (line_width P k) h (r.good.wide k i one hv))
+      here false true hv ho = absurd (not_there i (line_width P k) h (offered_below P script x.histories r.good k i one ho))
       here false false hv ho = ap (λ v. turns v ((guarded_shown r.place).offer k i one) (not ((guarded_shown r.place).offer k i one))) hv ∙ ho
+
+  no_bit : (v i : ℕ) (one : Bool) → nat_lt i (var_width P.vars v) ≡ false → fires (bit_rule (x.wires.rail (of_var v)) (x.wires.bit v) i one) ≡ false
+  no_bit v i one h =
+      ap (λ b. if b then x.wires.rail (of_var v) i (not one) else x.wires.rail (of_var v) i one && not (x.wires.bit v i (not one))) (cases (x.wires.bit v i one) (λ (e : x.wires.bit v i one ≡ true). absurd (not_there i (var_width P.vars v) h (r.good.no_bit v i one e))) (λ (e : x.wires.bit v i one ≡ false). e))
+      ∙ ap (λ b. b && not (x.wires.bit v i (not one))) (low_rail P script r v i one (not_there i (var_width P.vars v) h))
+
+  no_wrote : (v i : ℕ) → nat_lt i (var_width P.vars v) ≡ false → fires (wrote_rule (x.wires.rail (of_var v)) (x.wires.bit v) (x.wires.wrote v) i) ≡ false
+  no_wrote v i h =
+      ap (λ b. if b then not (x.wires.rail (of_var v) i true) && not (x.wires.rail (of_var v) i false) else (x.wires.rail (of_var v) i true && x.wires.bit v i true) || (x.wires.rail (of_var v) i false && x.wires.bit v i false)) (cases (x.wires.wrote v i) (λ (e : x.wires.wrote v i ≡ true). absurd (not_there i (var_width P.vars v) h (r.good.no_wrote v i e))) (λ (e : x.wires.wrote v i ≡ false). e))
+      ∙ (ap (λ b. (b && x.wires.bit v i true) || (x.wires.rail (of_var v) i false && x.wires.bit v i false)) (low_rail P script r v i true (not_there i (var_width P.vars v) h))
+      ∙ ap (λ b. b && x.wires.bit v i false) (low_rail P script r v i false (not_there i (var_width P.vars v) h)))
 
   no_ack : (k : ℕ) → nat_lt k (length P.channels) ≡ false → enabled P script x (ack_node k) ≡ false
   no_ack k h =
@@ -199,14 +299,17 @@ module _ (P : TypedProgram) (script : List OfferValue) (fitted : Fitted P.channe
 
   absent : (n : Node P.body) → is_node P n ≡ false → enabled P script x n ≡ false
   absent go_node h = absurd (cc h)
-  absent (own_node s) h = or_false (fires (guarded_rule P.body x.wires x.go x.root s)) ∙ guarded_absent P.body x.wires x.go x.root s h
+  absent (own_node s) h = or_false (fires (guarded_rule P.body (seen P x.wires) x.go x.root s)) ∙ guarded_absent P.body (seen P x.wires) x.go x.root s h
   absent (rail_node k i one) h = no_rail k i one h
   absent (ack_node k) h = no_ack k h
+  absent (bit_node v i one) h = or_false (fires (rule_in P x (bit_node v i one))) ∙ no_bit v i one h
+  absent (wrote_node v i) h = or_false (fires (rule_in P x (wrote_node v i))) ∙ no_wrote v i h
+  absent (joint_node v k) h = or_false (fires (rule_in P x (joint_node v k))) ∙ joint_absent (var_width P.vars v) (x.wires.wrote v) (x.wires.joint v) k (let g : joint_count (var_width P.vars v) ≤ k = grind (arith, nat_tests) in g)
 
   all_rest : ((n : Node P.body) → is_node P n ≡ true → enabled P script x n ≡ false) → (n : Node P.body) → can P script r.place x.wires x.histories n ≡ false
   all_rest none n = sym (enabled_is P script r n) ∙ cases (is_node P n) (λ (h : is_node P n ≡ true). none n h) (λ (h : is_node P n ≡ false). absent n h)
 
-carried : (P : TypedProgram) (script : List OfferValue) → Fitted P.channels script → {moves : ℕ} (x : Whole P.body) → Reached P script moves x → IsCarried P script moves x
+carried : (P : TypedProgram) (script : List OfferValue) → Fitted P script → {moves : ℕ} (x : Whole P.body) → Reached P script moves x → IsCarried P script moves x
 carried P script fitted x r = record {
   safe = safe P script fitted x r;
   to = r.followed.to;
@@ -223,7 +326,11 @@ carried P script fitted x r = record {
       };
 }
 
-pub circuits_carry : CircuitsCarry
-circuits_carry P typed covered script s moves x run =
+pub circuits_carry : TreesSettle → CircuitsCarry
+circuits_carry law P typed covered script s moves x run =
     let fitted = fits P script typed covered s in
-    carried P script fitted x (reach P script fitted (meets P.channels P.vars P.body typed.body_is covered.body) moves x run)
+    carried P script fitted x (reach law P script fitted (meets law P P.body unshared typed.body_is covered.body) moves x run)
+  where
+    unshared : (a b : Occurrence) → Parallel P.body a b → ¬ Clash a.deed b.deed
+    unshared a b h (inl c) = covered.sharing.sends a b h c
+    unshared a b h (inr c) = covered.sharing.variables a b h c

@@ -1,41 +1,52 @@
 -- What a move of a channel's wire does to the places that read it.
-use Rattle.std.proofs.Common.{◌≡◌, ℕ, ◌≤◌, ◌==◌, Bool, true, false, List, refl, ap, ◌∙◌}
+use Rattle.std.proofs.Common.{◌≡◌, ℕ, ◌≤◌, ◌==◌, Bool, true, false, List, refl, sym, ap, ◌∙◌}
 use Rattle.std.specs.Prelude.{not, ◌&&◌, if◌then◌else◌, is_some}
-use Rattle.chp_base.specs.declared.channel.Channel.{Channel}
 use Rattle.chp_base.specs.declared.span.Span.{Span}
-use Rattle.width_check.specs.Processes.{constant, Process, skipping, sending, in_turn, repeating, Processes, no_members, and_member}
-use Rattle.width_check.specs.Typing.{channel_width}
-use Rattle.circuit_places.specs.Circuit.{Wires, GuardedSpot, Spot, TurnSpot, child, latch, next, inner, of_skip, of_send, gate, in_members, of_loop, ask, in_body, in_last, in_member, in_later}
-use Rattle.circuit_places.specs.Whole.{value_on, neutral_on, ack_turned, rail_turned}
+use Rattle.width_check.specs.Processes.{constant, Process, skipping, assigning, sending, in_turn, side_by_side, repeating, Processes, no_members, and_member, member_count, TypedProgram}
+use Rattle.circuit_places.specs.Lines.{Line, of_channel, of_var, same_line, site_statement, line_width, Rails, Seen}
+use Rattle.circuit_places.specs.Circuit.{SiteSpot, Bits, joint_count, GuardedSpot, Spot, TurnSpot, BranchSpot, child, latch, next, inner, of_skip, done, gate, of_assign, of_send, in_members, of_branch, joint, in_this, in_others, of_loop, ask, in_body, in_last, in_member, in_later}
+use Rattle.circuit_places.specs.Whole.{value_on, neutral_on}
 use Rattle.circuit_places.proofs.Waves.{Wave, all_up, none_up, held, snd_true, both_true, not_true, all_not_none, Read, reads, empties}
-use Rattle.circuit_places.proofs.Places.{Mode, idle, running, answered, returning, asks, acks, is_idle, inner_may, link, wave_may, GuardedAt, At, TurnAt, g_rests, g_in, g_past, g_back, rests, at_skip, at_send, at_turn, at_body, turn_rests, at_last, at_member, at_later, Shown, guarded_shown, shown, turn_shown, send_shown, send_fits, GuardedFits, Fits, TurnFits, guarded_moves, moves, turn_moves, not_running}
-use Rattle.circuit_places.proofs.Meets.{SendMeets, Meets, TurnMeets, sends, turn_sends}
-use Rattle.circuit_places.proofs.Flow.{same_number, or_left, or_right, cases}
+use Rattle.circuit_places.proofs.Places.{Mode, idle, running, answered, returning, asks, acks, is_idle, inner_may, link, wave_may, SideMay, GuardedAt, At, TurnAt, BranchesAt, g_rests, g_in, g_past, g_back, rests, at_skip, at_assign, at_send, at_turn, at_side, at_body, no_more, and_at, turn_rests, at_last, at_member, at_later, Shown, both_shown, guarded_shown, shown, turn_shown, branches_shown, site_shown, site_moves, send_fits, GuardedFits, Fits, TurnFits, BranchesFit, guarded_moves, moves, turn_moves, branch_moves, not_running}
+use Rattle.circuit_places.proofs.Meets.{SiteMeets, site_sends, Meets, TurnMeets, EachMeets, sends, turn_sends}
+use Rattle.circuit_places.proofs.Flow.{or_left, or_right, cases}
+use Rattle.circuit_places.proofs.LineNames.{self_number, same_number, self_line, same_line_is}
 use Rattle.circuit_places.proofs.Begin.{answered_all}
+use Rattle.circuit_places.proofs.Talks.{Beside, beside, or_false_right, or_false_left}
 
-pub record Changed (p : Process) (m : Mode) (env now : Wires) (a : At p m) : Type 0 where
+pub record Changed (p : Process) (m : Mode) (env now : Seen) (a : At p m) : Type 0 where
   pub fits : Fits a now
   pub keeps : (s : Spot p) → moves env a s ≡ true → moves now a s ≡ true
 
-pub record GuardedChanged (p : Process) (m : Mode) (env now : Wires) (g : GuardedAt p m) : Type 0 where
+pub record GuardedChanged (p : Process) (m : Mode) (env now : Seen) (g : GuardedAt p m) : Type 0 where
   pub fits : GuardedFits g now
   pub keeps : (s : GuardedSpot p) → guarded_moves env g s ≡ true → guarded_moves now g s ≡ true
 
-pub record TurnChanged (members : Processes) (m : Mode) (env now : Wires) (t : TurnAt members m) : Type 0 where
+pub record TurnChanged (members : Processes) (m : Mode) (env now : Seen) (t : TurnAt members m) : Type 0 where
   pub fits : TurnFits t now
   pub keeps : (s : TurnSpot members) → turn_moves env t s ≡ true → turn_moves now t s ≡ true
+
+pub record BranchesChanged (members : Processes) (ks : List Mode) (env now : Seen) (b : BranchesAt members ks) : Type 0 where
+  pub fits : BranchesFit b now
+  pub keeps : (s : BranchSpot members) → branch_moves env b s ≡ true → branch_moves now b s ≡ true
 
 -- a condition on what a place shows that goes down to the parts
 pub record Handed (Cond : Process → Shown → Type 0) : Type 0 where
   pub to_first : {p : Process} {more : Processes} {x : Shown} → Cond (in_turn (and_member p more)) x → Cond p x
   pub to_later : {p : Process} {more : Processes} {x : Shown} → Cond (in_turn (and_member p more)) x → Cond (in_turn more) x
+  pub to_this : {p : Process} {more : Processes} {x y : Shown} → Beside p more x y → Cond (side_by_side (and_member p more)) (both_shown x y) → Cond p x
+  pub to_others : {p : Process} {more : Processes} {x y : Shown} → Beside p more x y → Cond (side_by_side (and_member p more)) (both_shown x y) → Cond (side_by_side more) y
   pub to_body : {p : Process} {x : Shown} → Cond (repeating p) x → Cond p x
 
 -- and what the wire's move does to each leaf
-pub record AtLeaves (channels : List Channel) (env now : Wires) (Cond : Process → Shown → Type 0) : Type 0 where
-  pub at_sends : (c : ℕ) (at : Span) (w v : ℕ) (m : Mode) (u : Wave w) (h : wave_may m (all_up w u) ≡ true) → SendMeets channels c w v → Cond (sending c at (constant w v)) (send_shown c w v u) → send_fits m (all_up w u) (none_up w u) (env.ack c) ≡ true → Changed (sending c at (constant w v)) m env now (at_send m u h)
+pub record SiteChanged (k : Line) (w v : ℕ) (m : Mode) (u : Wave w) (env now : Seen) : Type 0 where
+  pub fits : send_fits m (all_up w u) (none_up w u) (now.ack k) ≡ true
+  pub keeps : (s : SiteSpot (constant w v)) → site_moves (env.ack k) w v m u s ≡ true → site_moves (now.ack k) w v m u s ≡ true
 
-module _ (channels : List Channel) (env now : Wires) (Cond : Process → Shown → Type 0) (handed : Handed Cond) (leaves : AtLeaves channels env now Cond) where
+pub record AtLeaves (P : TypedProgram) (env now : Seen) (Cond : Process → Shown → Type 0) : Type 0 where
+  pub at_sites : (k : Line) (at : Span) (w v : ℕ) (m : Mode) (u : Wave w) → wave_may m (all_up w u) ≡ true → SiteMeets P k w v → Cond (site_statement k at (constant w v)) (site_shown k w v u) → send_fits m (all_up w u) (none_up w u) (env.ack k) ≡ true → SiteChanged k w v m u env now
+
+module _ (P : TypedProgram) (env now : Seen) (Cond : Process → Shown → Type 0) (handed : Handed Cond) (leaves : AtLeaves P env now Cond) where
   in_keeps : {p : Process} {m : Mode} (u : Bool) (a : At p m) (h : inner_may u m ≡ true) → Changed p m env now a → (s : GuardedSpot p) → guarded_moves env (g_in u a h) s ≡ true → guarded_moves now (g_in u a h) s ≡ true
   in_keeps u a h r child z = z
   in_keeps u a h r latch z = z
@@ -58,8 +69,28 @@ module _ (channels : List Channel) (env now : Wires) (Cond : Process → Shown �
   skip_keeps : (m : Mode) (h : is_idle m ≡ false) (s : Spot skipping) → moves env (at_skip m h) s ≡ true → moves now (at_skip m h) s ≡ true
   skip_keeps m h of_skip z = z
 
+  assign_changed : (x : ℕ) (at : Span) (w v : ℕ) (m : Mode) (u : Wave w) (h : wave_may m (all_up w u) ≡ true) → SiteChanged (of_var x) w v m u env now → Changed (assigning x at (constant w v)) m env now (at_assign m u h)
+  assign_changed x at w v m u h r = record { fits = r.fits; keeps = here }
+    where
+      here : (s : Spot (assigning x at (constant w v))) → moves env (at_assign {x = x} {at = at} {w = w} {v = v} m u h) s ≡ true → moves now (at_assign {x = x} {at = at} {w = w} {v = v} m u h) s ≡ true
+      here (of_assign s) z = r.keeps s z
+
+  send_changed : (c : ℕ) (at : Span) (w v : ℕ) (m : Mode) (u : Wave w) (h : wave_may m (all_up w u) ≡ true) → SiteChanged (of_channel c) w v m u env now → Changed (sending c at (constant w v)) m env now (at_send m u h)
+  send_changed c at w v m u h r = record { fits = r.fits; keeps = here }
+    where
+      here : (s : Spot (sending c at (constant w v))) → moves env (at_send {c = c} {at = at} {w = w} {v = v} m u h) s ≡ true → moves now (at_send {c = c} {at = at} {w = w} {v = v} m u h) s ≡ true
+      here (of_send s) z = r.keeps s z
+
   members_keep : {members : Processes} {m : Mode} (t : TurnAt members m) → TurnChanged members m env now t → (s : Spot (in_turn members)) → moves env (at_turn t) s ≡ true → moves now (at_turn t) s ≡ true
   members_keep t r (in_members s) z = r.keeps s z
+
+  sides_keep : {members : Processes} {ks : List Mode} (m : Mode) (t : Bits (joint_count (member_count members))) (b : BranchesAt members ks) (h : SideMay (member_count members) m ks t) → BranchesChanged members ks env now b → (s : Spot (side_by_side members)) → moves env (at_side m t b h) s ≡ true → moves now (at_side m t b h) s ≡ true
+  sides_keep m t b h r (of_branch s) z = r.keeps s z
+  sides_keep m t b h r (joint k) z = z
+
+  both_keep : {p : Process} {more : Processes} {k : Mode} {ks : List Mode} (g : GuardedAt p k) (b : BranchesAt more ks) → GuardedChanged p k env now g → BranchesChanged more ks env now b → (s : BranchSpot (and_member p more)) → branch_moves env (and_at g b) s ≡ true → branch_moves now (and_at g b) s ≡ true
+  both_keep g b r q (in_this s) z = r.keeps s z
+  both_keep g b r q (in_others s) z = q.keeps s z
 
   body_keeps : {p : Process} {m : Mode} (a : At p m) → Changed p m env now a → (s : Spot (repeating p)) → moves env (at_body a) s ≡ true → moves now (at_body a) s ≡ true
   body_keeps a r of_loop z = z
@@ -78,44 +109,57 @@ module _ (channels : List Channel) (env now : Wires) (Cond : Process → Shown �
   later_keeps m g t h r (in_later s) z = r.keeps s z
 
   mutual
-    pub guarded_changed : {p : Process} {m : Mode} (g : GuardedAt p m) → Meets channels p → Cond p (guarded_shown g) → GuardedFits g env → GuardedChanged p m env now g
+    pub guarded_changed : {p : Process} {m : Mode} (g : GuardedAt p m) → Meets P p → Cond p (guarded_shown g) → GuardedFits g env → GuardedChanged p m env now g
     guarded_changed g_rests meets i f = record { fits = tt; keeps = λ s z. z }
     guarded_changed (g_in u a h) meets i f = let r = changed a meets i f in record { fits = r.fits; keeps = in_keeps u a h r }
     guarded_changed g_past meets i f = record { fits = tt; keeps = λ s z. z }
     guarded_changed (g_back u) meets i f = record { fits = tt; keeps = still_back u }
 
-    pub changed : {p : Process} {m : Mode} (a : At p m) → Meets channels p → Cond p (shown a) → Fits a env → Changed p m env now a
+    pub changed : {p : Process} {m : Mode} (a : At p m) → Meets P p → Cond p (shown a) → Fits a env → Changed p m env now a
     changed rests meets i f = record { fits = tt; keeps = λ s z. z }
     changed (at_skip m h) meets i f = record { fits = tt; keeps = skip_keeps m h }
-    changed (at_send {c = c} {at = at} {w = w} {v = v} m u h) meets i f = leaves.at_sends c at w v m u h meets i f
+    changed (at_assign {x = x} {at = at} {w = w} {v = v} m u h) meets i f = assign_changed x at w v m u h (leaves.at_sites (of_var x) at w v m u h meets i f)
+    changed (at_send {c = c} {at = at} {w = w} {v = v} m u h) meets i f = send_changed c at w v m u h (leaves.at_sites (of_channel c) at w v m u h meets i f)
     changed (at_turn t) meets i f = let r = turn_changed t meets i f in record { fits = r.fits; keeps = members_keep t r }
+    changed (at_side m t b h) meets i f = let r = branches_changed b meets.2 i f in record { fits = r.fits; keeps = sides_keep m t b h r }
     changed (at_body a) meets i f = let r = changed a meets (handed.to_body i) f in record { fits = r.fits; keeps = body_keeps a r }
 
-    pub turn_changed : {members : Processes} {m : Mode} (t : TurnAt members m) → TurnMeets channels members → Cond (in_turn members) (turn_shown t) → TurnFits t env → TurnChanged members m env now t
+    pub branches_changed : {members : Processes} {ks : List Mode} (b : BranchesAt members ks) → EachMeets P members → Cond (side_by_side members) (branches_shown b) → BranchesFit b env → BranchesChanged members ks env now b
+    branches_changed no_more meets i f = record { fits = tt; keeps = λ s z. z }
+    branches_changed (and_at g b) meets i f =
+        let r = guarded_changed g meets.0 (handed.to_this (beside meets.1 g b) i) f.0 in
+        let q = branches_changed b meets.2 (handed.to_others (beside meets.1 g b) i) f.1 in
+        record { fits = (r.fits, q.fits); keeps = both_keep g b r q }
+
+    pub turn_changed : {members : Processes} {m : Mode} (t : TurnAt members m) → TurnMeets P members → Cond (in_turn members) (turn_shown t) → TurnFits t env → TurnChanged members m env now t
     turn_changed turn_rests meets i f = record { fits = tt; keeps = λ s z. z }
     turn_changed (at_last a) meets i f = let r = changed a meets (handed.to_first i) f in record { fits = r.fits; keeps = last_keeps a r }
     turn_changed (at_member g) meets i f = let r = guarded_changed g meets.0 (handed.to_first i) f in record { fits = r.fits; keeps = member_keeps g r }
     turn_changed (at_later {m = m} g t h) meets i f = let r = turn_changed t meets.1 (handed.to_later i) f in record { fits = r.fits; keeps = later_keeps m g t h r }
 
--- Where a statement sends on the channel, each rail of it that is high is one of the statement's.
-pub record Ready (c : ℕ) (rail : ℕ → Bool → Bool) (p : Process) (x : Shown) : Type 0 where
+-- Where a statement has sites of the line, each rail of it that is high is one of the statement's.
+pub record Ready (c : Line) (rail : Rails) (p : Process) (x : Shown) : Type 0 where
   pub send : sends p c ≡ true → (i : ℕ) (one : Bool) → rail i one ≡ true → x.offer c i one ≡ true
 
-pub ready_down : (c : ℕ) (rail : ℕ → Bool → Bool) → Handed (Ready c rail)
+pub ready_down : (c : Line) (rail : Rails) → Handed (Ready c rail)
 ready_down c rail = record {
   to_first = λ {p} {more} {x} r. record { send = λ e. r.send (or_left (sends p c) (turn_sends more c) e) };
   to_later = λ {p} {more} {x} r. record { send = λ e. r.send (or_right (sends p c) (turn_sends more c) e) };
+  to_this = λ {p} {more} {x} {y} b r. record { send = λ e i one h. sym (or_false_right (x.offer c i one) (y.offer c i one) (b.none_theirs c i one e)) ∙ r.send (or_left (sends p c) (turn_sends more c) e) i one h };
+  to_others = λ {p} {more} {x} {y} b r. record { send = λ e i one h. sym (or_false_left (x.offer c i one) (y.offer c i one) (b.none_mine c i one e)) ∙ r.send (or_right (sends p c) (turn_sends more c) e) i one h };
   to_body = λ {p} {x} r. record { send = r.send };
 }
 
--- Each rail of the channel that a statement holds is high.
-pub record Kept (c : ℕ) (rail : ℕ → Bool → Bool) (p : Process) (x : Shown) : Type 0 where
+-- Each rail of the line that a statement holds is high.
+pub record Kept (c : Line) (rail : Rails) (p : Process) (x : Shown) : Type 0 where
   pub offer : (i : ℕ) (one : Bool) → x.offer c i one ≡ true → rail i one ≡ true
 
-pub kept_down : (c : ℕ) (rail : ℕ → Bool → Bool) → Handed (Kept c rail)
+pub kept_down : (c : Line) (rail : Rails) → Handed (Kept c rail)
 kept_down c rail = record {
   to_first = λ {p} {more} {x} r. record { offer = r.offer };
   to_later = λ {p} {more} {x} r. record { offer = r.offer };
+  to_this = λ {p} {more} {x} {y} b r. record { offer = λ i one h. r.offer i one (or_left (x.offer c i one) (y.offer c i one) h) };
+  to_others = λ {p} {more} {x} {y} b r. record { offer = λ i one h. r.offer i one (or_right (x.offer c i one) (y.offer c i one) h) };
   to_body = λ {p} {x} r. record { offer = r.offer };
 }
 
@@ -123,41 +167,39 @@ abbrev pub Any : Process → Shown → Type 0
 Any p x = Unit {0}
 
 pub any_down : Handed Any
-any_down = record { to_first = λ {p} {more} {x} r. tt; to_later = λ {p} {more} {x} r. tt; to_body = λ {p} {x} r. tt }
+any_down = record { to_first = λ {p} {more} {x} r. tt; to_later = λ {p} {more} {x} r. tt; to_this = λ {p} {more} {x} {y} b r. tt; to_others = λ {p} {more} {x} {y} b r. tt; to_body = λ {p} {x} r. tt }
 
-pub ack_here : (ack : ℕ → Bool) (c k : ℕ) → (k == c) ≡ true → (if k == c then not (ack c) else ack k) ≡ not (ack c)
-ack_here ack c k e = ap (λ b. if b then not (ack c) else ack k) e
+-- one acknowledge turns over
+pub record AckTurned (env now : Seen) (c : Line) : Type 0 where
+  pub here : now.ack c ≡ not (env.ack c)
+  pub far : (k : Line) → same_line k c ≡ false → now.ack k ≡ env.ack k
 
-pub ack_far : (ack : ℕ → Bool) (c k : ℕ) → (k == c) ≡ false → (if k == c then not (ack c) else ack k) ≡ ack k
-ack_far ack c k e = ap (λ b. if b then not (ack c) else ack k) e
+pub near : (env now : Seen) (c d : Line) → AckTurned env now c → same_line d c ≡ true → now.ack d ≡ not (env.ack c)
+near env now c d t e = ap now.ack (same_line_is d c e) ∙ t.here
 
--- a send whose acknowledge stays
-pub still_send : (env now : Wires) (d : ℕ) (at : Span) (w v : ℕ) (m : Mode) (u : Wave w) (h : wave_may m (all_up w u) ≡ true) → now.ack d ≡ env.ack d → send_fits m (all_up w u) (none_up w u) (env.ack d) ≡ true → Changed (sending d at (constant w v)) m env now (at_send m u h)
-still_send env now d at w v m u h e f = record { fits = ap (send_fits m (all_up w u) (none_up w u)) e ∙ f; keeps = keeps }
-  where
-    keeps : (s : Spot (sending d at (constant w v))) → moves env (at_send {c = d} {at = at} {w = w} {v = v} m u h) s ≡ true → moves now (at_send {c = d} {at = at} {w = w} {v = v} m u h) s ≡ true
-    keeps of_send z = ap (λ x. if acks m then not x else asks m && x) e ∙ z
-    keeps (gate i one) z = z
+-- a site whose acknowledge stays
+pub still_site : (env now : Seen) (k : Line) (w v : ℕ) (m : Mode) (u : Wave w) → now.ack k ≡ env.ack k → send_fits m (all_up w u) (none_up w u) (env.ack k) ≡ true → SiteChanged k w v m u env now
+still_site env now k w v m u e f = record { fits = ap (send_fits m (all_up w u) (none_up w u)) e ∙ f; keeps = λ s z. ap (λ a. site_moves a w v m u s) e ∙ z }
 
--- a rail moves: no send reads it
-pub rail_leaves : (channels : List Channel) (env : Wires) (k i : ℕ) (one : Bool) → AtLeaves channels env (rail_turned env k i one) Any
-rail_leaves channels env k i one = record { at_sends = λ c at w v m u h meets r f. still_send env (rail_turned env k i one) c at w v m u h refl f }
+-- what no statement sees
+pub still_leaves : (P : TypedProgram) (env now : Seen) → ((k : Line) → now.ack k ≡ env.ack k) → AtLeaves P env now Any
+still_leaves P env now e = record { at_sites = λ k at w v m u h meets r f. still_site env now k w v m u (e k) f }
 
--- What a send's rails say where the channel's do.
-pub ready_full : (channels : List Channel) (env : Wires) (c : ℕ) → is_some (value_on (channel_width channels c) (env.rail c)) ≡ true → (d : ℕ) (at : Span) (w v : ℕ) (u : Wave w) → SendMeets channels d w v → (d == c) ≡ true → Ready c (env.rail c) (sending d at (constant w v)) (send_shown d w v u) → Read w v u (env.rail c)
-ready_full channels env c some d at w v u meets e r =
-    let width : w ≡ channel_width channels c = meets.agrees ∙ ap (channel_width channels) (same_number d c e) in
+-- What a site's rails say where the line's do.
+pub ready_full : (P : TypedProgram) (env : Seen) (c : Line) → is_some (value_on (line_width P c) (env.rail c)) ≡ true → (d : Line) (at : Span) (w v : ℕ) (u : Wave w) → SiteMeets P d w v → same_line d c ≡ true → Ready c (env.rail c) (site_statement d at (constant w v)) (site_shown d w v u) → Read w v u (env.rail c)
+ready_full P env c some d at w v u meets e r =
+    let width : w ≡ line_width P c = meets.agrees ∙ ap (line_width P) (same_line_is d c e) in
     reads w v u (env.rail c) meets.fits
-    (λ i one h. snd_true (d == c) (held w v u i one) (r.send e i one h))
+    (λ i one h. snd_true (same_line d c) (held w v u i one) (r.send (site_sends d at (constant w v) c ∙ e) i one h))
     (ap (λ n. is_some (value_on n (env.rail c))) width ∙ some)
 
-pub kept_none : (channels : List Channel) (env : Wires) (c : ℕ) → neutral_on (channel_width channels c) (env.rail c) ≡ true → (d : ℕ) (at : Span) (w v : ℕ) (u : Wave w) → SendMeets channels d w v → (d == c) ≡ true → Kept c (env.rail c) (sending d at (constant w v)) (send_shown d w v u) → none_up w u ≡ true
-kept_none channels env c low d at w v u meets e r =
-    let width : w ≡ channel_width channels c = meets.agrees ∙ ap (channel_width channels) (same_number d c e) in
+pub kept_none : (P : TypedProgram) (env : Seen) (c : Line) → neutral_on (line_width P c) (env.rail c) ≡ true → (d : Line) (at : Span) (w v : ℕ) (u : Wave w) → SiteMeets P d w v → same_line d c ≡ true → Kept c (env.rail c) (site_statement d at (constant w v)) (site_shown d w v u) → none_up w u ≡ true
+kept_none P env c low d at w v u meets e r =
+    let width : w ≡ line_width P c = meets.agrees ∙ ap (line_width P) (same_line_is d c e) in
     empties w v u (env.rail c) (ap (λ n. neutral_on n (env.rail c)) width ∙ low)
-    (λ i one h. r.offer i one (both_true (d == c) (held w v u i one) e h))
+    (λ i one h. r.offer i one (both_true (same_line d c) (held w v u i one) e h))
 
--- so the send runs, or it returns
+-- so the site runs, or it returns
 pub full_runs : (m : Mode) (f n a : Bool) → wave_may m f ≡ true → send_fits m f n a ≡ true → n ≡ false → a ≡ false → m ≡ running
 full_runs idle f n a h k e g = absurd (cc h)
 full_runs running f n a h k e g = refl
@@ -174,26 +216,26 @@ none_returns answered f n a h k e g = absurd (cc (answered_all f h, e))
 none_returns returning f n a h k e g = refl
 
 -- an acknowledge rises
-pub raise_leaves : (channels : List Channel) (env : Wires) (c : ℕ) → env.ack c ≡ false → is_some (value_on (channel_width channels c) (env.rail c)) ≡ true → AtLeaves channels env (ack_turned env c) (Ready c (env.rail c))
-raise_leaves channels env c low some = record { at_sends = the_send }
+pub raise_leaves : (P : TypedProgram) (env now : Seen) (c : Line) → AckTurned env now c → env.ack c ≡ false → is_some (value_on (line_width P c) (env.rail c)) ≡ true → AtLeaves P env now (Ready c (env.rail c))
+raise_leaves P env now c t low some = record { at_sites = the_site }
   where
-    near : (d : ℕ) (at : Span) (w v : ℕ) (m : Mode) (u : Wave w) (h : wave_may m (all_up w u) ≡ true) → m ≡ running → all_up w u ≡ true → env.ack d ≡ false → Changed (sending d at (constant w v)) m env (ack_turned env c) (at_send m u h)
-    near d at w v running u h e full l = record { fits = ap (λ b. send_fits running b (none_up w u) ((ack_turned env c).ack d)) full; keeps = keeps }
+    at_it : (d : Line) (w v : ℕ) (m : Mode) (u : Wave w) → m ≡ running → all_up w u ≡ true → env.ack d ≡ false → SiteChanged d w v m u env now
+    at_it d w v running u e full l = record { fits = ap (λ b. send_fits running b (none_up w u) (now.ack d)) full; keeps = keeps }
       where
-        keeps : (s : Spot (sending d at (constant w v))) → moves env (at_send {c = d} {at = at} {w = w} {v = v} running u h) s ≡ true → moves (ack_turned env c) (at_send {c = d} {at = at} {w = w} {v = v} running u h) s ≡ true
-        keeps of_send z = absurd (cc (l, z))
+        keeps : (s : SiteSpot (constant w v)) → site_moves (env.ack d) w v running u s ≡ true → site_moves (now.ack d) w v running u s ≡ true
+        keeps done z = absurd (cc (l, z))
         keeps (gate i one) z = z
-    near d at w v idle u h e full l = absurd (cc e)
-    near d at w v answered u h e full l = absurd (cc e)
-    near d at w v returning u h e full l = absurd (cc e)
+    at_it d w v idle u e full l = absurd (cc e)
+    at_it d w v answered u e full l = absurd (cc e)
+    at_it d w v returning u e full l = absurd (cc e)
 
-    the_send : (d : ℕ) (at : Span) (w v : ℕ) (m : Mode) (u : Wave w) (h : wave_may m (all_up w u) ≡ true) → SendMeets channels d w v → Ready c (env.rail c) (sending d at (constant w v)) (send_shown d w v u) → send_fits m (all_up w u) (none_up w u) (env.ack d) ≡ true → Changed (sending d at (constant w v)) m env (ack_turned env c) (at_send m u h)
-    the_send d at w v m u h meets r f = cases (d == c)
-        (λ (e : (d == c) ≡ true).
-        let full = (ready_full channels env c some d at w v u meets e r).full in
-        let l : env.ack d ≡ false = ap env.ack (same_number d c e) ∙ low in
-        near d at w v m u h (full_runs m (all_up w u) (none_up w u) (env.ack d) h f (all_not_none w u meets.some full) l) full l)
-        (λ (e : (d == c) ≡ false). still_send env (ack_turned env c) d at w v m u h (ack_far env.ack c d e) f)
+    the_site : (d : Line) (at : Span) (w v : ℕ) (m : Mode) (u : Wave w) → wave_may m (all_up w u) ≡ true → SiteMeets P d w v → Ready c (env.rail c) (site_statement d at (constant w v)) (site_shown d w v u) → send_fits m (all_up w u) (none_up w u) (env.ack d) ≡ true → SiteChanged d w v m u env now
+    the_site d at w v m u h meets r f = cases (same_line d c)
+        (λ (e : same_line d c ≡ true).
+        let full = (ready_full P env c some d at w v u meets e r).full in
+        let l : env.ack d ≡ false = ap env.ack (same_line_is d c e) ∙ low in
+        at_it d w v m u (full_runs m (all_up w u) (none_up w u) (env.ack d) h f (all_not_none w u meets.some full) l) full l)
+        (λ (e : same_line d c ≡ false). still_site env now d w v m u (t.far d e) f)
 
 none_not_all : (w : ℕ) (u : Wave w) → 1 ≤ w → none_up w u ≡ true → all_up w u ≡ false
 none_not_all w u some none = cases (all_up w u) (λ (e : all_up w u ≡ true). absurd (cc (all_not_none w u some e, none))) (λ (e : all_up w u ≡ false). e)
@@ -202,23 +244,23 @@ pub none_mode : (w : ℕ) (u : Wave w) (m : Mode) (a : Bool) → 1 ≤ w → wav
 none_mode w u m a some h f none high = none_returns m (all_up w u) (none_up w u) a h f (none_not_all w u some none) high
 
 -- an acknowledge falls
-pub lower_leaves : (channels : List Channel) (env : Wires) (c : ℕ) → env.ack c ≡ true → neutral_on (channel_width channels c) (env.rail c) ≡ true → AtLeaves channels env (ack_turned env c) (Kept c (env.rail c))
-lower_leaves channels env c high lows = record { at_sends = the_send }
+pub lower_leaves : (P : TypedProgram) (env now : Seen) (c : Line) → AckTurned env now c → env.ack c ≡ true → neutral_on (line_width P c) (env.rail c) ≡ true → AtLeaves P env now (Kept c (env.rail c))
+lower_leaves P env now c t high lows = record { at_sites = the_site }
   where
-    near : (d : ℕ) (at : Span) (w v : ℕ) (m : Mode) (u : Wave w) (h : wave_may m (all_up w u) ≡ true) → m ≡ returning → none_up w u ≡ true → env.ack d ≡ true → Changed (sending d at (constant w v)) m env (ack_turned env c) (at_send m u h)
-    near d at w v returning u h e none l = record { fits = ap (λ b. send_fits returning (all_up w u) b ((ack_turned env c).ack d)) none; keeps = keeps }
+    at_it : (d : Line) (w v : ℕ) (m : Mode) (u : Wave w) → m ≡ returning → none_up w u ≡ true → env.ack d ≡ true → SiteChanged d w v m u env now
+    at_it d w v returning u e none l = record { fits = ap (λ b. send_fits returning (all_up w u) b (now.ack d)) none; keeps = keeps }
       where
-        keeps : (s : Spot (sending d at (constant w v))) → moves env (at_send {c = d} {at = at} {w = w} {v = v} returning u h) s ≡ true → moves (ack_turned env c) (at_send {c = d} {at = at} {w = w} {v = v} returning u h) s ≡ true
-        keeps of_send z = absurd (cc (l, z))
+        keeps : (s : SiteSpot (constant w v)) → site_moves (env.ack d) w v returning u s ≡ true → site_moves (now.ack d) w v returning u s ≡ true
+        keeps done z = absurd (cc (l, z))
         keeps (gate i one) z = z
-    near d at w v idle u h e none l = absurd (cc e)
-    near d at w v running u h e none l = absurd (cc e)
-    near d at w v answered u h e none l = absurd (cc e)
+    at_it d w v idle u e none l = absurd (cc e)
+    at_it d w v answered u e none l = absurd (cc e)
+    at_it d w v running u e none l = absurd (cc e)
 
-    the_send : (d : ℕ) (at : Span) (w v : ℕ) (m : Mode) (u : Wave w) (h : wave_may m (all_up w u) ≡ true) → SendMeets channels d w v → Kept c (env.rail c) (sending d at (constant w v)) (send_shown d w v u) → send_fits m (all_up w u) (none_up w u) (env.ack d) ≡ true → Changed (sending d at (constant w v)) m env (ack_turned env c) (at_send m u h)
-    the_send d at w v m u h meets r f = cases (d == c)
-        (λ (e : (d == c) ≡ true).
-        let none = kept_none channels env c lows d at w v u meets e r in
-        let l : env.ack d ≡ true = ap env.ack (same_number d c e) ∙ high in
-        near d at w v m u h (none_mode w u m (env.ack d) meets.some h f none l) none l)
-        (λ (e : (d == c) ≡ false). still_send env (ack_turned env c) d at w v m u h (ack_far env.ack c d e) f)
+    the_site : (d : Line) (at : Span) (w v : ℕ) (m : Mode) (u : Wave w) → wave_may m (all_up w u) ≡ true → SiteMeets P d w v → Kept c (env.rail c) (site_statement d at (constant w v)) (site_shown d w v u) → send_fits m (all_up w u) (none_up w u) (env.ack d) ≡ true → SiteChanged d w v m u env now
+    the_site d at w v m u h meets r f = cases (same_line d c)
+        (λ (e : same_line d c ≡ true).
+        let none = kept_none P env c lows d at w v u meets e r in
+        let l : env.ack d ≡ true = ap env.ack (same_line_is d c e) ∙ high in
+        at_it d w v m u (none_mode w u m (env.ack d) meets.some h f none l) none l)
+        (λ (e : same_line d c ≡ false). still_site env now d w v m u (t.far d e) f)

@@ -1,16 +1,18 @@
 -- Own moves of Q-elements, sequences and loops; and of every statement.
-use Rattle.std.proofs.Common.{◌≡◌, ◌≢◌, Bool, true, false, List, refl, sym, ap, ◌∙◌, subst, inl}
+use Rattle.std.proofs.Common.{◌≡◌, ◌≢◌, ℕ, Bool, true, false, List, refl, sym, ap, ◌∙◌, subst, inl}
 use Rattle.std.specs.Prelude.{not, ◌&&◌, if◌then◌else◌}
-use Rattle.chp_base.specs.declared.channel.Channel.{Channel}
-use Rattle.width_check.specs.Processes.{Process, in_turn, repeating, Processes, no_members, and_member}
+use Rattle.width_check.specs.Processes.{Process, in_turn, repeating, side_by_side, Processes, no_members, and_member, TypedProgram}
 use Rattle.chp_meaning.specs.Terms.{Term, finished, opened, followed}
-use Rattle.circuit_places.specs.Circuit.{low_guarded, low, low_turn, Wires, GuardedSpot, Spot, TurnSpot, child, latch, next, inner, in_members, of_loop, ask, in_body, in_last, in_member, in_later, turned_guarded, turned_turn}
-use Rattle.circuit_places.proofs.Places.{Mode, idle, running, answered, returning, asks, acks, inner_may, link, GuardedAt, At, TurnAt, g_rests, g_in, g_past, g_back, rests, at_skip, at_send, at_turn, at_body, turn_rests, at_last, at_member, at_later, guarded_of, ring_of, turn_of, guarded_cells, cells, turn_cells, Shown, none_shown, guarded_shown, shown, turn_shown, GuardedFits, Fits, TurnFits, guarded_moves, moves, turn_moves}
-use Rattle.circuit_places.proofs.Meets.{Meets, TurnMeets, sends, turn_sends}
-use Rattle.circuit_places.proofs.Left.{inner_left, again, guarded_left, left, turn_left, Follows, followed_follows, loop_follows, left_done, turn_left_done, guarded_left_past}
-use Rattle.circuit_places.proofs.Flow.{goes, goes_asks, Flow, flow_same, flow_by, Backed, Quiet, low_of, quiet_of, After, GuardedAfter, TurnAfter, or_left, or_right}
+use Rattle.circuit_places.specs.Lines.{Line, of_channel, of_var, same_line, site_statement, line_width, Rails, Seen}
+use Rattle.circuit_places.specs.Circuit.{low_guarded, low, low_turn, GuardedSpot, Spot, TurnSpot, BranchSpot, child, latch, next, inner, of_assign, of_send, in_members, of_branch, joint, in_this, in_others, of_loop, ask, in_body, in_last, in_member, in_later, turned_guarded, turned_turn}
+use Rattle.circuit_places.proofs.Places.{Mode, idle, running, answered, returning, asks, acks, inner_may, link, GuardedAt, At, TurnAt, BranchesAt, g_rests, g_in, g_past, g_back, rests, at_skip, at_assign, at_send, at_turn, at_side, at_body, no_more, and_at, turn_rests, at_last, at_member, at_later, guarded_of, ring_of, turn_of, guarded_cells, cells, turn_cells, Shown, none_shown, guarded_shown, shown, turn_shown, branches_shown, GuardedFits, Fits, TurnFits, BranchesFit, writing, guarded_writing, turn_writing, guarded_moves, moves, turn_moves, branch_moves}
+use Rattle.circuit_places.proofs.Meets.{Meets, TurnMeets, EachMeets, sends, turn_sends}
+use Rattle.circuit_places.proofs.Left.{inner_left, again, guarded_left, left, turn_left, Follows, followed_follows, loop_follows, left_done, turn_left_done, guarded_left_past, writing_done, turn_writing_done, guarded_writing_done}
+use Rattle.circuit_places.proofs.Flow.{goes, goes_asks, Flow, flow_same, flow_by, Backed, Quiet, low_of, quiet_of, After, GuardedAfter, TurnAfter, BranchAfter, or_left, or_right}
 use Rattle.circuit_places.proofs.Begin.{idle_is, turn_idle_is, guarded_idle_is, idle_moves, turn_idle_moves, guarded_idle_moves, guarded_past_is, answered_moves, turn_answered_moves, begun, turn_begun, lowered, turn_lowered, flow_begun, flow_then}
-use Rattle.circuit_places.proofs.Leaves.{skip_after, send_after}
+use Rattle.circuit_places.proofs.Leaves.{skip_after, send_after, assign_after}
+use Rattle.circuit_places.proofs.Talks.{beside, or_false_left, or_false_right}
+use Rattle.circuit_places.proofs.Sides.{this_after, others_after, side_after, joint_after}
 
 inner_goes : (u : Bool) (m n : Mode) → inner_may u m ≡ true → goes m n ≡ true → inner_may u n ≡ true
 inner_goes false running running h g = refl
@@ -41,7 +43,7 @@ inner_follows true returning idle s x y h g over r = inl refl
 inner_follows _ _ _ s x y h g over r = absurd (cc (h, g))
 
 -- a move inside a Q-element
-module _ {p : Process} {m : Mode} (env : Wires) (u : Bool) (a : At p m) (h : inner_may u m ≡ true) (s : Spot p) (r : After p m env a s) where
+module _ {p : Process} {m : Mode} (env : Seen) (u : Bool) (a : At p m) (h : inner_may u m ≡ true) (s : Spot p) (r : After p m env a s) where
   inner_keeps : (q : GuardedSpot p) → q ≢ inner s → guarded_moves env (g_in u a h) q ≡ true → guarded_moves env (g_in u r.to (inner_goes u m r.mode h r.way)) q ≡ true
   inner_keeps child ne e = ap (λ b. if b then u else not u) (goes_asks m r.mode r.way) ∙ e
   inner_keeps latch ne e = absurd (no_latch u m r.mode h r.way e)
@@ -56,15 +58,16 @@ module _ {p : Process} {m : Mode} (env : Wires) (u : Bool) (a : At p m) (h : inn
     way = refl;
     fits = r.fits;
     flow = r.flow;
+    frees = r.frees;
     term = inner_follows u m r.mode (opened p) (left env.ack a) (left env.ack r.to) h r.way (λ (e : r.mode ≡ running → ⊥). left_done env.ack r.to e) r.term;
     keeps = inner_keeps;
   }
 
 -- a Q-element's own moves
-module _ (channels : List Channel) {p : Process} (env : Wires) (meets : Meets channels p) where
+module _ (P : TypedProgram) {p : Process} (env : Seen) (meets : Meets P p) where
   child_up : (a : At p idle) (h : inner_may false idle ≡ true) → Backed p (shown a) env → GuardedAfter p running env (g_in false a h) child
   child_up a h back =
-      let b = begun channels p env meets (quiet_of env (shown a) (idle_is a).1 back) in
+      let b = begun P p env meets (quiet_of env (shown a) (idle_is a).1 back) in
       record {
         mode = running;
         to = g_in false b.place refl;
@@ -72,6 +75,7 @@ module _ (channels : List Channel) {p : Process} (env : Wires) (meets : Meets ch
         way = refl;
         fits = b.fits;
         flow = flow_begun env (shown a) (shown b.place) (idle_is a).1 b.offer b.take;
+        frees = λ x i. writing_done env.ack a (λ e. cc e) x;
         term = inl b.term;
         keeps = keeps b.place;
       }
@@ -92,6 +96,7 @@ module _ (channels : List Channel) {p : Process} (env : Wires) (meets : Meets ch
         way = refl;
         fits = b.fits;
         flow = flow_by env (shown a) (shown a) (shown b.place) (sym b.shows) (flow_same env (shown a));
+        frees = λ x i. writing_done env.ack a (λ e. cc e) x;
         term = inl refl;
         keeps = keeps b.place;
       }
@@ -103,7 +108,7 @@ module _ (channels : List Channel) {p : Process} (env : Wires) (meets : Meets ch
       keeps b (inner q) ne z = absurd (cc (answered_moves env a f q, z))
 
   latch_up : (a : At p answered) (h : inner_may false answered ≡ true) → Fits a env → GuardedAfter p running env (g_in false a h) latch
-  latch_up a h f = record { mode = running; to = g_in true a refl; same = refl; way = refl; fits = f; flow = flow_same env (shown a); term = inl refl; keeps = keeps }
+  latch_up a h f = record { mode = running; to = g_in true a refl; same = refl; way = refl; fits = f; flow = flow_same env (shown a); term = inl refl; frees = λ x i. i; keeps = keeps }
     where
       keeps : (q : GuardedSpot p) → q ≢ latch → guarded_moves env (g_in false a h) q ≡ true → guarded_moves env (g_in true a refl) q ≡ true
       keeps child ne z = absurd (cc z)
@@ -119,6 +124,7 @@ module _ (channels : List Channel) {p : Process} (env : Wires) (meets : Meets ch
     way = refl;
     fits = tt;
     flow = flow_by env (shown a) (shown a) none_shown (idle_is a).1 (flow_same env (shown a));
+    frees = λ x i. writing_done env.ack a (λ e. cc e) x;
     term = inl refl;
     keeps = keeps;
   }
@@ -130,7 +136,7 @@ module _ (channels : List Channel) {p : Process} (env : Wires) (meets : Meets ch
       keeps (inner q) ne z = absurd (cc (idle_moves env a q, z))
 
   latch_down : GuardedAfter p returning env (g_back true) latch
-  latch_down = record { mode = returning; to = g_back false; same = refl; way = refl; fits = tt; flow = flow_same env none_shown; term = inl refl; keeps = keeps }
+  latch_down = record { mode = returning; to = g_back false; same = refl; way = refl; fits = tt; flow = flow_same env none_shown; term = inl refl; frees = λ x i. refl; keeps = keeps }
     where
       keeps : (q : GuardedSpot p) → q ≢ latch → guarded_moves env (g_back {p = p} true) q ≡ true → guarded_moves env (g_back {p = p} false) q ≡ true
       keeps child ne z = absurd (cc z)
@@ -139,7 +145,7 @@ module _ (channels : List Channel) {p : Process} (env : Wires) (meets : Meets ch
       keeps (inner q) ne z = absurd (cc z)
 
   next_down : GuardedAfter p returning env (g_back false) next
-  next_down = record { mode = idle; to = g_rests; same = refl; way = refl; fits = tt; flow = flow_same env none_shown; term = inl refl; keeps = keeps }
+  next_down = record { mode = idle; to = g_rests; same = refl; way = refl; fits = tt; flow = flow_same env none_shown; term = inl refl; frees = λ x i. refl; keeps = keeps }
     where
       keeps : (q : GuardedSpot p) → q ≢ next → guarded_moves env (g_back {p = p} false) q ≡ true → guarded_moves env (g_rests {p = p}) q ≡ true
       keeps child ne z = absurd (cc z)
@@ -160,9 +166,9 @@ module _ (channels : List Channel) {p : Process} (env : Wires) (meets : Meets ch
   guarded_own _ s out f back e = absurd (cc e)
 
 -- a move in a member, seen from the sequence from it on
-module _ (channels : List Channel) {p q : Process} {more : Processes} (env : Wires) where
-  member_after : TurnMeets channels (and_member q more) → (g : GuardedAt p running) (s : GuardedSpot p) → Backed (in_turn (and_member p (and_member q more))) (guarded_shown g) env → GuardedAfter p running env g s → TurnAfter (and_member p (and_member q more)) running env (at_member {q = q} {more = more} g) (in_member s)
-  member_after meets g s back r = by_mode r.mode r.to r.same r.way r.fits r.flow r.term r.keeps
+module _ (P : TypedProgram) {p q : Process} {more : Processes} (env : Seen) where
+  member_after : TurnMeets P (and_member q more) → (g : GuardedAt p running) (s : GuardedSpot p) → Backed (in_turn (and_member p (and_member q more))) (guarded_shown g) env → GuardedAfter p running env g s → TurnAfter (and_member p (and_member q more)) running env (at_member {q = q} {more = more} g) (in_member s)
+  member_after meets g s back r = by_mode r.mode r.to r.same r.way r.fits r.flow r.term r.frees r.keeps
     where
       stays : (to : GuardedAt p running) → ((x : GuardedSpot p) → x ≢ s → guarded_moves env g x ≡ true → guarded_moves env to x ≡ true) → (x : TurnSpot (and_member p (and_member q more))) → x ≢ in_member s → turn_moves env (at_member {q = q} {more = more} g) x ≡ true → turn_moves env (at_member {q = q} {more = more} to) x ≡ true
       stays to keeps (in_member x) ne z = keeps x (λ (e : x ≡ s). ne (ap (λ y. in_member y) e)) z
@@ -173,24 +179,26 @@ module _ (channels : List Channel) {p q : Process} {more : Processes} (env : Wir
       hands_on to b keeps (in_later x) ne z = absurd (cc z)
 
       by_mode : (m : Mode) (to : GuardedAt p m) → guarded_cells to ≡ turned_guarded p (guarded_cells g) s → goes running m ≡ true → GuardedFits to env → Flow env (guarded_shown g) (guarded_shown to) → Follows (guarded_left env.ack g) (guarded_left env.ack to)
+          → ((x : ℕ) → guarded_writing env.ack to x ≡ false → guarded_writing env.ack g x ≡ false)
           → ((x : GuardedSpot p) → x ≢ s → guarded_moves env g x ≡ true → guarded_moves env to x ≡ true)
           → TurnAfter (and_member p (and_member q more)) running env (at_member {q = q} {more = more} g) (in_member s)
-      by_mode running to same way fits flow term keeps = record {
+      by_mode running to same way fits flow term frees keeps = record {
         mode = running;
         to = at_member to;
         same = ap (λ x. turn_of p q more x (low_turn (and_member q more))) same;
         way = refl;
         fits = fits;
         flow = flow;
+        frees = frees;
         term = followed_follows (and_member q more) (guarded_left env.ack g) (guarded_left env.ack to) term;
         keeps = stays to keeps;
       }
-      by_mode answered to same way fits flow term keeps =
+      by_mode answered to same way fits flow term frees keeps =
           let gone = (guarded_past_is to).1 in
           let quiet : Quiet (in_turn (and_member q more)) env = record {
             send = λ k h. low_of (env.ack k) (λ (e : env.ack k ≡ true). flow.talk k e (back.send k (or_right (sends p k) (turn_sends (and_member q more) k) h) e)) (ap (λ (z : Shown). z.talk k) gone);
           } in
-          let b = turn_begun channels (and_member q more) env meets quiet in
+          let b = turn_begun P (and_member q more) env meets quiet in
           record {
             mode = running;
             to = at_later to b.place refl;
@@ -198,13 +206,14 @@ module _ (channels : List Channel) {p q : Process} {more : Processes} (env : Wir
             way = refl;
             fits = b.fits;
             flow = flow_then env (guarded_shown g) (guarded_shown to) (turn_shown b.place) gone b.offer b.take flow;
+            frees = λ x i. frees x (guarded_writing_done env.ack to (λ e. cc e) x);
             term = subst (λ (z : Term). Follows (followed (guarded_left env.ack g) (and_member q more)) z) (sym b.term)
                 (subst (λ (z : Term). Follows (followed (guarded_left env.ack g) (and_member q more)) (followed z (and_member q more))) (guarded_left_past env.ack to)
                 (followed_follows (and_member q more) (guarded_left env.ack g) (guarded_left env.ack to) term));
             keeps = hands_on to b.place keeps;
           }
-      by_mode idle to same way fits flow term keeps = absurd (cc way)
-      by_mode returning to same way fits flow term keeps = absurd (cc way)
+      by_mode idle to same way fits flow term frees keeps = absurd (cc way)
+      by_mode returning to same way fits flow term frees keeps = absurd (cc way)
 
 -- how what stands behind a member may go on
 data Linked : Mode → Mode → Mode → Mode → Type 0 where
@@ -227,17 +236,19 @@ linked returning returning answered d h g = absurd (cc g)
 linked _ _ _ _ h g = absurd (cc h)
 
 -- a move behind a member
-later_after : {p q : Process} {more : Processes} {k n m : Mode} (env : Wires) (g : GuardedAt p k) (t : TurnAt (and_member q more) n) (h : link m k n ≡ true) (s : TurnSpot (and_member q more))
+later_after : {p q : Process} {more : Processes} {k n m : Mode} (env : Seen) (g : GuardedAt p k) (t : TurnAt (and_member q more) n) (h : link m k n ≡ true) (s : TurnSpot (and_member q more))
     → (d : Mode) (to : TurnAt (and_member q more) d) → turn_cells to ≡ turned_turn (and_member q more) (turn_cells t) s → Linked m k n d → TurnFits to env → Flow env (turn_shown t) (turn_shown to) → Follows (turn_left env.ack t) (turn_left env.ack to)
+    → ((x : ℕ) → turn_writing env.ack to x ≡ false → turn_writing env.ack t x ≡ false)
     → ((x : TurnSpot (and_member q more)) → x ≢ s → turn_moves env t x ≡ true → turn_moves env to x ≡ true)
     → TurnAfter (and_member p (and_member q more)) m env (at_later g t h) (in_later s)
-later_after {p = p} {q = q} {more = more} env g t h s running to same runs fits flow term keeps = record {
+later_after {p = p} {q = q} {more = more} env g t h s running to same runs fits flow term frees keeps = record {
   mode = running;
   to = at_later g to refl;
   same = ap (λ x. turn_of p q more (guarded_cells g) x) same;
   way = refl;
   fits = fits;
   flow = flow;
+  frees = frees;
   term = term;
   keeps = here;
 }
@@ -245,13 +256,14 @@ later_after {p = p} {q = q} {more = more} env g t h s running to same runs fits 
     here : (x : TurnSpot (and_member p (and_member q more))) → x ≢ in_later s → turn_moves env (at_later {m = running} g t h) x ≡ true → turn_moves env (at_later {m = running} g to refl) x ≡ true
     here (in_member x) ne z = z
     here (in_later x) ne z = keeps x (λ (e : x ≡ s). ne (ap (λ y. in_later y) e)) z
-later_after {p = p} {q = q} {more = more} env g t h s answered to same ends fits flow term keeps = record {
+later_after {p = p} {q = q} {more = more} env g t h s answered to same ends fits flow term frees keeps = record {
   mode = answered;
   to = at_later g to refl;
   same = ap (λ x. turn_of p q more (guarded_cells g) x) same;
   way = refl;
   fits = fits;
   flow = flow;
+  frees = frees;
   term = term;
   keeps = here;
 }
@@ -259,13 +271,14 @@ later_after {p = p} {q = q} {more = more} env g t h s answered to same ends fits
     here : (x : TurnSpot (and_member p (and_member q more))) → x ≢ in_later s → turn_moves env (at_later {m = running} g t h) x ≡ true → turn_moves env (at_later {m = answered} g to refl) x ≡ true
     here (in_member x) ne z = z
     here (in_later x) ne z = keeps x (λ (e : x ≡ s). ne (ap (λ y. in_later y) e)) z
-later_after {p = p} {q = q} {more = more} env g t h s returning to same falls_back fits flow term keeps = record {
+later_after {p = p} {q = q} {more = more} env g t h s returning to same falls_back fits flow term frees keeps = record {
   mode = returning;
   to = at_later g to refl;
   same = ap (λ x. turn_of p q more (guarded_cells g) x) same;
   way = refl;
   fits = fits;
   flow = flow;
+  frees = frees;
   term = term;
   keeps = here;
 }
@@ -273,13 +286,14 @@ later_after {p = p} {q = q} {more = more} env g t h s returning to same falls_ba
     here : (x : TurnSpot (and_member p (and_member q more))) → x ≢ in_later s → turn_moves env (at_later {m = returning} g t h) x ≡ true → turn_moves env (at_later {m = returning} g to refl) x ≡ true
     here (in_member x) ne z = z
     here (in_later x) ne z = keeps x (λ (e : x ≡ s). ne (ap (λ y. in_later y) e)) z
-later_after {p = p} {q = q} {more = more} env g t h s idle to same comes_home fits flow term keeps = record {
+later_after {p = p} {q = q} {more = more} env g t h s idle to same comes_home fits flow term frees keeps = record {
   mode = idle;
   to = turn_rests;
   same = ap (λ x. turn_of p q more x (low_turn (and_member q more))) (sym (guarded_idle_is g)) ∙ (ap (λ x. turn_of p q more (guarded_cells g) x) (sym (turn_idle_is to).0) ∙ ap (λ x. turn_of p q more (guarded_cells g) x) same);
   way = refl;
   fits = tt;
   flow = flow_by env (turn_shown t) (turn_shown to) none_shown (turn_idle_is to).1 flow;
+  frees = λ x i. frees x (turn_writing_done env.ack to (λ e. cc e) x);
   term = subst (λ (z : Term). Follows (turn_left env.ack t) z) (turn_left_done env.ack to (λ e. cc e)) term;
   keeps = here;
 }
@@ -299,7 +313,7 @@ no_link running n h = cc h
 no_link answered n h = cc h
 no_link returning n h = cc h
 
-behind_after : {p q : Process} {more : Processes} {k n m : Mode} (env : Wires) (g : GuardedAt p k) (t : TurnAt (and_member q more) n) (h : link m k n ≡ true) (s : GuardedSpot p) → TurnFits t env → guarded_moves env g s ≡ true → TurnAfter (and_member p (and_member q more)) m env (at_later g t h) (in_member s)
+behind_after : {p q : Process} {more : Processes} {k n m : Mode} (env : Seen) (g : GuardedAt p k) (t : TurnAt (and_member q more) n) (h : link m k n ≡ true) (s : GuardedSpot p) → TurnFits t env → guarded_moves env g s ≡ true → TurnAfter (and_member p (and_member q more)) m env (at_later g t h) (in_member s)
 behind_after {p = p} {q = q} {more = more} {n = answered} {m = returning} env (g_back true) t h latch f e = record {
   mode = returning;
   to = at_later (g_back false) t refl;
@@ -307,6 +321,7 @@ behind_after {p = p} {q = q} {more = more} {n = answered} {m = returning} env (g
   way = refl;
   fits = f;
   flow = flow_same env (turn_shown t);
+  frees = λ x i. i;
   term = inl refl;
   keeps = here t;
 }
@@ -326,6 +341,7 @@ behind_after {p = p} {q = q} {more = more} {n = answered} {m = returning} env (g
       way = refl;
       fits = b.fits;
       flow = flow_by env (turn_shown t) (turn_shown t) (turn_shown b.place) (sym b.shows) (flow_same env (turn_shown t));
+      frees = λ x i. turn_writing_done env.ack t (λ e. cc e) x;
       term = inl (turn_left_done env.ack b.place (λ e. cc e) ∙ sym (turn_left_done env.ack t (λ e. cc e)));
       keeps = here t f b.place;
     }
@@ -353,7 +369,7 @@ no_ask running n g e = cc e
 no_ask answered n g e = cc g
 no_ask returning n g e = cc e
 
-body_after : {p : Process} {m : Mode} (env : Wires) (a : At p m) (s : Spot p) → After p m env a s → After (repeating p) running env (at_body a) (in_body s)
+body_after : {p : Process} {m : Mode} (env : Seen) (a : At p m) (s : Spot p) → After p m env a s → After (repeating p) running env (at_body a) (in_body s)
 body_after {p = p} {m = m} env a s r = record {
   mode = running;
   to = at_body r.to;
@@ -361,6 +377,7 @@ body_after {p = p} {m = m} env a s r = record {
   way = refl;
   fits = r.fits;
   flow = r.flow;
+  frees = r.frees;
   term = followed_follows (again p) (left env.ack a) (left env.ack r.to) r.term;
   keeps = here;
 }
@@ -371,9 +388,9 @@ body_after {p = p} {m = m} env a s r = record {
     here (in_body x) ne z = r.keeps x (λ (e : x ≡ s). ne (ap (λ y. in_body y) e)) z
 
 -- a loop calls for its body, and lets it go
-ask_after : (channels : List Channel) {p : Process} {m : Mode} (env : Wires) → Meets channels p → (a : At p m) → Fits a env → Backed p (shown a) env → moves env (at_body a) ask ≡ true → After (repeating p) running env (at_body a) ask
-ask_after channels {p = p} {m = idle} env meets a f back e =
-    let b = begun channels p env meets (quiet_of env (shown a) (idle_is a).1 back) in
+ask_after : (P : TypedProgram) {p : Process} {m : Mode} (env : Seen) → Meets P p → (a : At p m) → Fits a env → Backed p (shown a) env → moves env (at_body a) ask ≡ true → After (repeating p) running env (at_body a) ask
+ask_after P {p = p} {m = idle} env meets a f back e =
+    let b = begun P p env meets (quiet_of env (shown a) (idle_is a).1 back) in
     record {
       mode = running;
       to = at_body b.place;
@@ -381,6 +398,7 @@ ask_after channels {p = p} {m = idle} env meets a f back e =
       way = refl;
       fits = b.fits;
       flow = flow_begun env (shown a) (shown b.place) (idle_is a).1 b.offer b.take;
+      frees = λ x i. writing_done env.ack a (λ e. cc e) x;
       term = loop_follows p (left env.ack a) (left env.ack b.place) (left_done env.ack a (λ e. cc e)) b.term;
       keeps = here a b.place;
     }
@@ -389,7 +407,7 @@ ask_after channels {p = p} {m = idle} env meets a f back e =
     here a b of_loop ne z = absurd (cc z)
     here a b ask ne z = absurd (ne refl)
     here a b (in_body x) ne z = absurd (cc (idle_moves env a x, z))
-ask_after channels {p = p} {m = answered} env meets a f back e =
+ask_after P {p = p} {m = answered} env meets a f back e =
     let b = lowered env a f in
     record {
       mode = running;
@@ -398,6 +416,7 @@ ask_after channels {p = p} {m = answered} env meets a f back e =
       way = refl;
       fits = b.fits;
       flow = flow_by env (shown a) (shown a) (shown b.place) (sym b.shows) (flow_same env (shown a));
+      frees = λ x i. writing_done env.ack a (λ e. cc e) x;
       term = inl (ap (λ z. followed z (again p)) (left_done env.ack b.place (λ e. cc e) ∙ sym (left_done env.ack a (λ e. cc e))));
       keeps = here a f b.place;
     }
@@ -406,47 +425,57 @@ ask_after channels {p = p} {m = answered} env meets a f back e =
     here a f b of_loop ne z = absurd (cc z)
     here a f b ask ne z = absurd (ne refl)
     here a f b (in_body x) ne z = absurd (cc (answered_moves env a f x, z))
-ask_after channels {m = running} env meets a f back e = absurd (cc e)
-ask_after channels {m = returning} env meets a f back e = absurd (cc e)
+ask_after P {m = running} env meets a f back e = absurd (cc e)
+ask_after P {m = returning} env meets a f back e = absurd (cc e)
 
 -- a sequence as a statement, and its last member as a sequence
-turn_after : {members : Processes} {m : Mode} (env : Wires) (t : TurnAt members m) (s : TurnSpot members) → TurnAfter members m env t s → After (in_turn members) m env (at_turn t) (in_members s)
-turn_after {members = members} env t s r = record { mode = r.mode; to = at_turn r.to; same = r.same; way = r.way; fits = r.fits; flow = r.flow; term = r.term; keeps = here }
+turn_after : {members : Processes} {m : Mode} (env : Seen) (t : TurnAt members m) (s : TurnSpot members) → TurnAfter members m env t s → After (in_turn members) m env (at_turn t) (in_members s)
+turn_after {members = members} env t s r = record { mode = r.mode; to = at_turn r.to; same = r.same; way = r.way; fits = r.fits; flow = r.flow; term = r.term; frees = r.frees; keeps = here }
   where
     here : (x : Spot (in_turn members)) → x ≢ in_members s → moves env (at_turn t) x ≡ true → moves env (at_turn r.to) x ≡ true
     here (in_members x) ne z = r.keeps x (λ (e : x ≡ s). ne (ap (λ y. in_members y) e)) z
 
-last_after : {p : Process} {m : Mode} (env : Wires) (a : At p m) (s : Spot p) → After p m env a s → TurnAfter (and_member p no_members) m env (at_last a) (in_last s)
-last_after {p = p} env a s r = record { mode = r.mode; to = at_last r.to; same = r.same; way = r.way; fits = r.fits; flow = r.flow; term = r.term; keeps = here }
+last_after : {p : Process} {m : Mode} (env : Seen) (a : At p m) (s : Spot p) → After p m env a s → TurnAfter (and_member p no_members) m env (at_last a) (in_last s)
+last_after {p = p} env a s r = record { mode = r.mode; to = at_last r.to; same = r.same; way = r.way; fits = r.fits; flow = r.flow; term = r.term; frees = r.frees; keeps = here }
   where
     here : (x : TurnSpot (and_member p no_members)) → x ≢ in_last s → turn_moves env (at_last a) x ≡ true → turn_moves env (at_last r.to) x ≡ true
     here (in_last x) ne z = r.keeps x (λ (e : x ≡ s). ne (ap (λ y. in_last y) e)) z
 
 -- each own move leads to a place again, whatever moved before
 mutual
-  pub guarded_advance : (channels : List Channel) {p : Process} {m : Mode} (env : Wires) → Meets channels p → (g : GuardedAt p m) (s : GuardedSpot p) → GuardedFits g env → Backed p (guarded_shown g) env → guarded_moves env g s ≡ true → GuardedAfter p m env g s
-  guarded_advance channels env meets (g_in u a h) (inner s) f back e = inner_after env u a h s (advance channels env meets a s f record { send = back.send } e)
-  guarded_advance channels env meets g child f back e = guarded_own channels env meets g child (λ x z. cc z) f back e
-  guarded_advance channels env meets g latch f back e = guarded_own channels env meets g latch (λ x z. cc z) f back e
-  guarded_advance channels env meets g next f back e = guarded_own channels env meets g next (λ x z. cc z) f back e
-  guarded_advance channels env meets _ (inner s) f back e = absurd (cc e)
+  pub guarded_advance : (P : TypedProgram) {p : Process} {m : Mode} (env : Seen) → Meets P p → (g : GuardedAt p m) (s : GuardedSpot p) → GuardedFits g env → Backed p (guarded_shown g) env → guarded_moves env g s ≡ true → GuardedAfter p m env g s
+  guarded_advance P env meets (g_in u a h) (inner s) f back e = inner_after env u a h s (advance P env meets a s f record { send = back.send } e)
+  guarded_advance P env meets g child f back e = guarded_own P env meets g child (λ x z. cc z) f back e
+  guarded_advance P env meets g latch f back e = guarded_own P env meets g latch (λ x z. cc z) f back e
+  guarded_advance P env meets g next f back e = guarded_own P env meets g next (λ x z. cc z) f back e
+  guarded_advance P env meets _ (inner s) f back e = absurd (cc e)
 
-  pub advance : (channels : List Channel) {p : Process} {m : Mode} (env : Wires) → Meets channels p → (a : At p m) (s : Spot p) → Fits a env → Backed p (shown a) env → moves env a s ≡ true → After p m env a s
-  advance channels env meets rests s f back e = absurd (cc e)
-  advance channels env meets (at_skip m h) s f back e = skip_after env m h s e
-  advance channels env meets (at_send {c = c} {at = at} {w = w} {v = v} m u h) s f back e = send_after c at w v env m u h s f e
-  advance channels env meets (at_turn t) (in_members s) f back e = turn_after env t s (turn_advance channels env meets t s f record { send = back.send } e)
-  advance channels env meets (at_body a) (in_body s) f back e = body_after env a s (advance channels env meets a s f record { send = back.send } e)
-  advance channels env meets (at_body a) ask f back e = ask_after channels env meets a f record { send = back.send } e
-  advance channels env meets (at_body a) of_loop f back e = absurd (cc e)
+  pub advance : (P : TypedProgram) {p : Process} {m : Mode} (env : Seen) → Meets P p → (a : At p m) (s : Spot p) → Fits a env → Backed p (shown a) env → moves env a s ≡ true → After p m env a s
+  advance P env meets rests s f back e = absurd (cc e)
+  advance P env meets (at_skip m h) s f back e = skip_after env m h s e
+  advance P env meets (at_assign {x = x} {at = at} {w = w} {v = v} m u h) (of_assign s) f back e = assign_after x at w v env m u h s f e
+  advance P env meets (at_send {c = c} {at = at} {w = w} {v = v} m u h) (of_send s) f back e = send_after c at w v env m u h s f e
+  advance P env meets (at_turn t) (in_members s) f back e = turn_after env t s (turn_advance P env meets t s f record { send = back.send } e)
+  advance P env meets (at_side m t b h) (of_branch s) f back e = side_after env m t b h s (branch_advance P env meets.2 b s f record { send = back.send } e)
+  advance P env meets (at_side m t b h) (joint k) f back e = joint_after env t b k m h f e
+  advance P env meets (at_body a) (in_body s) f back e = body_after env a s (advance P env meets a s f record { send = back.send } e)
+  advance P env meets (at_body a) ask f back e = ask_after P env meets a f record { send = back.send } e
+  advance P env meets (at_body a) of_loop f back e = absurd (cc e)
 
-  pub turn_advance : (channels : List Channel) {members : Processes} {m : Mode} (env : Wires) → TurnMeets channels members → (t : TurnAt members m) (s : TurnSpot members) → TurnFits t env → Backed (in_turn members) (turn_shown t) env → turn_moves env t s ≡ true → TurnAfter members m env t s
-  turn_advance channels env meets turn_rests s f back e = absurd (cc e)
-  turn_advance channels env meets (at_last {p = p} a) (in_last s) f back e = last_after env a s (advance channels env meets a s f record { send = λ k h. back.send k (or_left (sends p k) false h) } e)
-  turn_advance channels env meets (at_member {p = p} {q = q} {more = more} g) (in_member s) f back e =
-      member_after channels env meets.1 g s record { send = back.send } (guarded_advance channels env meets.0 g s f record { send = λ k h. back.send k (or_left (sends p k) (turn_sends (and_member q more) k) h) } e)
-  turn_advance channels env meets (at_member g) (in_later s) f back e = absurd (cc e)
-  turn_advance channels env meets (at_later {p = p} {q = q} {more = more} {k = k} {n = n} {m = m} g t h) (in_later s) f back e =
-      let r = turn_advance channels env meets.1 t s f record { send = λ k h. back.send k (or_right (sends p k) (turn_sends (and_member q more) k) h) } e in
-      later_after env g t h s r.mode r.to r.same (linked m k n r.mode h r.way) r.fits r.flow r.term r.keeps
-  turn_advance channels env meets (at_later g t h) (in_member s) f back e = behind_after env g t h s f e
+  pub branch_advance : (P : TypedProgram) {members : Processes} {ks : List Mode} (env : Seen) → EachMeets P members → (b : BranchesAt members ks) (s : BranchSpot members) → BranchesFit b env → Backed (side_by_side members) (branches_shown b) env → branch_moves env b s ≡ true → BranchAfter members ks env b s
+  branch_advance P env meets no_more s f back e = absurd (cc e)
+  branch_advance P env meets (and_at {p = p} {more = more} g b) (in_this s) f back e =
+      this_after env g b s f.1 (guarded_advance P env meets.0 g s f.0 record { send = λ k h z. sym (or_false_right ((guarded_shown g).talk k) ((branches_shown b).talk k) ((beside meets.1 g b).not_theirs k h)) ∙ back.send k (or_left (sends p k) (turn_sends more k) h) z } e)
+  branch_advance P env meets (and_at {p = p} {more = more} g b) (in_others s) f back e =
+      others_after env g b s f.0 (branch_advance P env meets.2 b s f.1 record { send = λ k h z. sym (or_false_left ((guarded_shown g).talk k) ((branches_shown b).talk k) ((beside meets.1 g b).not_mine k h)) ∙ back.send k (or_right (sends p k) (turn_sends more k) h) z } e)
+
+  pub turn_advance : (P : TypedProgram) {members : Processes} {m : Mode} (env : Seen) → TurnMeets P members → (t : TurnAt members m) (s : TurnSpot members) → TurnFits t env → Backed (in_turn members) (turn_shown t) env → turn_moves env t s ≡ true → TurnAfter members m env t s
+  turn_advance P env meets turn_rests s f back e = absurd (cc e)
+  turn_advance P env meets (at_last {p = p} a) (in_last s) f back e = last_after env a s (advance P env meets a s f record { send = λ k h. back.send k (or_left (sends p k) false h) } e)
+  turn_advance P env meets (at_member {p = p} {q = q} {more = more} g) (in_member s) f back e =
+      member_after P env meets.1 g s record { send = back.send } (guarded_advance P env meets.0 g s f record { send = λ k h. back.send k (or_left (sends p k) (turn_sends (and_member q more) k) h) } e)
+  turn_advance P env meets (at_member g) (in_later s) f back e = absurd (cc e)
+  turn_advance P env meets (at_later {p = p} {q = q} {more = more} {k = k} {n = n} {m = m} g t h) (in_later s) f back e =
+      let r = turn_advance P env meets.1 t s f record { send = λ k h. back.send k (or_right (sends p k) (turn_sends (and_member q more) k) h) } e in
+      later_after env g t h s r.mode r.to r.same (linked m k n r.mode h r.way) r.fits r.flow r.term r.frees r.keeps
+  turn_advance P env meets (at_later g t h) (in_member s) f back e = behind_after env g t h s f e

@@ -1,20 +1,24 @@
 -- Where nothing moves in the whole circuit, the program has no step.
-use Rattle.std.proofs.Common.{◌≡◌, ◌≢◌, ℕ, Bool, true, false, List, refl, sym, ap, ◌∙◌}
-use Rattle.std.specs.Prelude.{not, ◌&&◌, if◌then◌else◌, Some, is_some}
+use Rattle.std.proofs.Common.{◌≡◌, ◌≢◌, ℕ, ◌<◌, ◌≤◌, Bool, true, false, List, refl, sym, ap, ◌∙◌, subst}
+use Rattle.std.specs.Prelude.{not, ◌&&◌, ◌||◌, if◌then◌else◌, Some, is_some}
 use Rattle.chp_base.specs.declared.span.Span.{Span}
 use Rattle.env_script.specs.declared.script.Count.{Count}
 use Rattle.env_script.specs.Scripts.{OfferValue, takes, nothing, offer_at, is_over}
 use Rattle.env_script.specs.Runs.{completed}
 use Rattle.width_check.specs.Processes.{Formula, constant, Process, sending, TypedProgram}
-use Rattle.width_check.specs.Typing.{channel_width}
+use Rattle.width_check.specs.Typing.{channel_width, var_width}
 use Rattle.chp_meaning.specs.Terms.{Term, finished, Place, statement_at}
 use Rattle.chp_meaning.specs.Steps.{Configuration, Step, a_skip, an_assignment, a_selection, a_turn, an_end, a_repetition, a_communication, a_delivery, an_arrival}
-use Rattle.circuit_places.specs.Circuit.{turns, Wires}
-use Rattle.circuit_places.specs.Whole.{value_on, neutral_on, Node, go_node, own_node, rail_node, ack_node, answers}
-use Rattle.circuit_places.proofs.Waves.{Within, Holds, shows, lows_neutral}
+use Rattle.circuit_places.specs.Lines.{Line, of_channel, of_var, Rails}
+use Rattle.circuit_places.specs.Circuit.{turns}
+use Rattle.circuit_places.specs.Whole.{Wires, seen, line_ack, is_merged, value_on, neutral_on, Node, go_node, own_node, rail_node, ack_node, bit_node, wrote_node, joint_node, answers}
+use Rattle.circuit_places.proofs.Waves.{Within, Holds, held, held_one, shows, lows_neutral}
+use Rattle.circuit_places.proofs.Flow.{or_left, or_right}
+use Rattle.circuit_places.proofs.BitTable.{Now, may, write_t, write_f}
+use Rattle.circuit_places.proofs.Blocks.{now_at, block_waits}
 use Rattle.circuit_places.proofs.Places.{Mode, running, returning, GuardedAt, g_rests, g_in, g_past, g_back, guarded_cells, guarded_shown}
 use Rattle.circuit_places.proofs.Left.{guarded_left}
-use Rattle.circuit_places.proofs.Rest.{Blocked, Waiting, Hanging, Rest, settled, waiting, hanging, guarded_rest}
+use Rattle.circuit_places.proofs.Rest.{Full, Blocked, Waiting, Hanging, let_go, unstored, Rest, settled, waiting, hanging, guarded_rest}
 use Rattle.circuit_places.proofs.Fires.{guarded_site}
 use Rattle.circuit_places.proofs.System.{Good, can, root_left, Fitted}
 use Rattle.circuit_places.proofs.Follow.{fewer, left_over, Followed, over_before}
@@ -56,35 +60,72 @@ pub record AtEnd {p : Process} {m : Mode} (g : GuardedAt p m) (c : Configuration
   pub ended : (guarded_cells g).next ≡ true → c.term ≡ finished
   pub going : (guarded_cells g).next ≡ false → c.term ≢ finished
 
-module _ (P : TypedProgram) {script : List OfferValue} (fitted : Fitted P.channels script) (env : Wires) (hs : List (List ℕ)) where
-  no_hanging : {m : Mode} (g : GuardedAt P.body m) → Good P.channels P.body m g env → ((n : Node P.body) → can P script g env hs n ≡ false) → Hanging env (guarded_shown g) → ⊥
-  no_hanging g good none h =
-      let c = h.channel in
-      let x = guarded_site P.channels g good.meets c (good.talk c h.high) in
-      let o = fitted.out c x.meets.within in
-      let lows : (i : ℕ) (one : Bool) → env.rail c i one ≡ false = λ i one. low (env.rail c i one) ((guarded_shown g).offer c i one) (h.none i one) (none (rail_node c i one)) in
-      let neutral : neutral_on (channel_width P.channels c) (env.rail c) ≡ true = lows_neutral (channel_width P.channels c) (env.rail c) lows in
-      let may : answers (channel_width P.channels c) env c (completed hs c) (offer_at script c) ≡ true =
-      ap (answers (channel_width P.channels c) env c (completed hs c)) o.1
-      ∙ (ap (λ b. if b then neutral_on (channel_width P.channels c) (env.rail c) else is_some (value_on (channel_width P.channels c) (env.rail c)) && is_over o.0 (completed hs c)) h.high ∙ neutral) in
-      cc (may, none (ack_node c))
+module _ (P : TypedProgram) {script : List OfferValue} (fitted : Fitted P script) (w : Wires) (hs : List (List ℕ)) {m : Mode} (g : GuardedAt P.body m) (good : Good P m g w) (none : (n : Node P.body) → can P script g w hs n ≡ false) where
+  -- the rails are as they are offered
+  rails_are : (k : Line) (i : ℕ) (one : Bool) → is_merged P k ≡ true → w.rail k i one ≡ (guarded_shown g).offer k i one
+  rails_are k i one n = here (w.rail k i one) ((guarded_shown g).offer k i one) (sym (ap (λ b. b && turns (w.rail k i one) ((guarded_shown g).offer k i one) (not ((guarded_shown g).offer k i one))) n) ∙ none (rail_node k i one))
     where
-      low : (v o : Bool) → o ≡ false → turns v o (not o) ≡ false → v ≡ false
-      low true o e f = absurd (cc (e, f))
-      low false o e f = refl
+      here : (v o : Bool) → turns v o (not o) ≡ false → v ≡ o
+      here true true e = refl
+      here false false e = refl
+      here true false e = absurd (cc e)
+      here false true e = absurd (cc e)
+
+  -- a variable's block waits for a rail by which it is written
+  block_rest : (x : ℕ) → 1 ≤ var_width P.vars x → (i : ℕ) × (i < var_width P.vars x) × ((may write_t (now_at (w.bit x) (w.rail (of_var x)) (w.wrote x) (line_ack P w (of_var x)) i) || may write_f (now_at (w.bit x) (w.rail (of_var x)) (w.wrote x) (line_ack P w (of_var x)) i)) ≡ true)
+  block_rest x some = block_waits (var_width P.vars x) (w.bit x) (w.rail (of_var x)) (w.wrote x) (w.joint x) (good.block x some) (λ i one. none (bit_node x i one)) (λ i. none (wrote_node x i)) (λ k. none (joint_node x k))
+
+  high_waits : (n : Now) → n.va ≡ true → n.wt ≡ false → n.wf ≡ false → (may write_t n || may write_f n) ≡ true → ⊥
+  high_waits n a t f e = cc (ap (λ b. (if b then n.va else not n.va && not n.wf) || (if n.wf then n.va else not n.va && not b)) t, ap (λ b. (if false then n.va else not n.va && not b) || (if b then n.va else not n.va && not false)) f, ap (λ b. (if false then b else not b && not false) || (if false then b else not b && not false)) a, e)
+
+  low_waits : (n : Now) → n.va ≡ false → (n.wt || n.wf) ≡ true → (may write_t n || may write_f n) ≡ true → ⊥
+  low_waits n a o e = here n.wt n.wf n.va a o e
+    where
+      here : (t f v : Bool) → v ≡ false → (t || f) ≡ true → ((if t then v else not v && not f) || (if f then v else not v && not t)) ≡ true → ⊥
+      here true true false a o e = cc e
+      here true false false a o e = cc e
+      here false true false a o e = cc e
+      here false false v a o e = cc o
+      here true true true a o e = cc a
+      here true false true a o e = cc a
+      here false true true a o e = cc a
+
+  no_hanging : Hanging P (seen P w) (guarded_shown g) → ⊥
+  no_hanging (let_go (of_channel c) high talks gone) =
+      let x = guarded_site P g good.meets (of_channel c) talks in
+      let o = fitted.out c x.meets.within in
+      let neutral : neutral_on (channel_width P.channels c) (w.rail (of_channel c)) ≡ true = lows_neutral (channel_width P.channels c) (w.rail (of_channel c)) (λ i one. rails_are (of_channel c) i one x.meets.merged ∙ gone i one) in
+      let may : answers (channel_width P.channels c) w c (completed hs c) (offer_at script c) ≡ true =
+      ap (answers (channel_width P.channels c) w c (completed hs c)) o.1
+      ∙ (ap (λ b. if b then neutral_on (channel_width P.channels c) (w.rail (of_channel c)) else is_some (value_on (channel_width P.channels c) (w.rail (of_channel c))) && is_over o.0 (completed hs c)) high ∙ neutral) in
+      cc (may, none (ack_node c))
+  no_hanging (let_go (of_var v) high talks gone) =
+      let x = guarded_site P g good.meets (of_var v) talks in
+      let (i, less, e) = block_rest v (subst (λ (n : ℕ). 1 ≤ n) x.meets.agrees x.meets.some) in
+      high_waits (now_at (w.bit v) (w.rail (of_var v)) (w.wrote v) (line_ack P w (of_var v)) i) high (rails_are (of_var v) i true refl ∙ gone i true) (rails_are (of_var v) i false refl ∙ gone i false) e
+  no_hanging (unstored v {width = n} {value = d} f) =
+      let (i, less, e) = block_rest v (subst (λ (n : ℕ). 1 ≤ n) f.meets.agrees f.meets.some) in
+      low_waits (now_at (w.bit v) (w.rail (of_var v)) (w.wrote v) (line_ack P w (of_var v)) i) f.low
+      (ap (λ b. b || w.rail (of_var v) i false) (rails_are (of_var v) i true refl) ∙ (ap (λ b. (guarded_shown g).offer (of_var v) i true || b) (rails_are (of_var v) i false refl)
+      ∙ some_side i (held_one n d f.wave i (subst (λ (k : ℕ). i < k) (sym f.meets.agrees) less) f.full)))
+      e
+    where
+      some_side : (i : ℕ) → (one : Bool) × (held n d f.wave i one ≡ true) → ((guarded_shown g).offer (of_var v) i true || (guarded_shown g).offer (of_var v) i false) ≡ true
+      some_side i (true, h) = or_left ((guarded_shown g).offer (of_var v) i true) ((guarded_shown g).offer (of_var v) i false) (f.holds i true h)
+      some_side i (false, h) = or_right ((guarded_shown g).offer (of_var v) i true) ((guarded_shown g).offer (of_var v) i false) (f.holds i false h)
 
   -- a send that waits has no acceptance left
-  refused : {m : Mode} (g : GuardedAt P.body m) → Good P.channels P.body m g env → ((n : Node P.body) → can P script g env hs n ≡ false) → {most : ℕ} {t : Term} (r : Followed P script most hs t) (s : Process) → Blocked P.channels s env (guarded_shown g) → Refused r.to s
-  refused g good none r s b =
+  refused : {most : ℕ} {t : Term} {bits : ℕ → Rails} {busy : ℕ → Bool} (r : Followed P script most hs t bits busy) (s : Process) → Blocked P s (seen P w) (guarded_shown g) → Refused r.to s
+  refused r s b =
       let c = b.channel in
-      let o = fitted.out c b.meets.within in
-      let within : Within b.width b.value b.wave (env.rail c) = λ i one h. b.only i one (good.rising c i one b.low h) in
-      let holds : Holds b.width b.value b.wave (env.rail c) = λ i one h. high (env.rail c i one) ((guarded_shown g).offer c i one) (b.holds i one h) (none (rail_node c i one)) in
-      let some : is_some (value_on (channel_width P.channels c) (env.rail c)) ≡ true = ap (λ n. is_some (value_on n (env.rail c))) (sym b.meets.agrees) ∙ shows b.width b.value b.wave (env.rail c) b.full within holds in
+      let o = fitted.out c b.site.meets.within in
+      let within : Within b.width b.value b.site.wave (w.rail (of_channel c)) = λ i one h. b.site.only i one (sym (rails_are (of_channel c) i one b.site.meets.merged) ∙ h) in
+      let holds : Holds b.width b.value b.site.wave (w.rail (of_channel c)) = λ i one h. rails_are (of_channel c) i one b.site.meets.merged ∙ b.site.holds i one h in
+      let some : is_some (value_on (channel_width P.channels c) (w.rail (of_channel c))) ≡ true = ap (λ n. is_some (value_on n (w.rail (of_channel c)))) (sym b.site.meets.agrees) ∙ shows b.width b.value b.site.wave (w.rail (of_channel c)) b.site.full within holds in
       let over : is_over o.0 (completed hs c) ≡ false =
-      no_more (is_some (value_on (channel_width P.channels c) (env.rail c))) (is_over o.0 (completed hs c)) some
-      (sym (ap (λ b. if b then neutral_on (channel_width P.channels c) (env.rail c) else is_some (value_on (channel_width P.channels c) (env.rail c)) && is_over o.0 (completed hs c)) b.low)
-      ∙ (sym (ap (answers (channel_width P.channels c) env c (completed hs c)) o.1) ∙ none (ack_node c))) in
+      no_more (is_some (value_on (channel_width P.channels c) (w.rail (of_channel c)))) (is_over o.0 (completed hs c)) some
+      (sym (ap (λ b. if b then neutral_on (channel_width P.channels c) (w.rail (of_channel c)) else is_some (value_on (channel_width P.channels c) (w.rail (of_channel c))) && is_over o.0 (completed hs c)) b.site.low)
+      ∙ (sym (ap (answers (channel_width P.channels c) w c (completed hs c)) o.1) ∙ none (ack_node c))) in
       record {
         channel = c;
         span = b.span;
@@ -95,10 +136,6 @@ module _ (P : TypedProgram) {script : List OfferValue} (fitted : Fitted P.channe
         over = not_over o.0 (completed hs c) over;
       }
     where
-      high : (v o : Bool) → o ≡ true → turns v o (not o) ≡ false → v ≡ true
-      high true o e f = refl
-      high false o e f = absurd (cc (e, f))
-
       no_more : (s m : Bool) → s ≡ true → (s && m) ≡ false → m ≡ false
       no_more true m e f = f
       no_more false m e f = absurd (cc e)
@@ -110,24 +147,25 @@ module _ (P : TypedProgram) {script : List OfferValue} (fitted : Fitted P.channe
           here true f = absurd (cc (over_before count n f, e))
           here false f = refl
 
-  waits : (g : GuardedAt P.body running) → (guarded_cells g).next ≡ false → Good P.channels P.body running g env → ((n : Node P.body) → can P script g env hs n ≡ false) → {most : ℕ} (r : Followed P script most hs (guarded_left env.ack g)) → Waiting P.channels (guarded_left env.ack g) env (guarded_shown g) → AtEnd g r.to
-  waits g low good none r w = record {
-    still = no_step r.to (λ at s e. refused g good none r s (w.blocked at s (sym (ap (λ x. statement_at x at) r.term) ∙ e)));
-    ended = λ e. absurd (cc (e, low));
-    going = λ e z. w.going (sym r.term ∙ z);
-  }
+waits : (P : TypedProgram) {script : List OfferValue} (fitted : Fitted P script) (w : Wires) (hs : List (List ℕ)) (g : GuardedAt P.body running) → (guarded_cells g).next ≡ false → Good P running g w → ((n : Node P.body) → can P script g w hs n ≡ false) → {most : ℕ} {bits : ℕ → Rails} {busy : ℕ → Bool} (r : Followed P script most hs (guarded_left (line_ack P w) g) bits busy)
+    → Waiting P (guarded_left (line_ack P w) g) (seen P w) (guarded_shown g) → AtEnd g r.to
+waits P fitted w hs g low good none r x = record {
+  still = no_step r.to (λ at s e. refused P fitted w hs g good none r s (x.blocked at s (sym (ap (λ x. statement_at x at) r.term) ∙ e)));
+  ended = λ e. absurd (cc (e, low));
+  going = λ e z. x.going (sym r.term ∙ z);
+}
 
-  pub at_end : {m : Mode} (g : GuardedAt P.body m) → m ≢ returning → Good P.channels P.body m g env → ((n : Node P.body) → can P script g env hs n ≡ false) → {most : ℕ} (r : Followed P script most hs (root_left env.ack g)) → AtEnd g r.to
-  at_end g_rests ne good none r = absurd (cc (none go_node))
-  at_end (g_in u a h) ne good none r = here (guarded_rest P.channels env (g_in u a h) good.meets (λ s. none (own_node s)))
-    where
-      here : Rest P.channels running (guarded_left env.ack (g_in u a h)) env (guarded_shown (g_in u a h)) → AtEnd (g_in u a h) r.to
-      here (settled e) = absurd (cc e)
-      here (waiting e w) = waits (g_in u a h) refl good none r w
-      here (hanging x) = absurd (no_hanging (g_in u a h) good none x)
-  at_end g_past ne good none r = record {
-    still = no_step r.to (λ at s e. absurd (cc (e, ap (λ x. statement_at x at) r.term)));
-    ended = λ e. r.term;
-    going = λ e. absurd (cc e);
-  }
-  at_end (g_back u) ne good none r = absurd (ne refl)
+pub at_end : (P : TypedProgram) {script : List OfferValue} (fitted : Fitted P script) (w : Wires) (hs : List (List ℕ)) {m : Mode} (g : GuardedAt P.body m) → m ≢ returning → Good P m g w → ((n : Node P.body) → can P script g w hs n ≡ false) → {most : ℕ} {bits : ℕ → Rails} {busy : ℕ → Bool} (r : Followed P script most hs (root_left (line_ack P w) g) bits busy) → AtEnd g r.to
+at_end P fitted w hs g_rests ne good none r = absurd (cc (none go_node))
+at_end P {script = script} fitted w hs (g_in u a h) ne good none r = here (guarded_rest P (seen P w) (g_in u a h) good.meets (λ s. none (own_node s)))
+  where
+    here : Rest P running (guarded_left (line_ack P w) (g_in u a h)) (seen P w) (guarded_shown (g_in u a h)) → AtEnd (g_in u a h) r.to
+    here (settled e) = absurd (cc e)
+    here (waiting e x) = waits P fitted w hs (g_in u a h) refl good none r x
+    here (hanging x) = absurd (no_hanging P fitted w hs (g_in u a h) good none x)
+at_end P fitted w hs g_past ne good none r = record {
+  still = no_step r.to (λ at s e. absurd (cc (e, ap (λ x. statement_at x at) r.term)));
+  ended = λ e. r.term;
+  going = λ e. absurd (cc e);
+}
+at_end P fitted w hs (g_back u) ne good none r = absurd (ne refl)

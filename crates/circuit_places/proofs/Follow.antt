@@ -1,22 +1,25 @@
 -- How far the program has come: a run of it, with as many steps as moves at most, that has passed the same values.
-use Rattle.std.proofs.Common.{◌≡◌, ℕ, zero, suc, ◌-◌, ◌≤◌, ◌<◌, ◌==◌, Bool, true, false, List, [], ◌∷◌, ◌++◌, length, refl, sym, ap, ◌∙◌, subst, inl, inr, arith, set, replicate}
+use Rattle.std.proofs.Common.{◌≡◌, ℕ, zero, suc, ◌-◌, ◌≤◌, ◌<◌, ◌==◌, Bool, true, false, List, [], ◌∷◌, ◌++◌, length, refl, sym, ap, ◌∙◌, subst, inl, inr, ◌⊎◌, arith, set, replicate}
 use Rattle.std.proofs.lemmas.List.{get_or-set_other, get_or-set_same, length-set}
 use Rattle.std.proofs.lemmas.Bool.Decides.{nat_tests}
-use Rattle.std.specs.Prelude.{Option, Some, if◌then◌else◌}
+use Rattle.std.specs.Prelude.{slice_index, map, Option, Some, if◌then◌else◌}
 use Rattle.env_script.specs.declared.script.Count.{Count}
 use Rattle.env_script.specs.declared.script.Count.TheVariants.{All, Times}
 use Rattle.env_script.specs.Scripts.{OfferValue, gives, takes, nothing, offer_at, is_over}
 use Rattle.env_script.specs.Runs.{history_at, completed}
 use Rattle.width_check.specs.Processes.{Process, skipping, repeating, TypedProgram}
-use Rattle.width_check.specs.Typing.{channel_width}
+use Rattle.width_check.specs.Typing.{channel_width, var_width}
+use Rattle.width_check.specs.declared.typed.Var.{Var}
+use Rattle.circuit_places.proofs.Writing.{number_on, number_told}
 use Rattle.chp_meaning.specs.Terms.{Term, finished, opened, Place, statement_at, with_left}
-use Rattle.chp_meaning.specs.Steps.{Configuration, one_fewer, leaving, passing, offering, Step, a_skip, a_repetition, a_delivery, Leads, no_step, one_step, start_of}
-use Rattle.circuit_places.specs.Circuit.{Wires}
-use Rattle.circuit_places.specs.Whole.{value_on, Node, go_node, own_node, rail_node, ack_node, answers, passed, passed_after}
+use Rattle.chp_meaning.specs.Steps.{Configuration, one_fewer, leaving, storing, an_assignment, passing, offering, Step, a_skip, a_repetition, a_delivery, Leads, no_step, one_step, start_of}
+use Rattle.circuit_places.specs.Lines.{of_channel, of_var, Rails}
+use Rattle.circuit_places.specs.Whole.{line_ack, first_bits, wires_after, ack_turned, rail_turned, bit_turned, Wires, wrote_turned, joint_turned, value_on, Node, go_node, own_node, rail_node, ack_node, bit_node, wrote_node, joint_node, answers, passed, passed_after}
 use Rattle.circuit_places.proofs.Left.{Act, skips, goes_on, Follows}
-use Rattle.circuit_places.proofs.Flow.{same_number, self_number, cases}
+use Rattle.circuit_places.proofs.Flow.{cases}
+use Rattle.circuit_places.proofs.LineNames.{self_number, same_number, self_line, same_line_is}
 use Rattle.circuit_places.proofs.Fires.{Passes}
-use Rattle.circuit_places.proofs.System.{Passing, Moves, Fitted, takes_of, may_low}
+use Rattle.circuit_places.proofs.System.{Passing, Others, Freed, Rises, Stored, no_store, cleared, stores, Moves, Fitted, takes_of, may_low}
 
 -- what is left of an offer when so many values have passed
 abbrev pub fewer : Count → ℕ → Count
@@ -28,7 +31,7 @@ left_over (takes count) n = takes (fewer count n)
 left_over (gives values) n = gives values
 left_over nothing n = nothing
 
-pub record Followed (P : TypedProgram) (script : List OfferValue) (most : ℕ) (hs : List (List ℕ)) (t : Term) : Type 0 where
+pub record Followed (P : TypedProgram) (script : List OfferValue) (most : ℕ) (hs : List (List ℕ)) (t : Term) (bits : ℕ → Rails) (busy : ℕ → Bool) : Type 0 where
   pub to : Configuration
   pub steps : ℕ
   pub within : steps ≤ most
@@ -38,6 +41,8 @@ pub record Followed (P : TypedProgram) (script : List OfferValue) (most : ℕ) (
   pub rests : (k : ℕ) → offer_at to.rests k ≡ left_over (offer_at script k) (completed hs k)
   pub as_many : length to.rests ≡ length P.channels
   pub as_long : length hs ≡ length P.channels
+  pub as_stored : length to.store ≡ length P.vars
+  pub stored : (x : ℕ) → x < length P.vars → busy x ≡ false → number_on (var_width P.vars x) (bits x) ≡ slice_index to.store x
 
 -- one more step at a run's end
 leads_on : {c d e : Configuration} {at : Place} {n : ℕ} → Leads c n d → Step d at e → Leads c (suc n) e
@@ -55,7 +60,7 @@ whole_yet (takes (Times m)) n e = ap (λ k. takes (Times k)) (let g : m ≡ m - 
 whole_yet (gives values) n e = refl
 whole_yet nothing n e = refl
 
-pub started : (P : TypedProgram) (script : List OfferValue) → Fitted P.channels script → Followed P script 0 (replicate (length P.channels) []) (opened P.body)
+pub started : (P : TypedProgram) (script : List OfferValue) → Fitted P script → Followed P script 0 (replicate (length P.channels) []) (opened P.body) (first_bits P.vars) (λ x. false)
 started P script fitted = record {
   to = start_of P script;
   steps = 0;
@@ -66,15 +71,24 @@ started P script fitted = record {
   rests = λ k. whole_yet (offer_at script k) (completed (replicate (length P.channels) []) k) (none_yet (length P.channels) k);
   as_many = fitted.same;
   as_long = long (length P.channels);
+  as_stored = each (λ (v : Var). v.first) P.vars;
+  stored = λ x less e. fitted.firsts x less;
 }
   where
+    each : (f : Var → ℕ) (vs : List Var) → length (map f vs) ≡ length vs
+    each f [] = refl
+    each f (v ∷ vs) = ap (λ k. suc k) (each f vs)
+
     long : (n : ℕ) → length (replicate {A = List ℕ} n []) ≡ n
     long zero = refl
     long (suc n) = ap (λ k. suc k) (long n)
 
-module _ {P : TypedProgram} {script : List OfferValue} {most : ℕ} {hs : List (List ℕ)} {t : Term} (r : Followed P script most hs t) where
+module _ {P : TypedProgram} {script : List OfferValue} {most : ℕ} {hs : List (List ℕ)} {t : Term} {bits : ℕ → Rails} {busy : ℕ → Bool} (r : Followed P script most hs t bits busy) (now : ℕ → Rails) (after : ℕ → Bool) (free : (x : ℕ) → after x ≡ false → (now x ≡ bits x) × (busy x ≡ false)) where
+  kept_so : (x : ℕ) → x < length P.vars → after x ≡ false → number_on (var_width P.vars x) (now x) ≡ slice_index r.to.store x
+  kept_so x less e = ap (number_on (var_width P.vars x)) (free x e).0 ∙ r.stored x less (free x e).1
+
   -- no step
-  stays : (y : Term) → y ≡ t → Followed P script (suc most) hs y
+  stays : (y : Term) → y ≡ t → Followed P script (suc most) hs y now after
   stays y e = record {
     to = r.to;
     steps = r.steps;
@@ -85,10 +99,12 @@ module _ {P : TypedProgram} {script : List OfferValue} {most : ℕ} {hs : List (
     rests = r.rests;
     as_many = r.as_many;
     as_long = r.as_long;
+    as_stored = r.as_stored;
+    stored = kept_so;
   }
 
   -- a step that no channel sees
-  leaves : (s : Process) (left y : Term) (a : Act t s left y) → Step r.to a.at (leaving r.to a.at left) → Followed P script (suc most) hs y
+  leaves : (s : Process) (left y : Term) (a : Act t s left y) → Step r.to a.at (leaving r.to a.at left) → Followed P script (suc most) hs y now after
   leaves s left y a step = record {
     to = leaving r.to a.at left;
     steps = suc r.steps;
@@ -99,12 +115,14 @@ module _ {P : TypedProgram} {script : List OfferValue} {most : ℕ} {hs : List (
     rests = r.rests;
     as_many = r.as_many;
     as_long = r.as_long;
+    as_stored = r.as_stored;
+    stored = kept_so;
   }
 
   stands : (s : Process) (left y : Term) (a : Act t s left y) → statement_at r.to.term a.at ≡ Some s
   stands s left y a = ap (λ x. statement_at x a.at) r.term ∙ a.stands
 
-  silent : (y : Term) → Follows t y → Followed P script (suc most) hs y
+  silent : (y : Term) → Follows t y → Followed P script (suc most) hs y now after
   silent y (inl e) = stays y e
   silent y (inr (skips a)) = leaves skipping finished y a (a_skip (stands skipping finished y a))
   silent y (inr (goes_on {p = p} a)) = leaves (repeating p) _ y a (a_repetition (stands (repeating p) _ y a))
@@ -126,9 +144,9 @@ one_longer : (xs : List ℕ) (v : ℕ) → length (xs ++ v ∷ []) ≡ suc (leng
 one_longer [] v = refl
 one_longer (x ∷ xs) v = ap (λ k. suc k) (one_longer xs v)
 
-module _ {P : TypedProgram} {script : List OfferValue} {most : ℕ} {hs : List (List ℕ)} {t : Term} (fitted : Fitted P.channels script) (r : Followed P script most hs t) (k : ℕ) where
+module _ {P : TypedProgram} {script : List OfferValue} {most : ℕ} {hs : List (List ℕ)} {t : Term} {bits : ℕ → Rails} {busy : ℕ → Bool} (fitted : Fitted P script) (r : Followed P script most hs t bits busy) (now : ℕ → Rails) (after : ℕ → Bool) (free : (x : ℕ) → after x ≡ false → (now x ≡ bits x) × (busy x ≡ false)) (k : ℕ) where
   -- a value passes
-  module _ (rail : ℕ → Bool → Bool) (y : Term) (count : Count) (offered : offer_at script k ≡ takes count) (more : is_over count (completed hs k) ≡ true) (pass : Passes P.channels k rail t y) where
+  module _ (rail : Rails) (y : Term) (count : Count) (offered : offer_at script k ≡ takes count) (more : is_over count (completed hs k) ≡ true) (pass : Passes P (of_channel k) rail t y) where
     abbrev now_rests : List OfferValue
     now_rests = set r.to.rests k (takes (one_fewer (fewer count (completed hs k))))
 
@@ -159,8 +177,8 @@ module _ {P : TypedProgram} {script : List OfferValue} {most : ℕ} {hs : List (
         get_or-set_other r.to.rests k c (takes (one_fewer (fewer count (completed hs k)))) nothing ne
         ∙ (r.rests c ∙ sym (ap (λ h. left_over (offer_at script c) (length h)) (get_or-set_other hs k c (history_at hs k ++ pass.value ∷ []) [] ne))))
 
-    passes_on : Followed P script (suc most) (passed hs k (value_on (channel_width P.channels k) rail)) y
-    passes_on = subst (λ (o : Option ℕ). Followed P script (suc most) (passed hs k o) y) (sym pass.read) (record {
+    passes_on : Followed P script (suc most) (passed hs k (value_on (channel_width P.channels k) rail)) y now after
+    passes_on = subst (λ (o : Option ℕ). Followed P script (suc most) (passed hs k o) y now after) (sym pass.read) (record {
       to = passing (offering (leaving r.to pass.act.at finished) k (takes (one_fewer (fewer count (completed hs k))))) k pass.value;
       steps = suc r.steps;
       within = omega (arith, r.within);
@@ -170,20 +188,83 @@ module _ {P : TypedProgram} {script : List OfferValue} {most : ℕ} {hs : List (
       rests = now_rest;
       as_many = length-set r.to.rests k (takes (one_fewer (fewer count (completed hs k)))) ∙ r.as_many;
       as_long = length-set hs k (history_at hs k ++ pass.value ∷ []) ∙ r.as_long;
+      as_stored = r.as_stored;
+      stored = kept_so r now after free;
     })
 
-  acknowledged : (env : Wires) (y : Term) → answers (channel_width P.channels k) env k (completed hs k) (offer_at script k) ≡ true → (b : Bool) → env.ack k ≡ b → Passing P.channels k (env.rail k) b t y
-      → Followed P script (suc most) (if b then hs else passed hs k (value_on (channel_width P.channels k) (env.rail k))) y
-  acknowledged env y e true h move = stays r y move
-  acknowledged env y e false h move =
-      let o = takes_of (channel_width P.channels k) env k (completed hs k) (offer_at script k) e in
-      passes_on (env.rail k) y o.count o.is (may_low (channel_width P.channels k) env k (is_over o.count (completed hs k)) h o.may).1 move
+  acknowledged : (w : Wires) (y : Term) → answers (channel_width P.channels k) w k (completed hs k) (offer_at script k) ≡ true → (b : Bool) → w.ack k ≡ b → Passing P (of_channel k) (w.rail (of_channel k)) b t y
+      → Followed P script (suc most) (if b then hs else passed hs k (value_on (channel_width P.channels k) (w.rail (of_channel k)))) y now after
+  acknowledged w y e true h move = stays r now after free y move
+  acknowledged w y e false h move =
+      let o = takes_of (channel_width P.channels k) w k (completed hs k) (offer_at script k) e in
+      passes_on (w.rail (of_channel k)) y o.count o.is (may_low (channel_width P.channels k) w k (is_over o.count (completed hs k)) h o.may).1 move
+
+-- where no variable's acknowledge rises
+calm : {P : TypedProgram} (w now : Wires) (before after : ℕ → Bool) → ((x : ℕ) → line_ack P now (of_var x) ≡ line_ack P w (of_var x)) → ((x : ℕ) → Freed P w now (before x) (after x) x) → (x : ℕ) → after x ≡ false → (now.bit x ≡ w.bit x) × (before x ≡ false)
+calm {P = P} w now before after same frees x e = ((frees x e).0, here (frees x e).1)
+  where
+    here : (before x ≡ false) ⊎ Rises P w now x → before x ≡ false
+    here (inl b) = b
+    here (inr r) = absurd (cc (same x, r.low, r.high))
+
+-- a variable's acknowledge turns over, or it stays: where it rises the value is stored
+module _ {P : TypedProgram} {script : List OfferValue} {most : ℕ} {hs : List (List ℕ)} {t : Term} (x : ℕ) (w now : Wires) (busy after : ℕ → Bool) (r : Followed P script most hs t w.bit busy) (others : Others P x w now) (frees : (y : ℕ) → Freed P w now (busy y) (after y) y) where
+  all_same : line_ack P now (of_var x) ≡ line_ack P w (of_var x) → (y : ℕ) → line_ack P now (of_var y) ≡ line_ack P w (of_var y)
+  all_same e y = cases (y == x)
+      (λ (h : (y == x) ≡ true). ap (λ v. line_ack P now (of_var v)) (same_number y x h) ∙ (e ∙ ap (λ v. line_ack P w (of_var v)) (sym (same_number y x h))))
+      (λ (h : (y == x) ≡ false). others y h)
+
+  never_rises : line_ack P now (of_var x) ≡ false → (y : ℕ) → Rises P w now y → ⊥
+  never_rises e y z = cases (y == x)
+      (λ (h : (y == x) ≡ true). cc (ap (λ v. line_ack P now (of_var v)) (same_number y x h), e, z.high))
+      (λ (h : (y == x) ≡ false). cc (others y h, z.low, z.high))
+
+  free_of : ((y : ℕ) → Rises P w now y → ⊥) → (y : ℕ) → after y ≡ false → (now.bit y ≡ w.bit y) × (busy y ≡ false)
+  free_of none y e = ((frees y e).0, here (frees y e).1)
+    where
+      here : (busy y ≡ false) ⊎ Rises P w now y → busy y ≡ false
+      here (inl b) = b
+      here (inr z) = absurd (none y z)
+
+  kept : (y : Term) → Stored P x w now t y → Followed P script (suc most) hs y now.bit after
+  kept y (no_store e s) = stays r now.bit after (calm w now busy after (all_same e) frees) y s
+  kept y (cleared e h s) = stays r now.bit after (free_of (never_rises h)) y s
+  kept y (stores e h same pass) = record {
+    to = storing (leaving r.to pass.act.at finished) x pass.value;
+    steps = suc r.steps;
+    within = omega (arith, r.within);
+    leads = leads_on r.leads (an_assignment (ap (λ z. statement_at z pass.act.at) r.term ∙ pass.act.stands));
+    term = ap (λ z. with_left z pass.act.at finished) r.term ∙ sym pass.act.then_is;
+    passed = r.passed;
+    rests = r.rests;
+    as_many = r.as_many;
+    as_long = r.as_long;
+    as_stored = length-set r.to.store x pass.value ∙ r.as_stored;
+    stored = here;
+  }
+    where
+      here : (z : ℕ) → z < length P.vars → after z ≡ false → number_on (var_width P.vars z) (now.bit z) ≡ slice_index (set r.to.store x pass.value) z
+      here z less f = ap (number_on (var_width P.vars z)) (frees z f).0 ∙ cases (z == x)
+          (λ (h : (z == x) ≡ true). let e = same_number z x h in
+          ap (λ v. number_on (var_width P.vars v) (w.bit v)) e
+          ∙ (number_told (var_width P.vars x) (w.bit x) pass.value (same ∙ pass.read)
+          ∙ sym (ap (slice_index (set r.to.store x pass.value)) e ∙ get_or-set_same r.to.store x pass.value 0 (let g : x < length r.to.store = subst (λ (n : ℕ). x < n) (sym r.as_stored) (subst (λ (v : ℕ). v < length P.vars) e less) in g))))
+          (λ (h : (z == x) ≡ false).
+          r.stored z less (still h (frees z f).1)
+          ∙ sym (get_or-set_other r.to.store x z pass.value 0 (λ (e : z ≡ x). absurd (cc (h, ap (λ v. v == x) e, self_number x)))))
+        where
+          still : (z == x) ≡ false → (busy z ≡ false) ⊎ Rises P w now z → busy z ≡ false
+          still h (inl b) = b
+          still h (inr q) = absurd (cc (others z h, q.low, q.high))
 
 -- each move of the circuit is a step of the program or none
-pub follows : {P : TypedProgram} {script : List OfferValue} {most : ℕ} {hs : List (List ℕ)} {t : Term} → Fitted P.channels script → Followed P script most hs t → (env : Wires) (y : Term) (n : Node P.body)
-    → ((k : ℕ) → n ≡ ack_node k → answers (channel_width P.channels k) env k (completed hs k) (offer_at script k) ≡ true)
-    → Moves P.channels env t y n → Followed P script (suc most) (passed_after P.channels env hs n) y
-follows fitted r env y go_node e move = silent r y move
-follows fitted r env y (own_node s) e move = silent r y move
-follows fitted r env y (rail_node k i one) e move = silent r y move
-follows fitted r env y (ack_node k) e move = acknowledged fitted r k env y (e k refl) (env.ack k) refl move
+pub follows : {P : TypedProgram} {script : List OfferValue} {most : ℕ} {hs : List (List ℕ)} {t : Term} (w : Wires) (busy after : ℕ → Bool) → Fitted P script → Followed P script most hs t w.bit busy → (y : Term) (n : Node P.body)
+    → ((k : ℕ) → n ≡ ack_node k → answers (channel_width P.channels k) w k (completed hs k) (offer_at script k) ≡ true)
+    → ((x : ℕ) → Freed P w (wires_after w n) (busy x) (after x) x) → Moves P w t y n → Followed P script (suc most) (passed_after P.channels w hs n) y (wires_after w n).bit after
+follows w busy after fitted r y go_node e frees move = silent r w.bit after (calm w w busy after (λ x. refl) frees) y move
+follows w busy after fitted r y (own_node s) e frees move = silent r w.bit after (calm w w busy after (λ x. refl) frees) y move
+follows w busy after fitted r y (rail_node k i one) e frees move = silent r w.bit after (calm w (rail_turned w k i one) busy after (λ x. refl) frees) y move
+follows w busy after fitted r y (ack_node k) e frees move = acknowledged fitted r w.bit after (calm w (ack_turned w k) busy after (λ x. refl) frees) k w y (e k refl) (w.ack k) refl move
+follows w busy after fitted r y (bit_node x i one) e frees move = silent r (bit_turned w x i one).bit after (calm w (bit_turned w x i one) busy after (λ x. refl) frees) y move
+follows w busy after fitted r y (wrote_node x i) e frees move = kept x w (wrote_turned w x i) busy after r move.0 frees y move.1
+follows w busy after fitted r y (joint_node x k) e frees move = kept x w (joint_turned w x k) busy after r move.0 frees y move.1

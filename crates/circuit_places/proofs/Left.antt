@@ -1,9 +1,11 @@
 -- What is left of the program at a place, and its steps.
-use Rattle.std.proofs.Common.{◌≡◌, ℕ, Bool, true, false, refl, sym, ap, subst, inl, inr, ◌⊎◌}
-use Rattle.std.specs.Prelude.{Some}
-use Rattle.width_check.specs.Processes.{constant, Process, skipping, sending, repeating, Processes, no_members, and_member}
-use Rattle.chp_meaning.specs.Terms.{Term, finished, active, in_sequence, in_parallel, opened, followed, Place, here, in_first, statement_at, with_left}
-use Rattle.circuit_places.proofs.Places.{Mode, idle, running, answered, returning, link, GuardedAt, At, TurnAt, g_in, g_past, rests, at_skip, at_send, at_turn, at_body, turn_rests, at_last, at_member, at_later}
+use Rattle.std.proofs.Common.{◌≡◌, ℕ, zero, suc, Bool, true, false, List, [], ◌∷◌, refl, sym, ap, ◌∙◌, subst, inl, inr, ◌⊎◌}
+use Rattle.std.specs.Prelude.{Some, ◌&&◌, ◌||◌, if◌then◌else◌}
+use Rattle.width_check.specs.Processes.{constant, Process, skipping, assigning, sending, repeating, Processes, no_members, and_member, member_count}
+use Rattle.chp_meaning.specs.Terms.{Term, Terms, no_branches, and_branch, finished, active, in_sequence, in_parallel, is_finished, all_finished, together, opened, followed, Place, here, in_first, in_branch, statement_at, branch_at, with_left, with_branch}
+use Rattle.circuit_places.specs.Lines.{Line, of_channel, of_var, same_line, site_statement, line_width, Rails, Seen}
+use Rattle.circuit_places.specs.Circuit.{Bits, joint_count}
+use Rattle.circuit_places.proofs.Places.{Mode, idle, running, answered, returning, link, all_ask, all_ack, SideMay, GuardedAt, At, TurnAt, BranchesAt, g_rests, g_in, g_past, g_back, rests, at_skip, at_assign, at_send, at_turn, at_side, at_body, no_more, and_at, turn_rests, at_last, at_member, at_later, under_way, writing, guarded_writing, turn_writing, branches_writing}
 
 -- a statement is left until it is done
 abbrev pub waits : Mode → (over : Bool) → Term → Term
@@ -21,18 +23,24 @@ abbrev pub again : Process → Processes
 again p = and_member (repeating p) no_members
 
 abbrev mutual
-  pub guarded_left : {p : Process} {m : Mode} → (ℕ → Bool) → GuardedAt p m → Term
+  pub guarded_left : {p : Process} {m : Mode} → (Line → Bool) → GuardedAt p m → Term
   guarded_left ack (g_in {p = p} {m = m} u a h) = inner_left u m (opened p) (left ack a)
   guarded_left ack _ = finished
 
-  pub left : {p : Process} {m : Mode} → (ℕ → Bool) → At p m → Term
+  pub left : {p : Process} {m : Mode} → (Line → Bool) → At p m → Term
   left ack (at_skip m h) = waits m false (active skipping)
-  left ack (at_send {c = c} {at = at} {w = w} {v = v} m u h) = waits m (ack c) (active (sending c at (constant w v)))
+  left ack (at_assign {x = x} {at = at} {w = w} {v = v} m u h) = waits m (ack (of_var x)) (active (assigning x at (constant w v)))
+  left ack (at_send {c = c} {at = at} {w = w} {v = v} m u h) = waits m (ack (of_channel c)) (active (sending c at (constant w v)))
   left ack (at_turn t) = turn_left ack t
+  left ack (at_side m t b h) = together (branches_left ack b)
   left ack (at_body {p = p} a) = followed (left ack a) (again p)
   left ack _ = finished
 
-  pub turn_left : {members : Processes} {m : Mode} → (ℕ → Bool) → TurnAt members m → Term
+  pub branches_left : {members : Processes} {ks : List Mode} → (Line → Bool) → BranchesAt members ks → Terms
+  branches_left ack no_more = no_branches
+  branches_left ack (and_at g b) = and_branch (guarded_left ack g) (branches_left ack b)
+
+  pub turn_left : {members : Processes} {m : Mode} → (Line → Bool) → TurnAt members m → Term
   turn_left ack (at_last a) = left ack a
   turn_left ack (at_member {q = q} {more = more} g) = followed (guarded_left ack g) (and_member q more)
   turn_left ack (at_later g t h) = turn_left ack t
@@ -64,6 +72,62 @@ followed_follows more x y (inl e) = inl (ap (λ z. followed z more) e)
 followed_follows more x y (inr (skips a)) = inr (skips (followed_act more x skipping finished y a))
 followed_follows more x y (inr (goes_on {p = p} a)) = inr (goes_on (followed_act more x (repeating p) (followed (opened p) (again p)) y a))
 
+-- the same of one of several branches
+pub record ActInside (ts : Terms) (s : Process) (l : Term) (us : Terms) : Type 0 where
+  pub index : ℕ
+  pub at : Place
+  pub stands : branch_at ts index at ≡ Some s
+  pub then_is : us ≡ with_branch ts index at l
+
+pub this_act : (ts : Terms) (x : Term) (s : Process) (l y : Term) → Act x s l y → ActInside (and_branch x ts) s l (and_branch y ts)
+this_act ts x s l y a = record { index = zero; at = a.at; stands = a.stands; then_is = ap (λ z. and_branch z ts) a.then_is }
+
+pub other_act : (x : Term) (ts : Terms) (s : Process) (l : Term) (us : Terms) → ActInside ts s l us → ActInside (and_branch x ts) s l (and_branch x us)
+other_act x ts s l us a = record { index = suc a.index; at = a.at; stands = a.stands; then_is = ap (λ z. and_branch x z) a.then_is }
+
+-- branches in which a statement stands aren't all over
+pub some_stands : (t : Term) (at : Place) (s : Process) → statement_at t at ≡ Some s → is_finished t ≡ false
+some_stands finished at s e = absurd (cc e)
+some_stands (active p) at s e = refl
+some_stands (in_sequence t rest) at s e = refl
+some_stands (in_parallel ts) at s e = refl
+
+never : (b : Bool) → (b && false) ≡ false
+never true = refl
+never false = refl
+
+pub inside_stands : (ts : Terms) (k : ℕ) (at : Place) (s : Process) → branch_at ts k at ≡ Some s → all_finished ts ≡ false
+inside_stands no_branches k at s e = absurd (cc e)
+inside_stands (and_branch t ts) zero at s e = ap (λ b. b && all_finished ts) (some_stands t at s e)
+inside_stands (and_branch t ts) (suc k) at s e = ap (λ b. is_finished t && b) (inside_stands ts k at s e) ∙ never (is_finished t)
+
+pub together_act : (ts : Terms) (s : Process) (l : Term) (us : Terms) → ActInside ts s l us → Act (together ts) s l (together us)
+together_act ts s l us a =
+    subst (λ (z : Term). Act z s l (together us)) (sym (ap (λ b. if b then finished else in_parallel ts) (inside_stands ts a.index a.at s a.stands)))
+    (record { at = in_branch a.index a.at; stands = a.stands; then_is = ap together a.then_is })
+
+pub data SilentInside (ts us : Terms) : Type 0 where
+  skips_inside : ActInside ts skipping finished us → SilentInside ts us
+  goes_inside : {p : Process} → ActInside ts (repeating p) (followed (opened p) (again p)) us → SilentInside ts us
+
+abbrev pub FollowsInside : Terms → Terms → Type 0
+FollowsInside ts us = (us ≡ ts) ⊎ SilentInside ts us
+
+pub this_follows : (ts : Terms) (x y : Term) → Follows x y → FollowsInside (and_branch x ts) (and_branch y ts)
+this_follows ts x y (inl e) = inl (ap (λ z. and_branch z ts) e)
+this_follows ts x y (inr (skips a)) = inr (skips_inside (this_act ts x skipping finished y a))
+this_follows ts x y (inr (goes_on {p = p} a)) = inr (goes_inside (this_act ts x (repeating p) (followed (opened p) (again p)) y a))
+
+pub other_follows : (x : Term) (ts us : Terms) → FollowsInside ts us → FollowsInside (and_branch x ts) (and_branch x us)
+other_follows x ts us (inl e) = inl (ap (λ z. and_branch x z) e)
+other_follows x ts us (inr (skips_inside a)) = inr (skips_inside (other_act x ts skipping finished us a))
+other_follows x ts us (inr (goes_inside {p = p} a)) = inr (goes_inside (other_act x ts (repeating p) (followed (opened p) (again p)) us a))
+
+pub together_follows : (ts us : Terms) → FollowsInside ts us → Follows (together ts) (together us)
+together_follows ts us (inl e) = inl (ap together e)
+together_follows ts us (inr (skips_inside a)) = inr (skips (together_act ts skipping finished us a))
+together_follows ts us (inr (goes_inside {p = p} a)) = inr (goes_on (together_act ts (repeating p) (followed (opened p) (again p)) us a))
+
 pub skip_follows : Follows (active skipping) finished
 skip_follows = inr (skips (record { at = here; stands = refl; then_is = refl }))
 
@@ -81,25 +145,101 @@ no_run returning returning answered h o e = cc e
 no_run returning idle returning h o e = cc e
 no_run _ _ _ h o e = cc h
 
+pub guarded_left_done : {p : Process} {m : Mode} (ack : Line → Bool) (g : GuardedAt p m) → (m ≡ running → ⊥) → guarded_left ack g ≡ finished
+guarded_left_done ack g_rests o = refl
+guarded_left_done ack (g_in u a h) o = absurd (o refl)
+guarded_left_done ack g_past o = refl
+guarded_left_done ack (g_back u) o = refl
+
+-- none of the branches runs
+abbrev pub NoneRuns : List Mode → Type 0
+NoneRuns [] = Unit {0}
+NoneRuns (k ∷ ks) = (k ≡ running → ⊥) × NoneRuns ks
+
+pub none_asked : (ks : List Mode) → all_ask false ks ≡ true → NoneRuns ks
+none_asked [] h = tt
+none_asked (running ∷ ks) h = absurd (cc h)
+none_asked (answered ∷ ks) h = absurd (cc h)
+none_asked (idle ∷ ks) h = (λ e. cc e, none_asked ks h)
+none_asked (returning ∷ ks) h = (λ e. cc e, none_asked ks h)
+
+none_open : (ks : List Mode) → all_ack ks ≡ true → NoneRuns ks
+none_open [] h = tt
+none_open (running ∷ ks) h = absurd (cc h)
+none_open (idle ∷ ks) h = absurd (cc h)
+none_open (answered ∷ ks) h = (λ e. cc e, none_open ks h)
+none_open (returning ∷ ks) h = (λ e. cc e, none_open ks h)
+
+side_done : (n : ℕ) (m : Mode) (ks : List Mode) (t : Bits (joint_count n)) → SideMay n m ks t → (m ≡ running → ⊥) → NoneRuns ks
+side_done n idle ks t h o = absurd (cc h.awake)
+side_done n running ks t h o = absurd (o refl)
+side_done n answered ks t h o = none_open ks (h.all refl)
+side_done n returning ks t h o = none_asked ks h.asked
+
+pub branches_left_done : {members : Processes} {ks : List Mode} (ack : Line → Bool) (b : BranchesAt members ks) → NoneRuns ks → together (branches_left ack b) ≡ finished
+branches_left_done ack b o = ap (λ z. if z then finished else in_parallel (branches_left ack b)) (here b o)
+  where
+    here : {members : Processes} {ks : List Mode} (b : BranchesAt members ks) → NoneRuns ks → all_finished (branches_left ack b) ≡ true
+    here no_more o = refl
+    here (and_at g b) o = ap (λ z. is_finished z && all_finished (branches_left ack b)) (guarded_left_done ack g o.0) ∙ here b o.1
+
+waits_done : (m : Mode) (over : Bool) (t : Term) → (m ≡ running → ⊥) → waits m over t ≡ finished
+waits_done idle over t o = refl
+waits_done running over t o = absurd (o refl)
+waits_done answered over t o = refl
+waits_done returning over t o = refl
+
 mutual
-  pub left_done : {p : Process} {m : Mode} (ack : ℕ → Bool) (a : At p m) → (m ≡ running → ⊥) → left ack a ≡ finished
+  pub left_done : {p : Process} {m : Mode} (ack : Line → Bool) (a : At p m) → (m ≡ running → ⊥) → left ack a ≡ finished
   left_done ack rests o = refl
   left_done ack (at_skip idle h) o = refl
   left_done ack (at_skip running h) o = absurd (o refl)
   left_done ack (at_skip answered h) o = refl
   left_done ack (at_skip returning h) o = refl
-  left_done ack (at_send idle u h) o = refl
-  left_done ack (at_send running u h) o = absurd (o refl)
-  left_done ack (at_send answered u h) o = refl
-  left_done ack (at_send returning u h) o = refl
+  left_done ack (at_assign m u h) o = waits_done m _ _ o
+  left_done ack (at_send m u h) o = waits_done m _ _ o
   left_done ack (at_turn t) o = turn_left_done ack t o
+  left_done ack (at_side {members = members} {ks = ks} m t b h) o = branches_left_done ack b (side_done (member_count members) m ks t h o)
   left_done ack (at_body a) o = absurd (o refl)
 
-  pub turn_left_done : {members : Processes} {m : Mode} (ack : ℕ → Bool) (t : TurnAt members m) → (m ≡ running → ⊥) → turn_left ack t ≡ finished
+  pub turn_left_done : {members : Processes} {m : Mode} (ack : Line → Bool) (t : TurnAt members m) → (m ≡ running → ⊥) → turn_left ack t ≡ finished
   turn_left_done ack turn_rests o = refl
   turn_left_done ack (at_last a) o = left_done ack a o
   turn_left_done ack (at_member g) o = absurd (o refl)
   turn_left_done ack (at_later {k = k} {n = n} {m = m} g t h) o = turn_left_done ack t (no_run m k n h o)
 
-pub guarded_left_past : {p : Process} (ack : ℕ → Bool) (g : GuardedAt p answered) → guarded_left ack g ≡ finished
+pub guarded_left_past : {p : Process} (ack : Line → Bool) (g : GuardedAt p answered) → guarded_left ack g ≡ finished
 guarded_left_past ack g_past = refl
+
+-- and writes nothing
+pub guarded_writing_done : {p : Process} {m : Mode} (ack : Line → Bool) (g : GuardedAt p m) → (m ≡ running → ⊥) → (x : ℕ) → guarded_writing ack g x ≡ false
+guarded_writing_done ack g_rests o x = refl
+guarded_writing_done ack (g_in u a h) o x = absurd (o refl)
+guarded_writing_done ack g_past o x = refl
+guarded_writing_done ack (g_back u) o x = refl
+
+pub branches_writing_done : {members : Processes} {ks : List Mode} (ack : Line → Bool) (b : BranchesAt members ks) → NoneRuns ks → (x : ℕ) → branches_writing ack b x ≡ false
+branches_writing_done ack no_more o x = refl
+branches_writing_done ack (and_at g b) o x = ap (λ z. z || branches_writing ack b x) (guarded_writing_done ack g o.0 x) ∙ branches_writing_done ack b o.1 x
+
+under_way_done : (m : Mode) (b over : Bool) → (m ≡ running → ⊥) → (b && under_way m over) ≡ false
+under_way_done running b over o = absurd (o refl)
+under_way_done idle b over o = never b
+under_way_done answered b over o = never b
+under_way_done returning b over o = never b
+
+mutual
+  pub writing_done : {p : Process} {m : Mode} (ack : Line → Bool) (a : At p m) → (m ≡ running → ⊥) → (x : ℕ) → writing ack a x ≡ false
+  writing_done ack rests o x = refl
+  writing_done ack (at_skip m h) o x = refl
+  writing_done ack (at_assign m u h) o x = under_way_done m _ _ o
+  writing_done ack (at_send m u h) o x = refl
+  writing_done ack (at_turn t) o x = turn_writing_done ack t o x
+  writing_done ack (at_side {members = members} {ks = ks} m t b h) o x = branches_writing_done ack b (side_done (member_count members) m ks t h o) x
+  writing_done ack (at_body a) o x = absurd (o refl)
+
+  pub turn_writing_done : {members : Processes} {m : Mode} (ack : Line → Bool) (t : TurnAt members m) → (m ≡ running → ⊥) → (x : ℕ) → turn_writing ack t x ≡ false
+  turn_writing_done ack turn_rests o x = refl
+  turn_writing_done ack (at_last a) o x = writing_done ack a o x
+  turn_writing_done ack (at_member g) o x = absurd (o refl)
+  turn_writing_done ack (at_later {k = k} {n = n} {m = m} g t h) o x = turn_writing_done ack t (no_run m k n h o) x

@@ -1,11 +1,16 @@
 -- Where the control of a process is, what its nodes' values are there, and which of them may move.
-use Rattle.std.proofs.Common.{◌≡◌, ℕ, zero, suc, ◌/◌, ◌==◌, Bool, true, false, refl, sym, ap, ◌∙◌}
-use Rattle.std.specs.Prelude.{not, ◌&&◌, if◌then◌else◌}
+use Rattle.std.proofs.Common.{◌≡◌, ℕ, zero, suc, ◌/◌, ◌==◌, Bool, true, false, List, [], ◌∷◌, ◌≤◌, refl, sym, ap, ◌∙◌}
+use Rattle.std.specs.Prelude.{not, ◌&&◌, ◌||◌, if◌then◌else◌}
+use Rattle.std.specs.List.{range_with_len}
+use Rattle.std.proofs.Math.Path.{fun_ext}
 use Rattle.env_script.specs.Environment.{is_odd}
 use Rattle.chp_base.specs.declared.span.Span.{Span}
-use Rattle.width_check.specs.Processes.{Formula, constant, reading, joined, inverted, chained, compared, Process, skipping, assigning, sending, receiving, in_turn, side_by_side, choosing, repeating, Processes, no_members, and_member}
-use Rattle.circuit_places.specs.Circuit.{Guarded, Cells, TurnCells, low_pairs, low_guarded, low, low_turn, gate_count, answer, turn_answer, GuardedSpot, Spot, TurnSpot, child, latch, next, inner, of_skip, of_send, gate, in_members, of_loop, ask, in_body, in_last, in_member, in_later, fires, Wires, same_bit, constant_rule, gate_rule, guarded_rule, rule, turn_rule}
-use Rattle.circuit_places.proofs.Waves.{Wave, all_up, none_up, pairs_of, held, gate_moves, never_and, gates_can}
+use Rattle.width_check.specs.Processes.{Formula, constant, reading, joined, inverted, chained, compared, Process, skipping, assigning, sending, receiving, in_turn, side_by_side, choosing, repeating, Processes, no_members, and_member, member_count}
+use Rattle.cell_parallel.specs.Trees.{tree_top}
+use Rattle.circuit_places.specs.Lines.{Line, of_channel, of_var, same_line, site_statement, line_width, Rails, Seen}
+use Rattle.circuit_places.specs.Circuit.{Guarded, Site, SiteSpot, site_rule, low_site, Cells, TurnCells, Bits, BranchCells, low_bits, bit_at, joint_count, low_pairs, low_guarded, low, low_turn, low_branches, branch_ends, tree_answer, tree_rule, gate_count, answer, turn_answer, GuardedSpot, Spot, TurnSpot, BranchSpot, child, latch, next, inner, of_skip, done, gate, of_assign, of_send, in_members, of_branch, joint, in_this, in_others, of_loop, ask, in_body, in_last, in_member, in_later, fires, same_bit, constant_rule, gate_rule, guarded_rule, rule, turn_rule, branch_rule}
+use Rattle.circuit_places.proofs.Waves.{Wave, all_up, none_up, pairs_of, held, gate_moves, never_and, gates_can, fst_true, snd_true, same_value}
+use Rattle.circuit_places.proofs.Trees.{all_low_value, joint_quiet, low_bit, TreeOver, Settled, top_of, joint_moves}
 
 -- how far a handshake is
 pub data Mode : Type 0 where
@@ -42,12 +47,41 @@ link returning returning answered = true
 link returning idle returning = true
 link _ _ _ = false
 
--- a send that answers has all its rails up
+-- a site that answers has all its rails up
 abbrev pub wave_may : Mode → (all : Bool) → Bool
 wave_may running all = true
 wave_may answered true = true
 wave_may returning all = true
 wave_may _ _ = false
+
+-- branches that are so far are all under this request, and have all ended; their ends
+abbrev pub all_ask : Bool → List Mode → Bool
+all_ask r [] = true
+all_ask r (k ∷ ks) = same_bit (asks k) r && all_ask r ks
+
+abbrev pub all_ack : List Mode → Bool
+all_ack [] = true
+all_ack (k ∷ ks) = acks k && all_ack ks
+
+abbrev pub all_idle : List Mode → Bool
+all_idle [] = true
+all_idle (k ∷ ks) = is_idle k && all_idle ks
+
+abbrev pub ends : List Mode → ℕ → Bool
+ends [] i = false
+ends (k ∷ ks) zero = acks k
+ends (k ∷ ks) (suc i) = ends ks i
+
+-- A parallel composition of n branches is so far, where its branches are and its tree has these values: the tree over
+-- their ends is settled, its top is the answer, and where that is given under the request all branches have ended.
+pub record SideMay (n : ℕ) (m : Mode) (ks : List Mode) (t : Bits (joint_count n)) : Type 0 where
+  pub some : 2 ≤ n
+  pub known : TreeOver n
+  pub awake : is_idle m ≡ false
+  pub asked : all_ask (asks m) ks ≡ true
+  pub settles : Settled n (ends ks) t
+  pub top : top_of n (ends ks) t ≡ acks m
+  pub all : m ≡ answered → all_ack ks ≡ true
 
 mutual
   -- where a Q-element and its child are
@@ -61,9 +95,16 @@ mutual
   pub data At : Process → Mode → Type 0 where
     rests : {p : Process} → At p idle
     at_skip : (m : Mode) → is_idle m ≡ false → At skipping m
+    at_assign : {x : ℕ} {at : Span} {w v : ℕ} (m : Mode) (u : Wave w) → wave_may m (all_up w u) ≡ true → At (assigning x at (constant w v)) m
     at_send : {c : ℕ} {at : Span} {w v : ℕ} (m : Mode) (u : Wave w) → wave_may m (all_up w u) ≡ true → At (sending c at (constant w v)) m
     at_turn : {members : Processes} {m : Mode} → TurnAt members m → At (in_turn members) m
+    at_side : {members : Processes} {ks : List Mode} (m : Mode) (t : Bits (joint_count (member_count members))) → BranchesAt members ks → SideMay (member_count members) m ks t → At (side_by_side members) m
     at_body : {p : Process} {m : Mode} → At p m → At (repeating p) running
+
+  -- where branches are, each so far
+  pub data BranchesAt : Processes → List Mode → Type 0 where
+    no_more : BranchesAt no_members []
+    and_at : {p : Process} {more : Processes} {k : Mode} {ks : List Mode} → GuardedAt p k → BranchesAt more ks → BranchesAt (and_member p more) (k ∷ ks)
 
   -- where a sequence is, from one of its members on
   pub data TurnAt : Processes → Mode → Type 0 where
@@ -75,14 +116,17 @@ mutual
 abbrev pub guarded_of : {A : Type 0} → (child latch next : Bool) → A → Guarded A
 guarded_of c u b x = record { child = c; latch = u; next = b; inner = x }
 
-abbrev pub site_of : (c : ℕ) (at : Span) (w v : ℕ) → Bool → Wave w → Cells (sending c at (constant w v))
-site_of c at w v a u = record { answer = a; gates = pairs_of w v u }
+abbrev pub site_of : (w v : ℕ) → Bool → Wave w → Site w
+site_of w v a u = record { answer = a; gates = pairs_of w v u }
 
 abbrev pub ring_of : (p : Process) → Bool → Cells p → Cells (repeating p)
 ring_of p b x = record { answer = false; ask = b; inner = x }
 
 abbrev pub turn_of : (p q : Process) (more : Processes) → Guarded (Cells p) → TurnCells (and_member q more) → TurnCells (and_member p (and_member q more))
 turn_of p q more x y = record { member = x; later = y }
+
+abbrev pub sides_of : (members : Processes) → BranchCells members → Bits (joint_count (member_count members)) → Cells (side_by_side members)
+sides_of members x t = record { branches = x; tree = t }
 
 -- the values of the nodes there
 abbrev mutual
@@ -95,9 +139,15 @@ abbrev mutual
   pub cells : {p : Process} {m : Mode} → At p m → Cells p
   cells {p = p} rests = low p
   cells (at_skip m h) = acks m
-  cells (at_send {c = c} {at = at} {w = w} {v = v} m u h) = site_of c at w v (acks m) u
+  cells (at_assign {w = w} {v = v} m u h) = site_of w v (acks m) u
+  cells (at_send {w = w} {v = v} m u h) = site_of w v (acks m) u
   cells (at_turn t) = turn_cells t
+  cells (at_side {members = members} m t b h) = sides_of members (branch_cells b) t
   cells (at_body {p = p} {m = m} a) = ring_of p (asks m) (cells a)
+
+  pub branch_cells : {members : Processes} {ks : List Mode} → BranchesAt members ks → BranchCells members
+  branch_cells no_more = tt
+  branch_cells (and_at g b) = (guarded_cells g, branch_cells b)
 
   pub turn_cells : {members : Processes} {m : Mode} → TurnAt members m → TurnCells members
   turn_cells {members = members} turn_rests = low_turn members
@@ -105,19 +155,32 @@ abbrev mutual
   turn_cells (at_member {p = p} {q = q} {more = more} g) = turn_of p q more (guarded_cells g) (low_turn (and_member q more))
   turn_cells (at_later {p = p} {q = q} {more = more} g t h) = turn_of p q more (guarded_cells g) (turn_cells t)
 
--- What a place shows to the channels: whether a send on the channel is under way, and a receive; whether a site's rail is
--- high, and its acknowledge. No statement receives yet.
+-- What a place shows to what stands apart: whether a site of the line is under way, and whether its acknowledge's rise is
+-- then its step; whether a site's rail is high; whether a receive is under way, and has taken a value; which variables
+-- are read. No statement receives or reads yet.
 pub record Shown : Type 0 where
-  pub talk : (chan : ℕ) → Bool
+  pub talk : Line → Bool
+  pub says : Line → Bool
+  pub offer : Line → Rails
   pub listen : (chan : ℕ) → Bool
-  pub offer : (chan bit : ℕ) → Bool → Bool
   pub take : (chan : ℕ) → Bool
+  pub read : (var : ℕ) → Bool
 
 abbrev pub none_shown : Shown
-none_shown = record { talk = λ k. false; listen = λ k. false; offer = λ k i one. false; take = λ k. false }
+none_shown = record { talk = λ k. false; says = λ k. false; offer = λ k i one. false; listen = λ k. false; take = λ k. false; read = λ x. false }
 
-abbrev pub send_shown : (c w v : ℕ) → Wave w → Shown
-send_shown c w v u = record { talk = λ k. c == k; listen = λ k. false; offer = λ k i one. (c == k) && held w v u i one; take = λ k. false }
+abbrev pub both_shown : Shown → Shown → Shown
+both_shown x y = record {
+  talk = λ k. x.talk k || y.talk k;
+  says = λ k. x.says k || y.says k;
+  offer = λ k i one. x.offer k i one || y.offer k i one;
+  listen = λ k. x.listen k || y.listen k;
+  take = λ k. x.take k || y.take k;
+  read = λ v. x.read v || y.read v;
+}
+
+abbrev pub site_shown : Line → (w v : ℕ) → Wave w → Shown
+site_shown k w v u = record { talk = λ j. same_line k j; says = λ j. same_line k j; offer = λ j i one. same_line k j && held w v u i one; listen = λ j. false; take = λ j. false; read = λ x. false }
 
 abbrev mutual
   pub guarded_shown : {p : Process} {m : Mode} → GuardedAt p m → Shown
@@ -125,10 +188,16 @@ abbrev mutual
   guarded_shown _ = none_shown
 
   pub shown : {p : Process} {m : Mode} → At p m → Shown
-  shown (at_send {c = c} {w = w} {v = v} m u h) = send_shown c w v u
+  shown (at_assign {x = x} {w = w} {v = v} m u h) = site_shown (of_var x) w v u
+  shown (at_send {c = c} {w = w} {v = v} m u h) = site_shown (of_channel c) w v u
   shown (at_turn t) = turn_shown t
+  shown (at_side m t b h) = branches_shown b
   shown (at_body a) = shown a
   shown _ = none_shown
+
+  pub branches_shown : {members : Processes} {ks : List Mode} → BranchesAt members ks → Shown
+  branches_shown no_more = none_shown
+  branches_shown (and_at g b) = both_shown (guarded_shown g) (branches_shown b)
 
   pub turn_shown : {members : Processes} {m : Mode} → TurnAt members m → Shown
   turn_shown (at_last a) = shown a
@@ -136,7 +205,34 @@ abbrev mutual
   turn_shown (at_later g t h) = turn_shown t
   turn_shown turn_rests = none_shown
 
--- the acknowledge fits the send that is under way, where all of its rails are up and where none is
+-- the variable is being written: an assignment to it runs under a low acknowledge
+abbrev pub under_way : Mode → (over : Bool) → Bool
+under_way running over = not over
+under_way _ over = false
+
+abbrev mutual
+  pub guarded_writing : {p : Process} {m : Mode} → (Line → Bool) → GuardedAt p m → ℕ → Bool
+  guarded_writing ack (g_in u a h) x = writing ack a x
+  guarded_writing ack _ x = false
+
+  pub writing : {p : Process} {m : Mode} → (Line → Bool) → At p m → ℕ → Bool
+  writing ack (at_assign {x = y} m u h) x = (y == x) && under_way m (ack (of_var y))
+  writing ack (at_turn t) x = turn_writing ack t x
+  writing ack (at_side m t b h) x = branches_writing ack b x
+  writing ack (at_body a) x = writing ack a x
+  writing ack _ x = false
+
+  pub branches_writing : {members : Processes} {ks : List Mode} → (Line → Bool) → BranchesAt members ks → ℕ → Bool
+  branches_writing ack no_more x = false
+  branches_writing ack (and_at g b) x = guarded_writing ack g x || branches_writing ack b x
+
+  pub turn_writing : {members : Processes} {m : Mode} → (Line → Bool) → TurnAt members m → ℕ → Bool
+  turn_writing ack (at_last a) x = writing ack a x
+  turn_writing ack (at_member g) x = guarded_writing ack g x
+  turn_writing ack (at_later g t h) x = turn_writing ack t x
+  turn_writing ack turn_rests x = false
+
+-- the acknowledge fits the site that is under way, where all of its rails are up and where none is
 abbrev pub send_fits : Mode → (all none ack : Bool) → Bool
 send_fits running false n a = not a
 send_fits answered f n a = a
@@ -144,25 +240,35 @@ send_fits returning f false a = a
 send_fits _ _ _ _ = true
 
 abbrev mutual
-  pub GuardedFits : {p : Process} {m : Mode} → GuardedAt p m → Wires → Type 0
+  pub GuardedFits : {p : Process} {m : Mode} → GuardedAt p m → Seen → Type 0
   GuardedFits (g_in u a h) env = Fits a env
   GuardedFits _ env = Unit {0}
 
-  pub Fits : {p : Process} {m : Mode} → At p m → Wires → Type 0
-  Fits (at_send {c = c} {w = w} m u h) env = send_fits m (all_up w u) (none_up w u) (env.ack c) ≡ true
+  pub Fits : {p : Process} {m : Mode} → At p m → Seen → Type 0
+  Fits (at_assign {x = x} {w = w} m u h) env = send_fits m (all_up w u) (none_up w u) (env.ack (of_var x)) ≡ true
+  Fits (at_send {c = c} {w = w} m u h) env = send_fits m (all_up w u) (none_up w u) (env.ack (of_channel c)) ≡ true
   Fits (at_turn t) env = TurnFits t env
+  Fits (at_side m t b h) env = BranchesFit b env
   Fits (at_body a) env = Fits a env
   Fits _ env = Unit {0}
 
-  pub TurnFits : {members : Processes} {m : Mode} → TurnAt members m → Wires → Type 0
+  pub BranchesFit : {members : Processes} {ks : List Mode} → BranchesAt members ks → Seen → Type 0
+  BranchesFit no_more env = Unit {0}
+  BranchesFit (and_at g b) env = GuardedFits g env × BranchesFit b env
+
+  pub TurnFits : {members : Processes} {m : Mode} → TurnAt members m → Seen → Type 0
   TurnFits (at_last a) env = Fits a env
   TurnFits (at_member g) env = GuardedFits g env
   TurnFits (at_later g t h) env = TurnFits t env
   TurnFits turn_rests env = Unit {0}
 
 -- which nodes may move
+abbrev pub site_moves : (ack : Bool) (w v : ℕ) (m : Mode) → Wave w → SiteSpot (constant w v) → Bool
+site_moves ack w v m u done = if acks m then not ack else asks m && ack
+site_moves ack w v m u (gate i one) = gate_moves w v (asks m) u i one
+
 abbrev mutual
-  pub guarded_moves : {p : Process} {m : Mode} → Wires → GuardedAt p m → GuardedSpot p → Bool
+  pub guarded_moves : {p : Process} {m : Mode} → Seen → GuardedAt p m → GuardedSpot p → Bool
   guarded_moves env (g_in {m = m} u a h) child = if asks m then u else not u
   guarded_moves env (g_in {m = m} u a h) latch = if u then false else acks m
   guarded_moves env (g_in {m = m} u a h) next = u && not (acks m)
@@ -171,16 +277,23 @@ abbrev mutual
   guarded_moves env (g_back u) next = not u
   guarded_moves _ _ _ = false
 
-  pub moves : {p : Process} {m : Mode} → Wires → At p m → Spot p → Bool
+  pub moves : {p : Process} {m : Mode} → Seen → At p m → Spot p → Bool
   moves env (at_skip m h) of_skip = if acks m then not (asks m) else asks m
-  moves env (at_send {c = c} m u h) of_send = if acks m then not (env.ack c) else asks m && env.ack c
-  moves env (at_send {w = w} {v = v} m u h) (gate i one) = gate_moves w v (asks m) u i one
+  moves env (at_assign {x = x} {w = w} {v = v} m u h) (of_assign s) = site_moves (env.ack (of_var x)) w v m u s
+  moves env (at_send {c = c} {w = w} {v = v} m u h) (of_send s) = site_moves (env.ack (of_channel c)) w v m u s
   moves env (at_turn t) (in_members s) = turn_moves env t s
+  moves env (at_side m t b h) (of_branch s) = branch_moves env b s
+  moves env (at_side {members = members} {ks = ks} m t b h) (joint k) = joint_moves (member_count members) (ends ks) t k
   moves env (at_body {m = m} a) ask = if asks m then acks m else not (acks m)
   moves env (at_body a) (in_body s) = moves env a s
   moves _ _ _ = false
 
-  pub turn_moves : {members : Processes} {m : Mode} → Wires → TurnAt members m → TurnSpot members → Bool
+  pub branch_moves : {members : Processes} {ks : List Mode} → Seen → BranchesAt members ks → BranchSpot members → Bool
+  branch_moves env (and_at g b) (in_this s) = guarded_moves env g s
+  branch_moves env (and_at g b) (in_others s) = branch_moves env b s
+  branch_moves env no_more s = false
+
+  pub turn_moves : {members : Processes} {m : Mode} → Seen → TurnAt members m → TurnSpot members → Bool
   turn_moves env (at_last a) (in_last s) = moves env a s
   turn_moves env (at_member g) (in_member s) = guarded_moves env g s
   turn_moves env (at_later g t h) (in_member s) = guarded_moves env g s
@@ -188,6 +301,16 @@ abbrev mutual
   turn_moves _ _ _ = false
 
 -- nothing answers at rest
+pub low_end : (members : Processes) (i : ℕ) → branch_ends members (low_branches members) i ≡ false
+low_end no_members i = refl
+low_end (and_member p more) zero = refl
+low_end (and_member p more) (suc i) = low_end more i
+
+low_sides_answer : (members : Processes) → answer (side_by_side members) (low (side_by_side members)) ≡ false
+low_sides_answer members =
+    let n = member_count members in
+    all_low_value n (branch_ends members (low_branches members)) (bit_at (joint_count n) (low_bits (joint_count n))) (low_end members) (low_bit (joint_count n)) (tree_top (range_with_len 0 n) n)
+
 mutual
   pub low_answer : (p : Process) → answer p (low p) ≡ false
   low_answer skipping = refl
@@ -196,7 +319,7 @@ mutual
   low_answer (repeating p) = refl
   low_answer (assigning x at e) = refl
   low_answer (receiving c at x to) = refl
-  low_answer (side_by_side _) = refl
+  low_answer (side_by_side members) = low_sides_answer members
   low_answer (choosing again _) = refl
 
   pub low_turn_answer : (members : Processes) → turn_answer members (low_turn members) ≡ false
@@ -240,13 +363,24 @@ not_running returning returning answered h e = cc e
 not_running returning idle returning h e = cc e
 not_running _ _ _ h e = absurd (cc h)
 
+-- the ends of branches are those of their modes
+pub ends_at : {members : Processes} {ks : List Mode} (b : BranchesAt members ks) (i : ℕ) → branch_ends members (branch_cells b) i ≡ ends ks i
+ends_at no_more i = refl
+ends_at (and_at g b) zero = next_is g
+ends_at (and_at g b) (suc i) = ends_at b i
+
+pub ends_are : {members : Processes} {ks : List Mode} (b : BranchesAt members ks) → branch_ends members (branch_cells b) ≡ ends ks
+ends_are b = fun_ext (λ i. ends_at b i)
+
 -- the answer of a place is that of its mode
 mutual
   pub answer_is : {p : Process} {m : Mode} (a : At p m) → answer p (cells a) ≡ acks m
   answer_is {p = p} rests = low_answer p
   answer_is (at_skip m h) = refl
+  answer_is (at_assign m u h) = refl
   answer_is (at_send m u h) = refl
   answer_is (at_turn t) = turn_answer_is t
+  answer_is (at_side {members = members} m t b h) = ap (λ (f : ℕ → Bool). tree_answer (member_count members) f (bit_at (joint_count (member_count members)) t)) (ends_are b) ∙ h.top
   answer_is (at_body a) = refl
 
   pub turn_answer_is : {members : Processes} {m : Mode} (t : TurnAt members m) → turn_answer members (turn_cells t) ≡ acks m
@@ -270,35 +404,50 @@ low_gate_quiet (inverted e) i one = refl
 low_gate_quiet (chained e more) i one = refl
 low_gate_quiet (compared op e f) i one = refl
 
+low_site_quiet : (e : Formula) (ack : Bool) (s : SiteSpot e) → fires (site_rule e ack false (low_site e) s) ≡ false
+low_site_quiet e ack done = refl
+low_site_quiet e ack (gate i one) = low_gate_quiet e i one
+
 mutual
-  pub low_guarded_quiet : (p : Process) (env : Wires) (s : GuardedSpot p) → fires (guarded_rule p env false (low_guarded (low p)) s) ≡ false
+  pub low_guarded_quiet : (p : Process) (env : Seen) (s : GuardedSpot p) → fires (guarded_rule p env false (low_guarded (low p)) s) ≡ false
   low_guarded_quiet p env child = refl
   low_guarded_quiet p env latch = low_answer p
   low_guarded_quiet p env next = refl
   low_guarded_quiet p env (inner s) = low_quiet p env s
 
-  pub low_quiet : (p : Process) (env : Wires) (s : Spot p) → fires (rule p env false (low p) s) ≡ false
+  pub low_quiet : (p : Process) (env : Seen) (s : Spot p) → fires (rule p env false (low p) s) ≡ false
   low_quiet skipping env of_skip = refl
-  low_quiet (sending c at e) env of_send = refl
-  low_quiet (sending c at e) env (gate i one) = low_gate_quiet e i one
+  low_quiet (assigning x at e) env (of_assign s) = low_site_quiet e (env.ack (of_var x)) s
+  low_quiet (sending c at e) env (of_send s) = low_site_quiet e (env.ack (of_channel c)) s
   low_quiet (in_turn members) env (in_members s) = low_turn_quiet members env s
   low_quiet (repeating p) env of_loop = refl
   low_quiet (repeating p) env ask = refl
   low_quiet (repeating p) env (in_body s) = low_quiet p env s
-  low_quiet (assigning x at e) env s = refl
   low_quiet (receiving c at x to) env s = refl
-  low_quiet (side_by_side _) env s = refl
+  low_quiet (side_by_side members) env (of_branch s) = low_branch_quiet members env s
+  low_quiet (side_by_side members) env (joint k) =
+      let n = member_count members in
+      joint_quiet n (branch_ends members (low_branches members)) (bit_at (joint_count n) (low_bits (joint_count n))) (low_end members) (low_bit (joint_count n)) k
   low_quiet (choosing again _) env s = refl
 
-  pub low_turn_quiet : (members : Processes) (env : Wires) (s : TurnSpot members) → fires (turn_rule members env false (low_turn members) s) ≡ false
+  pub low_branch_quiet : (members : Processes) (env : Seen) (s : BranchSpot members) → fires (branch_rule members env false (low_branches members) s) ≡ false
+  low_branch_quiet no_members env s = refl
+  low_branch_quiet (and_member p more) env (in_this s) = low_guarded_quiet p env s
+  low_branch_quiet (and_member p more) env (in_others s) = low_branch_quiet more env s
+
+  pub low_turn_quiet : (members : Processes) (env : Seen) (s : TurnSpot members) → fires (turn_rule members env false (low_turn members) s) ≡ false
   low_turn_quiet no_members env s = refl
   low_turn_quiet (and_member p no_members) env (in_last s) = low_quiet p env s
   low_turn_quiet (and_member p (and_member q more)) env (in_member s) = low_guarded_quiet p env s
   low_turn_quiet (and_member p (and_member q more)) env (in_later s) = low_turn_quiet (and_member q more) env s
 
 -- the rules allow what a place says
+site_can_is : (ack : Bool) (w v : ℕ) (m : Mode) (u : Wave w) (s : SiteSpot (constant w v)) → fires (site_rule (constant w v) ack (asks m) (site_of w v (acks m) u) s) ≡ site_moves ack w v m u s
+site_can_is ack w v m u done = refl
+site_can_is ack w v m u (gate i one) = gates_can w v (asks m) u i one
+
 mutual
-  pub guarded_can_is : {p : Process} {m : Mode} (env : Wires) (g : GuardedAt p m) (s : GuardedSpot p) → fires (guarded_rule p env (asks m) (guarded_cells g) s) ≡ guarded_moves env g s
+  pub guarded_can_is : {p : Process} {m : Mode} (env : Seen) (g : GuardedAt p m) (s : GuardedSpot p) → fires (guarded_rule p env (asks m) (guarded_cells g) s) ≡ guarded_moves env g s
   guarded_can_is {p = p} env g_rests s = low_guarded_quiet p env s
   guarded_can_is env (g_in {m = m} u a h) child = refl
   guarded_can_is env (g_in {m = m} u a h) latch = ap (λ d. if u then false else d) (answer_is a)
@@ -317,17 +466,24 @@ mutual
   guarded_can_is {p = p} env (g_back u) next = refl
   guarded_can_is {p = p} env (g_back u) (inner s) = low_quiet p env s
 
-  pub can_is : {p : Process} {m : Mode} (env : Wires) (a : At p m) (s : Spot p) → fires (rule p env (asks m) (cells a) s) ≡ moves env a s
+  pub can_is : {p : Process} {m : Mode} (env : Seen) (a : At p m) (s : Spot p) → fires (rule p env (asks m) (cells a) s) ≡ moves env a s
   can_is {p = p} env rests s = low_quiet p env s
   can_is env (at_skip m h) of_skip = refl
-  can_is env (at_send m u h) of_send = refl
-  can_is env (at_send {w = w} {v = v} m u h) (gate i one) = gates_can w v (asks m) u i one
+  can_is env (at_assign {x = x} {w = w} {v = v} m u h) (of_assign s) = site_can_is (env.ack (of_var x)) w v m u s
+  can_is env (at_send {c = c} {w = w} {v = v} m u h) (of_send s) = site_can_is (env.ack (of_channel c)) w v m u s
   can_is env (at_turn t) (in_members s) = turn_can_is env t s
+  can_is env (at_side m t b h) (of_branch s) = branch_can_is env (asks m) b h.asked s
+  can_is env (at_side {members = members} m t b h) (joint k) = ap (λ (f : ℕ → Bool). fires (tree_rule (member_count members) f (bit_at (joint_count (member_count members)) t) k)) (ends_are b)
   can_is env (at_body a) of_loop = refl
   can_is env (at_body {m = m} a) ask = ap (λ d. if asks m then d else not d) (answer_is a)
   can_is env (at_body a) (in_body s) = can_is env a s
 
-  pub turn_can_is : {members : Processes} {m : Mode} (env : Wires) (t : TurnAt members m) (s : TurnSpot members) → fires (turn_rule members env (asks m) (turn_cells t) s) ≡ turn_moves env t s
+  pub branch_can_is : {members : Processes} {ks : List Mode} (env : Seen) (r : Bool) (b : BranchesAt members ks) → all_ask r ks ≡ true → (s : BranchSpot members) → fires (branch_rule members env r (branch_cells b) s) ≡ branch_moves env b s
+  branch_can_is env r no_more h s = refl
+  branch_can_is env r (and_at {p = p} {k = k} g b) h (in_this s) = ap (λ x. fires (guarded_rule p env x (guarded_cells g) s)) (sym (same_value (asks k) r (fst_true _ _ h))) ∙ guarded_can_is env g s
+  branch_can_is env r (and_at g b) h (in_others s) = branch_can_is env r b (snd_true _ _ h) s
+
+  pub turn_can_is : {members : Processes} {m : Mode} (env : Seen) (t : TurnAt members m) (s : TurnSpot members) → fires (turn_rule members env (asks m) (turn_cells t) s) ≡ turn_moves env t s
   turn_can_is {members = members} env turn_rests s = low_turn_quiet members env s
   turn_can_is env (at_last a) (in_last s) = can_is env a s
   turn_can_is env (at_member g) (in_member s) = guarded_can_is env g s

@@ -1,47 +1,55 @@
 -- Where none of its nodes moves, a statement is done, or waits for an acknowledge.
-use Rattle.std.proofs.Common.{◌≡◌, ◌≢◌, ℕ, ◌==◌, Bool, true, false, List, refl, sym, ap, ◌∙◌, subst}
-use Rattle.std.specs.Prelude.{not, ◌&&◌, Some}
-use Rattle.chp_base.specs.declared.channel.Channel.{Channel}
+use Rattle.std.proofs.Common.{◌≡◌, ◌≢◌, ℕ, zero, suc, ◌<◌, ◌==◌, Bool, true, false, List, ◌∷◌, refl, sym, ap, ◌∙◌, subst}
+use Rattle.std.specs.Prelude.{not, ◌&&◌, if◌then◌else◌, Some}
 use Rattle.chp_base.specs.declared.span.Span.{Span}
-use Rattle.width_check.specs.Processes.{constant, Process, sending, Processes, and_member}
-use Rattle.chp_meaning.specs.Terms.{Term, finished, active, in_sequence, in_parallel, followed, Place, here as at_here, in_first, in_branch, statement_at}
-use Rattle.circuit_places.specs.Circuit.{Wires, GuardedSpot, Spot, TurnSpot, child, latch, next, inner, of_skip, of_send, gate, in_members, ask, in_body, in_last, in_member, in_later}
-use Rattle.circuit_places.proofs.Waves.{Wave, all_up, none_up, held, snd_true, both_true, still_all, still_none, none_held, never_and}
-use Rattle.circuit_places.proofs.Places.{Mode, idle, running, answered, returning, asks, acks, wave_may, GuardedAt, At, TurnAt, g_rests, g_in, g_past, g_back, rests, at_skip, at_send, at_turn, at_body, turn_rests, at_last, at_member, at_later, Shown, guarded_shown, shown, turn_shown, send_shown, guarded_moves, moves, turn_moves}
-use Rattle.circuit_places.proofs.Meets.{SendMeets, Meets, TurnMeets}
-use Rattle.circuit_places.proofs.Left.{waits, again, guarded_left, left, turn_left}
-use Rattle.circuit_places.proofs.Flow.{self_number}
+use Rattle.width_check.specs.Processes.{constant, Process, assigning, sending, side_by_side, Processes, and_member, member_count, TypedProgram}
+use Rattle.chp_meaning.specs.Terms.{Term, Terms, and_branch, is_finished, all_finished, together, finished, active, in_sequence, in_parallel, followed, Place, here as at_here, in_first, in_branch, statement_at, branch_at}
+use Rattle.circuit_places.specs.Lines.{Line, of_channel, of_var, same_line, site_statement, line_width, Rails, Seen}
+use Rattle.circuit_places.specs.Circuit.{SiteSpot, Bits, bit_at, joint_count, same_bit, GuardedSpot, Spot, TurnSpot, BranchSpot, child, latch, next, inner, of_skip, done, gate, of_assign, of_send, in_members, of_branch, joint, in_this, in_others, ask, in_body, in_last, in_member, in_later}
+use Rattle.circuit_places.proofs.Waves.{Wave, all_up, none_up, held, fst_true, snd_true, same_value, both_true, still_all, still_none, none_held, never_and}
+use Rattle.circuit_places.proofs.Places.{Mode, idle, running, answered, returning, asks, acks, wave_may, all_ask, all_ack, ends, SideMay, GuardedAt, At, TurnAt, BranchesAt, g_rests, g_in, g_past, g_back, rests, at_skip, at_assign, at_send, at_turn, at_side, at_body, no_more, and_at, turn_rests, at_last, at_member, at_later, Shown, both_shown, guarded_shown, shown, turn_shown, branches_shown, site_shown, site_moves, guarded_moves, moves, turn_moves, branch_moves}
+use Rattle.circuit_places.proofs.Meets.{SiteMeets, Meets, TurnMeets, EachMeets}
+use Rattle.circuit_places.proofs.Left.{waits, again, guarded_left, left, turn_left, branches_left, guarded_left_past, inside_stands, some_stands}
+use Rattle.circuit_places.proofs.Flow.{or_left, or_right}
+use Rattle.circuit_places.proofs.LineNames.{self_number, same_number, self_line, same_line_is}
+use Rattle.circuit_places.proofs.Begin.{ends_high}
+use Rattle.circuit_places.proofs.Talks.{Beside, beside, or_false_left, or_false_right}
+use Rattle.circuit_places.proofs.Trees.{waits_on}
 
--- a send that holds its number's rails, whose acknowledge is low
-pub record Blocked (channels : List Channel) (s : Process) (env : Wires) (x : Shown) : Type 0 where
+-- A site of the line holds its number's rails, and the acknowledge is low.
+pub record Full (P : TypedProgram) (k : Line) (width value : ℕ) (env : Seen) (x : Shown) : Type 0 where
+  pub wave : Wave width
+  pub meets : SiteMeets P k width value
+  pub low : env.ack k ≡ false
+  pub full : all_up width wave ≡ true
+  pub talks : x.talk k ≡ true
+  pub holds : (i : ℕ) (one : Bool) → held width value wave i one ≡ true → x.offer k i one ≡ true
+  pub only : (i : ℕ) (one : Bool) → x.offer k i one ≡ true → held width value wave i one ≡ true
+
+-- a send whose site is so
+pub record Blocked (P : TypedProgram) (s : Process) (env : Seen) (x : Shown) : Type 0 where
   pub channel : ℕ
   pub span : Span
   pub width : ℕ
   pub value : ℕ
-  pub wave : Wave width
+  pub site : Full P (of_channel channel) width value env x
   pub is : s ≡ sending channel span (constant width value)
-  pub meets : SendMeets channels channel width value
-  pub low : env.ack channel ≡ false
-  pub full : all_up width wave ≡ true
-  pub talks : x.talk channel ≡ true
-  pub holds : (i : ℕ) (one : Bool) → held width value wave i one ≡ true → x.offer channel i one ≡ true
-  pub only : (i : ℕ) (one : Bool) → x.offer channel i one ≡ true → held width value wave i one ≡ true
 
 -- each statement that the term might go on with is such a send
-pub record Waiting (channels : List Channel) (t : Term) (env : Wires) (x : Shown) : Type 0 where
+pub record Waiting (P : TypedProgram) (t : Term) (env : Seen) (x : Shown) : Type 0 where
   pub going : t ≢ finished
-  pub blocked : (at : Place) (s : Process) → statement_at t at ≡ Some s → Blocked channels s env x
+  pub blocked : (at : Place) (s : Process) → statement_at t at ≡ Some s → Blocked P s env x
 
--- a send that let go of its rails, whose acknowledge is high
-pub record Hanging (env : Wires) (x : Shown) : Type 0 where
-  pub channel : ℕ
-  pub high : env.ack channel ≡ true
-  pub none : (i : ℕ) (one : Bool) → x.offer channel i one ≡ false
+-- what others are to move on: a site that let go of its rails, whose acknowledge is high, or an assignment that isn't
+-- stored
+pub data Hanging (P : TypedProgram) (env : Seen) (x : Shown) : Type 0 where
+  let_go : (k : Line) → env.ack k ≡ true → x.talk k ≡ true → ((i : ℕ) (one : Bool) → x.offer k i one ≡ false) → Hanging P env x
+  unstored : (v : ℕ) {width value : ℕ} → Full P (of_var v) width value env x → Hanging P env x
 
-pub data Rest (channels : List Channel) (m : Mode) (t : Term) (env : Wires) (x : Shown) : Type 0 where
-  settled : acks m ≡ asks m → Rest channels m t env x
-  waiting : m ≡ running → Waiting channels t env x → Rest channels m t env x
-  hanging : Hanging env x → Rest channels m t env x
+pub data Rest (P : TypedProgram) (m : Mode) (t : Term) (env : Seen) (x : Shown) : Type 0 where
+  settled : acks m ≡ asks m → Rest P m t env x
+  waiting : m ≡ running → Waiting P t env x → Rest P m t env x
+  hanging : Hanging P env x → Rest P m t env x
 
 then_going : (more : Processes) (t : Term) → t ≢ finished → followed t more ≢ finished
 then_going more finished ne = absurd (ne refl)
@@ -49,104 +57,250 @@ then_going more (active p) ne = λ e. cc e
 then_going more (in_sequence t rest) ne = λ e. cc e
 then_going more (in_parallel ts) ne = λ e. cc e
 
-then_blocked : (channels : List Channel) (more : Processes) (t : Term) (env : Wires) (x : Shown) → t ≢ finished → ((at : Place) (s : Process) → statement_at t at ≡ Some s → Blocked channels s env x) → (at : Place) (s : Process) → statement_at (followed t more) at ≡ Some s → Blocked channels s env x
-then_blocked channels more finished env x ne b at s e = absurd (ne refl)
-then_blocked channels more (active p) env x ne b (in_first at) s e = b at s e
-then_blocked channels more (in_sequence t rest) env x ne b (in_first at) s e = b at s e
-then_blocked channels more (in_parallel ts) env x ne b (in_first at) s e = b at s e
-then_blocked channels more (active p) env x ne b at_here s e = absurd (cc e)
-then_blocked channels more (in_sequence t rest) env x ne b at_here s e = absurd (cc e)
-then_blocked channels more (in_parallel ts) env x ne b at_here s e = absurd (cc e)
-then_blocked channels more (active p) env x ne b (in_branch k at) s e = absurd (cc e)
-then_blocked channels more (in_sequence t rest) env x ne b (in_branch k at) s e = absurd (cc e)
-then_blocked channels more (in_parallel ts) env x ne b (in_branch k at) s e = absurd (cc e)
+then_blocked : (P : TypedProgram) (more : Processes) (t : Term) (env : Seen) (x : Shown) → t ≢ finished → ((at : Place) (s : Process) → statement_at t at ≡ Some s → Blocked P s env x) → (at : Place) (s : Process) → statement_at (followed t more) at ≡ Some s → Blocked P s env x
+then_blocked P more finished env x ne b at s e = absurd (ne refl)
+then_blocked P more (active p) env x ne b (in_first at) s e = b at s e
+then_blocked P more (in_sequence t rest) env x ne b (in_first at) s e = b at s e
+then_blocked P more (in_parallel ts) env x ne b (in_first at) s e = b at s e
+then_blocked P more (active p) env x ne b at_here s e = absurd (cc e)
+then_blocked P more (in_sequence t rest) env x ne b at_here s e = absurd (cc e)
+then_blocked P more (in_parallel ts) env x ne b at_here s e = absurd (cc e)
+then_blocked P more (active p) env x ne b (in_branch k at) s e = absurd (cc e)
+then_blocked P more (in_sequence t rest) env x ne b (in_branch k at) s e = absurd (cc e)
+then_blocked P more (in_parallel ts) env x ne b (in_branch k at) s e = absurd (cc e)
 
-waiting_then : (channels : List Channel) (more : Processes) (t : Term) (env : Wires) (x : Shown) → Waiting channels t env x → Waiting channels (followed t more) env x
-waiting_then channels more t env x r = record { going = then_going more t r.going; blocked = then_blocked channels more t env x r.going r.blocked }
+waiting_then : (P : TypedProgram) (more : Processes) (t : Term) (env : Seen) (x : Shown) → Waiting P t env x → Waiting P (followed t more) env x
+waiting_then P more t env x r = record { going = then_going more t r.going; blocked = then_blocked P more t env x r.going r.blocked }
 
 -- of a part that runs, and of one that returns
-running_rest : (channels : List Channel) (t y : Term) (env : Wires) (x : Shown) → (Waiting channels t env x → Waiting channels y env x) → Rest channels running t env x → Rest channels running y env x
-running_rest channels t y env x f (settled e) = absurd (cc e)
-running_rest channels t y env x f (waiting e r) = waiting refl (f r)
-running_rest channels t y env x f (hanging r) = hanging r
+running_rest : (P : TypedProgram) (t y : Term) (env : Seen) (x : Shown) → (Waiting P t env x → Waiting P y env x) → Rest P running t env x → Rest P running y env x
+running_rest P t y env x f (settled e) = absurd (cc e)
+running_rest P t y env x f (waiting e r) = waiting refl (f r)
+running_rest P t y env x f (hanging r) = hanging r
 
-returning_rest : (channels : List Channel) (m : Mode) (t y : Term) (env : Wires) (x : Shown) → Rest channels returning t env x → Rest channels m y env x
-returning_rest channels m t y env x (settled e) = absurd (cc e)
-returning_rest channels m t y env x (waiting e r) = absurd (cc e)
-returning_rest channels m t y env x (hanging r) = hanging r
+returning_rest : (P : TypedProgram) (m : Mode) (t y : Term) (env : Seen) (x : Shown) → Rest P returning t env x → Rest P m y env x
+returning_rest P m t y env x (settled e) = absurd (cc e)
+returning_rest P m t y env x (waiting e r) = absurd (cc e)
+returning_rest P m t y env x (hanging r) = hanging r
 
 flip : (b : Bool) → not b ≡ false → b ≡ true
 flip true e = refl
 flip false e = absurd (cc e)
 
-send_rest : (channels : List Channel) (env : Wires) (c : ℕ) (at : Span) (w v : ℕ) (m : Mode) (u : Wave w) (h : wave_may m (all_up w u) ≡ true) → SendMeets channels c w v → ((s : Spot (sending c at (constant w v))) → moves env (at_send {c = c} {at = at} {w = w} {v = v} m u h) s ≡ false) → Rest channels m (waits m (env.ack c) (active (sending c at (constant w v)))) env (send_shown c w v u)
-send_rest channels env c at w v idle u h meets n = absurd (cc h)
-send_rest channels env c at w v answered u h meets n = settled refl
-send_rest channels env c at w v running u h meets n =
-    let low : env.ack c ≡ false = n of_send in
-    let full : all_up w u ≡ true = still_all w v u (λ i one. n (gate i one)) in
-    waiting refl (subst (λ (t : Term). Waiting channels t env (send_shown c w v u)) (sym (ap (λ b. waits running b (active (sending c at (constant w v)))) low)) (record { going = λ e. cc e; blocked = blocked low full }))
+-- a site that runs or returns
+module _ (P : TypedProgram) (env : Seen) (k : Line) (w v : ℕ) (u : Wave w) where
+  site_full : SiteMeets P k w v → ((s : SiteSpot (constant w v)) → site_moves (env.ack k) w v running u s ≡ false) → Full P k w v env (site_shown k w v u)
+  site_full meets n = record {
+    wave = u;
+    meets = meets;
+    low = n done;
+    full = still_all w v u (λ i one. n (gate i one));
+    talks = self_line k;
+    holds = λ i one z. both_true (same_line k k) (held w v u i one) (self_line k) z;
+    only = λ i one z. snd_true (same_line k k) (held w v u i one) z;
+  }
+
+  site_hangs : ((s : SiteSpot (constant w v)) → site_moves (env.ack k) w v returning u s ≡ false) → Hanging P env (site_shown k w v u)
+  site_hangs n = let_go k (flip (env.ack k) (n done)) (self_line k) (λ i one. ap (λ b. same_line k k && b) (none_held w v u (still_none w v u (λ i one. n (gate i one))) i one) ∙ never_and (same_line k k))
+
+assign_rest : (P : TypedProgram) (env : Seen) (x : ℕ) (at : Span) (w v : ℕ) (m : Mode) (u : Wave w) → wave_may m (all_up w u) ≡ true → SiteMeets P (of_var x) w v → ((s : SiteSpot (constant w v)) → site_moves (env.ack (of_var x)) w v m u s ≡ false) → Rest P m (waits m (env.ack (of_var x)) (active (assigning x at (constant w v)))) env (site_shown (of_var x) w v u)
+assign_rest P env x at w v idle u h meets n = absurd (cc h)
+assign_rest P env x at w v answered u h meets n = settled refl
+assign_rest P env x at w v running u h meets n = hanging (unstored x (site_full P env (of_var x) w v u meets n))
+assign_rest P env x at w v returning u h meets n = hanging (site_hangs P env (of_var x) w v u n)
+
+send_rest : (P : TypedProgram) (env : Seen) (c : ℕ) (at : Span) (w v : ℕ) (m : Mode) (u : Wave w) → wave_may m (all_up w u) ≡ true → SiteMeets P (of_channel c) w v → ((s : SiteSpot (constant w v)) → site_moves (env.ack (of_channel c)) w v m u s ≡ false) → Rest P m (waits m (env.ack (of_channel c)) (active (sending c at (constant w v)))) env (site_shown (of_channel c) w v u)
+send_rest P env c at w v idle u h meets n = absurd (cc h)
+send_rest P env c at w v answered u h meets n = settled refl
+send_rest P env c at w v running u h meets n =
+    let low : env.ack (of_channel c) ≡ false = n done in
+    waiting refl (subst (λ (t : Term). Waiting P t env (site_shown (of_channel c) w v u)) (sym (ap (λ b. waits running b (active (sending c at (constant w v)))) low)) (record { going = λ e. cc e; blocked = blocked }))
   where
-    blocked : env.ack c ≡ false → all_up w u ≡ true → (place : Place) (s : Process) → statement_at (active (sending c at (constant w v))) place ≡ Some s → Blocked channels s env (send_shown c w v u)
-    blocked low full at_here s e = record {
-      channel = c;
-      span = at;
-      width = w;
-      value = v;
-      wave = u;
-      is = some_is e;
-      meets = meets;
-      low = low;
-      full = full;
-      talks = self_number c;
-      holds = λ i one z. both_true (c == c) (held w v u i one) (self_number c) z;
-      only = λ i one z. snd_true (c == c) (held w v u i one) z;
-    }
+    blocked : (place : Place) (s : Process) → statement_at (active (sending c at (constant w v))) place ≡ Some s → Blocked P s env (site_shown (of_channel c) w v u)
+    blocked at_here s e = record { channel = c; span = at; width = w; value = v; site = site_full P env (of_channel c) w v u meets n; is = some_is e }
       where
         some_is : Some (sending c at (constant w v)) ≡ Some s → s ≡ sending c at (constant w v)
         some_is e = cc e
-    blocked low full (in_first place) s e = absurd (cc e)
-    blocked low full (in_branch k place) s e = absurd (cc e)
-send_rest channels env c at w v returning u h meets n =
-    let none : none_up w u ≡ true = still_none w v u (λ i one. n (gate i one)) in
-    hanging (record { channel = c; high = flip (env.ack c) (n of_send); none = λ i one. ap (λ b. (c == c) && b) (none_held w v u none i one) ∙ never_and (c == c) })
+    blocked (in_first place) s e = absurd (cc e)
+    blocked (in_branch k place) s e = absurd (cc e)
+send_rest P env c at w v returning u h meets n = hanging (site_hangs P env (of_channel c) w v u n)
+
+-- What one of several branches shows, all show, and no more of its line.
+module _ {p : Process} {more : Processes} (P : TypedProgram) (env : Seen) (x y : Shown) (s : Beside p more x y) where
+  this_full : (k : Line) {w v : ℕ} → Full P k w v env x → Full P k w v env (both_shown x y)
+  this_full k b = record {
+    wave = b.wave;
+    meets = b.meets;
+    low = b.low;
+    full = b.full;
+    talks = or_left (x.talk k) (y.talk k) b.talks;
+    holds = λ i one h. or_left (x.offer k i one) (y.offer k i one) (b.holds i one h);
+    only = λ i one h. b.only i one (sym (or_false_right (x.offer k i one) (y.offer k i one) (s.none_theirs k i one (s.mine k b.talks))) ∙ h);
+  }
+
+  others_full : (k : Line) {w v : ℕ} → Full P k w v env y → Full P k w v env (both_shown x y)
+  others_full k b = record {
+    wave = b.wave;
+    meets = b.meets;
+    low = b.low;
+    full = b.full;
+    talks = or_right (x.talk k) (y.talk k) b.talks;
+    holds = λ i one h. or_right (x.offer k i one) (y.offer k i one) (b.holds i one h);
+    only = λ i one h. b.only i one (sym (or_false_left (x.offer k i one) (y.offer k i one) (s.none_mine k i one (s.theirs k b.talks))) ∙ h);
+  }
+
+  this_blocked : (q : Process) → Blocked P q env x → Blocked P q env (both_shown x y)
+  this_blocked q b = record { channel = b.channel; span = b.span; width = b.width; value = b.value; site = this_full (of_channel b.channel) b.site; is = b.is }
+
+  others_blocked : (q : Process) → Blocked P q env y → Blocked P q env (both_shown x y)
+  others_blocked q b = record { channel = b.channel; span = b.span; width = b.width; value = b.value; site = others_full (of_channel b.channel) b.site; is = b.is }
+
+  this_hangs : Hanging P env x → Hanging P env (both_shown x y)
+  this_hangs (unstored v f) = unstored v (this_full (of_var v) f)
+  this_hangs (let_go k high talks none) = let_go k high
+      (or_left (x.talk k) (y.talk k) talks)
+      (λ i one. or_false_left (x.offer k i one) (y.offer k i one) (none i one) ∙ s.none_theirs k i one (s.mine k talks))
+
+  others_hang : Hanging P env y → Hanging P env (both_shown x y)
+  others_hang (unstored v f) = unstored v (others_full (of_var v) f)
+  others_hang (let_go k high talks none) = let_go k high
+      (or_right (x.talk k) (y.talk k) talks)
+      (λ i one. or_false_left (x.offer k i one) (y.offer k i one) (s.none_mine k i one (s.theirs k talks)) ∙ none i one)
+
+-- Branches in which nothing moves, under the request: all have ended, or some wait and the others have ended, or one
+-- hangs.
+record WaitingInside (P : TypedProgram) (ts : Terms) (env : Seen) (x : Shown) : Type 0 where
+  pub going : all_finished ts ≡ false
+  pub blocked : (k : ℕ) (at : Place) (s : Process) → branch_at ts k at ≡ Some s → Blocked P s env x
+
+data BranchesRest (P : TypedProgram) (ks : List Mode) (ts : Terms) (env : Seen) (x : Shown) : Type 0 where
+  all_ended : all_ack ks ≡ true → all_finished ts ≡ true → BranchesRest P ks ts env x
+  some_wait : WaitingInside P ts env x → BranchesRest P ks ts env x
+  one_hangs : Hanging P env x → BranchesRest P ks ts env x
+
+never : (b : Bool) → (b && false) ≡ false
+never true = refl
+never false = refl
+
+not_finished : (t : Term) → t ≢ finished → is_finished t ≡ false
+not_finished finished ne = absurd (ne refl)
+not_finished (active p) ne = refl
+not_finished (in_sequence t more) ne = refl
+not_finished (in_parallel ts) ne = refl
+
+module _ {p : Process} {more : Processes} (P : TypedProgram) (env : Seen) (x y : Shown) (s : Beside p more x y) where
+  both_rest : (k : Mode) (ks : List Mode) (t : Term) (ts : Terms) → asks k ≡ true → (acks k ≡ asks k → t ≡ finished) → Rest P k t env x → BranchesRest P ks ts env y → BranchesRest P (k ∷ ks) (and_branch t ts) env (both_shown x y)
+  both_rest k ks t ts a over (hanging h) r = one_hangs (this_hangs P env x y s h)
+  both_rest k ks t ts a over (settled e) (one_hangs h) = one_hangs (others_hang P env x y s h)
+  both_rest k ks t ts a over (waiting e w) (one_hangs h) = one_hangs (others_hang P env x y s h)
+  both_rest k ks t ts a over (settled e) (all_ended h f) = all_ended (both_true (acks k) (all_ack ks) (e ∙ a) h) (ap (λ z. is_finished z && all_finished ts) (over e) ∙ f)
+  both_rest k ks t ts a over (settled e) (some_wait w) = some_wait (record { going = ap (λ b. is_finished t && b) w.going ∙ never (is_finished t); blocked = here (over e) })
+    where
+      here : t ≡ finished → (j : ℕ) (at : Place) (q : Process) → branch_at (and_branch t ts) j at ≡ Some q → Blocked P q env (both_shown x y)
+      here over zero at q h = absurd (cc (ap is_finished over, some_stands t at q h))
+      here over (suc j) at q h = others_blocked P env x y s q (w.blocked j at q h)
+  both_rest k ks t ts a over (waiting e w) (all_ended h f) = some_wait (record { going = ap (λ b. b && all_finished ts) (not_finished t w.going); blocked = here })
+    where
+      here : (j : ℕ) (at : Place) (q : Process) → branch_at (and_branch t ts) j at ≡ Some q → Blocked P q env (both_shown x y)
+      here zero at q h = this_blocked P env x y s q (w.blocked at q h)
+      here (suc j) at q h = absurd (cc (f, inside_stands ts j at q h))
+  both_rest k ks t ts a over (waiting e w) (some_wait v) = some_wait (record { going = ap (λ b. b && all_finished ts) (not_finished t w.going); blocked = here })
+    where
+      here : (j : ℕ) (at : Place) (q : Process) → branch_at (and_branch t ts) j at ≡ Some q → Blocked P q env (both_shown x y)
+      here zero at q h = this_blocked P env x y s q (w.blocked at q h)
+      here (suc j) at q h = others_blocked P env x y s q (v.blocked j at q h)
+
+waiting_inside : (P : TypedProgram) (ts : Terms) (env : Seen) (x : Shown) → WaitingInside P ts env x → Waiting P (together ts) env x
+waiting_inside P ts env x w =
+    subst (λ (t : Term). Waiting P t env x) (sym (ap (λ b. if b then finished else in_parallel ts) w.going)) (record { going = λ e. cc e; blocked = here })
+  where
+    here : (at : Place) (s : Process) → statement_at (in_parallel ts) at ≡ Some s → Blocked P s env x
+    here (in_branch k at) s h = w.blocked k at s h
+    here at_here s h = absurd (cc h)
+    here (in_first at) s h = absurd (cc h)
+
+-- where nothing moves the tree waits for a branch
+module _ {members : Processes} {ks : List Mode} (P : TypedProgram) (env : Seen) (t : Bits (joint_count (member_count members))) (b : BranchesAt members ks) where
+  no_end : (m : Mode) (h : SideMay (member_count members) m ks t) → ((s : Spot (side_by_side members)) → moves env (at_side m t b h) s ≡ false) → (c : Bool) → ((i : ℕ) → i < member_count members → ends ks i ≡ c) → acks m ≡ not c → ⊥
+  no_end m h n c all e =
+      let (i, less, is) = waits_on (member_count members) h.known (ends ks) (bit_at (joint_count (member_count members)) t) h.settles (λ k. n (joint k)) in
+      differ c (sym (all i less) ∙ (is ∙ (h.top ∙ e)))
+    where
+      differ : (c : Bool) → c ≡ not c → ⊥
+      differ true e = cc e
+      differ false e = cc e
+
+  sides_rest : (h : SideMay (member_count members) running ks t) → ((s : Spot (side_by_side members)) → moves env (at_side running t b h) s ≡ false) → BranchesRest P ks (branches_left env.ack b) env (branches_shown b) → Rest P running (together (branches_left env.ack b)) env (branches_shown b)
+  sides_rest h n (all_ended e f) = absurd (no_end running h n true (ends_high b e) refl)
+  sides_rest h n (some_wait w) = waiting refl (waiting_inside P (branches_left env.ack b) env (branches_shown b) w)
+  sides_rest h n (one_hangs x) = hanging x
+
+-- branches without a request in which nothing moves rest
+ends_gone : {members : Processes} {ks : List Mode} (env : Seen) (b : BranchesAt members ks) → all_ask false ks ≡ true → ((s : BranchSpot members) → branch_moves env b s ≡ false) → (i : ℕ) → ends ks i ≡ false
+ends_gone env no_more h n i = refl
+ends_gone env (and_at {k = idle} g b) h n zero = refl
+ends_gone env (and_at {k = idle} g b) h n (suc i) = ends_gone env b h (λ s. n (in_others s)) i
+ends_gone env (and_at {k = returning} (g_back true) b) h n i = absurd (cc (n (in_this latch)))
+ends_gone env (and_at {k = returning} (g_back false) b) h n i = absurd (cc (n (in_this next)))
+ends_gone env (and_at {k = running} g b) h n i = absurd (cc h)
+ends_gone env (and_at {k = answered} g b) h n i = absurd (cc h)
+
+-- the end of a branch that rests under the request
+guarded_over : {p : Process} {k : Mode} (ack : Line → Bool) (g : GuardedAt p k) → asks k ≡ true → acks k ≡ asks k → guarded_left ack g ≡ finished
+guarded_over {k = answered} ack g a e = guarded_left_past ack g
+guarded_over {k = running} ack g a e = absurd (cc e)
+guarded_over {k = idle} ack g a e = absurd (cc a)
+guarded_over {k = returning} ack g a e = absurd (cc a)
 
 mutual
-  pub guarded_rest : (channels : List Channel) {p : Process} {m : Mode} (env : Wires) (g : GuardedAt p m) → Meets channels p → ((s : GuardedSpot p) → guarded_moves env g s ≡ false) → Rest channels m (guarded_left env.ack g) env (guarded_shown g)
-  guarded_rest channels env g_rests meets n = settled refl
-  guarded_rest channels env g_past meets n = settled refl
-  guarded_rest channels env (g_back true) meets n = absurd (cc (n latch))
-  guarded_rest channels env (g_back false) meets n = absurd (cc (n next))
-  guarded_rest channels env (g_in {m = idle} false a h) meets n = absurd (cc (n child))
-  guarded_rest channels env (g_in {m = running} false a h) meets n = rest channels env a meets (λ s. n (inner s))
-  guarded_rest channels env (g_in {m = answered} false a h) meets n = absurd (cc (n latch))
-  guarded_rest channels env (g_in {m = idle} true a h) meets n = absurd (cc (n next))
-  guarded_rest channels env (g_in {m = answered} true a h) meets n = absurd (cc (n child))
-  guarded_rest channels env (g_in {m = returning} true a h) meets n = returning_rest channels running (left env.ack a) finished env (shown a) (rest channels env a meets (λ s. n (inner s)))
-  guarded_rest channels env (g_in {m = running} true a h) meets n = absurd (cc h)
-  guarded_rest channels env (g_in {m = returning} false a h) meets n = absurd (cc h)
+  pub guarded_rest : (P : TypedProgram) {p : Process} {m : Mode} (env : Seen) (g : GuardedAt p m) → Meets P p → ((s : GuardedSpot p) → guarded_moves env g s ≡ false) → Rest P m (guarded_left env.ack g) env (guarded_shown g)
+  guarded_rest P env g_rests meets n = settled refl
+  guarded_rest P env g_past meets n = settled refl
+  guarded_rest P env (g_back true) meets n = absurd (cc (n latch))
+  guarded_rest P env (g_back false) meets n = absurd (cc (n next))
+  guarded_rest P env (g_in {m = idle} false a h) meets n = absurd (cc (n child))
+  guarded_rest P env (g_in {m = running} false a h) meets n = rest P env a meets (λ s. n (inner s))
+  guarded_rest P env (g_in {m = answered} false a h) meets n = absurd (cc (n latch))
+  guarded_rest P env (g_in {m = idle} true a h) meets n = absurd (cc (n next))
+  guarded_rest P env (g_in {m = answered} true a h) meets n = absurd (cc (n child))
+  guarded_rest P env (g_in {m = returning} true a h) meets n = returning_rest P running (left env.ack a) finished env (shown a) (rest P env a meets (λ s. n (inner s)))
+  guarded_rest P env (g_in {m = running} true a h) meets n = absurd (cc h)
+  guarded_rest P env (g_in {m = returning} false a h) meets n = absurd (cc h)
 
-  pub rest : (channels : List Channel) {p : Process} {m : Mode} (env : Wires) (a : At p m) → Meets channels p → ((s : Spot p) → moves env a s ≡ false) → Rest channels m (left env.ack a) env (shown a)
-  rest channels env rests meets n = settled refl
-  rest channels env (at_skip idle h) meets n = absurd (cc h)
-  rest channels env (at_skip running h) meets n = absurd (cc (n of_skip))
-  rest channels env (at_skip answered h) meets n = settled refl
-  rest channels env (at_skip returning h) meets n = absurd (cc (n of_skip))
-  rest channels env (at_send {c = c} {at = at} {w = w} {v = v} m u h) meets n = send_rest channels env c at w v m u h meets n
-  rest channels env (at_turn t) meets n = turn_rest channels env t meets (λ s. n (in_members s))
-  rest channels env (at_body {m = idle} a) meets n = absurd (cc (n ask))
-  rest channels env (at_body {p = p} {m = running} a) meets n = running_rest channels (left env.ack a) (followed (left env.ack a) (again p)) env (shown a) (λ r. waiting_then channels (again p) (left env.ack a) env (shown a) r) (rest channels env a meets (λ s. n (in_body s)))
-  rest channels env (at_body {m = answered} a) meets n = absurd (cc (n ask))
-  rest channels env (at_body {p = p} {m = returning} a) meets n = returning_rest channels running (left env.ack a) (followed (left env.ack a) (again p)) env (shown a) (rest channels env a meets (λ s. n (in_body s)))
+  pub rest : (P : TypedProgram) {p : Process} {m : Mode} (env : Seen) (a : At p m) → Meets P p → ((s : Spot p) → moves env a s ≡ false) → Rest P m (left env.ack a) env (shown a)
+  rest P env rests meets n = settled refl
+  rest P env (at_skip idle h) meets n = absurd (cc h)
+  rest P env (at_skip running h) meets n = absurd (cc (n of_skip))
+  rest P env (at_skip answered h) meets n = settled refl
+  rest P env (at_skip returning h) meets n = absurd (cc (n of_skip))
+  rest P env (at_assign {x = x} {at = at} {w = w} {v = v} m u h) meets n = assign_rest P env x at w v m u h meets (λ s. n (of_assign s))
+  rest P env (at_send {c = c} {at = at} {w = w} {v = v} m u h) meets n = send_rest P env c at w v m u h meets (λ s. n (of_send s))
+  rest P env (at_turn t) meets n = turn_rest P env t meets (λ s. n (in_members s))
+  rest P env (at_side idle t b h) meets n = absurd (cc h.awake)
+  rest P env (at_side answered t b h) meets n = settled refl
+  rest P env (at_side returning t b h) meets n = absurd (no_end P env t b returning h n false (λ i less. ends_gone env b h.asked (λ s. n (of_branch s)) i) refl)
+  rest P env (at_side running t b h) meets n = sides_rest P env t b h n (branches_rest P env b meets.2 h.asked (λ s. n (of_branch s)))
+  rest P env (at_body {m = idle} a) meets n = absurd (cc (n ask))
+  rest P env (at_body {p = p} {m = running} a) meets n = running_rest P (left env.ack a) (followed (left env.ack a) (again p)) env (shown a) (λ r. waiting_then P (again p) (left env.ack a) env (shown a) r) (rest P env a meets (λ s. n (in_body s)))
+  rest P env (at_body {m = answered} a) meets n = absurd (cc (n ask))
+  rest P env (at_body {p = p} {m = returning} a) meets n = returning_rest P running (left env.ack a) (followed (left env.ack a) (again p)) env (shown a) (rest P env a meets (λ s. n (in_body s)))
 
-  pub turn_rest : (channels : List Channel) {members : Processes} {m : Mode} (env : Wires) (t : TurnAt members m) → TurnMeets channels members → ((s : TurnSpot members) → turn_moves env t s ≡ false) → Rest channels m (turn_left env.ack t) env (turn_shown t)
-  turn_rest channels env turn_rests meets n = settled refl
-  turn_rest channels env (at_last a) meets n = rest channels env a meets (λ s. n (in_last s))
-  turn_rest channels env (at_member {q = q} {more = more} g) meets n =
-      running_rest channels (guarded_left env.ack g) (followed (guarded_left env.ack g) (and_member q more)) env (guarded_shown g) (λ r. waiting_then channels (and_member q more) (guarded_left env.ack g) env (guarded_shown g) r) (guarded_rest channels env g meets.0 (λ s. n (in_member s)))
-  turn_rest channels env (at_later {k = answered} {n = running} {m = running} g t h) meets n = turn_rest channels env t meets.1 (λ s. n (in_later s))
-  turn_rest channels env (at_later {m = answered} g t h) meets n = settled refl
-  turn_rest channels env (at_later {k = returning} {n = answered} {m = returning} (g_back true) t h) meets n = absurd (cc (n (in_member latch)))
-  turn_rest channels env (at_later {k = returning} {n = answered} {m = returning} (g_back false) t h) meets n = absurd (cc (n (in_member next)))
-  turn_rest channels env (at_later {k = idle} {n = returning} {m = returning} g t h) meets n = returning_rest channels returning (turn_left env.ack t) (turn_left env.ack t) env (turn_shown t) (turn_rest channels env t meets.1 (λ s. n (in_later s)))
-  turn_rest channels env (at_later {k = k} {n = n} {m = m} g t h) meets still = absurd (cc h)
+  branches_rest : (P : TypedProgram) {members : Processes} {ks : List Mode} (env : Seen) (b : BranchesAt members ks) → EachMeets P members → all_ask true ks ≡ true → ((s : BranchSpot members) → branch_moves env b s ≡ false) → BranchesRest P ks (branches_left env.ack b) env (branches_shown b)
+  branches_rest P env no_more meets h n = all_ended refl refl
+  branches_rest P env (and_at {k = k} {ks = ks} g b) meets h n =
+      let a : asks k ≡ true = same_value (asks k) true (fst_true (same_bit (asks k) true) (all_ask true ks) h) in
+      both_rest P env (guarded_shown g) (branches_shown b) (beside meets.1 g b) k ks (guarded_left env.ack g) (branches_left env.ack b) a (guarded_over env.ack g a)
+      (guarded_rest P env g meets.0 (λ s. n (in_this s)))
+      (branches_rest P env b meets.2 (snd_true (same_bit (asks k) true) (all_ask true ks) h) (λ s. n (in_others s)))
+
+  pub turn_rest : (P : TypedProgram) {members : Processes} {m : Mode} (env : Seen) (t : TurnAt members m) → TurnMeets P members → ((s : TurnSpot members) → turn_moves env t s ≡ false) → Rest P m (turn_left env.ack t) env (turn_shown t)
+  turn_rest P env turn_rests meets n = settled refl
+  turn_rest P env (at_last a) meets n = rest P env a meets (λ s. n (in_last s))
+  turn_rest P env (at_member {q = q} {more = more} g) meets n =
+      running_rest P (guarded_left env.ack g) (followed (guarded_left env.ack g) (and_member q more)) env (guarded_shown g) (λ r. waiting_then P (and_member q more) (guarded_left env.ack g) env (guarded_shown g) r) (guarded_rest P env g meets.0 (λ s. n (in_member s)))
+  turn_rest P env (at_later {k = answered} {n = running} {m = running} g t h) meets n = turn_rest P env t meets.1 (λ s. n (in_later s))
+  turn_rest P env (at_later {m = answered} g t h) meets n = settled refl
+  turn_rest P env (at_later {k = returning} {n = answered} {m = returning} (g_back true) t h) meets n = absurd (cc (n (in_member latch)))
+  turn_rest P env (at_later {k = returning} {n = answered} {m = returning} (g_back false) t h) meets n = absurd (cc (n (in_member next)))
+  turn_rest P env (at_later {k = idle} {n = returning} {m = returning} g t h) meets n = returning_rest P returning (turn_left env.ack t) (turn_left env.ack t) env (turn_shown t) (turn_rest P env t meets.1 (λ s. n (in_later s)))
+  turn_rest P env (at_later {k = k} {n = n} {m = m} g t h) meets still = absurd (cc h)

@@ -4,10 +4,11 @@ use Rattle.std.specs.Prelude.{not, ◌&&◌, ◌||◌, if◌then◌else◌}
 use Rattle.std.specs.List.{list_any, list_all}
 use Rattle.env_script.specs.Environment.{is_odd}
 use Rattle.width_check.specs.Processes.{Formula, constant, reading, joined, inverted, chained, compared, Process, skipping, assigning, sending, receiving, in_turn, side_by_side, choosing, repeating, Processes, no_members, and_member}
-use Rattle.circuit_places.specs.Circuit.{Pairs, side_of, low_pairs, gate_count, Cells, TurnCells, low, low_turn, same_bit, fires, is_apart, turns, rail_in, result_rail, site_rails, turn_rails}
+use Rattle.circuit_places.specs.Lines.{Line, of_channel, of_var, same_line, site_statement, line_width, Rails, Seen}
+use Rattle.circuit_places.specs.Circuit.{Site, low_site, rails_of_site, Pairs, side_of, low_pairs, gate_count, Cells, TurnCells, BranchCells, low, low_turn, low_branches, same_bit, fires, is_apart, turns, rail_in, result_rail, site_rails, turn_rails, branch_rails}
 use Rattle.circuit_places.specs.Whole.{all_low, merged}
 use Rattle.circuit_places.proofs.Waves.{Wave, bit_pair, pairs_of, held}
-use Rattle.circuit_places.proofs.Places.{Mode, running, GuardedAt, At, TurnAt, g_rests, g_in, g_past, g_back, rests, at_skip, at_send, at_turn, at_body, turn_rests, at_last, at_member, at_later, guarded_cells, cells, turn_cells, guarded_shown, shown, turn_shown, not_running}
+use Rattle.circuit_places.proofs.Places.{Mode, running, acks, site_of, GuardedAt, At, TurnAt, BranchesAt, g_rests, g_in, g_past, g_back, rests, at_skip, at_assign, at_send, at_turn, at_side, at_body, no_more, and_at, turn_rests, at_last, at_member, at_later, guarded_cells, cells, turn_cells, branch_cells, guarded_shown, shown, turn_shown, branches_shown, not_running}
 
 abbrev pub any : List Bool → Bool
 any xs = list_any (λ b. b) xs
@@ -66,22 +67,30 @@ result_nil (inverted e) x y i one = refl
 result_nil (chained e more) x y i one = refl
 result_nil (compared op e f) x y i one = refl
 
+same_site_rails : (b : Bool) (e : Formula) (x y : Site (gate_count e)) (i : ℕ) (one : Bool) → is_nil (rails_of_site b e x i one) ≡ is_nil (rails_of_site b e y i one)
+same_site_rails true e x y i one = result_nil e x.gates y.gates i one
+same_site_rails false e x y i one = refl
+
 mutual
-  pub same_sites : (p : Process) (x y : Cells p) (k i : ℕ) (one : Bool) → is_nil (site_rails p x k i one) ≡ is_nil (site_rails p y k i one)
-  same_sites (sending c at e) x y k i one = here (c == k)
-    where
-      here : (b : Bool) → is_nil (if b then result_rail e x.gates i one else []) ≡ is_nil (if b then result_rail e y.gates i one else [])
-      here true = result_nil e x.gates y.gates i one
-      here false = refl
+  pub same_sites : (p : Process) (x y : Cells p) (k : Line) (i : ℕ) (one : Bool) → is_nil (site_rails p x k i one) ≡ is_nil (site_rails p y k i one)
+  same_sites (assigning z at e) x y k i one = same_site_rails (same_line (of_var z) k) e x y i one
+  same_sites (sending c at e) x y k i one = same_site_rails (same_line (of_channel c) k) e x y i one
   same_sites (in_turn members) x y k i one = same_turn_sites members x y k i one
   same_sites (repeating p) x y k i one = same_sites p x.inner y.inner k i one
   same_sites skipping x y k i one = refl
-  same_sites (assigning z at e) x y k i one = refl
   same_sites (receiving c at z to) x y k i one = refl
-  same_sites (side_by_side _) x y k i one = refl
+  same_sites (side_by_side members) x y k i one = same_branch_sites members x.branches y.branches k i one
   same_sites (choosing again _) x y k i one = refl
 
-  same_turn_sites : (members : Processes) (x y : TurnCells members) (k i : ℕ) (one : Bool) → is_nil (turn_rails members x k i one) ≡ is_nil (turn_rails members y k i one)
+  same_branch_sites : (members : Processes) (x y : BranchCells members) (k : Line) (i : ℕ) (one : Bool) → is_nil (branch_rails members x k i one) ≡ is_nil (branch_rails members y k i one)
+  same_branch_sites no_members x y k i one = refl
+  same_branch_sites (and_member p more) x y k i one =
+      nil_append (site_rails p x.0.inner k i one) (branch_rails more x.1 k i one)
+      ∙ (ap (λ b. b && is_nil (branch_rails more x.1 k i one)) (same_sites p x.0.inner y.0.inner k i one)
+      ∙ (ap (λ b. is_nil (site_rails p y.0.inner k i one) && b) (same_branch_sites more x.1 y.1 k i one)
+      ∙ sym (nil_append (site_rails p y.0.inner k i one) (branch_rails more y.1 k i one))))
+
+  same_turn_sites : (members : Processes) (x y : TurnCells members) (k : Line) (i : ℕ) (one : Bool) → is_nil (turn_rails members x k i one) ≡ is_nil (turn_rails members y k i one)
   same_turn_sites no_members x y k i one = refl
   same_turn_sites (and_member p no_members) x y k i one = same_sites p x y k i one
   same_turn_sites (and_member p (and_member q more)) x y k i one =
@@ -112,22 +121,26 @@ or_false false = refl
 pub none_both : (xs ys : List Bool) (a b : Bool) → any xs ≡ a → any ys ≡ b → any (xs ++ ys) ≡ (a || b)
 none_both xs ys a b e f = any_append xs ys ∙ (ap (λ z. z || any ys) e ∙ ap (λ z. a || z) f)
 
+low_site_rails : (b : Bool) (e : Formula) (i : ℕ) (one : Bool) → any (rails_of_site b e (low_site e) i one) ≡ false
+low_site_rails true e i one = low_result e i one
+low_site_rails false e i one = refl
+
 mutual
-  low_sites : (p : Process) (k i : ℕ) (one : Bool) → any (site_rails p (low p) k i one) ≡ false
-  low_sites (sending c at e) k i one = here (c == k)
-    where
-      here : (b : Bool) → any (if b then result_rail e (low_pairs (gate_count e)) i one else []) ≡ false
-      here true = low_result e i one
-      here false = refl
+  low_sites : (p : Process) (k : Line) (i : ℕ) (one : Bool) → any (site_rails p (low p) k i one) ≡ false
+  low_sites (assigning z at e) k i one = low_site_rails (same_line (of_var z) k) e i one
+  low_sites (sending c at e) k i one = low_site_rails (same_line (of_channel c) k) e i one
   low_sites (in_turn members) k i one = low_turn_sites members k i one
   low_sites (repeating p) k i one = low_sites p k i one
   low_sites skipping k i one = refl
-  low_sites (assigning z at e) k i one = refl
   low_sites (receiving c at z to) k i one = refl
-  low_sites (side_by_side _) k i one = refl
+  low_sites (side_by_side members) k i one = low_branch_sites members k i one
   low_sites (choosing again _) k i one = refl
 
-  low_turn_sites : (members : Processes) (k i : ℕ) (one : Bool) → any (turn_rails members (low_turn members) k i one) ≡ false
+  low_branch_sites : (members : Processes) (k : Line) (i : ℕ) (one : Bool) → any (branch_rails members (low_branches members) k i one) ≡ false
+  low_branch_sites no_members k i one = refl
+  low_branch_sites (and_member p more) k i one = none_both (site_rails p (low p) k i one) (branch_rails more (low_branches more) k i one) false false (low_sites p k i one) (low_branch_sites more k i one)
+
+  low_turn_sites : (members : Processes) (k : Line) (i : ℕ) (one : Bool) → any (turn_rails members (low_turn members) k i one) ≡ false
   low_turn_sites no_members k i one = refl
   low_turn_sites (and_member p no_members) k i one = low_sites p k i one
   low_turn_sites (and_member p (and_member q more)) k i one = none_both (site_rails p (low p) k i one) (turn_rails (and_member q more) (low_turn (and_member q more)) k i one) false false (low_sites p k i one) (low_turn_sites (and_member q more) k i one)
@@ -144,31 +157,37 @@ rail_any (suc n) v u zero one = pair_any (is_odd v) one u.0
 rail_any (suc n) v u (suc i) one = rail_any n (v / 2) u.1 i one
 
 -- a Q-element that isn't running is low inside
-past_sites : {p : Process} {m : Mode} (g : GuardedAt p m) (k i : ℕ) (one : Bool) → (m ≡ running → ⊥) → any (site_rails p (guarded_cells g).inner k i one) ≡ false
+past_sites : {p : Process} {m : Mode} (g : GuardedAt p m) (k : Line) (i : ℕ) (one : Bool) → (m ≡ running → ⊥) → any (site_rails p (guarded_cells g).inner k i one) ≡ false
 past_sites {p = p} g_rests k i one ne = low_sites p k i one
 past_sites (g_in u a h) k i one ne = absurd (ne refl)
 past_sites {p = p} g_past k i one ne = low_sites p k i one
 past_sites {p = p} (g_back u) k i one ne = low_sites p k i one
 
+site_offered : (b : Bool) (w v : ℕ) (a : Bool) (u : Wave w) (i : ℕ) (one : Bool) → any (rails_of_site b (constant w v) (site_of w v a u) i one) ≡ (b && held w v u i one)
+site_offered true w v a u i one = rail_any w v u i one
+site_offered false w v a u i one = refl
+
 mutual
-  pub guarded_offered : {p : Process} {m : Mode} (g : GuardedAt p m) (k i : ℕ) (one : Bool) → any (site_rails p (guarded_cells g).inner k i one) ≡ (guarded_shown g).offer k i one
+  pub guarded_offered : {p : Process} {m : Mode} (g : GuardedAt p m) (k : Line) (i : ℕ) (one : Bool) → any (site_rails p (guarded_cells g).inner k i one) ≡ (guarded_shown g).offer k i one
   guarded_offered {p = p} g_rests k i one = low_sites p k i one
   guarded_offered (g_in u a h) k i one = offered a k i one
   guarded_offered {p = p} g_past k i one = low_sites p k i one
   guarded_offered {p = p} (g_back u) k i one = low_sites p k i one
 
-  pub offered : {p : Process} {m : Mode} (a : At p m) (k i : ℕ) (one : Bool) → any (site_rails p (cells a) k i one) ≡ (shown a).offer k i one
+  pub offered : {p : Process} {m : Mode} (a : At p m) (k : Line) (i : ℕ) (one : Bool) → any (site_rails p (cells a) k i one) ≡ (shown a).offer k i one
   offered {p = p} rests k i one = low_sites p k i one
   offered (at_skip m h) k i one = refl
-  offered (at_send {c = c} {w = w} {v = v} m u h) k i one = here (c == k)
-    where
-      here : (b : Bool) → any (if b then rail_in w (pairs_of w v u) i one else []) ≡ (b && held w v u i one)
-      here true = rail_any w v u i one
-      here false = refl
+  offered (at_assign {x = x} {w = w} {v = v} m u h) k i one = site_offered (same_line (of_var x) k) w v (acks m) u i one
+  offered (at_send {c = c} {w = w} {v = v} m u h) k i one = site_offered (same_line (of_channel c) k) w v (acks m) u i one
   offered (at_turn t) k i one = turn_offered t k i one
+  offered (at_side m t b h) k i one = branches_offered b k i one
   offered (at_body a) k i one = offered a k i one
 
-  pub turn_offered : {members : Processes} {m : Mode} (t : TurnAt members m) (k i : ℕ) (one : Bool) → any (turn_rails members (turn_cells t) k i one) ≡ (turn_shown t).offer k i one
+  pub branches_offered : {members : Processes} {ks : List Mode} (b : BranchesAt members ks) (k : Line) (i : ℕ) (one : Bool) → any (branch_rails members (branch_cells b) k i one) ≡ (branches_shown b).offer k i one
+  branches_offered no_more k i one = refl
+  branches_offered (and_at {p = p} {more = more} g b) k i one = none_both (site_rails p (guarded_cells g).inner k i one) (branch_rails more (branch_cells b) k i one) _ _ (guarded_offered g k i one) (branches_offered b k i one)
+
+  pub turn_offered : {members : Processes} {m : Mode} (t : TurnAt members m) (k : Line) (i : ℕ) (one : Bool) → any (turn_rails members (turn_cells t) k i one) ≡ (turn_shown t).offer k i one
   turn_offered {members = members} turn_rests k i one = low_turn_sites members k i one
   turn_offered (at_last a) k i one = offered a k i one
   turn_offered (at_member {p = p} {q = q} {more = more} g) k i one =

@@ -383,3 +383,9 @@ first_bit (suc n) rail some valid = here (rail zero true) (rail zero false) refl
     here true f ht hf s = (true, ht)
     here false true ht hf s = (false, hf)
     here false false ht hf s = absurd (cc (s, ht, hf))
+
+-- each bit of a whole number has a rail held
+pub held_one : (n v : ℕ) (u : Wave n) (i : ℕ) → i < n → all_up n u ≡ true → (one : Bool) × (held n v u i one ≡ true)
+held_one zero v u i below full = absurd (let g : ⊥ = omega (arith, below) in g)
+held_one (suc n) v u zero below full = (is_odd v, both_true (same_bit (is_odd v) (is_odd v)) u.0 (own_side (is_odd v)) (fst_true u.0 _ full))
+held_one (suc n) v u (suc i) below full = held_one n (v / 2) u.1 i (let g : i < n = omega (arith, below) in g) (snd_true u.0 _ full)

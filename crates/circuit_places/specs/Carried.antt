@@ -2,9 +2,11 @@
 use Rattle.std.specs.Prelude.{◌≡◌, ◌≢◌, ◌≤◌, ℕ, Bool, true, false, not, List, is_some}
 use Rattle.env_script.specs.Scripts.{OfferValue, IsScript}
 use Rattle.width_check.specs.Processes.{TypedProgram}
-use Rattle.width_check.specs.Typing.{IsTyped, channel_width}
+use Rattle.width_check.specs.Typing.{channel_width}
+use Rattle.chp_meaning.specs.Halves.{IsSized}
 use Rattle.chp_meaning.specs.Terms.{Place, finished}
 use Rattle.chp_meaning.specs.Steps.{Configuration, Step, Leads, start_of}
+use Rattle.circuit_places.specs.Lines.{of_channel}
 use Rattle.circuit_places.specs.Circuit.{is_apart}
 use Rattle.circuit_places.specs.Whole.{Whole, Node, rail_node, ack_node, is_node, rule_in, enabled, moved, value_on, neutral_on, Reaches}
 use Rattle.circuit_places.specs.Covered.{Covered}
@@ -12,11 +14,11 @@ use Rattle.circuit_places.specs.Covered.{Covered}
 -- no move takes away another that is enabled, no node is pulled both ways, and each channel keeps its phases
 pub record IsSafe (P : TypedProgram) (script : List OfferValue) (x : Whole P.body) : Type 0 where
   pub stable : (n m : Node P.body) → n ≢ m → enabled P script x n ≡ true → enabled P script x m ≡ true → enabled P script (moved P x m) n ≡ true
-  pub apart : (n : Node P.body) → is_apart (rule_in P.body x n) ≡ true
-  pub rail_up : (k i : ℕ) (one : Bool) → x.wires.rail k i one ≡ false → enabled P script x (rail_node k i one) ≡ true → (x.wires.ack k ≡ false) × (x.wires.rail k i (not one) ≡ false)
-  pub rail_down : (k i : ℕ) (one : Bool) → x.wires.rail k i one ≡ true → enabled P script x (rail_node k i one) ≡ true → x.wires.ack k ≡ true
-  pub ack_up : (k : ℕ) → x.wires.ack k ≡ false → enabled P script x (ack_node k) ≡ true → is_some (value_on (channel_width P.channels k) (x.wires.rail k)) ≡ true
-  pub ack_down : (k : ℕ) → x.wires.ack k ≡ true → enabled P script x (ack_node k) ≡ true → neutral_on (channel_width P.channels k) (x.wires.rail k) ≡ true
+  pub apart : (n : Node P.body) → is_apart (rule_in P x n) ≡ true
+  pub rail_up : (k i : ℕ) (one : Bool) → x.wires.rail (of_channel k) i one ≡ false → enabled P script x (rail_node (of_channel k) i one) ≡ true → (x.wires.ack k ≡ false) × (x.wires.rail (of_channel k) i (not one) ≡ false)
+  pub rail_down : (k i : ℕ) (one : Bool) → x.wires.rail (of_channel k) i one ≡ true → enabled P script x (rail_node (of_channel k) i one) ≡ true → x.wires.ack k ≡ true
+  pub ack_up : (k : ℕ) → x.wires.ack k ≡ false → enabled P script x (ack_node k) ≡ true → is_some (value_on (channel_width P.channels k) (x.wires.rail (of_channel k))) ≡ true
+  pub ack_down : (k : ℕ) → x.wires.ack k ≡ true → enabled P script x (ack_node k) ≡ true → neutral_on (channel_width P.channels k) (x.wires.rail (of_channel k)) ≡ true
 
 -- no node's move is enabled
 abbrev pub IsAtRest : (P : TypedProgram) → List OfferValue → Whole P.body → Type 0
@@ -43,4 +45,4 @@ Carries P = (script : List OfferValue) → IsScript P.channels script → (moves
 
 -- each covered program's circuit carries it
 abbrev pub CircuitsCarry : Type 0
-CircuitsCarry = (P : TypedProgram) → IsTyped P.channels P.vars P.body → Covered P → Carries P
+CircuitsCarry = (P : TypedProgram) → IsSized P.channels P.vars P.body → Covered P → Carries P

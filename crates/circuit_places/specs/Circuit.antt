@@ -1,9 +1,14 @@
 -- The circuit of a process as a tree of cells: the values of its own nodes, and the rule of each. A node here has a spot
 -- in the tree and no number.
-use Rattle.std.specs.Prelude.{ℕ, zero, suc, ◌/◌, ◌==◌, Bool, true, false, not, nat_lt, ◌&&◌, if◌then◌else◌, List, [], ◌∷◌, ◌++◌}
+use Rattle.std.specs.Prelude.{ℕ, zero, suc, ◌-◌, ◌/◌, ◌==◌, Bool, true, false, not, nat_lt, ◌&&◌, if◌then◌else◌, List, [], ◌∷◌, ◌++◌, length, slice_index_or}
+use Rattle.std.specs.List.{range_with_len}
+use Rattle.prs_core.specs.Nets.{NodeRules}
+use Rattle.prs_core.specs.Moves.{guard_holds}
+use Rattle.cell_parallel.specs.Trees.{tree_rules, tree_top}
 use Rattle.chp_base.specs.declared.span.Span.{Span}
 use Rattle.env_script.specs.Environment.{is_odd}
-use Rattle.width_check.specs.Processes.{Formula, constant, Process, skipping, sending, in_turn, repeating, Processes, no_members, and_member}
+use Rattle.circuit_places.specs.Lines.{Line, of_channel, of_var, same_line, Rails, Seen}
+use Rattle.width_check.specs.Processes.{Formula, constant, Process, skipping, assigning, sending, in_turn, side_by_side, repeating, Processes, no_members, and_member, member_count}
 
 -- the two rails of a bit
 pub record Pair : Type 0 where
@@ -32,7 +37,7 @@ pub record Guarded (A : Type 0) : Type 0 where
   pub next : Bool
   pub inner : A
 
--- a send's answer, and the gates of its expression
+-- the answer of a send or of an assignment, and the gates of its expression
 pub record Site (n : ℕ) : Type 0 where
   pub answer : Bool
   pub gates : Pairs n
@@ -48,15 +53,35 @@ pub record Turn (A B : Type 0) : Type 0 where
   pub member : Guarded A
   pub later : B
 
+-- so many truth values, the first one first
+abbrev pub Bits : ℕ → Type 0
+Bits zero = Unit {0}
+Bits (suc n) = Bool × Bits n
+
+-- branches side by side, and the nodes of the completion tree over their ends
+pub record Sides (A : Type 0) (n : ℕ) : Type 0 where
+  pub branches : A
+  pub tree : Bits n
+
+-- how many nodes of its own a completion tree over so many has
+abbrev pub joint_count : ℕ → ℕ
+joint_count n = length (tree_rules (range_with_len 0 n) n)
+
 -- The own nodes of a process. Of a sequence each member but the last has a Q-element. Statements that have no circuit
 -- yet have no nodes.
 abbrev mutual
   pub Cells : Process → Type 0
   Cells skipping = Bool
+  Cells (assigning x at e) = Site (gate_count e)
   Cells (sending chan at e) = Site (gate_count e)
   Cells (in_turn members) = TurnCells members
+  Cells (side_by_side members) = Sides (BranchCells members) (joint_count (member_count members))
   Cells (repeating p) = Ring (Cells p)
   Cells _ = Unit {0}
+
+  pub BranchCells : Processes → Type 0
+  BranchCells no_members = Unit {0}
+  BranchCells (and_member p more) = Guarded (Cells p) × BranchCells more
 
   pub TurnCells : Processes → Type 0
   TurnCells no_members = Unit {0}
@@ -67,29 +92,71 @@ abbrev pub low_pairs : (n : ℕ) → Pairs n
 low_pairs zero = tt
 low_pairs (suc n) = (record { t = false; f = false }, low_pairs n)
 
+abbrev pub low_bits : (n : ℕ) → Bits n
+low_bits zero = tt
+low_bits (suc n) = (false, low_bits n)
+
+abbrev pub bit_at : (n : ℕ) → Bits n → ℕ → Bool
+bit_at zero x i = false
+bit_at (suc n) x zero = x.0
+bit_at (suc n) x (suc i) = bit_at n x.1 i
+
+abbrev pub turned_bits : (n : ℕ) → Bits n → ℕ → Bits n
+turned_bits zero x i = x
+turned_bits (suc n) x zero = (not x.0, x.1)
+turned_bits (suc n) x (suc i) = (x.0, turned_bits n x.1 i)
+
 abbrev pub low_guarded : {A : Type 0} → A → Guarded A
 low_guarded x = record { child = false; latch = false; next = false; inner = x }
+
+abbrev pub low_site : (e : Formula) → Site (gate_count e)
+low_site e = record { answer = false; gates = low_pairs (gate_count e) }
 
 -- all of them low
 abbrev mutual
   pub low : (p : Process) → Cells p
   low skipping = false
-  low (sending chan at e) = record { answer = false; gates = low_pairs (gate_count e) }
+  low (assigning x at e) = low_site e
+  low (sending chan at e) = low_site e
   low (in_turn members) = low_turn members
+  low (side_by_side members) = record { branches = low_branches members; tree = low_bits (joint_count (member_count members)) }
   low (repeating p) = record { answer = false; ask = false; inner = low p }
   low _ = tt
+
+  pub low_branches : (members : Processes) → BranchCells members
+  low_branches no_members = tt
+  low_branches (and_member p more) = (low_guarded (low p), low_branches more)
 
   pub low_turn : (members : Processes) → TurnCells members
   low_turn no_members = tt
   low_turn (and_member p no_members) = low p
   low_turn (and_member p (and_member q more)) = record { member = low_guarded (low p); later = low_turn (and_member q more) }
 
+-- the ends of branches, their Q-elements' next requests
+abbrev pub branch_ends : (members : Processes) → BranchCells members → ℕ → Bool
+branch_ends no_members x i = false
+branch_ends (and_member p more) x zero = x.0.next
+branch_ends (and_member p more) x (suc i) = branch_ends more x.1 i
+
+-- A completion tree over the nodes 0 .. n - 1, whose own nodes are numbered from n on: all values, the one of its top, and
+-- the rules of its k-th node.
+abbrev pub tree_value : (n : ℕ) → (leaf node : ℕ → Bool) → ℕ → Bool
+tree_value n leaf node k = if nat_lt k n then leaf k else node (k - n)
+
+abbrev pub tree_answer : (n : ℕ) → (leaf node : ℕ → Bool) → Bool
+tree_answer n leaf node = tree_value n leaf node (tree_top (range_with_len 0 n) n)
+
+abbrev pub tree_node : (n k : ℕ) → NodeRules
+tree_node n k = slice_index_or (tree_rules (range_with_len 0 n) n) k (record { up = []; down = [] })
+
 -- the node that answers the process's request
 abbrev mutual
   pub answer : (p : Process) → Cells p → Bool
   answer skipping x = x
+  answer (assigning y at e) x = x.answer
   answer (sending chan at e) x = x.answer
   answer (in_turn members) x = turn_answer members x
+  answer (side_by_side members) x = tree_answer (member_count members) (branch_ends members x.branches) (bit_at (joint_count (member_count members)) x.tree)
   answer (repeating p) x = x.answer
   answer _ x = false
 
@@ -98,7 +165,11 @@ abbrev mutual
   turn_answer (and_member p no_members) x = answer p x
   turn_answer (and_member p (and_member q more)) x = turn_answer (and_member q more) x.later
 
--- the spots of the own nodes
+-- the spots of the own nodes: those of a site are its answer and the rails of its gates
+pub data SiteSpot (e : Formula) : Type 0 where
+  done : SiteSpot e
+  gate : (bit : ℕ) (one : Bool) → SiteSpot e
+
 mutual
   pub data GuardedSpot : Process → Type 0 where
     child latch next : {p : Process} → GuardedSpot p
@@ -106,28 +177,46 @@ mutual
 
   pub data Spot : Process → Type 0 where
     of_skip : Spot skipping
-    of_send : {chan : ℕ} {at : Span} {e : Formula} → Spot (sending chan at e)
-    gate : {chan : ℕ} {at : Span} {e : Formula} (bit : ℕ) (one : Bool) → Spot (sending chan at e)
+    of_assign : {x : ℕ} {at : Span} {e : Formula} → SiteSpot e → Spot (assigning x at e)
+    of_send : {chan : ℕ} {at : Span} {e : Formula} → SiteSpot e → Spot (sending chan at e)
     in_members : {members : Processes} → TurnSpot members → Spot (in_turn members)
+    of_branch : {members : Processes} → BranchSpot members → Spot (side_by_side members)
+    joint : {members : Processes} (k : ℕ) → Spot (side_by_side members)
     of_loop ask : {p : Process} → Spot (repeating p)
     in_body : {p : Process} → Spot p → Spot (repeating p)
+
+  pub data BranchSpot : Processes → Type 0 where
+    in_this : {p : Process} {more : Processes} → GuardedSpot p → BranchSpot (and_member p more)
+    in_others : {p : Process} {more : Processes} → BranchSpot more → BranchSpot (and_member p more)
 
   pub data TurnSpot : Processes → Type 0 where
     in_last : {p : Process} → Spot p → TurnSpot (and_member p no_members)
     in_member : {p q : Process} {more : Processes} → GuardedSpot p → TurnSpot (and_member p (and_member q more))
     in_later : {p q : Process} {more : Processes} → TurnSpot (and_member q more) → TurnSpot (and_member p (and_member q more))
 
--- A gate's spot stands for a node where the expression has that bit; each other spot does.
+-- A gate's spot stands for a node where the expression has that bit, and one in a tree where the tree has that node; each
+-- other spot does.
+abbrev pub site_stands : {e : Formula} → SiteSpot e → Bool
+site_stands done = true
+site_stands {e = e} (gate i one) = nat_lt i (gate_count e)
+
 abbrev mutual
   pub guarded_stands : {p : Process} → GuardedSpot p → Bool
   guarded_stands (inner s) = stands s
   guarded_stands _ = true
 
   pub stands : {p : Process} → Spot p → Bool
-  stands (gate {e = e} i one) = nat_lt i (gate_count e)
+  stands (of_assign s) = site_stands s
+  stands (of_send s) = site_stands s
   stands (in_members s) = turn_stands s
+  stands (of_branch s) = branch_stands s
+  stands (joint {members = members} k) = nat_lt k (joint_count (member_count members))
   stands (in_body s) = stands s
   stands _ = true
+
+  pub branch_stands : {members : Processes} → BranchSpot members → Bool
+  branch_stands (in_this s) = guarded_stands s
+  branch_stands (in_others s) = branch_stands s
 
   pub turn_stands : {members : Processes} → TurnSpot members → Bool
   turn_stands (in_last s) = stands s
@@ -157,11 +246,6 @@ fires r = turns r.now r.up r.down
 abbrev pub is_apart : Rule → Bool
 is_apart r = not (r.up && r.down)
 
--- the wires of the channels: each one's acknowledge, and the rails of each of its bits
-pub record Wires : Type 0 where
-  pub ack : (chan : ℕ) → Bool
-  pub rail : (chan bit : ℕ) (one : Bool) → Bool
-
 abbrev pub same_bit : Bool → Bool → Bool
 same_bit true b = b
 same_bit false b = not b
@@ -177,32 +261,48 @@ abbrev pub gate_rule : (e : Formula) → Bool → Pairs (gate_count e) → (bit 
 gate_rule (constant width v) r x i one = constant_rule width v r x i one
 gate_rule _ r x i one = no_rule false
 
+-- a node of a completion tree
+abbrev pub tree_rule : (n : ℕ) → (leaf node : ℕ → Bool) → ℕ → Rule
+tree_rule n leaf node k = rule_of (node k) (guard_holds (tree_value n leaf node) (tree_node n k).up) (guard_holds (tree_value n leaf node) (tree_node n k).down)
+
+abbrev pub site_rule : (e : Formula) → (ack r : Bool) → Site (gate_count e) → SiteSpot e → Rule
+site_rule e ack r x done = rule_of x.answer (r && ack) (not ack)
+site_rule e ack r x (gate i one) = gate_rule e r x.gates i one
+
 -- The rules of the own nodes (Martin; Burns and Martin), under the request's value r:
 --   Q-element, child answer d   d -> u+          ~r -> u-
 --                               r & ~u -> c+     u -> c-
 --                               u & ~d -> b+     ~u -> b-
 --   skip                        r -> a+          ~r -> a-
---   send on X                   r & X.a -> a+    ~X.a -> a-
+--   site of a line L            r & L.a -> a+    ~L.a -> a-
+--   branches side by side       each Q-element under r; the tree over their next requests
 --   loop, body answer la        r & ~la -> lr+   la -> lr-     and none for its answer
 abbrev mutual
-  pub guarded_rule : (p : Process) → Wires → Bool → Guarded (Cells p) → GuardedSpot p → Rule
+  pub guarded_rule : (p : Process) → Seen → Bool → Guarded (Cells p) → GuardedSpot p → Rule
   guarded_rule p w r x child = rule_of x.child (r && not x.latch) x.latch
   guarded_rule p w r x latch = rule_of x.latch (answer p x.inner) (not r)
   guarded_rule p w r x next = rule_of x.next (x.latch && not (answer p x.inner)) (not x.latch)
   guarded_rule p w r x (inner s) = rule p w x.child x.inner s
 
-  pub rule : (p : Process) → Wires → Bool → Cells p → Spot p → Rule
+  pub rule : (p : Process) → Seen → Bool → Cells p → Spot p → Rule
   rule skipping w r x of_skip = rule_of x r (not r)
-  rule (sending chan at e) w r x of_send = rule_of x.answer (r && w.ack chan) (not (w.ack chan))
-  rule (sending chan at e) w r x (gate i one) = gate_rule e r x.gates i one
+  rule (assigning y at e) w r x (of_assign s) = site_rule e (w.ack (of_var y)) r x s
+  rule (sending chan at e) w r x (of_send s) = site_rule e (w.ack (of_channel chan)) r x s
   rule (in_turn members) w r x (in_members s) = turn_rule members w r x s
+  rule (side_by_side members) w r x (of_branch s) = branch_rule members w r x.branches s
+  rule (side_by_side members) w r x (joint k) = tree_rule (member_count members) (branch_ends members x.branches) (bit_at (joint_count (member_count members)) x.tree) k
   rule (repeating p) w r x of_loop = no_rule x.answer
   rule (repeating p) w r x ask = rule_of x.ask (r && not (answer p x.inner)) (answer p x.inner)
   rule (repeating p) w r x (in_body s) = rule p w x.ask x.inner s
   rule _ w r x s = no_rule false
 
+  pub branch_rule : (members : Processes) → Seen → Bool → BranchCells members → BranchSpot members → Rule
+  branch_rule no_members w r x s = no_rule false
+  branch_rule (and_member p more) w r x (in_this s) = guarded_rule p w r x.0 s
+  branch_rule (and_member p more) w r x (in_others s) = branch_rule more w r x.1 s
+
   -- the next request of a member's Q-element is the request of what stands behind it
-  pub turn_rule : (members : Processes) → Wires → Bool → TurnCells members → TurnSpot members → Rule
+  pub turn_rule : (members : Processes) → Seen → Bool → TurnCells members → TurnSpot members → Rule
   turn_rule no_members w r x s = no_rule false
   turn_rule (and_member p no_members) w r x (in_last s) = rule p w r x s
   turn_rule (and_member p (and_member q more)) w r x (in_member s) = guarded_rule p w r x.member s
@@ -218,6 +318,10 @@ turned_pairs zero x i one = x
 turned_pairs (suc n) x zero one = (turned_side x.0 one, x.1)
 turned_pairs (suc n) x (suc i) one = (x.0, turned_pairs n x.1 i one)
 
+abbrev pub turned_site : (e : Formula) → Site (gate_count e) → SiteSpot e → Site (gate_count e)
+turned_site e x done = record x { answer = not x.answer }
+turned_site e x (gate i one) = record x { gates = turned_pairs (gate_count e) x.gates i one }
+
 -- the cells with one node turned over
 abbrev mutual
   pub turned_guarded : (p : Process) → Guarded (Cells p) → GuardedSpot p → Guarded (Cells p)
@@ -228,13 +332,20 @@ abbrev mutual
 
   pub turned : (p : Process) → Cells p → Spot p → Cells p
   turned skipping x of_skip = not x
-  turned (sending chan at e) x of_send = record x { answer = not x.answer }
-  turned (sending chan at e) x (gate i one) = record x { gates = turned_pairs (gate_count e) x.gates i one }
+  turned (assigning y at e) x (of_assign s) = turned_site e x s
+  turned (sending chan at e) x (of_send s) = turned_site e x s
   turned (in_turn members) x (in_members s) = turned_turn members x s
+  turned (side_by_side members) x (of_branch s) = record x { branches = turned_branches members x.branches s }
+  turned (side_by_side members) x (joint k) = record x { tree = turned_bits (joint_count (member_count members)) x.tree k }
   turned (repeating p) x of_loop = record x { answer = not x.answer }
   turned (repeating p) x ask = record x { ask = not x.ask }
   turned (repeating p) x (in_body s) = record x { inner = turned p x.inner s }
   turned _ x s = x
+
+  pub turned_branches : (members : Processes) → BranchCells members → BranchSpot members → BranchCells members
+  turned_branches no_members x s = x
+  turned_branches (and_member p more) x (in_this s) = (turned_guarded p x.0 s, x.1)
+  turned_branches (and_member p more) x (in_others s) = (x.0, turned_branches more x.1 s)
 
   pub turned_turn : (members : Processes) → TurnCells members → TurnSpot members → TurnCells members
   turned_turn no_members x s = x
@@ -253,15 +364,25 @@ abbrev pub result_rail : (e : Formula) → Pairs (gate_count e) → (bit : ℕ) 
 result_rail (constant width v) x i one = rail_in width x i one
 result_rail _ x i one = []
 
--- this rail of each of the channel's send sites, in the order of the text
+abbrev pub rails_of_site : (own : Bool) → (e : Formula) → Site (gate_count e) → (bit : ℕ) → Bool → List Bool
+rails_of_site true e x i one = result_rail e x.gates i one
+rails_of_site false e x i one = []
+
+-- this rail of each of the line's sites, in the order of the text
 abbrev mutual
-  pub site_rails : (p : Process) → Cells p → (chan bit : ℕ) → Bool → List Bool
-  site_rails (sending chan at e) x k i one = if chan == k then result_rail e x.gates i one else []
+  pub site_rails : (p : Process) → Cells p → Line → (bit : ℕ) → Bool → List Bool
+  site_rails (assigning y at e) x k i one = rails_of_site (same_line (of_var y) k) e x i one
+  site_rails (sending chan at e) x k i one = rails_of_site (same_line (of_channel chan) k) e x i one
   site_rails (in_turn members) x k i one = turn_rails members x k i one
+  site_rails (side_by_side members) x k i one = branch_rails members x.branches k i one
   site_rails (repeating p) x k i one = site_rails p x.inner k i one
   site_rails _ x k i one = []
 
-  pub turn_rails : (members : Processes) → TurnCells members → (chan bit : ℕ) → Bool → List Bool
+  pub branch_rails : (members : Processes) → BranchCells members → Line → (bit : ℕ) → Bool → List Bool
+  branch_rails no_members x k i one = []
+  branch_rails (and_member p more) x k i one = site_rails p x.0.inner k i one ++ branch_rails more x.1 k i one
+
+  pub turn_rails : (members : Processes) → TurnCells members → Line → (bit : ℕ) → Bool → List Bool
   turn_rails no_members x k i one = []
   turn_rails (and_member p no_members) x k i one = site_rails p x k i one
   turn_rails (and_member p (and_member q more)) x k i one = site_rails p x.member.inner k i one ++ turn_rails (and_member q more) x.later k i one

@@ -1,20 +1,23 @@
 -- The programs whose circuits are proved so far.
-use Rattle.std.specs.Prelude.{◌≡◌, List, [], All}
+use Rattle.std.specs.Prelude.{◌≡◌, All}
 use Rattle.chp_base.specs.declared.channel.Channel.{Channel}
 use Rattle.chp_base.specs.declared.channel.Kind.TheVariants.{Out}
-use Rattle.width_check.specs.Processes.{Formula, constant, Process, skipping, sending, in_turn, repeating, Processes, no_members, and_member, TypedProgram}
+use Rattle.width_check.specs.Processes.{Formula, constant, Process, skipping, assigning, sending, in_turn, side_by_side, repeating, Processes, no_members, and_member, TypedProgram}
+use Rattle.width_check.specs.Sharing.{MeetsSharing}
 
 -- a number
 abbrev pub IsNumber : Formula → Type 0
 IsNumber (constant width v) = Unit {0}
 IsNumber _ = ⊥
 
--- skip, sequences, loops that go on for ever, and sends of numbers
+-- skip, sequences, parallel compositions, loops that go on for ever, and assignments and sends of numbers
 abbrev mutual
   pub IsCovered : Process → Type 0
   IsCovered skipping = Unit {0}
+  IsCovered (assigning var at e) = IsNumber e
   IsCovered (sending chan at e) = IsNumber e
   IsCovered (in_turn members) = AreCovered members
+  IsCovered (side_by_side members) = AreCovered members
   IsCovered (repeating p) = IsCovered p
   IsCovered _ = ⊥
 
@@ -22,8 +25,8 @@ abbrev mutual
   AreCovered no_members = Unit {0}
   AreCovered (and_member p more) = IsCovered p × AreCovered more
 
--- over channels on which the environment receives, without variables
+-- over channels on which the environment receives, under the sharing rule
 pub record Covered (P : TypedProgram) : Type 0 where
   pub channels : All (λ (c : Channel). c.kind ≡ Out) P.channels
-  pub vars : P.vars ≡ []
   pub body : IsCovered P.body
+  pub sharing : MeetsSharing P.body

@@ -2,7 +2,8 @@
 use Rattle.std.specs.Prelude.{ℕ, ◌+◌, ◌-◌, ◌*◌, if◌then◌else◌}
 use Rattle.width_check.specs.Processes.{Process, assigning, in_turn, side_by_side, Processes, no_members, and_member, Choices, choice_count, TypedProgram}
 use Rattle.width_check.specs.Typing.{var_width}
-use Rattle.handshake_expand.specs.Layout.{formula_size, reads, block_size, size_of, guards_size}
+use Rattle.handshake_expand.specs.Layout.{formula_size, block_size, size_of, guards_size}
+use Rattle.width_check.specs.Reads.{reads}
 
 -- the second answer of an assignment through a hidden variable stands behind its block, its Q-element, and its first
 -- answer with the expression

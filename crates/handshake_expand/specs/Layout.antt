@@ -8,6 +8,7 @@ use Rattle.width_check.specs.declared.typed.Var.{Var}
 use Rattle.width_check.specs.Processes.{Formula, constant, reading, joined, inverted, chained, compared, Formulas, no_parts, and_part, Operations, no_operations, and_operation, Process, skipping, assigning, sending, receiving, in_turn, side_by_side, choosing, repeating, Processes, no_members, and_member, member_count, Choices, no_choices, and_choice, choice_count, TypedProgram}
 use Rattle.width_check.specs.Values.{width_of}
 use Rattle.width_check.specs.Typing.{channel_width, var_width}
+use Rattle.width_check.specs.Reads.{reads}
 
 -- a number as it is counted: the greatest one of 64 bits stands for all above it
 abbrev pub capped : ℕ → ℕ
@@ -44,24 +45,6 @@ abbrev mutual
   pub operations_size : (width : ℕ) → Operations → ℕ
   operations_size width no_operations = 0
   operations_size width (and_operation op e more) = formula_size e + operator_size op width + operations_size width more
-
--- whether an expression reads the variable
-abbrev mutual
-  pub reads : ℕ → Formula → Bool
-  reads x (constant width v) = false
-  reads x (reading var high low at) = var == x
-  reads x (joined parts) = reads_in_parts x parts
-  reads x (inverted e) = reads x e
-  reads x (chained e more) = reads x e || reads_in_operations x more
-  reads x (compared op e f) = reads x e || reads x f
-
-  pub reads_in_parts : ℕ → Formulas → Bool
-  reads_in_parts x no_parts = false
-  reads_in_parts x (and_part e more) = reads x e || reads_in_parts x more
-
-  pub reads_in_operations : ℕ → Operations → Bool
-  reads_in_operations x no_operations = false
-  reads_in_operations x (and_operation op e more) = reads x e || reads_in_operations x more
 
 -- two rails for each bit, and an acknowledge
 abbrev pub wires_size : (width : ℕ) → ℕ

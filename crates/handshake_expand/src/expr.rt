@@ -3,7 +3,8 @@
 ghost use Rattle.std.specs.Prelude.{◌≡◌};
 ghost use Rattle.width_check.specs.View.{formula_of};
 ghost use Rattle.width_check.specs.Values.{IsWellFormed};
-ghost use Rattle.handshake_expand.specs.Layout.{operator_size, formula_size, reads, capped};
+ghost use Rattle.handshake_expand.specs.Layout.{operator_size, formula_size, capped};
+ghost use Rattle.width_check.specs.Reads.{reads};
 
 use chp_syntax::Op;
 use width_check::{TExpr, width_of};

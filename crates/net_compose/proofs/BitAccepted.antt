@@ -25,7 +25,6 @@ use Rattle.width_check.specs.Faults.{FaultAt, wants_var, IsBadPart, LacksWidth, 
 use Rattle.width_check.specs.Accepted.{IsAccepted}
 use Rattle.circuit_places.specs.Covered.{Covered}
 use Rattle.net_compose.specs.Built.{is_out, is_name, is_bit_out, bit_sent, bit_program}
-use Rattle.net_compose.proofs.CoveredCarried.{shares_nothing}
 
 -- what the tests tell
 
@@ -183,7 +182,7 @@ module _ (d : Decl) (bit_d : IsBit d) (chan : Ident) (n : ℕ) (at : Span) (same
         ),
       ),
     );
-    sharing = shares_nothing (process_form (d ∷ []) (sends chan (number n at))) tt;
+    sharing = record { variables = λ a b apart. absurd apart; sends = λ a b apart. absurd apart; receives = λ a b apart. absurd apart };
   }
     where
       range : (x : Decl) → d ≡ x → (x.width < 1) ⊎ (64 < x.width) → ⊥
@@ -255,6 +254,6 @@ bit_typed name at b is = record {
 pub bit_covered : (name : List ℕ) (at : Span) (b : Bool) → Covered (bit_program name at b)
 bit_covered name at b = record {
   channels = All-cons (λ (c : Channel). c.kind ≡ kind.Out) (record { name = name; kind = kind.Out; width = 1 }) [] refl (All-nil (λ (c : Channel). c.kind ≡ kind.Out));
-  vars = refl;
   body = tt;
+  sharing = record { variables = λ a b apart. absurd apart; sends = λ a b apart. absurd apart; receives = λ a b apart. absurd apart };
 }

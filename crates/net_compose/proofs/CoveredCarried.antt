@@ -1,6 +1,6 @@
 -- The net of each covered program carries it.
-use Rattle.std.proofs.Common.{◌≡◌, ◌≢◌, ℕ, zero, suc, ◌+◌, ◌-◌, ◌<◌, ◌≤◌, ◌==◌, Bool, true, false, List, [], ◌∷◌, ◌++◌, map, length, get_or, replicate, Option, Some, None, inl, inr, refl, sym, ap, ◌∙◌, subst, arith, ⊎_elim, append-nil, append_assoc}
-use Rattle.std.specs.Prelude.{not, ◌&&◌, ◌||◌, if◌then◌else◌, is_some, nat_lt, fold, filter, slice_set}
+use Rattle.std.proofs.Common.{◌≡◌, ◌≢◌, ℕ, zero, suc, ◌+◌, ◌-◌, ◌<◌, ◌≤◌, ◌==◌, Bool, true, false, List, [], ◌∷◌, ◌++◌, map, length, get_or, replicate, Option, Some, None, inl, inr, refl, sym, ap, ◌∙◌, subst, arith, ◌⊎◌, ◌*◌, ⊎_elim, append-nil, append_assoc}
+use Rattle.std.specs.Prelude.{not, ◌&&◌, ◌||◌, if◌then◌else◌, is_some, nat_lt, All, fold, filter, slice_set}
 use Rattle.std.proofs.lemmas.Bool.{cases_lt, eqb-true, and_from}
 use Rattle.std.proofs.lemmas.Bool.Decides.{nat_tests}
 use Rattle.chp_base.specs.declared.channel.Channel.{Channel}
@@ -12,48 +12,30 @@ use Rattle.env_script.specs.Scripts.{OfferValue, IsScript}
 use Rattle.env_script.specs.Environment.{valid}
 use Rattle.env_script.specs.Phases.{rail_keeps, rails_keep, ack_keeps, phases_keep, phase_fault}
 use Rattle.env_script.specs.Runs.{RunState, history_at, move_enabled, moved as moved_flat, IsRun, after, begin_at, IsAtRest as IsAtRestFlat, IsApart, IsSafeRun}
-use Rattle.width_check.specs.Processes.{Process, skipping, assigning, sending, receiving, in_turn, side_by_side, choosing, repeating, Processes, no_members, and_member, TypedProgram}
-use Rattle.width_check.specs.Typing.{IsTyped, channel_width}
-use Rattle.width_check.specs.Sharing.{Occurrence, Parallel, ParallelInside, MeetsSharing}
+use Rattle.width_check.specs.Processes.{Process, skipping, assigning, sending, receiving, in_turn, side_by_side, choosing, repeating, Processes, no_members, and_member, member_count, TypedProgram}
+use Rattle.width_check.specs.Typing.{IsDeclaredVar, IsTyped, channel_width, var_width}
+use Rattle.width_check.specs.declared.typed.Var.{Var}
+use Rattle.circuit_places.specs.Lines.{of_channel, of_var}
+use Rattle.std.proofs.lemmas.List.Elements.{All-head, All-tail}
+use Rattle.net_compose.proofs.FlatTrees.{joint_count_is}
+use Rattle.net_compose.proofs.FlatBlocks.{Part, a_bit, a_put, a_mark, a_joint, IsPart, offset, side}
+use Rattle.net_compose.proofs.FlatFirst.{member, raised, raised_is, length-raised, HighRail, high_at, high_member, high_there}
+use Rattle.width_check.specs.Sharing.{MeetsSharing}
 use Rattle.chp_meaning.specs.Terms.{Place, places}
 use Rattle.chp_meaning.specs.Steps.{Configuration, Step, Leads, no_step, one_step, start_of}
 use Rattle.chp_meaning.specs.Rounds.{round, rounds, rounds_from, step_at, is_enabled, taken}
+use Rattle.chp_meaning.proofs.HalvedTyping.{typed_sized}
 use Rattle.chp_meaning.specs.Laws.{IsBehind, OneHistory, RoundsHold}
-use Rattle.handshake_expand.specs.Layout.{channel_from, nodes_of, size_of, body_from, root_request, root_latch}
-use Rattle.circuit_places.specs.Covered.{Covered, IsCovered, AreCovered}
-use Rattle.circuit_places.specs.Circuit.{Spot, TurnSpot, child, latch, next, inner, of_skip, of_send, gate, in_members, of_loop, ask, in_body, in_last, in_member, in_later, gate_count, stands, turn_stands}
-use Rattle.circuit_places.specs.Whole.{Whole, Node, go_node, own_node, rail_node, ack_node, is_node, enabled, moved, first_of, neutral_on, Reaches, at_first, by_move}
+use Rattle.handshake_expand.specs.Layout.{wires_before, var_from, channel_from, nodes_of, size_of, body_from, root_request, root_latch}
+use Rattle.circuit_places.specs.Covered.{Covered, IsNumber, IsCovered, AreCovered}
+use Rattle.circuit_places.specs.Circuit.{low, Spot, TurnSpot, BranchSpot, of_branch, joint, in_this, in_others, joint_count, child, latch, next, inner, of_skip, done, gate, of_assign, of_send, in_members, of_loop, ask, in_body, in_last, in_member, in_later, gate_count, stands, turn_stands, branch_stands}
+use Rattle.circuit_places.specs.Whole.{first_bits, Whole, Node, go_node, own_node, rail_node, ack_node, bit_node, wrote_node, joint_node, is_node, enabled, moved, first_of, neutral_on, Reaches, at_first, by_move}
 use Rattle.circuit_places.specs.Carried.{IsAtRest, IsCarried, CircuitsCarry}
-use Rattle.net_compose.specs.Translation.{translation, sites_in, sites_in_turn, hidden_high, vars_high, in_body as in_program, first_values, rails_at, ack_at, wires_from}
+use Rattle.net_compose.specs.Translation.{translation, sites_in, sites_in_turn, sites_in_branches, hidden_high, vars_high, in_body as in_program, first_values, rails_at, ack_at, wires_from}
 use Rattle.net_compose.specs.Carries.{IsFollowing, IsSettled, IsCarrying, Carries}
-use Rattle.net_compose.proofs.FlatCells.{low_bits, IsFine, IsFineTurn, rail_place}
-use Rattle.net_compose.proofs.FlatWires.{value_is, neutral_is, rails_kept, position_none, length-wires_from, wires_are}
-use Rattle.net_compose.proofs.FlatNet.{Given, Shows, number_of, Fine, node_at, enabled_is, apart_is, past_apart, past_end, after_move}
-
--- a covered program has no parallel places
-
-mutual
-  none_parallel : (p : Process) → IsCovered p → (a b : Occurrence) → Parallel p a b → ⊥
-  none_parallel skipping c a b h = h
-  none_parallel (sending k at e) c a b h = h
-  none_parallel (in_turn members) c a b h = none_inside members c a b h
-  none_parallel (repeating p) c a b h = none_parallel p c a b h
-  none_parallel (assigning x at e) c a b h = h
-  none_parallel (receiving k at x to) c a b h = h
-  none_parallel (side_by_side members) c a b h = c
-  none_parallel (choosing again choices) c a b h = c
-
-  none_inside : (members : Processes) → AreCovered members → (a b : Occurrence) → ParallelInside members a b → ⊥
-  none_inside no_members c a b h = h
-  none_inside (and_member p more) c a b (inl h) = none_parallel p c.0 a b h
-  none_inside (and_member p more) c a b (inr h) = none_inside more c.1 a b h
-
-pub shares_nothing : (p : Process) → IsCovered p → MeetsSharing p
-shares_nothing p c = record {
-  variables = λ a b h. absurd (none_parallel p c a b h);
-  sends = λ a b h. absurd (none_parallel p c a b h);
-  receives = λ a b h. absurd (none_parallel p c a b h);
-}
+use Rattle.net_compose.proofs.FlatCells.{length-bits, by_number, low_bits, IsFine, IsFineTurn, IsFineBranch, rail_place}
+use Rattle.net_compose.proofs.FlatWires.{rail_bounds, ack_bounds, value_is, neutral_is, rails_kept, position_none, length-wires_from, wires_are}
+use Rattle.net_compose.proofs.FlatNet.{part_bounds, same_var, same_part, part_value, Given, Shows, number_of, Fine, node_at, enabled_is, apart_is, past_apart, past_end, after_move}
 
 -- rounds and runs of the program
 
@@ -111,16 +93,26 @@ below_told i n h = grind (arith, nat_tests)
 mutual
   fine_spot : (P : TypedProgram) (p : Process) (s : Spot p) → stands s ≡ true → IsFine P p s
   fine_spot P skipping of_skip h = tt
-  fine_spot P (sending chan at e) of_send h = tt
-  fine_spot P (sending chan at e) (gate i one) h = below_told i (gate_count e) h
+  fine_spot P (sending chan at e) (of_send done) h = tt
+  fine_spot P (sending chan at e) (of_send (gate i one)) h = below_told i (gate_count e) h
   fine_spot P (in_turn members) (in_members s) h = fine_turn P members s h
   fine_spot P (repeating p) of_loop h = tt
   fine_spot P (repeating p) ask h = tt
   fine_spot P (repeating p) (in_body s) h = fine_spot P p s h
-  fine_spot P (assigning x at e) s h = elim s [ ]
+  fine_spot P (assigning x at e) (of_assign done) h = tt
+  fine_spot P (assigning x at e) (of_assign (gate i one)) h = below_told i (gate_count e) h
   fine_spot P (receiving k at x to) s h = elim s [ ]
-  fine_spot P (side_by_side members) s h = elim s [ ]
+  fine_spot P (side_by_side members) (of_branch s) h = fine_branch P members s h
+  fine_spot P (side_by_side members) (joint k) h = below_told k (joint_count (member_count members)) h
   fine_spot P (choosing again choices) s h = elim s [ ]
+
+  fine_branch : (P : TypedProgram) (members : Processes) (s : BranchSpot members) → branch_stands s ≡ true → IsFineBranch P members s
+  fine_branch P no_members s h = elim s [ ]
+  fine_branch P (and_member p more) (in_this child) h = tt
+  fine_branch P (and_member p more) (in_this latch) h = tt
+  fine_branch P (and_member p more) (in_this next) h = tt
+  fine_branch P (and_member p more) (in_this (inner s)) h = fine_spot P p s h
+  fine_branch P (and_member p more) (in_others s) h = fine_branch P more s h
 
   fine_turn : (P : TypedProgram) (members : Processes) (s : TurnSpot members) → turn_stands s ≡ true → IsFineTurn P members s
   fine_turn P no_members s h = elim s [ ]
@@ -136,14 +128,26 @@ has_width [] k i h = absurd (omega (arith, h))
 has_width (c ∷ cs) zero i h = omega arith
 has_width (c ∷ cs) (suc k) i h = let r = has_width cs k i h in omega (arith, r)
 
+has_bit : (vs : List Var) (x i : ℕ) → i < var_width vs x → x < length vs
+has_bit [] x i h = absurd (omega (arith, h))
+has_bit (v ∷ vs) zero i h = omega arith
+has_bit (v ∷ vs) (suc x) i h = let r = has_bit vs x i h in omega (arith, r)
+
+has_joint : (vs : List Var) (x k : ℕ) → k < joint_count (var_width vs x) → x < length vs
+has_joint vs x k h = has_bit vs x 0 (let e = joint_count_is (var_width vs x) in omega (arith, h, e))
+
 fine_node : (P : TypedProgram) (given : Given P) (n : Node P.body) → is_node P n ≡ true → Fine P given n
 fine_node P given go_node h = tt
 fine_node P given (own_node child) h = tt
 fine_node P given (own_node latch) h = tt
 fine_node P given (own_node next) h = tt
 fine_node P given (own_node (inner s)) h = fine_spot P P.body s h
-fine_node P given (rail_node k i one) h = let lt = below_told i (channel_width P.channels k) h in (has_width P.channels k i lt, lt)
+fine_node P given (rail_node (of_channel k) i one) h = let lt = below_told i (channel_width P.channels k) h in (has_width P.channels k i lt, lt)
 fine_node P given (ack_node k) h = below_told k (length P.channels) h
+fine_node P given (rail_node (of_var x) i one) h = let lt = below_told i (var_width P.vars x) h in (has_bit P.vars x i lt, lt)
+fine_node P given (bit_node x i one) h = let lt = below_told i (var_width P.vars x) h in (has_bit P.vars x i lt, lt)
+fine_node P given (wrote_node x i) h = let lt = below_told i (var_width P.vars x) h in (has_bit P.vars x i lt, lt)
+fine_node P given (joint_node x k) h = let lt = below_told k (joint_count (var_width P.vars x)) h in (has_joint P.vars x k lt, lt)
 
 -- the first state
 
@@ -153,10 +157,16 @@ mutual
   none_hidden P (sending k at e) c from = refl
   none_hidden P (in_turn members) c from = none_hidden_turn P members c from
   none_hidden P (repeating p) c from = none_hidden P p c (from + 2)
-  none_hidden P (assigning x at e) c from = absurd c
+  none_hidden P (assigning x at e) c from = by_number (λ e. sites_in P (hidden_high P) (assigning x at e) from ≡ []) (λ w v. refl) e c
   none_hidden P (receiving k at x to) c from = absurd c
-  none_hidden P (side_by_side members) c from = absurd c
+  none_hidden P (side_by_side members) c from = none_hidden_branches P members c from
   none_hidden P (choosing again choices) c from = absurd c
+
+  none_hidden_branches : (P : TypedProgram) (members : Processes) → AreCovered members → (from : ℕ) → sites_in_branches P (hidden_high P) members from ≡ []
+  none_hidden_branches P no_members c from = refl
+  none_hidden_branches P (and_member p more) c from =
+      ap (λ l. l ++ sites_in_branches P (hidden_high P) more (from + 3 + size_of P p)) (none_hidden P p c.0 (from + 3))
+      ∙ none_hidden_branches P more c.1 (from + 3 + size_of P p)
 
   none_hidden_turn : (P : TypedProgram) (members : Processes) → AreCovered members → (from : ℕ) → sites_in_turn P (hidden_high P) members from ≡ []
   none_hidden_turn P no_members c from = refl
@@ -179,24 +189,65 @@ length-histories zero = refl
 length-histories (suc n) = ap suc (length-histories n)
 
 module _ (P : TypedProgram) (given : Given P) where
-  first_is : first_values P ≡ replicate (nodes_of P) false
+  first_is : first_values P ≡ raised (replicate (nodes_of P) false) (vars_high P 0 P.vars)
   first_is =
-      ap (λ vs. fold (λ values node. slice_set values node true) (replicate (nodes_of P) false) (vars_high P 0 vs ++ in_program P (hidden_high P))) given.plain
-      ∙ ap (λ l. fold (λ values node. slice_set values node true) (replicate (nodes_of P) false) l) (none_hidden P P.body given.covered (body_from P))
+      ap (λ l. raised (replicate (nodes_of P) false) (vars_high P 0 P.vars ++ l)) (none_hidden P P.body given.covered (body_from P))
+      ∙ ap (raised (replicate (nodes_of P) false)) (append-nil (vars_high P 0 P.vars))
 
-  low_there : (i : ℕ) → high (first_values P) i ≡ false
-  low_there i = ap (λ l. high l i) first_is ∙ all_low_at (nodes_of P) i
+  high_is : (m : ℕ) → m < nodes_of P → high (first_values P) m ≡ member m (vars_high P 0 P.vars)
+  high_is m h =
+      ap (λ l. high l m) first_is
+      ∙ (raised_is (vars_high P 0 P.vars) (replicate (nodes_of P) false) m (omega (arith, h, length-replicated (nodes_of P))) ∙ ap (λ b. b || member m (vars_high P 0 P.vars)) (all_low_at (nodes_of P) m))
+
+  -- beside the blocks all are low
+  low_there : (m : ℕ) → m < nodes_of P → (m < 2 + wires_before P.channels (length P.channels)) ⊎ (root_request P ≤ m) → high (first_values P) m ≡ false
+  low_there m h where_m = high_is m h ∙ by (member m (vars_high P 0 P.vars)) refl
+    where
+      apart : HighRail P 0 P.vars m → (m < 2 + wires_before P.channels (length P.channels)) ⊎ (root_request P ≤ m) → ⊥
+      apart r (inl below) = let e = part_bounds P given r.var (a_bit r.bit r.one) r.some r.below in let z = high_at P m r in omega (arith, below, e.0, z)
+      apart r (inr above) = let e = part_bounds P given r.var (a_bit r.bit r.one) r.some r.below in let z = high_at P m r in omega (arith, above, e.1, z)
+
+      by : (b : Bool) → member m (vars_high P 0 P.vars) ≡ b → b ≡ false
+      by true e = absurd (apart (high_member P 0 P.vars m e) where_m)
+      by false e = refl
+
+  block_there : (y : ℕ) (b : Part) → y < length P.vars → IsPart (var_width P.vars y) b → high (first_values P) (var_from P y + offset (var_width P.vars y) b) ≡ part_value P given (first_of P).wires y b
+  block_there y b hy hb =
+      let e = part_bounds P given y b hy hb in
+      high_is (var_from P y + offset (var_width P.vars y) b) (omega (arith, e.1)) ∙ by (member (var_from P y + offset (var_width P.vars y) b) (vars_high P 0 P.vars)) refl
+    where
+      found : HighRail P 0 P.vars (var_from P y + offset (var_width P.vars y) b) → part_value P given (first_of P).wires y b ≡ true
+      found r =
+          let u = same_var P given r.var y (a_bit r.bit r.one) b r.some hy r.below hb (high_at P (var_from P y + offset (var_width P.vars y) b) r) in
+          let below : r.bit < var_width P.vars y = subst (λ (n : ℕ). r.bit < var_width P.vars n) u r.below in
+          let q = same_part P given y (a_bit r.bit r.one) b below hb (sym (ap (λ n. var_from P n + (5 * r.bit + side r.one)) u) ∙ high_at P (var_from P y + offset (var_width P.vars y) b) r) in
+          ap (part_value P given (first_of P).wires y) (sym q) ∙ (ap (λ n. first_bits P.vars n r.bit r.one) (sym u) ∙ r.high)
+
+      none : (b : Part) → member (var_from P y + offset (var_width P.vars y) b) (vars_high P 0 P.vars) ≡ false → part_value P given (first_of P).wires y b ≡ false
+      none (a_put i one) e = refl
+      none (a_mark i) e = refl
+      none (a_joint k) e = refl
+      none (a_bit i one) e = low (first_bits P.vars y i one) refl
+        where
+          low : (z : Bool) → first_bits P.vars y i one ≡ z → z ≡ false
+          low true h = absurd (cc (e, ap (λ n. member (var_from P n + (5 * i + side one)) (vars_high P 0 P.vars)) (let g : y ≡ 0 + y = omega arith in g) ∙ high_there P 0 P.vars y i one h))
+          low false h = refl
+
+      by : (z : Bool) → member (var_from P y + offset (var_width P.vars y) b) (vars_high P 0 P.vars) ≡ z → z ≡ part_value P given (first_of P).wires y b
+      by true e = sym (found (high_member P 0 P.vars (var_from P y + offset (var_width P.vars y) b) e))
+      by false e = sym (none b e)
 
   starts : Shows P given (begin_at (translation P) (translation P).first) (first_of P)
   starts = record {
-    count = ap length first_is ∙ length-replicated (nodes_of P);
-    go = low_there 0;
-    done = low_there 1;
-    child = low_there (root_request P);
-    latch = low_there (root_latch P);
-    body = record { at = λ i h. low_there (body_from P + i) ∙ sym (ap (λ l. get_or l i false) (low_bits P P.body given.covered) ∙ all_low_at (size_of P P.body) i) };
-    rail = λ k i one hk hi. low_there (channel_from P k + rail_place i one);
-    ack = λ k hk. low_there (ack_at P k);
+    count = ap length first_is ∙ (length-raised (vars_high P 0 P.vars) (replicate (nodes_of P) false) ∙ length-replicated (nodes_of P));
+    go = low_there 0 (omega arith) (inl (omega arith));
+    done = low_there 1 (omega arith) (inl (omega arith));
+    child = low_there (root_request P) (omega arith) (inr (omega arith));
+    latch = low_there (root_latch P) (omega arith) (inr (omega arith));
+    body = record { at = λ i h. low_there (body_from P + i) (let e = length-bits P P.body given.covered (low P.body) in omega (arith, h, e)) (inr (omega arith)) ∙ sym (ap (λ l. get_or l i false) (low_bits P P.body given.covered) ∙ all_low_at (size_of P P.body) i) };
+    rail = λ k i one hk hi. let e = rail_bounds P k i one hk hi in low_there (channel_from P k + rail_place i one) (omega (arith, e.1)) (inl e.1);
+    ack = λ k hk. let e = ack_bounds P k hk in low_there (ack_at P k) (omega (arith, e.1)) (inl e.1);
+    block = block_there;
     histories = ap (λ n. replicate n []) (length-wires_from P 0 P.channels);
     channels = length-histories (length P.channels);
   }
@@ -269,8 +320,8 @@ module _ (P : TypedProgram) (given : Given P) where
 
       -- each channel keeps its phases
       module _ (st : RunState) (moves : ℕ) (r : Reached st moves) (n : ℕ) (on : move_enabled (translation P) script st n ≡ true) where
-        may_rail : (k i : ℕ) (one : Bool) → k < length P.channels → i < channel_width P.channels k → n ≡ channel_from P k + rail_place i one → enabled P script r.cells (rail_node k i one) ≡ true
-        may_rail k i one hk hi e = sym (enabled_is P given st r.cells r.shows script fits (rail_node k i one) (hk, hi)) ∙ (ap (move_enabled (translation P) script st) (sym e) ∙ on)
+        may_rail : (k i : ℕ) (one : Bool) → k < length P.channels → i < channel_width P.channels k → n ≡ channel_from P k + rail_place i one → enabled P script r.cells (rail_node (of_channel k) i one) ≡ true
+        may_rail k i one hk hi e = sym (enabled_is P given st r.cells r.shows script fits (rail_node (of_channel k) i one) (hk, hi)) ∙ (ap (move_enabled (translation P) script st) (sym e) ∙ on)
 
         may_ack : (k : ℕ) → k < length P.channels → n ≡ ack_at P k → enabled P script r.cells (ack_node k) ≡ true
         may_ack k hk e = sym (enabled_is P given st r.cells r.shows script fits (ack_node k) hk) ∙ (ap (move_enabled (translation P) script st) (sym e) ∙ on)
@@ -282,9 +333,9 @@ module _ (P : TypedProgram) (given : Given P) where
             let s = r.shows in
             let w = r.cells.wires in
             ap (λ b. if b then high st.values (ack_at P k) else not (high st.values (ack_at P k)) && not (high st.values (channel_from P k + rail_place i (not one)))) (s.rail k i one hk hi)
-            ∙ (ap (λ b. if w.rail k i one then b else not b && not (high st.values (channel_from P k + rail_place i (not one)))) (s.ack k hk)
-            ∙ (ap (λ b. if w.rail k i one then w.ack k else not (w.ack k) && not b) (s.rail k i (not one) hk hi)
-            ∙ by_value (w.rail k i one) (w.ack k) (w.rail k i (not one)) (λ low. safe.rail_up k i one low (may_rail k i one hk hi e)) (λ up. safe.rail_down k i one up (may_rail k i one hk hi e))))
+            ∙ (ap (λ b. if w.rail (of_channel k) i one then b else not b && not (high st.values (channel_from P k + rail_place i (not one)))) (s.ack k hk)
+            ∙ (ap (λ b. if w.rail (of_channel k) i one then w.ack k else not (w.ack k) && not b) (s.rail k i (not one) hk hi)
+            ∙ by_value (w.rail (of_channel k) i one) (w.ack k) (w.rail (of_channel k) i (not one)) (λ low. safe.rail_up k i one low (may_rail k i one hk hi e)) (λ up. safe.rail_down k i one up (may_rail k i one hk hi e))))
           where
             by_value : (b a o : Bool) → (b ≡ false → (a ≡ false) × (o ≡ false)) → (b ≡ true → a ≡ true) → (if b then a else not a && not o) ≡ true
             by_value true a o up down = down refl
@@ -296,10 +347,10 @@ module _ (P : TypedProgram) (given : Given P) where
             let s = r.shows in
             let w = r.cells.wires in
             let width = channel_width P.channels k in
-            let rails : (i : ℕ) (one : Bool) → i < width → high st.values (channel_from P k + rail_place i one) ≡ w.rail k i one = λ i one lt. s.rail k i one hk lt in
+            let rails : (i : ℕ) (one : Bool) → i < width → high st.values (channel_from P k + rail_place i one) ≡ w.rail (of_channel k) i one = λ i one lt. s.rail k i one hk lt in
             ap (λ b. if b then neutral (high st.values) (rails_of (rails_at P k)) else valid (high st.values) (rails_of (rails_at P k))) (s.ack k hk)
-            ∙ (ap (λ b. if w.ack k then b else valid (high st.values) (rails_of (rails_at P k))) (neutral_is (high st.values) width (channel_from P k) (w.rail k) rails)
-            ∙ (ap (λ o. if w.ack k then neutral_on width (w.rail k) else is_some o) (value_is (high st.values) width (channel_from P k) (w.rail k) rails)
+            ∙ (ap (λ b. if w.ack k then b else valid (high st.values) (rails_of (rails_at P k))) (neutral_is (high st.values) width (channel_from P k) (w.rail (of_channel k)) rails)
+            ∙ (ap (λ o. if w.ack k then neutral_on width (w.rail (of_channel k)) else is_some o) (value_is (high st.values) width (channel_from P k) (w.rail (of_channel k)) rails)
             ∙ by_value (w.ack k) (λ up. safe.ack_down k up (may_ack k hk e)) (λ low. safe.ack_up k low (may_ack k hk e))))
           where
             by_value : {x y : Bool} → (a : Bool) → (a ≡ true → x ≡ true) → (a ≡ false → y ≡ true) → (if a then x else y) ≡ true
@@ -363,12 +414,12 @@ module _ (P : TypedProgram) (given : Given P) where
             subst (λ c. IsSettled st c) (sym there) (record {
               whole = λ k. ap (λ hs. history_at hs k) (r.shows.histories ∙ sym q.passed);
               still = z.still;
-              answer = (λ h. z.ended (sym r.shows.done ∙ h), λ over. r.shows.done ∙ high_there (r.cells.root.next) (λ low. z.going low over));
+              answer = (λ h. z.ended (sym r.shows.done ∙ h), λ over. r.shows.done ∙ is_high (r.cells.root.next) (λ low. z.going low over));
             })
           where
-            high_there : (b : Bool) → (b ≡ false → ⊥) → b ≡ true
-            high_there true h = refl
-            high_there false h = absurd (h refl)
+            is_high : (b : Bool) → (b ≡ false → ⊥) → b ≡ true
+            is_high true h = refl
+            is_high false h = absurd (h refl)
 
         carrying : (ns : List ℕ) → IsRun (translation P) script (begin_at (translation P) (translation P).first) ns → IsCarrying (translation P) P script (translation P).first (length ns) ns
         carrying ns run =
@@ -381,14 +432,19 @@ module _ (P : TypedProgram) (given : Given P) where
               rest = λ still. settled (after (translation P) (begin_at (translation P) (translation P).first) ns) (length ns) last still;
             }
 
+have_bits : (vs : List Var) → All IsDeclaredVar vs → (y : ℕ) → y < length vs → 1 ≤ var_width vs y
+have_bits [] each y h = absurd (omega (arith, h))
+have_bits (v ∷ vs) each zero h = (All-head IsDeclaredVar v vs each).some
+have_bits (v ∷ vs) each (suc y) h = have_bits vs (All-tail IsDeclaredVar v vs each) y (omega (arith, h))
+
 -- what is assumed here are laws of steps and rounds, and that of circuits as trees of cells
 pub covered_carried : ((c d : Configuration) (at : Place) → step_at c at ≡ Some d → Step c at d) → ((c d : Configuration) (n : ℕ) → Leads c n d → IsBehind c d)
     → ((p : TypedProgram) (script : List OfferValue) → MeetsSharing p.body → OneHistory p script) → ((p : TypedProgram) (script : List OfferValue) → MeetsSharing p.body → RoundsHold p script)
     → CircuitsCarry → (P : TypedProgram) → IsTyped P.channels P.vars P.body → Covered P → Carries (translation P) P
 covered_carried steps_taken append one hold circuits P typed covered =
-    let given : Given P = record { typed = typed.body_is; covered = covered.body; out = covered.channels; plain = covered.vars } in
-    let meets = shares_nothing P.body covered.body in
+    let given : Given P = record { typed = typed.body_is; covered = covered.body; out = covered.channels; some = have_bits P.vars typed.each_var } in
+    let meets = covered.sharing in
     record {
       channels = same_channels P given 0 P.channels;
-      runs = λ script fits moves run. carrying P given script fits (λ k x r. circuits P typed covered script fits k x r) steps_taken append (one P script meets) (hold P script meets) moves run;
+      runs = λ script fits moves run. carrying P given script fits (λ k x r. circuits P (typed_sized P.channels P.vars P.body typed) covered script fits k x r) steps_taken append (one P script meets) (hold P script meets) moves run;
     }

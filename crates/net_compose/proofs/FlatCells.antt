@@ -3,10 +3,11 @@ use Rattle.std.proofs.Common.{◌≡◌, ℕ, zero, suc, ◌+◌, ◌-◌, ◌*�
 use Rattle.std.specs.Prelude.{not, if◌then◌else◌}
 use Rattle.std.proofs.lemmas.Bool.{cases_lt}
 use Rattle.std.proofs.lemmas.List.{get_or_append_left, set-append_left, set-append_right, replicate-append-replicate}
-use Rattle.width_check.specs.Processes.{Formula, constant, reading, joined, inverted, chained, compared, Process, skipping, assigning, sending, receiving, in_turn, side_by_side, choosing, repeating, Processes, no_members, and_member, TypedProgram}
-use Rattle.handshake_expand.specs.Layout.{formula_size, size_of, turn_size}
+use Rattle.width_check.specs.Processes.{Formula, constant, reading, joined, inverted, chained, compared, Process, skipping, assigning, sending, receiving, in_turn, side_by_side, choosing, repeating, Processes, no_members, and_member, member_count, TypedProgram}
+use Rattle.handshake_expand.specs.Layout.{formula_size, assign_size, size_of, turn_size, branches_size}
 use Rattle.circuit_places.specs.Covered.{IsNumber, IsCovered, AreCovered}
-use Rattle.circuit_places.specs.Circuit.{Pairs, gate_count, Cells, TurnCells, low_pairs, low, low_turn, Spot, TurnSpot, child, latch, next, inner, of_skip, of_send, gate, in_members, of_loop, ask, in_body, in_last, in_member, in_later, turned_pairs, turned, turned_turn}
+use Rattle.circuit_places.specs.Circuit.{Pairs, gate_count, Cells, TurnCells, BranchCells, joint_count, low_pairs, low, low_turn, low_branches, low_bits as low_tree, Spot, TurnSpot, BranchSpot, of_branch, joint, in_this, in_others, child, latch, next, inner, of_skip, done, gate, of_assign, of_send, in_members, of_loop, ask, in_body, in_last, in_member, in_later, turned_pairs, turned, turned_turn, turned_branches}
+use Rattle.net_compose.proofs.FlatTrees.{joint_count_is, tree_bits, length-tree_bits, tree_turned, tree_low}
 
 -- an expression of a covered program is a number
 pub by_number : (Q : Formula → Type 0) → ((w v : ℕ) → Q (constant w v)) → (e : Formula) → IsNumber e → Q e
@@ -43,10 +44,16 @@ length-pair_bits (suc n) x = omega (arith, length-pair_bits n x.1)
 abbrev mutual
   pub bits : (p : Process) → Cells p → List Bool
   bits skipping x = x ∷ []
+  bits (assigning y at e) x = x.answer ∷ pair_bits (gate_count e) x.gates
   bits (sending chan at e) x = x.answer ∷ pair_bits (gate_count e) x.gates
   bits (in_turn members) x = turn_bits members x
+  bits (side_by_side members) x = branch_bits members x.branches ++ tree_bits (joint_count (member_count members)) x.tree
   bits (repeating p) x = x.answer ∷ x.ask ∷ bits p x.inner
   bits _ x = []
+
+  pub branch_bits : (members : Processes) → BranchCells members → List Bool
+  branch_bits no_members x = []
+  branch_bits (and_member p more) x = x.0.child ∷ x.0.latch ∷ x.0.next ∷ (bits p x.0.inner ++ branch_bits more x.1)
 
   pub turn_bits : (members : Processes) → TurnCells members → List Bool
   turn_bits no_members x = []
@@ -72,13 +79,25 @@ module _ (P : TypedProgram) where
   abbrev mutual
     pub place : (p : Process) → Spot p → ℕ
     place skipping of_skip = 0
-    place (sending chan at e) of_send = 0
-    place (sending chan at e) (gate i one) = suc (rail_place i one)
+    place (assigning y at e) (of_assign done) = 0
+    place (assigning y at e) (of_assign (gate i one)) = suc (rail_place i one)
+    place (sending chan at e) (of_send done) = 0
+    place (sending chan at e) (of_send (gate i one)) = suc (rail_place i one)
     place (in_turn members) (in_members s) = turn_place members s
+    place (side_by_side members) (of_branch s) = branch_place members s
+    place (side_by_side members) (joint k) = branches_size P members + k
     place (repeating p) of_loop = 0
     place (repeating p) ask = 1
     place (repeating p) (in_body s) = suc (suc (place p s))
     place _ s = 0
+
+    pub branch_place : (members : Processes) → BranchSpot members → ℕ
+    branch_place no_members s = 0
+    branch_place (and_member p more) (in_this child) = 0
+    branch_place (and_member p more) (in_this latch) = 1
+    branch_place (and_member p more) (in_this next) = 2
+    branch_place (and_member p more) (in_this (inner s)) = suc (suc (suc (place p s)))
+    branch_place (and_member p more) (in_others s) = suc (suc (suc (size_of P p + branch_place more s)))
 
     pub turn_place : (members : Processes) → TurnSpot members → ℕ
     turn_place no_members s = 0
@@ -92,10 +111,18 @@ module _ (P : TypedProgram) where
   -- the spot has a node: its bit is one of the expression's
   abbrev mutual
     pub IsFine : (p : Process) → Spot p → Type 0
-    IsFine (sending chan at e) (gate i one) = i < gate_count e
+    IsFine (assigning y at e) (of_assign (gate i one)) = i < gate_count e
+    IsFine (sending chan at e) (of_send (gate i one)) = i < gate_count e
     IsFine (in_turn members) (in_members s) = IsFineTurn members s
+    IsFine (side_by_side members) (of_branch s) = IsFineBranch members s
+    IsFine (side_by_side members) (joint k) = k < joint_count (member_count members)
     IsFine (repeating p) (in_body s) = IsFine p s
     IsFine _ s = Unit {0}
+
+    pub IsFineBranch : (members : Processes) → BranchSpot members → Type 0
+    IsFineBranch (and_member p more) (in_this (inner s)) = IsFine p s
+    IsFineBranch (and_member p more) (in_others s) = IsFineBranch more s
+    IsFineBranch _ s = Unit {0}
 
     pub IsFineTurn : (members : Processes) → TurnSpot members → Type 0
     IsFineTurn (and_member p no_members) (in_last s) = IsFine p s
@@ -111,10 +138,24 @@ module _ (P : TypedProgram) where
         (λ w v g. omega (arith, length-pair_bits w g)) e c x.gates
     length-bits (in_turn members) c x = length-turn_bits members c x
     length-bits (repeating p) c x = omega (arith, length-bits p c x.inner)
-    length-bits (assigning z at e) c x = absurd c
+    length-bits (assigning z at e) c x =
+        by_number (λ e. (g : Pairs (gate_count e)) → suc (length (pair_bits (gate_count e) g)) ≡ assign_size P z e)
+        (λ w v g. omega (arith, length-pair_bits w g)) e c x.gates
     length-bits (receiving chan at z to) c x = absurd c
-    length-bits (side_by_side members) c x = absurd c
+    length-bits (side_by_side members) c x =
+        omega (
+          arith,
+          length-append (branch_bits members x.branches) (tree_bits (joint_count (member_count members)) x.tree),
+          length-branch_bits members c x.branches,
+          length-tree_bits (joint_count (member_count members)) x.tree,
+          joint_count_is (member_count members),
+        )
     length-bits (choosing again choices) c x = absurd c
+
+    pub length-branch_bits : (members : Processes) → AreCovered members → (x : BranchCells members) → length (branch_bits members x) ≡ branches_size P members
+    length-branch_bits no_members c x = refl
+    length-branch_bits (and_member p more) c x =
+        omega (arith, length-append (bits p x.0.inner) (branch_bits more x.1), length-bits p c.0 x.0.inner, length-branch_bits more c.1 x.1)
 
     pub length-turn_bits : (members : Processes) → AreCovered members → (x : TurnCells members) → length (turn_bits members x) ≡ turn_size P members
     length-turn_bits no_members c x = refl
@@ -125,18 +166,30 @@ module _ (P : TypedProgram) where
   mutual
     pub place_lt : (p : Process) → IsCovered p → (s : Spot p) → IsFine p s → place p s < size_of P p
     place_lt skipping c of_skip f = omega arith
-    place_lt (sending chan at e) c of_send f = omega arith
-    place_lt (sending chan at e) c (gate i one) f =
+    place_lt (sending chan at e) c (of_send done) f = omega arith
+    place_lt (sending chan at e) c (of_send (gate i one)) f =
         by_number (λ e. i < gate_count e → suc (rail_place i one) < 1 + formula_size e)
         (λ w v h. omega (arith, rail_place_lt i w one h)) e c f
     place_lt (in_turn members) c (in_members s) f = turn_place_lt members c s f
     place_lt (repeating p) c of_loop f = omega arith
     place_lt (repeating p) c ask f = omega arith
     place_lt (repeating p) c (in_body s) f = omega (arith, place_lt p c s f)
-    place_lt (assigning z at e) c s f = absurd c
+    place_lt (assigning z at e) c (of_assign done) f = by_number (λ e. 0 < assign_size P z e) (λ w v. omega arith) e c
+    place_lt (assigning z at e) c (of_assign (gate i one)) f =
+        by_number (λ e. i < gate_count e → suc (rail_place i one) < assign_size P z e)
+        (λ w v h. omega (arith, rail_place_lt i w one h)) e c f
     place_lt (receiving chan at z to) c s f = absurd c
-    place_lt (side_by_side members) c s f = absurd c
+    place_lt (side_by_side members) c (of_branch s) f = omega (arith, branch_place_lt members c s f)
+    place_lt (side_by_side members) c (joint k) f = omega (arith, f, joint_count_is (member_count members))
     place_lt (choosing again choices) c s f = absurd c
+
+    pub branch_place_lt : (members : Processes) → AreCovered members → (s : BranchSpot members) → IsFineBranch members s → branch_place members s < branches_size P members
+    branch_place_lt no_members c s f = elim s [ ]
+    branch_place_lt (and_member p more) c (in_this child) f = omega arith
+    branch_place_lt (and_member p more) c (in_this latch) f = omega arith
+    branch_place_lt (and_member p more) c (in_this next) f = omega arith
+    branch_place_lt (and_member p more) c (in_this (inner s)) f = omega (arith, place_lt p c.0 s f)
+    branch_place_lt (and_member p more) c (in_others s) f = omega (arith, branch_place_lt more c.1 s f)
 
     pub turn_place_lt : (members : Processes) → AreCovered members → (s : TurnSpot members) → IsFineTurn members s → turn_place members s < turn_size P members
     turn_place_lt no_members c s f = elim s [ ]
@@ -170,16 +223,39 @@ module _ (P : TypedProgram) where
   mutual
     pub turned_is : (p : Process) → IsCovered p → (x : Cells p) (s : Spot p) → IsFine p s → set (bits p x) (place p s) (not (get_or (bits p x) (place p s) false)) ≡ bits p (turned p x s)
     turned_is skipping c x of_skip f = refl
-    turned_is (sending chan at e) c x of_send f = refl
-    turned_is (sending chan at e) c x (gate i one) f = ap (λ l. x.answer ∷ l) (rail_at_place (gate_count e) x.gates i one f true)
+    turned_is (sending chan at e) c x (of_send done) f = refl
+    turned_is (sending chan at e) c x (of_send (gate i one)) f = ap (λ l. x.answer ∷ l) (rail_at_place (gate_count e) x.gates i one f true)
     turned_is (in_turn members) c x (in_members s) f = turned_turn_is members c x s f
     turned_is (repeating p) c x of_loop f = refl
     turned_is (repeating p) c x ask f = refl
     turned_is (repeating p) c x (in_body s) f = ap (λ l. x.answer ∷ x.ask ∷ l) (turned_is p c x.inner s f)
-    turned_is (assigning z at e) c x s f = absurd c
+    turned_is (assigning z at e) c x (of_assign done) f = refl
+    turned_is (assigning z at e) c x (of_assign (gate i one)) f = ap (λ l. x.answer ∷ l) (rail_at_place (gate_count e) x.gates i one f true)
     turned_is (receiving chan at z to) c x s f = absurd c
-    turned_is (side_by_side members) c x s f = absurd c
+    turned_is (side_by_side members) c x (of_branch s) f =
+        let b = tree_bits (joint_count (member_count members)) x.tree in
+        set_first (branch_bits members x.branches) b (branch_place members s) (omega (arith, branch_place_lt members c s f, length-branch_bits members c x.branches)) ∙ ap (λ l. l ++ b) (turned_branch_is members c x.branches s f)
+    turned_is (side_by_side members) c x (joint k) f =
+        let a = branch_bits members x.branches in
+        set_second a (tree_bits (joint_count (member_count members)) x.tree) (branches_size P members) k (length-branch_bits members c x.branches) ∙ ap (λ l. a ++ l) (tree_turned (joint_count (member_count members)) x.tree k f)
     turned_is (choosing again choices) c x s f = absurd c
+
+    pub turned_branch_is : (members : Processes) → AreCovered members → (x : BranchCells members) (s : BranchSpot members) → IsFineBranch members s
+        → set (branch_bits members x) (branch_place members s) (not (get_or (branch_bits members x) (branch_place members s) false)) ≡ branch_bits members (turned_branches members x s)
+    turned_branch_is no_members c x s f = elim s [ ]
+    turned_branch_is (and_member p more) c x (in_this child) f = refl
+    turned_branch_is (and_member p more) c x (in_this latch) f = refl
+    turned_branch_is (and_member p more) c x (in_this next) f = refl
+    turned_branch_is (and_member p more) c x (in_this (inner s)) f =
+        let a = bits p x.0.inner in
+        let b = branch_bits more x.1 in
+        ap (λ l. x.0.child ∷ x.0.latch ∷ x.0.next ∷ l)
+        (set_first a b (place p s) (omega (arith, place_lt p c.0 s f, length-bits p c.0 x.0.inner)) ∙ ap (λ l. l ++ b) (turned_is p c.0 x.0.inner s f))
+    turned_branch_is (and_member p more) c x (in_others s) f =
+        let a = bits p x.0.inner in
+        let b = branch_bits more x.1 in
+        ap (λ l. x.0.child ∷ x.0.latch ∷ x.0.next ∷ l)
+        (set_second a b (size_of P p) (branch_place more s) (length-bits p c.0 x.0.inner) ∙ ap (λ l. a ++ l) (turned_branch_is more c.1 x.1 s f))
 
     pub turned_turn_is : (members : Processes) → AreCovered members → (x : TurnCells members) (s : TurnSpot members) → IsFineTurn members s
         → set (turn_bits members x) (turn_place members s) (not (get_or (turn_bits members x) (turn_place members s) false)) ≡ turn_bits members (turned_turn members x s)
@@ -205,6 +281,11 @@ module _ (P : TypedProgram) where
     pub fine : IsFine p spot
     pub is : place p spot ≡ n
 
+  pub record AtBranchPlace (members : Processes) (n : ℕ) : Type 0 where
+    pub spot : BranchSpot members
+    pub fine : IsFineBranch members spot
+    pub is : branch_place members spot ≡ n
+
   pub record AtTurnPlace (members : Processes) (n : ℕ) : Type 0 where
     pub spot : TurnSpot members
     pub fine : IsFineTurn members spot
@@ -214,18 +295,47 @@ module _ (P : TypedProgram) where
     pub spot_of : (p : Process) → IsCovered p → (n : ℕ) → n < size_of P p → AtPlace p n
     spot_of skipping c zero h = record { spot = of_skip; fine = tt; is = refl }
     spot_of skipping c (suc n) h = absurd (omega arith)
-    spot_of (sending chan at e) c zero h = record { spot = of_send; fine = tt; is = refl }
+    spot_of (sending chan at e) c zero h = record { spot = of_send done; fine = tt; is = refl }
     spot_of (sending chan at e) c (suc n) h =
         by_number (λ e. suc n < 1 + formula_size e → AtPlace (sending chan at e) (suc n))
-        (λ w v lt. let r = rail_of w n (omega arith) in record { spot = gate r.bit r.one; fine = r.below; is = ap suc r.is }) e c h
+        (λ w v lt. let r = rail_of w n (omega arith) in record { spot = of_send (gate r.bit r.one); fine = r.below; is = ap suc r.is }) e c h
     spot_of (in_turn members) c n h = let r = turn_spot_of members c n h in record { spot = in_members r.spot; fine = r.fine; is = r.is }
     spot_of (repeating p) c zero h = record { spot = of_loop; fine = tt; is = refl }
     spot_of (repeating p) c (suc zero) h = record { spot = ask; fine = tt; is = refl }
     spot_of (repeating p) c (suc (suc n)) h = let r = spot_of p c n (omega arith) in record { spot = in_body r.spot; fine = r.fine; is = ap (λ m. suc (suc m)) r.is }
-    spot_of (assigning z at e) c n h = absurd c
+    spot_of (assigning z at e) c zero h = record { spot = of_assign done; fine = tt; is = refl }
+    spot_of (assigning z at e) c (suc n) h =
+        by_number (λ e. suc n < assign_size P z e → AtPlace (assigning z at e) (suc n))
+        (λ w v lt. let r = rail_of w n (omega arith) in record { spot = of_assign (gate r.bit r.one); fine = r.below; is = ap suc r.is }) e c h
     spot_of (receiving chan at z to) c n h = absurd c
-    spot_of (side_by_side members) c n h = absurd c
+    spot_of (side_by_side members) c n h =
+        ⊎_elim
+        (λ (lt : n < branches_size P members).
+        let r = branch_spot_of members c n lt in
+        let here : AtPlace (side_by_side members) n = record { spot = of_branch r.spot; fine = r.fine; is = r.is } in
+        here)
+        (λ (le : branches_size P members ≤ n).
+        let here : AtPlace (side_by_side members) n = record { spot = joint (n - branches_size P members); fine = omega (arith, joint_count_is (member_count members)); is = omega arith } in
+        here)
+        (cases_lt n (branches_size P members))
     spot_of (choosing again choices) c n h = absurd c
+
+    pub branch_spot_of : (members : Processes) → AreCovered members → (n : ℕ) → n < branches_size P members → AtBranchPlace members n
+    branch_spot_of no_members c n h = absurd (omega arith)
+    branch_spot_of (and_member p more) c zero h = record { spot = in_this child; fine = tt; is = refl }
+    branch_spot_of (and_member p more) c (suc zero) h = record { spot = in_this latch; fine = tt; is = refl }
+    branch_spot_of (and_member p more) c (suc (suc zero)) h = record { spot = in_this next; fine = tt; is = refl }
+    branch_spot_of (and_member p more) c (suc (suc (suc n))) h =
+        ⊎_elim
+        (λ (lt : n < size_of P p).
+        let r = spot_of p c.0 n lt in
+        let here : AtBranchPlace (and_member p more) (suc (suc (suc n))) = record { spot = in_this (inner r.spot); fine = r.fine; is = ap (λ m. suc (suc (suc m))) r.is } in
+        here)
+        (λ (le : size_of P p ≤ n).
+        let r = branch_spot_of more c.1 (n - size_of P p) (omega arith) in
+        let here : AtBranchPlace (and_member p more) (suc (suc (suc n))) = record { spot = in_others r.spot; fine = r.fine; is = omega (arith, r.is) } in
+        here)
+        (cases_lt n (size_of P p))
 
     pub turn_spot_of : (members : Processes) → AreCovered members → (n : ℕ) → n < turn_size P members → AtTurnPlace members n
     turn_spot_of no_members c n h = absurd (omega arith)
@@ -262,10 +372,26 @@ module _ (P : TypedProgram) where
     low_bits (repeating p) c =
         let m : suc (suc (size_of P p)) ≡ 2 + size_of P p = omega arith in
         ap (λ l. false ∷ false ∷ l) (low_bits p c) ∙ ap (λ n. replicate n false) m
-    low_bits (assigning z at e) c = absurd c
+    low_bits (assigning z at e) c =
+        by_number (λ e. false ∷ pair_bits (gate_count e) (low_pairs (gate_count e)) ≡ replicate (assign_size P z e) false)
+        (λ w v. let m : suc (2 * w) ≡ 1 + 2 * w = omega arith in ap (λ l. false ∷ l) (low_pair_bits w) ∙ ap (λ n. replicate n false) m) e c
     low_bits (receiving chan at z to) c = absurd c
-    low_bits (side_by_side members) c = absurd c
+    low_bits (side_by_side members) c =
+        let n = joint_count (member_count members) in
+        let m : branches_size P members + joint_count (member_count members) ≡ branches_size P members + (member_count members - 1) = omega (arith, joint_count_is (member_count members)) in
+        ap (λ l. l ++ tree_bits n (low_tree n)) (low_branch_bits members c)
+        ∙ (ap (λ l. replicate (branches_size P members) false ++ l) (tree_low n) ∙ (replicate-append-replicate (branches_size P members) n false ∙ ap (λ k. replicate k false) m))
     low_bits (choosing again choices) c = absurd c
+
+    pub low_branch_bits : (members : Processes) → AreCovered members → branch_bits members (low_branches members) ≡ replicate (branches_size P members) false
+    low_branch_bits no_members c = refl
+    low_branch_bits (and_member p more) c =
+        let n = branches_size P more in
+        let m : suc (suc (suc (size_of P p + n))) ≡ 3 + size_of P p + n = omega arith in
+        ap (λ l. false ∷ false ∷ false ∷ l)
+        (ap (λ l. l ++ branch_bits more (low_branches more)) (low_bits p c.0)
+        ∙ (ap (λ l. replicate (size_of P p) false ++ l) (low_branch_bits more c.1) ∙ replicate-append-replicate (size_of P p) n false))
+        ∙ ap (λ k. replicate k false) m
 
     pub low_turn_bits : (members : Processes) → AreCovered members → turn_bits members (low_turn members) ≡ replicate (turn_size P members) false
     low_turn_bits no_members c = refl

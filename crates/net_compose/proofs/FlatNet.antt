@@ -11,13 +11,22 @@ use Rattle.env_script.specs.Scripts.{OfferValue, offer_at, is_over, IsScript}
 use Rattle.env_script.specs.Environment.{env_enabled, channels_move, valid}
 use Rattle.env_script.specs.Runs.{RunState, history_at, completed, move_enabled, moved as moved_flat}
 use Rattle.width_check.specs.Processes.{TypedProgram}
-use Rattle.width_check.specs.Typing.{IsProcess, channel_width}
-use Rattle.handshake_expand.specs.Layout.{wires_before, channel_from, blocks_before, root_request, root_latch, body_from, nodes_of, go_node as go_number}
+use Rattle.std.proofs.lemmas.List.Elements.{All-head, All-tail}
+use Rattle.chp_base.specs.declared.channel.Channel.{Channel}
+use Rattle.chp_base.specs.declared.channel.Kind.TheVariants.{Out}
+use Rattle.width_check.specs.Typing.{IsProcess, channel_width, kind_at, var_width}
+use Rattle.width_check.specs.declared.typed.Var.{Var}
+use Rattle.circuit_places.specs.Lines.{of_channel, of_var, Rails}
+use Rattle.prs_core.specs.Parts.{turned as turned_value}
+use Rattle.prs_core.specs.Turning.{turned_here, turned_apart}
+use Rattle.cell_variable.specs.Variables.{variable_rules}
+use Rattle.net_compose.proofs.FlatBlocks.{Part, a_bit, a_put, a_mark, a_joint, offset, IsPart, offset_lt, part_same, PartAt, part_of, BlockIs, Says, bit_says, put_says, mark_says, joint_says, written_is, blocks_below, blocks_apart, Owner, owner, length-vars_rules, vars_rule}
+use Rattle.handshake_expand.specs.Layout.{block_size, var_from, wires_before, channel_from, blocks_before, root_request, root_latch, body_from, nodes_of, go_node as go_number}
 use Rattle.cell_sequence.specs.Sequence.{q_child, q_latch, q_next}
 use Rattle.circuit_places.specs.Covered.{IsCovered}
-use Rattle.circuit_places.specs.Circuit.{answer, GuardedSpot, child, latch, next, inner, Rule, no_rule, fires, is_apart, same_bit, guarded_rule, rule, site_rails}
-use Rattle.circuit_places.specs.Whole.{Whole, Node, go_node, own_node, rail_node, ack_node, merged, all_low, rule_in, answers, env_moves, enabled, moved, passed, value_on, neutral_on}
-use Rattle.net_compose.specs.Translation.{translation, all_rules, channels_rules, vars_rules, rules_of, in_body, send_site, rails_at, ack_at, wires_from, body_answer}
+use Rattle.circuit_places.specs.Circuit.{joint_count, tree_rule, answer, GuardedSpot, child, latch, next, inner, Rule, no_rule, fires, is_apart, same_bit, guarded_rule, rule, site_rails}
+use Rattle.circuit_places.specs.Whole.{Wires, line_ack, bit_rule, wrote_rule, bit_turned, wrote_turned, joint_turned, ack_turned, seen, is_sent, rails_turned, rail_turned, Whole, Node, go_node, own_node, rail_node, ack_node, bit_node, wrote_node, joint_node, merged, all_low, rule_in, answers, env_moves, enabled, moved, passed, value_on, neutral_on}
+use Rattle.net_compose.specs.Translation.{translation, all_rules, channels_rules, vars_rules, rules_of, in_body, write_site, written_at, send_site, rails_at, ack_at, wires_from, body_answer}
 use Rattle.net_compose.proofs.FlatCells.{bits, place, IsFine, length-bits, place_lt, rail_place, turned_is, spot_of}
 use Rattle.net_compose.proofs.FlatRules.{Stands, one_high, one_low, high_and_low, or_up, or_down, length-rules, answer_is, rule_is}
 use Rattle.net_compose.proofs.FlatSites.{at_site, sites_are}
@@ -34,37 +43,45 @@ down_told [] n = refl
 down_told (x ∷ xs) zero = refl
 down_told (x ∷ xs) (suc n) = down_told xs n
 
+out_sent : (cs : List Channel) → AllOut cs → (k : ℕ) → k < length cs → is_sent (kind_at cs k) ≡ true
+out_sent [] out k h = refl
+out_sent (c ∷ cs) out zero h = ap is_sent (All-head (λ (c : Channel). c.kind ≡ Out) c cs out)
+out_sent (c ∷ cs) out (suc k) h = out_sent cs (All-tail (λ (c : Channel). c.kind ≡ Out) c cs out) k (omega (arith, h))
+
 -- what is assumed of the program
 pub record Given (P : TypedProgram) : Type 0 where
   pub typed : IsProcess P.channels P.vars P.body
   pub covered : IsCovered P.body
   pub out : AllOut P.channels
-  pub plain : P.vars ≡ []
+  pub some : (y : ℕ) → y < length P.vars → 1 ≤ var_width P.vars y
 
 module _ (P : TypedProgram) (given : Given P) where
   abbrev wires_end : ℕ
   wires_end = wires_before P.channels (length P.channels)
 
-  root_is : root_request P ≡ 2 + wires_before P.channels (length P.channels)
-  root_is =
-      let e : blocks_before P.vars (length P.vars) ≡ 0 = ap (λ vs. blocks_before vs (length vs)) given.plain in
-      omega (arith, e)
+  root_is : 2 + wires_before P.channels (length P.channels) ≤ root_request P
+  root_is = omega arith
 
   abbrev root_rules : List NodeRules
   root_rules = q_child go_number (root_latch P) ∷ q_latch go_number (body_answer P) ∷ rules_of P P.body (root_request P) (body_from P)
 
-  behind_wires : vars_rules P 0 P.vars ++ (q_child go_number (root_latch P) ∷ q_latch go_number (body_answer P) ∷ rules_of P P.body (root_request P) (body_from P)) ≡ q_child go_number (root_latch P) ∷ q_latch go_number (body_answer P) ∷ rules_of P P.body (root_request P) (body_from P)
-  behind_wires = ap (λ vs. vars_rules P 0 vs ++ (q_child go_number (root_latch P) ∷ q_latch go_number (body_answer P) ∷ rules_of P P.body (root_request P) (body_from P))) given.plain
-
-  all_told : (n : ℕ) → get_or (all_rules P) (suc (suc n)) no_rules ≡ get_or (channels_rules P 0 P.channels ++ (q_child go_number (root_latch P) ∷ q_latch go_number (body_answer P) ∷ rules_of P P.body (root_request P) (body_from P))) n no_rules
-  all_told n = ap (λ l. get_or (channels_rules P 0 P.channels ++ l) n no_rules) behind_wires
+  abbrev behind_wires : List NodeRules
+  behind_wires = vars_rules P 0 P.vars ++ (q_child go_number (root_latch P) ∷ q_latch go_number (body_answer P) ∷ rules_of P P.body (root_request P) (body_from P))
 
   root_told : (n m : ℕ) → n ≡ root_request P + m → get_or (all_rules P) n no_rules ≡ get_or (q_child go_number (root_latch P) ∷ q_latch go_number (body_answer P) ∷ rules_of P P.body (root_request P) (body_from P)) m no_rules
   root_told n m e =
-      let i : n ≡ suc (suc (length (channels_rules P 0 P.channels) + m)) = omega (arith, e, root_is, length-channels_rules P 0 P.channels given.out) in
+      let i : n ≡ suc (suc (length (channels_rules P 0 P.channels) + (length (vars_rules P 0 P.vars) + m))) = omega (arith, e, length-channels_rules P 0 P.channels given.out, length-vars_rules P 0 P.vars) in
       ap (λ k. get_or (all_rules P) k no_rules) i
-      ∙ (all_told (length (channels_rules P 0 P.channels) + m)
-      ∙ get_or-append-add (channels_rules P 0 P.channels) (q_child go_number (root_latch P) ∷ q_latch go_number (body_answer P) ∷ rules_of P P.body (root_request P) (body_from P)) m no_rules)
+      ∙ (get_or-append-add (channels_rules P 0 P.channels) behind_wires (length (vars_rules P 0 P.vars) + m) no_rules
+      ∙ get_or-append-add (vars_rules P 0 P.vars) (q_child go_number (root_latch P) ∷ q_latch go_number (body_answer P) ∷ rules_of P P.body (root_request P) (body_from P)) m no_rules)
+
+  block_told : (y m : ℕ) → y < length P.vars → m < block_size (var_width P.vars y) → get_or (all_rules P) (var_from P y + m) no_rules ≡ get_or (variable_rules (var_width P.vars y) (var_from P y) (in_body P (write_site P y))) m no_rules
+  block_told y m hy hm =
+      let i : var_from P y + m ≡ suc (suc (length (channels_rules P 0 P.channels) + (blocks_before P.vars y + m))) = omega (arith, length-channels_rules P 0 P.channels given.out) in
+      ap (λ k. get_or (all_rules P) k no_rules) i
+      ∙ (get_or-append-add (channels_rules P 0 P.channels) behind_wires (blocks_before P.vars y + m) no_rules
+      ∙ vars_rule P 0 P.vars (q_child go_number (root_latch P) ∷ q_latch go_number (body_answer P) ∷ rules_of P P.body (root_request P) (body_from P)) y m hy hm
+      ∙ ap (λ i. get_or (variable_rules (var_width P.vars y) (var_from P i) (in_body P (write_site P i))) m no_rules) (let z : 0 + y ≡ y = omega arith in z))
 
   -- the number of a node
   abbrev pub own_number : GuardedSpot P.body → ℕ
@@ -76,8 +93,12 @@ module _ (P : TypedProgram) (given : Given P) where
   abbrev pub number_of : Node P.body → ℕ
   number_of go_node = 0
   number_of (own_node s) = own_number s
-  number_of (rail_node k i one) = channel_from P k + rail_place i one
+  number_of (rail_node (of_channel k) i one) = channel_from P k + rail_place i one
   number_of (ack_node k) = ack_at P k
+  number_of (rail_node (of_var y) i one) = var_from P y + offset (var_width P.vars y) (a_put i one)
+  number_of (bit_node y i one) = var_from P y + offset (var_width P.vars y) (a_bit i one)
+  number_of (wrote_node y i) = var_from P y + offset (var_width P.vars y) (a_mark i)
+  number_of (joint_node y k) = var_from P y + offset (var_width P.vars y) (a_joint k)
 
   abbrev own_fine : GuardedSpot P.body → Type 0
   own_fine (inner s) = IsFine P P.body s
@@ -87,8 +108,42 @@ module _ (P : TypedProgram) (given : Given P) where
   abbrev pub Fine : Node P.body → Type 0
   Fine go_node = Unit {0}
   Fine (own_node s) = own_fine s
-  Fine (rail_node k i one) = (k < length P.channels) × (i < channel_width P.channels k)
+  Fine (rail_node (of_channel k) i one) = (k < length P.channels) × (i < channel_width P.channels k)
   Fine (ack_node k) = k < length P.channels
+  Fine (rail_node (of_var y) i one) = (y < length P.vars) × (i < var_width P.vars y)
+  Fine (bit_node y i one) = (y < length P.vars) × (i < var_width P.vars y)
+  Fine (wrote_node y i) = (y < length P.vars) × (i < var_width P.vars y)
+  Fine (joint_node y k) = (y < length P.vars) × (k < joint_count (var_width P.vars y))
+
+  -- the numbers of blocks
+  pub part_bounds : (y : ℕ) (b : Part) → y < length P.vars → IsPart (var_width P.vars y) b → (2 + wires_before P.channels (length P.channels) ≤ var_from P y + offset (var_width P.vars y) b) × (var_from P y + offset (var_width P.vars y) b < root_request P)
+  part_bounds y b hy hb =
+      let e = offset_lt (var_width P.vars y) b hb in
+      let w = blocks_below P.vars y hy in
+      (omega arith, omega (arith, e, w))
+
+  pub same_var : (y z : ℕ) (b c : Part) → y < length P.vars → z < length P.vars → IsPart (var_width P.vars y) b → IsPart (var_width P.vars z) c → var_from P y + offset (var_width P.vars y) b ≡ var_from P z + offset (var_width P.vars z) c → y ≡ z
+  same_var y z b c hy hz hb hc e =
+      let f = offset_lt (var_width P.vars y) b hb in
+      let g = offset_lt (var_width P.vars z) c hc in
+      ⊎_elim
+      (λ (lt : y < z). let w = blocks_apart P.vars y z lt (omega (arith, hz)) in absurd (let g : ⊥ = omega (arith, e, w, f) in g))
+      (λ (le : z ≤ y).
+      ⊎_elim
+      (λ (lt : z < y). let w = blocks_apart P.vars z y lt (omega (arith, hy)) in absurd (let h : ⊥ = omega (arith, e, w, g) in h))
+      (λ (ge : y ≤ z). let here : y ≡ z = omega (arith, le, ge) in here)
+      (cases_lt z y))
+      (cases_lt y z)
+
+  pub same_part : (y : ℕ) (b c : Part) → IsPart (var_width P.vars y) b → IsPart (var_width P.vars y) c → var_from P y + offset (var_width P.vars y) b ≡ var_from P y + offset (var_width P.vars y) c → b ≡ c
+  same_part y b c hb hc e = part_same (var_width P.vars y) b c hb hc (omega (arith, e))
+
+  -- the value of a node of a block
+  abbrev pub part_value : Wires → ℕ → Part → Bool
+  part_value w y (a_bit i one) = w.bit y i one
+  part_value w y (a_put i one) = w.rail (of_var y) i one
+  part_value w y (a_mark i) = w.wrote y i
+  part_value w y (a_joint k) = w.joint y k
 
   -- the state of the net is that of the cells
   pub record Shows (st : RunState) (x : Whole P.body) : Type 0 where
@@ -98,8 +153,9 @@ module _ (P : TypedProgram) (given : Given P) where
     pub child : high st.values (root_request P) ≡ x.root.child
     pub latch : high st.values (root_latch P) ≡ x.root.latch
     pub body : Stands (high st.values) (body_from P) (bits P.body x.root.inner)
-    pub rail : (k i : ℕ) (one : Bool) → k < length P.channels → i < channel_width P.channels k → high st.values (channel_from P k + rail_place i one) ≡ x.wires.rail k i one
+    pub rail : (k i : ℕ) (one : Bool) → k < length P.channels → i < channel_width P.channels k → high st.values (channel_from P k + rail_place i one) ≡ x.wires.rail (of_channel k) i one
     pub ack : (k : ℕ) → k < length P.channels → high st.values (ack_at P k) ≡ x.wires.ack k
+    pub block : (y : ℕ) (b : Part) → y < length P.vars → IsPart (var_width P.vars y) b → high st.values (var_from P y + offset (var_width P.vars y) b) ≡ part_value x.wires y b
     pub histories : st.histories ≡ x.histories
     pub channels : length x.histories ≡ length P.channels
 
@@ -120,37 +176,48 @@ module _ (P : TypedProgram) (given : Given P) where
     abbrev value : ℕ → Bool
     value = high st.values
 
+    block_is : (y : ℕ) → y < length P.vars → BlockIs (high st.values) (var_width P.vars y) (var_from P y) (x.wires.bit y) (x.wires.rail (of_var y)) (x.wires.wrote y) (x.wires.joint y)
+    block_is y h = record { bits = λ i one l. s.block y (a_bit i one) h l; puts = λ i one l. s.block y (a_put i one) h l; marks = λ i l. s.block y (a_mark i) h l; joints = λ k l. s.block y (a_joint k) h l }
+
+    written_told : (y : ℕ) → y < length P.vars → high st.values (written_at P y) ≡ line_ack P x.wires (of_var y)
+    written_told y h = written_is (high st.values) (var_width P.vars y) (var_from P y) (x.wires.bit y) (x.wires.rail (of_var y)) (x.wires.wrote y) (x.wires.joint y) (block_is y h) (in_body P (write_site P y)) (given.some y h)
+
+    part_tells : (y : ℕ) (b : Part) (h : y < length P.vars) → IsPart (var_width P.vars y) b → (r : Rule)
+        → Says (high st.values) (var_width P.vars y) (var_from P y) (x.wires.bit y) (x.wires.rail (of_var y)) (x.wires.wrote y) (x.wires.joint y) (block_is y h) (in_body P (write_site P y)) (offset (var_width P.vars y) b) r
+        → Tells (high st.values) (var_from P y + offset (var_width P.vars y) b) r
+    part_tells y b h l r z = tells_from (high st.values) (var_from P y + offset (var_width P.vars y) b) r (get_or (variable_rules (var_width P.vars y) (var_from P y) (in_body P (write_site P y))) (offset (var_width P.vars y) b) no_rules) (block_told y (offset (var_width P.vars y) b) h (offset_lt (var_width P.vars y) b l)) z.now z.up z.down
+
     body_answer_is : high st.values (body_answer P) ≡ answer P.body x.root.inner
     body_answer_is = answer_is P (high st.values) P.body given.covered given.typed (body_from P) x.root.inner s.body
 
-    own_tells : (p : GuardedSpot P.body) → own_fine p → Tells (high st.values) (own_number p) (guarded_rule P.body x.wires x.go x.root p)
+    own_tells : (p : GuardedSpot P.body) → own_fine p → Tells (high st.values) (own_number p) (guarded_rule P.body (seen P x.wires) x.go x.root p)
     own_tells next f =
-        tells_from (high st.values) 1 (guarded_rule P.body x.wires x.go x.root next) (q_next (root_latch P) (body_answer P)) refl s.done
+        tells_from (high st.values) 1 (guarded_rule P.body (seen P x.wires) x.go x.root next) (q_next (root_latch P) (body_answer P)) refl s.done
         (high_and_low (high st.values) (root_latch P) (body_answer P) ∙ (ap (λ b. b && not (high st.values (body_answer P))) s.latch ∙ ap (λ b. x.root.latch && not b) body_answer_is))
         (one_low (high st.values) (root_latch P) ∙ ap not s.latch)
     own_tells child f =
-        tells_from (high st.values) (root_request P) (guarded_rule P.body x.wires x.go x.root child) (q_child go_number (root_latch P)) (root_told (root_request P) 0 (omega arith)) s.child
+        tells_from (high st.values) (root_request P) (guarded_rule P.body (seen P x.wires) x.go x.root child) (q_child go_number (root_latch P)) (root_told (root_request P) 0 (omega arith)) s.child
         (high_and_low (high st.values) 0 (root_latch P) ∙ (ap (λ b. b && not (high st.values (root_latch P))) s.go ∙ ap (λ b. x.go && not b) s.latch))
         (one_high (high st.values) (root_latch P) ∙ s.latch)
     own_tells latch f =
-        tells_from (high st.values) (root_latch P) (guarded_rule P.body x.wires x.go x.root latch) (q_latch go_number (body_answer P)) (root_told (root_latch P) 1 refl) s.latch
+        tells_from (high st.values) (root_latch P) (guarded_rule P.body (seen P x.wires) x.go x.root latch) (q_latch go_number (body_answer P)) (root_told (root_latch P) 1 refl) s.latch
         (one_high (high st.values) (body_answer P) ∙ body_answer_is)
         (one_low (high st.values) 0 ∙ ap not s.go)
     own_tells (inner p) f =
-        let t = rule_is P (high st.values) x.wires s.ack P.body given.covered given.typed (root_request P) (body_from P) x.root.inner p f s.body in
-        let r = rule P.body x.wires (high st.values (root_request P)) x.root.inner p in
-        let e : r ≡ rule P.body x.wires x.root.child x.root.inner p = ap (λ b. rule P.body x.wires b x.root.inner p) s.child in
-        tells_from (high st.values) (body_from P + place P P.body p) (rule P.body x.wires x.root.child x.root.inner p) (get_or (rules_of P P.body (root_request P) (body_from P)) (place P P.body p) no_rules)
+        let t = rule_is P (high st.values) (seen P x.wires) s.ack written_told P.body given.covered given.typed (root_request P) (body_from P) x.root.inner p f s.body in
+        let r = rule P.body (seen P x.wires) (high st.values (root_request P)) x.root.inner p in
+        let e : r ≡ rule P.body (seen P x.wires) x.root.child x.root.inner p = ap (λ b. rule P.body (seen P x.wires) b x.root.inner p) s.child in
+        tells_from (high st.values) (body_from P + place P P.body p) (rule P.body (seen P x.wires) x.root.child x.root.inner p) (get_or (rules_of P P.body (root_request P) (body_from P)) (place P P.body p) no_rules)
         (root_told (body_from P + place P P.body p) (suc (suc (place P P.body p))) (omega arith))
         (t.now ∙ ap (λ (z : Rule). z.now) e) (t.up ∙ ap (λ (z : Rule). z.up) e) (t.down ∙ ap (λ (z : Rule). z.down) e)
 
-    rail_tells : (k i : ℕ) (one : Bool) → k < length P.channels → i < channel_width P.channels k → Tells (high st.values) (channel_from P k + rail_place i one) (merged (x.wires.rail k i one) (site_rails P.body x.root.inner k i one))
+    rail_tells : (k i : ℕ) (one : Bool) → k < length P.channels → i < channel_width P.channels k → Tells (high st.values) (channel_from P k + rail_place i one) (merged (x.wires.rail (of_channel k) i one) (site_rails P.body x.root.inner (of_channel k) i one))
     rail_tells k i one hk hi =
         let sites = in_body P (send_site k) in
-        let e = sites_are (high st.values) P k i one hi P.body given.covered given.typed (body_from P) x.root.inner s.body in
+        let e = sites_are (high st.values) P (of_channel k) i one hi P.body given.covered given.typed (body_from P) x.root.inner s.body in
         let n : channel_from P k + rail_place i one ≡ suc (suc (wires_before P.channels k + rail_place i one)) = omega arith in
-        tells_from (high st.values) (channel_from P k + rail_place i one) (merged (x.wires.rail k i one) (site_rails P.body x.root.inner k i one)) (or_of (map (at_site i one) sites))
-        (ap (λ m. get_or (all_rules P) m no_rules) n ∙ (all_told (wires_before P.channels k + rail_place i one) ∙ rail_rules_at P given.out root_rules k i one hk hi))
+        tells_from (high st.values) (channel_from P k + rail_place i one) (merged (x.wires.rail (of_channel k) i one) (site_rails P.body x.root.inner (of_channel k) i one)) (or_of (map (at_site i one) sites))
+        (ap (λ m. get_or (all_rules P) m no_rules) n ∙ rail_rules_at P given.out behind_wires k i one hk hi)
         (s.rail k i one hk hi)
         (or_up (high st.values) (map (at_site i one) sites) ∙ ap (list_any (λ b. b)) e)
         (or_down (high st.values) (map (at_site i one) sites) ∙ ap all_low e)
@@ -159,14 +226,21 @@ module _ (P : TypedProgram) (given : Given P) where
     ack_tells k hk =
         let n : ack_at P k ≡ suc (suc (wires_before P.channels k + 2 * channel_width P.channels k)) = omega arith in
         tells_from (high st.values) (ack_at P k) (no_rule (x.wires.ack k)) no_rules
-        (ap (λ m. get_or (all_rules P) m no_rules) n ∙ (all_told (wires_before P.channels k + 2 * channel_width P.channels k) ∙ ack_rules_at P given.out root_rules k hk))
+        (ap (λ m. get_or (all_rules P) m no_rules) n ∙ ack_rules_at P given.out behind_wires k hk)
         (s.ack k hk) refl refl
 
-    pub node_tells : (n : Node P.body) → Fine n → Tells (high st.values) (number_of n) (rule_in P.body x n)
+    pub node_tells : (n : Node P.body) → Fine n → Tells (high st.values) (number_of n) (rule_in P x n)
     node_tells go_node f = tells_from (high st.values) 0 (no_rule x.go) no_rules refl s.go refl refl
     node_tells (own_node p) f = own_tells p f
-    node_tells (rail_node k i one) f = rail_tells k i one f.0 f.1
+    node_tells (rail_node (of_channel k) i one) f =
+        subst (λ (b : Bool). Tells (high st.values) (channel_from P k + rail_place i one) (if b then merged (x.wires.rail (of_channel k) i one) (site_rails P.body x.root.inner (of_channel k) i one) else no_rule (x.wires.rail (of_channel k) i one)))
+        (sym (out_sent P.channels given.out k f.0)) (rail_tells k i one f.0 f.1)
     node_tells (ack_node k) f = ack_tells k f
+    node_tells (rail_node (of_var y) i one) f = part_tells y (a_put i one) f.0 f.1 (merged (x.wires.rail (of_var y) i one) (site_rails P.body x.root.inner (of_var y) i one))
+        (put_says (high st.values) (var_width P.vars y) (var_from P y) (x.wires.bit y) (x.wires.rail (of_var y)) (x.wires.wrote y) (x.wires.joint y) (block_is y f.0) (in_body P (write_site P y)) i one (site_rails P.body x.root.inner (of_var y) i one) f.1 (sites_are (high st.values) P (of_var y) i one f.1 P.body given.covered given.typed (body_from P) x.root.inner s.body))
+    node_tells (bit_node y i one) f = part_tells y (a_bit i one) f.0 f.1 (bit_rule (x.wires.rail (of_var y)) (x.wires.bit y) i one) (bit_says (high st.values) (var_width P.vars y) (var_from P y) (x.wires.bit y) (x.wires.rail (of_var y)) (x.wires.wrote y) (x.wires.joint y) (block_is y f.0) (in_body P (write_site P y)) i one f.1)
+    node_tells (wrote_node y i) f = part_tells y (a_mark i) f.0 f.1 (wrote_rule (x.wires.rail (of_var y)) (x.wires.bit y) (x.wires.wrote y) i) (mark_says (high st.values) (var_width P.vars y) (var_from P y) (x.wires.bit y) (x.wires.rail (of_var y)) (x.wires.wrote y) (x.wires.joint y) (block_is y f.0) (in_body P (write_site P y)) i f.1)
+    node_tells (joint_node y k) f = part_tells y (a_joint k) f.0 f.1 (tree_rule (var_width P.vars y) (x.wires.wrote y) (x.wires.joint y) k) (joint_says (high st.values) (var_width P.vars y) (var_from P y) (x.wires.bit y) (x.wires.rail (of_var y)) (x.wires.wrote y) (x.wires.joint y) (block_is y f.0) (in_body P (write_site P y)) k f.1)
 
     -- the environment's moves
 
@@ -177,8 +251,8 @@ module _ (P : TypedProgram) (given : Given P) where
     below_wires : (n : ℕ) → n < 2 → (j : ℕ) → j < length P.channels → n ≢ ack_at P j
     below_wires n h j lt e = let b = ack_bounds P j lt in absurd (omega (arith, h, e, b.0))
 
-    above_wires : (n : ℕ) → root_request P ≤ n → (j : ℕ) → j < length P.channels → n ≢ ack_at P j
-    above_wires n h j lt e = let b = ack_bounds P j lt in absurd (omega (arith, h, e, b.1, root_is))
+    above_wires : (n : ℕ) → 2 + wires_before P.channels (length P.channels) ≤ n → (j : ℕ) → j < length P.channels → n ≢ ack_at P j
+    above_wires n h j lt e = let b = ack_bounds P j lt in absurd (omega (arith, h, e, b.1))
 
     quiet_environment : (script : List OfferValue) → IsScript P.channels script → (n : ℕ) → 1 ≤ n → ((j : ℕ) → j < length P.channels → n ≢ ack_at P j) → env_enabled (translation P) script (completed st.histories) (high st.values) n ≡ false
     quiet_environment script fits n h far =
@@ -193,9 +267,9 @@ module _ (P : TypedProgram) (given : Given P) where
     ack_moves script fits k hk =
         let t = takes_at P.channels script given.out fits k hk in
         let w = channel_width P.channels k in
-        let rails : (i : ℕ) (one : Bool) → i < w → high st.values (channel_from P k + rail_place i one) ≡ x.wires.rail k i one = λ i one lt. s.rail k i one hk lt in
-        let value = value_is (high st.values) w (channel_from P k) (x.wires.rail k) rails in
-        let none = neutral_is (high st.values) w (channel_from P k) (x.wires.rail k) rails in
+        let rails : (i : ℕ) (one : Bool) → i < w → high st.values (channel_from P k + rail_place i one) ≡ x.wires.rail (of_channel k) i one = λ i one lt. s.rail k i one hk lt in
+        let value = value_is (high st.values) w (channel_from P k) (x.wires.rail (of_channel k)) rails in
+        let none = neutral_is (high st.values) w (channel_from P k) (x.wires.rail (of_channel k)) rails in
         let done : completed st.histories k ≡ completed x.histories k = ap (λ h. completed h k) s.histories in
         let start : (ack_at P k == 0) ≡ false = ne_eqb (ack_at P k) 0 (λ e. absurd (omega (arith, e))) in
         ap (λ b. (b && not (high st.values 0)) || channels_move (high st.values) (offer_at script) (completed st.histories) 0 (wires_from P 0 P.channels) (ack_at P k)) start
@@ -203,8 +277,8 @@ module _ (P : TypedProgram) (given : Given P) where
         (λ j low up. (takes_at P.channels script given.out fits j (omega (arith, up)), λ ne e. ne (sym (ack_same P k j hk (omega (arith, up)) e)))) t.0 t.1
         ∙ (ap (λ b. if b then neutral (high st.values) (rails_of (rails_at P k)) else valid (high st.values) (rails_of (rails_at P k)) && is_over t.0 (completed st.histories k)) (s.ack k hk)
         ∙ (ap (λ b. if x.wires.ack k then b else valid (high st.values) (rails_of (rails_at P k)) && is_over t.0 (completed st.histories k)) none
-        ∙ (ap (λ o. if x.wires.ack k then neutral_on w (x.wires.rail k) else is_some o && is_over t.0 (completed st.histories k)) value
-        ∙ (ap (λ m. if x.wires.ack k then neutral_on w (x.wires.rail k) else is_some (value_on w (x.wires.rail k)) && is_over t.0 m) done
+        ∙ (ap (λ o. if x.wires.ack k then neutral_on w (x.wires.rail (of_channel k)) else is_some o && is_over t.0 (completed st.histories k)) value
+        ∙ (ap (λ m. if x.wires.ack k then neutral_on w (x.wires.rail (of_channel k)) else is_some (value_on w (x.wires.rail (of_channel k))) && is_over t.0 m) done
         ∙ ap (answers w x.wires k (completed x.histories k)) (sym t.1))))))
 
     rule_fires : (n : ℕ) (r : Rule) → Tells (high st.values) n r → rule_enabled (translation P) (high st.values) n ≡ fires r
@@ -220,21 +294,25 @@ module _ (P : TypedProgram) (given : Given P) where
     env_is script fits (own_node child) f = quiet_environment script fits (root_request P) (omega (arith, root_is)) (above_wires (root_request P) (omega arith))
     env_is script fits (own_node latch) f = quiet_environment script fits (root_latch P) (omega (arith, root_is)) (above_wires (root_latch P) (omega arith))
     env_is script fits (own_node (inner p)) f = quiet_environment script fits (body_from P + place P P.body p) (omega (arith, root_is)) (above_wires (body_from P + place P P.body p) (omega arith))
-    env_is script fits (rail_node k i one) f = quiet_environment script fits (channel_from P k + rail_place i one) (omega arith) (λ j lt. rail_no_ack P k j i one f.0 lt f.1)
+    env_is script fits (rail_node (of_channel k) i one) f = quiet_environment script fits (channel_from P k + rail_place i one) (omega arith) (λ j lt. rail_no_ack P k j i one f.0 lt f.1)
     env_is script fits (ack_node k) f = ack_moves script fits k f
+    env_is script fits (rail_node (of_var y) i one) f = let e = part_bounds y (a_put i one) f.0 f.1 in quiet_environment script fits (var_from P y + offset (var_width P.vars y) (a_put i one)) (omega arith) (above_wires (var_from P y + offset (var_width P.vars y) (a_put i one)) e.0)
+    env_is script fits (bit_node y i one) f = let e = part_bounds y (a_bit i one) f.0 f.1 in quiet_environment script fits (var_from P y + offset (var_width P.vars y) (a_bit i one)) (omega arith) (above_wires (var_from P y + offset (var_width P.vars y) (a_bit i one)) e.0)
+    env_is script fits (wrote_node y i) f = let e = part_bounds y (a_mark i) f.0 f.1 in quiet_environment script fits (var_from P y + offset (var_width P.vars y) (a_mark i)) (omega arith) (above_wires (var_from P y + offset (var_width P.vars y) (a_mark i)) e.0)
+    env_is script fits (joint_node y k) f = let e = part_bounds y (a_joint k) f.0 f.1 in quiet_environment script fits (var_from P y + offset (var_width P.vars y) (a_joint k)) (omega arith) (above_wires (var_from P y + offset (var_width P.vars y) (a_joint k)) e.0)
 
     -- a node of the net may move exactly where its node of the cells may
     pub enabled_is : (script : List OfferValue) → IsScript P.channels script → (n : Node P.body) → Fine n → move_enabled (translation P) script st (number_of n) ≡ enabled P script x n
     enabled_is script fits n f =
-        ap (λ b. b || env_enabled (translation P) script (completed st.histories) (high st.values) (number_of n)) (rule_fires (number_of n) (rule_in P.body x n) (node_tells n f))
-        ∙ ap (λ b. fires (rule_in P.body x n) || b) (env_is script fits n f)
+        ap (λ b. b || env_enabled (translation P) script (completed st.histories) (high st.values) (number_of n)) (rule_fires (number_of n) (rule_in P x n) (node_tells n f))
+        ∙ ap (λ b. fires (rule_in P x n) || b) (env_is script fits n f)
 
     -- its guards hold as those of the cells do
-    pub apart_is : (n : Node P.body) → Fine n → is_apart (rule_in P.body x n) ≡ true → both_ways (translation P) (high st.values) (number_of n) ≡ false
+    pub apart_is : (n : Node P.body) → Fine n → is_apart (rule_in P x n) ≡ true → both_ways (translation P) (high st.values) (number_of n) ≡ false
     apart_is n f h =
         let t = node_tells n f in
         ap (λ b. b && guard_holds (high st.values) (down_of (translation P) (number_of n))) t.up
-        ∙ (ap (λ b. (rule_in P.body x n).up && b) t.down ∙ not_both ((rule_in P.body x n).up && (rule_in P.body x n).down) h)
+        ∙ (ap (λ b. (rule_in P x n).up && b) t.down ∙ not_both ((rule_in P x n).up && (rule_in P x n).down) h)
       where
         not_both : (b : Bool) → not b ≡ true → b ≡ false
         not_both true e = absurd (cc e)
@@ -252,12 +330,31 @@ module _ (P : TypedProgram) (given : Given P) where
   node_at (suc (suc n)) h =
       ⊎_elim
       (λ (lt : n < wires_before P.channels (length P.channels)). by_wire (wire_of P n lt))
-      (λ (le : wires_before P.channels (length P.channels) ≤ n). by_root (n - wires_before P.channels (length P.channels)) (omega (arith, root_is)))
+      (λ (le : wires_before P.channels (length P.channels) ≤ n).
+      ⊎_elim
+      (λ (lt : suc (suc n) < root_request P). by_block (owner P.vars (n - wires_before P.channels (length P.channels)) (omega (arith, lt, le))) le)
+      (λ (ge : root_request P ≤ suc (suc n)). by_root (suc (suc n) - root_request P) (omega (arith, ge)))
+      (cases_lt (suc (suc n)) (root_request P)))
       (cases_lt n (wires_before P.channels (length P.channels)))
     where
       by_wire : Wire P (2 + n) → Numbered (suc (suc n))
-      by_wire (a_rail k i one hk hi e) = record { node = rail_node k i one; fine = (hk, hi); is = e ∙ omega arith }
+      by_wire (a_rail k i one hk hi e) = record { node = rail_node (of_channel k) i one; fine = (hk, hi); is = e ∙ omega arith }
       by_wire (an_ack k hk e) = record { node = ack_node k; fine = hk; is = e ∙ omega arith }
+
+      by_block : Owner P.vars (n - wires_before P.channels (length P.channels)) → wires_before P.channels (length P.channels) ≤ n → Numbered (suc (suc n))
+      by_block o le = by_part (part_of (var_width P.vars o.var) o.place o.below)
+        where
+          at : (b : Part) → offset (var_width P.vars o.var) b ≡ o.place → var_from P o.var + offset (var_width P.vars o.var) b ≡ suc (suc n)
+          at b e = let z = o.is in omega (arith, e, z, le)
+
+          with_part : (b : Part) → IsPart (var_width P.vars o.var) b → offset (var_width P.vars o.var) b ≡ o.place → Numbered (suc (suc n))
+          with_part (a_bit i one) h e = record { node = bit_node o.var i one; fine = (o.some, h); is = at (a_bit i one) e }
+          with_part (a_put i one) h e = record { node = rail_node (of_var o.var) i one; fine = (o.some, h); is = at (a_put i one) e }
+          with_part (a_mark i) h e = record { node = wrote_node o.var i; fine = (o.some, h); is = at (a_mark i) e }
+          with_part (a_joint k) h e = record { node = joint_node o.var k; fine = (o.some, h); is = at (a_joint k) e }
+
+          by_part : PartAt (var_width P.vars o.var) o.place → Numbered (suc (suc n))
+          by_part r = with_part r.part r.fine r.is
 
       by_root : (m : ℕ) → root_request P + m ≡ suc (suc n) → Numbered (suc (suc n))
       by_root zero e = record { node = own_node child; fine = tt; is = omega (arith, e) }
@@ -268,14 +365,12 @@ module _ (P : TypedProgram) (given : Given P) where
 
   length-all : length (all_rules P) ≡ nodes_of P
   length-all =
-      let e : length (channels_rules P 0 P.channels ++ (vars_rules P 0 P.vars ++ (q_child go_number (root_latch P) ∷ q_latch go_number (body_answer P) ∷ rules_of P P.body (root_request P) (body_from P)))) ≡ length (channels_rules P 0 P.channels ++ (q_child go_number (root_latch P) ∷ q_latch go_number (body_answer P) ∷ rules_of P P.body (root_request P) (body_from P)))
-      = ap (λ l. length (channels_rules P 0 P.channels ++ l)) behind_wires in
       omega (
         arith,
-        e,
-        root_is,
-        length-append (channels_rules P 0 P.channels) (q_child go_number (root_latch P) ∷ q_latch go_number (body_answer P) ∷ rules_of P P.body (root_request P) (body_from P)),
+        length-append (channels_rules P 0 P.channels) behind_wires,
+        length-append (vars_rules P 0 P.vars) (q_child go_number (root_latch P) ∷ q_latch go_number (body_answer P) ∷ rules_of P P.body (root_request P) (body_from P)),
         length-channels_rules P 0 P.channels given.out,
+        length-vars_rules P 0 P.vars,
         length-rules P P.body given.covered (root_request P) (body_from P),
       )
 
@@ -332,7 +427,7 @@ module _ (P : TypedProgram) (given : Given P) where
     body_far below = record { at = λ i h. fired_far (body_from P + i) (λ e. absurd (omega (arith, e, below))) ∙ s.body.at i h }
 
     -- where the node isn't a wire
-    rail_outside : (m < 2) ⊎ (root_request P ≤ m) → (k i : ℕ) (one : Bool) → k < length P.channels → i < channel_width P.channels k → high (fired st.values m) (channel_from P k + rail_place i one) ≡ x.wires.rail k i one
+    rail_outside : (m < 2) ⊎ (root_request P ≤ m) → (k i : ℕ) (one : Bool) → k < length P.channels → i < channel_width P.channels k → high (fired st.values m) (channel_from P k + rail_place i one) ≡ x.wires.rail (of_channel k) i one
     rail_outside where_m k i one hk hi =
         let b = rail_bounds P k i one hk hi in
         fired_far (channel_from P k + rail_place i one) (λ e. no_wire where_m e b.0 b.1) ∙ s.rail k i one hk hi
@@ -341,13 +436,20 @@ module _ (P : TypedProgram) (given : Given P) where
         no_wire (inl below) e low up = absurd (omega (arith, below, e, low))
         no_wire (inr above) e low up = absurd (omega (arith, above, e, up, root_is))
 
+    block_outside : (m < 2 + wires_before P.channels (length P.channels)) ⊎ (root_request P ≤ m) → (y : ℕ) (b : Part) → y < length P.vars → IsPart (var_width P.vars y) b → high (fired st.values m) (var_from P y + offset (var_width P.vars y) b) ≡ part_value x.wires y b
+    block_outside where_m y b hy hb = fired_far (var_from P y + offset (var_width P.vars y) b) (λ e. apart where_m e) ∙ s.block y b hy hb
+      where
+        apart : (m < 2 + wires_before P.channels (length P.channels)) ⊎ (root_request P ≤ m) → var_from P y + offset (var_width P.vars y) b ≡ m → ⊥
+        apart (inl below) e = let z = part_bounds y b hy hb in omega (arith, below, e, z.0)
+        apart (inr above) e = let z = part_bounds y b hy hb in omega (arith, above, e, z.1)
+
     ack_outside : (m < 2) ⊎ (root_request P ≤ m) → (k : ℕ) → k < length P.channels → high (fired st.values m) (ack_at P k) ≡ x.wires.ack k
     ack_outside (inl below) k hk = fired_far (ack_at P k) (λ e. below_wires st x s m below k hk (sym e)) ∙ s.ack k hk
-    ack_outside (inr above) k hk = fired_far (ack_at P k) (λ e. above_wires st x s m above k hk (sym e)) ∙ s.ack k hk
+    ack_outside (inr above) k hk = fired_far (ack_at P k) (λ e. above_wires st x s m (omega (arith, above)) k hk (sym e)) ∙ s.ack k hk
 
     histories_outside : (m < 2) ⊎ (root_request P ≤ m) → (moved_flat (translation P) st m).histories ≡ x.histories
     histories_outside (inl below) = still_histories (below_wires st x s m below)
-    histories_outside (inr above) = still_histories (above_wires st x s m above)
+    histories_outside (inr above) = still_histories (above_wires st x s m (omega (arith, above)))
 
   -- a Q-element's own node, or one inside of the body
   own_after : (st : RunState) (x : Whole P.body) (s : Shows st x) (p : GuardedSpot P.body) → own_fine p → Shows (moved_flat (translation P) st (own_number p)) (moved P x (own_node p))
@@ -362,6 +464,7 @@ module _ (P : TypedProgram) (given : Given P) where
         body = body_far st x s 1 lt (omega (arith, root_is));
         rail = rail_outside st x s 1 lt (inl (omega arith));
         ack = ack_outside st x s 1 lt (inl (omega arith));
+        block = block_outside st x s 1 lt (inl (omega arith));
         histories = histories_outside st x s 1 lt (inl (omega arith));
         channels = s.channels;
       }
@@ -377,6 +480,7 @@ module _ (P : TypedProgram) (given : Given P) where
         body = body_far st x s (root_request P) lt (omega arith);
         rail = rail_outside st x s (root_request P) lt (inr (omega arith));
         ack = ack_outside st x s (root_request P) lt (inr (omega arith));
+        block = block_outside st x s (root_request P) lt (inr (omega arith));
         histories = histories_outside st x s (root_request P) lt (inr (omega arith));
         channels = s.channels;
       }
@@ -391,6 +495,7 @@ module _ (P : TypedProgram) (given : Given P) where
         body = body_far st x s (root_latch P) lt (omega arith);
         rail = rail_outside st x s (root_latch P) lt (inr (omega arith));
         ack = ack_outside st x s (root_latch P) lt (inr (omega arith));
+        block = block_outside st x s (root_latch P) lt (inr (omega arith));
         histories = histories_outside st x s (root_latch P) lt (inr (omega arith));
         channels = s.channels;
       }
@@ -423,6 +528,7 @@ module _ (P : TypedProgram) (given : Given P) where
         });
         rail = rail_outside st x s (body_from P + place P P.body p) lt (inr (omega arith));
         ack = ack_outside st x s (body_from P + place P P.body p) lt (inr (omega arith));
+        block = block_outside st x s (body_from P + place P P.body p) lt (inr (omega arith));
         histories = histories_outside st x s (body_from P + place P P.body p) lt (inr (omega arith));
         channels = s.channels;
       }
@@ -439,6 +545,7 @@ module _ (P : TypedProgram) (given : Given P) where
         body = body_far st x s 0 lt (omega (arith, root_is));
         rail = rail_outside st x s 0 lt (inl (omega arith));
         ack = ack_outside st x s 0 lt (inl (omega arith));
+        block = block_outside st x s 0 lt (inl (omega arith));
         histories = histories_outside st x s 0 lt (inl (omega arith));
         channels = s.channels;
       }
@@ -463,7 +570,88 @@ module _ (P : TypedProgram) (given : Given P) where
       itself true = refl
       itself false = refl
 
-  rail_after : (st : RunState) (x : Whole P.body) → Shows st x → (k i : ℕ) (one : Bool) → k < length P.channels → i < channel_width P.channels k → Shows (moved_flat (translation P) st (channel_from P k + rail_place i one)) (moved P x (rail_node k i one))
+  rail_parts : (w : Wires) (k i : ℕ) (one : Bool) (y : ℕ) (c : Part) → part_value (rail_turned w (of_channel k) i one) y c ≡ part_value w y c
+  rail_parts w k i one y (a_bit j s) = refl
+  rail_parts w k i one y (a_put j s) = refl
+  rail_parts w k i one y (a_mark j) = refl
+  rail_parts w k i one y (a_joint j) = refl
+
+  ack_parts : (w : Wires) (k y : ℕ) (c : Part) → part_value (ack_turned w k) y c ≡ part_value w y c
+  ack_parts w k y (a_bit j s) = refl
+  ack_parts w k y (a_put j s) = refl
+  ack_parts w k y (a_mark j) = refl
+  ack_parts w k y (a_joint j) = refl
+
+  -- a node of a block
+  part_after : (st : RunState) (x : Whole P.body) → Shows st x → (y : ℕ) (b : Part) → y < length P.vars → IsPart (var_width P.vars y) b → (now : Wires)
+      → ((k i : ℕ) (one : Bool) → now.rail (of_channel k) i one ≡ x.wires.rail (of_channel k) i one) → ((k : ℕ) → now.ack k ≡ x.wires.ack k)
+      → part_value now y b ≡ not (part_value x.wires y b) → ((z : ℕ) (c : Part) → (z ≡ y → c ≡ b → ⊥) → part_value now z c ≡ part_value x.wires z c)
+      → Shows (moved_flat (translation P) st (var_from P y + offset (var_width P.vars y) b)) (record x { wires = now })
+  part_after st x s y b hy hb now rails acks here far =
+      let e = part_bounds y b hy hb in
+      let m = var_from P y + offset (var_width P.vars y) b in
+      let lt : m < nodes_of P = omega (arith, e.1) in
+      record {
+        count = fired_count st x s m lt;
+        go = go_far st x s m lt (λ z. absurd (omega (arith, z, e.0)));
+        done = done_far st x s m lt (λ z. absurd (omega (arith, z, e.0)));
+        child = child_far st x s m lt (λ z. absurd (omega (arith, z, e.1)));
+        latch = latch_far st x s m lt (λ z. absurd (omega (arith, z, e.1)));
+        body = body_far st x s m lt (omega (arith, e.1));
+        rail = λ k i one hk hi. let r = rail_bounds P k i one hk hi in fired_far st x s m lt (channel_from P k + rail_place i one) (λ z. absurd (let g : ⊥ = omega (arith, z, r.1, e.0) in g)) ∙ (s.rail k i one hk hi ∙ sym (rails k i one));
+        ack = λ k hk. let r = ack_bounds P k hk in fired_far st x s m lt (ack_at P k) (λ z. absurd (let g : ⊥ = omega (arith, z, r.1, e.0) in g)) ∙ (s.ack k hk ∙ sym (acks k));
+        block = λ z c hz hc. ⊎_elim (λ (same : var_from P z + offset (var_width P.vars z) c ≡ m). one_part lt z c hz hc same) (λ (ne : var_from P z + offset (var_width P.vars z) c ≢ m).
+            fired_far st x s m lt (var_from P z + offset (var_width P.vars z) c) ne ∙ (s.block z c hz hc ∙ sym (far z c (λ u q. ne (ap (λ n. var_from P n + offset (var_width P.vars n) c) u ∙ ap (λ d. var_from P y + offset (var_width P.vars y) d) q)))))
+            (cases_eq (var_from P z + offset (var_width P.vars z) c) m);
+        histories = still_histories st x s m lt (above_wires st x s m e.0);
+        channels = s.channels;
+      }
+    where
+      one_part : var_from P y + offset (var_width P.vars y) b < nodes_of P → (z : ℕ) (c : Part) → z < length P.vars → IsPart (var_width P.vars z) c → var_from P z + offset (var_width P.vars z) c ≡ var_from P y + offset (var_width P.vars y) b
+          → high (fired st.values (var_from P y + offset (var_width P.vars y) b)) (var_from P z + offset (var_width P.vars z) c) ≡ part_value now z c
+      one_part lt z c hz hc same =
+          let u = same_var z y c b hz hy hc hb same in
+          let q = same_part y c b (subst (λ (n : ℕ). IsPart (var_width P.vars n) c) u hc) hb (sym (ap (λ n. var_from P n + offset (var_width P.vars n) c) u) ∙ same) in
+          fired_here st x s (var_from P y + offset (var_width P.vars y) b) lt (var_from P z + offset (var_width P.vars z) c) same
+          ∙ (ap (λ n. not (high st.values n)) same ∙ (ap not (s.block y b hy hb) ∙ (sym here ∙ (ap (λ d. part_value now y d) (sym q) ∙ ap (λ n. part_value now n c) (sym u)))))
+
+  rails_far : (r : Rails) (i : ℕ) (one : Bool) (j : ℕ) (t : Bool) → (j ≡ i → t ≡ one → ⊥) → rails_turned r i one j t ≡ r j t
+  rails_far r i one j t ne = by ((j == i) && same_bit t one) refl
+    where
+      by : (b : Bool) → ((j == i) && same_bit t one) ≡ b → (if b then not (r i one) else r j t) ≡ r j t
+      by true e = absurd (let z = same_rail 0 0 j i t one e in ne z.1 z.2)
+      by false e = refl
+
+  rails_here : (r : Rails) (i : ℕ) (one : Bool) → rails_turned r i one i one ≡ not (r i one)
+  rails_here r i one = ap (λ b. if b then not (r i one) else r i one) (same_rail_back 0 0 i i one one refl refl refl)
+
+  of_one : {A : Type 0} (y z : ℕ) (f g : A) → (z ≡ y → ⊥) → (if z == y then f else g) ≡ g
+  of_one y z f g ne = ap (λ (b : Bool). if b then f else g) (ne_eqb z y ne)
+
+  of_same : {A : Type 0} (y z : ℕ) (f g : A) → z ≡ y → (if z == y then f else g) ≡ f
+  of_same y z f g e = ap (λ (b : Bool). if b then f else g) (eq-eqb z y e)
+
+  -- rails of variables, and other nodes, of which one is turned over
+  rails_by : (rs : ℕ → Rails) (y i : ℕ) (one : Bool) (z j : ℕ) (t : Bool) → (z ≡ y → j ≡ i → t ≡ one → ⊥) → (if z == y then rails_turned (rs y) i one else rs z) j t ≡ rs z j t
+  rails_by rs y i one z j t ne = ⊎_elim
+      (λ (e : z ≡ y). ap (λ (r : Rails). r j t) (of_same y z (rails_turned (rs y) i one) (rs z) e) ∙ (rails_far (rs y) i one j t (ne e) ∙ ap (λ n. rs n j t) (sym e)))
+      (λ (n : z ≢ y). ap (λ (r : Rails). r j t) (of_one y z (rails_turned (rs y) i one) (rs z) n))
+      (cases_eq z y)
+
+  marks_by : (rs : ℕ → ℕ → Bool) (y i z j : ℕ) → (z ≡ y → j ≡ i → ⊥) → (if z == y then turned_value (rs y) i else rs z) j ≡ rs z j
+  marks_by rs y i z j ne = ⊎_elim
+      (λ (e : z ≡ y). ap (λ (r : ℕ → Bool). r j) (of_same y z (turned_value (rs y) i) (rs z) e) ∙ (turned_apart (rs y) i j (ne e) ∙ ap (λ n. rs n j) (sym e)))
+      (λ (n : z ≢ y). ap (λ (r : ℕ → Bool). r j) (of_one y z (turned_value (rs y) i) (rs z) n))
+      (cases_eq z y)
+
+  turned_rail : (x : Whole P.body) (k i : ℕ) (one : Bool) (c j : ℕ) (side : Bool) → (rail_turned x.wires (of_channel k) i one).rail (of_channel c) j side ≡ (if (c == k) && ((j == i) && same_bit side one) then not (x.wires.rail (of_channel k) i one) else x.wires.rail (of_channel c) j side)
+  turned_rail x k i one c j side = by (c == k) refl
+    where
+      by : (b : Bool) → (c == k) ≡ b → (if b then rails_turned (x.wires.rail (of_channel k)) i one else x.wires.rail (of_channel c)) j side ≡ (if b && ((j == i) && same_bit side one) then not (x.wires.rail (of_channel k) i one) else x.wires.rail (of_channel c) j side)
+      by true e = ap (λ n. if (j == i) && same_bit side one then not (x.wires.rail (of_channel k) i one) else x.wires.rail (of_channel n) j side) (sym (eqb-true c k e))
+      by false e = refl
+
+  rail_after : (st : RunState) (x : Whole P.body) → Shows st x → (k i : ℕ) (one : Bool) → k < length P.channels → i < channel_width P.channels k → Shows (moved_flat (translation P) st (channel_from P k + rail_place i one)) (moved P x (rail_node (of_channel k) i one))
   rail_after st x s k i one hk hi =
       let b = rail_bounds P k i one hk hi in
       let lt : channel_from P k + rail_place i one < nodes_of P = omega (arith, b.1, root_is) in
@@ -474,14 +662,15 @@ module _ (P : TypedProgram) (given : Given P) where
         child = child_far st x s (channel_from P k + rail_place i one) lt (λ e. absurd (omega (arith, e, b.1, root_is)));
         latch = latch_far st x s (channel_from P k + rail_place i one) lt (λ e. absurd (omega (arith, e, b.1, root_is)));
         body = body_far st x s (channel_from P k + rail_place i one) lt (omega (arith, b.1, root_is));
-        rail = λ c j side hc hj. by_test lt c j side hc hj ((c == k) && ((j == i) && same_bit side one)) refl;
+        rail = λ c j side hc hj. by_test lt c j side hc hj ((c == k) && ((j == i) && same_bit side one)) refl ∙ sym (turned_rail x k i one c j side);
         ack = λ c hc. fired_far st x s (channel_from P k + rail_place i one) lt (ack_at P c) (λ e. rail_no_ack P k c i one hk hc hi (sym e)) ∙ s.ack c hc;
+        block = λ y c hy hc. block_outside st x s (channel_from P k + rail_place i one) lt (inl b.1) y c hy hc ∙ sym (rail_parts x.wires k i one y c);
         histories = still_histories st x s (channel_from P k + rail_place i one) lt (λ j hj. rail_no_ack P k j i one hk hj hi);
         channels = s.channels;
       }
     where
       by_test : channel_from P k + rail_place i one < nodes_of P → (c j : ℕ) (side : Bool) → c < length P.channels → j < channel_width P.channels c → (t : Bool) → ((c == k) && ((j == i) && same_bit side one)) ≡ t
-          → high (fired st.values (channel_from P k + rail_place i one)) (channel_from P c + rail_place j side) ≡ (if t then not (x.wires.rail k i one) else x.wires.rail c j side)
+          → high (fired st.values (channel_from P k + rail_place i one)) (channel_from P c + rail_place j side) ≡ (if t then not (x.wires.rail (of_channel k) i one) else x.wires.rail (of_channel c) j side)
       by_test lt c j side hc hj true e =
           let q = same_rail c k j i side one e in
           let n : channel_from P c + rail_place j side ≡ channel_from P k + rail_place i one = cc (q.0, q.1, q.2) in
@@ -505,6 +694,7 @@ module _ (P : TypedProgram) (given : Given P) where
         body = body_far st x s (ack_at P k) lt (omega (arith, b.1, root_is));
         rail = λ c j side hc hj. fired_far st x s (ack_at P k) lt (channel_from P c + rail_place j side) (rail_no_ack P c k j side hc hk hj) ∙ s.rail c j side hc hj;
         ack = λ c hc. by_test lt c hc (c == k) refl;
+        block = λ y c hy hc. block_outside st x s (ack_at P k) lt (inl b.1) y c hy hc ∙ sym (ack_parts x.wires k y c);
         histories = values_here ∙ by_ack (x.wires.ack k) refl;
         channels = lengths (x.wires.ack k);
       }
@@ -516,10 +706,10 @@ module _ (P : TypedProgram) (given : Given P) where
       by_test lt c hc false e =
           fired_far st x s (ack_at P k) lt (ack_at P c) (λ z. absurd (cc (eq-eqb c k (ack_same P c k hc hk z), e))) ∙ s.ack c hc
 
-      value_here : rail_value_of (high st.values) (rails_of (rails_at P k)) ≡ value_on (channel_width P.channels k) (x.wires.rail k)
-      value_here = value_is (high st.values) (channel_width P.channels k) (channel_from P k) (x.wires.rail k) (λ i one lt. s.rail k i one hk lt)
+      value_here : rail_value_of (high st.values) (rails_of (rails_at P k)) ≡ value_on (channel_width P.channels k) (x.wires.rail (of_channel k))
+      value_here = value_is (high st.values) (channel_width P.channels k) (channel_from P k) (x.wires.rail (of_channel k)) (λ i one lt. s.rail k i one hk lt)
 
-      values_here : (moved_flat (translation P) st (ack_at P k)).histories ≡ passed x.histories k (if not (x.wires.ack k) then value_on (channel_width P.channels k) (x.wires.rail k) else None)
+      values_here : (moved_flat (translation P) st (ack_at P k)).histories ≡ passed x.histories k (if not (x.wires.ack k) then value_on (channel_width P.channels k) (x.wires.rail (of_channel k)) else None)
       values_here =
           let e : 0 + k ≡ k = omega arith in
           values_some P (high st.values) 0 P.channels st.histories (ack_at P k) k (ap length s.histories ∙ s.channels) hk (ap (ack_at P) (sym e))
@@ -529,7 +719,7 @@ module _ (P : TypedProgram) (given : Given P) where
           ∙ (ap (λ j. passed x.histories k (if not (x.wires.ack k) then rail_value_of (high st.values) (rails_of (rails_at P j)) else None)) e
           ∙ ap (λ o. passed x.histories k (if not (x.wires.ack k) then o else None)) value_here)))
 
-      by_ack : (a : Bool) → x.wires.ack k ≡ a → passed x.histories k (if not a then value_on (channel_width P.channels k) (x.wires.rail k) else None) ≡ (if a then x.histories else passed x.histories k (value_on (channel_width P.channels k) (x.wires.rail k)))
+      by_ack : (a : Bool) → x.wires.ack k ≡ a → passed x.histories k (if not a then value_on (channel_width P.channels k) (x.wires.rail (of_channel k)) else None) ≡ (if a then x.histories else passed x.histories k (value_on (channel_width P.channels k) (x.wires.rail (of_channel k))))
       by_ack true e = refl
       by_ack false e = refl
 
@@ -537,12 +727,44 @@ module _ (P : TypedProgram) (given : Given P) where
       length-passed None = s.channels
       length-passed (Some y) = length-set x.histories k (history_at x.histories k ++ y ∷ []) ∙ s.channels
 
-      lengths : (a : Bool) → length (if a then x.histories else passed x.histories k (value_on (channel_width P.channels k) (x.wires.rail k))) ≡ length P.channels
+      lengths : (a : Bool) → length (if a then x.histories else passed x.histories k (value_on (channel_width P.channels k) (x.wires.rail (of_channel k)))) ≡ length P.channels
       lengths true = s.channels
-      lengths false = length-passed (value_on (channel_width P.channels k) (x.wires.rail k))
+      lengths false = length-passed (value_on (channel_width P.channels k) (x.wires.rail (of_channel k)))
 
   pub after_move : (st : RunState) (x : Whole P.body) → Shows st x → (n : Node P.body) → Fine n → Shows (moved_flat (translation P) st (number_of n)) (moved P x n)
   after_move st x s go_node f = go_after_is st x s
   after_move st x s (own_node p) f = own_after st x s p f
-  after_move st x s (rail_node k i one) f = rail_after st x s k i one f.0 f.1
+  after_move st x s (rail_node (of_channel k) i one) f = rail_after st x s k i one f.0 f.1
   after_move st x s (ack_node k) f = ack_after st x s k f
+  after_move st x s (rail_node (of_var y) i one) f = part_after st x s y (a_put i one) f.0 f.1 (rail_turned x.wires (of_var y) i one) (λ k j t. refl) (λ k. refl)
+      (ap (λ (r : Rails). r i one) (of_same y y (rails_turned (x.wires.rail (of_var y)) i one) (x.wires.rail (of_var y)) refl) ∙ rails_here (x.wires.rail (of_var y)) i one) far
+    where
+      far : (z : ℕ) (c : Part) → (z ≡ y → c ≡ a_put i one → ⊥) → part_value (rail_turned x.wires (of_var y) i one) z c ≡ part_value x.wires z c
+      far z (a_put j t) ne = rails_by (λ n. x.wires.rail (of_var n)) y i one z j t (λ u v q. ne u (ap (λ n. a_put n t) v ∙ ap (λ n. a_put i n) q))
+      far z (a_bit j t) ne = refl
+      far z (a_mark j) ne = refl
+      far z (a_joint j) ne = refl
+  after_move st x s (bit_node y i one) f = part_after st x s y (a_bit i one) f.0 f.1 (bit_turned x.wires y i one) (λ k j t. refl) (λ k. refl)
+      (ap (λ (r : Rails). r i one) (of_same y y (rails_turned (x.wires.bit y) i one) (x.wires.bit y) refl) ∙ rails_here (x.wires.bit y) i one) far
+    where
+      far : (z : ℕ) (c : Part) → (z ≡ y → c ≡ a_bit i one → ⊥) → part_value (bit_turned x.wires y i one) z c ≡ part_value x.wires z c
+      far z (a_bit j t) ne = rails_by x.wires.bit y i one z j t (λ u v q. ne u (ap (λ n. a_bit n t) v ∙ ap (λ n. a_bit i n) q))
+      far z (a_put j t) ne = refl
+      far z (a_mark j) ne = refl
+      far z (a_joint j) ne = refl
+  after_move st x s (wrote_node y i) f = part_after st x s y (a_mark i) f.0 f.1 (wrote_turned x.wires y i) (λ k j t. refl) (λ k. refl)
+      (ap (λ (r : ℕ → Bool). r i) (of_same y y (turned_value (x.wires.wrote y) i) (x.wires.wrote y) refl) ∙ turned_here (x.wires.wrote y) i) far
+    where
+      far : (z : ℕ) (c : Part) → (z ≡ y → c ≡ a_mark i → ⊥) → part_value (wrote_turned x.wires y i) z c ≡ part_value x.wires z c
+      far z (a_mark j) ne = marks_by x.wires.wrote y i z j (λ u v. ne u (ap (λ n. a_mark n) v))
+      far z (a_put j t) ne = refl
+      far z (a_bit j t) ne = refl
+      far z (a_joint j) ne = refl
+  after_move st x s (joint_node y k) f = part_after st x s y (a_joint k) f.0 f.1 (joint_turned x.wires y k) (λ k j t. refl) (λ k. refl)
+      (ap (λ (r : ℕ → Bool). r k) (of_same y y (turned_value (x.wires.joint y) k) (x.wires.joint y) refl) ∙ turned_here (x.wires.joint y) k) far
+    where
+      far : (z : ℕ) (c : Part) → (z ≡ y → c ≡ a_joint k → ⊥) → part_value (joint_turned x.wires y k) z c ≡ part_value x.wires z c
+      far z (a_joint j) ne = marks_by x.wires.joint y k z j (λ u v. ne u (ap (λ n. a_joint n) v))
+      far z (a_put j t) ne = refl
+      far z (a_bit j t) ne = refl
+      far z (a_mark j) ne = refl

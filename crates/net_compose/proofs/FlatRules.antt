@@ -1,22 +1,26 @@
 -- What the guards of a covered circuit's own nodes say, read at their numbers, is what the rules of its cells say.
-use Rattle.std.proofs.Common.{◌≡◌, ℕ, zero, suc, ◌+◌, ◌*◌, ◌/◌, ◌<◌, ◌≤◌, Bool, true, false, List, [], ◌∷◌, ◌++◌, map, length, get_or, refl, sym, ap, ◌∙◌, arith, length-append, get_or-append-add}
+use Rattle.std.proofs.Common.{◌≡◌, ℕ, zero, suc, ◌+◌, ◌-◌, ◌*◌, ◌/◌, ◌<◌, ◌≤◌, Bool, true, false, List, [], ◌∷◌, ◌++◌, map, length, get_or, refl, sym, ap, ◌∙◌, arith, length-append, get_or-append-add}
 use Rattle.std.specs.Prelude.{not, ◌&&◌, ◌||◌}
-use Rattle.std.specs.List.{list_any, list_all}
+use Rattle.std.specs.List.{list_any, list_all, range_with_len}
 use Rattle.std.proofs.lemmas.List.{get_or_append_left}
 use Rattle.prs_core.specs.Nets.{NodeRules, is_high, is_low, one_term}
 use Rattle.prs_core.specs.Pairs.{no_rules, or_of, lows}
 use Rattle.prs_core.specs.Moves.{term_holds, guard_holds}
 use Rattle.env_script.specs.Environment.{is_odd}
-use Rattle.width_check.specs.Processes.{Formula, Process, skipping, assigning, sending, receiving, in_turn, side_by_side, choosing, repeating, Processes, no_members, and_member, member_count, TypedProgram}
+use Rattle.width_check.specs.Processes.{Formula, constant, Process, skipping, assigning, sending, receiving, in_turn, side_by_side, choosing, repeating, Processes, no_members, and_member, member_count, TypedProgram}
 use Rattle.width_check.specs.Typing.{IsProcess, AreProcesses}
-use Rattle.handshake_expand.specs.Layout.{formula_size, size_of, turn_size}
+use Rattle.handshake_expand.specs.Layout.{formula_size, assign_size, size_of, turn_size, branches_size}
 use Rattle.handshake_expand.specs.Answers as number
 use Rattle.function_blocks.specs.Expressions.{constant_bit, constant_bits, formula_rules}
+use Rattle.cell_parallel.specs.Trees.{tree_rules}
+use Rattle.cell_parallel.specs.Sizes.{tree_length}
 use Rattle.circuit_places.specs.Covered.{IsNumber, IsCovered, AreCovered}
-use Rattle.circuit_places.specs.Circuit.{Pairs, side_of, gate_count, Cells, TurnCells, answer, turn_answer, Spot, TurnSpot, child, latch, next, inner, of_skip, of_send, gate, in_members, of_loop, ask, in_body, in_last, in_member, in_later, Rule, rule_of, Wires, same_bit, constant_rule, gate_rule, rule, turn_rule}
+use Rattle.circuit_places.specs.Lines.{of_channel, of_var, Seen}
+use Rattle.circuit_places.specs.Circuit.{Pairs, side_of, Site, gate_count, Cells, TurnCells, BranchCells, bit_at, joint_count, tree_value, tree_rule, branch_ends as cell_ends, answer, turn_answer, Spot, TurnSpot, BranchSpot, of_branch, joint, in_this, in_others, child, latch, next, inner, of_skip, done, gate, of_assign, of_send, in_members, of_loop, ask, in_body, in_last, in_member, in_later, Rule, rule_of, same_bit, constant_rule, gate_rule, rule, turn_rule, branch_rule}
 use Rattle.circuit_places.specs.Whole.{all_low}
-use Rattle.net_compose.specs.Translation.{rules_of, turn_rules, bits_at, ack_at}
-use Rattle.net_compose.proofs.FlatCells.{by_number, pair_bits, rail_place, bits, turn_bits, place, turn_place, IsFine, IsFineTurn, length-bits, place_lt}
+use Rattle.net_compose.specs.Translation.{rules_of, turn_rules, branches_rules, branch_ends, branches_end, bits_at, ack_at, written_at}
+use Rattle.net_compose.proofs.FlatTrees.{joint_count_is, tree_bits, length-tree_bits, tree_bit, value_node, value_leaf, answer_value, Alike, tree_alike}
+use Rattle.net_compose.proofs.FlatCells.{by_number, pair_bits, rail_place, bits, turn_bits, branch_bits, place, turn_place, branch_place, IsFine, IsFineTurn, IsFineBranch, length-bits, length-branch_bits, place_lt, branch_place_lt}
 
 -- the nodes from a number on have these values
 pub record Stands (v : ℕ → Bool) (from : ℕ) (xs : List Bool) : Type 0 where
@@ -133,6 +137,15 @@ length-constant_bits r zero k = refl
 length-constant_bits r (suc w) k = omega (arith, length-constant_bit r (is_odd k) (constant_bits r w (k / 2)), length-constant_bits r w (k / 2))
 
 module _ (P : TypedProgram) where
+  -- the ends of branches, and where their nodes end
+  pub length-branch_ends : (members : Processes) (from : ℕ) → length (branch_ends P members from) ≡ member_count members
+  length-branch_ends no_members from = refl
+  length-branch_ends (and_member p more) from = ap (λ k. suc k) (length-branch_ends more (from + 3 + size_of P p))
+
+  pub branches_end_is : (members : Processes) (from : ℕ) → branches_end P members from ≡ from + branches_size P members
+  branches_end_is no_members from = omega arith
+  branches_end_is (and_member p more) from = let e = branches_end_is more (from + 3 + size_of P p) in omega (arith, e)
+
   mutual
     pub length-rules : (p : Process) → IsCovered p → (r from : ℕ) → length (rules_of P p r from) ≡ size_of P p
     length-rules skipping c r from = refl
@@ -140,10 +153,28 @@ module _ (P : TypedProgram) where
         by_number (λ e. suc (length (formula_rules (bits_at P) e r (from + 1))) ≡ 1 + formula_size e) (λ w k. omega (arith, length-constant_bits r w k)) e c
     length-rules (in_turn members) c r from = length-turn_rules members c r from
     length-rules (repeating p) c r from = omega (arith, length-rules p c (from + 1) (from + 2))
-    length-rules (assigning z at e) c r from = absurd c
+    length-rules (assigning z at e) c r from =
+        by_number (λ e. length (rules_of P (assigning z at e) r from) ≡ assign_size P z e) (λ w k. omega (arith, length-constant_bits r w k)) e c
     length-rules (receiving chan at z to) c r from = absurd c
-    length-rules (side_by_side members) c r from = absurd c
+    length-rules (side_by_side members) c r from =
+        omega (
+          arith,
+          length-append (branches_rules P members r from) (tree_rules (branch_ends P members from) (branches_end P members from)),
+          length-branches_rules members c r from,
+          tree_length (branch_ends P members from) (branches_end P members from),
+          length-branch_ends members from,
+        )
     length-rules (choosing again choices) c r from = absurd c
+
+    pub length-branches_rules : (members : Processes) → AreCovered members → (r from : ℕ) → length (branches_rules P members r from) ≡ branches_size P members
+    length-branches_rules no_members c r from = refl
+    length-branches_rules (and_member p more) c r from =
+        omega (
+          arith,
+          length-append (rules_of P p from (from + 3)) (branches_rules P more r (from + 3 + size_of P p)),
+          length-rules p c.0 from (from + 3),
+          length-branches_rules more c.1 r (from + 3 + size_of P p),
+        )
 
     pub length-turn_rules : (members : Processes) → AreCovered members → (r from : ℕ) → length (turn_rules P members r from) ≡ turn_size P members
     length-turn_rules no_members c r from = refl
@@ -172,6 +203,53 @@ module _ (P : TypedProgram) where
         (stands_after v from (from + 3) (x.member.child ∷ x.member.latch ∷ x.member.next ∷ []) (a ++ b) s (omega arith))
         (omega (arith, length-bits P p c x.member.inner))
 
+    -- the parts of a parallel composition
+    pub stands_branches : (members : Processes) (from : ℕ) (x : Cells (side_by_side members)) → Stands v from (bits (side_by_side members) x) → Stands v from (branch_bits members x.branches)
+    stands_branches members from x s = stands_before v from (branch_bits members x.branches) (tree_bits (joint_count (member_count members)) x.tree) s
+
+    pub stands_tree : (members : Processes) (c : AreCovered members) (from : ℕ) (x : Cells (side_by_side members)) → Stands v from (bits (side_by_side members) x) → Stands v (from + branches_size P members) (tree_bits (joint_count (member_count members)) x.tree)
+    stands_tree members c from x s =
+        stands_after v from (from + branches_size P members) (branch_bits members x.branches) (tree_bits (joint_count (member_count members)) x.tree) s (omega (arith, length-branch_bits P members c x.branches))
+
+    pub stands_this : (p : Process) (more : Processes) (from : ℕ) (x : BranchCells (and_member p more)) → Stands v from (branch_bits (and_member p more) x) → Stands v (from + 3) (bits p x.0.inner)
+    stands_this p more from x s =
+        let a = bits p x.0.inner in
+        let b = branch_bits more x.1 in
+        stands_before v (from + 3) a b (stands_after v from (from + 3) (x.0.child ∷ x.0.latch ∷ x.0.next ∷ []) (a ++ b) s (omega arith))
+
+    pub stands_others : (p : Process) (more : Processes) (c : IsCovered p) (from : ℕ) (x : BranchCells (and_member p more)) → Stands v from (branch_bits (and_member p more) x) → Stands v (from + 3 + size_of P p) (branch_bits more x.1)
+    stands_others p more c from x s =
+        let a = bits p x.0.inner in
+        let b = branch_bits more x.1 in
+        stands_after v (from + 3) (from + 3 + size_of P p) a b
+        (stands_after v from (from + 3) (x.0.child ∷ x.0.latch ∷ x.0.next ∷ []) (a ++ b) s (omega arith))
+        (omega (arith, length-bits P p c x.0.inner))
+
+    -- the leaves of a completion tree, and its nodes
+    tree_at : (members : Processes) (c : AreCovered members) (from : ℕ) (x : Cells (side_by_side members)) → Stands v from (bits (side_by_side members) x) → (k : ℕ) → k < joint_count (member_count members)
+        → v (from + branches_size P members + k) ≡ bit_at (joint_count (member_count members)) x.tree k
+    tree_at members c from x s k less =
+        (stands_tree members c from x s).at k (omega (arith, less, length-tree_bits (joint_count (member_count members)) x.tree)) ∙ tree_bit (joint_count (member_count members)) x.tree k
+
+    leaves_alike : (w : ℕ → Bool) (members : Processes) → AreCovered members → (from a : ℕ) (x : BranchCells members) → Stands v from (branch_bits members x) → ((i : ℕ) → i < member_count members → w (a + i) ≡ cell_ends members x i)
+        → Alike v w (branch_ends P members from) (range_with_len a (member_count members))
+    leaves_alike w no_members c from a x s h = tt
+    leaves_alike w (and_member p more) c from a x s h = (
+      s.at 2 (omega arith) ∙ (sym (h 0 (omega arith)) ∙ ap w (let e : a + 0 ≡ a = omega arith in e)),
+      leaves_alike w more c.1 (from + 3 + size_of P p) (a + 1) x.1 (stands_others p more c.0 from x s) (λ i less. ap w (let e : a + 1 + i ≡ a + suc i = omega arith in e) ∙ h (suc i) (omega (arith, less))),
+    )
+
+    joint_told : (members : Processes) → AreCovered members → (from : ℕ) (x : Cells (side_by_side members)) (k : ℕ) → k < joint_count (member_count members) → Stands v from (bits (side_by_side members) x)
+        → Told v (tree_rules (branch_ends P members from) (branches_end P members from)) (from + branches_size P members) k (tree_rule (member_count members) (cell_ends members x.branches) (bit_at (joint_count (member_count members)) x.tree) k)
+    joint_told members c from x k less s =
+        let n = member_count members in
+        let leaf = cell_ends members x.branches in
+        let node = bit_at (joint_count (member_count members)) x.tree in
+        let same = leaves_alike (tree_value n leaf node) members c from 0 x.branches (stands_branches members from x s) (λ i lt. ap (tree_value n leaf node) (let e : 0 + i ≡ i = omega arith in e) ∙ value_leaf n leaf node i lt) in
+        let told = tree_alike v (tree_value n leaf node) (branch_ends P members from) (range_with_len 0 n) (branches_end P members from) n same
+        (λ j lt. ap v (let e : branches_end P members from + j ≡ from + branches_size P members + j = omega (arith, branches_end_is members from) in e) ∙ (tree_at members c from x s j lt ∙ sym (value_node n leaf node j))) k in
+        record { now = tree_at members c from x s k less; up = told.0; down = told.1 }
+
     pub stands_body : (p : Process) (from : ℕ) (x : Cells (repeating p)) → Stands v from (bits (repeating p) x) → Stands v (from + 2) (bits p x.inner)
     stands_body p from x s = stands_after v from (from + 2) (x.answer ∷ x.ask ∷ []) (bits p x.inner) s (omega arith)
 
@@ -182,9 +260,16 @@ module _ (P : TypedProgram) where
       answer_is (sending chan at e) c t from x s = stands_head v from x.answer (pair_bits (gate_count e) x.gates) s
       answer_is (in_turn members) c t from x s = turn_answer_is members c t.1 (omega (arith, t.0)) from x s
       answer_is (repeating p) c t from x s = stands_head v from x.answer (x.ask ∷ bits p x.inner) s
-      answer_is (assigning z at e) c t from x s = absurd c
+      answer_is (assigning z at e) c t from x s =
+          by_number (λ e. (x : Site (gate_count e)) → Stands v from (x.answer ∷ pair_bits (gate_count e) x.gates) → v (number.answer_of P (assigning z at e) from) ≡ x.answer)
+          (λ n k x s. stands_head v from x.answer (pair_bits n x.gates) s) e c x s
       answer_is (receiving chan at z to) c t from x s = absurd c
-      answer_is (side_by_side members) c t from x s = absurd c
+      answer_is (side_by_side members) c t from x s =
+          let n = member_count members in
+          let some : 2 ≤ member_count members = t.0 in
+          ap v (let e : from + (branches_size P members + (member_count members - 1)) - 1 ≡ from + branches_size P members + (member_count members - 2) = omega (arith, some) in e)
+          ∙ (tree_at members c from x s (n - 2) (omega (arith, some, joint_count_is (member_count members)))
+          ∙ sym (answer_value n (cell_ends members x.branches) (bit_at (joint_count (member_count members)) x.tree) some))
       answer_is (choosing again choices) c t from x s = absurd c
 
       pub turn_answer_is : (members : Processes) → AreCovered members → AreProcesses P.channels P.vars members → 1 ≤ member_count members → (from : ℕ) (x : TurnCells members) → Stands v from (turn_bits members x) → v (number.turn_answer P members from) ≡ turn_answer members x
@@ -194,19 +279,19 @@ module _ (P : TypedProgram) where
           turn_answer_is (and_member q more) c.1 t.1 (omega arith) (from + 3 + size_of P p) x.later (stands_later p q more c.0 from x s)
 
     -- the rules of the own nodes, where the channels' acknowledges stand at their numbers
-    module _ (w : Wires) (acks : (k : ℕ) → k < length P.channels → v (ack_at P k) ≡ w.ack k) where
+    module _ (w : Seen) (acks : (k : ℕ) → k < length P.channels → v (ack_at P k) ≡ w.ack (of_channel k)) (puts : (x : ℕ) → x < length P.vars → v (written_at P x) ≡ w.ack (of_var x)) where
       gate_told : (r from i : ℕ) (one : Bool) (e : Formula) → IsNumber e → (g : Pairs (gate_count e)) → i < gate_count e → Stands v from (pair_bits (gate_count e) g) → Told v (formula_rules (bits_at P) e r from) from (rail_place i one) (gate_rule e (v r) g i one)
       gate_told r from i one = by_number (λ e. (g : Pairs (gate_count e)) → i < gate_count e → Stands v from (pair_bits (gate_count e) g) → Told v (formula_rules (bits_at P) e r from) from (rail_place i one) (gate_rule e (v r) g i one)) (λ n k g h s. constant_told v r n k from g i one h s)
 
       mutual
         pub rule_is : (p : Process) → IsCovered p → IsProcess P.channels P.vars p → (r from : ℕ) (x : Cells p) (s : Spot p) → IsFine P p s → Stands v from (bits p x) → Told v (rules_of P p r from) from (place P p s) (rule p w (v r) x s)
         rule_is skipping c t r from x of_skip f s = record { now = s.at 0 (omega arith); up = one_high v r; down = one_low v r }
-        rule_is (sending chan at e) c t r from x of_send f s = record {
+        rule_is (sending chan at e) c t r from x (of_send done) f s = record {
           now = s.at 0 (omega arith);
           up = both_high v r (ack_at P chan) ∙ ap (λ z. v r && z) (acks chan t.within);
           down = one_low v (ack_at P chan) ∙ ap not (acks chan t.within);
         }
-        rule_is (sending chan at e) c t r from x (gate i one) f s =
+        rule_is (sending chan at e) c t r from x (of_send (gate i one)) f s =
             told_within v (formula_rules (bits_at P) e r (from + 1)) (rules_of P (sending chan at e) r from) (from + 1) (rail_place i one) from (suc (rail_place i one)) (gate_rule e (v r) x.gates i one) refl (omega arith)
             (gate_told r (from + 1) i one e c x.gates f (stands_after v from (from + 1) (x.answer ∷ []) (pair_bits (gate_count e) x.gates) s (omega arith)))
         rule_is (in_turn members) c t r from x (in_members z) f s = turn_rule_is members c t.1 r from x z f s
@@ -223,10 +308,66 @@ module _ (P : TypedProgram) where
             told_of v (rules_of P (repeating p) r from) from (suc (suc (place P p z))) (rule p w (v (from + 1)) x.inner z) (rule p w x.ask x.inner z) (ap (λ b. rule p w b x.inner z) b)
             (told_within v (rules_of P p (from + 1) (from + 2)) (rules_of P (repeating p) r from) (from + 2) (place P p z) from (suc (suc (place P p z))) (rule p w (v (from + 1)) x.inner z) refl (omega arith)
             (rule_is p c t (from + 1) (from + 2) x.inner z f (stands_body p from x s)))
-        rule_is (assigning y at e) c t r from x z f s = absurd c
+        rule_is (assigning y at e) c t r from x (of_assign done) f s =
+            by_number (λ e. (x : Site (gate_count e)) → Stands v from (x.answer ∷ pair_bits (gate_count e) x.gates) → Told v (rules_of P (assigning y at e) r from) from 0 (rule_of x.answer (v r && w.ack (of_var y)) (not (w.ack (of_var y)))))
+            (λ n k x s. record {
+              now = s.at 0 (omega arith);
+              up = both_high v r (written_at P y) ∙ ap (λ z. v r && z) (puts y t.0);
+              down = one_low v (written_at P y) ∙ ap not (puts y t.0);
+            })
+            e c x s
+        rule_is (assigning y at e) c t r from x (of_assign (gate i one)) f s =
+            by_number (λ e. (x : Site (gate_count e)) → i < gate_count e → Stands v from (x.answer ∷ pair_bits (gate_count e) x.gates) → Told v (rules_of P (assigning y at e) r from) from (suc (rail_place i one)) (gate_rule e (v r) x.gates i one))
+            (λ n k x f s. told_within v (constant_bits r n k) (rules_of P (assigning y at (constant n k)) r from) (from + 1) (rail_place i one) from (suc (rail_place i one)) (constant_rule n k (v r) x.gates i one) refl (omega arith)
+            (constant_told v r n k (from + 1) x.gates i one f (stands_after v from (from + 1) (x.answer ∷ []) (pair_bits n x.gates) s (omega arith))))
+            e c x f s
         rule_is (receiving chan at y to) c t r from x z f s = absurd c
-        rule_is (side_by_side members) c t r from x z f s = absurd c
+        rule_is (side_by_side members) c t r from x (of_branch z) f s =
+            let here = branches_rules P members r from in
+            let rest = tree_rules (branch_ends P members from) (branches_end P members from) in
+            told_within v here (rules_of P (side_by_side members) r from) from (branch_place P members z) from (branch_place P members z) (branch_rule members w (v r) x.branches z)
+            (get_or_append_left here rest no_rules (branch_place P members z) (omega (arith, branch_place_lt P members c z f, length-branches_rules members c r from))) refl
+            (branch_rule_is members c t.1 r from x.branches z f (stands_branches members from x s))
+        rule_is (side_by_side members) c t r from x (joint k) f s =
+            let here = branches_rules P members r from in
+            let rest = tree_rules (branch_ends P members from) (branches_end P members from) in
+            told_within v rest (rules_of P (side_by_side members) r from) (from + branches_size P members) k from (branches_size P members + k) (tree_rule (member_count members) (cell_ends members x.branches) (bit_at (joint_count (member_count members)) x.tree) k)
+            (ap (λ n. get_or (here ++ rest) (n + k) no_rules) (sym (length-branches_rules members c r from)) ∙ get_or-append-add here rest k no_rules) (omega arith)
+            (joint_told members c from x k f s)
         rule_is (choosing again choices) c t r from x z f s = absurd c
+
+        pub branch_rule_is : (members : Processes) → AreCovered members → AreProcesses P.channels P.vars members → (r from : ℕ) (x : BranchCells members) (s : BranchSpot members) → IsFineBranch P members s → Stands v from (branch_bits members x) → Told v (branches_rules P members r from) from (branch_place P members s) (branch_rule members w (v r) x s)
+        branch_rule_is no_members c t r from x z f s = elim z [ ]
+        branch_rule_is (and_member p more) c t r from x (in_this child) f s =
+            let u : v (from + 1) ≡ x.0.latch = s.at 1 (omega arith) in
+            record { now = s.at 0 (omega arith); up = high_and_low v r (from + 1) ∙ ap (λ b. v r && not b) u; down = one_high v (from + 1) ∙ u }
+        branch_rule_is (and_member p more) c t r from x (in_this latch) f s =
+            let d = answer_is p c.0 t.0 (from + 3) x.0.inner (stands_this p more from x s) in
+            record { now = s.at 1 (omega arith); up = one_high v (number.answer_of P p (from + 3)) ∙ d; down = one_low v r }
+        branch_rule_is (and_member p more) c t r from x (in_this next) f s =
+            let u : v (from + 1) ≡ x.0.latch = s.at 1 (omega arith) in
+            let d = answer_is p c.0 t.0 (from + 3) x.0.inner (stands_this p more from x s) in
+            record {
+              now = s.at 2 (omega arith);
+              up = high_and_low v (from + 1) (number.answer_of P p (from + 3)) ∙ (ap (λ b. b && not (v (number.answer_of P p (from + 3)))) u ∙ ap (λ b. x.0.latch && not b) d);
+              down = one_low v (from + 1) ∙ ap not u;
+            }
+        branch_rule_is (and_member p more) c t r from x (in_this (inner z)) f s =
+            let b : v from ≡ x.0.child = stands_head v from x.0.child (x.0.latch ∷ x.0.next ∷ (bits p x.0.inner ++ branch_bits more x.1)) s in
+            let here = rules_of P p from (from + 3) in
+            let rest = branches_rules P more r (from + 3 + size_of P p) in
+            let k = place P p z in
+            told_of v (branches_rules P (and_member p more) r from) from (suc (suc (suc k))) (rule p w (v from) x.0.inner z) (rule p w x.0.child x.0.inner z) (ap (λ b. rule p w b x.0.inner z) b)
+            (told_within v here (branches_rules P (and_member p more) r from) (from + 3) k from (suc (suc (suc k))) (rule p w (v from) x.0.inner z)
+            (get_or_append_left here rest no_rules k (omega (arith, place_lt P p c.0 z f, length-rules p c.0 from (from + 3)))) (omega arith)
+            (rule_is p c.0 t.0 from (from + 3) x.0.inner z f (stands_this p more from x s)))
+        branch_rule_is (and_member p more) c t r from x (in_others z) f s =
+            let here = rules_of P p from (from + 3) in
+            let rest = branches_rules P more r (from + 3 + size_of P p) in
+            let k = branch_place P more z in
+            told_within v rest (branches_rules P (and_member p more) r from) (from + 3 + size_of P p) k from (suc (suc (suc (size_of P p + k)))) (branch_rule more w (v r) x.1 z)
+            (ap (λ n. get_or (here ++ rest) (n + k) no_rules) (sym (length-rules p c.0 from (from + 3))) ∙ get_or-append-add here rest k no_rules) (omega arith)
+            (branch_rule_is more c.1 t.1 r (from + 3 + size_of P p) x.1 z f (stands_others p more c.0 from x s))
 
         pub turn_rule_is : (members : Processes) → AreCovered members → AreProcesses P.channels P.vars members → (r from : ℕ) (x : TurnCells members) (s : TurnSpot members) → IsFineTurn P members s → Stands v from (turn_bits members x) → Told v (turn_rules P members r from) from (turn_place P members s) (turn_rule members w (v r) x s)
         turn_rule_is no_members c t r from x z f s = elim z [ ]

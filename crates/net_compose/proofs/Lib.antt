@@ -1,10 +1,13 @@
 pub mod Examples
 pub mod NameLemmas
 pub mod Nothing
+pub mod FlatTrees
 pub mod FlatCells
 pub mod FlatRules
 pub mod FlatSites
 pub mod FlatWires
+pub mod FlatBlocks
+pub mod FlatFirst
 pub mod FlatNet
 pub mod CoveredCarried
 pub mod BitNames
@@ -12,3 +15,6 @@ pub mod BitNet
 pub mod BitAccepted
 pub mod Forms
 pub mod Sizes
+pub mod HalvedNumbers
+pub mod HalvedCarried
+pub mod ResetCarried

@@ -14,7 +14,8 @@ use Rattle.width_check.specs.declared.typed.Var.{Var}
 use Rattle.width_check.specs.Processes.{Formula, Process, skipping, assigning, sending, receiving, in_turn, side_by_side, choosing, repeating, Processes, no_members, and_member, member_count, Choices, no_choices, and_choice, choice_count, TypedProgram}
 use Rattle.width_check.specs.Values.{width_of, IsWellFormed}
 use Rattle.width_check.specs.Typing.{channel_width, var_width, ReadsFrom, IsProcess, AreProcesses, AreChoices, IsTyped}
-use Rattle.handshake_expand.specs.Layout.{formula_size, reads, block_size, through_size, size_of, turn_size, branches_size, guards_size, bodies_size, wires_size, wires_before, blocks_before, vars_from, root_request, root_latch, body_from, nodes_of, go_node}
+use Rattle.width_check.specs.Reads.{reads}
+use Rattle.handshake_expand.specs.Layout.{formula_size, block_size, through_size, size_of, turn_size, branches_size, guards_size, bodies_size, wires_size, wires_before, blocks_before, vars_from, root_request, root_latch, body_from, nodes_of, go_node}
 use Rattle.handshake_expand.specs.Answers.{guards_from, bodies_from, select_own, again_own}
 use Rattle.handshake_expand.specs.Named.{numbered_from, wire_names, bit_names, block_names, node_names}
 use Rattle.cell_sequence.specs.Sequence.{q_child, q_latch}
@@ -50,7 +51,7 @@ bits_length : (width from : ℕ) → length (bits_from width from) ≡ width
 bits_length zero from = refl
 bits_length (suc n) from = ap suc (bits_length n (from + 5))
 
-block_length : (width from : ℕ) → length (block_bits width from) ≡ width
+pub block_length : (width from : ℕ) → length (block_bits width from) ≡ width
 block_length width from = length-map (bits_from width from) (λ (b : Bit). b.x) ∙ bits_length width from
 
 has_bits : (p : TypedProgram) → HasBits p.vars (bits_at p)

@@ -1,6 +1,6 @@
 -- What it is for a net to carry a program: whatever the environment offers and in whatever order the gates switch.
 -- How the net was made plays no part in it.
-use Rattle.std.specs.Prelude.{◌≡◌, ◌↔◌, ◌≤◌, ℕ, Bool, true, List, [], ◌++◌, map, length, All, ◌≢◌, codes, None}
+use Rattle.std.specs.Prelude.{◌≡◌, ◌↔◌, ◌≤◌, ℕ, Bool, true, List, [], ◌++◌, map, length, All, ◌≢◌, codes, Some, None}
 use Rattle.prs_core.specs.declared.wires.Wires.{Wires}
 use Rattle.prs_core.specs.Nets.{NetValue, IsNet}
 use Rattle.prs_core.specs.Moves.{high}
@@ -45,10 +45,11 @@ pub record Carries (net : NetValue) (p : TypedProgram) : Type 0 where
       → (moves : List ℕ) → IsRun net script (begin_at net net.first) moves
       → IsCarrying net p script net.first (length moves) moves
 
--- So does every run from power-up, where only moves count that come after reset has fallen; and before that no node
--- moves twice.
+-- So does every run from power-up of a net with a reset node, where only moves count that come after reset has fallen;
+-- and before that no node moves twice.
 pub record CarriesReset (net : NetValue) (p : TypedProgram) : Type 0 where
   pub channels : HasChannels net p
+  pub reset : (node : ℕ) × (net.reset ≡ Some node)
   pub runs : (script : List OfferValue) → IsScript p.channels script
       → (values : List Bool) → IsPowered net values
       → (moves : List ℕ) → IsRun net script (begin_at net values) moves

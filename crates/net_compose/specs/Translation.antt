@@ -10,7 +10,8 @@ use Rattle.prs_core.specs.Pairs.{Pair, pairs_from, rails_of, no_rules, or_of, me
 use Rattle.width_check.specs.declared.typed.Var.{Var}
 use Rattle.width_check.specs.Processes.{Formula, Process, skipping, assigning, sending, receiving, in_turn, side_by_side, choosing, repeating, Processes, no_members, and_member, Choices, no_choices, and_choice, choice_count, TypedProgram}
 use Rattle.width_check.specs.Typing.{channel_width, var_width}
-use Rattle.handshake_expand.specs.Layout.{formula_size, reads, block_size, size_of, channel_from, var_from, root_request, root_latch, body_from, nodes_of, go_node}
+use Rattle.width_check.specs.Reads.{reads}
+use Rattle.handshake_expand.specs.Layout.{formula_size, block_size, size_of, channel_from, var_from, root_request, root_latch, body_from, nodes_of, go_node}
 use Rattle.handshake_expand.specs.Answers.{answer_of, guards_from, bodies_from, select_own, again_own}
 use Rattle.handshake_expand.specs.Named.{node_names}
 use Rattle.cell_sequence.specs.Sequence.{q_child, q_latch, q_next, skip_answer, loop_request}

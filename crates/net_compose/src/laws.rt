@@ -7,15 +7,17 @@ ghost use Rattle.width_check.specs.Typing.{IsTyped};
 ghost use Rattle.circuit_places.specs.Covered.{Covered};
 ghost use Rattle.handshake_expand.specs.Layout.{nodes_of};
 ghost use Rattle.net_compose.specs.Translation.{translation};
-ghost use Rattle.net_compose.specs.Carries.{Carries};
+ghost use Rattle.net_compose.specs.Carries.{Carries, ResetCarries};
 ghost use Rattle.net_compose.specs.Points.{HasPoints};
 ghost use Rattle.net_compose.specs.Sized.{IsOfSize};
 
 use chp_meaning::{one_history, rounds_hold, runs_append, steps_taken};
 use circuit_places::circuits_carry;
+use reset_runs::reset_runs;
 
-/// Law: the net of a covered program carries it. Covered are skip, sequences, loops that go on for ever and sends of
-/// numbers, on channels on which the environment receives, of any width and with any number of sends on each. In every
+/// Law: the net of a covered program carries it. Covered are skip, sequences, parallel compositions, loops that go on for
+/// ever, and assignments and sends of numbers, on channels on which the environment receives, of any width and with any number of sends on
+/// each, under the sharing rule. In every
 /// run of the net, under every script and in whatever order the nodes switch, no enabled move is taken away, no node is
 /// pulled both ways and no channel leaves its phases; what has passed on a channel after some moves is a front of what
 /// has passed there after as many rounds of the program; and at rest it is all of it, the program goes no further, and
@@ -44,4 +46,13 @@ pub fn all_counted()
     function_blocks::laws::bits_counted();
     function_blocks::laws::rules_counted();
     cell_parallel::tree_counted();
+}
+
+/// Law: a net without a reset node that carries a program still does so with one, from every power-up state: until reset
+/// falls each node moves once at most, and it falls only when all nodes have their first values; then the net goes on as
+/// it does without it.
+pub fn carries_reset()
+    ensures { (net : NetValue) (p : TypedProgram) → ResetCarries net p }
+{
+    reset_runs();
 }

@@ -1,5 +1,6 @@
 pub mod Processes
 pub mod Values
+pub mod Reads
 pub mod Typing
 pub mod View
 pub mod Typed

@@ -1,4 +1,4 @@
-use Rattle.cell_parallel.proofs.Sizes.{tree_length}
+use Rattle.cell_parallel.specs.Sizes.{tree_length}
 use Rattle.cell_parallel.proofs.laws.tree_counted.Goals as goal
 
 pub returns : goal.returns

@@ -1,5 +1,5 @@
 use Rattle.std.proofs.Common.{arith, sym, subst, ap, ◌≡◌, ◌+◌, ◌/◌, length, ◌<◌}
-use Rattle.cell_parallel.proofs.Sizes.{next_length}
+use Rattle.cell_parallel.specs.Sizes.{next_length}
 use Rattle.cell_parallel.proofs.Grown.{Grown, grown_more, grown_alone}
 use Rattle.cell_parallel.proofs.tree.emit_tree.Goals as goal
 

@@ -1,7 +1,7 @@
 use Rattle.std.proofs.Common.{◌≡◌, false, ap, sym, ◌∙◌}
 use Rattle.std.specs.Prelude.{◌||◌}
 use Rattle.width_check.specs.View.{formula_of}
-use Rattle.handshake_expand.specs.Layout.{reads, reads_in_operations}
+use Rattle.width_check.specs.Reads.{reads, reads_in_operations}
 use Rattle.handshake_expand.proofs.Rows.{join_is, chain_is, links_of}
 use Rattle.handshake_expand.proofs.expr.+reads.Goals as goal
 

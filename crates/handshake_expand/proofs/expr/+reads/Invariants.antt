@@ -1,5 +1,5 @@
 use Rattle.std.proofs.Common.{◌≡◌, drop}
-use Rattle.handshake_expand.specs.Layout.{reads, reads_in_parts, reads_in_operations}
+use Rattle.width_check.specs.Reads.{reads, reads_in_parts, reads_in_operations}
 use Rattle.width_check.specs.View.{formula_of}
 use Rattle.handshake_expand.proofs.Rows.{parts_of, links_of}
 use Rattle.handshake_expand.proofs.expr.+reads.Given as goal

@@ -1,0 +1,156 @@
+-- What a place shows stands in its statement, and so in one of several branches alone.
+use Rattle.std.proofs.Common.{◌≡◌, ℕ, ◌==◌, Bool, true, false, List, refl, ap, ◌∙◌}
+use Rattle.std.specs.Prelude.{◌||◌}
+use Rattle.width_check.specs.Processes.{Process, Processes, and_member}
+use Rattle.circuit_places.specs.Lines.{Line, of_channel, of_var, same_line}
+use Rattle.circuit_places.proofs.Waves.{held, fst_true}
+use Rattle.circuit_places.proofs.Places.{Mode, GuardedAt, At, TurnAt, BranchesAt, g_in, rests, at_skip, at_assign, at_send, at_turn, at_side, at_body, no_more, and_at, turn_rests, at_last, at_member, at_later, Shown, guarded_shown, shown, turn_shown, branches_shown}
+use Rattle.circuit_places.proofs.Meets.{Fair, sends, turn_sends}
+use Rattle.circuit_places.proofs.Flow.{or_left, or_right, low_of}
+
+-- one of both
+pub either : {A : Type 0} (a b : Bool) → (a || b) ≡ true → (a ≡ true → A) → (b ≡ true → A) → A
+either true b h f g = f refl
+either false b h f g = g h
+
+-- what is held is under way
+mutual
+  pub guarded_offers_talks : {p : Process} {m : Mode} (g : GuardedAt p m) (k : Line) (i : ℕ) (one : Bool) → (guarded_shown g).offer k i one ≡ true → (guarded_shown g).talk k ≡ true
+  guarded_offers_talks (g_in u a h) k i one e = offers_talks a k i one e
+  guarded_offers_talks _ k i one e = absurd (cc e)
+
+  pub offers_talks : {p : Process} {m : Mode} (a : At p m) (k : Line) (i : ℕ) (one : Bool) → (shown a).offer k i one ≡ true → (shown a).talk k ≡ true
+  offers_talks (at_assign {x = x} {w = w} {v = v} m u h) k i one e = fst_true (same_line (of_var x) k) (held w v u i one) e
+  offers_talks (at_send {c = c} {w = w} {v = v} m u h) k i one e = fst_true (same_line (of_channel c) k) (held w v u i one) e
+  offers_talks (at_turn t) k i one e = turn_offers_talks t k i one e
+  offers_talks (at_side m t b h) k i one e = branches_offers_talks b k i one e
+  offers_talks (at_body a) k i one e = offers_talks a k i one e
+  offers_talks rests k i one e = absurd (cc e)
+  offers_talks (at_skip m h) k i one e = absurd (cc e)
+
+  pub branches_offers_talks : {members : Processes} {ks : List Mode} (b : BranchesAt members ks) (k : Line) (i : ℕ) (one : Bool) → (branches_shown b).offer k i one ≡ true → (branches_shown b).talk k ≡ true
+  branches_offers_talks no_more k i one e = absurd (cc e)
+  branches_offers_talks (and_at g b) k i one e =
+      either ((guarded_shown g).offer k i one) ((branches_shown b).offer k i one) e
+      (λ z. or_left ((guarded_shown g).talk k) ((branches_shown b).talk k) (guarded_offers_talks g k i one z))
+      (λ z. or_right ((guarded_shown g).talk k) ((branches_shown b).talk k) (branches_offers_talks b k i one z))
+
+  pub turn_offers_talks : {members : Processes} {m : Mode} (t : TurnAt members m) (k : Line) (i : ℕ) (one : Bool) → (turn_shown t).offer k i one ≡ true → (turn_shown t).talk k ≡ true
+  turn_offers_talks (at_last a) k i one e = offers_talks a k i one e
+  turn_offers_talks (at_member g) k i one e = guarded_offers_talks g k i one e
+  turn_offers_talks (at_later g t h) k i one e = turn_offers_talks t k i one e
+  turn_offers_talks turn_rests k i one e = absurd (cc e)
+
+-- and what is under way is a send of the statement
+mutual
+  pub guarded_talks_sends : {p : Process} {m : Mode} (g : GuardedAt p m) (k : Line) → (guarded_shown g).talk k ≡ true → sends p k ≡ true
+  guarded_talks_sends (g_in u a h) k e = talks_sends a k e
+  guarded_talks_sends _ k e = absurd (cc e)
+
+  pub talks_sends : {p : Process} {m : Mode} (a : At p m) (k : Line) → (shown a).talk k ≡ true → sends p k ≡ true
+  talks_sends (at_assign m u h) k e = e
+  talks_sends (at_send m u h) k e = e
+  talks_sends (at_turn t) k e = turn_talks_sends t k e
+  talks_sends (at_side m t b h) k e = branches_talk_sends b k e
+  talks_sends (at_body a) k e = talks_sends a k e
+  talks_sends rests k e = absurd (cc e)
+  talks_sends (at_skip m h) k e = absurd (cc e)
+
+  pub branches_talk_sends : {members : Processes} {ks : List Mode} (b : BranchesAt members ks) (k : Line) → (branches_shown b).talk k ≡ true → turn_sends members k ≡ true
+  branches_talk_sends no_more k e = absurd (cc e)
+  branches_talk_sends (and_at {p = p} {more = more} g b) k e =
+      either ((guarded_shown g).talk k) ((branches_shown b).talk k) e
+      (λ z. or_left (sends p k) (turn_sends more k) (guarded_talks_sends g k z))
+      (λ z. or_right (sends p k) (turn_sends more k) (branches_talk_sends b k z))
+
+  pub turn_talks_sends : {members : Processes} {m : Mode} (t : TurnAt members m) (k : Line) → (turn_shown t).talk k ≡ true → turn_sends members k ≡ true
+  turn_talks_sends (at_last {p = p} a) k e = or_left (sends p k) false (talks_sends a k e)
+  turn_talks_sends (at_member {p = p} {q = q} {more = more} g) k e = or_left (sends p k) (turn_sends (and_member q more) k) (guarded_talks_sends g k e)
+  turn_talks_sends (at_later {p = p} {q = q} {more = more} g t h) k e = or_right (sends p k) (turn_sends (and_member q more) k) (turn_talks_sends t k e)
+  turn_talks_sends turn_rests k e = absurd (cc e)
+
+-- what has a step is under way
+mutual
+  pub guarded_says_talks : {p : Process} {m : Mode} (g : GuardedAt p m) (k : Line) → (guarded_shown g).says k ≡ true → (guarded_shown g).talk k ≡ true
+  guarded_says_talks (g_in u a h) k e = says_talks a k e
+  guarded_says_talks _ k e = absurd (cc e)
+
+  pub says_talks : {p : Process} {m : Mode} (a : At p m) (k : Line) → (shown a).says k ≡ true → (shown a).talk k ≡ true
+  says_talks (at_assign m u h) k e = e
+  says_talks (at_send m u h) k e = e
+  says_talks (at_turn t) k e = turn_says_talks t k e
+  says_talks (at_side m t b h) k e = branches_say_talk b k e
+  says_talks (at_body a) k e = says_talks a k e
+  says_talks rests k e = absurd (cc e)
+  says_talks (at_skip m h) k e = absurd (cc e)
+
+  pub branches_say_talk : {members : Processes} {ks : List Mode} (b : BranchesAt members ks) (k : Line) → (branches_shown b).says k ≡ true → (branches_shown b).talk k ≡ true
+  branches_say_talk no_more k e = absurd (cc e)
+  branches_say_talk (and_at g b) k e =
+      either ((guarded_shown g).says k) ((branches_shown b).says k) e
+      (λ z. or_left ((guarded_shown g).talk k) ((branches_shown b).talk k) (guarded_says_talks g k z))
+      (λ z. or_right ((guarded_shown g).talk k) ((branches_shown b).talk k) (branches_say_talk b k z))
+
+  pub turn_says_talks : {members : Processes} {m : Mode} (t : TurnAt members m) (k : Line) → (turn_shown t).says k ≡ true → (turn_shown t).talk k ≡ true
+  turn_says_talks (at_last a) k e = says_talks a k e
+  turn_says_talks (at_member g) k e = guarded_says_talks g k e
+  turn_says_talks (at_later g t h) k e = turn_says_talks t k e
+  turn_says_talks turn_rests k e = absurd (cc e)
+
+-- where a site is under way, the rise of its acknowledge is a step (of a variable's line: while no statement receives)
+mutual
+  pub guarded_says_is : {p : Process} {m : Mode} (g : GuardedAt p m) (k : Line) → (guarded_shown g).says k ≡ (guarded_shown g).talk k
+  guarded_says_is (g_in u a h) k = says_is a k
+  guarded_says_is _ k = refl
+
+  pub says_is : {p : Process} {m : Mode} (a : At p m) (k : Line) → (shown a).says k ≡ (shown a).talk k
+  says_is (at_assign m u h) k = refl
+  says_is (at_send m u h) k = refl
+  says_is (at_turn t) k = turn_says_is t k
+  says_is (at_side m t b h) k = branches_say_is b k
+  says_is (at_body a) k = says_is a k
+  says_is rests k = refl
+  says_is (at_skip m h) k = refl
+
+  pub branches_say_is : {members : Processes} {ks : List Mode} (b : BranchesAt members ks) (k : Line) → (branches_shown b).says k ≡ (branches_shown b).talk k
+  branches_say_is no_more k = refl
+  branches_say_is (and_at g b) k = ap (λ z. z || (branches_shown b).says k) (guarded_says_is g k) ∙ ap (λ z. (guarded_shown g).talk k || z) (branches_say_is b k)
+
+  pub turn_says_is : {members : Processes} {m : Mode} (t : TurnAt members m) (k : Line) → (turn_shown t).says k ≡ (turn_shown t).talk k
+  turn_says_is (at_last a) k = says_is a k
+  turn_says_is (at_member g) k = guarded_says_is g k
+  turn_says_is (at_later g t h) k = turn_says_is t k
+  turn_says_is turn_rests k = refl
+
+-- a branch and those beside it
+pub record Beside (p : Process) (more : Processes) (x y : Shown) : Type 0 where
+  pub mine : (k : Line) → x.talk k ≡ true → sends p k ≡ true
+  pub theirs : (k : Line) → y.talk k ≡ true → turn_sends more k ≡ true
+  pub not_theirs : (k : Line) → sends p k ≡ true → y.talk k ≡ false
+  pub not_mine : (k : Line) → turn_sends more k ≡ true → x.talk k ≡ false
+  pub none_theirs : (k : Line) (i : ℕ) (one : Bool) → sends p k ≡ true → y.offer k i one ≡ false
+  pub none_mine : (k : Line) (i : ℕ) (one : Bool) → turn_sends more k ≡ true → x.offer k i one ≡ false
+
+pub beside : {p : Process} {more : Processes} {k : Mode} {ks : List Mode} → Fair p more → (g : GuardedAt p k) (b : BranchesAt more ks) → Beside p more (guarded_shown g) (branches_shown b)
+beside {p = p} {more = more} fair g b = record {
+  mine = guarded_talks_sends g;
+  theirs = branches_talk_sends b;
+  not_theirs = λ k h. low_of ((branches_shown b).talk k) (branches_talk_sends b k) (fair.send k h);
+  not_mine = λ k h. low_of ((guarded_shown g).talk k) (guarded_talks_sends g k) (other k h);
+  none_theirs = λ k i one h. low_of ((branches_shown b).offer k i one) (λ z. branches_talk_sends b k (branches_offers_talks b k i one z)) (fair.send k h);
+  none_mine = λ k i one h. low_of ((guarded_shown g).offer k i one) (λ z. guarded_talks_sends g k (guarded_offers_talks g k i one z)) (other k h);
+}
+  where
+    other : (k : Line) → turn_sends more k ≡ true → sends p k ≡ false
+    other k h = here (sends p k) refl
+      where
+        here : (z : Bool) → sends p k ≡ z → z ≡ false
+        here true e = absurd (cc (fair.send k e, h))
+        here false e = refl
+
+pub or_false_left : (a b : Bool) → a ≡ false → (a || b) ≡ b
+or_false_left a b e = ap (λ z. z || b) e
+
+pub or_false_right : (a b : Bool) → b ≡ false → (a || b) ≡ a
+or_false_right true b e = refl
+or_false_right false b e = e

@@ -1,0 +1,180 @@
+-- Which variables are being written: where a site offers a rail of one under a low acknowledge it is, under a high one it
+-- isn't, and other acknowledges don't matter. What the rails of its value say as a number.
+use Rattle.std.proofs.Common.{◌≡◌, ℕ, zero, suc, ◌+◌, ◌*◌, ◌/◌, ◌%◌, ◌^◌, ◌<◌, ◌==◌, Bool, true, false, List, [], ◌∷◌, length, map, refl, sym, ap, ◌∙◌, arith, All}
+use Rattle.std.proofs.lemmas.Bool.{eqb-true}
+use Rattle.std.proofs.lemmas.List.Elements.{All-head, All-tail}
+use Rattle.std.specs.Prelude.{◌&&◌, ◌||◌, Option, Some, None, slice_index}
+use Rattle.prs_core.specs.Moves.{bit_value, with_bit}
+use Rattle.env_script.specs.Environment.{is_odd}
+use Rattle.width_check.specs.declared.typed.Var.{Var}
+use Rattle.width_check.specs.Processes.{Process, Processes}
+use Rattle.width_check.specs.Typing.{var_width}
+use Rattle.chp_meaning.specs.Halves.{IsSizedVar}
+use Rattle.width_check.specs.Values.{one_if}
+use Rattle.circuit_places.specs.Lines.{Line, of_channel, of_var, same_line, Rails, Seen}
+use Rattle.circuit_places.specs.Circuit.{same_bit}
+use Rattle.circuit_places.specs.Whole.{value_on, first_bit, first_bits}
+use Rattle.circuit_places.proofs.LineNames.{same_number}
+use Rattle.circuit_places.proofs.Waves.{Wave, all_up, none_up, held, none_held, never_and, fst_true, snd_true, both_true}
+use Rattle.circuit_places.proofs.Places.{Mode, idle, running, answered, returning, wave_may, send_fits, under_way, GuardedAt, At, TurnAt, BranchesAt, g_rests, g_in, g_past, g_back, rests, at_skip, at_assign, at_send, at_turn, at_side, at_body, no_more, and_at, turn_rests, at_last, at_member, at_later, guarded_shown, shown, turn_shown, branches_shown, GuardedFits, Fits, TurnFits, BranchesFit, writing, guarded_writing, turn_writing, branches_writing}
+use Rattle.circuit_places.proofs.Flow.{or_left, or_right, cases}
+use Rattle.circuit_places.proofs.Talks.{either}
+
+-- a site that holds a rail under a low acknowledge runs
+held_runs : (m : Mode) (f n a : Bool) → wave_may m f ≡ true → send_fits m f n a ≡ true → n ≡ false → a ≡ false → under_way m a ≡ true
+held_runs idle f n a h k e l = absurd (cc h)
+held_runs running f n a h k e l = ap (λ b. under_way running b) l
+held_runs answered f n a h k e l = absurd (cc (k, l))
+held_runs returning f true a h k e l = absurd (cc e)
+held_runs returning f false a h k e l = absurd (cc (k, l))
+
+site_there : (env : Seen) (y : ℕ) (w v : ℕ) (m : Mode) (u : Wave w) → wave_may m (all_up w u) ≡ true → send_fits m (all_up w u) (none_up w u) (env.ack (of_var y)) ≡ true → (x i : ℕ) (one : Bool) → env.ack (of_var x) ≡ false → ((y == x) && held w v u i one) ≡ true → ((y == x) && under_way m (env.ack (of_var y))) ≡ true
+site_there env y w v m u h f x i one low e =
+    let same = fst_true (y == x) (held w v u i one) e in
+    let some : none_up w u ≡ false = cases (none_up w u) (λ (n : none_up w u ≡ true). absurd (cc (none_held w v u n i one, snd_true (y == x) (held w v u i one) e))) (λ (n : none_up w u ≡ false). n) in
+    both_true (y == x) (under_way m (env.ack (of_var y))) same (held_runs m (all_up w u) (none_up w u) (env.ack (of_var y)) h f some (ap (λ z. env.ack (of_var z)) (same_number y x same) ∙ low))
+
+mutual
+  pub guarded_writing_there : {p : Process} {m : Mode} (env : Seen) (g : GuardedAt p m) → GuardedFits g env → (x i : ℕ) (one : Bool) → env.ack (of_var x) ≡ false → (guarded_shown g).offer (of_var x) i one ≡ true → guarded_writing env.ack g x ≡ true
+  guarded_writing_there env (g_in u a h) f x i one l e = writing_there env a f x i one l e
+  guarded_writing_there env g_rests f x i one l e = absurd (cc e)
+  guarded_writing_there env g_past f x i one l e = absurd (cc e)
+  guarded_writing_there env (g_back u) f x i one l e = absurd (cc e)
+
+  writing_there : {p : Process} {m : Mode} (env : Seen) (a : At p m) → Fits a env → (x i : ℕ) (one : Bool) → env.ack (of_var x) ≡ false → (shown a).offer (of_var x) i one ≡ true → writing env.ack a x ≡ true
+  writing_there env (at_assign {x = y} {w = w} {v = v} m u h) f x i one l e = site_there env y w v m u h f x i one l e
+  writing_there env (at_send m u h) f x i one l e = absurd (cc e)
+  writing_there env (at_turn t) f x i one l e = turn_writing_there env t f x i one l e
+  writing_there env (at_side m t b h) f x i one l e = branches_writing_there env b f x i one l e
+  writing_there env (at_body a) f x i one l e = writing_there env a f x i one l e
+  writing_there env rests f x i one l e = absurd (cc e)
+  writing_there env (at_skip m h) f x i one l e = absurd (cc e)
+
+  branches_writing_there : {members : Processes} {ks : List Mode} (env : Seen) (b : BranchesAt members ks) → BranchesFit b env → (x i : ℕ) (one : Bool) → env.ack (of_var x) ≡ false → (branches_shown b).offer (of_var x) i one ≡ true → branches_writing env.ack b x ≡ true
+  branches_writing_there env no_more f x i one l e = absurd (cc e)
+  branches_writing_there env (and_at g b) f x i one l e =
+      either ((guarded_shown g).offer (of_var x) i one) ((branches_shown b).offer (of_var x) i one) e
+      (λ z. or_left (guarded_writing env.ack g x) (branches_writing env.ack b x) (guarded_writing_there env g f.0 x i one l z))
+      (λ z. or_right (guarded_writing env.ack g x) (branches_writing env.ack b x) (branches_writing_there env b f.1 x i one l z))
+
+  turn_writing_there : {members : Processes} {m : Mode} (env : Seen) (t : TurnAt members m) → TurnFits t env → (x i : ℕ) (one : Bool) → env.ack (of_var x) ≡ false → (turn_shown t).offer (of_var x) i one ≡ true → turn_writing env.ack t x ≡ true
+  turn_writing_there env (at_last a) f x i one l e = writing_there env a f x i one l e
+  turn_writing_there env (at_member g) f x i one l e = guarded_writing_there env g f x i one l e
+  turn_writing_there env (at_later g t h) f x i one l e = turn_writing_there env t f x i one l e
+  turn_writing_there env turn_rests f x i one l e = absurd (cc e)
+
+-- under a high acknowledge nothing is being written
+under_high : (m : Mode) → under_way m true ≡ false
+under_high idle = refl
+under_high running = refl
+under_high answered = refl
+under_high returning = refl
+
+site_low : (ack : Line → Bool) (y x : ℕ) (m : Mode) → ack (of_var x) ≡ true → ((y == x) && under_way m (ack (of_var y))) ≡ false
+site_low ack y x m e = cases (y == x)
+    (λ (h : (y == x) ≡ true). ap (λ b. (y == x) && under_way m b) (ap (λ z. ack (of_var z)) (same_number y x h) ∙ e) ∙ (ap (λ b. (y == x) && b) (under_high m) ∙ never_and (y == x)))
+    (λ (h : (y == x) ≡ false). ap (λ b. b && under_way m (ack (of_var y))) h)
+
+mutual
+  pub guarded_writing_low : {p : Process} {m : Mode} (ack : Line → Bool) (g : GuardedAt p m) (x : ℕ) → ack (of_var x) ≡ true → guarded_writing ack g x ≡ false
+  guarded_writing_low ack (g_in u a h) x e = writing_low ack a x e
+  guarded_writing_low ack g_rests x e = refl
+  guarded_writing_low ack g_past x e = refl
+  guarded_writing_low ack (g_back u) x e = refl
+
+  writing_low : {p : Process} {m : Mode} (ack : Line → Bool) (a : At p m) (x : ℕ) → ack (of_var x) ≡ true → writing ack a x ≡ false
+  writing_low ack (at_assign {x = y} m u h) x e = site_low ack y x m e
+  writing_low ack (at_send m u h) x e = refl
+  writing_low ack (at_turn t) x e = turn_writing_low ack t x e
+  writing_low ack (at_side m t b h) x e = branches_writing_low ack b x e
+  writing_low ack (at_body a) x e = writing_low ack a x e
+  writing_low ack rests x e = refl
+  writing_low ack (at_skip m h) x e = refl
+
+  branches_writing_low : {members : Processes} {ks : List Mode} (ack : Line → Bool) (b : BranchesAt members ks) (x : ℕ) → ack (of_var x) ≡ true → branches_writing ack b x ≡ false
+  branches_writing_low ack no_more x e = refl
+  branches_writing_low ack (and_at g b) x e = ap (λ z. z || branches_writing ack b x) (guarded_writing_low ack g x e) ∙ branches_writing_low ack b x e
+
+  turn_writing_low : {members : Processes} {m : Mode} (ack : Line → Bool) (t : TurnAt members m) (x : ℕ) → ack (of_var x) ≡ true → turn_writing ack t x ≡ false
+  turn_writing_low ack (at_last a) x e = writing_low ack a x e
+  turn_writing_low ack (at_member g) x e = guarded_writing_low ack g x e
+  turn_writing_low ack (at_later g t h) x e = turn_writing_low ack t x e
+  turn_writing_low ack turn_rests x e = refl
+
+-- only the variable's own acknowledge matters
+site_same : (ack now : Line → Bool) (y x : ℕ) (m : Mode) → now (of_var x) ≡ ack (of_var x) → ((y == x) && under_way m (now (of_var y))) ≡ ((y == x) && under_way m (ack (of_var y)))
+site_same ack now y x m e = cases (y == x)
+    (λ (h : (y == x) ≡ true). ap (λ b. (y == x) && under_way m b) (ap (λ z. now (of_var z)) (same_number y x h) ∙ (e ∙ ap (λ z. ack (of_var z)) (sym (same_number y x h)))))
+    (λ (h : (y == x) ≡ false). ap (λ b. b && under_way m (now (of_var y))) h ∙ sym (ap (λ b. b && under_way m (ack (of_var y))) h))
+
+mutual
+  pub guarded_writing_same : {p : Process} {m : Mode} (ack now : Line → Bool) (g : GuardedAt p m) (x : ℕ) → now (of_var x) ≡ ack (of_var x) → guarded_writing now g x ≡ guarded_writing ack g x
+  guarded_writing_same ack now (g_in u a h) x e = writing_same ack now a x e
+  guarded_writing_same ack now g_rests x e = refl
+  guarded_writing_same ack now g_past x e = refl
+  guarded_writing_same ack now (g_back u) x e = refl
+
+  writing_same : {p : Process} {m : Mode} (ack now : Line → Bool) (a : At p m) (x : ℕ) → now (of_var x) ≡ ack (of_var x) → writing now a x ≡ writing ack a x
+  writing_same ack now (at_assign {x = y} m u h) x e = site_same ack now y x m e
+  writing_same ack now (at_send m u h) x e = refl
+  writing_same ack now (at_turn t) x e = turn_writing_same ack now t x e
+  writing_same ack now (at_side m t b h) x e = branches_writing_same ack now b x e
+  writing_same ack now (at_body a) x e = writing_same ack now a x e
+  writing_same ack now rests x e = refl
+  writing_same ack now (at_skip m h) x e = refl
+
+  branches_writing_same : {members : Processes} {ks : List Mode} (ack now : Line → Bool) (b : BranchesAt members ks) (x : ℕ) → now (of_var x) ≡ ack (of_var x) → branches_writing now b x ≡ branches_writing ack b x
+  branches_writing_same ack now no_more x e = refl
+  branches_writing_same ack now (and_at g b) x e = ap (λ z. z || branches_writing now b x) (guarded_writing_same ack now g x e) ∙ ap (λ z. guarded_writing ack g x || z) (branches_writing_same ack now b x e)
+
+  turn_writing_same : {members : Processes} {m : Mode} (ack now : Line → Bool) (t : TurnAt members m) (x : ℕ) → now (of_var x) ≡ ack (of_var x) → turn_writing now t x ≡ turn_writing ack t x
+  turn_writing_same ack now (at_last a) x e = writing_same ack now a x e
+  turn_writing_same ack now (at_member g) x e = guarded_writing_same ack now g x e
+  turn_writing_same ack now (at_later g t h) x e = turn_writing_same ack now t x e
+  turn_writing_same ack now turn_rests x e = refl
+
+-- the number that the rails for the bit 1 say
+abbrev pub number_on : ℕ → Rails → ℕ
+number_on zero rail = 0
+number_on (suc n) rail = one_if (rail zero true) + 2 * number_on n (λ i. rail (suc i))
+
+pub number_told : (n : ℕ) (rail : Rails) (v : ℕ) → value_on n rail ≡ Some v → number_on n rail ≡ v
+number_told zero rail v e = cc e
+number_told (suc n) rail v e = by (rail zero true) (rail zero false) (value_on n (λ i. rail (suc i))) (λ k h. number_told n (λ i. rail (suc i)) k h) refl e
+  where
+    by : (t f : Bool) (r : Option ℕ) → ((k : ℕ) → value_on n (λ i. rail (suc i)) ≡ Some k → number_on n (λ i. rail (suc i)) ≡ k) → value_on n (λ i. rail (suc i)) ≡ r → with_bit (bit_value t f) r ≡ Some v → one_if t + 2 * number_on n (λ i. rail (suc i)) ≡ v
+    by true false (Some k) g h e = ap (λ z. 1 + 2 * z) (g k h) ∙ some_is e
+      where
+        some_is : Some (1 + 2 * k) ≡ Some v → 1 + 2 * k ≡ v
+        some_is e = cc e
+    by false true (Some k) g h e = ap (λ z. 0 + 2 * z) (g k h) ∙ some_is e
+      where
+        some_is : Some (0 + 2 * k) ≡ Some v → 0 + 2 * k ≡ v
+        some_is e = cc e
+    by true true r g h e = absurd (cc e)
+    by false false r g h e = absurd (cc e)
+    by true false None g h e = absurd (cc e)
+    by false true None g h e = absurd (cc e)
+
+-- the first values of variables
+half_below : (v n : ℕ) → v < 2 ^ suc n → v / 2 < 2 ^ n
+half_below v n h = grind arith
+
+halves : (v : ℕ) (o : Bool) → is_odd v ≡ o → one_if (same_bit o true) + 2 * (v / 2) ≡ v
+halves v true h = odd_is (eqb-true (v % 2) 1 h)
+  where
+    odd_is : v % 2 ≡ 1 → 1 + 2 * (v / 2) ≡ v
+    odd_is e = grind arith
+halves v false h = even_is h
+  where
+    even_is : (v % 2 == 1) ≡ false → 0 + 2 * (v / 2) ≡ v
+    even_is e = grind arith
+
+first_number : (n v : ℕ) → v < 2 ^ n → number_on n (first_bit n v) ≡ v
+first_number zero v h = omega (arith, h)
+first_number (suc n) v h = ap (λ z. one_if (same_bit (is_odd v) true) + 2 * z) (first_number n (v / 2) (half_below v n h)) ∙ halves v (is_odd v) refl
+
+pub first_numbers : (vars : List Var) → All IsSizedVar vars → (x : ℕ) → x < length vars → number_on (var_width vars x) (first_bits vars x) ≡ slice_index (map (λ (v : Var). v.first) vars) x
+first_numbers [] each x less = absurd (let g : ⊥ = omega (arith, less) in g)
+first_numbers (v ∷ vs) each zero less = first_number v.width v.first (All-head IsSizedVar v vs each).first
+first_numbers (v ∷ vs) each (suc x) less = first_numbers vs (All-tail IsSizedVar v vs each) x (let g : x < length vs = omega (arith, less) in g)

@@ -1,0 +1,4 @@
+pub mod Driving
+pub mod High
+pub mod Fallen
+pub mod Whole
