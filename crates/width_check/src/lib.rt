@@ -5,8 +5,6 @@ mod declared;
 mod evaluate;
 mod fitting;
 mod operate;
-#[cfg(test)]
-mod tests;
 mod typed;
 mod width;
 

@@ -1,16 +1,16 @@
-//! Programs made by hand, for the tests.
+//! Programs made by hand.
 
 ghost use Rattle.std.specs.Prelude.{◌≡◌, ◌+◌, ◌<◌, ◌≤◌, ◌^◌, [], IfOk};
 ghost use Rattle.width_check.specs.Processes.{reading, sending, receiving, repeating};
 ghost use Rattle.width_check.specs.Sharing.{MeetsSharing, reads_of};
 ghost use Rattle.width_check.specs.View.{formula_of, process_of};
-ghost use Rattle.chp_meaning.specs.Apart.{IsSequential, AreSequential, IsStage, both, alongside_it, here};
+ghost use Rattle.meaning_rows.specs.Apart.{IsSequential, AreSequential, IsStage, both, alongside_it, here};
 ghost use Rattle.chp_meaning.specs.Remaining.{choices_of};
 
+use crate::stop::Stop;
 use chp_base::{Bits, Channel, Kind, Span, name_of};
 use chp_syntax::Op;
 use std::alloc::{AllocError, Global};
-use std::test::Fail;
 use width_check::{TArm, TExpr, TLink, TStmt, Var};
 
 fn at() -> Span
@@ -19,18 +19,18 @@ fn at() -> Span
     Span { from: 0, to: 1 }
 }
 
-pub(crate) fn channel(alloc: Global, name: &[u8], kind: Kind, width: u8) -> Result<Channel, Fail> {
+pub fn channel(alloc: Global, name: &[u8], kind: Kind, width: u8) -> Result<Channel, Stop> {
     let name = name_of(alloc, name)?.ok_or("no name")?;
     Ok(Channel { name, kind, width })
 }
 
-pub(crate) fn var(alloc: Global, name: &[u8], width: u8, first: u64) -> Result<Var, Fail> {
+pub fn var(alloc: Global, name: &[u8], width: u8, first: u64) -> Result<Var, Stop> {
     let name = name_of(alloc, name)?.ok_or("no name")?;
     Ok(Var { name, width, first })
 }
 
 /// The bits from `high` down of a variable.
-pub(crate) fn read(var: u32, high: u8) -> TExpr
+pub fn read(var: u32, high: u8) -> TExpr
     ensures { formula_of result ≡ reading var high 0 here }
 {
     TExpr::Read {
@@ -41,7 +41,7 @@ pub(crate) fn read(var: u32, high: u8) -> TExpr
     }
 }
 
-pub(crate) fn number(width: u8, value: u64) -> TExpr
+pub fn number(width: u8, value: u64) -> TExpr
     requires some { 1 ≤ width }
     requires most { width ≤ 64 }
     requires fits { value < 2 ^ width }
@@ -53,25 +53,20 @@ pub(crate) fn number(width: u8, value: u64) -> TExpr
     }
 }
 
-pub(crate) fn compare(
-    alloc: Global,
-    op: Op,
-    left: TExpr,
-    right: TExpr,
-) -> Result<TExpr, AllocError> {
+pub fn compare(alloc: Global, op: Op, left: TExpr, right: TExpr) -> Result<TExpr, AllocError> {
     let left = Box::new(alloc, left)?;
     let right = Box::new(alloc, right)?;
     Ok(TExpr::Compare { op, left, right })
 }
 
-pub(crate) fn plus(alloc: Global, left: TExpr, right: TExpr) -> Result<TExpr, AllocError> {
+pub fn plus(alloc: Global, left: TExpr, right: TExpr) -> Result<TExpr, AllocError> {
     let first = Box::new(alloc, left)?;
     let mut rest = Vec::new(alloc);
     rest.push(TLink { op: Op::Add, right })?;
     Ok(TExpr::Chain { first, rest })
 }
 
-pub(crate) fn assign(var: u32, value: TExpr) -> TStmt
+pub fn assign(var: u32, value: TExpr) -> TStmt
     ensures { IsSequential (process_of result) }
 {
     TStmt::Assign {
@@ -81,7 +76,7 @@ pub(crate) fn assign(var: u32, value: TExpr) -> TStmt
     }
 }
 
-pub(crate) fn send(chan: u32, value: TExpr) -> TStmt
+pub fn send(chan: u32, value: TExpr) -> TStmt
     ensures made { process_of result ≡ sending chan here (formula_of value) }
     ensures sequential { IsSequential (process_of result) }
 {
@@ -92,7 +87,7 @@ pub(crate) fn send(chan: u32, value: TExpr) -> TStmt
     }
 }
 
-pub(crate) fn receive(chan: u32, var: u32) -> TStmt
+pub fn receive(chan: u32, var: u32) -> TStmt
     ensures made { process_of result ≡ receiving chan here var here }
     ensures sequential { IsSequential (process_of result) }
 {
@@ -105,7 +100,7 @@ pub(crate) fn receive(chan: u32, var: u32) -> TStmt
 }
 
 /// `S; T`
-pub(crate) fn in_turn(alloc: Global, first: TStmt, second: TStmt) -> Result<TStmt, AllocError>
+pub fn in_turn(alloc: Global, first: TStmt, second: TStmt) -> Result<TStmt, AllocError>
     ensures made { IfOk result (λ s. process_of s ≡ both (process_of first) (process_of second)) }
     ensures sequential { IfOk result (λ s. IsSequential (process_of first) → IsSequential (process_of second) → IsSequential (process_of s)) }
 {
@@ -126,7 +121,7 @@ fn beside(alloc: Global, first: TStmt, second: TStmt) -> Result<TStmt, AllocErro
 }
 
 /// `*[S]`
-pub(crate) fn repeat(alloc: Global, body: TStmt) -> Result<TStmt, AllocError>
+pub fn repeat(alloc: Global, body: TStmt) -> Result<TStmt, AllocError>
     ensures made { IfOk result (λ s. process_of s ≡ repeating (process_of body)) }
     ensures sequential { IfOk result (λ s. IsSequential (process_of body) → IsSequential (process_of s)) }
 {
@@ -135,14 +130,14 @@ pub(crate) fn repeat(alloc: Global, body: TStmt) -> Result<TStmt, AllocError>
 }
 
 /// A selection, or a guarded repetition.
-pub(crate) fn select(again: bool, arms: Vec<TArm>) -> TStmt
+pub fn select(again: bool, arms: Vec<TArm>) -> TStmt
     ensures { AreSequential (choices_of arms.items) → IsSequential (process_of result) }
 {
     TStmt::Select { again, arms }
 }
 
 /// `(skip; X?v) || X!1`
-pub(crate) fn meets_late(alloc: Global) -> Result<TStmt, AllocError>
+pub fn meets_late(alloc: Global) -> Result<TStmt, AllocError>
     ensures { IfOk result (λ s. MeetsSharing (process_of s)) }
 {
     let late = in_turn(alloc, TStmt::Skip, receive(0, 0))?;
@@ -150,7 +145,7 @@ pub(crate) fn meets_late(alloc: Global) -> Result<TStmt, AllocError>
 }
 
 /// `*[L?x; R!x]` with the channels of these numbers and the variable of L's number, of 4 bits.
-pub(crate) fn copies(alloc: Global, from: u32, to: u32) -> Result<TStmt, AllocError>
+pub fn copies(alloc: Global, from: u32, to: u32) -> Result<TStmt, AllocError>
     ensures sequential { IfOk result (λ s. IsSequential (process_of s)) }
     ensures stage { IfOk result (λ s. to ≡ from + 1 → IsStage from (process_of s)) }
 {
@@ -159,7 +154,7 @@ pub(crate) fn copies(alloc: Global, from: u32, to: u32) -> Result<TStmt, AllocEr
 }
 
 /// Stages `*[L?x; R!x]` in a row, each of which sends to the next one, with one variable each.
-pub(crate) fn pipeline(alloc: Global, stages: u32) -> Result<TStmt, AllocError>
+pub fn pipeline(alloc: Global, stages: u32) -> Result<TStmt, AllocError>
     requires { stages < 1000 }
     ensures { IfOk result (λ s. MeetsSharing (process_of s)) }
 {

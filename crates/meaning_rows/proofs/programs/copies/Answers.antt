@@ -1,9 +1,9 @@
 use Rattle.std.proofs.Common.{◌≡◌, ◌+◌, ◌∙◌, ap}
 use Rattle.width_check.specs.Processes.{repeating, receiving}
 use Rattle.width_check.specs.View.{process_of, formula_of}
-use Rattle.chp_meaning.specs.Apart.{both, here, IsStage}
-use Rattle.chp_meaning.proofs.Stages.{copy_stage, if_ok_more}
-use Rattle.chp_meaning.proofs.by_hand.copies.Goals as goal
+use Rattle.meaning_rows.specs.Apart.{both, here, IsStage}
+use Rattle.meaning_rows.proofs.Stages.{copy_stage, if_ok_more}
+use Rattle.meaning_rows.proofs.programs.copies.Goals as goal
 
 pub returns-clause-stage : goal.returns-clause-stage
 returns-clause-stage c =

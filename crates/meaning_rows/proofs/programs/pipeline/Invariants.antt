@@ -1,7 +1,7 @@
 use Rattle.std.proofs.Common.{◌≡◌, length}
 use Rattle.chp_meaning.specs.Remaining.{members_of}
-use Rattle.chp_meaning.proofs.Stages.{AreStages}
-use Rattle.chp_meaning.proofs.by_hand.pipeline.Given as goal
+use Rattle.meaning_rows.proofs.Stages.{AreStages}
+use Rattle.meaning_rows.proofs.programs.pipeline.Given as goal
 
 abbrev pub invariant-loop-stage : goal.invariant-loop-stage
 invariant-loop-stage l = record {

@@ -1,9 +1,9 @@
 use Rattle.std.proofs.Common.{◌∙◌, ap}
 use Rattle.width_check.specs.Processes.{skipping}
 use Rattle.width_check.specs.View.{process_of, formula_of}
-use Rattle.chp_meaning.specs.Apart.{both, alongside_it}
-use Rattle.chp_meaning.proofs.Stages.{late_meets, if_ok_more}
-use Rattle.chp_meaning.proofs.by_hand.meets_late.Goals as goal
+use Rattle.meaning_rows.specs.Apart.{both, alongside_it}
+use Rattle.meaning_rows.proofs.Stages.{late_meets, if_ok_more}
+use Rattle.meaning_rows.proofs.programs.meets_late.Goals as goal
 
 pub returns : goal.returns
 returns c =

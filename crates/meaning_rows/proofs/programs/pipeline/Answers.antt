@@ -2,10 +2,10 @@ use Rattle.std.proofs.Common.{◌+◌, length, ap, arith, List, subst, sym, refl
 use Rattle.std.proofs.lemmas.List.{length_push}
 use Rattle.width_check.specs.declared.typed.TStmt.{TStmt}
 use Rattle.width_check.specs.View.{process_of}
-use Rattle.chp_meaning.specs.Apart.{IsStage}
+use Rattle.meaning_rows.specs.Apart.{IsStage}
 use Rattle.chp_meaning.specs.Remaining.{members_of}
-use Rattle.chp_meaning.proofs.Stages.{AreStages, one_more_stage, stages_meet}
-use Rattle.chp_meaning.proofs.by_hand.pipeline.Goals as goal
+use Rattle.meaning_rows.proofs.Stages.{AreStages, one_more_stage, stages_meet}
+use Rattle.meaning_rows.proofs.programs.pipeline.Goals as goal
 
 pub loop-stage-preserved : goal.loop-stage-preserved
 loop-stage-preserved c =

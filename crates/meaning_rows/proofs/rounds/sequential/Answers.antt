@@ -3,8 +3,8 @@ use Rattle.width_check.specs.Sharing.{MeetsSharing}
 use Rattle.width_check.specs.View.{process_of}
 use Rattle.width_check.specs.declared.typed.TStmt.{TStmt}
 use Rattle.width_check.specs.Typed.{TypedValue}
-use Rattle.chp_meaning.proofs.Stages.{sequential_meets, if_ok_more}
-use Rattle.chp_meaning.proofs.tests.sequential.Goals as goal
+use Rattle.meaning_rows.proofs.Stages.{sequential_meets, if_ok_more}
+use Rattle.meaning_rows.proofs.rounds.sequential.Goals as goal
 
 pub returns : goal.returns
 returns c =

@@ -2,9 +2,9 @@ use Rattle.std.proofs.Common.{◌∙◌, ◌++◌, ◌∷◌, [], List, ap, sym,
 use Rattle.width_check.specs.declared.typed.TStmt.{TStmt}
 use Rattle.width_check.specs.Processes.{Process}
 use Rattle.width_check.specs.View.{process_of}
-use Rattle.chp_meaning.specs.Apart.{IsSequential}
-use Rattle.chp_meaning.proofs.Stages.{two_in_turn, both_sequential}
-use Rattle.chp_meaning.proofs.by_hand.in_turn.Goals as goal
+use Rattle.meaning_rows.specs.Apart.{IsSequential}
+use Rattle.meaning_rows.proofs.Stages.{two_in_turn, both_sequential}
+use Rattle.meaning_rows.proofs.programs.in_turn.Goals as goal
 
 pub returns : goal.returns
 returns c =

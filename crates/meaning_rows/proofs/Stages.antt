@@ -13,7 +13,7 @@ use Rattle.width_check.specs.declared.typed.TStmt.{TStmt, Then, Beside, Select}
 use Rattle.width_check.specs.Processes.{Formula, reading, Process, skipping, sending, receiving, repeating, in_turn, side_by_side, Processes, no_members, and_member, Choices, no_choices, and_choice}
 use Rattle.width_check.specs.Sharing.{Deed, reads_var, writes_var, sends_on, receives_on, Occurrence, done_at, reads_of, occurrences, occurrences_of_each, Parallel, ParallelInside, ParallelInChoices, ParallelAcross, Clashes, MeetsSharing}
 use Rattle.width_check.specs.View.{process_of}
-use Rattle.chp_meaning.specs.Apart.{IsSequential, AreSequential, IsStage, stage_of, both, alongside_it, here}
+use Rattle.meaning_rows.specs.Apart.{IsSequential, AreSequential, IsStage, stage_of, both, alongside_it, here}
 use Rattle.chp_meaning.specs.Remaining.{members_of, choices_of}
 use Rattle.chp_meaning.proofs.Rows.{then_is, beside_is, select_is}
 

@@ -1,25 +1,27 @@
-//! Rounds of programs made by hand.
+//! Rounds of programs made by hand, under scripts that are read.
 
 ghost use Rattle.std.specs.Prelude.{◌≡◌, ◌≤◌, length, IfOk};
 ghost use Rattle.width_check.specs.Sharing.{MeetsSharing};
 ghost use Rattle.width_check.specs.View.{process_of};
-ghost use Rattle.chp_meaning.specs.Apart.{IsSequential};
+ghost use Rattle.meaning_rows.specs.Apart.{IsSequential};
 ghost use Rattle.chp_meaning.specs.Ends.{seen, held_in, IsOf};
 
-use crate::by_hand::{
+use crate::programs::{
     assign, channel, compare, copies, in_turn, meets_late, number, pipeline, plus, read, receive,
     select, send, var,
 };
-use crate::{Config, RunEnd, round, run_rounds, start};
+use crate::stop::Stop;
+use case_text::put_numbers;
 use chp_base::{Channel, Kind};
+use chp_meaning::{Config, RunEnd, round, run_rounds, start};
 use chp_syntax::Op;
 use env_script::{ScriptError, read_script};
 use std::alloc::{AllocError, Global};
-use std::test::Fail;
+use std::fmt::Write;
 use width_check::{TArm, TStmt, Typed, Var};
 
 /// The program of these parts.
-fn program(channels: Vec<Channel>, vars: Vec<Var>, body: TStmt) -> Result<Typed, Fail>
+fn program(channels: Vec<Channel>, vars: Vec<Var>, body: TStmt) -> Result<Typed, Stop>
     ensures { IfOk result (λ p. p.body ≡ body) }
 {
     match Typed::new(channels, vars, body) {
@@ -29,7 +31,7 @@ fn program(channels: Vec<Channel>, vars: Vec<Var>, body: TStmt) -> Result<Typed,
 }
 
 /// The program of these parts, without parallel composition.
-fn sequential(channels: Vec<Channel>, vars: Vec<Var>, body: TStmt) -> Result<Typed, Fail>
+fn sequential(channels: Vec<Channel>, vars: Vec<Var>, body: TStmt) -> Result<Typed, Stop>
     requires { IsSequential (process_of body) }
     ensures { IfOk result (λ p. MeetsSharing (process_of p.body)) }
 {
@@ -37,7 +39,7 @@ fn sequential(channels: Vec<Channel>, vars: Vec<Var>, body: TStmt) -> Result<Typ
 }
 
 /// The program under the script of this text, before its first step.
-fn begin(alloc: Global, program: &Typed, script: &[u8]) -> Result<Config, Fail>
+fn begin(alloc: Global, program: &Typed, script: &[u8]) -> Result<Config, Stop>
     requires { length script.now ≤ 2097152 }
     ensures of { IfOk result (λ config. IsOf program.now config) }
     ensures held { IfOk result (λ config. held_in (seen program.now config) ≡ 0) }
@@ -56,9 +58,10 @@ fn run(
     script: &[u8],
     n: u32,
     most: u32,
-) -> Result<(RunEnd, Config), Fail>
+) -> Result<(RunEnd, Config), Stop>
     requires script { length script.now ≤ 2097152 }
     requires sharing { MeetsSharing (process_of program.now.body) }
+    ensures { IfOk result (λ ran. IsOf program.now ran.1) }
 {
     let mut config = begin(alloc, program, script)?;
     let end = run_rounds(alloc, &mut config, program, n, most)?;
@@ -66,8 +69,10 @@ fn run(
 }
 
 /// What has passed on a channel.
-fn passed(config: &Config, chan: u32) -> &[u64] {
-    if (chan as usize) < config.histories.len() {
+fn passed<'a>(config: &'a Config, program: &Typed, chan: u32) -> &'a [u64]
+    requires { IsOf program.now config.now }
+{
+    if (chan as usize) < program.channels().len() {
         config.history(chan)
     } else {
         &[]
@@ -85,7 +90,7 @@ fn increment(alloc: Global, width: u8) -> Result<TStmt, AllocError>
 }
 
 /// `out R : 8; var x : 8 = 255; begin x := x + 1; R!x end`
-fn wraps(alloc: Global) -> Result<Typed, Fail>
+fn wraps(alloc: Global) -> Result<Typed, Stop>
     ensures { IfOk result (λ p. MeetsSharing (process_of p.body)) }
 {
     let channels = vec![in alloc; channel(alloc, b"R", Kind::Out, 8)?]?;
@@ -94,23 +99,50 @@ fn wraps(alloc: Global) -> Result<Typed, Fail>
     sequential(channels, vars, body)
 }
 
-#[test]
-fn wraps_at_the_width(rt: HostRuntime) -> Result<(), Fail> {
-    let alloc = rt.alloc();
+/// Whether the program has ended, and what has passed on each of its channels.
+fn put_config(page: &mut String, config: &Config, program: &Typed) -> Result<(), AllocError>
+    requires { IsOf program.now config.now }
+{
+    page.push_str(if config.is_done() {
+        ", done"
+    } else {
+        ", not done"
+    })?;
+    for chan in 0..program.channels().len() as u32 {
+        page.push_str(";")?;
+        put_numbers(page, passed(config, program, chan))?;
+    }
+    page.push('\n')
+}
+
+/// Prints how so many rounds of the program end.
+fn put_run(
+    alloc: Global,
+    program: &Typed,
+    script: &[u8],
+    n: u32,
+    most: u32,
+    page: &mut String,
+) -> Result<(), Stop>
+    requires script { length script.now ≤ 2097152 }
+    requires sharing { MeetsSharing (process_of program.now.body) }
+{
+    let (end, config) = run(alloc, program, script, n, most)?;
+    write!(page, "{end:?}")?;
+    put_config(page, &config, program)?;
+    Ok(())
+}
+
+fn wraps_at_the_width(alloc: Global, page: &mut String) -> Result<(), Stop> {
     let program = wraps(alloc)?;
-    let (end, config) = run(alloc, &program, b"", 1, 100)?;
-    assert_eq!(rt; end, RunEnd::Spent);
-    assert_eq!(rt; config.is_done(), false);
-    assert_eq!(rt; passed(&config, 0), [].as_slice());
-    let (end, config) = run(alloc, &program, b"", 9, 100)?;
-    assert_eq!(rt; end, RunEnd::Rest);
-    assert_eq!(rt; config.is_done(), true);
-    assert_eq!(rt; passed(&config, 0), [0].as_slice());
+    for rounds in [1, 9] {
+        put_run(alloc, &program, b"", rounds, 100, page)?;
+    }
     Ok(())
 }
 
 /// `in L : 4; out R : 4; var x : 4; begin *[L?x; R!x] end`
-fn copying(alloc: Global) -> Result<Typed, Fail>
+fn copying(alloc: Global) -> Result<Typed, Stop>
     ensures { IfOk result (λ p. MeetsSharing (process_of p.body)) }
 {
     let channels = vec![in alloc;
@@ -121,32 +153,23 @@ fn copying(alloc: Global) -> Result<Typed, Fail>
     sequential(channels, vars, copies(alloc, 0, 1)?)
 }
 
-#[test]
-fn stops_before_too_many(rt: HostRuntime) -> Result<(), Fail> {
-    let alloc = rt.alloc();
+fn stops_before_too_many(alloc: Global, page: &mut String) -> Result<(), Stop> {
     let program = copying(alloc)?;
-    for (most, end, last) in [
-        (5, RunEnd::TooMany, [3, 15].as_slice()),
-        (6, RunEnd::Rest, &[3, 15, 0]),
-    ] {
-        let (ended, config) = run(alloc, &program, b"L: 3 15 0", 1000, most)?;
-        assert_eq!(rt; ended, end);
-        assert_eq!(rt; passed(&config, 0), [3, 15, 0].as_slice());
-        assert_eq!(rt; passed(&config, 1), last);
-        assert_eq!(rt; config.is_done(), false);
+    for most in [5, 6] {
+        put_run(alloc, &program, b"L: 3 15 0", 1000, most, page)?;
     }
     Ok(())
 }
 
 /// `chan X : 1; var v : 1`
-fn inside(alloc: Global) -> Result<(Vec<Channel>, Vec<Var>), Fail> {
+fn inside(alloc: Global) -> Result<(Vec<Channel>, Vec<Var>), Stop> {
     let channels = vec![in alloc; channel(alloc, b"X", Kind::Chan, 1)?]?;
     let vars = vec![in alloc; var(alloc, b"v", 1, 0)?]?;
     Ok((channels, vars))
 }
 
 /// `chan X : 1; var v : 1; begin X!1; X?v end`
-fn waits_for_itself(alloc: Global) -> Result<Typed, Fail>
+fn waits_for_itself(alloc: Global) -> Result<Typed, Stop>
     ensures { IfOk result (λ p. MeetsSharing (process_of p.body)) }
 {
     let (channels, vars) = inside(alloc)?;
@@ -154,41 +177,32 @@ fn waits_for_itself(alloc: Global) -> Result<Typed, Fail>
     sequential(channels, vars, body)
 }
 
-#[test]
-fn never_meets_itself(rt: HostRuntime) -> Result<(), Fail> {
-    let alloc = rt.alloc();
-    let (end, config) = run(alloc, &waits_for_itself(alloc)?, b"", 1000, 100)?;
-    assert_eq!(rt; end, RunEnd::Rest);
-    assert_eq!(rt; config.is_done(), false);
-    assert_eq!(rt; passed(&config, 0), [].as_slice());
-    Ok(())
+fn never_meets_itself(alloc: Global, page: &mut String) -> Result<(), Stop> {
+    put_run(alloc, &waits_for_itself(alloc)?, b"", 1000, 100, page)
 }
 
 /// `chan X : 1; var v : 1; begin (skip; X?v) || X!1 end`
-fn meeting(alloc: Global) -> Result<Typed, Fail>
+fn meeting(alloc: Global) -> Result<Typed, Stop>
     ensures { IfOk result (λ p. MeetsSharing (process_of p.body)) }
 {
     let (channels, vars) = inside(alloc)?;
     program(channels, vars, meets_late(alloc)?)
 }
 
-#[test]
-fn meets_in_the_second_round(rt: HostRuntime) -> Result<(), Fail> {
-    let alloc = rt.alloc();
+fn meets_in_the_second_round(alloc: Global, page: &mut String) -> Result<(), Stop> {
     let program = meeting(alloc)?;
     let mut config = begin(alloc, &program, b"")?;
-    assert_eq!(rt; round(alloc, &mut config, &program)?, true);
-    assert_eq!(rt; passed(&config, 0), [].as_slice());
-    assert_eq!(rt; round(alloc, &mut config, &program)?, true);
-    assert_eq!(rt; passed(&config, 0), [1].as_slice());
-    assert_eq!(rt; config.is_done(), true);
-    assert_eq!(rt; round(alloc, &mut config, &program)?, false);
+    for _round in 0..3 {
+        let is_step = round(alloc, &mut config, &program)?;
+        page.push_str(if is_step { "a step" } else { "no step" })?;
+        put_config(page, &config, &program)?;
+    }
     Ok(())
 }
 
-/// `out A : 1; out B : 1; var x : 2; begin [x = 0 -> A!1 [] x < 2 -> B!1] end` with another first value of x, or the guarded
+/// `out A : 1; out B : 1; var x : 2; begin [x = 0 -> A!1 [] x < 2 -> B!1] end` with some first value of x, or the guarded
 /// repetition of these arms.
-fn chooses(alloc: Global, again: bool, x: u64) -> Result<Typed, Fail>
+fn chooses(alloc: Global, again: bool, x: u64) -> Result<Typed, Stop>
     ensures { IfOk result (λ p. MeetsSharing (process_of p.body)) }
 {
     let channels = vec![in alloc;
@@ -211,28 +225,17 @@ fn chooses(alloc: Global, again: bool, x: u64) -> Result<Typed, Fail>
     sequential(channels, vars, select(again, arms))
 }
 
-#[test]
-fn chooses_where_one_is_true(rt: HostRuntime) -> Result<(), Fail> {
-    let alloc = rt.alloc();
-    for (again, x, end, done, count) in [
-        (false, 0, RunEnd::Rest, false, 0),
-        (false, 1, RunEnd::Rest, true, 1),
-        (false, 2, RunEnd::Rest, false, 0),
-        (true, 0, RunEnd::Rest, false, 0),
-        (true, 1, RunEnd::Spent, false, 2),
-        (true, 2, RunEnd::Rest, true, 0),
-    ] {
-        let (ended, config) = run(alloc, &chooses(alloc, again, x)?, b"", 5, 100)?;
-        assert_eq!(rt; ended, end);
-        assert_eq!(rt; config.is_done(), done);
-        assert_eq!(rt; passed(&config, 0).len(), 0);
-        assert_eq!(rt; passed(&config, 1).len(), count);
+fn chooses_where_one_is_true(alloc: Global, page: &mut String) -> Result<(), Stop> {
+    for again in [false, true] {
+        for x in [0, 1, 2] {
+            put_run(alloc, &chooses(alloc, again, x)?, b"", 5, 100, page)?;
+        }
     }
     Ok(())
 }
 
 /// `out R : 4; var x : 4; begin *[x < 3 -> x := x + 1]; R!x end`
-fn counts(alloc: Global) -> Result<Typed, Fail>
+fn counts(alloc: Global) -> Result<Typed, Stop>
     ensures { IfOk result (λ p. MeetsSharing (process_of p.body)) }
 {
     let channels = vec![in alloc; channel(alloc, b"R", Kind::Out, 4)?]?;
@@ -248,18 +251,12 @@ fn counts(alloc: Global) -> Result<Typed, Fail>
     sequential(channels, vars, body)
 }
 
-#[test]
-fn counts_to_three(rt: HostRuntime) -> Result<(), Fail> {
-    let alloc = rt.alloc();
-    let (end, config) = run(alloc, &counts(alloc)?, b"", 8, 100)?;
-    assert_eq!(rt; end, RunEnd::Rest);
-    assert_eq!(rt; config.is_done(), true);
-    assert_eq!(rt; passed(&config, 0), [3].as_slice());
-    Ok(())
+fn counts_to_three(alloc: Global, page: &mut String) -> Result<(), Stop> {
+    put_run(alloc, &counts(alloc)?, b"", 8, 100, page)
 }
 
 /// 400 stages in a row, between an `in` and an `out` channel.
-fn streams(alloc: Global) -> Result<Typed, Fail>
+fn streams(alloc: Global) -> Result<Typed, Stop>
     ensures { IfOk result (λ p. MeetsSharing (process_of p.body)) }
 {
     let mut channels = vec![in alloc; channel(alloc, b"c0", Kind::In, 4)?]?;
@@ -286,15 +283,37 @@ fn long_script(alloc: Global) -> Result<Vec<u8>, AllocError>
     Ok(text)
 }
 
-// A benchmark. A stage begins again, receives and sends in three rounds, so the value of number n, counted from 0, passes on the
-// channel of number c in round c + 2 + 3 * n.
-#[test]
-fn streams_through_many_stages(rt: HostRuntime) -> Result<(), Fail> {
-    let alloc = rt.alloc();
+// A benchmark. A stage begins again, receives and sends in three rounds, so the value of number n, counted from 0, passes
+// on the channel of number c in round c + 2 + 3 * n.
+fn streams_through_many_stages(alloc: Global, page: &mut String) -> Result<(), Stop> {
     let script = long_script(alloc)?;
-    let (end, config) = run(alloc, &streams(alloc)?, &script, 1000, 1_000_000)?;
-    assert_eq!(rt; end, RunEnd::Spent);
-    assert_eq!(rt; config.is_done(), false);
-    assert_eq!(rt; passed(&config, 399).len(), 200);
+    let program = streams(alloc)?;
+    let (end, config) = run(alloc, &program, &script, 1000, 1_000_000)?;
+    let count = passed(&config, &program, 399).len();
+    let is_done = config.is_done();
+    writeln!(
+        page,
+        "{end:?}, done {is_done}, {count} values behind 400 stages"
+    )?;
     Ok(())
+}
+
+/// The rounds of each program.
+pub fn rows(alloc: Global, page: &mut String) -> Result<(), Stop> {
+    page.push_str("case x := x + 1; R!x, for x of 8 bits that is 255: 1 round, 9 rounds\n")?;
+    wraps_at_the_width(alloc, page)?;
+    page.push_str("case *[L?x; R!x], L: 3 15 0: at most 5 values, at most 6\n")?;
+    stops_before_too_many(alloc, page)?;
+    page.push_str("case X!1; X?v\n")?;
+    never_meets_itself(alloc, page)?;
+    page.push_str("case (skip; X?v) || X!1, round by round\n")?;
+    meets_in_the_second_round(alloc, page)?;
+    page.push_str(
+        "case [x = 0 -> A!1 [] x < 2 -> B!1] and its repetition, for x of 0, 1 and 2: 5 rounds\n",
+    )?;
+    chooses_where_one_is_true(alloc, page)?;
+    page.push_str("case *[x < 3 -> x := x + 1]; R!x: 8 rounds\n")?;
+    counts_to_three(alloc, page)?;
+    page.push_str("case 400 stages, 1,000 values: 1,000 rounds\n")?;
+    streams_through_many_stages(alloc, page)
 }

@@ -1,7 +1,7 @@
 use Rattle.std.proofs.Common.{◌∙◌, ◌++◌, ◌∷◌, [], List, ap}
 use Rattle.width_check.specs.declared.typed.TStmt.{TStmt}
-use Rattle.chp_meaning.proofs.Stages.{two_beside}
-use Rattle.chp_meaning.proofs.by_hand.beside.Goals as goal
+use Rattle.meaning_rows.proofs.Stages.{two_beside}
+use Rattle.meaning_rows.proofs.programs.beside.Goals as goal
 
 pub returns : goal.returns
 returns c =
