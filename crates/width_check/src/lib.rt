@@ -5,7 +5,7 @@ mod declared;
 mod evaluate;
 mod fitting;
 mod operate;
-mod resolve;
+mod resolving;
 #[cfg(test)]
 mod tests;
 mod typed;
@@ -13,6 +13,6 @@ mod width;
 
 pub use evaluate::value;
 pub use operate::operated;
-pub use resolve::resolve;
+pub use resolving::resolve;
 pub use typed::{TArm, TExpr, TLink, TStmt, Typed, Var};
 pub use width::width_of;
