@@ -1,5 +1,5 @@
 -- The order of places is total, and pairs of places are in order by it.
-use Rattle.std.proofs.Common.{◌≡◌, ℕ, ◌<◌, ◌≤◌, ◌⊎◌, inl, inr, Bool, true, false, ltb, refl, sym, ap, ap₂, ◌∙◌, subst, arith, ltb-true, ltb-false, Some, None}
+use Rattle.std.proofs.Common.{◌≡◌, ℕ, ◌⊎◌, inl, inr, Bool, true, false, ltb, refl, sym, ap₂, ◌∙◌, subst, arith, ltb-true, ltb-false}
 use Rattle.chp_base.specs.declared.span.Span.{Span}
 use Rattle.width_check.specs.Order.{IsNoLater}
 use Rattle.sharing_check.specs.declared.clash.Clash.{Clash}

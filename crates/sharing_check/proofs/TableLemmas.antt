@@ -10,9 +10,9 @@ use Rattle.chp_base.specs.declared.span.Span.{Span}
 use Rattle.width_check.specs.Order.{IsNoLater}
 use Rattle.sharing_check.specs.declared.clash.Clash.{Clash}
 use Rattle.sharing_check.specs.Leasts.{IsLeast, IsEither, IsNoLaterPair, IsInOrder}
-use Rattle.sharing_check.specs.Places.{Lookup, Notes, Joins, Meeting}
+use Rattle.sharing_check.specs.Places.{Lookup, Joins, Meeting}
 use Rattle.sharing_check.proofs.Orders.{no_later_refl, no_later_trans, pair_trans, ordered, order_sym, pair_monotone}
-use Rattle.sharing_check.proofs.LeastLemmas.{least_none, least_same, least_refine, least_more, least_both}
+use Rattle.sharing_check.proofs.LeastLemmas.{least_none, least_same, least_more, least_both}
 
 -- a place at which a table has none that is no later
 pub noted : (old new : Option Span) (x name : ℕ) (at : Span) → new ≡ cond (nat_eq name x) (Some at) old → ((s : Span) → name ≡ x → old ≡ Some s → IsNoLater at s)

@@ -11,9 +11,9 @@ use Rattle.width_check.specs.Sharing.{Deed, reads_var, writes_var, sends_on, rec
 use Rattle.sharing_check.specs.declared.clash.Clash.{Clash}
 use Rattle.sharing_check.specs.declared.deeds.Deeds.{Deeds}
 use Rattle.sharing_check.specs.Leasts.{IsLeast, IsEither, IsNoLaterPair, IsInOrder}
-use Rattle.sharing_check.specs.Places.{Lookup, Notes, Joins, Meeting}
-use Rattle.sharing_check.specs.Tells.{IsExclusive, IsCommon, IsPlace, Tells, Adds, Crosses, Merges, IsAlone}
-use Rattle.sharing_check.proofs.Orders.{no_later_refl, no_later_trans, no_later_total, pair_trans, ordered}
+use Rattle.sharing_check.specs.Places.{Lookup, Notes, Joins}
+use Rattle.sharing_check.specs.Tells.{IsExclusive, IsCommon, IsPlace, Tells, Adds, Crosses, Merges}
+use Rattle.sharing_check.proofs.Orders.{no_later_refl, no_later_trans, no_later_total, pair_trans}
 use Rattle.sharing_check.proofs.LeastLemmas.{least_none, least_same, least_refine, least_more, least_both}
 use Rattle.sharing_check.proofs.TableLemmas.{MeetingOf, meeting_there, meeting_below}
 use Rattle.sharing_check.proofs.Pairs.{clashes_sym, parallel_sym, with_member, with_choice, member_occurrences, choice_occurrences, inside_more, more_inside, choice_more, more_choice, members_more, more_members}
@@ -109,6 +109,10 @@ adds_more cause os ps a b d l k = record {
 }
 
 -- ---- statements without parts
+
+-- no two occurrences in the process are parallel
+abbrev pub IsAlone : Process → Type 0
+IsAlone p = (a b : Occurrence) → ¬ Parallel p a b
 
 -- what a statement tells by which no two occurrences are parallel
 pub tells_alone : (cause : FaultCode) (p : Process) (a b : Deeds) → IsAlone p → Tells cause skipping a → Adds cause (occurrences p) a b → Tells cause p b
@@ -478,6 +482,3 @@ no_branch cause d = tells_as cause skipping (side_by_side no_members) d refl (λ
 
 pub no_choice : (cause : FaultCode) (again : Bool) (d : Deeds) → Tells cause skipping d → Tells cause (choosing again no_choices) d
 no_choice cause again d = tells_as cause skipping (choosing again no_choices) d refl (λ u v h. h) (λ u v h. h)
-
-pub none_alone : (p : Process) (cause : FaultCode) → IsAlone p → IsLeast IsNoLaterPair (λ c. SharedAt p cause c.first c.second) None
-none_alone p cause alone = least_none IsNoLaterPair (λ c. SharedAt p cause c.first c.second) (λ c h. alone h.a h.b h.parallel)

@@ -1,5 +1,5 @@
 -- Tables from the numbers of variables or channels to places.
-use Rattle.std.specs.Prelude.{◌≡◌, ◌⊎◌, ℕ, List, Contains, Option, Some}
+use Rattle.std.specs.Prelude.{◌≡◌, ◌⊎◌, ℕ, Option, Some}
 use Rattle.chp_base.specs.declared.span.Span.{Span}
 use Rattle.width_check.specs.Order.{IsNoLater}
 use Rattle.sharing_check.specs.declared.clash.Clash.{Clash}

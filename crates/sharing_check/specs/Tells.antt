@@ -6,7 +6,7 @@ use Rattle.chp_base.specs.declared.fault.FaultCode.{FaultCode}
 use Rattle.chp_base.specs.declared.fault.FaultCode.TheVariants as code
 use Rattle.width_check.specs.Order.{IsNoLater}
 use Rattle.width_check.specs.Processes.{Process}
-use Rattle.width_check.specs.Sharing.{Deed, reads_var, writes_var, sends_on, receives_on, Occurrence, occurrences, Parallel, SharedAt}
+use Rattle.width_check.specs.Sharing.{Deed, reads_var, writes_var, sends_on, receives_on, Occurrence, occurrences, SharedAt}
 use Rattle.sharing_check.specs.declared.clash.Clash.{Clash}
 use Rattle.sharing_check.specs.declared.deeds.Deeds.{Deeds}
 use Rattle.sharing_check.specs.Leasts.{IsLeast, IsEither, IsNoLaterPair}
@@ -53,7 +53,3 @@ pub record Merges (a b : Deeds) (across : Option Clash) (new : Deeds) : Type 0 w
   pub exclusive : Joins (get nat_eq a.exclusive) (get nat_eq b.exclusive) (get nat_eq new.exclusive)
   pub common : Joins (get nat_eq a.common) (get nat_eq b.common) (get nat_eq new.common)
   pub clash : IsLeast IsNoLaterPair (λ c. IsEither a.clash b.clash c ⊎ (across ≡ Some c)) new.clash
-
--- no two occurrences in the process are parallel
-abbrev pub IsAlone : Process → Type 0
-IsAlone p = (a b : Occurrence) → ¬ Parallel p a b

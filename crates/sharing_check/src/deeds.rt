@@ -1,12 +1,12 @@
 //! What statements do that one cause of refusal speaks of, collected from the parts upwards.
 
-ghost use Rattle.std.specs.Prelude.{◌≡◌, [], ◌∷◌, IfOk, OnOk, IfNone};
+ghost use Rattle.std.specs.Prelude.{◌≡◌, [], ◌∷◌, IfOk, OnOk};
 ghost use Rattle.chp_base.specs.declared.fault.FaultCode.{FaultCode};
 ghost use Rattle.width_check.specs.Processes.{skipping, assigning, sending, receiving};
 ghost use Rattle.width_check.specs.Sharing.{reads_var, writes_var, sends_on, receives_on, done_at, reads_of, SharedAt};
 ghost use Rattle.width_check.specs.View.{formula_of, process_of};
 ghost use Rattle.sharing_check.specs.Leasts.{IsLeast, IsNoLaterPair};
-ghost use Rattle.sharing_check.specs.Tells.{Tells, Adds, Crosses, Merges, IsAlone};
+ghost use Rattle.sharing_check.specs.Tells.{Tells, Adds, Crosses, Merges};
 
 use crate::clash::{Clash, sooner};
 use crate::table::{Table, first_meeting, joined, note};
@@ -208,27 +208,14 @@ fn deeds_of(alloc: Global, cause: FaultCode, s: &TStmt) -> Result<Deeds, AllocEr
     }
 }
 
-/// An allocator that the statement holds, or None where it has no parts that could be parallel.
-fn allocator_of(s: &TStmt) -> Option<Global>
-    ensures { IfNone result (IsAlone (process_of s.now)) }
-{
-    match s {
-        TStmt::Skip | TStmt::Assign { .. } | TStmt::Send { .. } | TStmt::Receive { .. } => None,
-        TStmt::Then { parts } | TStmt::Beside { parts } => Some(*parts.allocator()),
-        TStmt::Select { arms, .. } => Some(*arms.allocator()),
-        TStmt::Repeat { body } => allocator_of(body),
-    }
-}
-
 /// The pair of places that is reported for the cause, or None where nothing of the kind is shared.
-pub(crate) fn first_clash(cause: FaultCode, s: &TStmt) -> Result<Option<Clash>, AllocError>
+pub(crate) fn first_clash(
+    alloc: Global,
+    cause: FaultCode,
+    s: &TStmt,
+) -> Result<Option<Clash>, AllocError>
     ensures { IfOk result (IsLeast IsNoLaterPair (λ c. SharedAt (process_of s.now) cause c.first c.second)) }
 {
-    match allocator_of(s) {
-        Some(alloc) => {
-            let deeds = deeds_of(alloc, cause, s)?;
-            Ok(deeds.clash)
-        }
-        None => Ok(None),
-    }
+    let deeds = deeds_of(alloc, cause, s)?;
+    Ok(deeds.clash)
 }

@@ -7,6 +7,7 @@ ghost use Rattle.width_check.specs.Sharing.{MeetsSharing, IsUnshared, IsFirstSha
 
 use crate::deeds::first_clash;
 use chp_base::{Fault, FaultCode, TextError};
+use std::alloc::Global;
 use std::marker::Model;
 use width_check::{TStmt, Typed};
 
@@ -44,12 +45,12 @@ impl Disjoint {
 }
 
 /// Refuses a program where the cause holds at a pair of parallel places.
-fn refuse_shared(cause: FaultCode, body: &TStmt) -> Result<(), TextError>
+fn refuse_shared(alloc: Global, cause: FaultCode, body: &TStmt) -> Result<(), TextError>
     ensures unshared { OnOk result (IsUnshared (process_of body.now) cause) }
     ensures cause { IfErr result (IfRefused (λ f. f.code ≡ cause)) }
     ensures place { IfErr result (IfRefused (λ f. IsFirstShared (process_of body.now) cause f.at f.other)) }
 {
-    match first_clash(cause, body)? {
+    match first_clash(alloc, cause, body)? {
         Some(clash) => Err(TextError::Refused(Fault {
             code: cause,
             at: clash.first,
@@ -65,16 +66,15 @@ fn refuse_shared(cause: FaultCode, body: &TStmt) -> Result<(), TextError>
 /// which two parallel branches send (31) or receive (32), tested in this order. Of the pairs of places for the first of
 /// these causes the one with the least second place is told, and of those the one with the least first place: `at` is
 /// the name at the first place, `other` that at the second. The rule, its order and its places are our profile's. A
-/// program that is refused is dropped. It takes time in proportion to the text times the nesting of its brackets at
-/// most.
-pub fn share(typed: Typed) -> Result<Disjoint, TextError>
+/// program that is refused is dropped.
+pub fn share(alloc: Global, typed: Typed) -> Result<Disjoint, TextError>
     ensures program { IfOk result (λ d. d ≡ typed) }
     ensures meets { OnOk result (MeetsSharing (process_of typed.body)) }
     ensures place { IfErr result (IfRefused (λ f. IsFirstSharedFault (process_of typed.body) sharing_faults f.code f.at f.other)) }
     ensures refused { IfErr result (IfRefused (λ _. ¬ MeetsSharing (process_of typed.body))) }
 {
-    refuse_shared(FaultCode::SharedVariable, typed.body())?;
-    refuse_shared(FaultCode::SharedSend, typed.body())?;
-    refuse_shared(FaultCode::SharedReceive, typed.body())?;
+    refuse_shared(alloc, FaultCode::SharedVariable, typed.body())?;
+    refuse_shared(alloc, FaultCode::SharedSend, typed.body())?;
+    refuse_shared(alloc, FaultCode::SharedReceive, typed.body())?;
     Ok(Disjoint { typed })
 }

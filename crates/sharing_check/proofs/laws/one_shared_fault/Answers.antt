@@ -1,8 +1,8 @@
-use Rattle.std.proofs.Common.{◌≡◌, ◌⊎◌, inl, inr, List, [], ◌∷◌, sym, ◌∙◌, subst}
+use Rattle.std.proofs.Common.{◌≡◌, inl, inr, List, [], ◌∷◌, sym, ◌∙◌, subst}
 use Rattle.chp_base.specs.declared.span.Span.{Span}
 use Rattle.chp_base.specs.declared.fault.FaultCode.{FaultCode}
 use Rattle.width_check.specs.Processes.{Process}
-use Rattle.width_check.specs.Sharing.{MeetsSharing, IsUnshared, SharedAt, IsFirstShared, IsFirstSharedFault, sharing_faults}
+use Rattle.width_check.specs.Sharing.{IsUnshared, SharedAt, IsFirstShared, IsFirstSharedFault, sharing_faults}
 use Rattle.sharing_check.proofs.Orders.{no_later_one}
 use Rattle.sharing_check.proofs.laws.one_shared_fault.Goals as goal
 

@@ -1,4 +1,4 @@
-use Rattle.std.proofs.Common.{◌≡◌, Some, ap, ◌∙◌, ⊎_elim, nat_eq, rules}
+use Rattle.std.proofs.Common.{ap, ◌∙◌, ⊎_elim, nat_eq, rules}
 use Rattle.std.specs.HashMap.{get}
 use Rattle.chp_base.specs.declared.span.Span.{Span}
 use Rattle.width_check.specs.Order.{IsNoLater}

@@ -1,4 +1,4 @@
-use Rattle.std.proofs.Common.{◌≡◌, ℕ, Bor, ◌∷◌, [], List, Some, map, nat_eq, rules, sym, subst}
+use Rattle.std.proofs.Common.{◌≡◌, ℕ, Bor, ◌∷◌, [], List, map, nat_eq, rules, sym, subst}
 use Rattle.std.specs.HashMap.{get, IsUnique}
 use Rattle.std.specs.Map.Iter.{deref_pair}
 use Rattle.std.proofs.lemmas.List.{map-append}
