@@ -58,6 +58,7 @@ module _ (I J : Answer → Type 0) (is : (a : Answer) → I a → J a) where
       since : IsReadFault before after given.tells (given.files name.now) → IsReadFault first after given.tells (given.files name.now)
       since (inl rose) = inl (rose_since early rose)
       since (inr lacks) = inr lacks
+
       missed : Rose before after ⊎ I (misses name.now) → Rose first after ⊎ J (misses name.now)
       missed (inl rose) = inl (rose_since early rose)
       missed (inr answer) = inr (is _ answer)

@@ -23,16 +23,19 @@ returns-in-Err-answer-clause-ended g c =
 pub returns-in-Ok-write_all-clause-ended : goal.returns-in-Ok-write_all-clause-ended
 returns-in-Ok-write_all-clause-ended g c =
     let named : asked_by c.args.words.now ≡ Some (asked c.in-Ok-Some.command) = search rules in
-    let output = c.in-Ok.output in
-    (output.text.items, whole output.end output.text.items (answers_of _ _ (asked c.in-Ok-Some.command) (written output) named c.in-Ok.ensures.answered),
-        rw c.deref.ensures.value at c.in-Ok-write_all.ensures.whole)
+    let output = c.in-Ok.output in (
+      output.text.items,
+      whole output.end output.text.items (answers_of _ _ (asked c.in-Ok-Some.command) (written output) named c.in-Ok.ensures.answered),
+      rw c.deref.ensures.value at c.in-Ok-write_all.ensures.whole,
+    )
 
 pub returns-clause-ended : goal.returns-clause-ended
 returns-clause-ended g c =
     let K = g.K.Sink in
     let named : asked_by c.args.words.now ≡ Some (asked c.in-Ok-Some.command) = search rules in
     let output = c.in-Ok.output in
-    let front = front_of (K.tells c.args.out.now) (K.written c.args.out.now) (K.written c.write_all.new.sink) output.text.items (rw c.deref.ensures.value at c.in-Err-write_all.ensures.prefix) in
-    (take front.0 output.text.items,
-        cut_off output.end output.text.items front.0 (answers_of _ _ (asked c.in-Ok-Some.command) (written output) named c.in-Ok.ensures.answered) c.in-Err-write_all.ensures.failed,
-        front.1)
+    let front = front_of (K.tells c.args.out.now) (K.written c.args.out.now) (K.written c.write_all.new.sink) output.text.items (rw c.deref.ensures.value at c.in-Err-write_all.ensures.prefix) in (
+      take front.0 output.text.items,
+      cut_off output.end output.text.items front.0 (answers_of _ _ (asked c.in-Ok-Some.command) (written output) named c.in-Ok.ensures.answered) c.in-Err-write_all.ensures.failed,
+      front.1,
+    )

@@ -14,4 +14,4 @@ returns-in-Ok-clause-stopped c =
 pub returns-clause-stopped : goal.returns-clause-stopped
 returns-clause-stopped c =
     halts_in (FromNet c.args.text.items Never) (FromNet c.args.text.items MigratesNet) (λ answer is. net_goes is) c.in-Err.stop
-        (rw c.deref.ensures.value at c.in-Err.ensures.stopped)
+    (rw c.deref.ensures.value at c.in-Err.ensures.stopped)
