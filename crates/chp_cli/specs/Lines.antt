@@ -1,29 +1,31 @@
--- How a command ends, and the line that is said of it.
+-- The lines that are said.
 use Rattle.std.specs.Prelude.{ℕ, Bool, true, false, List, [], ◌∷◌, ◌++◌, codes, decimal, if◌then◌else◌}
+use Rattle.std.specs.List.{concat}
 use Rattle.chp_base.specs.declared.span.Span.{Span}
 use Rattle.chp_base.specs.declared.fault.Fault.{Fault}
 use Rattle.chp_base.specs.declared.fault.FaultCode.{FaultCode}
 use Rattle.chp_base.specs.declared.fault.FaultCode.TheVariants as code
 use Rattle.chp_base.specs.Faults.{number_of}
-use Rattle.chp_cli.specs.declared.status.Status.{Status}
-use Rattle.chp_cli.specs.declared.status.Status.TheVariants as status
-use Rattle.chp_cli.specs.declared.outcome.Outcome.{Outcome}
-use Rattle.chp_cli.specs.declared.outcome.Outcome.TheVariants.{Done, RefusedText, Usage, Read, Write, NoMemory, TooLong, BadFile, NotBuilt}
-use Rattle.std.specs.List.{concat}
 use Rattle.prs_file.specs.declared.fault.NetFault.{NetFault}
 use Rattle.prs_file.specs.declared.fault.NetFault.TheVariants as net
 use Rattle.prs_file.specs.Faults.{number_of as net_number}
 
-abbrev pub status_of : Outcome → Status
-status_of Done = status.Done
-status_of (RefusedText fault) = status.RefusedText
-status_of Usage = status.Usage
-status_of Read = status.Read
-status_of Write = status.Write
-status_of NoMemory = status.NoMemory
-status_of (TooLong limit) = status.TooLarge
-status_of (BadFile fault line) = status.BadFile
-status_of NotBuilt = status.NotBuilt
+-- ---- of the call
+
+abbrev pub usage_line : List ℕ
+usage_line = codes "chp: 2 usage\n"
+
+-- a file couldn't be read
+abbrev pub read_line : (name : List ℕ) → List ℕ
+read_line name = concat (codes "chp: 3 read " ∷ name ∷ codes "\n" ∷ [])
+
+abbrev pub write_line : List ℕ
+write_line = codes "chp: 4 write\n"
+
+abbrev pub no_memory_line : List ℕ
+no_memory_line = codes "chp: 6 no memory\n"
+
+-- ---- of a refused program
 
 abbrev pub fault_name : FaultCode → List ℕ
 fault_name code.BadToken = codes "BadToken"
@@ -66,6 +68,15 @@ refused_line f = concat (
     codes "chp: " ∷ decimal (number_of f.code) ∷ codes " " ∷ fault_name f.code ∷ codes " at " ∷ span_text f.at
     ∷ (if has_two_places f.code then codes " and " ++ span_text f.other else []) ∷ codes "\n" ∷ [])
 
+-- the program is read, and the command doesn't serve it yet
+abbrev pub not_built_line : List ℕ
+not_built_line = codes "chp: 19 not built\n"
+
+-- ---- of a file that is too long, and of a refused rule file
+
+abbrev pub too_long_line : (name : List ℕ) → (most : ℕ) → List ℕ
+too_long_line name most = concat (codes "chp: 7 bytes " ∷ name ∷ codes " over " ∷ decimal most ∷ codes "\n" ∷ [])
+
 abbrev pub net_fault_name : NetFault → List ℕ
 net_fault_name net.BadLine = codes "BadLine"
 net_fault_name net.UnknownNode = codes "UnknownNode"
@@ -77,22 +88,7 @@ net_fault_name net.OutOfOrder = codes "OutOfOrder"
 net_fault_name net.DoubleName = codes "DoubleName"
 net_fault_name net.BadFirst = codes "BadFirst"
 
-abbrev pub bad_file_line : NetFault → ℕ → List ℕ
-bad_file_line fault line = concat (
+abbrev pub bad_net_line : NetFault → (line : ℕ) → List ℕ
+bad_net_line fault line = concat (
     codes "chp: 8 " ∷ decimal (net_number fault) ∷ codes " " ∷ net_fault_name fault ∷ codes " at line " ∷ decimal line
     ∷ codes "\n" ∷ [])
-
-abbrev pub too_long_line : List ℕ → ℕ → List ℕ
-too_long_line name limit = concat (codes "chp: 7 bytes " ∷ name ∷ codes " over " ∷ decimal limit ∷ codes "\n" ∷ [])
-
--- the line, where the command's file has this name
-abbrev pub line_of : Outcome → (name : List ℕ) → List ℕ
-line_of Done name = []
-line_of (RefusedText fault) name = refused_line fault
-line_of Usage name = codes "chp: 2 usage\n"
-line_of Read name = concat (codes "chp: 3 read " ∷ name ∷ codes "\n" ∷ [])
-line_of Write name = codes "chp: 4 write\n"
-line_of NoMemory name = codes "chp: 6 no memory\n"
-line_of (TooLong limit) name = too_long_line name limit
-line_of (BadFile fault line) name = bad_file_line fault line
-line_of NotBuilt name = codes "chp: 19 not built\n"
