@@ -5,10 +5,12 @@ mod declared;
 mod evaluate;
 mod fitting;
 mod operate;
+mod resolving;
 mod typed;
 mod width;
 
 pub use evaluate::value;
 pub use operate::operated;
+pub use resolving::resolve;
 pub use typed::{TArm, TExpr, TLink, TStmt, Typed, Var};
 pub use width::width_of;
