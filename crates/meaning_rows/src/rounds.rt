@@ -108,7 +108,10 @@ fn put_config(page: &mut String, config: &Config, program: &Typed) -> Result<(),
     } else {
         ", not done"
     })?;
-    for chan in 0..program.channels().len() as u32 {
+    let Ok(channels) = u32::try_from(program.channels().len()) else {
+        return page.push_str("; too many channels\n");
+    };
+    for chan in 0..channels {
         page.push_str(";")?;
         put_numbers(page, passed(config, program, chan))?;
     }
@@ -189,14 +192,28 @@ fn meeting(alloc: Global) -> Result<Typed, Stop>
     program(channels, vars, meets_late(alloc)?)
 }
 
+/// Makes a round, and prints whether there was a step and how the program stands then.
+fn put_round(
+    alloc: Global,
+    config: &mut Config,
+    program: &Typed,
+    page: &mut String,
+) -> Result<(), AllocError>
+    requires sharing { MeetsSharing (process_of program.now.body) }
+    requires of { IsOf program.now config.old }
+    ensures { IsOf program.now config.new }
+{
+    let is_step = round(alloc, config, program)?;
+    page.push_str(if is_step { "a step" } else { "no step" })?;
+    put_config(page, config, program)
+}
+
 fn meets_in_the_second_round(alloc: Global, page: &mut String) -> Result<(), Stop> {
     let program = meeting(alloc)?;
     let mut config = begin(alloc, &program, b"")?;
-    for _round in 0..3 {
-        let is_step = round(alloc, &mut config, &program)?;
-        page.push_str(if is_step { "a step" } else { "no step" })?;
-        put_config(page, &config, &program)?;
-    }
+    put_round(alloc, &mut config, &program, page)?;
+    put_round(alloc, &mut config, &program, page)?;
+    put_round(alloc, &mut config, &program, page)?;
     Ok(())
 }
 
