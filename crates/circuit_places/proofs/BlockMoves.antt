@@ -393,7 +393,7 @@ module _ (P : TypedProgram) (script : List OfferValue) {m : Mode} {g : GuardedAt
 
 -- go rises
 go_next : (P : TypedProgram) (script : List OfferValue) {w : Wires} (hs : List (List ℕ)) (g : GuardedAt P.body idle) → Good P idle g w → Next P script idle g w hs go_node
-go_next P script {e = e} hs g_rests good = record {
+go_next P script {w = w} hs g_rests good = record {
   mode = running;
   to = g_in false rests refl;
   same = refl;
@@ -420,9 +420,9 @@ next_of P script fitted {m = idle} {g = g} hs good go_node e = go_next P script 
 next_of P script fitted {m = running} hs good go_node e = absurd (cc e)
 next_of P script fitted {m = answered} hs good go_node e = absurd (cc e)
 next_of P script fitted {m = returning} hs good go_node e = absurd (cc e)
-next_of P script fitted {g = g} {e = e} hs good (own_node s) e = own_next P script hs good s e (guarded_advance P (seen P w) (clean_of good) good.meets g s good.fits record { send = λ k i h. good.talk k (sends_merged P P.body good.meets k i) h } e)
+next_of P script fitted {g = g} {w = w} hs good (own_node s) e = own_next P script hs good s e (guarded_advance P (seen P w) (clean_of good) good.meets g s good.fits record { send = λ k i h. good.talk k (sends_merged P P.body good.meets k i) h } e)
 next_of P script fitted hs good (rail_node k i side) e = rail_next P script hs good k i side e
 next_of P script fitted hs good (ack_node k) e = ack_next P script hs good k fitted e
 next_of P script fitted hs good (bit_node x i side) e = bit_next P script hs good x i side e
 next_of P script fitted hs good (wrote_node x i) e = wrote_next P script hs good x i e
-next_of P script fitted {e = e} hs good (joint_node x k) e = joint_next P script hs good x k (joint_some (var_width P.vars x) (w.wrote x) (w.joint x) k e) e
+next_of P script fitted {w = w} hs good (joint_node x k) e = joint_next P script hs good x k (joint_some (var_width P.vars x) (w.wrote x) (w.joint x) k e) e

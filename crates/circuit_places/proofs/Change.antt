@@ -1,6 +1,6 @@
 -- What a move of a channel's wire does to the places that read it.
 use Rattle.std.proofs.Common.{◌≡◌, ℕ, ◌≤◌, ◌==◌, Bool, true, false, List, refl, sym, ap, ◌∙◌}
-use Rattle.std.specs.Prelude.{not, ◌&&◌, if◌then◌else◌, is_some}
+use Rattle.std.specs.Prelude.{not, ◌&&◌, ◌||◌, if◌then◌else◌, is_some}
 use Rattle.chp_base.specs.declared.span.Span.{Span}
 use Rattle.width_check.specs.Processes.{Formula, Process, skipping, assigning, sending, in_turn, side_by_side, repeating, Processes, no_members, and_member, member_count, TypedProgram}
 use Rattle.circuit_places.specs.Lines.{Line, of_channel, of_var, same_line, site_statement, line_width, Rails, Seen}
