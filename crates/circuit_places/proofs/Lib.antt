@@ -10,11 +10,13 @@ pub mod Begin
 pub mod Talks
 pub mod Sides
 pub mod Leaves
+pub mod PortLeaf
 pub mod Control
 pub mod Change
 pub mod Sites
 pub mod Exchange
 pub mod Fires
+pub mod Hears
 pub mod Rest
 pub mod Writing
 pub mod BitTable

@@ -45,14 +45,14 @@ pub low_by : (a b : Bool) → (a ≡ true → b ≡ true) → b ≡ false → a 
 low_by true b f e = absurd (cc (f refl, e))
 low_by false b f e = refl
 
-run_ends : (k a v f n : Bool) → (a ≡ true → k ≡ true) → (k ≡ true → v ≡ true) → (v ≡ true → f ≡ true) → port_ends running k a v f n ≡ true
+pub run_ends : (k a v f n : Bool) → (a ≡ true → k ≡ true) → (k ≡ true → v ≡ true) → (v ≡ true → f ≡ true) → port_ends running k a v f n ≡ true
 run_ends k a v f n p q r = both_true (implies a k) _ (imp a k p) (both_true (implies k v) _ (imp k v q) (imp v f r))
   where
     imp : (x y : Bool) → (x ≡ true → y ≡ true) → implies x y ≡ true
     imp true y f = f refl
     imp false y f = refl
 
-back_ends : (k a v f n : Bool) → (k ≡ true → a ≡ true) → (v ≡ true → k ≡ true) → (v ≡ false → n ≡ true) → (k ≡ false → n ≡ true) → port_ends returning k a v f n ≡ true
+pub back_ends : (k a v f n : Bool) → (k ≡ true → a ≡ true) → (v ≡ true → k ≡ true) → (v ≡ false → n ≡ true) → (k ≡ false → n ≡ true) → port_ends returning k a v f n ≡ true
 back_ends k a v f n p q r s = both_true (implies k a) _ (imp k a p) (both_true (implies v k) _ (imp v k q) (both_true (implies (not v) n) _ (neg v n r) (neg k n s)))
   where
     imp : (x y : Bool) → (x ≡ true → y ≡ true) → implies x y ≡ true
@@ -87,6 +87,12 @@ pub fallen : (q : Rails) (i : ℕ) (one : Bool) → q i one ≡ true → (j : �
 fallen q i one high j side h = cases ((j == i) && same_bit side one)
     (λ (e : ((j == i) && same_bit side one) ≡ true). absurd (cc (turned_there q i one j side e, high, h)))
     (λ (e : ((j == i) && same_bit side one) ≡ false). sym (turned_else q i one j side e) ∙ h)
+
+-- where none of the rails is taken, none is high
+pub port_none : (c x : ℕ) (m : Mode) (k : Bool) (q : Rails) (env : Seen) → PortFits c x m k q env → neutral_on (env.width (of_var x)) q ≡ true → (i : ℕ) (one : Bool) → q i one ≡ false
+port_none c x m k q env f gone i one = cases (q i one)
+    (λ (h : q i one ≡ true). absurd (cc (lows_in (env.width (of_var x)) q gone i one (f.within i one h), h)))
+    (λ (h : q i one ≡ false). h)
 
 -- what a move of a receive comes to: it is one still, or it rests
 pub data PortAfter (c x : ℕ) (env : Seen) (m : Mode) (k : Bool) (q : Rails) (s : PortSpot) : Type 0 where
@@ -207,9 +213,7 @@ module _ (P : TypedProgram) (c x : ℕ) (env : Seen) (clean : Clean P env) (meet
 
   -- none is taken
   none_taken : (k : Bool) (q : Rails) (m : Mode) → PortFits c x m k q env → none q ≡ true → (i : ℕ) (one : Bool) → q i one ≡ false
-  none_taken k q m f gone i one = cases (q i one)
-      (λ (h : q i one ≡ true). absurd (cc (lows_in (env.width (of_var x)) q gone i one (f.within i one h), h)))
-      (λ (h : q i one ≡ false). h)
+  none_taken k q m f gone = port_none c x m k q env f gone
 
   -- the answer rises
   answers : (k : Bool) (q : Rails) → PortFits c x running k q env → ack ≡ true → PortAfter c x env running k q heard
