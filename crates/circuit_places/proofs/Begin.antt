@@ -1,11 +1,12 @@
 -- A statement at rest and answered; what begins where its request rises, and goes on where it falls.
 use Rattle.std.proofs.Common.{◌≡◌, ℕ, zero, suc, ◌==◌, ◌<◌, Bool, true, false, List, [], ◌∷◌, length, refl, sym, ap, ◌∙◌, subst, arith}
-use Rattle.std.specs.Prelude.{not, ◌&&◌, if◌then◌else◌}
+use Rattle.std.specs.Prelude.{not, ◌&&◌, if◌then◌else◌, is_some}
 use Rattle.std.proofs.Math.Path.{fun_ext}
 use Rattle.chp_base.specs.declared.span.Span.{Span}
 use Rattle.width_check.specs.Processes.{Formula, Process, skipping, assigning, sending, receiving, in_turn, side_by_side, choosing, repeating, Processes, no_members, and_member, member_count, TypedProgram}
 use Rattle.chp_meaning.specs.Terms.{Terms, active, opened, opened_turn, opened_each, and_branch, together}
 use Rattle.circuit_places.specs.Lines.{Line, of_channel, of_var, same_line, site_statement, line_width, Rails, Seen}
+use Rattle.circuit_places.specs.Whole.{value_on, neutral_on}
 use Rattle.circuit_places.specs.Circuit.{Pairs, low_pairs, gate_count, Bits, low_guarded, low, low_site, SiteSpot, low_turn, low_branches, low_bits, bit_at, joint_count, GuardedSpot, Spot, TurnSpot, BranchSpot, of_skip, done, gate, of_assign, of_send, of_receive, PortSpot, heard, stored, taking, in_members, of_branch, joint, in_this, in_others, in_last, in_member, in_later}
 use Rattle.function_blocks.specs.Waves.{good, out_rail, full, empty, Waves}
 use Rattle.circuit_places.proofs.RailLemmas.{fst_true, snd_true, never_and, low_out}
@@ -71,6 +72,9 @@ answered_kept k a v f n h = fst_true k _ h
 pub answered_ack : (k a v f n : Bool) → port_ends answered k a v f n ≡ true → a ≡ true
 answered_ack k a v f n h = fst_true a _ (snd_true k _ h)
 
+pub answered_full : (k a v f n : Bool) → port_ends answered k a v f n ≡ true → f ≡ true
+answered_full k a v f n h = snd_true v f (snd_true a (v && f) (snd_true k (a && (v && f)) h))
+
 pub answered_va : (k a v f n : Bool) → port_ends answered k a v f n ≡ true → v ≡ true
 answered_va k a v f n h = fst_true v _ (snd_true a _ (snd_true k _ h))
 
@@ -116,9 +120,9 @@ site_answered_moves P env clean k e u h f done = ap not f.0
 site_answered_moves P env clean k e u h f (gate i one) = h.known.quiet_full env.bit u clean.single f.1 (answered_all (full e u) h.may) i one
 
 -- a receive that answers has all the rails that are there
-port_answered_moves : (env : Seen) (c x : ℕ) (k : Bool) (q : Rails) → PortFits c x answered k q env → (s : PortSpot) → port_moves env c x answered k q s ≡ false
-port_answered_moves env c x k q f heard = ap not (answered_ack k (env.ack (of_channel c)) (env.ack (of_var x)) _ _ f.ends)
-port_answered_moves env c x k q f stored = by k (answered_kept k (env.ack (of_channel c)) (env.ack (of_var x)) _ _ f.ends) (answered_va k (env.ack (of_channel c)) (env.ack (of_var x)) _ _ f.ends)
+pub port_answered_moves : (env : Seen) (c x : ℕ) (k : Bool) (q : Rails) → PortFits c x answered k q env → (s : PortSpot) → port_moves env c x answered k q s ≡ false
+port_answered_moves env c x k q f heard = ap not (answered_ack k (env.ack (of_channel c)) (env.ack (of_var x)) (is_some (value_on (env.width (of_var x)) q)) (neutral_on (env.width (of_var x)) q) f.ends)
+port_answered_moves env c x k q f stored = by k (answered_kept k (env.ack (of_channel c)) (env.ack (of_var x)) (is_some (value_on (env.width (of_var x)) q)) (neutral_on (env.width (of_var x)) q) f.ends) (answered_va k (env.ack (of_channel c)) (env.ack (of_var x)) (is_some (value_on (env.width (of_var x)) q)) (neutral_on (env.width (of_var x)) q) f.ends)
   where
     by : (k : Bool) → k ≡ true → env.ack (of_var x) ≡ true → (if k then not (env.ack (of_var x)) else true && env.ack (of_var x)) ≡ false
     by true e v = ap not v
@@ -128,7 +132,7 @@ port_answered_moves env c x k q f (taking i one) = by (q i one) refl
     by : (b : Bool) → q i one ≡ b → (if b then not true && not (env.rail (of_channel c) i one) else true && env.rail (of_channel c) i one) ≡ false
     by true e = refl
     by false e = cases (env.rail (of_channel c) i one)
-        (λ (z : env.rail (of_channel c) i one ≡ true). absurd (cc (f.behind (answered_kept k (env.ack (of_channel c)) (env.ack (of_var x)) _ _ f.ends) i one z, e)))
+        (λ (z : env.rail (of_channel c) i one ≡ true). absurd (cc (f.behind (answered_kept k (env.ack (of_channel c)) (env.ack (of_var x)) (is_some (value_on (env.width (of_var x)) q)) (neutral_on (env.width (of_var x)) q) f.ends) i one z, e)))
         (λ (z : env.rail (of_channel c) i one ≡ false). z)
 
 mutual
@@ -208,7 +212,8 @@ receive_begun P c x at to env meets low idle_va = record {
   place = at_receive running false (λ i one. false) refl;
   same = refl;
   fits = record {
-    ends = ap (λ a. port_ends running false a (env.ack (of_var x)) _ _) low ∙ ap (λ v. port_ends running false false v _ _) idle_va;
+    ends = ap (λ a. port_ends running false a (env.ack (of_var x)) (is_some (value_on (env.width (of_var x)) (λ i one. false))) (neutral_on (env.width (of_var x)) (λ i one. false))) low
+        ∙ ap (λ v. port_ends running false false v (is_some (value_on (env.width (of_var x)) (λ i one. false))) (neutral_on (env.width (of_var x)) (λ i one. false))) idle_va;
     before = λ e i one h. absurd (cc h);
     behind = λ e i one h. absurd (cc e);
     within = λ i one h. absurd (cc h);
@@ -381,7 +386,7 @@ port_eased false a v f n h = absurd (cc h)
 
 port_lowered : (env : Seen) (c x : ℕ) (k : Bool) (q : Rails) → PortFits c x answered k q env → PortFits c x returning k q env
 port_lowered env c x k q f = record {
-  ends = port_eased k (env.ack (of_channel c)) (env.ack (of_var x)) _ _ f.ends;
+  ends = port_eased k (env.ack (of_channel c)) (env.ack (of_var x)) (is_some (value_on (env.width (of_var x)) q)) (neutral_on (env.width (of_var x)) q) f.ends;
   before = f.before;
   behind = f.behind;
   within = f.within;

@@ -14,9 +14,9 @@ use Rattle.function_blocks.specs.RailFacts.{covered, emptied}
 use Rattle.circuit_places.proofs.RailLemmas.{snd_true, both_true, not_true, told_not_low}
 use Rattle.circuit_places.proofs.Places.{Mode, idle, running, answered, returning, asks, acks, is_idle, inner_may, link, wave_may, SiteMay, SideMay, GuardedAt, At, TurnAt, BranchesAt, g_rests, g_in, g_past, g_back, rests, at_skip, at_assign, at_send, at_receive, at_turn, at_side, at_body, no_more, and_at, turn_rests, at_last, at_member, at_later, Shown, both_shown, guarded_shown, shown, turn_shown, branches_shown, site_shown, site_moves, port_may, port_shown, port_ends, PortFits, port_moves, send_fits, SiteFits, GuardedFits, Fits, TurnFits, BranchesFit, guarded_moves, moves, turn_moves, branch_moves, not_running}
 use Rattle.circuit_places.proofs.Meets.{PortMeets, SiteMeets, site_sends, Meets, TurnMeets, EachMeets, sends, turn_sends, receives, each_receives}
-use Rattle.circuit_places.proofs.Flow.{low_of, or_left, or_right, cases}
+use Rattle.circuit_places.proofs.Flow.{neither_left, neither_right, low_of, or_left, or_right, cases}
 use Rattle.circuit_places.proofs.LineNames.{self_number, same_number, self_line, same_line_is}
-use Rattle.circuit_places.proofs.Begin.{answered_all, answered_kept, answered_ack, answered_va, port_answered_moves}
+use Rattle.circuit_places.proofs.Begin.{answered_all, answered_full, answered_kept, answered_ack, answered_va, port_answered_moves}
 use Rattle.circuit_places.proofs.PortLeaf.{runs_kept, runs_va, runs_full, back_ack, back_kept, back_none, back_gone, low_by, run_ends, back_ends, still_high, fallen, port_none}
 use Rattle.circuit_places.proofs.Talks.{Beside, beside, or_false_right, or_false_left}
 
@@ -191,14 +191,6 @@ ready_down c rail busy = record {
 pub record Kept (c : Line) (rail : Rails) (p : Process) (x : Shown) : Type 0 where
   pub offer : (i : ℕ) (one : Bool) → x.offer c i one ≡ true → rail i one ≡ true
   pub take : (d : ℕ) → same_line (of_channel d) c ≡ true → x.take d ≡ false
-
-neither_left : (a b : Bool) → (a || b) ≡ false → a ≡ false
-neither_left true b h = absurd (cc h)
-neither_left false b h = refl
-
-neither_right : (a b : Bool) → (a || b) ≡ false → b ≡ false
-neither_right true b h = absurd (cc h)
-neither_right false b h = h
 
 pub kept_down : (c : Line) (rail : Rails) → Handed (Kept c rail)
 kept_down c rail = record {
@@ -399,15 +391,15 @@ raise_leaves P env now c busy t low some wide = record { at_sites = the_site; at
         raised : (d x : ℕ) (m : Mode) (l : Bool) (q : Rails) → port_may m l ≡ true → now.ack (of_channel d) ≡ env.ack (of_channel d) → now.rail (of_channel d) ≡ env.rail (of_channel d) → now.width ≡ env.width → env.ack (of_var x) ≡ false → now.ack (of_var x) ≡ true
             → is_some (value_on (env.width (of_var x)) q) ≡ true → neutral_on (env.width (of_var x)) q ≡ false → PortFits d x m l q env → PortChanged d x m l q env now
         raised d x idle l q h same rail widths v w all part f = absurd (cc h)
-        raised d x answered l q h same rail widths v w all part f = absurd (cc (answered_va l (env.ack (of_channel d)) (env.ack (of_var x)) _ _ f.ends, v))
-        raised d x returning l q h same rail widths v w all part f = absurd (cc (back_none l (env.ack (of_channel d)) (env.ack (of_var x)) _ _ f.ends v, part))
+        raised d x answered l q h same rail widths v w all part f = absurd (cc (answered_va l (env.ack (of_channel d)) (env.ack (of_var x)) (is_some (value_on (env.width (of_var x)) q)) (neutral_on (env.width (of_var x)) q) f.ends, v))
+        raised d x returning l q h same rail widths v w all part f = absurd (cc (back_none l (env.ack (of_channel d)) (env.ack (of_var x)) (is_some (value_on (env.width (of_var x)) q)) (neutral_on (env.width (of_var x)) q) f.ends v, part))
         raised d x running l q h same rail widths v w all part f =
-            let gone = low_by l (env.ack (of_var x)) (runs_va l (env.ack (of_channel d)) (env.ack (of_var x)) _ _ f.ends) v in
-            let quiet = low_by (env.ack (of_channel d)) l (runs_kept l (env.ack (of_channel d)) (env.ack (of_var x)) _ _ f.ends) gone in
+            let gone = low_by l (env.ack (of_var x)) (runs_va l (env.ack (of_channel d)) (env.ack (of_var x)) (is_some (value_on (env.width (of_var x)) q)) (neutral_on (env.width (of_var x)) q) f.ends) v in
+            let quiet = low_by (env.ack (of_channel d)) l (runs_kept l (env.ack (of_channel d)) (env.ack (of_var x)) (is_some (value_on (env.width (of_var x)) q)) (neutral_on (env.width (of_var x)) q) f.ends) gone in
             record {
               fits = record {
                 ends = ap (λ (u : Line → ℕ). port_ends running l (now.ack (of_channel d)) (now.ack (of_var x)) (is_some (value_on (u (of_var x)) q)) (neutral_on (u (of_var x)) q)) widths
-                    ∙ run_ends l (now.ack (of_channel d)) (now.ack (of_var x)) _ _ (λ e. absurd (cc (sym same ∙ e, quiet))) (λ e. absurd (cc (e, gone))) (λ e. all);
+                    ∙ run_ends l (now.ack (of_channel d)) (now.ack (of_var x)) (is_some (value_on (env.width (of_var x)) q)) (neutral_on (env.width (of_var x)) q) (λ e. absurd (cc (sym same ∙ e, quiet))) (λ e. absurd (cc (e, gone))) (λ e. all);
                 before = λ y i one r. ap (λ (g : Rails). g i one) rail ∙ f.before y i one r;
                 behind = λ y i one r. f.behind y i one (sym (ap (λ (g : Rails). g i one) rail) ∙ r);
                 within = λ i one r. subst (λ (u : Line → ℕ). i < u (of_var x)) (sym widths) (f.within i one r);
@@ -428,15 +420,15 @@ raise_leaves P env now c busy t low some wide = record { at_sites = the_site; at
       where
         raised : (m : Mode) → port_may m l ≡ true → PortFits d x m l q env → env.ack (of_channel d) ≡ false → now.ack (of_channel d) ≡ true → PortChanged d x m l q env now
         raised idle h f a b = absurd (cc h)
-        raised answered h f a b = absurd (cc (answered_ack l (env.ack (of_channel d)) (env.ack (of_var x)) _ _ f.ends, a))
-        raised returning h f a b = absurd (cc (back_ack l (env.ack (of_channel d)) (env.ack (of_var x)) _ _ f.ends kept, a))
+        raised answered h f a b = absurd (cc (answered_ack l (env.ack (of_channel d)) (env.ack (of_var x)) (is_some (value_on (env.width (of_var x)) q)) (neutral_on (env.width (of_var x)) q) f.ends, a))
+        raised returning h f a b = absurd (cc (back_ack l (env.ack (of_channel d)) (env.ack (of_var x)) (is_some (value_on (env.width (of_var x)) q)) (neutral_on (env.width (of_var x)) q) f.ends kept, a))
         raised running h f a b =
-            let done = runs_va l (env.ack (of_channel d)) (env.ack (of_var x)) _ _ f.ends kept in
-            let all = runs_full l (env.ack (of_channel d)) (env.ack (of_var x)) _ _ f.ends done in
+            let done = runs_va l (env.ack (of_channel d)) (env.ack (of_var x)) (is_some (value_on (env.width (of_var x)) q)) (neutral_on (env.width (of_var x)) q) f.ends kept in
+            let all = runs_full l (env.ack (of_channel d)) (env.ack (of_var x)) (is_some (value_on (env.width (of_var x)) q)) (neutral_on (env.width (of_var x)) q) f.ends done in
             record {
               fits = record {
                 ends = ap (λ (u : Line → ℕ). port_ends running l (now.ack (of_channel d)) (now.ack (of_var x)) (is_some (value_on (u (of_var x)) q)) (neutral_on (u (of_var x)) q)) t.widths
-                    ∙ run_ends l (now.ack (of_channel d)) (now.ack (of_var x)) _ _ (λ e. kept) (λ e. same ∙ done) (λ e. all);
+                    ∙ run_ends l (now.ack (of_channel d)) (now.ack (of_var x)) (is_some (value_on (env.width (of_var x)) q)) (neutral_on (env.width (of_var x)) q) (λ e. kept) (λ e. same ∙ done) (λ e. all);
                 before = λ y i one r. absurd (cc (y, kept));
                 behind = λ y i one r. f.behind y i one (sym (ap (λ (g : Rails). g i one) (t.rails d meets.heard)) ∙ r);
                 within = λ i one r. subst (λ (u : Line → ℕ). i < u (of_var x)) (sym t.widths) (f.within i one r);
@@ -510,14 +502,14 @@ lower_leaves P env now c t high lows wide = record { at_sites = the_site; at_por
         lowered : (d x : ℕ) (m : Mode) (l : Bool) (q : Rails) → port_may m l ≡ true → now.ack (of_channel d) ≡ env.ack (of_channel d) → now.rail (of_channel d) ≡ env.rail (of_channel d) → now.width ≡ env.width → env.ack (of_var x) ≡ true → now.ack (of_var x) ≡ false
             → neutral_on (env.width (of_var x)) q ≡ true → is_some (value_on (env.width (of_var x)) q) ≡ false → PortFits d x m l q env → PortChanged d x m l q env now
         lowered d x idle l q h same rail widths v w gone none f = absurd (cc h)
-        lowered d x running l q h same rail widths v w gone none f = absurd (cc (runs_full l (env.ack (of_channel d)) (env.ack (of_var x)) _ _ f.ends v, none))
-        lowered d x answered l q h same rail widths v w gone none f = absurd (cc (snd_true (env.ack (of_var x)) _ (snd_true (env.ack (of_channel d)) _ (snd_true l _ f.ends)), none))
+        lowered d x running l q h same rail widths v w gone none f = absurd (cc (runs_full l (env.ack (of_channel d)) (env.ack (of_var x)) (is_some (value_on (env.width (of_var x)) q)) (neutral_on (env.width (of_var x)) q) f.ends v, none))
+        lowered d x answered l q h same rail widths v w gone none f = absurd (cc (answered_full l (env.ack (of_channel d)) (env.ack (of_var x)) (is_some (value_on (env.width (of_var x)) q)) (neutral_on (env.width (of_var x)) q) f.ends, none))
         lowered d x returning l q h same rail widths v w gone none f =
-            let kept = back_kept l (env.ack (of_channel d)) (env.ack (of_var x)) _ _ f.ends v in
+            let kept = back_kept l (env.ack (of_channel d)) (env.ack (of_var x)) (is_some (value_on (env.width (of_var x)) q)) (neutral_on (env.width (of_var x)) q) f.ends v in
             record {
               fits = record {
                 ends = ap (λ (u : Line → ℕ). port_ends returning l (now.ack (of_channel d)) (now.ack (of_var x)) (is_some (value_on (u (of_var x)) q)) (neutral_on (u (of_var x)) q)) widths
-                    ∙ back_ends l (now.ack (of_channel d)) (now.ack (of_var x)) _ _ (λ e. same ∙ back_ack l (env.ack (of_channel d)) (env.ack (of_var x)) _ _ f.ends e) (λ e. kept) (λ e. gone) (λ e. gone);
+                    ∙ back_ends l (now.ack (of_channel d)) (now.ack (of_var x)) (is_some (value_on (env.width (of_var x)) q)) (neutral_on (env.width (of_var x)) q) (λ e. same ∙ back_ack l (env.ack (of_channel d)) (env.ack (of_var x)) (is_some (value_on (env.width (of_var x)) q)) (neutral_on (env.width (of_var x)) q) f.ends e) (λ e. kept) (λ e. gone) (λ e. gone);
                 before = λ y i one r. absurd (cc (y, kept));
                 behind = λ y i one r. f.behind y i one (sym (ap (λ (g : Rails). g i one) rail) ∙ r);
                 within = λ i one r. subst (λ (u : Line → ℕ). i < u (of_var x)) (sym widths) (f.within i one r);
@@ -537,14 +529,14 @@ lower_leaves P env now c t high lows wide = record { at_sites = the_site; at_por
       where
         fallen : (m : Mode) → port_may m l ≡ true → PortFits d x m l q env → env.ack (of_channel d) ≡ true → now.ack (of_channel d) ≡ false → PortChanged d x m l q env now
         fallen idle h f a b = absurd (cc h)
-        fallen running h f a b = absurd (cc (runs_kept l (env.ack (of_channel d)) (env.ack (of_var x)) _ _ f.ends a, gone))
-        fallen answered h f a b = absurd (cc (answered_kept l (env.ack (of_channel d)) (env.ack (of_var x)) _ _ f.ends, gone))
+        fallen running h f a b = absurd (cc (runs_kept l (env.ack (of_channel d)) (env.ack (of_var x)) (is_some (value_on (env.width (of_var x)) q)) (neutral_on (env.width (of_var x)) q) f.ends a, gone))
+        fallen answered h f a b = absurd (cc (answered_kept l (env.ack (of_channel d)) (env.ack (of_var x)) (is_some (value_on (env.width (of_var x)) q)) (neutral_on (env.width (of_var x)) q) f.ends, gone))
         fallen returning h f a b =
-            let none = back_gone l (env.ack (of_channel d)) (env.ack (of_var x)) _ _ f.ends gone in
+            let none = back_gone l (env.ack (of_channel d)) (env.ack (of_var x)) (is_some (value_on (env.width (of_var x)) q)) (neutral_on (env.width (of_var x)) q) f.ends gone in
             record {
               fits = record {
                 ends = ap (λ (u : Line → ℕ). port_ends returning l (now.ack (of_channel d)) (now.ack (of_var x)) (is_some (value_on (u (of_var x)) q)) (neutral_on (u (of_var x)) q)) t.widths
-                    ∙ back_ends l (now.ack (of_channel d)) (now.ack (of_var x)) _ _ (λ e. absurd (cc (e, gone))) (λ e. back_kept l (env.ack (of_channel d)) (env.ack (of_var x)) _ _ f.ends (sym same ∙ e)) (λ e. none) (λ e. none);
+                    ∙ back_ends l (now.ack (of_channel d)) (now.ack (of_var x)) (is_some (value_on (env.width (of_var x)) q)) (neutral_on (env.width (of_var x)) q) (λ e. absurd (cc (e, gone))) (λ e. back_kept l (env.ack (of_channel d)) (env.ack (of_var x)) (is_some (value_on (env.width (of_var x)) q)) (neutral_on (env.width (of_var x)) q) f.ends (sym same ∙ e)) (λ e. none) (λ e. none);
                 before = λ y i one r. ap (λ (g : Rails). g i one) (t.rails d meets.heard) ∙ f.before y i one r;
                 behind = λ y i one r. absurd (cc (y, gone));
                 within = λ i one r. subst (λ (u : Line → ℕ). i < u (of_var x)) (sym t.widths) (f.within i one r);
@@ -610,7 +602,7 @@ rail_up_leaves P env now c i one t low = record {
             by true z = absurd (cc z)
             by false z = ap (λ (g : Rails). g j b) t.here ∙ still_high (env.rail (of_channel c)) i one low j b z
         keeps returning h f (taking j b) z =
-            let none = back_gone l (env.ack (of_channel c)) (env.ack (of_var x)) _ _ f.ends gone in
+            let none = back_gone l (env.ack (of_channel c)) (env.ack (of_var x)) (is_some (value_on (env.width (of_var x)) q)) (neutral_on (env.width (of_var x)) q) f.ends gone in
             absurd (cc (ap (λ y. if y then not false && not (env.rail (of_channel c) j b) else false && env.rail (of_channel c) j b) (port_none c x returning l q env f none j b), z))
 
     the_port : (d x : ℕ) (at to : Span) (m : Mode) (l : Bool) (q : Rails) → port_may m l ≡ true → PortMeets P d x → Free c (receiving d at x to) (port_shown d x l q) → PortFits d x m l q env → PortChanged d x m l q env now
@@ -643,9 +635,9 @@ rail_down_leaves P env now c i one t top high = record {
         -- what hasn't stored has let go
         taken_none : (m : Mode) → port_may m l ≡ true → l ≡ false → PortFits c x m l q env → (j : ℕ) (b : Bool) → q j b ≡ false
         taken_none idle h z f j b = absurd (cc h)
-        taken_none running h z f j b = absurd (cc (runs_kept l (env.ack (of_channel c)) (env.ack (of_var x)) _ _ f.ends high, z))
+        taken_none running h z f j b = absurd (cc (runs_kept l (env.ack (of_channel c)) (env.ack (of_var x)) (is_some (value_on (env.width (of_var x)) q)) (neutral_on (env.width (of_var x)) q) f.ends high, z))
         taken_none answered h z f j b = absurd (cc (h, z))
-        taken_none returning h z f j b = port_none c x returning l q env f (back_gone l (env.ack (of_channel c)) (env.ack (of_var x)) _ _ f.ends z) j b
+        taken_none returning h z f j b = port_none c x returning l q env f (back_gone l (env.ack (of_channel c)) (env.ack (of_var x)) (is_some (value_on (env.width (of_var x)) q)) (neutral_on (env.width (of_var x)) q) f.ends z) j b
 
         keeps : (m : Mode) → port_may m l ≡ true → PortFits c x m l q env → (s : PortSpot) → port_moves env c x m l q s ≡ true → port_moves now c x m l q s ≡ true
         keeps m h f heard z = ap (λ b. if acks m then not b else asks m && b) (t.acks (of_channel c)) ∙ z
@@ -656,7 +648,7 @@ rail_down_leaves P env now c i one t top high = record {
           where
             by : (y : Bool) → q j b ≡ y → (if y then not true && not (env.rail (of_channel c) j b) else true && env.rail (of_channel c) j b) ≡ true → ⊥
             by true e z = cc z
-            by false e z = cc (f.behind (runs_kept l (env.ack (of_channel c)) (env.ack (of_var x)) _ _ f.ends high) j b z, e)
+            by false e z = cc (f.behind (runs_kept l (env.ack (of_channel c)) (env.ack (of_var x)) (is_some (value_on (env.width (of_var x)) q)) (neutral_on (env.width (of_var x)) q) f.ends high) j b z, e)
         keeps returning h f (taking j b) z = by (q j b) z
           where
             by : (y : Bool) → (if y then not false && not (env.rail (of_channel c) j b) else false && env.rail (of_channel c) j b) ≡ true → (if y then not false && not (now.rail (of_channel c) j b) else false && now.rail (of_channel c) j b) ≡ true

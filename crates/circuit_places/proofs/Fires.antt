@@ -172,7 +172,7 @@ module _ (P : TypedProgram) (env now : Seen) (c : Line) (t : AckTurned P env now
     where
       by : (m : Mode) → port_may m l ≡ true → PortFits d x m l q env → env.ack (of_channel d) ≡ true → l ≡ false → waits m (now.ack (of_channel d)) y ≡ waits m (env.ack (of_channel d)) y
       by idle h f a gone = absurd (cc h)
-      by running h f a gone = absurd (cc (runs_kept l (env.ack (of_channel d)) (env.ack (of_var x)) _ _ f.ends a, gone))
+      by running h f a gone = absurd (cc (runs_kept l (env.ack (of_channel d)) (env.ack (of_var x)) (is_some (value_on (env.width (of_var x)) q)) (neutral_on (env.width (of_var x)) q) f.ends a, gone))
       by answered h f a gone = absurd (cc (h, gone))
       by returning h f a gone = refl
 

@@ -1,18 +1,19 @@
 -- What an arrival does to the term: where the acknowledge of an `in` channel rises a receive is done, whose variable has the
 -- value.
 use Rattle.std.proofs.Common.{◌≡◌, ℕ, ◌<◌, ◌==◌, Bool, true, false, List, length, refl, sym, ap, ◌∙◌, subst}
-use Rattle.std.specs.Prelude.{not, ◌&&◌, ◌||◌}
+use Rattle.std.specs.Prelude.{not, ◌&&◌, ◌||◌, is_some}
 use Rattle.chp_base.specs.declared.span.Span.{Span}
-use Rattle.width_check.specs.Processes.{Process, sending, receiving, in_turn, side_by_side, Processes, and_member, TypedProgram}
+use Rattle.width_check.specs.Processes.{Process, assigning, sending, receiving, in_turn, side_by_side, Processes, and_member, TypedProgram}
 use Rattle.width_check.specs.Typing.{channel_width, var_width}
 use Rattle.chp_meaning.specs.Terms.{Term, Terms, and_branch, together, finished, active, opened, followed, here as at_here}
 use Rattle.circuit_places.specs.Lines.{Line, of_channel, of_var, same_line, Rails, Seen}
+use Rattle.circuit_places.specs.Whole.{value_on, neutral_on}
 use Rattle.circuit_places.proofs.RailLemmas.{fst_true, snd_true, both_true, never_and}
 use Rattle.circuit_places.proofs.Places.{Mode, idle, running, answered, returning, inner_may, under_way, port_may, port_shown, PortFits, GuardedAt, At, TurnAt, BranchesAt, g_rests, g_in, g_past, g_back, rests, at_skip, at_assign, at_send, at_receive, at_turn, at_side, at_body, no_more, and_at, turn_rests, at_last, at_member, at_later, Shown, both_shown, guarded_shown, shown, turn_shown, branches_shown, writing, guarded_writing, branches_writing, turn_writing, GuardedFits, Fits, TurnFits, BranchesFit}
 use Rattle.circuit_places.proofs.Meets.{PortMeets, Meets, TurnMeets, EachMeets}
 use Rattle.circuit_places.proofs.Left.{waits, inner_left, again, guarded_left, left, turn_left, branches_left, Act, followed_act, left_done, writing_done, ActInside, this_act, other_act, together_act}
 use Rattle.circuit_places.proofs.Talks.{either, Beside, beside, or_false_left, or_false_right}
-use Rattle.circuit_places.proofs.Flow.{low_of, or_left, or_right, or_free, cases}
+use Rattle.circuit_places.proofs.Flow.{neither_left, neither_right, low_of, or_left, or_right, or_free, cases}
 use Rattle.circuit_places.proofs.LineNames.{self_number, same_number, self_line, same_line_is}
 use Rattle.circuit_places.proofs.Begin.{answered_ack}
 use Rattle.circuit_places.proofs.PortLeaf.{runs_va, back_ack}
@@ -65,14 +66,6 @@ module _ (P : TypedProgram) (env now : Seen) (c : ℕ) (t : Rising env now c) wh
   send_deaf : (d : ℕ) → (d == c) ≡ false → now.ack (of_channel d) ≡ env.ack (of_channel d)
   send_deaf d e = t.far (of_channel d) e
 
-  neither_left : (a b : Bool) → (a || b) ≡ false → a ≡ false
-  neither_left true b h = absurd (cc h)
-  neither_left false b h = refl
-
-  neither_right : (a b : Bool) → (a || b) ≡ false → b ≡ false
-  neither_right true b h = absurd (cc h)
-  neither_right false b h = h
-
   -- a statement without a receive, and without a send, on the channel that is under way
   pub record Deaf (x : Shown) : Type 0 where
     pub listen : x.listen c ≡ false
@@ -90,11 +83,11 @@ module _ (P : TypedProgram) (env now : Seen) (c : ℕ) (t : Rising env now c) wh
     deaf (at_skip m h) d = (refl, λ z. refl)
     deaf (at_assign {x = x} {at = at} {e = e} m u h) d =
         let same = t.far (of_var x) refl in
-        (ap (λ b. waits m b _) same, λ z. ap (λ b. (x == z) && under_way m b) same)
-    deaf (at_send {c = k} m u h) d = (ap (λ b. waits m b _) (t.far (of_channel k) d.talk), λ z. refl)
-    deaf (at_receive {c = k} {x = x} m l q h) d =
+        (ap (λ b. waits m b (active (assigning x at e))) same, λ z. ap (λ b. (x == z) && under_way m b) same)
+    deaf (at_send {c = k} {at = at} {e = e} m u h) d = (ap (λ b. waits m b (active (sending k at e))) (t.far (of_channel k) d.talk), λ z. refl)
+    deaf (at_receive {c = k} {x = x} {at = at} {to = to} m l q h) d =
         let same = t.far (of_channel k) d.listen in
-        (ap (λ b. waits m b _) same, λ z. ap (λ b. (x == z) && under_way m b) same)
+        (ap (λ b. waits m b (active (receiving k at x to))) same, λ z. ap (λ b. (x == z) && under_way m b) same)
     deaf (at_turn t) d = turn_deaf t d
     deaf (at_side m t b h) d = let r = branches_deaf b d in (ap together r.0, r.1)
     deaf (at_body {p = p} a) d = let r = deaf a d in (ap (λ y. followed y (again p)) r.0, r.1)
@@ -127,8 +120,8 @@ module _ (P : TypedProgram) (env now : Seen) (c : ℕ) (t : Rising env now c) wh
       by : (m : Mode) → port_may m l ≡ true → PortFits d x m l q env → env.ack (of_channel d) ≡ false → now.ack (of_channel d) ≡ true
           → Hears P env c (port_shown d x l q) (λ z. (x == z) && under_way m (env.ack (of_channel d))) (λ z. (x == z) && under_way m (now.ack (of_channel d))) (waits m (env.ack (of_channel d)) (active (receiving d at x to))) (waits m (now.ack (of_channel d)) (active (receiving d at x to)))
       by idle h f a b = absurd (cc h)
-      by answered h f a b = absurd (cc (answered_ack l (env.ack (of_channel d)) (env.ack (of_var x)) _ _ f.ends, a))
-      by returning h f a b = absurd (cc (back_ack l (env.ack (of_channel d)) (env.ack (of_var x)) _ _ f.ends kept, a))
+      by answered h f a b = absurd (cc (answered_ack l (env.ack (of_channel d)) (env.ack (of_var x)) (is_some (value_on (env.width (of_var x)) q)) (neutral_on (env.width (of_var x)) q) f.ends, a))
+      by returning h f a b = absurd (cc (back_ack l (env.ack (of_channel d)) (env.ack (of_var x)) (is_some (value_on (env.width (of_var x)) q)) (neutral_on (env.width (of_var x)) q) f.ends kept, a))
       by running h f a b = record {
         at = at;
         var = x;
@@ -136,7 +129,7 @@ module _ (P : TypedProgram) (env now : Seen) (c : ℕ) (t : Rising env now c) wh
         act = subst (λ (y : Term). Act y (receiving c at x to) finished (waits running (now.ack (of_channel d)) (active (receiving d at x to)))) (sym (ap (λ i. waits running i (active (receiving d at x to))) a ∙ ap (λ n. active (receiving n at x to)) same))
             (record { at = at_here; stands = refl; then_is = ap (λ i. waits running i (active (receiving d at x to))) b });
         meets = subst (λ (n : ℕ). PortMeets P n x) same meets;
-        done = runs_va l (env.ack (of_channel d)) (env.ack (of_var x)) _ _ f.ends kept;
+        done = runs_va l (env.ack (of_channel d)) (env.ack (of_var x)) (is_some (value_on (env.width (of_var x)) q)) (neutral_on (env.width (of_var x)) q) f.ends kept;
         all = λ i one y. both_true (same_line (of_var x) (of_var x)) (q i one) (self_number x) (f.behind kept i one (ap (λ n. env.rail (of_channel n) i one) same ∙ y));
         frees = λ z ne e. other running z ne (under_way running (env.ack (of_channel d)));
       }

@@ -23,6 +23,8 @@ pub mod BitTable
 pub mod Blocks
 pub mod System
 pub mod LineMoves
+pub mod AckMoves
+pub mod Arriving
 pub mod BlockMoves
 pub mod Apart
 pub mod Follow

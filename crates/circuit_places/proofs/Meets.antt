@@ -384,3 +384,24 @@ mutual
   each_receives_heard : (P : TypedProgram) (members : Processes) → EachMeets P members → (c : ℕ) → each_receives members c ≡ true → is_heard (kind_at P.channels c) ≡ true
   each_receives_heard P no_members h c e = absurd (cc e)
   each_receives_heard P (and_member p more) h c e = one_of (receives p c) (each_receives more c) e (λ z. receives_heard P p h.0 c z) (λ z. each_receives_heard P more h.2 c z)
+
+-- and one that is declared
+mutual
+  pub receives_within : (P : TypedProgram) (p : Process) → Meets P p → (c : ℕ) → receives p c ≡ true → c < length P.channels
+  receives_within P (receiving k at x to) h c e = subst (λ (n : ℕ). n < length P.channels) (same_number k c e) h.within
+  receives_within P (in_turn members) h c e = turn_receives_within P members h c e
+  receives_within P (side_by_side members) h c e = each_receives_within P members h.2 c e
+  receives_within P (repeating p) h c e = receives_within P p h c e
+  receives_within P skipping h c e = absurd (cc e)
+  receives_within P (assigning x at f) h c e = absurd (cc e)
+  receives_within P (sending k at f) h c e = absurd (cc e)
+  receives_within P (choosing again choices) h c e = absurd (cc e)
+
+  turn_receives_within : (P : TypedProgram) (members : Processes) → TurnMeets P members → (c : ℕ) → each_receives members c ≡ true → c < length P.channels
+  turn_receives_within P no_members h c e = absurd (cc e)
+  turn_receives_within P (and_member p no_members) h c e = one_of (receives p c) false e (λ z. receives_within P p h c z) (λ z. absurd (cc z))
+  turn_receives_within P (and_member p (and_member q more)) h c e = one_of (receives p c) (each_receives (and_member q more) c) e (λ z. receives_within P p h.0 c z) (λ z. turn_receives_within P (and_member q more) h.1 c z)
+
+  each_receives_within : (P : TypedProgram) (members : Processes) → EachMeets P members → (c : ℕ) → each_receives members c ≡ true → c < length P.channels
+  each_receives_within P no_members h c e = absurd (cc e)
+  each_receives_within P (and_member p more) h c e = one_of (receives p c) (each_receives more c) e (λ z. receives_within P p h.0 c z) (λ z. each_receives_within P more h.2 c z)

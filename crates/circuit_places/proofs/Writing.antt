@@ -4,7 +4,7 @@
 use Rattle.std.proofs.Common.{◌≡◌, ℕ, zero, suc, ◌+◌, ◌*◌, ◌/◌, ◌%◌, ◌^◌, ◌<◌, ◌==◌, Bool, true, false, List, [], ◌∷◌, length, map, refl, sym, ap, ◌∙◌, arith, All, ◌⊎◌, inl, inr}
 use Rattle.std.proofs.lemmas.Bool.{eqb-true}
 use Rattle.std.proofs.lemmas.List.Elements.{All-head, All-tail}
-use Rattle.std.specs.Prelude.{not, ◌&&◌, ◌||◌, Option, Some, None, slice_index}
+use Rattle.std.specs.Prelude.{not, ◌&&◌, ◌||◌, Option, Some, None, slice_index, is_some}
 use Rattle.prs_core.specs.Moves.{bit_value, with_bit}
 use Rattle.env_script.specs.Environment.{is_odd}
 use Rattle.width_check.specs.declared.typed.Var.{Var}
@@ -14,15 +14,15 @@ use Rattle.chp_meaning.specs.Halves.{IsSizedVar}
 use Rattle.width_check.specs.Values.{one_if}
 use Rattle.circuit_places.specs.Lines.{Line, of_channel, of_var, same_line, Rails, Seen}
 use Rattle.circuit_places.specs.Circuit.{Pairs, gate_count, same_bit}
-use Rattle.circuit_places.specs.Whole.{value_on, number_rail, first_bits}
-use Rattle.circuit_places.proofs.LineNames.{same_number}
+use Rattle.circuit_places.specs.Whole.{value_on, neutral_on, number_rail, first_bits}
+use Rattle.circuit_places.proofs.LineNames.{same_number, same_line_is}
 use Rattle.width_check.specs.Reads.{reads}
 use Rattle.function_blocks.specs.Rails.{number_on}
 use Rattle.function_blocks.specs.Waves.{out_rail, full, empty}
 use Rattle.circuit_places.proofs.Meets.{sends, turn_sends, uses, each_uses, Meets, TurnMeets, EachMeets}
 use Rattle.circuit_places.proofs.RailLemmas.{fst_true, snd_true, both_true, never_and, empty_low}
 use Rattle.circuit_places.proofs.Places.{Mode, idle, running, answered, returning, wave_may, SiteMay, SiteFits, port_may, PortFits, send_fits, under_way, GuardedAt, At, TurnAt, BranchesAt, g_rests, g_in, g_past, g_back, rests, at_skip, at_assign, at_send, at_receive, at_turn, at_side, at_body, no_more, and_at, turn_rests, at_last, at_member, at_later, guarded_shown, shown, turn_shown, branches_shown, GuardedFits, Fits, TurnFits, BranchesFit, writing, guarded_writing, turn_writing, branches_writing}
-use Rattle.circuit_places.proofs.Flow.{low_of, or_left, or_right, or_free, cases}
+use Rattle.circuit_places.proofs.Flow.{neither_left, neither_right, low_of, or_left, or_right, or_free, cases}
 use Rattle.circuit_places.proofs.Begin.{answered_va}
 use Rattle.circuit_places.proofs.PortLeaf.{runs_kept, runs_va, back_none, low_by, port_none}
 use Rattle.circuit_places.proofs.Talks.{either, or_false_left, or_false_right}
@@ -50,11 +50,11 @@ port_there env c y m k q h f x i one low z =
   where
     by : (m : Mode) → port_may m k ≡ true → PortFits c y m k q env → env.ack (of_var y) ≡ false → q i one ≡ true → under_way m (env.ack (of_channel c)) ≡ true
     by idle h f v o = absurd (cc h)
-    by answered h f v o = absurd (cc (answered_va k (env.ack (of_channel c)) (env.ack (of_var y)) _ _ f.ends, v))
-    by returning h f v o = absurd (cc (port_none c y returning k q env f (back_none k (env.ack (of_channel c)) (env.ack (of_var y)) _ _ f.ends v) i one, o))
+    by answered h f v o = absurd (cc (answered_va k (env.ack (of_channel c)) (env.ack (of_var y)) (is_some (value_on (env.width (of_var y)) q)) (neutral_on (env.width (of_var y)) q) f.ends, v))
+    by returning h f v o = absurd (cc (port_none c y returning k q env f (back_none k (env.ack (of_channel c)) (env.ack (of_var y)) (is_some (value_on (env.width (of_var y)) q)) (neutral_on (env.width (of_var y)) q) f.ends v) i one, o))
     by running h f v o =
-        let gone = low_by k (env.ack (of_var y)) (runs_va k (env.ack (of_channel c)) (env.ack (of_var y)) _ _ f.ends) v in
-        ap not (low_by (env.ack (of_channel c)) k (runs_kept k (env.ack (of_channel c)) (env.ack (of_var y)) _ _ f.ends) gone)
+        let gone = low_by k (env.ack (of_var y)) (runs_va k (env.ack (of_channel c)) (env.ack (of_var y)) (is_some (value_on (env.width (of_var y)) q)) (neutral_on (env.width (of_var y)) q) f.ends) v in
+        ap not (low_by (env.ack (of_channel c)) k (runs_kept k (env.ack (of_channel c)) (env.ack (of_var y)) (is_some (value_on (env.width (of_var y)) q)) (neutral_on (env.width (of_var y)) q) f.ends) gone)
 
 mutual
   pub guarded_writing_there : {p : Process} {m : Mode} (env : Seen) (g : GuardedAt p m) → GuardedFits g env → (x i : ℕ) (one : Bool) → env.ack (of_var x) ≡ false → (guarded_shown g).offer (of_var x) i one ≡ true → guarded_writing env.ack g x ≡ true
@@ -92,14 +92,6 @@ under_high idle = refl
 under_high running = refl
 under_high answered = refl
 under_high returning = refl
-
-neither_left : (a b : Bool) → (a || b) ≡ false → a ≡ false
-neither_left true b h = absurd (cc h)
-neither_left false b h = refl
-
-neither_right : (a b : Bool) → (a || b) ≡ false → b ≡ false
-neither_right true b h = absurd (cc h)
-neither_right false b h = h
 
 -- one acknowledge turns over at most
 pub record OneTurned (ack now : Line → Bool) (k : Line) : Type 0 where
@@ -179,6 +171,36 @@ mutual
   turn_writing_other ack now v t (at_member g) x e = guarded_writing_other ack now v t g x e
   turn_writing_other ack now v t (at_later g z h) x e = turn_writing_other ack now v t z x e
   turn_writing_other ack now v t turn_rests x e = refl
+
+-- who doesn't listen on a channel doesn't notice its acknowledge
+mutual
+  pub guarded_writing_deaf : {p : Process} {m : Mode} (ack now : Line → Bool) (c : ℕ) → OneTurned ack now (of_channel c) → (g : GuardedAt p m) → (guarded_shown g).listen c ≡ false → (x : ℕ) → guarded_writing now g x ≡ guarded_writing ack g x
+  guarded_writing_deaf ack now c t (g_in u a h) e x = writing_deaf ack now c t a e x
+  guarded_writing_deaf ack now c t g_rests e x = refl
+  guarded_writing_deaf ack now c t g_past e x = refl
+  guarded_writing_deaf ack now c t (g_back u) e x = refl
+
+  writing_deaf : {p : Process} {m : Mode} (ack now : Line → Bool) (c : ℕ) → OneTurned ack now (of_channel c) → (a : At p m) → (shown a).listen c ≡ false → (x : ℕ) → writing now a x ≡ writing ack a x
+  writing_deaf ack now c t (at_assign {x = y} m u h) e x = ap (λ b. (y == x) && under_way m b) (t.far (of_var y) refl)
+  writing_deaf ack now c t (at_send m u h) e x = refl
+  writing_deaf ack now c t (at_receive {c = d} {x = y} m l q h) e x = ap (λ b. (y == x) && under_way m b) (t.far (of_channel d) e)
+  writing_deaf ack now c t (at_turn z) e x = turn_writing_deaf ack now c t z e x
+  writing_deaf ack now c t (at_side m z b h) e x = branches_writing_deaf ack now c t b e x
+  writing_deaf ack now c t (at_body a) e x = writing_deaf ack now c t a e x
+  writing_deaf ack now c t rests e x = refl
+  writing_deaf ack now c t (at_skip m h) e x = refl
+
+  branches_writing_deaf : {members : Processes} {ks : List Mode} (ack now : Line → Bool) (c : ℕ) → OneTurned ack now (of_channel c) → (b : BranchesAt members ks) → (branches_shown b).listen c ≡ false → (x : ℕ) → branches_writing now b x ≡ branches_writing ack b x
+  branches_writing_deaf ack now c t no_more e x = refl
+  branches_writing_deaf ack now c t (and_at g b) e x =
+      ap (λ z. z || branches_writing now b x) (guarded_writing_deaf ack now c t g (neither_left ((guarded_shown g).listen c) ((branches_shown b).listen c) e) x)
+      ∙ ap (λ z. guarded_writing ack g x || z) (branches_writing_deaf ack now c t b (neither_right ((guarded_shown g).listen c) ((branches_shown b).listen c) e) x)
+
+  turn_writing_deaf : {members : Processes} {m : Mode} (ack now : Line → Bool) (c : ℕ) → OneTurned ack now (of_channel c) → (z : TurnAt members m) → (turn_shown z).listen c ≡ false → (x : ℕ) → turn_writing now z x ≡ turn_writing ack z x
+  turn_writing_deaf ack now c t (at_last a) e x = writing_deaf ack now c t a e x
+  turn_writing_deaf ack now c t (at_member g) e x = guarded_writing_deaf ack now c t g e x
+  turn_writing_deaf ack now c t (at_later g z h) e x = turn_writing_deaf ack now c t z e x
+  turn_writing_deaf ack now c t turn_rests e x = refl
 
 -- what is being written stands in the statement, and so does what is read
 mutual
@@ -311,7 +333,7 @@ halves v false h = even_is h
     even_is : (v % 2 == 1) ≡ false → 0 + 2 * (v / 2) ≡ v
     even_is e = grind arith
 
-first_number : (n v : ℕ) → v < 2 ^ n → number_on n (number_rail n v) ≡ v
+pub first_number : (n v : ℕ) → v < 2 ^ n → number_on n (number_rail n v) ≡ v
 first_number zero v h = omega (arith, h)
 first_number (suc n) v h = ap (λ z. one_if (same_bit (is_odd v) true) + 2 * z) (first_number n (v / 2) (half_below v n h)) ∙ halves v (is_odd v) refl
 
