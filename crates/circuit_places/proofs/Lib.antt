@@ -1,4 +1,5 @@
 pub mod Examples
+pub mod CoveredExamples
 pub mod RailLemmas
 pub mod Trees
 pub mod Places

@@ -1,7 +1,7 @@
 -- The cells of a covered circuit as a list of values, in the order of the nodes' numbers.
-use Rattle.std.proofs.Common.{◌≡◌, ℕ, zero, suc, ◌+◌, ◌-◌, ◌*◌, ◌<◌, ◌≤◌, Bool, true, false, List, [], ◌∷◌, ◌++◌, length, get_or, set, replicate, refl, sym, ap, ◌∙◌, arith, length-append, get_or-append-add, ⊎_elim}
-use Rattle.std.specs.Prelude.{not, if◌then◌else◌}
-use Rattle.std.proofs.lemmas.Bool.{cases_lt}
+use Rattle.std.proofs.Common.{◌≡◌, ◌≢◌, ℕ, zero, suc, ◌+◌, ◌-◌, ◌*◌, ◌<◌, ◌≤◌, ◌==◌, Bool, true, false, List, [], ◌∷◌, ◌++◌, length, get_or, set, replicate, refl, sym, ap, ◌∙◌, arith, length-append, get_or-append-add, ⊎_elim}
+use Rattle.std.specs.Prelude.{not, ◌&&◌, if◌then◌else◌}
+use Rattle.std.proofs.lemmas.Bool.{cases_lt, cases_eq, eq-eqb, ne_eqb}
 use Rattle.std.proofs.lemmas.List.{get_or_append_left, set-append_left, set-append_right, replicate-append-replicate}
 use Rattle.width_check.specs.Processes.{Formula, Process, skipping, assigning, sending, receiving, in_turn, side_by_side, choosing, repeating, Processes, no_members, and_member, member_count, TypedProgram}
 use Rattle.width_check.specs.Reads.{reads}
@@ -11,7 +11,7 @@ pub use Rattle.function_blocks.specs.Listed.{rail_place}
 use Rattle.function_blocks.proofs.PartSizes.{count_doubled}
 use Rattle.circuit_places.specs.Lines.{Rails}
 use Rattle.circuit_places.specs.Covered.{IsCovered, AreCovered}
-use Rattle.circuit_places.specs.Circuit.{rails_turned, of_receive, heard, stored, taking, Pairs, gate_count, Cells, TurnCells, BranchCells, joint_count, low_pairs, low, low_turn, low_branches, low_bits as low_tree, Spot, TurnSpot, BranchSpot, of_branch, joint, in_this, in_others, child, latch, next, inner, of_skip, done, gate, of_assign, of_send, in_members, of_loop, ask, in_body, in_last, in_member, in_later, turned_pairs, turned, turned_turn, turned_branches}
+use Rattle.circuit_places.specs.Circuit.{same_bit, rails_turned, of_receive, heard, stored, taking, Pairs, gate_count, Cells, TurnCells, BranchCells, joint_count, low_pairs, low, low_turn, low_branches, low_bits as low_tree, Spot, TurnSpot, BranchSpot, of_branch, joint, in_this, in_others, child, latch, next, inner, of_skip, done, gate, of_assign, of_send, in_members, of_loop, ask, in_body, in_last, in_member, in_later, turned_pairs, turned, turned_turn, turned_branches}
 use Rattle.net_compose.proofs.FlatTrees.{joint_count_is, tree_bits, length-tree_bits, tree_turned, tree_low}
 
 -- the rails of some pairs
@@ -41,12 +41,35 @@ pub length-rail_bits : (n : ℕ) (r : Rails) → length (rail_bits n r) ≡ 2 * 
 length-rail_bits zero r = refl
 length-rail_bits (suc n) r = omega (arith, length-rail_bits n (λ i. r (suc i)))
 
+pub rail_bits_same : (n : ℕ) (r q : Rails) → ((i : ℕ) (one : Bool) → r i one ≡ q i one) → rail_bits n r ≡ rail_bits n q
+rail_bits_same zero r q e = refl
+rail_bits_same (suc n) r q e =
+    ap (λ b. b ∷ r zero false ∷ rail_bits n (λ i. r (suc i))) (e zero true)
+    ∙ (ap (λ b. q zero true ∷ b ∷ rail_bits n (λ i. r (suc i))) (e zero false)
+    ∙ ap (λ l. q zero true ∷ q zero false ∷ l) (rail_bits_same n (λ i. r (suc i)) (λ i. q (suc i)) (λ i one. e (suc i) one)))
+
+same_suc : (j i : ℕ) → (j == i) ≡ (suc j == suc i)
+same_suc j i = ⊎_elim
+    (λ (e : j ≡ i). eq-eqb j i e ∙ sym (eq-eqb (suc j) (suc i) (ap suc e)))
+    (λ (n : j ≢ i). ne_eqb j i n ∙ sym (ne_eqb (suc j) (suc i) (λ e. n (omega (arith, e)))))
+    (cases_eq j i)
+
 -- one of them turned over
 pub rail_turned_at : (n : ℕ) (r : Rails) (i : ℕ) (one : Bool) → i < n → set (rail_bits n r) (rail_place i one) (not (get_or (rail_bits n r) (rail_place i one) false)) ≡ rail_bits n (rails_turned r i one)
 rail_turned_at zero r i one h = absurd (omega arith)
-rail_turned_at (suc n) r zero true h = refl
-rail_turned_at (suc n) r zero false h = refl
-rail_turned_at (suc n) r (suc i) one h = ap (λ l. r zero true ∷ r zero false ∷ l) (rail_turned_at n (λ k. r (suc k)) i one (omega arith))
+rail_turned_at (suc n) r zero true h =
+    ap (λ l. not (r zero true) ∷ r zero false ∷ l) (rail_bits_same n (λ k. r (suc k)) (λ k. rails_turned r zero true (suc k))
+    (λ k s. sym (ap (λ b. if b && same_bit s true then not (r zero true) else r (suc k) s) (ne_eqb (suc k) 0 (λ e. absurd (omega (arith, e)))))))
+rail_turned_at (suc n) r zero false h =
+    ap (λ l. r zero true ∷ not (r zero false) ∷ l) (rail_bits_same n (λ k. r (suc k)) (λ k. rails_turned r zero false (suc k))
+    (λ k s. sym (ap (λ b. if b && same_bit s false then not (r zero false) else r (suc k) s) (ne_eqb (suc k) 0 (λ e. absurd (omega (arith, e)))))))
+rail_turned_at (suc n) r (suc i) one h =
+    let head = λ (s : Bool). ap (λ b. if b && same_bit s one then not (r (suc i) one) else r zero s) (ne_eqb 0 (suc i) (λ e. absurd (omega (arith, e)))) in
+    let tail = rail_bits_same n (rails_turned (λ k. r (suc k)) i one) (λ k. rails_turned r (suc i) one (suc k))
+    (λ k s. ap (λ b. if b && same_bit s one then not (r (suc i) one) else r (suc k) s) (same_suc k i)) in
+    ap (λ l. r zero true ∷ r zero false ∷ l) (rail_turned_at n (λ k. r (suc k)) i one (omega arith) ∙ tail)
+    ∙ (ap (λ b. b ∷ r zero false ∷ rail_bits n (λ k. rails_turned r (suc i) one (suc k))) (sym (head true))
+    ∙ ap (λ b. rails_turned r (suc i) one zero true ∷ b ∷ rail_bits n (λ k. rails_turned r (suc i) one (suc k))) (sym (head false)))
 
 pub low_rail_bits : (n : ℕ) → rail_bits n (λ i one. false) ≡ replicate (2 * n) false
 low_rail_bits zero = refl

@@ -314,7 +314,7 @@ module _ (P : TypedProgram) (given : Given P) where
     ack_moves : (script : List OfferValue) (k : ℕ) → k < length P.channels → env_enabled (translation P) script (completed st.histories) (high st.values) (ack_at P k) ≡ answers (channel_width P.channels k) x.wires k (completed x.histories k) (offer_at script k)
     ack_moves script k hk = one_channel script (ack_at P k) k (answers (channel_width P.channels k) x.wires k (completed x.histories k) (offer_at script k)) (let b = ack_bounds P k hk in omega (arith, b.0)) hk
         (λ j lt ne. (λ e. ne (sym (ack_same P k j hk lt e)), λ i one l e. rail_no_ack P j k i one lt hk l (sym e)))
-        (λ c. here (offer_at script k))
+        (λ c. here c (offer_at script k))
       where
         width : ℕ
         width = channel_width P.channels k
@@ -325,19 +325,19 @@ module _ (P : TypedProgram) (given : Given P) where
         far : (i : ℕ) (one : Bool) → i < channel_width P.channels k → ack_at P k ≢ channel_from P k + rail_place i one
         far i one l e = rail_no_ack P k k i one hk hk l (sym e)
 
-        here : {c : Channel} (offer : OfferValue) → offer_moves (high st.values) (wires_at P script (completed st.histories) (high st.values) k c) offer (completed st.histories k) (ack_at P k) ≡ answers (channel_width P.channels k) x.wires k (completed x.histories k) offer
-        here nothing = refl
-        here (gives values) = by (high st.values (ack_at P k)) (slice_get values (completed st.histories k))
+        here : (c : Channel) (offer : OfferValue) → offer_moves (high st.values) (wires_at P script (completed st.histories) (high st.values) k c) offer (completed st.histories k) (ack_at P k) ≡ answers (channel_width P.channels k) x.wires k (completed x.histories k) offer
+        here c nothing = refl
+        here c (gives values) = by (high st.values (ack_at P k)) (slice_get values (completed st.histories k))
           where
             never : (b : Bool) → (b && false) ≡ false
             never true = refl
             never false = refl
 
-            by : (a : Bool) (next : Option ℕ) → (if a then lowers (high st.values) (rails_of (rails_at P k)) (ack_at P k) else raises_next (high st.values) next (rails_of (rails_at P k)) (ack_at P k)) ≡ false
-            by true next = ap (λ b. high st.values (ack_at P k) && b) (not_listed (high st.values) (channel_width P.channels k) (channel_from P k) (ack_at P k) far) ∙ never (high st.values (ack_at P k))
+            by : (a : Bool) (value : Option ℕ) → (if a then lowers (high st.values) (rails_of (rails_at P k)) (ack_at P k) else raises_next (high st.values) value (rails_of (rails_at P k)) (ack_at P k)) ≡ false
+            by true value = ap (λ b. high st.values (ack_at P k) && b) (not_listed (high st.values) (channel_width P.channels k) (channel_from P k) (ack_at P k) far) ∙ never (high st.values (ack_at P k))
             by false None = refl
             by false (Some value) = not_raised (high st.values) (channel_width P.channels k) (channel_from P k) (ack_at P k) value far
-        here (takes count) =
+        here c (takes count) =
             let w = channel_width P.channels k in
             let value = value_is (high st.values) w (channel_from P k) (x.wires.rail (of_channel k)) rails in
             let none = neutral_is (high st.values) w (channel_from P k) (x.wires.rail (of_channel k)) rails in
@@ -351,14 +351,14 @@ module _ (P : TypedProgram) (given : Given P) where
     rail_moves : (script : List OfferValue) (k i : ℕ) (one : Bool) → k < length P.channels → i < channel_width P.channels k → env_enabled (translation P) script (completed st.histories) (high st.values) (channel_from P k + rail_place i one) ≡ offers (channel_width P.channels k) x.wires k (completed x.histories k) (offer_at script k) i one
     rail_moves script k i one hk hi = one_channel script (channel_from P k + rail_place i one) k (offers (channel_width P.channels k) x.wires k (completed x.histories k) (offer_at script k) i one) (let b = rail_bounds P k i one hk hi in omega (arith, b.0)) hk
         (λ j lt ne. (rail_no_ack P k j i one hk lt hi, λ l side hl e. ne (sym (rail_same P k j i l one side hk lt hi hl e).0)))
-        (λ c. here (offer_at script k))
+        (λ c. here c (offer_at script k))
       where
-        here : {c : Channel} (offer : OfferValue) → offer_moves (high st.values) (wires_at P script (completed st.histories) (high st.values) k c) offer (completed st.histories k) (channel_from P k + rail_place i one) ≡ offers (channel_width P.channels k) x.wires k (completed x.histories k) offer i one
-        here nothing = refl
-        here (takes count) =
+        here : (c : Channel) (offer : OfferValue) → offer_moves (high st.values) (wires_at P script (completed st.histories) (high st.values) k c) offer (completed st.histories k) (channel_from P k + rail_place i one) ≡ offers (channel_width P.channels k) x.wires k (completed x.histories k) offer i one
+        here c nothing = refl
+        here c (takes count) =
             ap (λ b. b && (if high st.values (ack_at P k) then neutral (high st.values) (rails_of (rails_at P k)) else valid (high st.values) (rails_of (rails_at P k)) && is_over count (completed st.histories k)))
             (ne_eqb (channel_from P k + rail_place i one) (ack_at P k) (rail_no_ack P k k i one hk hk hi))
-        here (gives values) =
+        here c (gives values) =
             ap (λ m. if high st.values (ack_at P k) then lowers (high st.values) (rails_of (rails_at P k)) (channel_from P k + rail_place i one) else raises_next (high st.values) (slice_get values m) (rails_of (rails_at P k)) (channel_from P k + rail_place i one)) (done_is k)
             ∙ (ap (λ b. if b then lowers (high st.values) (rails_of (rails_at P k)) (channel_from P k + rail_place i one) else raises_next (high st.values) (slice_get values (completed x.histories k)) (rails_of (rails_at P k)) (channel_from P k + rail_place i one)) (s.ack k hk)
             ∙ (ap (λ b. if x.wires.ack k then b else raises_next (high st.values) (slice_get values (completed x.histories k)) (rails_of (rails_at P k)) (channel_from P k + rail_place i one)) falls
@@ -373,7 +373,7 @@ module _ (P : TypedProgram) (given : Given P) where
                 ap (λ b. high st.values (channel_from P k + rail_place i one) && b) (is_listed (high st.values) (channel_width P.channels k) (channel_from P k) i one hi)
                 ∙ (always (high st.values (channel_from P k + rail_place i one)) ∙ s.rail k i one hk hi)
 
-            rises : (next : Option ℕ) → raises_next (high st.values) next (rails_of (rails_at P k)) (channel_from P k + rail_place i one) ≡ (brings (channel_width P.channels k) next i one && (not (x.wires.rail (of_channel k) i true) && not (x.wires.rail (of_channel k) i false)))
+            rises : (value : Option ℕ) → raises_next (high st.values) value (rails_of (rails_at P k)) (channel_from P k + rail_place i one) ≡ (brings (channel_width P.channels k) value i one && (not (x.wires.rail (of_channel k) i true) && not (x.wires.rail (of_channel k) i false)))
             rises None = refl
             rises (Some value) =
                 raised_is (high st.values) (channel_width P.channels k) (channel_from P k) value i one hi
