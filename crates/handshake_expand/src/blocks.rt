@@ -27,7 +27,10 @@ fn empty_block(alloc: Global, from: u32, count: u32) -> Block
 }
 
 /// The blocks of the channels, still without sites, and the first node behind them.
-pub(crate) fn channel_blocks(alloc: Global, program: &Typed) -> Result<(Vec<Block>, u32), AllocError>
+pub(crate) fn channel_blocks(
+    alloc: Global,
+    program: &Typed,
+) -> Result<(Vec<Block>, u32), AllocError>
     requires { vars_from (program_of program.now) < 2 ^ 32 }
     ensures blocks { IfOk result (λ r. map block_value r.0.items ≡ channel_blocks (program_of program.now) [] 0 program.now.channels) }
     ensures next { IfOk result (λ r. r.1 ≡ vars_from (program_of program.now)) }
@@ -43,7 +46,11 @@ pub(crate) fn channel_blocks(alloc: Global, program: &Typed) -> Result<(Vec<Bloc
 }
 
 /// The blocks of the variables, still without sites, and the first node behind them.
-pub(crate) fn var_blocks(alloc: Global, program: &Typed, from: u32) -> Result<(Vec<Block>, u32), AllocError>
+pub(crate) fn var_blocks(
+    alloc: Global,
+    program: &Typed,
+    from: u32,
+) -> Result<(Vec<Block>, u32), AllocError>
     requires from { from ≡ vars_from (program_of program.now) }
     requires room { root_request (program_of program.now) < 2 ^ 32 }
     ensures blocks { IfOk result (λ r. map block_value r.0.items ≡ var_blocks (program_of program.now) [] 0 program.now.vars) }

@@ -4,17 +4,17 @@
 mod answer;
 mod blocks;
 mod count;
-mod expand;
 mod expr;
 mod name;
 mod parts;
 mod site;
 #[cfg(test)]
 mod tests;
+mod tree;
 
 pub use answer::answer_node;
 pub use count::{count_nodes, statement_nodes};
-pub use expand::expand;
 pub use expr::{expr_nodes, operator_nodes, reads};
 pub use name::node_name;
 pub use parts::{Block, Part, PartKind, Parts};
+pub use tree::expand;

@@ -128,7 +128,7 @@ pub fn node_name(program: &Typed, node: u32, buffer: &mut [u8; 32]) -> usize
             return var_name(var, place, buffer);
         }
         if place < 6 * width - 1 {
-            break;
+            return numbered_name(node, buffer);
         }
         place -= 6 * width - 1;
     }

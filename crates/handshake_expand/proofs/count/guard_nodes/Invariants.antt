@@ -5,7 +5,7 @@ use Rattle.handshake_expand.proofs.count.guard_nodes.Given as goal
 
 abbrev pub invariant-loop-arm : goal.invariant-loop-arm
 invariant-loop-arm l = record {
-  counted : capped (l.count + guards_size (arms_of (drop l.arm-index l.arm-items))) ≡ capped (guards_size (arms_of l.arm-items));
-  formed : HasFormedGuards (arms_of (drop l.arm-index l.arm-items));
+  counted : capped (l.count + guards_size (arms_of (drop l.arm-index l.arms))) ≡ capped (guards_size (arms_of l.arms));
+  formed : HasFormedGuards (arms_of (drop l.arm-index l.arms));
   most : l.count ≤ 2 ^ 64 - 1;
 }

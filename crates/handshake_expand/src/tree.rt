@@ -173,7 +173,11 @@ fn selection(
         children.push(child)?;
     }
     Ok(Part {
-        kind: if again { PartKind::Again } else { PartKind::Select },
+        kind: if again {
+            PartKind::Again
+        } else {
+            PartKind::Select
+        },
         request,
         answer: from,
         from,
