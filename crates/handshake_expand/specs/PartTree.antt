@@ -26,9 +26,9 @@ part_kind skipping = Skip
 part_kind (assigning x at e) = if reads x e then Through else Assign
 part_kind (sending chan at e) = Send
 part_kind (receiving chan chan_at x var_at) = Receive
-part_kind (in_turn members) = Sequence
-part_kind (side_by_side members) = Parallel
-part_kind (choosing again choices) = if again then Again else Select
+part_kind (in_turn _) = Sequence
+part_kind (side_by_side _) = Parallel
+part_kind (choosing again _) = if again then Again else Select
 part_kind (repeating s) = Loop
 
 -- a statement's part has all of its nodes, those of the statements in it as well
