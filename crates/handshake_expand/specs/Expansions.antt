@@ -44,19 +44,21 @@ abbrev pub var_block : TypedProgram → List SiteNode → ℕ → Var → BlockV
 var_block p sites x v =
     record { from = var_from p x; count = block_size v.width; sends = []; receives = []; writes = nodes_at (Write x) sites }
 
--- of the channels and of the variables from a number on
-abbrev pub channel_blocks : TypedProgram → List SiteNode → (k : ℕ) → List Channel → List BlockValue
-channel_blocks p sites k [] = []
-channel_blocks p sites k (c ∷ cs) = channel_block p sites k c ∷ channel_blocks p sites (suc k) cs
+-- those of some channels or variables from a number on
+abbrev pub blocks_from : {A : Type 0} → (block : ℕ → A → BlockValue) → (number : ℕ) → List A → List BlockValue
+blocks_from block number [] = []
+blocks_from block number (x ∷ xs) = block number x ∷ blocks_from block (suc number) xs
 
-abbrev pub var_blocks : TypedProgram → List SiteNode → (x : ℕ) → List Var → List BlockValue
-var_blocks p sites x [] = []
-var_blocks p sites x (v ∷ vs) = var_block p sites x v ∷ var_blocks p sites (suc x) vs
+abbrev pub channel_blocks : TypedProgram → List SiteNode → List BlockValue
+channel_blocks p sites = blocks_from (channel_block p sites) 0 p.channels
+
+abbrev pub var_blocks : TypedProgram → List SiteNode → List BlockValue
+var_blocks p sites = blocks_from (var_block p sites) 0 p.vars
 
 abbrev pub expansion : TypedProgram → Expansion
 expansion p =
     let sites = in_body p (own_sites p) in
-    record { channels = channel_blocks p sites 0 p.channels; vars = var_blocks p sites 0 p.vars; root = root_part p }
+    record { channels = channel_blocks p sites; vars = var_blocks p sites; root = root_part p }
 
 -- what the parts of a program are
 abbrev pub block_value : Block → BlockValue

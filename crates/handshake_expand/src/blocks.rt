@@ -32,7 +32,7 @@ pub(crate) fn channel_blocks(
     program: &Typed,
 ) -> Result<(Vec<Block>, u32), AllocError>
     requires { vars_from (program_of program.now) < 2 ^ 32 }
-    ensures blocks { IfOk result (λ r. map block_value r.0.items ≡ channel_blocks (program_of program.now) [] 0 program.now.channels) }
+    ensures blocks { IfOk result (λ r. map block_value r.0.items ≡ channel_blocks (program_of program.now) []) }
     ensures next { IfOk result (λ r. r.1 ≡ vars_from (program_of program.now)) }
 {
     let mut blocks = Vec::new(alloc);
@@ -53,7 +53,7 @@ pub(crate) fn var_blocks(
 ) -> Result<(Vec<Block>, u32), AllocError>
     requires from { from ≡ vars_from (program_of program.now) }
     requires room { root_request (program_of program.now) < 2 ^ 32 }
-    ensures blocks { IfOk result (λ r. map block_value r.0.items ≡ var_blocks (program_of program.now) [] 0 program.now.vars) }
+    ensures blocks { IfOk result (λ r. map block_value r.0.items ≡ var_blocks (program_of program.now) []) }
     ensures next { IfOk result (λ r. r.1 ≡ root_request (program_of program.now)) }
 {
     let mut blocks = Vec::new(alloc);
@@ -68,8 +68,8 @@ pub(crate) fn var_blocks(
 
 /// Notes a site at the block of its channel or variable.
 fn place_site(site: SiteNode, channels: &mut [Block], vars: &mut [Block]) -> Result<(), AllocError>
-    ensures channels { OnOk result ((p : TypedProgram) (before : List Site) → map block_value channels.old ≡ channel_blocks p before 0 p.channels → map block_value channels.new ≡ channel_blocks p (before ++ site ∷ []) 0 p.channels) }
-    ensures vars { OnOk result ((p : TypedProgram) (before : List Site) → map block_value vars.old ≡ var_blocks p before 0 p.vars → map block_value vars.new ≡ var_blocks p (before ++ site ∷ []) 0 p.vars) }
+    ensures channels { OnOk result ((p : TypedProgram) (before : List Site) → map block_value channels.old ≡ channel_blocks p before → map block_value channels.new ≡ channel_blocks p (before ++ site ∷ [])) }
+    ensures vars { OnOk result ((p : TypedProgram) (before : List Site) → map block_value vars.old ≡ var_blocks p before → map block_value vars.new ≡ var_blocks p (before ++ site ∷ [])) }
 {
     match site.kind {
         SiteKind::Send(chan) => {
@@ -97,8 +97,8 @@ pub(crate) fn place_sites(
     channels: &mut [Block],
     vars: &mut [Block],
 ) -> Result<(), AllocError>
-    ensures channels { OnOk result ((p : TypedProgram) → map block_value channels.old ≡ channel_blocks p [] 0 p.channels → map block_value channels.new ≡ channel_blocks p sites.now 0 p.channels) }
-    ensures vars { OnOk result ((p : TypedProgram) → map block_value vars.old ≡ var_blocks p [] 0 p.vars → map block_value vars.new ≡ var_blocks p sites.now 0 p.vars) }
+    ensures channels { OnOk result ((p : TypedProgram) → map block_value channels.old ≡ channel_blocks p [] → map block_value channels.new ≡ channel_blocks p sites.now) }
+    ensures vars { OnOk result ((p : TypedProgram) → map block_value vars.old ≡ var_blocks p [] → map block_value vars.new ≡ var_blocks p sites.now) }
 {
     for site in sites {
         place_site(*site, channels, vars)?;
