@@ -69,9 +69,9 @@ expanded_answer p skipping request from = refl
 expanded_answer p (assigning x at e) request from = refl
 expanded_answer p (sending chan at e) request from = refl
 expanded_answer p (receiving chan chan_at x var_at) request from = refl
-expanded_answer p (in_turn members) request from = refl
-expanded_answer p (side_by_side members) request from = refl
-expanded_answer p (choosing again choices) request from = refl
+expanded_answer p (in_turn _) request from = refl
+expanded_answer p (side_by_side _) request from = refl
+expanded_answer p (choosing again _) request from = refl
 expanded_answer p (repeating s) request from = refl
 
 pub expanded_count : (p : TypedProgram) (s : Process) (request from : ℕ) → tree_count (expanded p s request from) ≡ size_of p s
@@ -79,9 +79,9 @@ expanded_count p skipping request from = refl
 expanded_count p (assigning x at e) request from = refl
 expanded_count p (sending chan at e) request from = refl
 expanded_count p (receiving chan chan_at x var_at) request from = refl
-expanded_count p (in_turn members) request from = refl
-expanded_count p (side_by_side members) request from = refl
-expanded_count p (choosing again choices) request from = refl
+expanded_count p (in_turn _) request from = refl
+expanded_count p (side_by_side _) request from = refl
+expanded_count p (choosing again _) request from = refl
 expanded_count p (repeating s) request from = refl
 
 pub child_count : (x : Part) (p : TypedProgram) (s : Process) (request from : ℕ) → tree_of x ≡ expanded p s request from → (out-Part x).count ≡ size_of p s

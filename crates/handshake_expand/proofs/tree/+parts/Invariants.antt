@@ -18,6 +18,7 @@ invariant-sequence-loop-place l =
       size : l.next + turn_size p (members_of (drop l.place l.members)) ≡ l.fn.from + turn_size p (members_of l.members);
       answer : turn_answer p (members_of (drop l.place l.members)) l.next ≡ turn_answer p (members_of l.members) l.fn.from;
       formed : AreProcesses l.program.channels l.program.vars (members_of (drop l.place l.members));
+      low : l.fn.from ≤ l.next;
     }
 
 abbrev pub invariant-parallel-loop-branch : goal.invariant-parallel-loop-branch
