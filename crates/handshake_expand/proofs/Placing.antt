@@ -107,11 +107,11 @@ module _ (p : TypedProgram) (before : List SiteNode) (site : SiteNode) where
         map-set block_value olds k new
         ∙ (ap (λ bs. slice_set bs k (block_value new)) same
         ∙ set_blocks (channel_block p before) (channel_block p (before ++ site ∷ [])) 0 k k p.channels (block_value new) inside (omega arith)
-          (λ m c ne. channel_missed m c (ap (same_kind (Send m)) kind ∙ differ m k ne) (ap (same_kind (Receive m)) kind))
-          (λ c at. value
-            ∙ (ap (λ (b : BlockValue). record b { sends = b.sends ++ site.node ∷ [] }) (value_at (channel_block p before) olds p.channels k old c same inside within is at)
-            ∙ (ap (λ ns. channel_with p k c ns (nodes_at (Receive k) before)) (sym (nodes_hit (Send k) site before (ap (same_kind (Send k)) kind ∙ eq-eqb k k refl)))
-            ∙ ap (λ ns. channel_with p k c (nodes_at (Send k) (before ++ site ∷ [])) ns) (sym (nodes_missed (Receive k) site before (ap (same_kind (Receive k)) kind)))))))
+        (λ m c ne. channel_missed m c (ap (same_kind (Send m)) kind ∙ differ m k ne) (ap (same_kind (Receive m)) kind))
+        (λ c at. value
+        ∙ (ap (λ (b : BlockValue). record b { sends = b.sends ++ site.node ∷ [] }) (value_at (channel_block p before) olds p.channels k old c same inside within is at)
+        ∙ (ap (λ ns. channel_with p k c ns (nodes_at (Receive k) before)) (sym (nodes_hit (Send k) site before (ap (same_kind (Send k)) kind ∙ eq-eqb k k refl)))
+        ∙ ap (λ ns. channel_with p k c (nodes_at (Send k) (before ++ site ∷ [])) ns) (sym (nodes_missed (Receive k) site before (ap (same_kind (Receive k)) kind)))))))
 
     pub receive_placed : site.kind ≡ Receive k → block_value new ≡ record (block_value old) { receives = old.receives.items ++ site.node ∷ [] } → map block_value olds ≡ channel_blocks p before → map block_value (slice_set olds k new) ≡ channel_blocks p (before ++ site ∷ [])
     receive_placed kind value same =
@@ -119,11 +119,11 @@ module _ (p : TypedProgram) (before : List SiteNode) (site : SiteNode) where
         map-set block_value olds k new
         ∙ (ap (λ bs. slice_set bs k (block_value new)) same
         ∙ set_blocks (channel_block p before) (channel_block p (before ++ site ∷ [])) 0 k k p.channels (block_value new) inside (omega arith)
-          (λ m c ne. channel_missed m c (ap (same_kind (Send m)) kind) (ap (same_kind (Receive m)) kind ∙ differ m k ne))
-          (λ c at. value
-            ∙ (ap (λ (b : BlockValue). record b { receives = b.receives ++ site.node ∷ [] }) (value_at (channel_block p before) olds p.channels k old c same inside within is at)
-            ∙ (ap (λ ns. channel_with p k c ns (nodes_at (Receive k) before ++ site.node ∷ [])) (sym (nodes_missed (Send k) site before (ap (same_kind (Send k)) kind)))
-            ∙ ap (λ ns. channel_with p k c (nodes_at (Send k) (before ++ site ∷ [])) ns) (sym (nodes_hit (Receive k) site before (ap (same_kind (Receive k)) kind ∙ eq-eqb k k refl)))))))
+        (λ m c ne. channel_missed m c (ap (same_kind (Send m)) kind) (ap (same_kind (Receive m)) kind ∙ differ m k ne))
+        (λ c at. value
+        ∙ (ap (λ (b : BlockValue). record b { receives = b.receives ++ site.node ∷ [] }) (value_at (channel_block p before) olds p.channels k old c same inside within is at)
+        ∙ (ap (λ ns. channel_with p k c ns (nodes_at (Receive k) before ++ site.node ∷ [])) (sym (nodes_missed (Send k) site before (ap (same_kind (Send k)) kind)))
+        ∙ ap (λ ns. channel_with p k c (nodes_at (Send k) (before ++ site ∷ [])) ns) (sym (nodes_hit (Receive k) site before (ap (same_kind (Receive k)) kind ∙ eq-eqb k k refl)))))))
 
     pub write_placed : site.kind ≡ Write k → block_value new ≡ record (block_value old) { writes = old.writes.items ++ site.node ∷ [] } → map block_value olds ≡ var_blocks p before → map block_value (slice_set olds k new) ≡ var_blocks p (before ++ site ∷ [])
     write_placed kind value same =
@@ -131,10 +131,10 @@ module _ (p : TypedProgram) (before : List SiteNode) (site : SiteNode) where
         map-set block_value olds k new
         ∙ (ap (λ bs. slice_set bs k (block_value new)) same
         ∙ set_blocks (var_block p before) (var_block p (before ++ site ∷ [])) 0 k k p.vars (block_value new) inside (omega arith)
-          (λ m v ne. var_missed m v (ap (same_kind (Write m)) kind ∙ differ m k ne))
-          (λ v at. value
-            ∙ (ap (λ (b : BlockValue). record b { writes = b.writes ++ site.node ∷ [] }) (value_at (var_block p before) olds p.vars k old v same inside within is at)
-            ∙ ap (var_with p k v) (sym (nodes_hit (Write k) site before (ap (same_kind (Write k)) kind ∙ eq-eqb k k refl))))))
+        (λ m v ne. var_missed m v (ap (same_kind (Write m)) kind ∙ differ m k ne))
+        (λ v at. value
+        ∙ (ap (λ (b : BlockValue). record b { writes = b.writes ++ site.node ∷ [] }) (value_at (var_block p before) olds p.vars k old v same inside within is at)
+        ∙ ap (var_with p k v) (sym (nodes_hit (Write k) site before (ap (same_kind (Write k)) kind ∙ eq-eqb k k refl))))))
 
   -- or there is no block of this number
   module _ (olds : List Block) (k : ℕ) (over : length olds ≤ k) where

@@ -5,10 +5,10 @@ ghost use Rattle.width_check.specs.Processes.{in_turn, side_by_side, choosing};
 ghost use Rattle.width_check.specs.Typed.{program_of};
 ghost use Rattle.width_check.specs.Typing.{IsProcess};
 ghost use Rattle.width_check.specs.View.{process_of};
-ghost use Rattle.handshake_expand.specs.Layout.{size_of, node_count};
+ghost use Rattle.handshake_expand.specs.Layout.{size_of, nodes_of, node_count, root_request};
 ghost use Rattle.handshake_expand.specs.Expansions.{expansion, expansion_of};
-ghost use Rattle.handshake_expand.specs.PartTree.{part_kind, part_over, expanded, tree_of, members_of, arms_of, no_children};
-ghost use Rattle.handshake_expand.specs.Sites.{own_sites, sites_in};
+ghost use Rattle.handshake_expand.specs.PartTree.{part_kind, part_over, expanded, root_part, tree_of, members_of, arms_of, no_children};
+ghost use Rattle.handshake_expand.specs.Sites.{own_sites, sites_in, in_body};
 
 use crate::answer::answer_node;
 use crate::blocks::{channel_blocks, place_sites, var_blocks};
@@ -222,24 +222,39 @@ fn part(
     }
 }
 
-/// The parts of a program of at most 65,536 nodes: a block for each channel and each variable, and the tree of parts.
-pub fn expand(alloc: Global, program: &Typed) -> Result<Parts, AllocError>
-    requires { node_count (program_of program.now) ≤ 65536 }
-    ensures { IfOk result (λ parts. expansion_of parts ≡ expansion (program_of program.now)) }
+/// The root, whose child request and latch stand before the nodes of the body; the sites are noted.
+fn root(
+    alloc: Global,
+    program: &Typed,
+    from: u32,
+    sites: &mut Vec<SiteNode>,
+) -> Result<Part, AllocError>
+    requires from { from ≡ root_request (program_of program.now) }
+    requires room { nodes_of (program_of program.now) < 2 ^ 32 }
+    ensures part { IfOk result (λ part. tree_of part ≡ root_part (program_of program.now)) }
+    ensures sites { OnOk result (sites.new.items ≡ sites.old.items ++ in_body (program_of program.now) (own_sites (program_of program.now))) }
 {
-    let (mut channels, next) = channel_blocks(alloc, program)?;
-    let (mut vars, from) = var_blocks(alloc, program, next)?;
-    let mut sites = Vec::new(alloc);
-    let body = part(alloc, program, program.body(), from, from + 2, &mut sites)?;
-    place_sites(&sites, &mut channels, &mut vars)?;
-    let root = Part {
+    let body = part(alloc, program, program.body(), from, from + 2, sites)?;
+    Ok(Part {
         kind: PartKind::Root,
         request: 0,
         answer: 1,
         from,
         count: 2 + body.count,
         children: vec![in alloc; body]?,
-    };
+    })
+}
+
+/// The parts of a program of at most 65,536 nodes: a block for each channel and each variable, and the tree of parts.
+pub fn expand(alloc: Global, program: &Typed) -> Result<Parts, AllocError>
+    requires { node_count (program_of program.now) ≤ 65536 }
+    ensures { IfOk result (λ parts. expansion_of parts ≡ expansion (program_of program.now)) }
+{
+    let (mut channels, next) = channel_blocks(alloc, program)?;
+    let (mut vars, next) = var_blocks(alloc, program, next)?;
+    let mut sites = Vec::new(alloc);
+    let root = root(alloc, program, next, &mut sites)?;
+    place_sites(&sites, &mut channels, &mut vars)?;
     Ok(Parts {
         channels,
         vars,

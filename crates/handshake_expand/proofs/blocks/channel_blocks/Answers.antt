@@ -30,12 +30,12 @@ loop-channel-preserved c =
     let step = next_wires items i _ c.loop-channel-test.true c.channel-item.is in
     let from : c.loop-channel.next ≡ channel_from p i = c.loop-channel.invariant.next ∙ ap (λ cs. 2 + wires_before cs i) c.channels-channel-items.ensures in
     let value : block_value c.empty_block.result ≡ channel_block p [] i c.channel-item.result =
-        c.empty_block.ensures
-        ∙ (ap (λ n. record { from = n; count = 2 * c.from.result + 1; sends = []; receives = []; writes = [] }) from
-        ∙ ap (λ n. record { from = channel_from p i; count = 2 * n + 1; sends = []; receives = []; writes = [] }) c.from.ensures) in
+    c.empty_block.ensures
+    ∙ (ap (λ n. record { from = n; count = 2 * c.from.result + 1; sends = []; receives = []; writes = [] }) from
+    ∙ ap (λ n. record { from = channel_from p i; count = 2 * n + 1; sends = []; receives = []; writes = [] }) c.from.ensures) in
     record {
       blocks = ap (λ bs. map block_value bs ++ blocks_from (channel_block p []) (i + 1) (drop (i + 1) items)) c.in_ok-push.ensures.items
-        ∙ next_block (channel_block p []) c.loop-channel.blocks.items c.empty_block.result i items _ _ c.loop-channel-test.true c.channel-item.is value c.loop-channel.invariant.blocks;
+          ∙ next_block (channel_block p []) c.loop-channel.blocks.items c.empty_block.result i items _ _ c.loop-channel-test.true c.channel-item.is value c.loop-channel.invariant.blocks;
       next = omega (arith, step, c.loop-channel.invariant.next, c.from.ensures);
     }
 

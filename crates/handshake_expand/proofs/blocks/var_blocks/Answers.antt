@@ -30,12 +30,12 @@ loop-var-preserved c =
     let step = next_blocks items i _ c.loop-var-test.true c.var-item.is in
     let from : c.loop-var.next ≡ var_from p i = c.loop-var.invariant.next ∙ ap (λ vs. vars_from p + blocks_before vs i) c.vars-var-items.ensures in
     let value : block_value c.empty_block.result ≡ var_block p [] i c.var-item.result =
-        c.empty_block.ensures
-        ∙ (ap (λ n. record { from = n; count = c.block_nodes-nodes.result; sends = []; receives = []; writes = [] }) from
-        ∙ ap (λ n. record { from = var_from p i; count = n; sends = []; receives = []; writes = [] }) c.block_nodes-nodes.ensures) in
+    c.empty_block.ensures
+    ∙ (ap (λ n. record { from = n; count = c.block_nodes-nodes.result; sends = []; receives = []; writes = [] }) from
+    ∙ ap (λ n. record { from = var_from p i; count = n; sends = []; receives = []; writes = [] }) c.block_nodes-nodes.ensures) in
     record {
       blocks = ap (λ bs. map block_value bs ++ blocks_from (var_block p []) (i + 1) (drop (i + 1) items)) c.in_ok-push.ensures.items
-        ∙ next_block (var_block p []) c.loop-var.blocks.items c.empty_block.result i items _ _ c.loop-var-test.true c.var-item.is value c.loop-var.invariant.blocks;
+          ∙ next_block (var_block p []) c.loop-var.blocks.items c.empty_block.result i items _ _ c.loop-var-test.true c.var-item.is value c.loop-var.invariant.blocks;
       next = omega (arith, step, c.loop-var.invariant.next, c.block_nodes-nodes.ensures);
     }
 

@@ -48,12 +48,12 @@ loop-var-init c =
     let none : vars_from p + blocks_before vars 0 ≡ vars_from p = omega (arith, no_blocks_before vars) in
     let end : c.loop-channel.channel-index ≡ length channels = omega (arith, c.loop-channel-test.false, c.loop-channel.auto.channel-index-end) in
     let whole : wires_before channels c.loop-channel.channel-index ≡ wires_before p.channels (length p.channels) =
-        ap (wires_before channels) end ∙ ap (λ cs. wires_before cs (length cs)) c.channels-channel-items.ensures in
+    ap (wires_before channels) end ∙ ap (λ cs. wires_before cs (length cs)) c.channels-channel-items.ensures in
     record {
       name = ap (λ n. get_or (names_from_blocks p vars n) place []) none
-        ∙ (ap (λ vs. get_or (names_from_blocks p vs (vars_from p)) place []) c.vars-var-items.ensures
-        ∙ (sym (wires_over p channels c.loop-channel.channel-index place c.loop-channel-test.false)
-        ∙ c.loop-channel.invariant.name));
+          ∙ (ap (λ vs. get_or (names_from_blocks p vs (vars_from p)) place []) c.vars-var-items.ensures
+          ∙ (sym (wires_over p channels c.loop-channel.channel-index place c.loop-channel-test.false)
+          ∙ c.loop-channel.invariant.name));
       at = omega (arith, none, whole, c.loop-channel.invariant.at);
     }
 
@@ -113,9 +113,9 @@ loop-var-preserved c =
     let left : place - (6 * c.from-width.result - 1) ≡ place - block_size w = ap (λ n. place - (6 * n - 1)) c.from-width.ensures in
     record {
       name = ap (λ n. get_or (names_from_blocks p rest n) (place - (6 * c.from-width.result - 1)) []) next
-        ∙ (ap (λ n. get_or (names_from_blocks p rest (from + block_size w)) n []) left
-        ∙ (sym (block_behind p items i from place _ c.loop-var-test.true c.var-item.is some over)
-        ∙ c.loop-var.invariant.name));
+          ∙ (ap (λ n. get_or (names_from_blocks p rest (from + block_size w)) n []) left
+          ∙ (sym (block_behind p items i from place _ c.loop-var-test.true c.var-item.is some over)
+          ∙ c.loop-var.invariant.name));
       at = omega (arith, next, over, left, c.loop-var.invariant.at);
     }
 

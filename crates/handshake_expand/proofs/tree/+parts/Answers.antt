@@ -67,11 +67,11 @@ sequence-loop-place-preserved t c =
     let step : next + 3 + size_of p (process_of s) ≡ next + (3 + (out-Part child).count) = omega (arith, count) in
     record {
       children = front_more c.loop-place.children.items c.push.new.self.items child (expanded p (process_of s) next (next + 3)) _ _ _ c.in_ok-push.ensures.items c.in_ok-child.ensures.part
-        (expanded_here p members i s at c.loop-place.asked next within ∙ ap (λ n. and_child (expanded p (process_of s) next (next + 3)) (expanded_in_turn p behind (next + 2) n)) step)
-        c.loop-place.invariant.children;
+          (expanded_here p members i s at c.loop-place.asked next within ∙ ap (λ n. and_child (expanded p (process_of s) next (next + 3)) (expanded_in_turn p behind (next + 2) n)) step)
+          c.loop-place.invariant.children;
       sites = sites_more c.loop-place.sites.items c.part.new.sites.items (sites_in p (own_sites p) (process_of s) (next + 3)) _ _ _ c.in_ok-child.ensures.sites
-        (sites_here p members i s at (own_sites p) next within ∙ ap (λ n. sites_in p (own_sites p) (process_of s) (next + 3) ++ sites_in_turn p (own_sites p) behind n) step)
-        c.loop-place.invariant.sites;
+          (sites_here p members i s at (own_sites p) next within ∙ ap (λ n. sites_in p (own_sites p) (process_of s) (next + 3) ++ sites_in_turn p (own_sites p) behind n) step)
+          c.loop-place.invariant.sites;
       size = omega (arith, size, step, c.loop-place.invariant.size);
       answer = ap (turn_answer p behind) (sym step) ∙ (sym (answer_here p members i s at next within) ∙ c.loop-place.invariant.answer);
       formed = (this_typed _ _ members i s at (omega (arith, within)) c.loop-place.invariant.formed).1;
@@ -104,10 +104,10 @@ sequence-returns-clause-part t c =
     let count = child_count child p (process_of s) c.loop-place.asked next c.in_ok-child-2.ensures.part in
     let counts : next - c.args.from + (out-Part child).count ≡ turn_size p (members_of members) = omega (arith, size_last p members i s at whole, count, c.loop-place.invariant.size, c.loop-place.invariant.low) in
     made_part Sequence Sequence c.args.request _ _ c.args.from _ _ c.push-2.new.self _ refl
-      (child_answer child p (process_of s) c.loop-place.asked next c.in_ok-child-2.ensures.part ∙ (sym (answer_last p members i s at next whole) ∙ c.loop-place.invariant.answer))
-      counts
-      (front_done c.push-2.new.self.items no_children _ refl
-        (front_more c.loop-place.children.items c.push-2.new.self.items child (expanded p (process_of s) c.loop-place.asked next) _ no_children _ c.in_ok-push-2.ensures.items c.in_ok-child-2.ensures.part (expanded_last p members i s at c.loop-place.asked next whole) c.loop-place.invariant.children))
+    (child_answer child p (process_of s) c.loop-place.asked next c.in_ok-child-2.ensures.part ∙ (sym (answer_last p members i s at next whole) ∙ c.loop-place.invariant.answer))
+    counts
+    (front_done c.push-2.new.self.items no_children _ refl
+    (front_more c.loop-place.children.items c.push-2.new.self.items child (expanded p (process_of s) c.loop-place.asked next) _ no_children _ c.in_ok-push-2.ensures.items c.in_ok-child-2.ensures.part (expanded_last p members i s at c.loop-place.asked next whole) c.loop-place.invariant.children))
 
 pub sequence-returns-clause-sites : goal.sequence-returns-clause-sites
 sequence-returns-clause-sites t c =
@@ -152,11 +152,11 @@ parallel-loop-branch-preserved t c =
     let step : next + 3 + size_of p (process_of s) ≡ next + (3 + (out-Part child).count) = omega (arith, count) in
     record {
       children = front_more c.loop-branch.children.items c.push.new.self.items child (expanded p (process_of s) next (next + 3)) _ _ _ c.in_ok-push.ensures.items c.in_ok-child.ensures.part
-        (branch_expanded_here p branches i s within at next ∙ ap (λ n. and_child (expanded p (process_of s) next (next + 3)) (expanded_branches p behind n)) step)
-        c.loop-branch.invariant.children;
+          (branch_expanded_here p branches i s within at next ∙ ap (λ n. and_child (expanded p (process_of s) next (next + 3)) (expanded_branches p behind n)) step)
+          c.loop-branch.invariant.children;
       sites = sites_more c.loop-branch.sites.items c.part.new.sites.items (sites_in p (own_sites p) (process_of s) (next + 3)) _ _ _ c.in_ok-child.ensures.sites
-        (branch_sites_here p branches i s within at (own_sites p) next ∙ ap (λ n. sites_in p (own_sites p) (process_of s) (next + 3) ++ sites_in_branches p (own_sites p) behind n) step)
-        c.loop-branch.invariant.sites;
+          (branch_sites_here p branches i s within at (own_sites p) next ∙ ap (λ n. sites_in p (own_sites p) (process_of s) (next + 3) ++ sites_in_branches p (own_sites p) behind n) step)
+          c.loop-branch.invariant.sites;
       size = omega (arith, size, step, c.loop-branch.invariant.size);
       formed = (this_typed _ _ branches i s at within c.loop-branch.invariant.formed).1;
     }
@@ -185,9 +185,9 @@ parallel-returns-clause-part t c =
     let end = branch_size_end p branches i c.loop-branch-test.false in
     let counts : c.loop-branch.next - from + (length branches - 1) ≡ size_of p (side_by_side (members_of branches)) = omega (arith, end, members_counted branches, c.loop-branch.invariant.size) in
     made_part Parallel Parallel c.args.request _ _ from _ _ c.loop-branch.children _ refl
-      (ap (λ n. from + n - 1) counts)
-      counts
-      (front_done c.loop-branch.children.items _ _ (branch_expanded_end p branches i c.loop-branch-test.false c.loop-branch.next) c.loop-branch.invariant.children)
+    (ap (λ n. from + n - 1) counts)
+    counts
+    (front_done c.loop-branch.children.items _ _ (branch_expanded_end p branches i c.loop-branch-test.false c.loop-branch.next) c.loop-branch.invariant.children)
 
 -- selections
 
@@ -221,8 +221,8 @@ selection-loop-arm-init t c =
     let next : from + c.own_nodes.result + length arms + length arms + c.guard_nodes.result ≡ bodies_from choices (own_before again) from = omega (arith, size, arms_counted arms, c.own_nodes.ensures, c.guard_nodes.ensures, c.requires.room) in
     record {
       children = ap (λ xs. in_front xs (expanded_bodies p choices (from + c.own_nodes.result + length arms) (from + c.own_nodes.result + length arms + length arms + c.guard_nodes.result))) c.new-children.ensures.items
-        ∙ (ap (λ n. expanded_bodies p choices n (from + c.own_nodes.result + length arms + length arms + c.guard_nodes.result)) start
-        ∙ ap (expanded_bodies p choices (from + own_before again + choice_count choices)) next);
+          ∙ (ap (λ n. expanded_bodies p choices n (from + c.own_nodes.result + length arms + length arms + c.guard_nodes.result)) start
+          ∙ ap (expanded_bodies p choices (from + own_before again + choice_count choices)) next);
       sites = ap (λ n. c.args.sites.now.items ++ sites_in_bodies p (own_sites p) choices n) next;
       size = omega (arith, size, next);
       starts = omega (arith, size, start, arms_counted arms);
@@ -253,11 +253,11 @@ selection-loop-arm-preserved t c =
     let step : next + size_of p (process_of a.body) ≡ next + (out-Part child).count = omega (arith, count) in
     record {
       children = front_more c.loop-arm.children.items c.push.new.self.items child (expanded p (process_of a.body) start next) _ _ _ c.in_ok-push.ensures.items c.in_ok-child.ensures.part
-        (body_expanded_here p arms i a within at start next ∙ ap (λ n. and_child (expanded p (process_of a.body) start next) (expanded_bodies p behind (start + 1) n)) step)
-        c.loop-arm.invariant.children;
+          (body_expanded_here p arms i a within at start next ∙ ap (λ n. and_child (expanded p (process_of a.body) start next) (expanded_bodies p behind (start + 1) n)) step)
+          c.loop-arm.invariant.children;
       sites = sites_more c.loop-arm.sites.items c.part.new.sites.items (sites_in p (own_sites p) (process_of a.body) next) _ _ _ c.in_ok-child.ensures.sites
-        (body_sites_here p arms i a within at (own_sites p) next ∙ ap (λ n. sites_in p (own_sites p) (process_of a.body) next ++ sites_in_bodies p (own_sites p) behind n) step)
-        c.loop-arm.invariant.sites;
+          (body_sites_here p arms i a within at (own_sites p) next ∙ ap (λ n. sites_in p (own_sites p) (process_of a.body) next ++ sites_in_bodies p (own_sites p) behind n) step)
+          c.loop-arm.invariant.sites;
       size = omega (arith, size, step, c.loop-arm.invariant.size);
       starts = omega (arith, c.loop-arm.invariant.starts, within);
       formed = (arm_typed p arms i a within at _ _ c.loop-arm.invariant.formed).1;
@@ -275,7 +275,7 @@ selection-returns-clause-part t c =
     ] in
     let counts : c.loop-arm.next - c.args.from ≡ size_of p (choosing again (arms_of arms)) = omega (arith, body_size_end p arms i c.loop-arm-test.false, c.loop-arm.invariant.size) in
     made_part _ _ c.args.request _ _ c.args.from _ _ c.loop-arm.children _ kind refl counts
-      (front_done c.loop-arm.children.items _ _ (body_expanded_end p arms i c.loop-arm-test.false c.loop-arm.start c.loop-arm.next) c.loop-arm.invariant.children)
+    (front_done c.loop-arm.children.items _ _ (body_expanded_end p arms i c.loop-arm-test.false c.loop-arm.start c.loop-arm.next) c.loop-arm.invariant.children)
 
 pub selection-returns-clause-sites : goal.selection-returns-clause-sites
 selection-returns-clause-sites t c =
@@ -355,6 +355,6 @@ part-returns-in_ok-vec-in-Repeat-clause-part t c =
     let is : process_of c.args.s.now ≡ repeating s = ap process_of c.in-Repeat.is ∙ ap (λ s. repeating (process_of s)) (sym c.deref-in-Repeat.ensures) in
     let count = child_count c.in_ok-child-in-Repeat.child p s (from + 1) (from + 2) c.in_ok-child-in-Repeat.ensures.part in
     made_part Loop Loop c.args.request _ _ from _ _ c.in_ok-vec-in-Repeat.field-0 _ refl refl (ap (λ n. 2 + n) count)
-      (front_done c.in_ok-vec-in-Repeat.field-0.items no_children _ refl
-        (front_more [] c.in_ok-vec-in-Repeat.field-0.items c.in_ok-child-in-Repeat.child (expanded p s (from + 1) (from + 2)) (and_child (expanded p s (from + 1) (from + 2)) no_children) no_children _ c.in_ok-vec-in-Repeat.ensures.items c.in_ok-child-in-Repeat.ensures.part refl refl))
+    (front_done c.in_ok-vec-in-Repeat.field-0.items no_children _ refl
+    (front_more [] c.in_ok-vec-in-Repeat.field-0.items c.in_ok-child-in-Repeat.child (expanded p s (from + 1) (from + 2)) (and_child (expanded p s (from + 1) (from + 2)) no_children) no_children _ c.in_ok-vec-in-Repeat.ensures.items c.in_ok-child-in-Repeat.ensures.part refl refl))
     ∙ ap (λ q. expanded p q c.args.request from) (sym is)
