@@ -1,18 +1,18 @@
 -- Parallel compositions and selections, branch by branch.
-use Rattle.std.proofs.Common.{◌≡◌, ℕ, zero, suc, ◌+◌, ◌-◌, ◌*◌, ◌<◌, ◌≤◌, Bool, true, false, List, [], ◌∷◌, ◌++◌, length, get_or, drop, refl, sym, ap, ◌∙◌, subst, arith, append_assoc}
+use Rattle.std.proofs.Common.{◌≡◌, ℕ, ◌+◌, ◌*◌, ◌<◌, ◌≤◌, Bool, true, false, List, [], ◌++◌, length, get_or, drop, refl, sym, ap, ◌∙◌, subst, arith, append_assoc}
 use Rattle.std.proofs.lemmas.List.{append-nil}
 use Rattle.chp_base.specs.declared.channel.Channel.{Channel}
 use Rattle.width_check.specs.declared.typed.Var.{Var}
-use Rattle.width_check.specs.declared.typed.TStmt.{TStmt, Beside, Select, Repeat}
+use Rattle.width_check.specs.declared.typed.TStmt.{TStmt}
 use Rattle.width_check.specs.declared.typed.TArm.{TArm}
-use Rattle.width_check.specs.Processes.{Process, side_by_side, choosing, repeating, Processes, no_members, and_member, member_count, Choices, no_choices, and_choice, choice_count, TypedProgram}
-use Rattle.width_check.specs.Typing.{IsProcess, AreProcesses, AreChoices}
-use Rattle.width_check.specs.View.{formula_of, process_of}
-use Rattle.handshake_expand.specs.Layout.{size_of, branches_size, guards_size, bodies_size, formula_size}
-use Rattle.handshake_expand.specs.Answers.{answer_of, bodies_from, select_own, again_own}
-use Rattle.handshake_expand.specs.PartTree.{PartTrees, no_children, and_child, expanded, expanded_branches, expanded_bodies, members_of, arms_of, own_before, HasFormedGuards}
+use Rattle.width_check.specs.Processes.{choosing, Processes, member_count, Choices, no_choices, and_choice, choice_count, TypedProgram}
+use Rattle.width_check.specs.Typing.{IsProcess, AreChoices}
+use Rattle.width_check.specs.View.{process_of}
+use Rattle.handshake_expand.specs.Layout.{size_of, branches_size, guards_size, bodies_size}
+use Rattle.handshake_expand.specs.Answers.{bodies_from}
+use Rattle.handshake_expand.specs.PartTree.{no_children, and_child, expanded, expanded_branches, expanded_bodies, members_of, arms_of, own_before, HasFormedGuards}
 use Rattle.handshake_expand.specs.Sites.{Sites, sites_in, sites_in_branches, sites_in_bodies}
-use Rattle.handshake_expand.proofs.Rows.{beside_is, select_is, member_at, no_more_members, members_counted, arm_at, no_more_arms, arms_counted, branches_are, choosing_is}
+use Rattle.handshake_expand.proofs.Rows.{member_at, no_more_members, arm_at, no_more_arms, branches_are}
 
 -- a branch, and those behind it
 module _ (p : TypedProgram) (ss : List TStmt) (i : ℕ) (s : TStmt) (within : i < length ss) (is : s ≡ get_or ss i s) where

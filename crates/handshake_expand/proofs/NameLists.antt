@@ -1,5 +1,5 @@
 -- Which name stands at which place of the list of names.
-use Rattle.std.proofs.Common.{◌≡◌, ℕ, zero, suc, ◌+◌, ◌-◌, ◌*◌, ◌/◌, ◌%◌, ◌<◌, ◌≤◌, List, [], ◌∷◌, ◌++◌, length, get_or, take, drop, map, refl, sym, ap, ◌∙◌, subst, arith, length-append, append_assoc}
+use Rattle.std.proofs.Common.{◌≡◌, ℕ, zero, suc, ◌+◌, ◌-◌, ◌*◌, ◌/◌, ◌%◌, ◌<◌, ◌≤◌, List, [], ◌∷◌, ◌++◌, length, get_or, drop, refl, sym, ap, ◌∙◌, subst, arith, length-append, append_assoc}
 use Rattle.std.specs.Prelude.{codes, decimal, flat_map}
 use Rattle.std.specs.List.{range_with_len}
 use Rattle.std.proofs.lemmas.List.{get_or_append_left, get_or-append-add, get_or-append_right, drop_more, drop_all}
@@ -11,7 +11,7 @@ use Rattle.prs_core.specs.Nets.{true_rail, false_rail, rail_names, ack_name}
 use Rattle.width_check.specs.declared.typed.Var.{Var}
 use Rattle.width_check.specs.Processes.{TypedProgram}
 use Rattle.width_check.specs.Typing.{IsDeclaredVar}
-use Rattle.handshake_expand.specs.Layout.{wires_size, block_size, wires_before, blocks_before, channel_from, var_from, vars_from, root_request, size_of, nodes_of}
+use Rattle.handshake_expand.specs.Layout.{wires_size, block_size, wires_before, blocks_before, vars_from, root_request, size_of, nodes_of}
 use Rattle.handshake_expand.specs.Named.{numbered, numbered_from, wires_named, wire_names, bit_tails, bit_names, bits_named, block_names, node_names, name_of_node}
 
 -- lists of one length, one after another

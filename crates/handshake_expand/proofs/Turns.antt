@@ -1,5 +1,5 @@
 -- Sequences, member by member.
-use Rattle.std.proofs.Common.{◌≡◌, ℕ, zero, suc, ◌+◌, ◌-◌, ◌<◌, ◌≤◌, List, [], ◌∷◌, ◌++◌, length, get_or, drop, refl, sym, ap, ◌∙◌, subst, arith, length-drop}
+use Rattle.std.proofs.Common.{◌≡◌, ℕ, ◌+◌, ◌<◌, ◌≤◌, List, ◌++◌, length, get_or, drop, refl, ap, ◌∙◌, subst, arith, length-drop}
 use Rattle.std.specs.declared.alloc.Global.{Global}
 use Rattle.std.specs.declared.vec.Vec.{Vec}
 use Rattle.chp_base.specs.declared.channel.Channel.{Channel}
@@ -10,7 +10,7 @@ use Rattle.width_check.specs.Processes.{Process, in_turn, Processes, no_members,
 use Rattle.width_check.specs.View.{process_of}
 use Rattle.handshake_expand.specs.Layout.{size_of, turn_size}
 use Rattle.handshake_expand.specs.Answers.{answer_of, turn_answer}
-use Rattle.handshake_expand.specs.PartTree.{PartTrees, no_children, and_child, expanded, expanded_in_turn, members_of}
+use Rattle.handshake_expand.specs.PartTree.{no_children, and_child, expanded, expanded_in_turn, members_of}
 use Rattle.handshake_expand.specs.Sites.{Sites, sites_in, sites_in_turn}
 use Rattle.handshake_expand.proofs.Rows.{then_is, member_at, no_more_members, members_counted}
 

@@ -1,5 +1,5 @@
 -- The parts of which a program's circuit is made, one for each statement, as a tree under the root.
-use Rattle.std.specs.Prelude.{ℕ, ◌+◌, Bool, true, false, if◌then◌else◌, List, [], ◌∷◌}
+use Rattle.std.specs.Prelude.{ℕ, ◌+◌, Bool, if◌then◌else◌, List, [], ◌∷◌}
 use Rattle.width_check.specs.declared.typed.TArm.{TArm}
 use Rattle.width_check.specs.declared.typed.TStmt.{TStmt}
 use Rattle.width_check.specs.Processes.{Process, skipping, assigning, sending, receiving, in_turn, side_by_side, choosing, repeating, Processes, no_members, and_member, Choices, no_choices, and_choice, choice_count, TypedProgram}

@@ -1,6 +1,6 @@
 -- Where the statements of a program send, receive and write.
-use Rattle.std.specs.Prelude.{ℕ, ◌+◌, Bool, true, false, List, [], ◌∷◌, ◌++◌}
-use Rattle.width_check.specs.Processes.{Process, skipping, assigning, sending, receiving, in_turn, side_by_side, choosing, repeating, Processes, no_members, and_member, Choices, no_choices, and_choice, TypedProgram}
+use Rattle.std.specs.Prelude.{ℕ, ◌+◌, true, false, List, [], ◌∷◌, ◌++◌}
+use Rattle.width_check.specs.Processes.{Process, assigning, sending, receiving, in_turn, side_by_side, choosing, repeating, Processes, no_members, and_member, Choices, no_choices, and_choice, TypedProgram}
 use Rattle.handshake_expand.specs.declared.site.SiteNode.{SiteNode}
 use Rattle.handshake_expand.specs.declared.site.SiteKind.{SiteKind}
 use Rattle.handshake_expand.specs.declared.site.SiteKind.TheVariants.{Send, Receive, Write}

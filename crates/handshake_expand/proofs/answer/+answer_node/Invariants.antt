@@ -1,9 +1,9 @@
-use Rattle.std.proofs.Common.{◌≡◌, ◌+◌, ◌<◌, ◌^◌, drop, vec_len}
+use Rattle.std.proofs.Common.{◌≡◌, ◌+◌, ◌<◌, ◌^◌, drop}
 use Rattle.width_check.specs.Typed.{program_of}
 use Rattle.width_check.specs.Typing.{AreProcesses}
 use Rattle.width_check.specs.View.{process_of}
 use Rattle.handshake_expand.specs.Answers.{answer_of, turn_answer}
-use Rattle.handshake_expand.specs.Layout.{size_of, turn_size}
+use Rattle.handshake_expand.specs.Layout.{turn_size}
 use Rattle.handshake_expand.specs.PartTree.{members_of}
 use Rattle.handshake_expand.proofs.answer.+answer_node.Given as goal
 

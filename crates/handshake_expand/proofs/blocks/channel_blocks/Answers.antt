@@ -1,6 +1,6 @@
-use Rattle.std.proofs.Common.{◌≡◌, ◌+◌, ◌*◌, [], ◌++◌, length, map, drop, ap, sym, ◌∙◌, arith}
+use Rattle.std.proofs.Common.{◌≡◌, ◌+◌, ◌*◌, [], ◌++◌, length, map, drop, ap, ◌∙◌, arith}
 use Rattle.width_check.specs.Typed.{program_of}
-use Rattle.handshake_expand.specs.Expansions.{BlockValue, block_value, channel_block, blocks_from, channel_blocks}
+use Rattle.handshake_expand.specs.Expansions.{block_value, channel_block, blocks_from}
 use Rattle.handshake_expand.specs.Layout.{wires_before, channel_from}
 use Rattle.handshake_expand.proofs.Placing.{next_block, all_blocks_made, wires_within}
 use Rattle.handshake_expand.proofs.NameLists.{next_wires, no_wires_before}

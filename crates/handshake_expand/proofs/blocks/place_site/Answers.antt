@@ -1,4 +1,4 @@
-use Rattle.std.proofs.Common.{◌≡◌, false, get_or, ap}
+use Rattle.std.proofs.Common.{get_or, ap}
 use Rattle.handshake_expand.specs.Expansions.{block_value, same_kind}
 use Rattle.handshake_expand.specs.declared.site.SiteKind.TheVariants.{Send, Receive, Write}
 use Rattle.handshake_expand.proofs.Placing.{channels_missed, vars_missed, send_placed, receive_placed, write_placed, send_unplaced, receive_unplaced, write_unplaced}

@@ -1,6 +1,6 @@
-use Rattle.std.proofs.Common.{◌≡◌, ◌+◌, ◌*◌, [], ◌++◌, length, map, drop, ap, sym, ◌∙◌, arith}
+use Rattle.std.proofs.Common.{◌≡◌, ◌+◌, [], ◌++◌, length, map, drop, ap, ◌∙◌, arith}
 use Rattle.width_check.specs.Typed.{program_of}
-use Rattle.handshake_expand.specs.Expansions.{BlockValue, block_value, var_block, blocks_from, var_blocks}
+use Rattle.handshake_expand.specs.Expansions.{block_value, var_block, blocks_from}
 use Rattle.handshake_expand.specs.Layout.{blocks_before, var_from, vars_from}
 use Rattle.handshake_expand.proofs.Placing.{next_block, all_blocks_made, blocks_within}
 use Rattle.handshake_expand.proofs.NameLists.{next_blocks, no_blocks_before}

@@ -1,7 +1,6 @@
-use Rattle.std.proofs.Common.{◌≡◌, ◌+◌, ◌-◌, ◌*◌, ◌<◌, ◌≤◌, [], length, get_or, drop, ap, sym, ◌∙◌, arith}
+use Rattle.std.proofs.Common.{◌≡◌, ◌+◌, ◌-◌, ◌*◌, ◌≤◌, [], length, get_or, drop, ap, sym, ◌∙◌, arith}
 use Rattle.width_check.specs.Typed.{program_of}
 use Rattle.handshake_expand.specs.Layout.{wires_size, block_size, wires_before, blocks_before, vars_from, root_request}
-use Rattle.handshake_expand.specs.Named.{name_of_node}
 use Rattle.handshake_expand.proofs.NameLists.{names_from_wires, names_from_blocks, first_named, no_wires_before, no_blocks_before, next_wires, next_blocks, wire_here, wire_behind, wires_over, bit_here, tree_here, block_behind, blocks_over, some_width}
 use Rattle.handshake_expand.proofs.name.node_name.Goals as goal
 

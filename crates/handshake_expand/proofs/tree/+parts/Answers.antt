@@ -1,4 +1,4 @@
-use Rattle.std.proofs.Common.{◌≡◌, ℕ, ◌+◌, ◌-◌, ◌*◌, ◌<◌, ◌≤◌, Bool, true, false, List, [], ◌∷◌, ◌++◌, length, get_or, drop, refl, sym, ap, ◌∙◌, subst, rules, arith}
+use Rattle.std.proofs.Common.{◌≡◌, ◌+◌, ◌-◌, ◌<◌, Bool, [], ◌++◌, length, get_or, drop, refl, sym, ap, ◌∙◌, subst, rules, arith}
 use Rattle.std.specs.Prelude.{if◌then◌else◌, IfOk, OnOk}
 use Rattle.std.proofs.lemmas.List.{get_or_read}
 use Rattle.width_check.specs.declared.typed.TStmt.{the_lemmas}
@@ -7,14 +7,13 @@ use Rattle.width_check.specs.Typed.{program_of}
 use Rattle.width_check.specs.Typing.{IsProcess}
 use Rattle.width_check.specs.View.{process_of}
 use Rattle.handshake_expand.specs.declared.parts.Part.{Part, out-Part}
-use Rattle.handshake_expand.specs.declared.parts.PartKind.{PartKind}
 use Rattle.handshake_expand.specs.declared.parts.PartKind.TheVariants.{Loop, Sequence, Parallel, Select, Again}
-use Rattle.handshake_expand.specs.Layout.{size_of, turn_size, branches_size}
-use Rattle.handshake_expand.specs.Answers.{answer_of, turn_answer, bodies_from}
-use Rattle.handshake_expand.specs.PartTree.{part, no_children, and_child, tree_of, expanded, expanded_in_turn, expanded_branches, expanded_bodies, members_of, arms_of, own_before}
+use Rattle.handshake_expand.specs.Layout.{size_of, turn_size}
+use Rattle.handshake_expand.specs.Answers.{turn_answer, bodies_from}
+use Rattle.handshake_expand.specs.PartTree.{no_children, and_child, tree_of, expanded, expanded_in_turn, expanded_branches, expanded_bodies, members_of, arms_of, own_before}
 use Rattle.handshake_expand.specs.Sites.{own_sites, sites_in, sites_in_turn, sites_in_branches, sites_in_bodies}
-use Rattle.handshake_expand.proofs.Branches.{branch_size_here, branch_expanded_here, branch_sites_here, branch_size_end, branch_expanded_end, branch_sites_end, body_size_here, body_expanded_here, body_sites_here, arm_typed, body_size_end, body_expanded_end, body_sites_end, choosing_sites, choosing_size, guards_formed, three_each, sites_more, sites_done}
-use Rattle.handshake_expand.proofs.Rows.{then_is, beside_is, select_is, member_at, members_counted, arms_counted}
+use Rattle.handshake_expand.proofs.Branches.{branch_size_here, branch_expanded_here, branch_sites_here, branch_size_end, branch_expanded_end, body_size_here, body_expanded_here, body_sites_here, arm_typed, body_size_end, body_expanded_end, body_sites_end, choosing_sites, choosing_size, guards_formed, three_each, sites_more, sites_done}
+use Rattle.handshake_expand.proofs.Rows.{then_is, beside_is, select_is, members_counted, arms_counted}
 use Rattle.handshake_expand.proofs.Trees.{in_front, front_more, front_done, child_count, child_answer, made_part}
 use Rattle.handshake_expand.proofs.Turns.{this_typed, size_here, size_last, answer_here, answer_last, expanded_here, expanded_last, sites_here, sites_last}
 use Rattle.handshake_expand.proofs.tree.+parts.Goals as goal

@@ -1,5 +1,5 @@
 use Rattle.std.proofs.Common.{◌≡◌, ◌+◌, ◌-◌, ◌≤◌, ◌++◌, length, drop}
-use Rattle.width_check.specs.Processes.{in_turn, choosing, choice_count}
+use Rattle.width_check.specs.Processes.{choosing, choice_count}
 use Rattle.width_check.specs.Typed.{program_of}
 use Rattle.width_check.specs.Typing.{AreProcesses, AreChoices}
 use Rattle.handshake_expand.specs.Layout.{size_of, turn_size, branches_size, bodies_size}

@@ -1,9 +1,9 @@
-use Rattle.std.proofs.Common.{◌≡◌, ◌+◌, ◌≤◌, List, [], ◌++◌, length, map, refl, sym, ap, ◌∙◌, arith}
+use Rattle.std.proofs.Common.{◌≡◌, List, ◌++◌, length, map, ap, ◌∙◌, arith}
 use Rattle.std.proofs.lemmas.List.{with_items_is}
 use Rattle.width_check.specs.Typed.{program_of}
 use Rattle.handshake_expand.specs.declared.site.SiteNode.{SiteNode}
-use Rattle.handshake_expand.specs.Expansions.{BlockValue, Expansion, block_value, channel_blocks, var_blocks, expansion}
-use Rattle.handshake_expand.specs.PartTree.{PartTree, root_part}
+use Rattle.handshake_expand.specs.Expansions.{BlockValue, Expansion, block_value, channel_blocks, var_blocks}
+use Rattle.handshake_expand.specs.PartTree.{PartTree}
 use Rattle.handshake_expand.specs.Sites.{own_sites, in_body}
 use Rattle.handshake_expand.proofs.tree.expand.Goals as goal
 

@@ -1,11 +1,10 @@
-use Rattle.std.proofs.Common.{◌≡◌, ◌+◌, ◌≤◌, List, [], ◌++◌, refl, sym, ap, ◌∙◌, subst, arith}
+use Rattle.std.proofs.Common.{◌≡◌, ◌+◌, [], ◌++◌, refl, sym, ap, ◌∙◌, subst, arith}
 use Rattle.width_check.specs.Processes.{Process}
 use Rattle.width_check.specs.Typed.{program_of}
 use Rattle.width_check.specs.Typing.{IsProcess}
 use Rattle.width_check.specs.View.{process_of}
-use Rattle.handshake_expand.specs.declared.parts.Part.{out-Part}
 use Rattle.handshake_expand.specs.declared.parts.PartKind.TheVariants.{Root}
-use Rattle.handshake_expand.specs.Layout.{size_of, root_request}
+use Rattle.handshake_expand.specs.Layout.{size_of}
 use Rattle.handshake_expand.specs.PartTree.{part, no_children, and_child, expanded}
 use Rattle.handshake_expand.specs.Sites.{own_sites, sites_in}
 use Rattle.handshake_expand.proofs.Trees.{front_more, front_done, child_count, made_part}

@@ -1,9 +1,9 @@
-use Rattle.std.proofs.Common.{◌≡◌, ◌<◌, ◌^◌, ap, ◌∙◌, arith}
+use Rattle.std.proofs.Common.{◌≡◌, ap, ◌∙◌, arith}
 use Rattle.width_check.specs.Typed.{program_of}
 use Rattle.width_check.specs.View.{process_of}
 use Rattle.handshake_expand.specs.Layout.{size_of}
 use Rattle.handshake_expand.specs.Answers.{answer_of}
-use Rattle.handshake_expand.specs.PartTree.{part, part_kind, each_tree, no_children}
+use Rattle.handshake_expand.specs.PartTree.{part, part_kind, each_tree}
 use Rattle.handshake_expand.proofs.Trees.{made_tree}
 use Rattle.handshake_expand.proofs.tree.single.Goals as goal
 
