@@ -1,37 +1,23 @@
 -- A spot that stands for no node never moves.
-use Rattle.std.proofs.Common.{◌≡◌, ℕ, zero, suc, ◌≤◌, Bool, false, refl, arith}
+use Rattle.std.proofs.Common.{◌≡◌, ℕ, ◌≤◌, Bool, true, false, refl, arith}
 use Rattle.std.proofs.lemmas.Bool.Decides.{nat_tests}
 use Rattle.std.specs.Prelude.{nat_lt}
-use Rattle.width_check.specs.Processes.{Formula, constant, reading, joined, inverted, chained, compared, Process, skipping, assigning, sending, receiving, in_turn, side_by_side, choosing, repeating, Processes, no_members, and_member, member_count}
+use Rattle.width_check.specs.Processes.{Formula, Process, skipping, assigning, sending, receiving, in_turn, side_by_side, choosing, repeating, Processes, no_members, and_member, member_count}
 use Rattle.circuit_places.specs.Lines.{Line, of_channel, of_var, same_line, site_statement, line_width, Rails, Seen}
-use Rattle.circuit_places.specs.Circuit.{Site, SiteSpot, site_stands, site_rule, Guarded, Cells, TurnCells, BranchCells, Pairs, gate_count, bit_at, joint_count, branch_ends, GuardedSpot, Spot, TurnSpot, BranchSpot, child, latch, next, inner, of_skip, done, gate, of_assign, of_send, in_members, of_branch, joint, in_this, in_others, of_loop, ask, in_body, in_last, in_member, in_later, guarded_stands, stands, turn_stands, branch_stands, fires, constant_rule, gate_rule, guarded_rule, rule, turn_rule, branch_rule}
+use Rattle.circuit_places.specs.Circuit.{Site, SiteSpot, site_stands, site_rule, Guarded, Cells, TurnCells, BranchCells, gate_count, bit_at, joint_count, branch_ends, GuardedSpot, Spot, TurnSpot, BranchSpot, child, latch, next, inner, of_skip, done, gate, of_assign, of_send, in_members, of_branch, joint, in_this, in_others, of_loop, ask, in_body, in_last, in_member, in_later, guarded_stands, stands, turn_stands, branch_stands, fires, gate_rule, guarded_rule, rule, turn_rule, branch_rule}
+use Rattle.circuit_places.proofs.RailLemmas.{gate_there}
 use Rattle.circuit_places.proofs.Trees.{joint_absent}
-
-below_next : (n i : ℕ) → nat_lt (suc i) (suc n) ≡ false → nat_lt i n ≡ false
-below_next n i h = grind (arith, nat_tests)
-
-first_below : (n : ℕ) → nat_lt zero (suc n) ≡ false → ⊥
-first_below n h = grind (arith, nat_tests)
 
 not_below : (i n : ℕ) → nat_lt i n ≡ false → n ≤ i
 not_below i n h = grind (arith, nat_tests)
 
-absent_bit : (n v i : ℕ) (r : Bool) (x : Pairs n) (one : Bool) → nat_lt i n ≡ false → fires (constant_rule n v r x i one) ≡ false
-absent_bit zero v i r x one h = refl
-absent_bit (suc n) v zero r x one h = absurd (first_below n h)
-absent_bit (suc n) v (suc i) r x one h = absent_bit n _ i r x.1 one (below_next n i h)
-
-absent_gate : (e : Formula) (i : ℕ) (r : Bool) (x : Pairs (gate_count e)) (one : Bool) → nat_lt i (gate_count e) ≡ false → fires (gate_rule e r x i one) ≡ false
-absent_gate (constant w v) i r x one h = absent_bit w v i r x one h
-absent_gate (reading z high low at) i r x one h = refl
-absent_gate (joined parts) i r x one h = refl
-absent_gate (inverted e) i r x one h = refl
-absent_gate (chained e more) i r x one h = refl
-absent_gate (compared op e f) i r x one h = refl
-
-absent_site : (e : Formula) (ack r : Bool) (x : Site (gate_count e)) (s : SiteSpot e) → site_stands s ≡ false → fires (site_rule e ack r x s) ≡ false
-absent_site e ack r x done h = absurd (cc h)
-absent_site e ack r x (gate i one) h = absent_gate e i r x.gates one h
+absent_site : (e : Formula) (bits : ℕ → Rails) (ack r : Bool) (x : Site (gate_count e)) (s : SiteSpot e) → site_stands s ≡ false → fires (site_rule e bits ack r x s) ≡ false
+absent_site e bits ack r x done h = absurd (cc h)
+absent_site e bits ack r x (gate k one) h = here (fires (gate_rule e bits r x.gates k one)) refl
+  where
+    here : (b : Bool) → fires (gate_rule e bits r x.gates k one) ≡ b → b ≡ false
+    here true z = absurd (let g : ⊥ = omega (arith, gate_there e bits r x.gates k one z, not_below k (gate_count e) h) in g)
+    here false z = refl
 
 mutual
   pub guarded_absent : (p : Process) (env : Seen) (r : Bool) (x : Guarded (Cells p)) (s : GuardedSpot p) → guarded_stands s ≡ false → fires (guarded_rule p env r x s) ≡ false
@@ -42,8 +28,8 @@ mutual
 
   pub absent : (p : Process) (env : Seen) (r : Bool) (x : Cells p) (s : Spot p) → stands s ≡ false → fires (rule p env r x s) ≡ false
   absent skipping env r x of_skip h = absurd (cc h)
-  absent (assigning y at e) env r x (of_assign s) h = absent_site e (env.ack (of_var y)) r x s h
-  absent (sending c at e) env r x (of_send s) h = absent_site e (env.ack (of_channel c)) r x s h
+  absent (assigning y at e) env r x (of_assign s) h = absent_site e env.bit (env.ack (of_var y)) r x s h
+  absent (sending c at e) env r x (of_send s) h = absent_site e env.bit (env.ack (of_channel c)) r x s h
   absent (in_turn members) env r x (in_members s) h = turn_absent members env r x s h
   absent (repeating p) env r x of_loop h = absurd (cc h)
   absent (repeating p) env r x ask h = absurd (cc h)

@@ -204,6 +204,19 @@ still_from n a b c = subst (λ x. not (x || (may rail_f n || may written n)) ≡
 pub waits : (n : Now) → legal n ≡ true → n.wa ≡ n.va → may rail_t n ≡ false → may rail_f n ≡ false → may written n ≡ false → (may write_t n || may write_f n) ≡ true
 waits n l e a b c = implies_at (not (moves n)) (may write_t n || may write_f n) (implies_both (legal n) (agree n.wa n.va) (implies (not (moves n)) (may write_t n || may write_f n)) (at_now waits_test refl n) l (agree_from n.wa n.va e)) (still_from n a b c)
 
+-- one rail of the value at most is high, and one is where none of them moves
+pub single_bit : (n : Now) → legal n ≡ true → not (n.xt && n.xf) ≡ true
+single_bit n = implies_at (legal n) (not (n.xt && n.xf)) (at_now (λ n. implies (legal n) (not (n.xt && n.xf))) refl n)
+
+abbrev rails_rest : Now → Bool
+rails_rest n = not (may rail_t n || may rail_f n)
+
+rests_from : (n : Now) → may rail_t n ≡ false → may rail_f n ≡ false → rails_rest n ≡ true
+rests_from n a b = subst (λ x. not (x || may rail_f n) ≡ true) (sym a) (subst (λ x. not x ≡ true) (sym b) refl)
+
+pub some_bit : (n : Now) → legal n ≡ true → may rail_t n ≡ false → may rail_f n ≡ false → (n.xt || n.xf) ≡ true
+some_bit n l a b = implies_both (legal n) (rails_rest n) (n.xt || n.xf) (at_now (λ n. implies (legal n) (implies (rails_rest n) (n.xt || n.xf))) refl n) l (rests_from n a b)
+
 -- two roles are one, or each is the other's other
 pub role_cases : (k j : Role) → (k ≡ j) ⊎ (is_other k j ≡ true)
 role_cases rail_t rail_t = inl refl

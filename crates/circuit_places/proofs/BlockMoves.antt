@@ -10,20 +10,20 @@ use Rattle.chp_meaning.specs.Terms.{Term}
 use Rattle.circuit_places.specs.Lines.{Line, of_channel, of_var, same_line, line_width, Rails}
 use Rattle.circuit_places.specs.Circuit.{GuardedSpot, fires, same_bit, tree_answer}
 use Rattle.circuit_places.specs.Whole.{Wires, seen, line_ack, is_merged, bit_rule, wrote_rule, value_on, neutral_on, Node, go_node, own_node, rail_node, ack_node, bit_node, wrote_node, joint_node, answers, ack_turned, rails_turned, bit_turned, wrote_turned, joint_turned, passed, passed_after}
-use Rattle.circuit_places.proofs.Waves.{fst_true, snd_true, not_true}
-use Rattle.circuit_places.proofs.Writing.{guarded_writing_there, guarded_writing_same}
+use Rattle.circuit_places.proofs.RailLemmas.{fst_true, snd_true, not_true}
+use Rattle.circuit_places.proofs.Writing.{guarded_writing_there, guarded_writing_same, guarded_writing_unread}
 use Rattle.circuit_places.proofs.LineNames.{self_number, same_number}
 use Rattle.circuit_places.proofs.Trees.{node_moves}
 use Rattle.circuit_places.proofs.Places.{Mode, idle, running, answered, returning, GuardedAt, g_rests, g_in, rests, guarded_writing, guarded_moves}
 use Rattle.circuit_places.proofs.Flow.{cases}
 use Rattle.circuit_places.proofs.Control.{guarded_advance}
-use Rattle.circuit_places.proofs.Change.{AckTurned}
+use Rattle.circuit_places.proofs.Change.{GuardedChanged, guarded_changed, AckTurned, Unread, unread_down, bit_leaves}
 use Rattle.circuit_places.proofs.Fires.{Passes}
 use Rattle.circuit_places.proofs.Talks.{either}
 use Rattle.circuit_places.proofs.Meets.{sends_merged}
 use Rattle.circuit_places.proofs.Blocks.{now_at, bit_can, moves_written, Block, Acked, ack_stays, ack_turns, bit_moved, wrote_turns, joint_turns, joint_some, ready_valid, ready_neutral}
-use Rattle.circuit_places.proofs.System.{Good, can, root_left, Passing, Others, Stored, no_store, cleared, stores, Next, takes_of, may_low, may_high, Fitted, passed_far, own_next}
-use Rattle.circuit_places.proofs.LineMoves.{freed, still_changed, still_left, SeenChanged, seen_still, rail_next, line_rises, line_passes, line_falls, line_stays}
+use Rattle.circuit_places.proofs.System.{Good, clean_of, can, root_left, Passing, Others, Stored, no_store, cleared, stores, Next, takes_of, may_low, may_high, Fitted, passed_far, own_next}
+use Rattle.circuit_places.proofs.LineMoves.{freed, still_changed, still_left, SeenChanged, seen_by, seen_still, rail_next, line_rises, line_passes, line_falls, line_stays}
 
 -- the environment reads the acknowledge and the rails of the channel alone
 same_answers : (w now : Wires) (c : ℕ) → now.ack c ≡ w.ack c → now.rail (of_channel c) ≡ w.rail (of_channel c) → (offer : OfferValue) (n done : ℕ) → answers n now c done offer ≡ answers n w c done offer
@@ -43,7 +43,7 @@ module _ (P : TypedProgram) (script : List OfferValue) {m : Mode} {g : GuardedAt
     acked = ack_turned w k
 
     ack_is : AckTurned (seen P w) (seen P acked) (of_channel k)
-    ack_is = record { here = ap (λ b. if b then not (w.ack k) else w.ack k) (self_number k); far = far }
+    ack_is = record { here = ap (λ b. if b then not (w.ack k) else w.ack k) (self_number k); far = far; bits = refl }
       where
         far : (l : Line) → same_line l (of_channel k) ≡ false → line_ack P acked l ≡ line_ack P w l
         far (of_channel c) e = ap (λ b. if b then not (w.ack k) else w.ack c) e
@@ -72,7 +72,7 @@ module _ (P : TypedProgram) (script : List OfferValue) {m : Mode} {g : GuardedAt
     ack_others (wrote_node x j) ne l z = z
     ack_others (joint_node x j) ne l z = z
 
-    acked_by : SeenChanged P script hs good acked → Passing P (of_channel k) (w.rail (of_channel k)) (w.ack k) (root_left (line_ack P w) g) (root_left (line_ack P acked) g) → Next P script m g w hs (ack_node k)
+    acked_by : SeenChanged P script hs good acked → Passing P (seen P w) (guarded_writing (line_ack P w) g) (of_channel k) (w.ack k) (root_left (line_ack P w) g) (root_left (line_ack P acked) g) → Next P script m g w hs (ack_node k)
     acked_by x term = record {
       mode = m;
       to = g;
@@ -94,11 +94,11 @@ module _ (P : TypedProgram) (script : List OfferValue) {m : Mode} {g : GuardedAt
         (λ (h : w.ack k ≡ true).
         let lows = may_high (channel_width P.channels k) w k (is_over t.count (completed hs k)) h t.may in
         acked_by (line_falls P script hs good (of_channel k) acked ack_is refl merged h lows)
-        (subst (λ (b : Bool). Passing P (of_channel k) (w.rail (of_channel k)) b (root_left (line_ack P w) g) (root_left (line_ack P acked) g)) (sym h) (line_stays P script hs good (of_channel k) acked ack_is refl merged h lows)))
+        (subst (λ (b : Bool). Passing P (seen P w) (guarded_writing (line_ack P w) g) (of_channel k) b (root_left (line_ack P w) g) (root_left (line_ack P acked) g)) (sym h) (line_stays P script hs good (of_channel k) acked ack_is refl merged h lows)))
         (λ (h : w.ack k ≡ false).
         let some = (may_low (channel_width P.channels k) w k (is_over t.count (completed hs k)) h t.may).0 in
         acked_by (line_rises P script hs good (of_channel k) acked ack_is refl merged h some (fitted.wide k within))
-        (subst (λ (b : Bool). Passing P (of_channel k) (w.rail (of_channel k)) b (root_left (line_ack P w) g) (root_left (line_ack P acked) g)) (sym h) (line_passes P script hs good (of_channel k) acked ack_is refl merged h some (fitted.wide k within))))
+        (subst (λ (b : Bool). Passing P (seen P w) (guarded_writing (line_ack P w) g) (of_channel k) b (root_left (line_ack P w) g) (root_left (line_ack P acked) g)) (sym h) (line_passes P script hs good (of_channel k) acked ack_is refl merged h some (fitted.wide k within))))
 
   -- a rail of a bit moves
   module _ (x i : ℕ) (one : Bool) where
@@ -128,12 +128,20 @@ module _ (P : TypedProgram) (script : List OfferValue) {m : Mode} {g : GuardedAt
             let low = not_true (line_ack P w (of_var x)) (fst_true (not (line_ack P w (of_var x))) _ h) in
             either (w.rail (of_var x) i true) (w.rail (of_var x) i false) (snd_true (not (line_ack P w (of_var x))) _ h) (there true low) (there false low)
 
+    -- and so it isn't read
+    bit_changed : i < var_width P.vars x → fires (bit_rule (w.rail (of_var x)) (w.bit x) i one) ≡ true → GuardedChanged P.body m (seen P w) (seen P bitten) g
+    bit_changed less e = guarded_changed P (seen P w) (seen P bitten) (Unread x) (unread_down x) (bit_leaves P (seen P w) (seen P bitten) x bit_acks bit_far) g good.meets
+        (record { read = guarded_writing_unread P (line_ack P w) g good.meets x (being_written less e) }) good.fits
+      where
+        bit_far : (y : ℕ) → (y == x) ≡ false → bitten.bit y ≡ w.bit y
+        bit_far y h = ap (λ (b : Bool). if b then rails_turned (w.bit x) i one else w.bit y) h
+
     pub bit_next : can P script g w hs (bit_node x i one) ≡ true → Next P script m g w hs (bit_node x i one)
     bit_next e =
         let n = var_width P.vars x in
         let less = bit_below e in
         let r = bit_moved n (w.bit x) (w.rail (of_var x)) (w.wrote x) (w.joint x) (good.block x (some_of less)) i one less e in
-        let c = seen_still P script hs good bitten refl bit_acks in
+        let c = seen_by P script hs good bitten refl bit_acks (bit_changed less e) in
         record {
           mode = m;
           to = g;
@@ -160,7 +168,7 @@ module _ (P : TypedProgram) (script : List OfferValue) {m : Mode} {g : GuardedAt
           frees = λ y. cases (y == x)
               (λ (h : (y == x) ≡ true). λ f. absurd (cc (sym (guarded_writing_same (line_ack P w) (line_ack P bitten) g y (bit_acks (of_var y))) ∙ f, subst (λ (v : ℕ). guarded_writing (line_ack P w) g v ≡ true) (sym (same_number y x h)) (being_written less e))))
               (λ (h : (y == x) ≡ false). freed P script hs good bitten y (ap (λ (b : Bool). if b then rails_turned (w.bit x) i one else w.bit y) h));
-          keeps = λ q ne z. others q ne r.bits r.wrotes z;
+          keeps = λ q ne z. others q ne c.keeps r.bits r.wrotes z;
         }
       where
         below : (y j : ℕ) (s : Bool) → i < var_width P.vars x → bitten.bit y j s ≡ true → j < var_width P.vars y
@@ -173,43 +181,43 @@ module _ (P : TypedProgram) (script : List OfferValue) {m : Mode} {g : GuardedAt
                 (λ (h : ((j == i) && same_bit s one) ≡ true). subst (λ (v : ℕ). v < var_width P.vars x) (sym (same_number j i (fst_true (j == i) (same_bit s one) h))) less)
                 (λ (h : ((j == i) && same_bit s one) ≡ false). good.no_bit x j s (ap (λ b. if b then not (w.bit x i one) else w.bit x j s) (sym h) ∙ z))
 
-        others : (q : Node P.body) → q ≢ bit_node x i one → ((j : ℕ) (s : Bool) → (j ≡ i → s ≡ one → ⊥) → fires (bit_rule (w.rail (of_var x)) (w.bit x) j s) ≡ true → fires (bit_rule (w.rail (of_var x)) (rails_turned (w.bit x) i one) j s) ≡ true)
+        others : (q : Node P.body) → q ≢ bit_node x i one → ((s : GuardedSpot P.body) → guarded_moves (seen P w) g s ≡ true → guarded_moves (seen P bitten) g s ≡ true) → ((j : ℕ) (s : Bool) → (j ≡ i → s ≡ one → ⊥) → fires (bit_rule (w.rail (of_var x)) (w.bit x) j s) ≡ true → fires (bit_rule (w.rail (of_var x)) (rails_turned (w.bit x) i one) j s) ≡ true)
             → ((j : ℕ) → fires (wrote_rule (w.rail (of_var x)) (w.bit x) (w.wrote x) j) ≡ true → fires (wrote_rule (w.rail (of_var x)) (rails_turned (w.bit x) i one) (w.wrote x) j) ≡ true)
             → can P script g w hs q ≡ true → can P script g bitten hs q ≡ true
-        others go_node ne b v z = z
-        others (own_node s) ne b v z = (still_changed P script hs good bitten bit_acks).keeps s z
-        others (rail_node c j s) ne b v z = z
-        others (ack_node c) ne b v z = same_answers w bitten c refl refl (offer_at script c) (channel_width P.channels c) (completed hs c) ∙ z
-        others (bit_node y j s) ne b v z = cases (y == x)
+        others go_node ne l b v z = z
+        others (own_node s) ne l b v z = l s z
+        others (rail_node c j s) ne l b v z = z
+        others (ack_node c) ne l b v z = same_answers w bitten c refl refl (offer_at script c) (channel_width P.channels c) (completed hs c) ∙ z
+        others (bit_node y j s) ne l b v z = cases (y == x)
             (λ (h : (y == x) ≡ true). let same = same_number y x h in
             ap (λ (a : Bool). fires (bit_rule (w.rail (of_var y)) (if a then rails_turned (w.bit x) i one else w.bit y) j s)) h
             ∙ (ap (λ v. fires (bit_rule (w.rail (of_var v)) (rails_turned (w.bit x) i one) j s)) same
             ∙ b j s (λ k l. ne (ap (λ v. bit_node v j s) same ∙ (ap (λ v. bit_node x v s) k ∙ ap (λ v. bit_node x i v) l))) (ap (λ v. fires (bit_rule (w.rail (of_var v)) (w.bit v) j s)) (sym same) ∙ z)))
             (λ (h : (y == x) ≡ false). ap (λ (a : Bool). fires (bit_rule (w.rail (of_var y)) (if a then rails_turned (w.bit x) i one else w.bit y) j s)) h ∙ z)
-        others (wrote_node y j) ne b v z = cases (y == x)
+        others (wrote_node y j) ne l b v z = cases (y == x)
             (λ (h : (y == x) ≡ true). let same = same_number y x h in
             ap (λ (a : Bool). fires (wrote_rule (w.rail (of_var y)) (if a then rails_turned (w.bit x) i one else w.bit y) (w.wrote y) j)) h
             ∙ (ap (λ u. fires (wrote_rule (w.rail (of_var u)) (rails_turned (w.bit x) i one) (w.wrote u) j)) same
             ∙ v j (ap (λ u. fires (wrote_rule (w.rail (of_var u)) (w.bit u) (w.wrote u) j)) (sym same) ∙ z)))
             (λ (h : (y == x) ≡ false). ap (λ (a : Bool). fires (wrote_rule (w.rail (of_var y)) (if a then rails_turned (w.bit x) i one else w.bit y) (w.wrote y) j)) h ∙ z)
-        others (joint_node y j) ne b v z = z
+        others (joint_node y j) ne l b v z = z
 
   -- A variable's acknowledge turns over, or it stays.
   record VaChanged (x : ℕ) (now : Wires) : Type 0 where
     pub changed : SeenChanged P script hs good now
-    pub term : Stored P x w now (root_left (line_ack P w) g) (root_left (line_ack P now) g)
+    pub term : Stored P (guarded_writing (line_ack P w) g) x w now (root_left (line_ack P w) g) (root_left (line_ack P now) g)
 
-  va_changed : (x : ℕ) (now : Wires) → 1 ≤ var_width P.vars x → now.rail ≡ w.rail → ((c : ℕ) → now.ack c ≡ w.ack c) → ((y : ℕ) → (y == x) ≡ false → line_ack P now (of_var y) ≡ line_ack P w (of_var y))
+  va_changed : (x : ℕ) (now : Wires) → 1 ≤ var_width P.vars x → now.rail ≡ w.rail → now.bit ≡ w.bit → ((c : ℕ) → now.ack c ≡ w.ack c) → ((y : ℕ) → (y == x) ≡ false → line_ack P now (of_var y) ≡ line_ack P w (of_var y))
       → Acked (var_width P.vars x) (w.bit x) (w.rail (of_var x)) (w.wrote x) (line_ack P w (of_var x)) (line_ack P now (of_var x)) → VaChanged x now
-  va_changed x now some rails acks far (ack_stays same) = record {
-    changed = seen_still P script hs good now rails here;
+  va_changed x now some rails bits acks far (ack_stays same) = record {
+    changed = seen_still P script hs good now rails bits here;
     term = no_store same (still_left P script hs good now here);
   }
     where
       here : (c : Line) → line_ack P now c ≡ line_ack P w c
       here (of_channel c) = acks c
       here (of_var y) = cases (y == x) (λ (h : (y == x) ≡ true). ap (λ v. line_ack P now (of_var v)) (same_number y x h) ∙ (same ∙ ap (λ v. line_ack P w (of_var v)) (sym (same_number y x h)))) (λ (h : (y == x) ≡ false). far y h)
-  va_changed x now some rails acks far (ack_turns over ready) = cases (line_ack P w (of_var x))
+  va_changed x now some rails bits acks far (ack_turns over ready) = cases (line_ack P w (of_var x))
       (λ (h : line_ack P w (of_var x) ≡ true).
       let lows = ready_neutral (var_width P.vars x) (w.bit x) (w.rail (of_var x)) (w.wrote x) (line_ack P w (of_var x)) h ready in
       record {
@@ -228,7 +236,7 @@ module _ (P : TypedProgram) (script : List OfferValue) {m : Mode} {g : GuardedAt
       far_of (of_var y) e = far y e
 
       here : AckTurned (seen P w) (seen P now) (of_var x)
-      here = record { here = over; far = far_of }
+      here = record { here = over; far = far_of; bits = bits }
 
   -- the node moves that says that a bit is written
   module _ (x i : ℕ) where
@@ -259,7 +267,7 @@ module _ (P : TypedProgram) (script : List OfferValue) {m : Mode} {g : GuardedAt
         let n = var_width P.vars x in
         let less = wrote_below e in
         let r = wrote_turns n (w.bit x) (w.rail (of_var x)) (w.wrote x) (w.joint x) (good.block x (some_of less)) i less e in
-        let v = va_changed x written (some_of less) refl (λ c. refl) written_others
+        let v = va_changed x written (some_of less) refl refl (λ c. refl) written_others
         (subst (λ (f : ℕ → Bool). Acked n (w.bit x) (w.rail (of_var x)) (w.wrote x) (line_ack P w (of_var x)) (tree_answer n f (w.joint x))) (sym written_here) r.acked) in
         record {
           mode = m;
@@ -338,7 +346,7 @@ module _ (P : TypedProgram) (script : List OfferValue) {m : Mode} {g : GuardedAt
     joint_next some e =
         let n = var_width P.vars x in
         let r = joint_turns n (w.bit x) (w.rail (of_var x)) (w.wrote x) (w.joint x) (good.block x some) k e in
-        let v = va_changed x jointed some refl (λ c. refl) jointed_others
+        let v = va_changed x jointed some refl refl (λ c. refl) jointed_others
         (subst (λ (f : ℕ → Bool). Acked n (w.bit x) (w.rail (of_var x)) (w.wrote x) (line_ack P w (of_var x)) (tree_answer n (w.wrote x) f)) (sym jointed_here) r.acked) in
         record {
           mode = m;
@@ -412,7 +420,7 @@ next_of P script fitted {m = idle} {g = g} hs good go_node e = go_next P script 
 next_of P script fitted {m = running} hs good go_node e = absurd (cc e)
 next_of P script fitted {m = answered} hs good go_node e = absurd (cc e)
 next_of P script fitted {m = returning} hs good go_node e = absurd (cc e)
-next_of P script fitted {g = g} {w = w} hs good (own_node s) e = own_next P script hs good s e (guarded_advance P (seen P w) good.meets g s good.fits record { send = λ k i h. good.talk k (sends_merged P P.body good.meets k i) h } e)
+next_of P script fitted {g = g} {w = w} hs good (own_node s) e = own_next P script hs good s e (guarded_advance P (seen P w) (clean_of good) good.meets g s good.fits record { send = λ k i h. good.talk k (sends_merged P P.body good.meets k i) h } e)
 next_of P script fitted hs good (rail_node k i side) e = rail_next P script hs good k i side e
 next_of P script fitted hs good (ack_node k) e = ack_next P script hs good k fitted e
 next_of P script fitted hs good (bit_node x i side) e = bit_next P script hs good x i side e

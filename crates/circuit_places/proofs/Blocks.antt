@@ -10,7 +10,7 @@ use Rattle.cell_parallel.specs.Trees.{tree_owned}
 use Rattle.circuit_places.specs.Lines.{Rails}
 use Rattle.circuit_places.specs.Circuit.{joint_count, tree_value, tree_answer, fires, is_apart, same_bit}
 use Rattle.circuit_places.specs.Whole.{bit_rule, wrote_rule, rails_turned, value_on, neutral_on}
-use Rattle.circuit_places.proofs.Waves.{fst_true, snd_true, both_true, not_true}
+use Rattle.circuit_places.proofs.RailLemmas.{fst_true, snd_true, both_true, not_true}
 use Rattle.circuit_places.proofs.LineNames.{self_number, same_number}
 use Rattle.circuit_places.proofs.Flow.{cases}
 use Rattle.circuit_places.proofs.Trees.{TreeOver, Settling, node_moves, joint_below, leaf_turns, node_turns, NodeTurned, TopTurned, stays_top, turns_top, waits_on}

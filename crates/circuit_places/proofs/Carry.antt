@@ -26,7 +26,7 @@ use Rattle.circuit_places.specs.Covered.{Covered}
 use Rattle.circuit_places.specs.Carried.{IsSafe, IsCarried, CircuitsCarry}
 use Rattle.circuit_places.proofs.Places.{Mode, idle, running, answered, returning, asks, is_idle, GuardedAt, g_rests, guarded_cells, guarded_shown, guarded_writing, guarded_can_is}
 use Rattle.circuit_places.proofs.Writing.{first_numbers}
-use Rattle.circuit_places.proofs.Meets.{Meets, Clash, meets}
+use Rattle.circuit_places.proofs.Meets.{ExpressionsHold, Meets, Clash, meets}
 use Rattle.circuit_places.proofs.Trees.{TreesSettle, tree_over, all_low_value, settling_low, joint_apart, joint_absent}
 use Rattle.circuit_places.proofs.BitTable.{valid, legal_at_first}
 use Rattle.circuit_places.proofs.Blocks.{Block, now_at, bit_apart, wrote_apart}
@@ -37,7 +37,7 @@ use Rattle.circuit_places.proofs.BlockMoves.{some_of, next_of}
 use Rattle.circuit_places.proofs.Apart.{guarded_apart}
 use Rattle.circuit_places.proofs.Follow.{Followed, started, follows}
 use Rattle.circuit_places.proofs.Flow.{cases}
-use Rattle.circuit_places.proofs.Waves.{never_and}
+use Rattle.circuit_places.proofs.RailLemmas.{never_and}
 use Rattle.circuit_places.proofs.Absent.{guarded_absent}
 use Rattle.circuit_places.proofs.Ended.{at_end}
 
@@ -326,10 +326,10 @@ carried P script fitted x r = record {
       };
 }
 
-pub circuits_carry : TreesSettle → CircuitsCarry
-circuits_carry law P typed covered script s moves x run =
+pub circuits_carry : TreesSettle → ExpressionsHold → CircuitsCarry
+circuits_carry law hold P typed covered script s moves x run =
     let fitted = fits P script typed covered s in
-    carried P script fitted x (reach law P script fitted (meets law P P.body unshared typed.body_is covered.body) moves x run)
+    carried P script fitted x (reach law P script fitted (meets law hold P P.body unshared typed.body_is covered.body) moves x run)
   where
     unshared : (a b : Occurrence) → Parallel P.body a b → ¬ Clash a.deed b.deed
     unshared a b h (inl c) = covered.sharing.sends a b h c

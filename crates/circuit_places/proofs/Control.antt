@@ -8,7 +8,7 @@ use Rattle.circuit_places.specs.Circuit.{low_guarded, low, low_turn, GuardedSpot
 use Rattle.circuit_places.proofs.Places.{Mode, idle, running, answered, returning, asks, acks, inner_may, link, GuardedAt, At, TurnAt, BranchesAt, g_rests, g_in, g_past, g_back, rests, at_skip, at_assign, at_send, at_turn, at_side, at_body, no_more, and_at, turn_rests, at_last, at_member, at_later, guarded_of, ring_of, turn_of, guarded_cells, cells, turn_cells, Shown, none_shown, guarded_shown, shown, turn_shown, branches_shown, GuardedFits, Fits, TurnFits, BranchesFit, writing, guarded_writing, turn_writing, guarded_moves, moves, turn_moves, branch_moves}
 use Rattle.circuit_places.proofs.Meets.{Meets, TurnMeets, EachMeets, sends, turn_sends}
 use Rattle.circuit_places.proofs.Left.{inner_left, again, guarded_left, left, turn_left, Follows, followed_follows, loop_follows, left_done, turn_left_done, guarded_left_past, writing_done, turn_writing_done, guarded_writing_done}
-use Rattle.circuit_places.proofs.Flow.{goes, goes_asks, Flow, flow_same, flow_by, Backed, Quiet, low_of, quiet_of, After, GuardedAfter, TurnAfter, BranchAfter, or_left, or_right}
+use Rattle.circuit_places.proofs.Flow.{goes, goes_asks, Flow, flow_same, flow_by, Clean, Backed, Quiet, low_of, quiet_of, After, GuardedAfter, TurnAfter, BranchAfter, or_left, or_right}
 use Rattle.circuit_places.proofs.Begin.{idle_is, turn_idle_is, guarded_idle_is, idle_moves, turn_idle_moves, guarded_idle_moves, guarded_past_is, answered_moves, turn_answered_moves, begun, turn_begun, lowered, turn_lowered, flow_begun, flow_then}
 use Rattle.circuit_places.proofs.Leaves.{skip_after, send_after, assign_after}
 use Rattle.circuit_places.proofs.Talks.{beside, or_false_left, or_false_right}
@@ -64,7 +64,7 @@ module _ {p : Process} {m : Mode} (env : Seen) (u : Bool) (a : At p m) (h : inne
   }
 
 -- a Q-element's own moves
-module _ (P : TypedProgram) {p : Process} (env : Seen) (meets : Meets P p) where
+module _ (P : TypedProgram) {p : Process} (env : Seen) (clean : Clean env) (meets : Meets P p) where
   child_up : (a : At p idle) (h : inner_may false idle ≡ true) → Backed p (shown a) env → GuardedAfter p running env (g_in false a h) child
   child_up a h back =
       let b = begun P p env meets (quiet_of env (shown a) (idle_is a).1 back) in
@@ -88,7 +88,7 @@ module _ (P : TypedProgram) {p : Process} (env : Seen) (meets : Meets P p) where
 
   child_down : (a : At p answered) (h : inner_may true answered ≡ true) → Fits a env → GuardedAfter p running env (g_in true a h) child
   child_down a h f =
-      let b = lowered env a f in
+      let b = lowered env clean a f in
       record {
         mode = running;
         to = g_in true b.place refl;
@@ -105,7 +105,7 @@ module _ (P : TypedProgram) {p : Process} (env : Seen) (meets : Meets P p) where
       keeps b child ne z = absurd (ne refl)
       keeps b latch ne z = absurd (cc z)
       keeps b next ne z = absurd (cc z)
-      keeps b (inner q) ne z = absurd (cc (answered_moves env a f q, z))
+      keeps b (inner q) ne z = absurd (cc (answered_moves env clean a f q, z))
 
   latch_up : (a : At p answered) (h : inner_may false answered ≡ true) → Fits a env → GuardedAfter p running env (g_in false a h) latch
   latch_up a h f = record { mode = running; to = g_in true a refl; same = refl; way = refl; fits = f; flow = flow_same env (shown a); term = inl refl; frees = λ x i. i; keeps = keeps }
@@ -313,8 +313,8 @@ no_link running n h = cc h
 no_link answered n h = cc h
 no_link returning n h = cc h
 
-behind_after : {p q : Process} {more : Processes} {k n m : Mode} (env : Seen) (g : GuardedAt p k) (t : TurnAt (and_member q more) n) (h : link m k n ≡ true) (s : GuardedSpot p) → TurnFits t env → guarded_moves env g s ≡ true → TurnAfter (and_member p (and_member q more)) m env (at_later g t h) (in_member s)
-behind_after {p = p} {q = q} {more = more} {n = answered} {m = returning} env (g_back true) t h latch f e = record {
+behind_after : {p q : Process} {more : Processes} {k n m : Mode} (env : Seen) → Clean env → (g : GuardedAt p k) (t : TurnAt (and_member q more) n) (h : link m k n ≡ true) (s : GuardedSpot p) → TurnFits t env → guarded_moves env g s ≡ true → TurnAfter (and_member p (and_member q more)) m env (at_later g t h) (in_member s)
+behind_after {p = p} {q = q} {more = more} {n = answered} {m = returning} env clean (g_back true) t h latch f e = record {
   mode = returning;
   to = at_later (g_back false) t refl;
   same = refl;
@@ -332,8 +332,8 @@ behind_after {p = p} {q = q} {more = more} {n = answered} {m = returning} env (g
     here t (in_member next) ne z = absurd (cc z)
     here t (in_member (inner x)) ne z = absurd (cc z)
     here t (in_later x) ne z = z
-behind_after {p = p} {q = q} {more = more} {n = answered} {m = returning} env (g_back false) t h next f e =
-    let b = turn_lowered env t f in
+behind_after {p = p} {q = q} {more = more} {n = answered} {m = returning} env clean (g_back false) t h next f e =
+    let b = turn_lowered env clean t f in
     record {
       mode = returning;
       to = at_later g_rests b.place refl;
@@ -351,16 +351,16 @@ behind_after {p = p} {q = q} {more = more} {n = answered} {m = returning} env (g
     here t f b (in_member latch) ne z = absurd (cc z)
     here t f b (in_member next) ne z = absurd (ne refl)
     here t f b (in_member (inner x)) ne z = absurd (cc z)
-    here t f b (in_later x) ne z = absurd (cc (turn_answered_moves env t f x, z))
-behind_after env (g_back true) t h child f e = absurd (cc e)
-behind_after env (g_back true) t h next f e = absurd (cc e)
-behind_after env (g_back true) t h (inner x) f e = absurd (cc e)
-behind_after env (g_back false) t h child f e = absurd (cc e)
-behind_after env (g_back false) t h latch f e = absurd (cc e)
-behind_after env (g_back false) t h (inner x) f e = absurd (cc e)
-behind_after {n = n} {m = m} env (g_back u) t h s f e = absurd (cc ((link_back m n h).0, (link_back m n h).1))
-behind_after {n = n} {m = m} env (g_in u a i) t h s f e = absurd (no_link m n h)
-behind_after env _ t h s f e = absurd (cc e)
+    here t f b (in_later x) ne z = absurd (cc (turn_answered_moves env clean t f x, z))
+behind_after env clean (g_back true) t h child f e = absurd (cc e)
+behind_after env clean (g_back true) t h next f e = absurd (cc e)
+behind_after env clean (g_back true) t h (inner x) f e = absurd (cc e)
+behind_after env clean (g_back false) t h child f e = absurd (cc e)
+behind_after env clean (g_back false) t h latch f e = absurd (cc e)
+behind_after env clean (g_back false) t h (inner x) f e = absurd (cc e)
+behind_after {n = n} {m = m} env clean (g_back u) t h s f e = absurd (cc ((link_back m n h).0, (link_back m n h).1))
+behind_after {n = n} {m = m} env clean (g_in u a i) t h s f e = absurd (no_link m n h)
+behind_after env clean _ t h s f e = absurd (cc e)
 
 -- a move in the body of a loop
 no_ask : (m n : Mode) → goes m n ≡ true → (if asks m then acks m else not (acks m)) ≡ true → ⊥
@@ -388,8 +388,8 @@ body_after {p = p} {m = m} env a s r = record {
     here (in_body x) ne z = r.keeps x (λ (e : x ≡ s). ne (ap (λ y. in_body y) e)) z
 
 -- a loop calls for its body, and lets it go
-ask_after : (P : TypedProgram) {p : Process} {m : Mode} (env : Seen) → Meets P p → (a : At p m) → Fits a env → Backed p (shown a) env → moves env (at_body a) ask ≡ true → After (repeating p) running env (at_body a) ask
-ask_after P {p = p} {m = idle} env meets a f back e =
+ask_after : (P : TypedProgram) {p : Process} {m : Mode} (env : Seen) → Clean env → Meets P p → (a : At p m) → Fits a env → Backed p (shown a) env → moves env (at_body a) ask ≡ true → After (repeating p) running env (at_body a) ask
+ask_after P {p = p} {m = idle} env clean meets a f back e =
     let b = begun P p env meets (quiet_of env (shown a) (idle_is a).1 back) in
     record {
       mode = running;
@@ -407,8 +407,8 @@ ask_after P {p = p} {m = idle} env meets a f back e =
     here a b of_loop ne z = absurd (cc z)
     here a b ask ne z = absurd (ne refl)
     here a b (in_body x) ne z = absurd (cc (idle_moves env a x, z))
-ask_after P {p = p} {m = answered} env meets a f back e =
-    let b = lowered env a f in
+ask_after P {p = p} {m = answered} env clean meets a f back e =
+    let b = lowered env clean a f in
     record {
       mode = running;
       to = at_body b.place;
@@ -424,9 +424,9 @@ ask_after P {p = p} {m = answered} env meets a f back e =
     here : (a : At p answered) → Fits a env → (b : At p returning) (x : Spot (repeating p)) → x ≢ ask → moves env (at_body a) x ≡ true → moves env (at_body b) x ≡ true
     here a f b of_loop ne z = absurd (cc z)
     here a f b ask ne z = absurd (ne refl)
-    here a f b (in_body x) ne z = absurd (cc (answered_moves env a f x, z))
-ask_after P {m = running} env meets a f back e = absurd (cc e)
-ask_after P {m = returning} env meets a f back e = absurd (cc e)
+    here a f b (in_body x) ne z = absurd (cc (answered_moves env clean a f x, z))
+ask_after P {m = running} env clean meets a f back e = absurd (cc e)
+ask_after P {m = returning} env clean meets a f back e = absurd (cc e)
 
 -- a sequence as a statement, and its last member as a sequence
 turn_after : {members : Processes} {m : Mode} (env : Seen) (t : TurnAt members m) (s : TurnSpot members) → TurnAfter members m env t s → After (in_turn members) m env (at_turn t) (in_members s)
@@ -443,39 +443,39 @@ last_after {p = p} env a s r = record { mode = r.mode; to = at_last r.to; same =
 
 -- each own move leads to a place again, whatever moved before
 mutual
-  pub guarded_advance : (P : TypedProgram) {p : Process} {m : Mode} (env : Seen) → Meets P p → (g : GuardedAt p m) (s : GuardedSpot p) → GuardedFits g env → Backed p (guarded_shown g) env → guarded_moves env g s ≡ true → GuardedAfter p m env g s
-  guarded_advance P env meets (g_in u a h) (inner s) f back e = inner_after env u a h s (advance P env meets a s f record { send = back.send } e)
-  guarded_advance P env meets g child f back e = guarded_own P env meets g child (λ x z. cc z) f back e
-  guarded_advance P env meets g latch f back e = guarded_own P env meets g latch (λ x z. cc z) f back e
-  guarded_advance P env meets g next f back e = guarded_own P env meets g next (λ x z. cc z) f back e
-  guarded_advance P env meets _ (inner s) f back e = absurd (cc e)
+  pub guarded_advance : (P : TypedProgram) {p : Process} {m : Mode} (env : Seen) → Clean env → Meets P p → (g : GuardedAt p m) (s : GuardedSpot p) → GuardedFits g env → Backed p (guarded_shown g) env → guarded_moves env g s ≡ true → GuardedAfter p m env g s
+  guarded_advance P env clean meets (g_in u a h) (inner s) f back e = inner_after env u a h s (advance P env clean meets a s f record { send = back.send } e)
+  guarded_advance P env clean meets g child f back e = guarded_own P env clean meets g child (λ x z. cc z) f back e
+  guarded_advance P env clean meets g latch f back e = guarded_own P env clean meets g latch (λ x z. cc z) f back e
+  guarded_advance P env clean meets g next f back e = guarded_own P env clean meets g next (λ x z. cc z) f back e
+  guarded_advance P env clean meets _ (inner s) f back e = absurd (cc e)
 
-  pub advance : (P : TypedProgram) {p : Process} {m : Mode} (env : Seen) → Meets P p → (a : At p m) (s : Spot p) → Fits a env → Backed p (shown a) env → moves env a s ≡ true → After p m env a s
-  advance P env meets rests s f back e = absurd (cc e)
-  advance P env meets (at_skip m h) s f back e = skip_after env m h s e
-  advance P env meets (at_assign {x = x} {at = at} {w = w} {v = v} m u h) (of_assign s) f back e = assign_after x at w v env m u h s f e
-  advance P env meets (at_send {c = c} {at = at} {w = w} {v = v} m u h) (of_send s) f back e = send_after c at w v env m u h s f e
-  advance P env meets (at_turn t) (in_members s) f back e = turn_after env t s (turn_advance P env meets t s f record { send = back.send } e)
-  advance P env meets (at_side m t b h) (of_branch s) f back e = side_after env m t b h s (branch_advance P env meets.2 b s f record { send = back.send } e)
-  advance P env meets (at_side m t b h) (joint k) f back e = joint_after env t b k m h f e
-  advance P env meets (at_body a) (in_body s) f back e = body_after env a s (advance P env meets a s f record { send = back.send } e)
-  advance P env meets (at_body a) ask f back e = ask_after P env meets a f record { send = back.send } e
-  advance P env meets (at_body a) of_loop f back e = absurd (cc e)
+  pub advance : (P : TypedProgram) {p : Process} {m : Mode} (env : Seen) → Clean env → Meets P p → (a : At p m) (s : Spot p) → Fits a env → Backed p (shown a) env → moves env a s ≡ true → After p m env a s
+  advance P env clean meets rests s f back e = absurd (cc e)
+  advance P env clean meets (at_skip m h) s f back e = skip_after env m h s e
+  advance P env clean meets (at_assign {x = x} {at = at} {e = d} m u h) (of_assign s) f back e = assign_after x at d env clean m u h s f e
+  advance P env clean meets (at_send {c = c} {at = at} {e = d} m u h) (of_send s) f back e = send_after c at d env clean m u h s f e
+  advance P env clean meets (at_turn t) (in_members s) f back e = turn_after env t s (turn_advance P env clean meets t s f record { send = back.send } e)
+  advance P env clean meets (at_side m t b h) (of_branch s) f back e = side_after env m t b h s (branch_advance P env clean meets.2 b s f record { send = back.send } e)
+  advance P env clean meets (at_side m t b h) (joint k) f back e = joint_after env t b k m h f e
+  advance P env clean meets (at_body a) (in_body s) f back e = body_after env a s (advance P env clean meets a s f record { send = back.send } e)
+  advance P env clean meets (at_body a) ask f back e = ask_after P env clean meets a f record { send = back.send } e
+  advance P env clean meets (at_body a) of_loop f back e = absurd (cc e)
 
-  pub branch_advance : (P : TypedProgram) {members : Processes} {ks : List Mode} (env : Seen) → EachMeets P members → (b : BranchesAt members ks) (s : BranchSpot members) → BranchesFit b env → Backed (side_by_side members) (branches_shown b) env → branch_moves env b s ≡ true → BranchAfter members ks env b s
-  branch_advance P env meets no_more s f back e = absurd (cc e)
-  branch_advance P env meets (and_at {p = p} {more = more} g b) (in_this s) f back e =
-      this_after env g b s f.1 (guarded_advance P env meets.0 g s f.0 record { send = λ k h z. sym (or_false_right ((guarded_shown g).talk k) ((branches_shown b).talk k) ((beside meets.1 g b).not_theirs k h)) ∙ back.send k (or_left (sends p k) (turn_sends more k) h) z } e)
-  branch_advance P env meets (and_at {p = p} {more = more} g b) (in_others s) f back e =
-      others_after env g b s f.0 (branch_advance P env meets.2 b s f.1 record { send = λ k h z. sym (or_false_left ((guarded_shown g).talk k) ((branches_shown b).talk k) ((beside meets.1 g b).not_mine k h)) ∙ back.send k (or_right (sends p k) (turn_sends more k) h) z } e)
+  pub branch_advance : (P : TypedProgram) {members : Processes} {ks : List Mode} (env : Seen) → Clean env → EachMeets P members → (b : BranchesAt members ks) (s : BranchSpot members) → BranchesFit b env → Backed (side_by_side members) (branches_shown b) env → branch_moves env b s ≡ true → BranchAfter members ks env b s
+  branch_advance P env clean meets no_more s f back e = absurd (cc e)
+  branch_advance P env clean meets (and_at {p = p} {more = more} g b) (in_this s) f back e =
+      this_after env g b s f.1 (guarded_advance P env clean meets.0 g s f.0 record { send = λ k h z. sym (or_false_right ((guarded_shown g).talk k) ((branches_shown b).talk k) ((beside meets.1 g b).not_theirs k h)) ∙ back.send k (or_left (sends p k) (turn_sends more k) h) z } e)
+  branch_advance P env clean meets (and_at {p = p} {more = more} g b) (in_others s) f back e =
+      others_after env g b s f.0 (branch_advance P env clean meets.2 b s f.1 record { send = λ k h z. sym (or_false_left ((guarded_shown g).talk k) ((branches_shown b).talk k) ((beside meets.1 g b).not_mine k h)) ∙ back.send k (or_right (sends p k) (turn_sends more k) h) z } e)
 
-  pub turn_advance : (P : TypedProgram) {members : Processes} {m : Mode} (env : Seen) → TurnMeets P members → (t : TurnAt members m) (s : TurnSpot members) → TurnFits t env → Backed (in_turn members) (turn_shown t) env → turn_moves env t s ≡ true → TurnAfter members m env t s
-  turn_advance P env meets turn_rests s f back e = absurd (cc e)
-  turn_advance P env meets (at_last {p = p} a) (in_last s) f back e = last_after env a s (advance P env meets a s f record { send = λ k h. back.send k (or_left (sends p k) false h) } e)
-  turn_advance P env meets (at_member {p = p} {q = q} {more = more} g) (in_member s) f back e =
-      member_after P env meets.1 g s record { send = back.send } (guarded_advance P env meets.0 g s f record { send = λ k h. back.send k (or_left (sends p k) (turn_sends (and_member q more) k) h) } e)
-  turn_advance P env meets (at_member g) (in_later s) f back e = absurd (cc e)
-  turn_advance P env meets (at_later {p = p} {q = q} {more = more} {k = k} {n = n} {m = m} g t h) (in_later s) f back e =
-      let r = turn_advance P env meets.1 t s f record { send = λ k h. back.send k (or_right (sends p k) (turn_sends (and_member q more) k) h) } e in
+  pub turn_advance : (P : TypedProgram) {members : Processes} {m : Mode} (env : Seen) → Clean env → TurnMeets P members → (t : TurnAt members m) (s : TurnSpot members) → TurnFits t env → Backed (in_turn members) (turn_shown t) env → turn_moves env t s ≡ true → TurnAfter members m env t s
+  turn_advance P env clean meets turn_rests s f back e = absurd (cc e)
+  turn_advance P env clean meets (at_last {p = p} a) (in_last s) f back e = last_after env a s (advance P env clean meets a s f record { send = λ k h. back.send k (or_left (sends p k) false h) } e)
+  turn_advance P env clean meets (at_member {p = p} {q = q} {more = more} g) (in_member s) f back e =
+      member_after P env meets.1 g s record { send = back.send } (guarded_advance P env clean meets.0 g s f record { send = λ k h. back.send k (or_left (sends p k) (turn_sends (and_member q more) k) h) } e)
+  turn_advance P env clean meets (at_member g) (in_later s) f back e = absurd (cc e)
+  turn_advance P env clean meets (at_later {p = p} {q = q} {more = more} {k = k} {n = n} {m = m} g t h) (in_later s) f back e =
+      let r = turn_advance P env clean meets.1 t s f record { send = λ k h. back.send k (or_right (sends p k) (turn_sends (and_member q more) k) h) } e in
       later_after env g t h s r.mode r.to r.same (linked m k n r.mode h r.way) r.fits r.flow r.term r.frees r.keeps
-  turn_advance P env meets (at_later g t h) (in_member s) f back e = behind_after env g t h s f e
+  turn_advance P env clean meets (at_later g t h) (in_member s) f back e = behind_after env clean g t h s f e

@@ -1,24 +1,24 @@
 -- Where nothing moves in the whole circuit, the program has no step.
-use Rattle.std.proofs.Common.{◌≡◌, ◌≢◌, ℕ, ◌<◌, ◌≤◌, Bool, true, false, List, refl, sym, ap, ◌∙◌, subst}
+use Rattle.std.proofs.Common.{◌≡◌, ◌≢◌, ℕ, ◌<◌, ◌≤◌, Bool, true, false, List, refl, sym, ap, ◌∙◌, subst, arith}
 use Rattle.std.specs.Prelude.{not, ◌&&◌, ◌||◌, if◌then◌else◌, Some, is_some}
 use Rattle.chp_base.specs.declared.span.Span.{Span}
 use Rattle.env_script.specs.declared.script.Count.{Count}
 use Rattle.env_script.specs.Scripts.{OfferValue, takes, nothing, offer_at, is_over}
 use Rattle.env_script.specs.Runs.{completed}
-use Rattle.width_check.specs.Processes.{Formula, constant, Process, sending, TypedProgram}
+use Rattle.width_check.specs.Processes.{Formula, Process, sending, TypedProgram}
 use Rattle.width_check.specs.Typing.{channel_width, var_width}
 use Rattle.chp_meaning.specs.Terms.{Term, finished, Place, statement_at}
 use Rattle.chp_meaning.specs.Steps.{Configuration, Step, a_skip, an_assignment, a_selection, a_turn, an_end, a_repetition, a_communication, a_delivery, an_arrival}
 use Rattle.circuit_places.specs.Lines.{Line, of_channel, of_var, Rails}
 use Rattle.circuit_places.specs.Circuit.{turns}
 use Rattle.circuit_places.specs.Whole.{Wires, seen, line_ack, is_merged, value_on, neutral_on, Node, go_node, own_node, rail_node, ack_node, bit_node, wrote_node, joint_node, answers}
-use Rattle.circuit_places.proofs.Waves.{Within, Holds, held, held_one, shows, lows_neutral}
+use Rattle.circuit_places.proofs.RailLemmas.{lows_neutral, value_same, each_bit}
 use Rattle.circuit_places.proofs.Flow.{or_left, or_right}
-use Rattle.circuit_places.proofs.BitTable.{Now, may, write_t, write_f}
+use Rattle.circuit_places.proofs.BitTable.{Now, may, write_t, write_f, some_bit}
 use Rattle.circuit_places.proofs.Blocks.{now_at, block_waits}
 use Rattle.circuit_places.proofs.Places.{Mode, running, returning, GuardedAt, g_rests, g_in, g_past, g_back, guarded_cells, guarded_shown}
 use Rattle.circuit_places.proofs.Left.{guarded_left}
-use Rattle.circuit_places.proofs.Rest.{Full, Blocked, Waiting, Hanging, let_go, unstored, Rest, settled, waiting, hanging, guarded_rest}
+use Rattle.circuit_places.proofs.Rest.{Full, Valid, Blocked, Waiting, Hanging, let_go, unstored, Rest, settled, waiting, hanging, guarded_rest}
 use Rattle.circuit_places.proofs.Fires.{guarded_site}
 use Rattle.circuit_places.proofs.System.{Good, can, root_left, Fitted}
 use Rattle.circuit_places.proofs.Follow.{fewer, left_over, Followed, over_before}
@@ -92,36 +92,42 @@ module _ (P : TypedProgram) {script : List OfferValue} (fitted : Fitted P script
 
   no_hanging : Hanging P (seen P w) (guarded_shown g) → ⊥
   no_hanging (let_go (of_channel c) high talks gone) =
-      let x = guarded_site P g good.meets (of_channel c) talks in
-      let o = fitted.out c x.meets.within in
-      let neutral : neutral_on (channel_width P.channels c) (w.rail (of_channel c)) ≡ true = lows_neutral (channel_width P.channels c) (w.rail (of_channel c)) (λ i one. rails_are (of_channel c) i one x.meets.merged ∙ gone i one) in
+      let x = guarded_site P (seen P w) g good.meets good.fits (of_channel c) talks in
+      let o = fitted.out c x.within in
+      let neutral : neutral_on (channel_width P.channels c) (w.rail (of_channel c)) ≡ true = lows_neutral (channel_width P.channels c) (w.rail (of_channel c)) (λ i one. rails_are (of_channel c) i one x.merged ∙ gone i one) in
       let may : answers (channel_width P.channels c) w c (completed hs c) (offer_at script c) ≡ true =
       ap (answers (channel_width P.channels c) w c (completed hs c)) o.1
       ∙ (ap (λ b. if b then neutral_on (channel_width P.channels c) (w.rail (of_channel c)) else is_some (value_on (channel_width P.channels c) (w.rail (of_channel c))) && is_over o.0 (completed hs c)) high ∙ neutral) in
       cc (may, none (ack_node c))
   no_hanging (let_go (of_var v) high talks gone) =
-      let x = guarded_site P g good.meets (of_var v) talks in
-      let (i, less, e) = block_rest v (subst (λ (n : ℕ). 1 ≤ n) x.meets.agrees x.meets.some) in
+      let x = guarded_site P (seen P w) g good.meets good.fits (of_var v) talks in
+      let (i, less, e) = block_rest v x.some in
       high_waits (now_at (w.bit v) (w.rail (of_var v)) (w.wrote v) (line_ack P w (of_var v)) i) high (rails_are (of_var v) i true refl ∙ gone i true) (rails_are (of_var v) i false refl ∙ gone i false) e
-  no_hanging (unstored v {width = n} {value = d} f) =
-      let (i, less, e) = block_rest v (subst (λ (n : ℕ). 1 ≤ n) f.meets.agrees f.meets.some) in
+  no_hanging (unstored v f) =
+      let (i, less, e) = block_rest v f.some in
       low_waits (now_at (w.bit v) (w.rail (of_var v)) (w.wrote v) (line_ack P w (of_var v)) i) f.low
       (ap (λ b. b || w.rail (of_var v) i false) (rails_are (of_var v) i true refl) ∙ (ap (λ b. (guarded_shown g).offer (of_var v) i true || b) (rails_are (of_var v) i false refl)
-      ∙ some_side i (held_one n d f.wave i (subst (λ (k : ℕ). i < k) (sym f.meets.agrees) less) f.full)))
+      ∙ some_side i (each_bit (var_width P.vars v) ((guarded_shown g).offer (of_var v)) f.whole i less)))
       e
     where
-      some_side : (i : ℕ) → (one : Bool) × (held n d f.wave i one ≡ true) → ((guarded_shown g).offer (of_var v) i true || (guarded_shown g).offer (of_var v) i false) ≡ true
-      some_side i (true, h) = or_left ((guarded_shown g).offer (of_var v) i true) ((guarded_shown g).offer (of_var v) i false) (f.holds i true h)
-      some_side i (false, h) = or_right ((guarded_shown g).offer (of_var v) i true) ((guarded_shown g).offer (of_var v) i false) (f.holds i false h)
+      some_side : (i : ℕ) → (one : Bool) × ((guarded_shown g).offer (of_var v) i one ≡ true) → ((guarded_shown g).offer (of_var v) i true || (guarded_shown g).offer (of_var v) i false) ≡ true
+      some_side i (true, h) = or_left ((guarded_shown g).offer (of_var v) i true) ((guarded_shown g).offer (of_var v) i false) h
+      some_side i (false, h) = or_right ((guarded_shown g).offer (of_var v) i true) ((guarded_shown g).offer (of_var v) i false) h
+
+  -- each bit of each variable has a value
+  valid : Valid P (seen P w)
+  valid v i less = some_bit (now_at (w.bit v) (w.rail (of_var v)) (w.wrote v) (line_ack P w (of_var v)) i) ((good.block v (some_of less)).bits i less) (none (bit_node v i true)) (none (bit_node v i false))
+    where
+      some_of : {i n : ℕ} → i < n → 1 ≤ n
+      some_of less = omega (arith, less)
 
   -- a send that waits has no acceptance left
   refused : {most : ℕ} {t : Term} {bits : ℕ → Rails} {busy : ℕ → Bool} (r : Followed P script most hs t bits busy) (s : Process) → Blocked P s (seen P w) (guarded_shown g) → Refused r.to s
   refused r s b =
       let c = b.channel in
-      let o = fitted.out c b.site.meets.within in
-      let within : Within b.width b.value b.site.wave (w.rail (of_channel c)) = λ i one h. b.site.only i one (sym (rails_are (of_channel c) i one b.site.meets.merged) ∙ h) in
-      let holds : Holds b.width b.value b.site.wave (w.rail (of_channel c)) = λ i one h. rails_are (of_channel c) i one b.site.meets.merged ∙ b.site.holds i one h in
-      let some : is_some (value_on (channel_width P.channels c) (w.rail (of_channel c))) ≡ true = ap (λ n. is_some (value_on n (w.rail (of_channel c)))) (sym b.site.meets.agrees) ∙ shows b.width b.value b.site.wave (w.rail (of_channel c)) b.site.full within holds in
+      let o = fitted.out c b.site.within in
+      let some : is_some (value_on (channel_width P.channels c) (w.rail (of_channel c))) ≡ true =
+      ap is_some (value_same (channel_width P.channels c) (w.rail (of_channel c)) ((guarded_shown g).offer (of_channel c)) (λ i one. rails_are (of_channel c) i one b.site.merged)) ∙ b.site.whole in
       let over : is_over o.0 (completed hs c) ≡ false =
       no_more (is_some (value_on (channel_width P.channels c) (w.rail (of_channel c)))) (is_over o.0 (completed hs c)) some
       (sym (ap (λ b. if b then neutral_on (channel_width P.channels c) (w.rail (of_channel c)) else is_some (value_on (channel_width P.channels c) (w.rail (of_channel c))) && is_over o.0 (completed hs c)) b.site.low)
@@ -129,7 +135,7 @@ module _ (P : TypedProgram) {script : List OfferValue} (fitted : Fitted P script
       record {
         channel = c;
         span = b.span;
-        expression = constant b.width b.value;
+        expression = b.expression;
         count = fewer o.0 (completed hs c);
         is = b.is;
         offered = r.rests c ∙ ap (λ x. left_over x (completed hs c)) o.1;
@@ -157,7 +163,7 @@ waits P fitted w hs g low good none r x = record {
 
 pub at_end : (P : TypedProgram) {script : List OfferValue} (fitted : Fitted P script) (w : Wires) (hs : List (List ℕ)) {m : Mode} (g : GuardedAt P.body m) → m ≢ returning → Good P m g w → ((n : Node P.body) → can P script g w hs n ≡ false) → {most : ℕ} {bits : ℕ → Rails} {busy : ℕ → Bool} (r : Followed P script most hs (root_left (line_ack P w) g) bits busy) → AtEnd g r.to
 at_end P fitted w hs g_rests ne good none r = absurd (cc (none go_node))
-at_end P {script = script} fitted w hs (g_in u a h) ne good none r = here (guarded_rest P (seen P w) (g_in u a h) good.meets (λ s. none (own_node s)))
+at_end P {script = script} fitted w hs (g_in u a h) ne good none r = here (guarded_rest P (seen P w) (valid P fitted w hs (g_in u a h) good none) (g_in u a h) good.meets good.fits (λ s. none (own_node s)))
   where
     here : Rest P running (guarded_left (line_ack P w) (g_in u a h)) (seen P w) (guarded_shown (g_in u a h)) → AtEnd (g_in u a h) r.to
     here (settled e) = absurd (cc e)

@@ -6,6 +6,7 @@ use Rattle.circuit_places.specs.Lines.{Line, of_channel, of_var, same_line, site
 use Rattle.circuit_places.specs.Circuit.{GuardedSpot, Spot, TurnSpot, BranchSpot, turned_guarded, turned, turned_turn, turned_branches}
 use Rattle.circuit_places.proofs.Places.{Mode, idle, running, answered, returning, asks, GuardedAt, At, TurnAt, BranchesAt, guarded_cells, cells, turn_cells, branch_cells, Shown, none_shown, both_shown, guarded_shown, shown, turn_shown, branches_shown, GuardedFits, Fits, TurnFits, BranchesFit, writing, guarded_writing, turn_writing, branches_writing, guarded_moves, moves, turn_moves, branch_moves}
 use Rattle.circuit_places.proofs.Meets.{sends}
+use Rattle.function_blocks.specs.Rails.{Single}
 use Rattle.circuit_places.specs.Whole.{value_on, neutral_on}
 use Rattle.circuit_places.proofs.Left.{guarded_left, left, turn_left, branches_left, Follows, FollowsInside}
 
@@ -90,6 +91,10 @@ flow_both env a c x y f g = record {
   taken = λ k e h. or_turns (a.take k) (x.take k) (c.take k) (y.take k) (f.taken k) (g.taken k) e h;
   left = λ k e h. or_turns (c.take k) (y.take k) (a.take k) (x.take k) (λ i j. f.left k j i) (λ i j. g.left k j i) h e;
 }
+
+-- of no bit of a variable both rails are high
+pub record Clean (env : Seen) : Type 0 where
+  pub single : Single env.bit
 
 -- where the acknowledge of a line is high of which a statement has sites, one of them is under way
 pub record Backed (p : Process) (x : Shown) (env : Seen) : Type 0 where

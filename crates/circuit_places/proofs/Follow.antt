@@ -10,11 +10,12 @@ use Rattle.env_script.specs.Runs.{history_at, completed}
 use Rattle.width_check.specs.Processes.{Process, skipping, repeating, TypedProgram}
 use Rattle.width_check.specs.Typing.{channel_width, var_width}
 use Rattle.width_check.specs.declared.typed.Var.{Var}
-use Rattle.circuit_places.proofs.Writing.{number_on, number_told}
+use Rattle.circuit_places.proofs.Writing.{number_told}
 use Rattle.chp_meaning.specs.Terms.{Term, finished, opened, Place, statement_at, with_left}
-use Rattle.chp_meaning.specs.Steps.{Configuration, one_fewer, leaving, storing, an_assignment, passing, offering, Step, a_skip, a_repetition, a_delivery, Leads, no_step, one_step, start_of}
+use Rattle.chp_meaning.specs.Steps.{Configuration, one_fewer, leaving, value_in, storing, an_assignment, passing, offering, Step, a_skip, a_repetition, a_delivery, Leads, no_step, one_step, start_of}
+use Rattle.function_blocks.specs.Rails.{number_on}
 use Rattle.circuit_places.specs.Lines.{of_channel, of_var, Rails}
-use Rattle.circuit_places.specs.Whole.{line_ack, first_bits, wires_after, ack_turned, rail_turned, bit_turned, Wires, wrote_turned, joint_turned, value_on, Node, go_node, own_node, rail_node, ack_node, bit_node, wrote_node, joint_node, answers, passed, passed_after}
+use Rattle.circuit_places.specs.Whole.{seen, line_ack, first_bits, wires_after, ack_turned, rail_turned, bit_turned, Wires, wrote_turned, joint_turned, value_on, Node, go_node, own_node, rail_node, ack_node, bit_node, wrote_node, joint_node, answers, passed, passed_after}
 use Rattle.circuit_places.proofs.Left.{Act, skips, goes_on, Follows}
 use Rattle.circuit_places.proofs.Flow.{cases}
 use Rattle.circuit_places.proofs.LineNames.{self_number, same_number, self_line, same_line_is}
@@ -144,14 +145,17 @@ one_longer : (xs : List ℕ) (v : ℕ) → length (xs ++ v ∷ []) ≡ suc (leng
 one_longer [] v = refl
 one_longer (x ∷ xs) v = ap (λ k. suc k) (one_longer xs v)
 
-module _ {P : TypedProgram} {script : List OfferValue} {most : ℕ} {hs : List (List ℕ)} {t : Term} {bits : ℕ → Rails} {busy : ℕ → Bool} (fitted : Fitted P script) (r : Followed P script most hs t bits busy) (now : ℕ → Rails) (after : ℕ → Bool) (free : (x : ℕ) → after x ≡ false → (now x ≡ bits x) × (busy x ≡ false)) (k : ℕ) where
+module _ {P : TypedProgram} {script : List OfferValue} {most : ℕ} {hs : List (List ℕ)} {t : Term} (w : Wires) {busy : ℕ → Bool} (fitted : Fitted P script) (r : Followed P script most hs t w.bit busy) (now : ℕ → Rails) (after : ℕ → Bool) (free : (x : ℕ) → after x ≡ false → (now x ≡ w.bit x) × (busy x ≡ false)) (k : ℕ) where
   -- a value passes
-  module _ (rail : Rails) (y : Term) (count : Count) (offered : offer_at script k ≡ takes count) (more : is_over count (completed hs k) ≡ true) (pass : Passes P (of_channel k) rail t y) where
+  module _ (y : Term) (count : Count) (offered : offer_at script k ≡ takes count) (more : is_over count (completed hs k) ≡ true) (pass : Passes P (seen P w) busy (of_channel k) t y) where
+    read : value_on (channel_width P.channels k) (w.rail (of_channel k)) ≡ Some (value_in r.to pass.expression)
+    read = pass.read (slice_index r.to.store) (λ v less calm. r.stored v less calm)
+
     abbrev now_rests : List OfferValue
     now_rests = set r.to.rests k (takes (one_fewer (fewer count (completed hs k))))
 
     abbrev now_histories : List (List ℕ)
-    now_histories = set hs k (history_at hs k ++ pass.value ∷ [])
+    now_histories = set hs k (history_at hs k ++ value_in r.to pass.expression ∷ [])
 
     rest_at : offer_at r.to.rests k ≡ takes (fewer count (completed hs k))
     rest_at = r.rests k ∙ ap (λ o. left_over o (completed hs k)) offered
@@ -159,11 +163,11 @@ module _ {P : TypedProgram} {script : List OfferValue} {most : ℕ} {hs : List (
     below : k < length P.channels
     below = fitted.within k count offered
 
-    step : Step r.to pass.act.at (passing (offering (leaving r.to pass.act.at finished) k (takes (one_fewer (fewer count (completed hs k))))) k pass.value)
+    step : Step r.to pass.act.at (passing (offering (leaving r.to pass.act.at finished) k (takes (one_fewer (fewer count (completed hs k))))) k (value_in r.to pass.expression))
     step = a_delivery (ap (λ x. statement_at x pass.act.at) r.term ∙ pass.act.stands) rest_at (still_over count (completed hs k) more)
 
     long : completed now_histories k ≡ suc (completed hs k)
-    long = ap length (get_or-set_same hs k (history_at hs k ++ pass.value ∷ []) [] (let g : k < length hs = subst (λ (n : ℕ). k < n) (sym r.as_long) below in g)) ∙ one_longer (history_at hs k) pass.value
+    long = ap length (get_or-set_same hs k (history_at hs k ++ value_in r.to pass.expression ∷ []) [] (let g : k < length hs = subst (λ (n : ℕ). k < n) (sym r.as_long) below in g)) ∙ one_longer (history_at hs k) (value_in r.to pass.expression)
 
     now_rest : (c : ℕ) → offer_at now_rests c ≡ left_over (offer_at script c) (completed now_histories c)
     now_rest c = cases (c == k)
@@ -175,29 +179,29 @@ module _ {P : TypedProgram} {script : List OfferValue} {most : ℕ} {hs : List (
         (λ (e : (c == k) ≡ false).
         let ne : c ≡ k → ⊥ = λ (same : c ≡ k). absurd (cc (e, ap (λ x. x == k) same, self_number k)) in
         get_or-set_other r.to.rests k c (takes (one_fewer (fewer count (completed hs k)))) nothing ne
-        ∙ (r.rests c ∙ sym (ap (λ h. left_over (offer_at script c) (length h)) (get_or-set_other hs k c (history_at hs k ++ pass.value ∷ []) [] ne))))
+        ∙ (r.rests c ∙ sym (ap (λ h. left_over (offer_at script c) (length h)) (get_or-set_other hs k c (history_at hs k ++ value_in r.to pass.expression ∷ []) [] ne))))
 
-    passes_on : Followed P script (suc most) (passed hs k (value_on (channel_width P.channels k) rail)) y now after
-    passes_on = subst (λ (o : Option ℕ). Followed P script (suc most) (passed hs k o) y now after) (sym pass.read) (record {
-      to = passing (offering (leaving r.to pass.act.at finished) k (takes (one_fewer (fewer count (completed hs k))))) k pass.value;
+    passes_on : Followed P script (suc most) (passed hs k (value_on (channel_width P.channels k) (w.rail (of_channel k)))) y now after
+    passes_on = subst (λ (o : Option ℕ). Followed P script (suc most) (passed hs k o) y now after) (sym read) (record {
+      to = passing (offering (leaving r.to pass.act.at finished) k (takes (one_fewer (fewer count (completed hs k))))) k (value_in r.to pass.expression);
       steps = suc r.steps;
       within = omega (arith, r.within);
       leads = leads_on r.leads step;
       term = ap (λ x. with_left x pass.act.at finished) r.term ∙ sym pass.act.then_is;
-      passed = ap (λ h. set h k (history_at h k ++ pass.value ∷ [])) r.passed;
+      passed = ap (λ h. set h k (history_at h k ++ value_in r.to pass.expression ∷ [])) r.passed;
       rests = now_rest;
       as_many = length-set r.to.rests k (takes (one_fewer (fewer count (completed hs k)))) ∙ r.as_many;
-      as_long = length-set hs k (history_at hs k ++ pass.value ∷ []) ∙ r.as_long;
+      as_long = length-set hs k (history_at hs k ++ value_in r.to pass.expression ∷ []) ∙ r.as_long;
       as_stored = r.as_stored;
       stored = kept_so r now after free;
     })
 
-  acknowledged : (w : Wires) (y : Term) → answers (channel_width P.channels k) w k (completed hs k) (offer_at script k) ≡ true → (b : Bool) → w.ack k ≡ b → Passing P (of_channel k) (w.rail (of_channel k)) b t y
+  acknowledged : (y : Term) → answers (channel_width P.channels k) w k (completed hs k) (offer_at script k) ≡ true → (b : Bool) → w.ack k ≡ b → Passing P (seen P w) busy (of_channel k) b t y
       → Followed P script (suc most) (if b then hs else passed hs k (value_on (channel_width P.channels k) (w.rail (of_channel k)))) y now after
-  acknowledged w y e true h move = stays r now after free y move
-  acknowledged w y e false h move =
+  acknowledged y e true h move = stays r now after free y move
+  acknowledged y e false h move =
       let o = takes_of (channel_width P.channels k) w k (completed hs k) (offer_at script k) e in
-      passes_on (w.rail (of_channel k)) y o.count o.is (may_low (channel_width P.channels k) w k (is_over o.count (completed hs k)) h o.may).1 move
+      passes_on y o.count o.is (may_low (channel_width P.channels k) w k (is_over o.count (completed hs k)) h o.may).1 move
 
 -- where no variable's acknowledge rises
 calm : {P : TypedProgram} (w now : Wires) (before after : ℕ → Bool) → ((x : ℕ) → line_ack P now (of_var x) ≡ line_ack P w (of_var x)) → ((x : ℕ) → Freed P w now (before x) (after x) x) → (x : ℕ) → after x ≡ false → (now.bit x ≡ w.bit x) × (before x ≡ false)
@@ -226,11 +230,11 @@ module _ {P : TypedProgram} {script : List OfferValue} {most : ℕ} {hs : List (
       here (inl b) = b
       here (inr z) = absurd (none y z)
 
-  kept : (y : Term) → Stored P x w now t y → Followed P script (suc most) hs y now.bit after
+  kept : (y : Term) → Stored P busy x w now t y → Followed P script (suc most) hs y now.bit after
   kept y (no_store e s) = stays r now.bit after (calm w now busy after (all_same e) frees) y s
   kept y (cleared e h s) = stays r now.bit after (free_of (never_rises h)) y s
   kept y (stores e h same pass) = record {
-    to = storing (leaving r.to pass.act.at finished) x pass.value;
+    to = storing (leaving r.to pass.act.at finished) x (value_in r.to pass.expression);
     steps = suc r.steps;
     within = omega (arith, r.within);
     leads = leads_on r.leads (an_assignment (ap (λ z. statement_at z pass.act.at) r.term ∙ pass.act.stands));
@@ -239,19 +243,19 @@ module _ {P : TypedProgram} {script : List OfferValue} {most : ℕ} {hs : List (
     rests = r.rests;
     as_many = r.as_many;
     as_long = r.as_long;
-    as_stored = length-set r.to.store x pass.value ∙ r.as_stored;
+    as_stored = length-set r.to.store x (value_in r.to pass.expression) ∙ r.as_stored;
     stored = here;
   }
     where
-      here : (z : ℕ) → z < length P.vars → after z ≡ false → number_on (var_width P.vars z) (now.bit z) ≡ slice_index (set r.to.store x pass.value) z
+      here : (z : ℕ) → z < length P.vars → after z ≡ false → number_on (var_width P.vars z) (now.bit z) ≡ slice_index (set r.to.store x (value_in r.to pass.expression)) z
       here z less f = ap (number_on (var_width P.vars z)) (frees z f).0 ∙ cases (z == x)
           (λ (h : (z == x) ≡ true). let e = same_number z x h in
           ap (λ v. number_on (var_width P.vars v) (w.bit v)) e
-          ∙ (number_told (var_width P.vars x) (w.bit x) pass.value (same ∙ pass.read)
-          ∙ sym (ap (slice_index (set r.to.store x pass.value)) e ∙ get_or-set_same r.to.store x pass.value 0 (let g : x < length r.to.store = subst (λ (n : ℕ). x < n) (sym r.as_stored) (subst (λ (v : ℕ). v < length P.vars) e less) in g))))
+          ∙ (number_told (var_width P.vars x) (w.bit x) (value_in r.to pass.expression) (same ∙ pass.read (slice_index r.to.store) (λ v below calm. r.stored v below calm))
+          ∙ sym (ap (slice_index (set r.to.store x (value_in r.to pass.expression))) e ∙ get_or-set_same r.to.store x (value_in r.to pass.expression) 0 (let g : x < length r.to.store = subst (λ (n : ℕ). x < n) (sym r.as_stored) (subst (λ (v : ℕ). v < length P.vars) e less) in g))))
           (λ (h : (z == x) ≡ false).
           r.stored z less (still h (frees z f).1)
-          ∙ sym (get_or-set_other r.to.store x z pass.value 0 (λ (e : z ≡ x). absurd (cc (h, ap (λ v. v == x) e, self_number x)))))
+          ∙ sym (get_or-set_other r.to.store x z (value_in r.to pass.expression) 0 (λ (e : z ≡ x). absurd (cc (h, ap (λ v. v == x) e, self_number x)))))
         where
           still : (z == x) ≡ false → (busy z ≡ false) ⊎ Rises P w now z → busy z ≡ false
           still h (inl b) = b
@@ -260,11 +264,11 @@ module _ {P : TypedProgram} {script : List OfferValue} {most : ℕ} {hs : List (
 -- each move of the circuit is a step of the program or none
 pub follows : {P : TypedProgram} {script : List OfferValue} {most : ℕ} {hs : List (List ℕ)} {t : Term} (w : Wires) (busy after : ℕ → Bool) → Fitted P script → Followed P script most hs t w.bit busy → (y : Term) (n : Node P.body)
     → ((k : ℕ) → n ≡ ack_node k → answers (channel_width P.channels k) w k (completed hs k) (offer_at script k) ≡ true)
-    → ((x : ℕ) → Freed P w (wires_after w n) (busy x) (after x) x) → Moves P w t y n → Followed P script (suc most) (passed_after P.channels w hs n) y (wires_after w n).bit after
+    → ((x : ℕ) → Freed P w (wires_after w n) (busy x) (after x) x) → Moves P w busy t y n → Followed P script (suc most) (passed_after P.channels w hs n) y (wires_after w n).bit after
 follows w busy after fitted r y go_node e frees move = silent r w.bit after (calm w w busy after (λ x. refl) frees) y move
 follows w busy after fitted r y (own_node s) e frees move = silent r w.bit after (calm w w busy after (λ x. refl) frees) y move
 follows w busy after fitted r y (rail_node k i one) e frees move = silent r w.bit after (calm w (rail_turned w k i one) busy after (λ x. refl) frees) y move
-follows w busy after fitted r y (ack_node k) e frees move = acknowledged fitted r w.bit after (calm w (ack_turned w k) busy after (λ x. refl) frees) k w y (e k refl) (w.ack k) refl move
+follows w busy after fitted r y (ack_node k) e frees move = acknowledged w fitted r w.bit after (calm w (ack_turned w k) busy after (λ x. refl) frees) k y (e k refl) (w.ack k) refl move
 follows w busy after fitted r y (bit_node x i one) e frees move = silent r (bit_turned w x i one).bit after (calm w (bit_turned w x i one) busy after (λ x. refl) frees) y move
 follows w busy after fitted r y (wrote_node x i) e frees move = kept x w (wrote_turned w x i) busy after r move.0 frees y move.1
 follows w busy after fitted r y (joint_node x k) e frees move = kept x w (joint_turned w x k) busy after r move.0 frees y move.1

@@ -29,8 +29,8 @@ abbrev mutual
 
   pub left : {p : Process} {m : Mode} → (Line → Bool) → At p m → Term
   left ack (at_skip m h) = waits m false (active skipping)
-  left ack (at_assign {x = x} {at = at} {w = w} {v = v} m u h) = waits m (ack (of_var x)) (active (assigning x at (constant w v)))
-  left ack (at_send {c = c} {at = at} {w = w} {v = v} m u h) = waits m (ack (of_channel c)) (active (sending c at (constant w v)))
+  left ack (at_assign {x = x} {at = at} {e = e} m u h) = waits m (ack (of_var x)) (active (assigning x at e))
+  left ack (at_send {c = c} {at = at} {e = e} m u h) = waits m (ack (of_channel c)) (active (sending c at e))
   left ack (at_turn t) = turn_left ack t
   left ack (at_side m t b h) = together (branches_left ack b)
   left ack (at_body {p = p} a) = followed (left ack a) (again p)

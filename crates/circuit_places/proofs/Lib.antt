@@ -1,5 +1,5 @@
 pub mod Examples
-pub mod Waves
+pub mod RailLemmas
 pub mod Trees
 pub mod Places
 pub mod LineNames

@@ -10,10 +10,11 @@ use Rattle.chp_meaning.specs.Terms.{Term}
 use Rattle.circuit_places.specs.Lines.{Line, of_channel, of_var, same_line, line_width, Rails}
 use Rattle.circuit_places.specs.Circuit.{low, GuardedSpot, turns, fires, same_bit, site_rails}
 use Rattle.circuit_places.specs.Whole.{Wires, seen, line_ack, is_merged, bit_rule, wrote_rule, value_on, neutral_on, Node, go_node, own_node, rail_node, ack_node, bit_node, wrote_node, joint_node, answers, rails_turned, rail_turned}
-use Rattle.circuit_places.proofs.Waves.{fst_true, snd_true, both_true, not_true, same_value, one_held, Within, covers, held_below, neutral_low, value_same, neutral_same, first_bit}
+use Rattle.function_blocks.specs.RailFacts.{covers}
+use Rattle.circuit_places.proofs.RailLemmas.{fst_true, snd_true, both_true, not_true, same_value, neutral_low, each_bit}
 use Rattle.circuit_places.proofs.LineNames.{self_number, same_number, self_line, same_line_is}
 use Rattle.circuit_places.proofs.Places.{Mode, idle, running, answered, returning, GuardedAt, g_rests, g_in, rests, guarded_cells, guarded_shown, GuardedFits, guarded_writing, guarded_moves}
-use Rattle.circuit_places.proofs.Writing.{guarded_writing_low, guarded_writing_same}
+use Rattle.circuit_places.proofs.Writing.{guarded_writing_low, guarded_writing_same, guarded_writing_unread}
 use Rattle.circuit_places.proofs.Left.{guarded_left}
 use Rattle.circuit_places.proofs.Flow.{cases}
 use Rattle.circuit_places.proofs.Change.{GuardedChanged, guarded_changed, AckTurned, Ready, ready_down, Kept, kept_down, Any, any_down, still_leaves, raise_leaves, lower_leaves}
@@ -22,7 +23,7 @@ use Rattle.circuit_places.proofs.Fires.{Passes, Fired, guarded_fires, guarded_st
 use Rattle.circuit_places.proofs.Talks.{guarded_offers_talks, guarded_says_is}
 use Rattle.circuit_places.proofs.BitTable.{Now, may}
 use Rattle.circuit_places.proofs.Blocks.{Block, now_at, write_role, WriteMoved, write_moved}
-use Rattle.circuit_places.proofs.System.{Good, can, root_left, Next, Freed, Rises, takes_of, may_low, may_high, up_low, down_high}
+use Rattle.circuit_places.proofs.System.{Good, clean_of, can, root_left, Next, Freed, Rises, takes_of, may_low, may_high, up_low, down_high}
 
 -- the value of a rail where one is turned over
 data Turned (w : Wires) (k : Line) (i : ℕ) (one : Bool) (c : Line) (j : ℕ) (side : Bool) : Type 0 where
@@ -55,12 +56,18 @@ write_falls x w wrote va i true a c = ap (λ z. if z then va else not va && not 
 write_falls x w wrote va i false a c = ap (λ z. if z then va else not va && not (w i true)) a ∙ c
 
 module _ (P : TypedProgram) (script : List OfferValue) {m : Mode} {g : GuardedAt P.body m} {w : Wires} (hs : List (List ℕ)) (good : Good P m g w) where
-  -- what leaves the acknowledges leaves the statements
-  pub still_changed : (now : Wires) → ((k : Line) → line_ack P now k ≡ line_ack P w k) → GuardedChanged P.body m (seen P w) (seen P now) g
-  still_changed now same = guarded_changed P (seen P w) (seen P now) Any any_down (still_leaves P (seen P w) (seen P now) same) g good.meets tt good.fits
+  -- what leaves the acknowledges and the variables' rails leaves the statements
+  pub still_changed : (now : Wires) → ((k : Line) → line_ack P now k ≡ line_ack P w k) → now.bit ≡ w.bit → GuardedChanged P.body m (seen P w) (seen P now) g
+  still_changed now same bits = guarded_changed P (seen P w) (seen P now) Any any_down (still_leaves P (seen P w) (seen P now) same bits) g good.meets tt good.fits
 
   pub still_left : (now : Wires) → ((k : Line) → line_ack P now k ≡ line_ack P w k) → root_left (line_ack P now) g ≡ root_left (line_ack P w) g
   still_left now same = ap (λ (a : Line → Bool). root_left a g) (fun_ext same)
+
+  -- what is read isn't being written
+  pub calm : (v : ℕ) → (guarded_shown g).read v ≡ true → guarded_writing (line_ack P w) g v ≡ false
+  calm v h = cases (guarded_writing (line_ack P w) g v)
+      (λ (z : guarded_writing (line_ack P w) g v ≡ true). absurd (cc (guarded_writing_unread P (line_ack P w) g good.meets v z, h)))
+      (λ (z : guarded_writing (line_ack P w) g v ≡ false). z)
 
   -- what is freed by a change of acknowledges alone
   pub freed : (now : Wires) (x : ℕ) → now.bit x ≡ w.bit x → Freed P w now (guarded_writing (line_ack P w) g x) (guarded_writing (line_ack P now) g x) x
@@ -73,12 +80,10 @@ module _ (P : TypedProgram) (script : List OfferValue) {m : Mode} {g : GuardedAt
 
   -- the site of a line of which one is under way
   site_of : (k : Line) → (guarded_shown g).talk k ≡ true → OneSite P k (guarded_shown g)
-  site_of k e = guarded_site P g good.meets k e
+  site_of k e = guarded_site P (seen P w) g good.meets good.fits k e
 
   one : (k : Line) (i : ℕ) → (guarded_shown g).offer k i true ≡ true → (guarded_shown g).offer k i false ≡ true → ⊥
-  one k i p q =
-      let x = site_of k (guarded_offers_talks g k i true p) in
-      one_held x.width x.value x.wave i (sym (x.is i true) ∙ p) (sym (x.is i false) ∙ q)
+  one k i p q = (site_of k (guarded_offers_talks g k i true p)).single i p q
 
   pub other : (k : Line) (i : ℕ) (side : Bool) → (guarded_shown g).offer k i side ≡ true → (guarded_shown g).offer k i (not side) ≡ true → ⊥
   other k i true p q = one k i p q
@@ -87,20 +92,13 @@ module _ (P : TypedProgram) (script : List OfferValue) {m : Mode} {g : GuardedAt
   pub other_low : (k : Line) (i : ℕ) (side : Bool) → is_merged P k ≡ true → line_ack P w k ≡ false → (guarded_shown g).offer k i side ≡ true → w.rail k i (not side) ≡ false
   other_low k i side n l o = cases (w.rail k i (not side)) (λ (h : w.rail k i (not side) ≡ true). absurd (other k i side o (good.rising k i (not side) n l h))) (λ (h : w.rail k i (not side) ≡ false). h)
 
-  within : (k : Line) → is_merged P k ≡ true → line_ack P w k ≡ false → (x : OneSite P k (guarded_shown g)) → Within x.width x.value x.wave (w.rail k)
-  within k n low x i side h = sym (x.is i side) ∙ good.rising k i side n low h
-
   pub offered_below : (k : Line) (i : ℕ) (side : Bool) → (guarded_shown g).offer k i side ≡ true → i < line_width P k
-  offered_below k i side o =
-      let x = site_of k (guarded_offers_talks g k i side o) in
-      let below : i < x.width = held_below x.width x.value x.wave i side (sym (x.is i side) ∙ o) in
-      subst (λ (y : ℕ). i < y) x.meets.agrees below
+  offered_below k i side o = (site_of k (guarded_offers_talks g k i side o)).below i side o
 
   -- over valid rails each held rail is high
   all_high : (k : Line) → is_merged P k ≡ true → line_ack P w k ≡ false → is_some (value_on (line_width P k) (w.rail k)) ≡ true → (i : ℕ) (side : Bool) → (guarded_shown g).offer k i side ≡ true → w.rail k i side ≡ true
   all_high k n low some i side o =
-      let x = site_of k (guarded_offers_talks g k i side o) in
-      covers x.width x.value x.wave (w.rail k) (within k n low x) (ap (λ n. is_some (value_on n (w.rail k))) x.meets.agrees ∙ some) i side (sym (x.is i side) ∙ o)
+      covers (line_width P k) (w.rail k) ((guarded_shown g).offer k) (λ j b h. good.rising k j b n low h) (λ j p q. one k j p q) some i side (offered_below k i side o) o
 
   -- a rail moves
   module _ (k : Line) (i : ℕ) (side : Bool) where
@@ -117,7 +115,7 @@ module _ (P : TypedProgram) (script : List OfferValue) {m : Mode} {g : GuardedAt
         → ((x : ℕ) → k ≡ of_var x → WriteMoved (var_width P.vars x) (w.bit x) (w.rail (of_var x)) (w.wrote x) (w.joint x) i side)
         → can P script g w hs n ≡ true → can P script g (rail_turned w k i side) hs n ≡ true
     rail_others go_node ne u a b z = z
-    rail_others (own_node s) ne u a b z = (still_changed (rail_turned w k i side) (rail_acks P w k i side)).keeps s z
+    rail_others (own_node s) ne u a b z = (still_changed (rail_turned w k i side) (rail_acks P w k i side) refl).keeps s z
     rail_others (ack_node c) ne u a b z = cases (same_line (of_channel c) k)
         (λ (e : same_line (of_channel c) k ≡ true). absurd (a c (sym (same_line_is (of_channel c) k e)) z))
         (λ (e : same_line (of_channel c) k ≡ false). far_answers c e (offer_at script c) (channel_width P.channels c) (completed hs c) ∙ z)
@@ -173,7 +171,7 @@ module _ (P : TypedProgram) (script : List OfferValue) {m : Mode} {g : GuardedAt
           way = λ ne. ne;
           good = record {
             meets = good.meets;
-            fits = (still_changed (rail_turned w k i side) (rail_acks P w k i side)).fits;
+            fits = (still_changed (rail_turned w k i side) (rail_acks P w k i side) refl).fits;
             talk = λ c u h. good.talk c u (sym (rail_acks P w k i side c) ∙ h);
             rising = λ c j b u h z. rises c j b u (sym (rail_acks P w k i side c) ∙ h) z (turned_at w k i side c j b);
             falling = λ c j b h z. more c j b (good.falling c j b (sym (rail_acks P w k i side c) ∙ h) z) (turned_at w k i side c j b);
@@ -225,7 +223,7 @@ module _ (P : TypedProgram) (script : List OfferValue) {m : Mode} {g : GuardedAt
           way = λ ne. ne;
           good = record {
             meets = good.meets;
-            fits = (still_changed (rail_turned w k i side) (rail_acks P w k i side)).fits;
+            fits = (still_changed (rail_turned w k i side) (rail_acks P w k i side) refl).fits;
             talk = λ c u h. good.talk c u (sym (rail_acks P w k i side c) ∙ h);
             rising = λ c j b u h z. good.rising c j b u (sym (rail_acks P w k i side c) ∙ h) (fewer c j b z (turned_at w k i side c j b));
             falling = λ c j b h z. falls c j b z (good.falling c j b (sym (rail_acks P w k i side c) ∙ h) z) (turned_at w k i side c j b);
@@ -272,9 +270,8 @@ module _ (P : TypedProgram) (script : List OfferValue) {m : Mode} {g : GuardedAt
     pub falling : (c : Line) (i : ℕ) (one : Bool) → line_ack P now c ≡ true → (guarded_shown g).offer c i one ≡ true → now.rail c i one ≡ true
 
   -- no acknowledge turns over
-  pub seen_still : (now : Wires) → now.rail ≡ w.rail → ((k : Line) → line_ack P now k ≡ line_ack P w k) → SeenChanged now
-  seen_still now rails same =
-      let x = still_changed now same in
+  pub seen_by : (now : Wires) → now.rail ≡ w.rail → ((k : Line) → line_ack P now k ≡ line_ack P w k) → GuardedChanged P.body m (seen P w) (seen P now) g → SeenChanged now
+  seen_by now rails same x =
       let rail_is : (c : Line) (i : ℕ) (one : Bool) → now.rail c i one ≡ w.rail c i one = λ c i one. ap (λ (r : Line → Rails). r c i one) rails in
       record {
         fits = x.fits;
@@ -284,6 +281,9 @@ module _ (P : TypedProgram) (script : List OfferValue) {m : Mode} {g : GuardedAt
         falling = λ c i one h z. rail_is c i one ∙ good.falling c i one (sym (same c) ∙ h) z;
       }
 
+  pub seen_still : (now : Wires) → now.rail ≡ w.rail → now.bit ≡ w.bit → ((k : Line) → line_ack P now k ≡ line_ack P w k) → SeenChanged now
+  seen_still now rails bits same = seen_by now rails same (still_changed now same bits)
+
   -- The acknowledge of a line turns over.
   module _ (k : Line) (now : Wires) (t : AckTurned (seen P w) (seen P now) k) (rails : now.rail ≡ w.rail) (merged : is_merged P k ≡ true) where
     rail_is : (c : Line) (i : ℕ) (one : Bool) → now.rail c i one ≡ w.rail c i one
@@ -291,18 +291,18 @@ module _ (P : TypedProgram) (script : List OfferValue) {m : Mode} {g : GuardedAt
 
     -- a line of which each bit has a rail high has a site under way
     talks : line_ack P w k ≡ false → is_some (value_on (line_width P k) (w.rail k)) ≡ true → 1 ≤ line_width P k → (guarded_shown g).talk k ≡ true
-    talks low some wide = by_bit (first_bit (line_width P k) (w.rail k) wide some)
+    talks low some wide = by_bit (each_bit (line_width P k) (w.rail k) some 0 (let z : 0 < line_width P k = omega (arith, wide) in z))
       where
         by_bit : (side : Bool) × (w.rail k 0 side ≡ true) → (guarded_shown g).talk k ≡ true
         by_bit b = guarded_offers_talks g k 0 b.0 (good.rising k 0 b.0 merged low b.1)
 
     module _ (low : line_ack P w k ≡ false) (some : is_some (value_on (line_width P k) (w.rail k)) ≡ true) (wide : 1 ≤ line_width P k) where
-      ready : Ready k (w.rail k) P.body (guarded_shown g)
-      ready = record { send = λ e i b h. good.rising k i b merged low h }
+      ready : Ready k (w.rail k) (guarded_writing (line_ack P w) g) P.body (guarded_shown g)
+      ready = record { send = λ e i b h. good.rising k i b merged low h; calm = calm }
 
       pub line_rises : SeenChanged now
       line_rises =
-          let x = guarded_changed P (seen P w) (seen P now) (Ready k (w.rail k)) (ready_down k (w.rail k)) (raise_leaves P (seen P w) (seen P now) k t low some) g good.meets ready good.fits in
+          let x = guarded_changed P (seen P w) (seen P now) (Ready k (w.rail k) (guarded_writing (line_ack P w) g)) (ready_down k (w.rail k) (guarded_writing (line_ack P w) g)) (raise_leaves P (seen P w) (seen P now) k (guarded_writing (line_ack P w) g) t low some) g good.meets ready good.fits in
           record {
             fits = x.fits;
             keeps = x.keeps;
@@ -313,14 +313,16 @@ module _ (P : TypedProgram) (script : List OfferValue) {m : Mode} {g : GuardedAt
                 (λ (e : same_line c k ≡ false). good.falling c j b (sym (t.far c e) ∙ h) z);
           }
 
-      pub line_passes : Passes P k (w.rail k) (root_left (line_ack P w) g) (root_left (line_ack P now) g)
-      line_passes = talking m g (talks low some wide) (subst (λ (b : Bool). Fired P k (w.rail k) b (guarded_left (line_ack P w) g) (guarded_left (line_ack P now) g)) (guarded_says_is g k ∙ talks low some wide) (guarded_fires P (seen P w) (seen P now) k t low some g good.meets ready good.fits))
+      pub line_passes : Passes P (seen P w) (guarded_writing (line_ack P w) g) k (root_left (line_ack P w) g) (root_left (line_ack P now) g)
+      line_passes = talking m g (guarded_writing (line_ack P w) g) (talks low some wide)
+          (subst (λ (b : Bool). Fired P (seen P w) (guarded_writing (line_ack P w) g) k b (guarded_left (line_ack P w) g) (guarded_left (line_ack P now) g)) (guarded_says_is g k ∙ talks low some wide)
+          (guarded_fires P (seen P w) (seen P now) (clean_of good) (guarded_writing (line_ack P w) g) k t low some g good.meets ready good.fits))
         where
-          talking : (m : Mode) (a : GuardedAt P.body m) → (guarded_shown a).talk k ≡ true → Passes P k (w.rail k) (guarded_left (line_ack P w) a) (guarded_left (line_ack P now) a) → Passes P k (w.rail k) (root_left (line_ack P w) a) (root_left (line_ack P now) a)
-          talking idle g_rests e h = absurd (cc e)
-          talking running a e h = h
-          talking answered a e h = h
-          talking returning a e h = h
+          talking : (m : Mode) (a : GuardedAt P.body m) (busy : ℕ → Bool) → (guarded_shown a).talk k ≡ true → Passes P (seen P w) busy k (guarded_left (line_ack P w) a) (guarded_left (line_ack P now) a) → Passes P (seen P w) busy k (root_left (line_ack P w) a) (root_left (line_ack P now) a)
+          talking idle g_rests busy e h = absurd (cc e)
+          talking running a busy e h = h
+          talking answered a busy e h = h
+          talking returning a busy e h = h
 
     module _ (high : line_ack P w k ≡ true) (lows : neutral_on (line_width P k) (w.rail k) ≡ true) where
       kept : Kept k (w.rail k) P.body (guarded_shown g)

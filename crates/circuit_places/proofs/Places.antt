@@ -1,15 +1,16 @@
 -- Where the control of a process is, what its nodes' values are there, and which of them may move.
-use Rattle.std.proofs.Common.{◌≡◌, ℕ, zero, suc, ◌/◌, ◌==◌, Bool, true, false, List, [], ◌∷◌, ◌≤◌, refl, sym, ap, ◌∙◌}
+use Rattle.std.proofs.Common.{◌≡◌, ℕ, zero, suc, ◌==◌, Bool, true, false, List, [], ◌∷◌, ◌≤◌, refl, sym, ap, ◌∙◌}
 use Rattle.std.specs.Prelude.{not, ◌&&◌, ◌||◌, if◌then◌else◌}
 use Rattle.std.specs.List.{range_with_len}
 use Rattle.std.proofs.Math.Path.{fun_ext}
-use Rattle.env_script.specs.Environment.{is_odd}
 use Rattle.chp_base.specs.declared.span.Span.{Span}
-use Rattle.width_check.specs.Processes.{Formula, constant, reading, joined, inverted, chained, compared, Process, skipping, assigning, sending, receiving, in_turn, side_by_side, choosing, repeating, Processes, no_members, and_member, member_count}
+use Rattle.width_check.specs.Processes.{Formula, Process, skipping, assigning, sending, receiving, in_turn, side_by_side, choosing, repeating, Processes, no_members, and_member, member_count}
 use Rattle.cell_parallel.specs.Trees.{tree_top}
 use Rattle.circuit_places.specs.Lines.{Line, of_channel, of_var, same_line, site_statement, line_width, Rails, Seen}
-use Rattle.circuit_places.specs.Circuit.{Guarded, Site, SiteSpot, site_rule, low_site, Cells, TurnCells, Bits, BranchCells, low_bits, bit_at, joint_count, low_pairs, low_guarded, low, low_turn, low_branches, branch_ends, tree_answer, tree_rule, gate_count, answer, turn_answer, GuardedSpot, Spot, TurnSpot, BranchSpot, child, latch, next, inner, of_skip, done, gate, of_assign, of_send, in_members, of_branch, joint, in_this, in_others, of_loop, ask, in_body, in_last, in_member, in_later, fires, same_bit, constant_rule, gate_rule, guarded_rule, rule, turn_rule, branch_rule}
-use Rattle.circuit_places.proofs.Waves.{Wave, all_up, none_up, pairs_of, held, gate_moves, never_and, gates_can, fst_true, snd_true, same_value}
+use Rattle.circuit_places.specs.Circuit.{Guarded, Site, Pairs, SiteSpot, site_rule, low_site, Cells, TurnCells, Bits, BranchCells, low_bits, bit_at, joint_count, low_guarded, low, low_turn, low_branches, branch_ends, tree_answer, tree_rule, gate_count, answer, turn_answer, GuardedSpot, Spot, TurnSpot, BranchSpot, child, latch, next, inner, of_skip, done, gate, of_assign, of_send, in_members, of_branch, joint, in_this, in_others, of_loop, ask, in_body, in_last, in_member, in_later, fires, same_bit, gate_rule, guarded_rule, rule, turn_rule, branch_rule}
+use Rattle.width_check.specs.Reads.{reads}
+use Rattle.function_blocks.specs.Waves.{good, out_rail, full, empty, Waves}
+use Rattle.circuit_places.proofs.RailLemmas.{fst_true, snd_true, same_value, low_gate_quiet}
 use Rattle.circuit_places.proofs.Trees.{all_low_value, joint_quiet, low_bit, TreeOver, Settled, top_of, joint_moves}
 
 -- how far a handshake is
@@ -54,6 +55,11 @@ wave_may answered true = true
 wave_may returning all = true
 wave_may _ _ = false
 
+-- A site is so far, where its gates have these values; the law of its expression stands beside.
+pub record SiteMay (e : Formula) (m : Mode) (u : Pairs (gate_count e)) : Type 0 where
+  pub known : Waves e
+  pub may : wave_may m (full e u) ≡ true
+
 -- branches that are so far are all under this request, and have all ended; their ends
 abbrev pub all_ask : Bool → List Mode → Bool
 all_ask r [] = true
@@ -95,8 +101,8 @@ mutual
   pub data At : Process → Mode → Type 0 where
     rests : {p : Process} → At p idle
     at_skip : (m : Mode) → is_idle m ≡ false → At skipping m
-    at_assign : {x : ℕ} {at : Span} {w v : ℕ} (m : Mode) (u : Wave w) → wave_may m (all_up w u) ≡ true → At (assigning x at (constant w v)) m
-    at_send : {c : ℕ} {at : Span} {w v : ℕ} (m : Mode) (u : Wave w) → wave_may m (all_up w u) ≡ true → At (sending c at (constant w v)) m
+    at_assign : {x : ℕ} {at : Span} {e : Formula} (m : Mode) (u : Pairs (gate_count e)) → SiteMay e m u → At (assigning x at e) m
+    at_send : {c : ℕ} {at : Span} {e : Formula} (m : Mode) (u : Pairs (gate_count e)) → SiteMay e m u → At (sending c at e) m
     at_turn : {members : Processes} {m : Mode} → TurnAt members m → At (in_turn members) m
     at_side : {members : Processes} {ks : List Mode} (m : Mode) (t : Bits (joint_count (member_count members))) → BranchesAt members ks → SideMay (member_count members) m ks t → At (side_by_side members) m
     at_body : {p : Process} {m : Mode} → At p m → At (repeating p) running
@@ -116,8 +122,8 @@ mutual
 abbrev pub guarded_of : {A : Type 0} → (child latch next : Bool) → A → Guarded A
 guarded_of c u b x = record { child = c; latch = u; next = b; inner = x }
 
-abbrev pub site_of : (w v : ℕ) → Bool → Wave w → Site w
-site_of w v a u = record { answer = a; gates = pairs_of w v u }
+abbrev pub site_of : (e : Formula) → Bool → Pairs (gate_count e) → Site (gate_count e)
+site_of e a u = record { answer = a; gates = u }
 
 abbrev pub ring_of : (p : Process) → Bool → Cells p → Cells (repeating p)
 ring_of p b x = record { answer = false; ask = b; inner = x }
@@ -139,8 +145,8 @@ abbrev mutual
   pub cells : {p : Process} {m : Mode} → At p m → Cells p
   cells {p = p} rests = low p
   cells (at_skip m h) = acks m
-  cells (at_assign {w = w} {v = v} m u h) = site_of w v (acks m) u
-  cells (at_send {w = w} {v = v} m u h) = site_of w v (acks m) u
+  cells (at_assign {e = e} m u h) = site_of e (acks m) u
+  cells (at_send {e = e} m u h) = site_of e (acks m) u
   cells (at_turn t) = turn_cells t
   cells (at_side {members = members} m t b h) = sides_of members (branch_cells b) t
   cells (at_body {p = p} {m = m} a) = ring_of p (asks m) (cells a)
@@ -157,7 +163,7 @@ abbrev mutual
 
 -- What a place shows to what stands apart: whether a site of the line is under way, and whether its acknowledge's rise is
 -- then its step; whether a site's rail is high; whether a receive is under way, and has taken a value; which variables
--- are read. No statement receives or reads yet.
+-- are read. No statement receives yet.
 pub record Shown : Type 0 where
   pub talk : Line → Bool
   pub says : Line → Bool
@@ -179,8 +185,8 @@ both_shown x y = record {
   read = λ v. x.read v || y.read v;
 }
 
-abbrev pub site_shown : Line → (w v : ℕ) → Wave w → Shown
-site_shown k w v u = record { talk = λ j. same_line k j; says = λ j. same_line k j; offer = λ j i one. same_line k j && held w v u i one; listen = λ j. false; take = λ j. false; read = λ x. false }
+abbrev pub site_shown : Line → (e : Formula) → Pairs (gate_count e) → Shown
+site_shown k e u = record { talk = λ j. same_line k j; says = λ j. same_line k j; offer = λ j i one. same_line k j && out_rail e u i one; listen = λ j. false; take = λ j. false; read = λ x. reads x e }
 
 abbrev mutual
   pub guarded_shown : {p : Process} {m : Mode} → GuardedAt p m → Shown
@@ -188,8 +194,8 @@ abbrev mutual
   guarded_shown _ = none_shown
 
   pub shown : {p : Process} {m : Mode} → At p m → Shown
-  shown (at_assign {x = x} {w = w} {v = v} m u h) = site_shown (of_var x) w v u
-  shown (at_send {c = c} {w = w} {v = v} m u h) = site_shown (of_channel c) w v u
+  shown (at_assign {x = x} {e = e} m u h) = site_shown (of_var x) e u
+  shown (at_send {c = c} {e = e} m u h) = site_shown (of_channel c) e u
   shown (at_turn t) = turn_shown t
   shown (at_side m t b h) = branches_shown b
   shown (at_body a) = shown a
@@ -239,14 +245,18 @@ send_fits answered f n a = a
 send_fits returning f false a = a
 send_fits _ _ _ _ = true
 
+-- and the gates are as they may be over the variables' rails
+abbrev pub SiteFits : Line → (e : Formula) → Mode → Pairs (gate_count e) → Seen → Type 0
+SiteFits k e m u env = (send_fits m (full e u) (empty e u) (env.ack k) ≡ true) × (good (asks m) env.bit e u ≡ true)
+
 abbrev mutual
   pub GuardedFits : {p : Process} {m : Mode} → GuardedAt p m → Seen → Type 0
   GuardedFits (g_in u a h) env = Fits a env
   GuardedFits _ env = Unit {0}
 
   pub Fits : {p : Process} {m : Mode} → At p m → Seen → Type 0
-  Fits (at_assign {x = x} {w = w} m u h) env = send_fits m (all_up w u) (none_up w u) (env.ack (of_var x)) ≡ true
-  Fits (at_send {c = c} {w = w} m u h) env = send_fits m (all_up w u) (none_up w u) (env.ack (of_channel c)) ≡ true
+  Fits (at_assign {x = x} {e = e} m u h) env = SiteFits (of_var x) e m u env
+  Fits (at_send {c = c} {e = e} m u h) env = SiteFits (of_channel c) e m u env
   Fits (at_turn t) env = TurnFits t env
   Fits (at_side m t b h) env = BranchesFit b env
   Fits (at_body a) env = Fits a env
@@ -263,9 +273,9 @@ abbrev mutual
   TurnFits turn_rests env = Unit {0}
 
 -- which nodes may move
-abbrev pub site_moves : (ack : Bool) (w v : ℕ) (m : Mode) → Wave w → SiteSpot (constant w v) → Bool
-site_moves ack w v m u done = if acks m then not ack else asks m && ack
-site_moves ack w v m u (gate i one) = gate_moves w v (asks m) u i one
+abbrev pub site_moves : Seen → Line → (e : Formula) → (m : Mode) → Pairs (gate_count e) → SiteSpot e → Bool
+site_moves env k e m u done = if acks m then not (env.ack k) else asks m && env.ack k
+site_moves env k e m u (gate i one) = fires (gate_rule e env.bit (asks m) u i one)
 
 abbrev mutual
   pub guarded_moves : {p : Process} {m : Mode} → Seen → GuardedAt p m → GuardedSpot p → Bool
@@ -279,8 +289,8 @@ abbrev mutual
 
   pub moves : {p : Process} {m : Mode} → Seen → At p m → Spot p → Bool
   moves env (at_skip m h) of_skip = if acks m then not (asks m) else asks m
-  moves env (at_assign {x = x} {w = w} {v = v} m u h) (of_assign s) = site_moves (env.ack (of_var x)) w v m u s
-  moves env (at_send {c = c} {w = w} {v = v} m u h) (of_send s) = site_moves (env.ack (of_channel c)) w v m u s
+  moves env (at_assign {x = x} {e = e} m u h) (of_assign s) = site_moves env (of_var x) e m u s
+  moves env (at_send {c = c} {e = e} m u h) (of_send s) = site_moves env (of_channel c) e m u s
   moves env (at_turn t) (in_members s) = turn_moves env t s
   moves env (at_side m t b h) (of_branch s) = branch_moves env b s
   moves env (at_side {members = members} {ks = ks} m t b h) (joint k) = joint_moves (member_count members) (ends ks) t k
@@ -390,23 +400,9 @@ mutual
   turn_answer_is (at_later {k = k} {n = n} {m = m} g t h) = turn_answer_is t ∙ link_acks m k n h
 
 -- nothing can move where the handshake rests
-low_gates_quiet : (n v i : ℕ) (one : Bool) → fires (constant_rule n v false (low_pairs n) i one) ≡ false
-low_gates_quiet zero v i one = refl
-low_gates_quiet (suc n) v zero true = never_and (same_bit (is_odd v) true)
-low_gates_quiet (suc n) v zero false = never_and (same_bit (is_odd v) false)
-low_gates_quiet (suc n) v (suc i) one = low_gates_quiet n (v / 2) i one
-
-low_gate_quiet : (e : Formula) (i : ℕ) (one : Bool) → fires (gate_rule e false (low_pairs (gate_count e)) i one) ≡ false
-low_gate_quiet (constant w v) i one = low_gates_quiet w v i one
-low_gate_quiet (reading x high low at) i one = refl
-low_gate_quiet (joined parts) i one = refl
-low_gate_quiet (inverted e) i one = refl
-low_gate_quiet (chained e more) i one = refl
-low_gate_quiet (compared op e f) i one = refl
-
-low_site_quiet : (e : Formula) (ack : Bool) (s : SiteSpot e) → fires (site_rule e ack false (low_site e) s) ≡ false
-low_site_quiet e ack done = refl
-low_site_quiet e ack (gate i one) = low_gate_quiet e i one
+low_site_quiet : (e : Formula) (bits : ℕ → Rails) (ack : Bool) (s : SiteSpot e) → fires (site_rule e bits ack false (low_site e) s) ≡ false
+low_site_quiet e bits ack done = refl
+low_site_quiet e bits ack (gate i one) = low_gate_quiet e bits i one
 
 mutual
   pub low_guarded_quiet : (p : Process) (env : Seen) (s : GuardedSpot p) → fires (guarded_rule p env false (low_guarded (low p)) s) ≡ false
@@ -417,8 +413,8 @@ mutual
 
   pub low_quiet : (p : Process) (env : Seen) (s : Spot p) → fires (rule p env false (low p) s) ≡ false
   low_quiet skipping env of_skip = refl
-  low_quiet (assigning x at e) env (of_assign s) = low_site_quiet e (env.ack (of_var x)) s
-  low_quiet (sending c at e) env (of_send s) = low_site_quiet e (env.ack (of_channel c)) s
+  low_quiet (assigning x at e) env (of_assign s) = low_site_quiet e env.bit (env.ack (of_var x)) s
+  low_quiet (sending c at e) env (of_send s) = low_site_quiet e env.bit (env.ack (of_channel c)) s
   low_quiet (in_turn members) env (in_members s) = low_turn_quiet members env s
   low_quiet (repeating p) env of_loop = refl
   low_quiet (repeating p) env ask = refl
@@ -442,9 +438,9 @@ mutual
   low_turn_quiet (and_member p (and_member q more)) env (in_later s) = low_turn_quiet (and_member q more) env s
 
 -- the rules allow what a place says
-site_can_is : (ack : Bool) (w v : ℕ) (m : Mode) (u : Wave w) (s : SiteSpot (constant w v)) → fires (site_rule (constant w v) ack (asks m) (site_of w v (acks m) u) s) ≡ site_moves ack w v m u s
-site_can_is ack w v m u done = refl
-site_can_is ack w v m u (gate i one) = gates_can w v (asks m) u i one
+site_can_is : (env : Seen) (k : Line) (e : Formula) (m : Mode) (u : Pairs (gate_count e)) (s : SiteSpot e) → fires (site_rule e env.bit (env.ack k) (asks m) (site_of e (acks m) u) s) ≡ site_moves env k e m u s
+site_can_is env k e m u done = refl
+site_can_is env k e m u (gate i one) = refl
 
 mutual
   pub guarded_can_is : {p : Process} {m : Mode} (env : Seen) (g : GuardedAt p m) (s : GuardedSpot p) → fires (guarded_rule p env (asks m) (guarded_cells g) s) ≡ guarded_moves env g s
@@ -469,8 +465,8 @@ mutual
   pub can_is : {p : Process} {m : Mode} (env : Seen) (a : At p m) (s : Spot p) → fires (rule p env (asks m) (cells a) s) ≡ moves env a s
   can_is {p = p} env rests s = low_quiet p env s
   can_is env (at_skip m h) of_skip = refl
-  can_is env (at_assign {x = x} {w = w} {v = v} m u h) (of_assign s) = site_can_is (env.ack (of_var x)) w v m u s
-  can_is env (at_send {c = c} {w = w} {v = v} m u h) (of_send s) = site_can_is (env.ack (of_channel c)) w v m u s
+  can_is env (at_assign {x = x} {e = e} m u h) (of_assign s) = site_can_is env (of_var x) e m u s
+  can_is env (at_send {c = c} {e = e} m u h) (of_send s) = site_can_is env (of_channel c) e m u s
   can_is env (at_turn t) (in_members s) = turn_can_is env t s
   can_is env (at_side m t b h) (of_branch s) = branch_can_is env (asks m) b h.asked s
   can_is env (at_side {members = members} m t b h) (joint k) = ap (λ (f : ℕ → Bool). fires (tree_rule (member_count members) f (bit_at (joint_count (member_count members)) t) k)) (ends_are b)

@@ -7,7 +7,7 @@ use Rattle.prs_core.specs.Parts.{turned as turned_value}
 use Rattle.prs_core.specs.Turning.{turned_apart}
 use Rattle.circuit_places.specs.Lines.{Line, of_channel, of_var, same_line, site_statement, line_width, Rails, Seen}
 use Rattle.circuit_places.specs.Circuit.{Bits, bit_at, joint_count, low_branches, turned_bits, GuardedSpot, Spot, BranchSpot, of_branch, joint, in_this, in_others, same_bit}
-use Rattle.circuit_places.proofs.Waves.{fst_true, snd_true, same_value}
+use Rattle.circuit_places.proofs.RailLemmas.{fst_true, snd_true, same_value}
 use Rattle.circuit_places.proofs.Trees.{Settled, top_of, joint_moves, turned_next, bits_low, leaf_turns, joint_moved, JointMoved, Topped, not_top, at_top, flat_nodes, flat_stands}
 use Rattle.circuit_places.proofs.Places.{Mode, idle, running, answered, returning, asks, acks, all_ask, all_ack, all_idle, ends, SideMay, GuardedAt, BranchesAt, rests, at_side, and_at, sides_of, guarded_cells, branch_cells, none_shown, guarded_shown, branches_shown, GuardedFits, BranchesFit, guarded_writing, branches_writing, moves, branch_moves}
 use Rattle.circuit_places.proofs.Left.{branches_left, guarded_left, this_follows, other_follows, together_follows, branches_left_done, branches_writing_done, none_asked}

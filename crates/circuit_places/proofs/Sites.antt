@@ -1,13 +1,12 @@
 -- The rails of a channel's sites, and the channel's own that are their merges.
-use Rattle.std.proofs.Common.{◌≡◌, ℕ, zero, suc, ◌/◌, ◌==◌, Bool, true, false, List, [], ◌∷◌, ◌++◌, refl, sym, ap, ◌∙◌}
+use Rattle.std.proofs.Common.{◌≡◌, ℕ, ◌==◌, Bool, true, false, List, [], ◌∷◌, ◌++◌, refl, sym, ap, ◌∙◌}
 use Rattle.std.specs.Prelude.{not, ◌&&◌, ◌||◌, if◌then◌else◌}
 use Rattle.std.specs.List.{list_any, list_all}
-use Rattle.env_script.specs.Environment.{is_odd}
-use Rattle.width_check.specs.Processes.{Formula, constant, reading, joined, inverted, chained, compared, Process, skipping, assigning, sending, receiving, in_turn, side_by_side, choosing, repeating, Processes, no_members, and_member}
+use Rattle.width_check.specs.Processes.{Formula, Process, skipping, assigning, sending, receiving, in_turn, side_by_side, choosing, repeating, Processes, no_members, and_member}
 use Rattle.circuit_places.specs.Lines.{Line, of_channel, of_var, same_line, site_statement, line_width, Rails, Seen}
-use Rattle.circuit_places.specs.Circuit.{Site, low_site, rails_of_site, Pairs, side_of, low_pairs, gate_count, Cells, TurnCells, BranchCells, low, low_turn, low_branches, same_bit, fires, is_apart, turns, rail_in, result_rail, site_rails, turn_rails, branch_rails}
+use Rattle.circuit_places.specs.Circuit.{Site, low_site, rails_of_site, Pairs, low_pairs, gate_count, Cells, TurnCells, BranchCells, low, low_turn, low_branches, fires, is_apart, turns, out_rail, site_rails, turn_rails, branch_rails}
 use Rattle.circuit_places.specs.Whole.{all_low, merged}
-use Rattle.circuit_places.proofs.Waves.{Wave, bit_pair, pairs_of, held}
+use Rattle.circuit_places.proofs.RailLemmas.{low_out}
 use Rattle.circuit_places.proofs.Places.{Mode, running, acks, site_of, GuardedAt, At, TurnAt, BranchesAt, g_rests, g_in, g_past, g_back, rests, at_skip, at_assign, at_send, at_turn, at_side, at_body, no_more, and_at, turn_rests, at_last, at_member, at_later, guarded_cells, cells, turn_cells, branch_cells, guarded_shown, shown, turn_shown, branches_shown, not_running}
 
 abbrev pub any : List Bool → Bool
@@ -54,21 +53,8 @@ merged_apart now (false ∷ xs) = ap (λ b. not (any xs && b)) (all_not xs) ∙ 
     here false = refl
 
 -- which rails have sites doesn't change
-rail_nil : (n : ℕ) (x y : Pairs n) (i : ℕ) (one : Bool) → is_nil (rail_in n x i one) ≡ is_nil (rail_in n y i one)
-rail_nil zero x y i one = refl
-rail_nil (suc n) x y zero one = refl
-rail_nil (suc n) x y (suc i) one = rail_nil n x.1 y.1 i one
-
-result_nil : (e : Formula) (x y : Pairs (gate_count e)) (i : ℕ) (one : Bool) → is_nil (result_rail e x i one) ≡ is_nil (result_rail e y i one)
-result_nil (constant w v) x y i one = rail_nil w x y i one
-result_nil (reading z high low at) x y i one = refl
-result_nil (joined parts) x y i one = refl
-result_nil (inverted e) x y i one = refl
-result_nil (chained e more) x y i one = refl
-result_nil (compared op e f) x y i one = refl
-
 same_site_rails : (b : Bool) (e : Formula) (x y : Site (gate_count e)) (i : ℕ) (one : Bool) → is_nil (rails_of_site b e x i one) ≡ is_nil (rails_of_site b e y i one)
-same_site_rails true e x y i one = result_nil e x.gates y.gates i one
+same_site_rails true e x y i one = refl
 same_site_rails false e x y i one = refl
 
 mutual
@@ -100,20 +86,6 @@ mutual
       ∙ sym (nil_append (site_rails p y.member.inner k i one) (turn_rails (and_member q more) y.later k i one))))
 
 -- one of the sites has the rail high where the place holds it
-low_rail : (n : ℕ) (i : ℕ) (one : Bool) → any (rail_in n (low_pairs n) i one) ≡ false
-low_rail zero i one = refl
-low_rail (suc n) zero true = refl
-low_rail (suc n) zero false = refl
-low_rail (suc n) (suc i) one = low_rail n i one
-
-low_result : (e : Formula) (i : ℕ) (one : Bool) → any (result_rail e (low_pairs (gate_count e)) i one) ≡ false
-low_result (constant w v) i one = low_rail w i one
-low_result (reading x high low at) i one = refl
-low_result (joined parts) i one = refl
-low_result (inverted e) i one = refl
-low_result (chained e more) i one = refl
-low_result (compared op e f) i one = refl
-
 or_false : (b : Bool) → (b || false) ≡ b
 or_false true = refl
 or_false false = refl
@@ -122,7 +94,7 @@ pub none_both : (xs ys : List Bool) (a b : Bool) → any xs ≡ a → any ys ≡
 none_both xs ys a b e f = any_append xs ys ∙ (ap (λ z. z || any ys) e ∙ ap (λ z. a || z) f)
 
 low_site_rails : (b : Bool) (e : Formula) (i : ℕ) (one : Bool) → any (rails_of_site b e (low_site e) i one) ≡ false
-low_site_rails true e i one = low_result e i one
+low_site_rails true e i one = or_false (out_rail e (low_pairs (gate_count e)) i one) ∙ low_out e i one
 low_site_rails false e i one = refl
 
 mutual
@@ -145,17 +117,6 @@ mutual
   low_turn_sites (and_member p no_members) k i one = low_sites p k i one
   low_turn_sites (and_member p (and_member q more)) k i one = none_both (site_rails p (low p) k i one) (turn_rails (and_member q more) (low_turn (and_member q more)) k i one) false false (low_sites p k i one) (low_turn_sites (and_member q more) k i one)
 
-pair_any : (o one up : Bool) → (side_of (bit_pair o up) one || false) ≡ (same_bit o one && up)
-pair_any true true up = or_false up
-pair_any true false up = refl
-pair_any false true up = refl
-pair_any false false up = or_false up
-
-rail_any : (n v : ℕ) (u : Wave n) (i : ℕ) (one : Bool) → any (rail_in n (pairs_of n v u) i one) ≡ held n v u i one
-rail_any zero v u i one = refl
-rail_any (suc n) v u zero one = pair_any (is_odd v) one u.0
-rail_any (suc n) v u (suc i) one = rail_any n (v / 2) u.1 i one
-
 -- a Q-element that isn't running is low inside
 past_sites : {p : Process} {m : Mode} (g : GuardedAt p m) (k : Line) (i : ℕ) (one : Bool) → (m ≡ running → ⊥) → any (site_rails p (guarded_cells g).inner k i one) ≡ false
 past_sites {p = p} g_rests k i one ne = low_sites p k i one
@@ -163,9 +124,9 @@ past_sites (g_in u a h) k i one ne = absurd (ne refl)
 past_sites {p = p} g_past k i one ne = low_sites p k i one
 past_sites {p = p} (g_back u) k i one ne = low_sites p k i one
 
-site_offered : (b : Bool) (w v : ℕ) (a : Bool) (u : Wave w) (i : ℕ) (one : Bool) → any (rails_of_site b (constant w v) (site_of w v a u) i one) ≡ (b && held w v u i one)
-site_offered true w v a u i one = rail_any w v u i one
-site_offered false w v a u i one = refl
+site_offered : (b : Bool) (e : Formula) (a : Bool) (u : Pairs (gate_count e)) (i : ℕ) (one : Bool) → any (rails_of_site b e (site_of e a u) i one) ≡ (b && out_rail e u i one)
+site_offered true e a u i one = or_false (out_rail e u i one)
+site_offered false e a u i one = refl
 
 mutual
   pub guarded_offered : {p : Process} {m : Mode} (g : GuardedAt p m) (k : Line) (i : ℕ) (one : Bool) → any (site_rails p (guarded_cells g).inner k i one) ≡ (guarded_shown g).offer k i one
@@ -177,8 +138,8 @@ mutual
   pub offered : {p : Process} {m : Mode} (a : At p m) (k : Line) (i : ℕ) (one : Bool) → any (site_rails p (cells a) k i one) ≡ (shown a).offer k i one
   offered {p = p} rests k i one = low_sites p k i one
   offered (at_skip m h) k i one = refl
-  offered (at_assign {x = x} {w = w} {v = v} m u h) k i one = site_offered (same_line (of_var x) k) w v (acks m) u i one
-  offered (at_send {c = c} {w = w} {v = v} m u h) k i one = site_offered (same_line (of_channel c) k) w v (acks m) u i one
+  offered (at_assign {x = x} {e = e} m u h) k i one = site_offered (same_line (of_var x) k) e (acks m) u i one
+  offered (at_send {c = c} {e = e} m u h) k i one = site_offered (same_line (of_channel c) k) e (acks m) u i one
   offered (at_turn t) k i one = turn_offered t k i one
   offered (at_side m t b h) k i one = branches_offered b k i one
   offered (at_body a) k i one = offered a k i one

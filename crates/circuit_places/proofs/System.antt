@@ -1,5 +1,5 @@
 -- The whole circuit: what holds of each state that is reached, and that each move keeps it and takes no other away.
-use Rattle.std.proofs.Common.{◌≡◌, ◌≢◌, ℕ, ◌<◌, ◌≤◌, ◌==◌, ◌⊎◌, inl, Bool, true, false, List, [], ◌∷◌, ◌++◌, refl, sym, ap, ◌∙◌}
+use Rattle.std.proofs.Common.{◌≡◌, ◌≢◌, ℕ, ◌<◌, ◌≤◌, ◌==◌, ◌⊎◌, inl, arith, Bool, true, false, List, [], ◌∷◌, ◌++◌, refl, sym, ap, ◌∙◌}
 use Rattle.std.proofs.lemmas.List.{get_or-set_other}
 use Rattle.std.specs.Prelude.{slice_index, map, not, ◌&&◌, if◌then◌else◌, length, Option, Some, None, is_some}
 use Rattle.chp_base.specs.declared.channel.Channel.{Channel}
@@ -9,18 +9,19 @@ use Rattle.env_script.specs.Runs.{history_at, completed}
 use Rattle.width_check.specs.Processes.{Process, TypedProgram}
 use Rattle.width_check.specs.Typing.{channel_width, var_width}
 use Rattle.width_check.specs.declared.typed.Var.{Var}
-use Rattle.circuit_places.proofs.Writing.{number_on}
-use Rattle.circuit_places.specs.Lines.{Line, of_channel, of_var, line_width, Rails}
+use Rattle.function_blocks.specs.Rails.{number_on}
+use Rattle.circuit_places.specs.Lines.{Line, of_channel, of_var, line_width, Rails, Seen}
 use Rattle.chp_meaning.specs.Terms.{Term, opened}
 use Rattle.circuit_places.specs.Circuit.{low, GuardedSpot, turns, fires, site_rails}
 use Rattle.circuit_places.specs.Whole.{first_bits, Wires, seen, line_ack, is_merged, bit_rule, wrote_rule, value_on, neutral_on, Node, go_node, own_node, rail_node, ack_node, bit_node, wrote_node, joint_node, wrote_turned, joint_turned, receives, answers, passed, passed_after, wires_after, go_after, root_after}
-use Rattle.circuit_places.proofs.Waves.{fst_true, snd_true, both_true}
+use Rattle.circuit_places.proofs.RailLemmas.{fst_true, snd_true, both_true}
 use Rattle.circuit_places.proofs.Trees.{node_moves}
-use Rattle.circuit_places.proofs.Blocks.{Block}
+use Rattle.circuit_places.proofs.Blocks.{Block, now_at}
+use Rattle.circuit_places.proofs.BitTable.{single_bit}
 use Rattle.circuit_places.proofs.Places.{Mode, idle, running, answered, returning, asks, is_idle, GuardedAt, guarded_cells, guarded_shown, guarded_writing, GuardedFits, guarded_moves}
 use Rattle.circuit_places.proofs.Meets.{Meets}
 use Rattle.circuit_places.proofs.Left.{guarded_left, Follows}
-use Rattle.circuit_places.proofs.Flow.{goes, goes_asks, GuardedAfter, cases}
+use Rattle.circuit_places.proofs.Flow.{goes, goes_asks, Clean, GuardedAfter, cases}
 use Rattle.circuit_places.proofs.Begin.{guarded_idle_moves}
 use Rattle.circuit_places.proofs.Sites.{is_nil}
 use Rattle.circuit_places.proofs.Fires.{Passes}
@@ -40,6 +41,17 @@ pub record Good (P : TypedProgram) (m : Mode) (g : GuardedAt P.body m) (w : Wire
   pub no_bit : (x i : ℕ) (one : Bool) → w.bit x i one ≡ true → i < var_width P.vars x
   pub no_wrote : (x i : ℕ) → w.wrote x i ≡ true → i < var_width P.vars x
 
+-- so no bit of a variable has both rails high
+pub clean_of : {P : TypedProgram} {m : Mode} {g : GuardedAt P.body m} {w : Wires} → Good P m g w → Clean (seen P w)
+clean_of {P = P} {w = w} good = record { single = λ x i. here x i (w.bit x i true) (w.bit x i false) refl refl }
+  where
+    here : (x i : ℕ) (t f : Bool) → w.bit x i true ≡ t → w.bit x i false ≡ f → not (w.bit x i true && w.bit x i false) ≡ true
+    here x i false f ht hf = ap (λ b. not (b && w.bit x i false)) ht
+    here x i true false ht hf = ap (λ b. not (b && w.bit x i false)) ht ∙ ap not hf
+    here x i true true ht hf =
+        let less = good.no_bit x i true ht in
+        single_bit (now_at (w.bit x) (w.rail (of_var x)) (w.wrote x) (line_ack P w (of_var x)) i) ((good.block x (let g : 1 ≤ var_width P.vars x = omega (arith, less) in g)).bits i less)
+
 -- which moves are enabled there
 abbrev pub can : (P : TypedProgram) → List OfferValue → {m : Mode} → GuardedAt P.body m → Wires → List (List ℕ) → Node P.body → Bool
 can P script {m = m} g w hs go_node = is_idle m
@@ -55,25 +67,25 @@ abbrev pub root_left : {p : Process} {m : Mode} → (Line → Bool) → GuardedA
 root_left {p = p} {m = idle} ack g = opened p
 root_left ack g = guarded_left ack g
 
-abbrev pub Passing : TypedProgram → Line → Rails → Bool → Term → Term → Type 0
-Passing P k rail true x y = y ≡ x
-Passing P k rail false x y = Passes P k rail x y
+abbrev pub Passing : TypedProgram → Seen → (ℕ → Bool) → Line → Bool → Term → Term → Type 0
+Passing P env busy k true x y = y ≡ x
+Passing P env busy k false x y = Passes P env busy k x y
 
 -- what a move does to the term: an acknowledge that rises is a step of its line, any other move is a silent step or none
-pub data Stored (P : TypedProgram) (x : ℕ) (w now : Wires) (t y : Term) : Type 0 where
-  no_store : line_ack P now (of_var x) ≡ line_ack P w (of_var x) → y ≡ t → Stored P x w now t y
-  cleared : line_ack P w (of_var x) ≡ true → line_ack P now (of_var x) ≡ false → y ≡ t → Stored P x w now t y
-  stores : line_ack P w (of_var x) ≡ false → line_ack P now (of_var x) ≡ true → value_on (var_width P.vars x) (w.bit x) ≡ value_on (var_width P.vars x) (w.rail (of_var x)) → Passes P (of_var x) (w.rail (of_var x)) t y → Stored P x w now t y
+pub data Stored (P : TypedProgram) (busy : ℕ → Bool) (x : ℕ) (w now : Wires) (t y : Term) : Type 0 where
+  no_store : line_ack P now (of_var x) ≡ line_ack P w (of_var x) → y ≡ t → Stored P busy x w now t y
+  cleared : line_ack P w (of_var x) ≡ true → line_ack P now (of_var x) ≡ false → y ≡ t → Stored P busy x w now t y
+  stores : line_ack P w (of_var x) ≡ false → line_ack P now (of_var x) ≡ true → value_on (var_width P.vars x) (w.bit x) ≡ value_on (var_width P.vars x) (w.rail (of_var x)) → Passes P (seen P w) busy (of_var x) t y → Stored P busy x w now t y
 
 -- the acknowledges of other variables stay
 abbrev pub Others : TypedProgram → ℕ → Wires → Wires → Type 0
 Others P x w now = (y : ℕ) → (y == x) ≡ false → line_ack P now (of_var y) ≡ line_ack P w (of_var y)
 
-abbrev pub Moves : (P : TypedProgram) → Wires → Term → Term → Node P.body → Type 0
-Moves P w t y (ack_node k) = Passing P (of_channel k) (w.rail (of_channel k)) (w.ack k) t y
-Moves P w t y (wrote_node x i) = Others P x w (wrote_turned w x i) × Stored P x w (wrote_turned w x i) t y
-Moves P w t y (joint_node x k) = Others P x w (joint_turned w x k) × Stored P x w (joint_turned w x k) t y
-Moves P w t y _ = Follows t y
+abbrev pub Moves : (P : TypedProgram) → Wires → (busy : ℕ → Bool) → Term → Term → Node P.body → Type 0
+Moves P w busy t y (ack_node k) = Passing P (seen P w) busy (of_channel k) (w.ack k) t y
+Moves P w busy t y (wrote_node x i) = Others P x w (wrote_turned w x i) × Stored P busy x w (wrote_turned w x i) t y
+Moves P w busy t y (joint_node x k) = Others P x w (joint_turned w x k) × Stored P busy x w (joint_turned w x k) t y
+Moves P w busy t y _ = Follows t y
 
 -- a variable's acknowledge rises
 pub record Rises (P : TypedProgram) (w now : Wires) (x : ℕ) : Type 0 where
@@ -91,7 +103,7 @@ pub record Next (P : TypedProgram) (script : List OfferValue) (m : Mode) (g : Gu
   pub go : asks mode ≡ go_after (asks m) n
   pub way : m ≢ returning → mode ≢ returning
   pub good : Good P mode to (wires_after w n)
-  pub term : m ≢ returning → Moves P w (root_left (line_ack P w) g) (root_left (line_ack P (wires_after w n)) to) n
+  pub term : m ≢ returning → Moves P w (guarded_writing (line_ack P w) g) (root_left (line_ack P w) g) (root_left (line_ack P (wires_after w n)) to) n
   pub frees : (x : ℕ) → Freed P w (wires_after w n) (guarded_writing (line_ack P w) g x) (guarded_writing (line_ack P (wires_after w n)) to x) x
   pub keeps : (k : Node P.body) → k ≢ n → can P script g w hs k ≡ true → can P script to (wires_after w n) (passed_after P.channels w hs n) k ≡ true
 

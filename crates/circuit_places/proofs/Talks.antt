@@ -3,7 +3,8 @@ use Rattle.std.proofs.Common.{◌≡◌, ℕ, ◌==◌, Bool, true, false, List,
 use Rattle.std.specs.Prelude.{◌||◌}
 use Rattle.width_check.specs.Processes.{Process, Processes, and_member}
 use Rattle.circuit_places.specs.Lines.{Line, of_channel, of_var, same_line}
-use Rattle.circuit_places.proofs.Waves.{held, fst_true}
+use Rattle.function_blocks.specs.Waves.{out_rail}
+use Rattle.circuit_places.proofs.RailLemmas.{fst_true}
 use Rattle.circuit_places.proofs.Places.{Mode, GuardedAt, At, TurnAt, BranchesAt, g_in, rests, at_skip, at_assign, at_send, at_turn, at_side, at_body, no_more, and_at, turn_rests, at_last, at_member, at_later, Shown, guarded_shown, shown, turn_shown, branches_shown}
 use Rattle.circuit_places.proofs.Meets.{Fair, sends, turn_sends}
 use Rattle.circuit_places.proofs.Flow.{or_left, or_right, low_of}
@@ -20,8 +21,8 @@ mutual
   guarded_offers_talks _ k i one e = absurd (cc e)
 
   pub offers_talks : {p : Process} {m : Mode} (a : At p m) (k : Line) (i : ℕ) (one : Bool) → (shown a).offer k i one ≡ true → (shown a).talk k ≡ true
-  offers_talks (at_assign {x = x} {w = w} {v = v} m u h) k i one e = fst_true (same_line (of_var x) k) (held w v u i one) e
-  offers_talks (at_send {c = c} {w = w} {v = v} m u h) k i one e = fst_true (same_line (of_channel c) k) (held w v u i one) e
+  offers_talks (at_assign {x = x} {e = d} m u h) k i one e = fst_true (same_line (of_var x) k) (out_rail d u i one) e
+  offers_talks (at_send {c = c} {e = d} m u h) k i one e = fst_true (same_line (of_channel c) k) (out_rail d u i one) e
   offers_talks (at_turn t) k i one e = turn_offers_talks t k i one e
   offers_talks (at_side m t b h) k i one e = branches_offers_talks b k i one e
   offers_talks (at_body a) k i one e = offers_talks a k i one e

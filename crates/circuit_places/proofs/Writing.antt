@@ -1,5 +1,5 @@
 -- Which variables are being written: where a site offers a rail of one under a low acknowledge it is, under a high one it
--- isn't, and other acknowledges don't matter. What the rails of its value say as a number.
+-- isn't, and other acknowledges don't matter; what is being written isn't read. What the rails of its value say as a number.
 use Rattle.std.proofs.Common.{◌≡◌, ℕ, zero, suc, ◌+◌, ◌*◌, ◌/◌, ◌%◌, ◌^◌, ◌<◌, ◌==◌, Bool, true, false, List, [], ◌∷◌, length, map, refl, sym, ap, ◌∙◌, arith, All}
 use Rattle.std.proofs.lemmas.Bool.{eqb-true}
 use Rattle.std.proofs.lemmas.List.Elements.{All-head, All-tail}
@@ -7,18 +7,22 @@ use Rattle.std.specs.Prelude.{◌&&◌, ◌||◌, Option, Some, None, slice_inde
 use Rattle.prs_core.specs.Moves.{bit_value, with_bit}
 use Rattle.env_script.specs.Environment.{is_odd}
 use Rattle.width_check.specs.declared.typed.Var.{Var}
-use Rattle.width_check.specs.Processes.{Process, Processes}
+use Rattle.width_check.specs.Processes.{Formula, Process, Processes, and_member, TypedProgram}
 use Rattle.width_check.specs.Typing.{var_width}
 use Rattle.chp_meaning.specs.Halves.{IsSizedVar}
 use Rattle.width_check.specs.Values.{one_if}
 use Rattle.circuit_places.specs.Lines.{Line, of_channel, of_var, same_line, Rails, Seen}
-use Rattle.circuit_places.specs.Circuit.{same_bit}
+use Rattle.circuit_places.specs.Circuit.{Pairs, gate_count, same_bit}
 use Rattle.circuit_places.specs.Whole.{value_on, first_bit, first_bits}
 use Rattle.circuit_places.proofs.LineNames.{same_number}
-use Rattle.circuit_places.proofs.Waves.{Wave, all_up, none_up, held, none_held, never_and, fst_true, snd_true, both_true}
-use Rattle.circuit_places.proofs.Places.{Mode, idle, running, answered, returning, wave_may, send_fits, under_way, GuardedAt, At, TurnAt, BranchesAt, g_rests, g_in, g_past, g_back, rests, at_skip, at_assign, at_send, at_turn, at_side, at_body, no_more, and_at, turn_rests, at_last, at_member, at_later, guarded_shown, shown, turn_shown, branches_shown, GuardedFits, Fits, TurnFits, BranchesFit, writing, guarded_writing, turn_writing, branches_writing}
-use Rattle.circuit_places.proofs.Flow.{or_left, or_right, cases}
-use Rattle.circuit_places.proofs.Talks.{either}
+use Rattle.width_check.specs.Reads.{reads}
+use Rattle.function_blocks.specs.Rails.{number_on}
+use Rattle.function_blocks.specs.Waves.{out_rail, full, empty}
+use Rattle.circuit_places.proofs.Meets.{sends, turn_sends, uses, each_uses, Meets, TurnMeets, EachMeets}
+use Rattle.circuit_places.proofs.RailLemmas.{fst_true, snd_true, both_true, never_and, empty_low}
+use Rattle.circuit_places.proofs.Places.{Mode, idle, running, answered, returning, wave_may, SiteMay, SiteFits, send_fits, under_way, GuardedAt, At, TurnAt, BranchesAt, g_rests, g_in, g_past, g_back, rests, at_skip, at_assign, at_send, at_turn, at_side, at_body, no_more, and_at, turn_rests, at_last, at_member, at_later, guarded_shown, shown, turn_shown, branches_shown, GuardedFits, Fits, TurnFits, BranchesFit, writing, guarded_writing, turn_writing, branches_writing}
+use Rattle.circuit_places.proofs.Flow.{low_of, or_left, or_right, cases}
+use Rattle.circuit_places.proofs.Talks.{either, or_false_left, or_false_right}
 
 -- a site that holds a rail under a low acknowledge runs
 held_runs : (m : Mode) (f n a : Bool) → wave_may m f ≡ true → send_fits m f n a ≡ true → n ≡ false → a ≡ false → under_way m a ≡ true
@@ -28,11 +32,13 @@ held_runs answered f n a h k e l = absurd (cc (k, l))
 held_runs returning f true a h k e l = absurd (cc e)
 held_runs returning f false a h k e l = absurd (cc (k, l))
 
-site_there : (env : Seen) (y : ℕ) (w v : ℕ) (m : Mode) (u : Wave w) → wave_may m (all_up w u) ≡ true → send_fits m (all_up w u) (none_up w u) (env.ack (of_var y)) ≡ true → (x i : ℕ) (one : Bool) → env.ack (of_var x) ≡ false → ((y == x) && held w v u i one) ≡ true → ((y == x) && under_way m (env.ack (of_var y))) ≡ true
-site_there env y w v m u h f x i one low e =
-    let same = fst_true (y == x) (held w v u i one) e in
-    let some : none_up w u ≡ false = cases (none_up w u) (λ (n : none_up w u ≡ true). absurd (cc (none_held w v u n i one, snd_true (y == x) (held w v u i one) e))) (λ (n : none_up w u ≡ false). n) in
-    both_true (y == x) (under_way m (env.ack (of_var y))) same (held_runs m (all_up w u) (none_up w u) (env.ack (of_var y)) h f some (ap (λ z. env.ack (of_var z)) (same_number y x same) ∙ low))
+site_there : (env : Seen) (y : ℕ) (e : Formula) (m : Mode) (u : Pairs (gate_count e)) → SiteMay e m u → SiteFits (of_var y) e m u env → (x i : ℕ) (one : Bool) → env.ack (of_var x) ≡ false → ((y == x) && out_rail e u i one) ≡ true → ((y == x) && under_way m (env.ack (of_var y))) ≡ true
+site_there env y e m u h f x i one low z =
+    let same = fst_true (y == x) (out_rail e u i one) z in
+    let some : empty e u ≡ false = cases (empty e u)
+    (λ (n : empty e u ≡ true). absurd (cc (empty_low e h.known u n i one, snd_true (y == x) (out_rail e u i one) z)))
+    (λ (n : empty e u ≡ false). n) in
+    both_true (y == x) (under_way m (env.ack (of_var y))) same (held_runs m (full e u) (empty e u) (env.ack (of_var y)) h.may f.0 some (ap (λ v. env.ack (of_var v)) (same_number y x same) ∙ low))
 
 mutual
   pub guarded_writing_there : {p : Process} {m : Mode} (env : Seen) (g : GuardedAt p m) → GuardedFits g env → (x i : ℕ) (one : Bool) → env.ack (of_var x) ≡ false → (guarded_shown g).offer (of_var x) i one ≡ true → guarded_writing env.ack g x ≡ true
@@ -42,7 +48,7 @@ mutual
   guarded_writing_there env (g_back u) f x i one l e = absurd (cc e)
 
   writing_there : {p : Process} {m : Mode} (env : Seen) (a : At p m) → Fits a env → (x i : ℕ) (one : Bool) → env.ack (of_var x) ≡ false → (shown a).offer (of_var x) i one ≡ true → writing env.ack a x ≡ true
-  writing_there env (at_assign {x = y} {w = w} {v = v} m u h) f x i one l e = site_there env y w v m u h f x i one l e
+  writing_there env (at_assign {x = y} {e = d} m u h) f x i one l e = site_there env y d m u h f x i one l e
   writing_there env (at_send m u h) f x i one l e = absurd (cc e)
   writing_there env (at_turn t) f x i one l e = turn_writing_there env t f x i one l e
   writing_there env (at_side m t b h) f x i one l e = branches_writing_there env b f x i one l e
@@ -133,11 +139,102 @@ mutual
   turn_writing_same ack now (at_later g t h) x e = turn_writing_same ack now t x e
   turn_writing_same ack now turn_rests x e = refl
 
--- the number that the rails for the bit 1 say
-abbrev pub number_on : ℕ → Rails → ℕ
-number_on zero rail = 0
-number_on (suc n) rail = one_if (rail zero true) + 2 * number_on n (λ i. rail (suc i))
+-- what is being written stands in the statement, and so does what is read
+mutual
+  pub guarded_writing_sends : {p : Process} {m : Mode} (ack : Line → Bool) (g : GuardedAt p m) (x : ℕ) → guarded_writing ack g x ≡ true → sends p (of_var x) ≡ true
+  guarded_writing_sends ack (g_in u a h) x e = writing_sends ack a x e
+  guarded_writing_sends ack g_rests x e = absurd (cc e)
+  guarded_writing_sends ack g_past x e = absurd (cc e)
+  guarded_writing_sends ack (g_back u) x e = absurd (cc e)
 
+  writing_sends : {p : Process} {m : Mode} (ack : Line → Bool) (a : At p m) (x : ℕ) → writing ack a x ≡ true → sends p (of_var x) ≡ true
+  writing_sends ack (at_assign {x = y} m u h) x e = fst_true (y == x) (under_way m (ack (of_var y))) e
+  writing_sends ack (at_send m u h) x e = absurd (cc e)
+  writing_sends ack (at_turn t) x e = turn_writing_sends ack t x e
+  writing_sends ack (at_side m t b h) x e = branches_writing_sends ack b x e
+  writing_sends ack (at_body a) x e = writing_sends ack a x e
+  writing_sends ack rests x e = absurd (cc e)
+  writing_sends ack (at_skip m h) x e = absurd (cc e)
+
+  branches_writing_sends : {members : Processes} {ks : List Mode} (ack : Line → Bool) (b : BranchesAt members ks) (x : ℕ) → branches_writing ack b x ≡ true → turn_sends members (of_var x) ≡ true
+  branches_writing_sends ack no_more x e = absurd (cc e)
+  branches_writing_sends ack (and_at {p = p} {more = more} g b) x e =
+      either (guarded_writing ack g x) (branches_writing ack b x) e
+      (λ z. or_left (sends p (of_var x)) (turn_sends more (of_var x)) (guarded_writing_sends ack g x z))
+      (λ z. or_right (sends p (of_var x)) (turn_sends more (of_var x)) (branches_writing_sends ack b x z))
+
+  turn_writing_sends : {members : Processes} {m : Mode} (ack : Line → Bool) (t : TurnAt members m) (x : ℕ) → turn_writing ack t x ≡ true → turn_sends members (of_var x) ≡ true
+  turn_writing_sends ack (at_last {p = p} a) x e = or_left (sends p (of_var x)) false (writing_sends ack a x e)
+  turn_writing_sends ack (at_member {p = p} {q = q} {more = more} g) x e = or_left (sends p (of_var x)) (turn_sends (and_member q more) (of_var x)) (guarded_writing_sends ack g x e)
+  turn_writing_sends ack (at_later {p = p} {q = q} {more = more} g t h) x e = or_right (sends p (of_var x)) (turn_sends (and_member q more) (of_var x)) (turn_writing_sends ack t x e)
+  turn_writing_sends ack turn_rests x e = absurd (cc e)
+
+mutual
+  pub guarded_reads_uses : {p : Process} {m : Mode} (g : GuardedAt p m) (x : ℕ) → (guarded_shown g).read x ≡ true → uses p x ≡ true
+  guarded_reads_uses (g_in u a h) x e = reads_uses a x e
+  guarded_reads_uses g_rests x e = absurd (cc e)
+  guarded_reads_uses g_past x e = absurd (cc e)
+  guarded_reads_uses (g_back u) x e = absurd (cc e)
+
+  reads_uses : {p : Process} {m : Mode} (a : At p m) (x : ℕ) → (shown a).read x ≡ true → uses p x ≡ true
+  reads_uses (at_assign m u h) x e = e
+  reads_uses (at_send m u h) x e = e
+  reads_uses (at_turn t) x e = turn_reads_uses t x e
+  reads_uses (at_side m t b h) x e = branches_read_uses b x e
+  reads_uses (at_body a) x e = reads_uses a x e
+  reads_uses rests x e = absurd (cc e)
+  reads_uses (at_skip m h) x e = absurd (cc e)
+
+  branches_read_uses : {members : Processes} {ks : List Mode} (b : BranchesAt members ks) (x : ℕ) → (branches_shown b).read x ≡ true → each_uses members x ≡ true
+  branches_read_uses no_more x e = absurd (cc e)
+  branches_read_uses (and_at {p = p} {more = more} g b) x e =
+      either ((guarded_shown g).read x) ((branches_shown b).read x) e
+      (λ z. or_left (uses p x) (each_uses more x) (guarded_reads_uses g x z))
+      (λ z. or_right (uses p x) (each_uses more x) (branches_read_uses b x z))
+
+  turn_reads_uses : {members : Processes} {m : Mode} (t : TurnAt members m) (x : ℕ) → (turn_shown t).read x ≡ true → each_uses members x ≡ true
+  turn_reads_uses (at_last {p = p} a) x e = or_left (uses p x) false (reads_uses a x e)
+  turn_reads_uses (at_member {p = p} {q = q} {more = more} g) x e = or_left (uses p x) (each_uses (and_member q more) x) (guarded_reads_uses g x e)
+  turn_reads_uses (at_later {p = p} {q = q} {more = more} g t h) x e = or_right (uses p x) (each_uses (and_member q more) x) (turn_reads_uses t x e)
+  turn_reads_uses turn_rests x e = absurd (cc e)
+
+-- what is being written isn't read
+mutual
+  pub guarded_writing_unread : (P : TypedProgram) {p : Process} {m : Mode} (ack : Line → Bool) (g : GuardedAt p m) → Meets P p → (x : ℕ) → guarded_writing ack g x ≡ true → (guarded_shown g).read x ≡ false
+  guarded_writing_unread P ack (g_in u a h) meets x e = writing_unread P ack a meets x e
+  guarded_writing_unread P ack g_rests meets x e = refl
+  guarded_writing_unread P ack g_past meets x e = refl
+  guarded_writing_unread P ack (g_back u) meets x e = refl
+
+  writing_unread : (P : TypedProgram) {p : Process} {m : Mode} (ack : Line → Bool) (a : At p m) → Meets P p → (x : ℕ) → writing ack a x ≡ true → (shown a).read x ≡ false
+  writing_unread P ack (at_assign {x = y} {e = d} m u h) meets x e = ap (λ n. reads n d) (sym (same_number y x (fst_true (y == x) (under_way m (ack (of_var y))) e))) ∙ meets.plain
+  writing_unread P ack (at_send m u h) meets x e = absurd (cc e)
+  writing_unread P ack (at_turn t) meets x e = turn_writing_unread P ack t meets x e
+  writing_unread P ack (at_side m t b h) meets x e = branches_writing_unread P ack b meets.2 x e
+  writing_unread P ack (at_body a) meets x e = writing_unread P ack a meets x e
+  writing_unread P ack rests meets x e = refl
+  writing_unread P ack (at_skip m h) meets x e = refl
+
+  branches_writing_unread : (P : TypedProgram) {members : Processes} {ks : List Mode} (ack : Line → Bool) (b : BranchesAt members ks) → EachMeets P members → (x : ℕ) → branches_writing ack b x ≡ true → (branches_shown b).read x ≡ false
+  branches_writing_unread P ack no_more meets x e = refl
+  branches_writing_unread P ack (and_at {p = p} {more = more} g b) meets x e =
+      either (guarded_writing ack g x) (branches_writing ack b x) e
+      (λ z. or_false_left ((guarded_shown g).read x) ((branches_shown b).read x) (guarded_writing_unread P ack g meets.0 x z)
+      ∙ low_of ((branches_shown b).read x) (branches_read_uses b x) (meets.1.read x (guarded_writing_sends ack g x z)))
+      (λ z. or_false_right ((guarded_shown g).read x) ((branches_shown b).read x) (branches_writing_unread P ack b meets.2 x z)
+      ∙ low_of ((guarded_shown g).read x) (guarded_reads_uses g x) (no_use (uses p x) (λ u. meets.1.reader x u) (branches_writing_sends ack b x z)))
+    where
+      no_use : (u : Bool) → (u ≡ true → turn_sends more (of_var x) ≡ false) → turn_sends more (of_var x) ≡ true → u ≡ false
+      no_use true f h = absurd (cc (f refl, h))
+      no_use false f h = refl
+
+  turn_writing_unread : (P : TypedProgram) {members : Processes} {m : Mode} (ack : Line → Bool) (t : TurnAt members m) → TurnMeets P members → (x : ℕ) → turn_writing ack t x ≡ true → (turn_shown t).read x ≡ false
+  turn_writing_unread P ack (at_last a) meets x e = writing_unread P ack a meets x e
+  turn_writing_unread P ack (at_member g) meets x e = guarded_writing_unread P ack g meets.0 x e
+  turn_writing_unread P ack (at_later g t h) meets x e = turn_writing_unread P ack t meets.1 x e
+  turn_writing_unread P ack turn_rests meets x e = refl
+
+-- numbers on rails
 pub number_told : (n : ℕ) (rail : Rails) (v : ℕ) → value_on n rail ≡ Some v → number_on n rail ≡ v
 number_told zero rail v e = cc e
 number_told (suc n) rail v e = by (rail zero true) (rail zero false) (value_on n (λ i. rail (suc i))) (λ k h. number_told n (λ i. rail (suc i)) k h) refl e

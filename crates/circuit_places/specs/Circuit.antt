@@ -1,34 +1,16 @@
 -- The circuit of a process as a tree of cells: the values of its own nodes, and the rule of each. A node here has a spot
 -- in the tree and no number.
-use Rattle.std.specs.Prelude.{ℕ, zero, suc, ◌-◌, ◌/◌, ◌==◌, Bool, true, false, not, nat_lt, ◌&&◌, if◌then◌else◌, List, [], ◌∷◌, ◌++◌, length, slice_index_or}
+use Rattle.std.specs.Prelude.{ℕ, zero, suc, ◌-◌, Bool, true, false, not, nat_lt, ◌&&◌, if◌then◌else◌, List, [], ◌∷◌, ◌++◌, length, slice_index_or}
 use Rattle.std.specs.List.{range_with_len}
 use Rattle.prs_core.specs.Nets.{NodeRules}
 use Rattle.prs_core.specs.Moves.{guard_holds}
 use Rattle.cell_parallel.specs.Trees.{tree_rules, tree_top}
 use Rattle.chp_base.specs.declared.span.Span.{Span}
-use Rattle.env_script.specs.Environment.{is_odd}
+pub use Rattle.function_blocks.specs.Rails.{Pair, side_of, Pairs, low_pairs, turned_side, turned_pairs, Rule, rule_of, no_rule, turns, fires, is_apart, same_bit}
+pub use Rattle.function_blocks.specs.Parts.{gate_count}
+pub use Rattle.function_blocks.specs.Waves.{gate_rule, out_rail}
 use Rattle.circuit_places.specs.Lines.{Line, of_channel, of_var, same_line, Rails, Seen}
-use Rattle.width_check.specs.Processes.{Formula, constant, Process, skipping, assigning, sending, in_turn, side_by_side, repeating, Processes, no_members, and_member, member_count}
-
--- the two rails of a bit
-pub record Pair : Type 0 where
-  pub t : Bool
-  pub f : Bool
-
--- that for the bit 1 is the rail t
-abbrev pub side_of : Pair → (one : Bool) → Bool
-side_of x true = x.t
-side_of x false = x.f
-
--- so many pairs, the lowest bit first
-abbrev pub Pairs : ℕ → Type 0
-Pairs zero = Unit {0}
-Pairs (suc n) = Pair × Pairs n
-
--- how many pairs of rails the gates of an expression have
-abbrev pub gate_count : Formula → ℕ
-gate_count (constant width v) = width
-gate_count _ = 0
+use Rattle.width_check.specs.Processes.{Formula, Process, skipping, assigning, sending, in_turn, side_by_side, repeating, Processes, no_members, and_member, member_count}
 
 -- A Q-element's child request, latch and next request, round its child.
 pub record Guarded (A : Type 0) : Type 0 where
@@ -87,10 +69,6 @@ abbrev mutual
   TurnCells no_members = Unit {0}
   TurnCells (and_member p no_members) = Cells p
   TurnCells (and_member p (and_member q more)) = Turn (Cells p) (TurnCells (and_member q more))
-
-abbrev pub low_pairs : (n : ℕ) → Pairs n
-low_pairs zero = tt
-low_pairs (suc n) = (record { t = false; f = false }, low_pairs n)
 
 abbrev pub low_bits : (n : ℕ) → Bits n
 low_bits zero = tt
@@ -168,7 +146,7 @@ abbrev mutual
 -- the spots of the own nodes: those of a site are its answer and the rails of its gates
 pub data SiteSpot (e : Formula) : Type 0 where
   done : SiteSpot e
-  gate : (bit : ℕ) (one : Bool) → SiteSpot e
+  gate : (k : ℕ) (one : Bool) → SiteSpot e
 
 mutual
   pub data GuardedSpot : Process → Type 0 where
@@ -194,11 +172,11 @@ mutual
     in_member : {p q : Process} {more : Processes} → GuardedSpot p → TurnSpot (and_member p (and_member q more))
     in_later : {p q : Process} {more : Processes} → TurnSpot (and_member q more) → TurnSpot (and_member p (and_member q more))
 
--- A gate's spot stands for a node where the expression has that bit, and one in a tree where the tree has that node; each
+-- A gate's spot stands for a node where the expression has that gate, and one in a tree where the tree has that node; each
 -- other spot does.
 abbrev pub site_stands : {e : Formula} → SiteSpot e → Bool
 site_stands done = true
-site_stands {e = e} (gate i one) = nat_lt i (gate_count e)
+site_stands {e = e} (gate k one) = nat_lt k (gate_count e)
 
 abbrev mutual
   pub guarded_stands : {p : Process} → GuardedSpot p → Bool
@@ -223,51 +201,13 @@ abbrev mutual
   turn_stands (in_member s) = guarded_stands s
   turn_stands (in_later s) = turn_stands s
 
--- a node's value, and whether its up guard and its down guard hold
-pub record Rule : Type 0 where
-  pub now : Bool
-  pub up : Bool
-  pub down : Bool
-
-abbrev pub rule_of : (now up down : Bool) → Rule
-rule_of now up down = record { now = now; up = up; down = down }
-
--- a node without rules
-abbrev pub no_rule : Bool → Rule
-no_rule now = rule_of now false false
-
--- a node of this value turns over where the guards hold so
-abbrev pub turns : (now up down : Bool) → Bool
-turns now up down = if now then down else up
-
-abbrev pub fires : Rule → Bool
-fires r = turns r.now r.up r.down
-
-abbrev pub is_apart : Rule → Bool
-is_apart r = not (r.up && r.down)
-
-abbrev pub same_bit : Bool → Bool → Bool
-same_bit true b = b
-same_bit false b = not b
-
--- a constant's rail for this side, under the request; the other rail of the bit has no rules
-abbrev pub constant_rule : (n v : ℕ) → Bool → Pairs n → (bit : ℕ) → Bool → Rule
-constant_rule zero v r x i one = no_rule false
-constant_rule (suc n) v r x zero one = rule_of (side_of x.0 one) (same_bit (is_odd v) one && r) (same_bit (is_odd v) one && not r)
-constant_rule (suc n) v r x (suc i) one = constant_rule n (v / 2) r x.1 i one
-
--- a gate of an expression, under the request
-abbrev pub gate_rule : (e : Formula) → Bool → Pairs (gate_count e) → (bit : ℕ) → Bool → Rule
-gate_rule (constant width v) r x i one = constant_rule width v r x i one
-gate_rule _ r x i one = no_rule false
-
 -- a node of a completion tree
 abbrev pub tree_rule : (n : ℕ) → (leaf node : ℕ → Bool) → ℕ → Rule
 tree_rule n leaf node k = rule_of (node k) (guard_holds (tree_value n leaf node) (tree_node n k).up) (guard_holds (tree_value n leaf node) (tree_node n k).down)
 
-abbrev pub site_rule : (e : Formula) → (ack r : Bool) → Site (gate_count e) → SiteSpot e → Rule
-site_rule e ack r x done = rule_of x.answer (r && ack) (not ack)
-site_rule e ack r x (gate i one) = gate_rule e r x.gates i one
+abbrev pub site_rule : (e : Formula) → (bits : ℕ → Rails) → (ack r : Bool) → Site (gate_count e) → SiteSpot e → Rule
+site_rule e bits ack r x done = rule_of x.answer (r && ack) (not ack)
+site_rule e bits ack r x (gate k one) = gate_rule e bits r x.gates k one
 
 -- The rules of the own nodes (Martin; Burns and Martin), under the request's value r:
 --   Q-element, child answer d   d -> u+          ~r -> u-
@@ -286,8 +226,8 @@ abbrev mutual
 
   pub rule : (p : Process) → Seen → Bool → Cells p → Spot p → Rule
   rule skipping w r x of_skip = rule_of x r (not r)
-  rule (assigning y at e) w r x (of_assign s) = site_rule e (w.ack (of_var y)) r x s
-  rule (sending chan at e) w r x (of_send s) = site_rule e (w.ack (of_channel chan)) r x s
+  rule (assigning y at e) w r x (of_assign s) = site_rule e w.bit (w.ack (of_var y)) r x s
+  rule (sending chan at e) w r x (of_send s) = site_rule e w.bit (w.ack (of_channel chan)) r x s
   rule (in_turn members) w r x (in_members s) = turn_rule members w r x s
   rule (side_by_side members) w r x (of_branch s) = branch_rule members w r x.branches s
   rule (side_by_side members) w r x (joint k) = tree_rule (member_count members) (branch_ends members x.branches) (bit_at (joint_count (member_count members)) x.tree) k
@@ -308,19 +248,9 @@ abbrev mutual
   turn_rule (and_member p (and_member q more)) w r x (in_member s) = guarded_rule p w r x.member s
   turn_rule (and_member p (and_member q more)) w r x (in_later s) = turn_rule (and_member q more) w x.member.next x.later s
 
--- the pair with this rail turned over
-abbrev pub turned_side : Pair → Bool → Pair
-turned_side x true = record x { t = not x.t }
-turned_side x false = record x { f = not x.f }
-
-abbrev pub turned_pairs : (n : ℕ) → Pairs n → (bit : ℕ) → Bool → Pairs n
-turned_pairs zero x i one = x
-turned_pairs (suc n) x zero one = (turned_side x.0 one, x.1)
-turned_pairs (suc n) x (suc i) one = (x.0, turned_pairs n x.1 i one)
-
 abbrev pub turned_site : (e : Formula) → Site (gate_count e) → SiteSpot e → Site (gate_count e)
 turned_site e x done = record x { answer = not x.answer }
-turned_site e x (gate i one) = record x { gates = turned_pairs (gate_count e) x.gates i one }
+turned_site e x (gate k one) = record x { gates = turned_pairs (gate_count e) x.gates k one }
 
 -- the cells with one node turned over
 abbrev mutual
@@ -353,19 +283,9 @@ abbrev mutual
   turned_turn (and_member p (and_member q more)) x (in_member s) = record x { member = turned_guarded p x.member s }
   turned_turn (and_member p (and_member q more)) x (in_later s) = record x { later = turned_turn (and_member q more) x.later s }
 
--- the rail of this bit and side among pairs, if they have that bit
-abbrev pub rail_in : (n : ℕ) → Pairs n → (bit : ℕ) → Bool → List Bool
-rail_in zero x i one = []
-rail_in (suc n) x zero one = side_of x.0 one ∷ []
-rail_in (suc n) x (suc i) one = rail_in n x.1 i one
-
--- that of an expression's result
-abbrev pub result_rail : (e : Formula) → Pairs (gate_count e) → (bit : ℕ) → Bool → List Bool
-result_rail (constant width v) x i one = rail_in width x i one
-result_rail _ x i one = []
-
+-- the rail of a site's value, if the site is the line's
 abbrev pub rails_of_site : (own : Bool) → (e : Formula) → Site (gate_count e) → (bit : ℕ) → Bool → List Bool
-rails_of_site true e x i one = result_rail e x.gates i one
+rails_of_site true e x i one = out_rail e x.gates i one ∷ []
 rails_of_site false e x i one = []
 
 -- this rail of each of the line's sites, in the order of the text

@@ -1,21 +1,18 @@
 -- The programs whose circuits are proved so far.
-use Rattle.std.specs.Prelude.{◌≡◌, All}
+use Rattle.std.specs.Prelude.{◌≡◌, false, All}
 use Rattle.chp_base.specs.declared.channel.Channel.{Channel}
 use Rattle.chp_base.specs.declared.channel.Kind.TheVariants.{Out}
-use Rattle.width_check.specs.Processes.{Formula, constant, Process, skipping, assigning, sending, in_turn, side_by_side, repeating, Processes, no_members, and_member, TypedProgram}
+use Rattle.width_check.specs.Processes.{Process, skipping, assigning, sending, in_turn, side_by_side, repeating, Processes, no_members, and_member, TypedProgram}
+use Rattle.width_check.specs.Reads.{reads}
 use Rattle.width_check.specs.Sharing.{MeetsSharing}
 
--- a number
-abbrev pub IsNumber : Formula → Type 0
-IsNumber (constant width v) = Unit {0}
-IsNumber _ = ⊥
-
--- skip, sequences, parallel compositions, loops that go on for ever, and assignments and sends of numbers
+-- skip, sends, assignments that don't read their own target, sequences, parallel compositions and loops that go on for
+-- ever
 abbrev mutual
   pub IsCovered : Process → Type 0
   IsCovered skipping = Unit {0}
-  IsCovered (assigning var at e) = IsNumber e
-  IsCovered (sending chan at e) = IsNumber e
+  IsCovered (assigning var at e) = reads var e ≡ false
+  IsCovered (sending chan at e) = Unit {0}
   IsCovered (in_turn members) = AreCovered members
   IsCovered (side_by_side members) = AreCovered members
   IsCovered (repeating p) = IsCovered p

@@ -7,24 +7,14 @@ use Rattle.chp_base.specs.declared.channel.Kind.{Kind}
 use Rattle.chp_base.specs.declared.channel.Kind.TheVariants.{In, Out, Chan}
 use Rattle.width_check.specs.declared.typed.Var.{Var}
 use Rattle.env_script.specs.Environment.{is_odd}
-use Rattle.prs_core.specs.Moves.{bit_value, with_bit}
 use Rattle.prs_core.specs.Parts.{turned}
 use Rattle.env_script.specs.Scripts.{OfferValue, takes, offer_at, is_over}
 use Rattle.env_script.specs.Runs.{history_at, completed}
 use Rattle.width_check.specs.Processes.{Process, TypedProgram}
 use Rattle.width_check.specs.Typing.{kind_at, channel_width, var_width}
+pub use Rattle.function_blocks.specs.Rails.{value_on, neutral_on}
 use Rattle.circuit_places.specs.Lines.{Line, of_channel, of_var, same_line, line_width, Rails, Seen}
 use Rattle.circuit_places.specs.Circuit.{Guarded, Cells, low_guarded, low, joint_count, tree_answer, tree_rule, GuardedSpot, guarded_stands, Rule, rule_of, no_rule, fires, same_bit, guarded_rule, turned_guarded, site_rails}
-
--- the number on so many pairs of rails, the lowest bit first; none where a pair hasn't exactly one rail high
-abbrev pub value_on : ℕ → Rails → Option ℕ
-value_on zero rail = Some 0
-value_on (suc n) rail = with_bit (bit_value (rail zero true) (rail zero false)) (value_on n (λ i. rail (suc i)))
-
--- all of these rails are low
-abbrev pub neutral_on : ℕ → Rails → Bool
-neutral_on zero rail = true
-neutral_on (suc n) rail = (not (rail zero true) && not (rail zero false)) && neutral_on n (λ i. rail (suc i))
 
 -- What stands apart from the statements: each channel's acknowledge, the rails of each line, and of each variable the rails
 -- of its bits, the nodes that say that a bit is written, and the tree over these.

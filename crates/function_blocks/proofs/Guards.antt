@@ -93,7 +93,7 @@ holds_some f (p ∷ ps) h =
     (implies_from _ _ (holds_some (λ bs. f (true ∷ bs)) ps)) (implies_from _ _ (holds_some (λ bs. f (false ∷ bs)) ps)) h
 
 -- none holds where an input is neutral
-holds_none : (f : List Bool → Bool) (p : Pair) (ps : List Pair) → list_all neutral (p ∷ ps) ≡ true → holds f (p ∷ ps) ≡ false
+pub holds_none : (f : List Bool → Bool) (p : Pair) (ps : List Pair) → list_all neutral (p ∷ ps) ≡ true → holds f (p ∷ ps) ≡ false
 holds_none f p ps h = not_true _ (implies_at _ _ (at_4 (λ a b x y. implies (not a && not b) (not (two a x b y))) refl p.t p.f (holds (λ bs. f (true ∷ bs)) ps) (holds (λ bs. f (false ∷ bs)) ps)) (left_of _ _ h))
 
 -- one holds where all are valid

@@ -27,13 +27,14 @@ use Rattle.chp_meaning.specs.Rounds.{round, rounds, rounds_from, step_at, is_ena
 use Rattle.chp_meaning.proofs.HalvedTyping.{typed_sized}
 use Rattle.chp_meaning.specs.Laws.{IsBehind, OneHistory, RoundsHold}
 use Rattle.handshake_expand.specs.Layout.{wires_before, var_from, channel_from, nodes_of, size_of, body_from, root_request, root_latch}
-use Rattle.circuit_places.specs.Covered.{Covered, IsNumber, IsCovered, AreCovered}
+use Rattle.circuit_places.specs.Covered.{Covered, IsCovered, AreCovered}
 use Rattle.circuit_places.specs.Circuit.{low, Spot, TurnSpot, BranchSpot, of_branch, joint, in_this, in_others, joint_count, child, latch, next, inner, of_skip, done, gate, of_assign, of_send, in_members, of_loop, ask, in_body, in_last, in_member, in_later, gate_count, stands, turn_stands, branch_stands}
 use Rattle.circuit_places.specs.Whole.{first_bits, Whole, Node, go_node, own_node, rail_node, ack_node, bit_node, wrote_node, joint_node, is_node, enabled, moved, first_of, neutral_on, Reaches, at_first, by_move}
 use Rattle.circuit_places.specs.Carried.{IsAtRest, IsCarried, CircuitsCarry}
 use Rattle.net_compose.specs.Translation.{translation, sites_in, sites_in_turn, sites_in_branches, hidden_high, vars_high, in_body as in_program, first_values, rails_at, ack_at, wires_from}
+use Rattle.cell_variable.specs.Variables.{high_first}
 use Rattle.net_compose.specs.Carries.{IsFollowing, IsSettled, IsCarrying, Carries}
-use Rattle.net_compose.proofs.FlatCells.{length-bits, by_number, low_bits, IsFine, IsFineTurn, IsFineBranch, rail_place}
+use Rattle.net_compose.proofs.FlatCells.{length-bits, low_bits, IsFine, IsFineTurn, IsFineBranch, rail_place}
 use Rattle.net_compose.proofs.FlatWires.{rail_bounds, ack_bounds, value_is, neutral_is, rails_kept, position_none, length-wires_from, wires_are}
 use Rattle.net_compose.proofs.FlatNet.{part_bounds, same_var, same_part, part_value, Given, Shows, number_of, Fine, node_at, enabled_is, apart_is, past_apart, past_end, after_move}
 
@@ -157,7 +158,7 @@ mutual
   none_hidden P (sending k at e) c from = refl
   none_hidden P (in_turn members) c from = none_hidden_turn P members c from
   none_hidden P (repeating p) c from = none_hidden P p c (from + 2)
-  none_hidden P (assigning x at e) c from = by_number (λ e. sites_in P (hidden_high P) (assigning x at e) from ≡ []) (λ w v. refl) e c
+  none_hidden P (assigning x at e) c from = ap (λ b. if b then high_first (var_width P.vars x) 0 from else []) c
   none_hidden P (receiving k at x to) c from = absurd c
   none_hidden P (side_by_side members) c from = none_hidden_branches P members c from
   none_hidden P (choosing again choices) c from = absurd c

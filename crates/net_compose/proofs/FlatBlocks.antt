@@ -5,7 +5,8 @@ use Rattle.std.specs.List.{list_any, range_with_len}
 use Rattle.std.proofs.lemmas.Bool.{cases_lt}
 use Rattle.std.proofs.lemmas.List.{get_or_append_left}
 use Rattle.prs_core.specs.Nets.{NodeRules, is_high, is_low, one_term}
-use Rattle.prs_core.specs.Pairs.{Pair, no_rules, or_of}
+use Rattle.prs_core.specs.Pairs.{Pair, pair_of, no_rules, or_of}
+use Rattle.function_blocks.specs.Listed.{node_of}
 use Rattle.prs_core.specs.Moves.{guard_holds}
 use Rattle.width_check.specs.declared.typed.Var.{Var}
 use Rattle.width_check.specs.Processes.{TypedProgram}
@@ -17,7 +18,7 @@ use Rattle.cell_variable.specs.Variables.{Bit, bit_at, bits_from, bit_rules, bit
 use Rattle.circuit_places.specs.Lines.{Rails}
 use Rattle.circuit_places.specs.Circuit.{Rule, rule_of, joint_count, tree_value, tree_answer, tree_rule}
 use Rattle.circuit_places.specs.Whole.{bit_rule, wrote_rule, merged, all_low}
-use Rattle.net_compose.specs.Translation.{vars_rules, in_body, write_site}
+use Rattle.net_compose.specs.Translation.{block_bits, vars_rules, in_body, write_site}
 use Rattle.net_compose.proofs.FlatTrees.{joint_count_is, value_leaf, value_node, answer_value, Alike, tree_alike}
 use Rattle.net_compose.proofs.FlatRules.{one_high, one_low, high_and_low, or_up, or_down}
 use Rattle.net_compose.proofs.FlatSites.{at_site}
@@ -156,6 +157,13 @@ tree_rule_at : (n from : ℕ) (sites : List (List Pair)) (k : ℕ) → get_or (v
 tree_rule_at n from sites k =
     ap (λ m. get_or (variable_rules n from sites) (m + k) no_rules) (sym (length-bits_rules sites 0 n from))
     ∙ get_or-append-add (bits_rules sites 0 (bits_from n from)) (tree_rules (written_leaves n from) (from + 5 * n)) k no_rules
+
+-- the rails of a variable's value
+pub bit_number : (n from i : ℕ) (one : Bool) → i < n → node_of (pair_of (block_bits n from) i) one ≡ from + offset n (a_bit i one)
+bit_number zero from i one h = absurd (let g : ⊥ = omega (arith, h) in g)
+bit_number (suc n) from zero true h = omega arith
+bit_number (suc n) from zero false h = omega arith
+bit_number (suc n) from (suc i) one h = let e = bit_number n (from + 5) i one (omega (arith, h)) in omega (arith, e)
 
 -- a block of so many bits whose nodes have these values
 module _ (v : ℕ → Bool) where

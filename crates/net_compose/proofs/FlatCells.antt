@@ -3,30 +3,20 @@ use Rattle.std.proofs.Common.{◌≡◌, ℕ, zero, suc, ◌+◌, ◌-◌, ◌*�
 use Rattle.std.specs.Prelude.{not, if◌then◌else◌}
 use Rattle.std.proofs.lemmas.Bool.{cases_lt}
 use Rattle.std.proofs.lemmas.List.{get_or_append_left, set-append_left, set-append_right, replicate-append-replicate}
-use Rattle.width_check.specs.Processes.{Formula, constant, reading, joined, inverted, chained, compared, Process, skipping, assigning, sending, receiving, in_turn, side_by_side, choosing, repeating, Processes, no_members, and_member, member_count, TypedProgram}
-use Rattle.handshake_expand.specs.Layout.{formula_size, assign_size, size_of, turn_size, branches_size}
-use Rattle.circuit_places.specs.Covered.{IsNumber, IsCovered, AreCovered}
+use Rattle.width_check.specs.Processes.{Formula, Process, skipping, assigning, sending, receiving, in_turn, side_by_side, choosing, repeating, Processes, no_members, and_member, member_count, TypedProgram}
+use Rattle.width_check.specs.Reads.{reads}
+use Rattle.width_check.specs.Typing.{var_width}
+use Rattle.handshake_expand.specs.Layout.{formula_size, through_size, assign_size, size_of, turn_size, branches_size}
+pub use Rattle.function_blocks.specs.Listed.{rail_place}
+use Rattle.function_blocks.proofs.PartSizes.{count_doubled}
+use Rattle.circuit_places.specs.Covered.{IsCovered, AreCovered}
 use Rattle.circuit_places.specs.Circuit.{Pairs, gate_count, Cells, TurnCells, BranchCells, joint_count, low_pairs, low, low_turn, low_branches, low_bits as low_tree, Spot, TurnSpot, BranchSpot, of_branch, joint, in_this, in_others, child, latch, next, inner, of_skip, done, gate, of_assign, of_send, in_members, of_loop, ask, in_body, in_last, in_member, in_later, turned_pairs, turned, turned_turn, turned_branches}
 use Rattle.net_compose.proofs.FlatTrees.{joint_count_is, tree_bits, length-tree_bits, tree_turned, tree_low}
-
--- an expression of a covered program is a number
-pub by_number : (Q : Formula → Type 0) → ((w v : ℕ) → Q (constant w v)) → (e : Formula) → IsNumber e → Q e
-by_number Q of (constant w v) h = of w v
-by_number Q of (reading x high low at) h = absurd h
-by_number Q of (joined parts) h = absurd h
-by_number Q of (inverted e) h = absurd h
-by_number Q of (chained e more) h = absurd h
-by_number Q of (compared op e f) h = absurd h
 
 -- the rails of some pairs
 abbrev pub pair_bits : (n : ℕ) → Pairs n → List Bool
 pair_bits zero x = []
 pair_bits (suc n) x = x.0.t ∷ x.0.f ∷ pair_bits n x.1
-
-abbrev pub rail_place : (bit : ℕ) → Bool → ℕ
-rail_place zero true = 0
-rail_place zero false = 1
-rail_place (suc i) one = suc (suc (rail_place i one))
 
 pub rail_place_is : (i : ℕ) (one : Bool) → rail_place i one ≡ 2 * i + (if one then 0 else 1)
 rail_place_is zero true = refl
@@ -130,17 +120,17 @@ module _ (P : TypedProgram) where
     IsFineTurn (and_member p (and_member q more)) (in_later s) = IsFineTurn (and_member q more) s
     IsFineTurn _ s = Unit {0}
 
+  -- an assignment that doesn't read its target has no more nodes than a send
+  pub plain_size : (z : ℕ) (e : Formula) → reads z e ≡ false → assign_size P z e ≡ 1 + formula_size e
+  plain_size z e c = ap (λ b. if b then through_size (var_width P.vars z) e else 1 + formula_size e) c
+
   mutual
     pub length-bits : (p : Process) → IsCovered p → (x : Cells p) → length (bits p x) ≡ size_of P p
     length-bits skipping c x = refl
-    length-bits (sending chan at e) c x =
-        by_number (λ e. (g : Pairs (gate_count e)) → suc (length (pair_bits (gate_count e) g)) ≡ 1 + formula_size e)
-        (λ w v g. omega (arith, length-pair_bits w g)) e c x.gates
+    length-bits (sending chan at e) c x = omega (arith, length-pair_bits (gate_count e) x.gates, count_doubled e)
     length-bits (in_turn members) c x = length-turn_bits members c x
     length-bits (repeating p) c x = omega (arith, length-bits p c x.inner)
-    length-bits (assigning z at e) c x =
-        by_number (λ e. (g : Pairs (gate_count e)) → suc (length (pair_bits (gate_count e) g)) ≡ assign_size P z e)
-        (λ w v g. omega (arith, length-pair_bits w g)) e c x.gates
+    length-bits (assigning z at e) c x = omega (arith, length-pair_bits (gate_count e) x.gates, count_doubled e, plain_size z e c)
     length-bits (receiving chan at z to) c x = absurd c
     length-bits (side_by_side members) c x =
         omega (
@@ -167,17 +157,13 @@ module _ (P : TypedProgram) where
     pub place_lt : (p : Process) → IsCovered p → (s : Spot p) → IsFine p s → place p s < size_of P p
     place_lt skipping c of_skip f = omega arith
     place_lt (sending chan at e) c (of_send done) f = omega arith
-    place_lt (sending chan at e) c (of_send (gate i one)) f =
-        by_number (λ e. i < gate_count e → suc (rail_place i one) < 1 + formula_size e)
-        (λ w v h. omega (arith, rail_place_lt i w one h)) e c f
+    place_lt (sending chan at e) c (of_send (gate i one)) f = omega (arith, rail_place_lt i (gate_count e) one f, count_doubled e)
     place_lt (in_turn members) c (in_members s) f = turn_place_lt members c s f
     place_lt (repeating p) c of_loop f = omega arith
     place_lt (repeating p) c ask f = omega arith
     place_lt (repeating p) c (in_body s) f = omega (arith, place_lt p c s f)
-    place_lt (assigning z at e) c (of_assign done) f = by_number (λ e. 0 < assign_size P z e) (λ w v. omega arith) e c
-    place_lt (assigning z at e) c (of_assign (gate i one)) f =
-        by_number (λ e. i < gate_count e → suc (rail_place i one) < assign_size P z e)
-        (λ w v h. omega (arith, rail_place_lt i w one h)) e c f
+    place_lt (assigning z at e) c (of_assign done) f = omega (arith, plain_size z e c)
+    place_lt (assigning z at e) c (of_assign (gate i one)) f = omega (arith, rail_place_lt i (gate_count e) one f, count_doubled e, plain_size z e c)
     place_lt (receiving chan at z to) c s f = absurd c
     place_lt (side_by_side members) c (of_branch s) f = omega (arith, branch_place_lt members c s f)
     place_lt (side_by_side members) c (joint k) f = omega (arith, f, joint_count_is (member_count members))
@@ -297,16 +283,14 @@ module _ (P : TypedProgram) where
     spot_of skipping c (suc n) h = absurd (omega arith)
     spot_of (sending chan at e) c zero h = record { spot = of_send done; fine = tt; is = refl }
     spot_of (sending chan at e) c (suc n) h =
-        by_number (λ e. suc n < 1 + formula_size e → AtPlace (sending chan at e) (suc n))
-        (λ w v lt. let r = rail_of w n (omega arith) in record { spot = of_send (gate r.bit r.one); fine = r.below; is = ap suc r.is }) e c h
+        let r = rail_of (gate_count e) n (omega (arith, h, count_doubled e)) in record { spot = of_send (gate r.bit r.one); fine = r.below; is = ap suc r.is }
     spot_of (in_turn members) c n h = let r = turn_spot_of members c n h in record { spot = in_members r.spot; fine = r.fine; is = r.is }
     spot_of (repeating p) c zero h = record { spot = of_loop; fine = tt; is = refl }
     spot_of (repeating p) c (suc zero) h = record { spot = ask; fine = tt; is = refl }
     spot_of (repeating p) c (suc (suc n)) h = let r = spot_of p c n (omega arith) in record { spot = in_body r.spot; fine = r.fine; is = ap (λ m. suc (suc m)) r.is }
     spot_of (assigning z at e) c zero h = record { spot = of_assign done; fine = tt; is = refl }
     spot_of (assigning z at e) c (suc n) h =
-        by_number (λ e. suc n < assign_size P z e → AtPlace (assigning z at e) (suc n))
-        (λ w v lt. let r = rail_of w n (omega arith) in record { spot = of_assign (gate r.bit r.one); fine = r.below; is = ap suc r.is }) e c h
+        let r = rail_of (gate_count e) n (omega (arith, h, count_doubled e, plain_size z e c)) in record { spot = of_assign (gate r.bit r.one); fine = r.below; is = ap suc r.is }
     spot_of (receiving chan at z to) c n h = absurd c
     spot_of (side_by_side members) c n h =
         ⊎_elim
@@ -366,15 +350,15 @@ module _ (P : TypedProgram) where
     pub low_bits : (p : Process) → IsCovered p → bits p (low p) ≡ replicate (size_of P p) false
     low_bits skipping c = refl
     low_bits (sending chan at e) c =
-        by_number (λ e. false ∷ pair_bits (gate_count e) (low_pairs (gate_count e)) ≡ replicate (1 + formula_size e) false)
-        (λ w v. let m : suc (2 * w) ≡ 1 + 2 * w = omega arith in ap (λ l. false ∷ l) (low_pair_bits w) ∙ ap (λ n. replicate n false) m) e c
+        let m : suc (2 * gate_count e) ≡ 1 + formula_size e = omega (arith, count_doubled e) in
+        ap (λ l. false ∷ l) (low_pair_bits (gate_count e)) ∙ ap (λ n. replicate n false) m
     low_bits (in_turn members) c = low_turn_bits members c
     low_bits (repeating p) c =
         let m : suc (suc (size_of P p)) ≡ 2 + size_of P p = omega arith in
         ap (λ l. false ∷ false ∷ l) (low_bits p c) ∙ ap (λ n. replicate n false) m
     low_bits (assigning z at e) c =
-        by_number (λ e. false ∷ pair_bits (gate_count e) (low_pairs (gate_count e)) ≡ replicate (assign_size P z e) false)
-        (λ w v. let m : suc (2 * w) ≡ 1 + 2 * w = omega arith in ap (λ l. false ∷ l) (low_pair_bits w) ∙ ap (λ n. replicate n false) m) e c
+        let m : suc (2 * gate_count e) ≡ assign_size P z e = omega (arith, count_doubled e, plain_size z e c) in
+        ap (λ l. false ∷ l) (low_pair_bits (gate_count e)) ∙ ap (λ n. replicate n false) m
     low_bits (receiving chan at z to) c = absurd c
     low_bits (side_by_side members) c =
         let n = joint_count (member_count members) in

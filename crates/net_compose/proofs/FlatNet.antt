@@ -5,7 +5,8 @@ use Rattle.std.specs.List.{list_any}
 use Rattle.std.proofs.lemmas.Bool.{cases_lt, cases_eq, eqb-true, eq-eqb, ne_eqb}
 use Rattle.std.proofs.lemmas.List.{get_or_past}
 use Rattle.prs_core.specs.Nets.{NodeRules, up_of, down_of}
-use Rattle.prs_core.specs.Pairs.{rails_of, no_rules, or_of}
+use Rattle.prs_core.specs.Pairs.{pair_of, rails_of, no_rules, or_of}
+use Rattle.function_blocks.specs.Listed.{node_of}
 use Rattle.prs_core.specs.Moves.{high, guard_holds, rule_enabled, both_ways, fired, rail_value_of, neutral}
 use Rattle.env_script.specs.Scripts.{OfferValue, offer_at, is_over, IsScript}
 use Rattle.env_script.specs.Environment.{env_enabled, channels_move, valid}
@@ -20,13 +21,13 @@ use Rattle.circuit_places.specs.Lines.{of_channel, of_var, Rails}
 use Rattle.prs_core.specs.Parts.{turned as turned_value}
 use Rattle.prs_core.specs.Turning.{turned_here, turned_apart}
 use Rattle.cell_variable.specs.Variables.{variable_rules}
-use Rattle.net_compose.proofs.FlatBlocks.{Part, a_bit, a_put, a_mark, a_joint, offset, IsPart, offset_lt, part_same, PartAt, part_of, BlockIs, Says, bit_says, put_says, mark_says, joint_says, written_is, blocks_below, blocks_apart, Owner, owner, length-vars_rules, vars_rule}
+use Rattle.net_compose.proofs.FlatBlocks.{Part, a_bit, a_put, a_mark, a_joint, offset, IsPart, offset_lt, part_same, PartAt, part_of, BlockIs, Says, bit_says, put_says, mark_says, joint_says, written_is, bit_number, blocks_below, blocks_apart, Owner, owner, length-vars_rules, vars_rule}
 use Rattle.handshake_expand.specs.Layout.{block_size, var_from, wires_before, channel_from, blocks_before, root_request, root_latch, body_from, nodes_of, go_node as go_number}
 use Rattle.cell_sequence.specs.Sequence.{q_child, q_latch, q_next}
 use Rattle.circuit_places.specs.Covered.{IsCovered}
 use Rattle.circuit_places.specs.Circuit.{joint_count, tree_rule, answer, GuardedSpot, child, latch, next, inner, Rule, no_rule, fires, is_apart, same_bit, guarded_rule, rule, site_rails}
 use Rattle.circuit_places.specs.Whole.{Wires, line_ack, bit_rule, wrote_rule, bit_turned, wrote_turned, joint_turned, ack_turned, seen, is_sent, rails_turned, rail_turned, Whole, Node, go_node, own_node, rail_node, ack_node, bit_node, wrote_node, joint_node, merged, all_low, rule_in, answers, env_moves, enabled, moved, passed, value_on, neutral_on}
-use Rattle.net_compose.specs.Translation.{translation, all_rules, channels_rules, vars_rules, rules_of, in_body, write_site, written_at, send_site, rails_at, ack_at, wires_from, body_answer}
+use Rattle.net_compose.specs.Translation.{translation, all_rules, channels_rules, vars_rules, rules_of, in_body, write_site, bits_at, written_at, send_site, rails_at, ack_at, wires_from, body_answer}
 use Rattle.net_compose.proofs.FlatCells.{bits, place, IsFine, length-bits, place_lt, rail_place, turned_is, spot_of}
 use Rattle.net_compose.proofs.FlatRules.{Stands, one_high, one_low, high_and_low, or_up, or_down, length-rules, answer_is, rule_is}
 use Rattle.net_compose.proofs.FlatSites.{at_site, sites_are}
@@ -182,6 +183,9 @@ module _ (P : TypedProgram) (given : Given P) where
     written_told : (y : ℕ) → y < length P.vars → high st.values (written_at P y) ≡ line_ack P x.wires (of_var y)
     written_told y h = written_is (high st.values) (var_width P.vars y) (var_from P y) (x.wires.bit y) (x.wires.rail (of_var y)) (x.wires.wrote y) (x.wires.joint y) (block_is y h) (in_body P (write_site P y)) (given.some y h)
 
+    bits_told : (y i : ℕ) (one : Bool) → y < length P.vars → i < var_width P.vars y → high st.values (node_of (pair_of (bits_at P y) i) one) ≡ x.wires.bit y i one
+    bits_told y i one h l = ap (high st.values) (bit_number (var_width P.vars y) (var_from P y) i one l) ∙ s.block y (a_bit i one) h l
+
     part_tells : (y : ℕ) (b : Part) (h : y < length P.vars) → IsPart (var_width P.vars y) b → (r : Rule)
         → Says (high st.values) (var_width P.vars y) (var_from P y) (x.wires.bit y) (x.wires.rail (of_var y)) (x.wires.wrote y) (x.wires.joint y) (block_is y h) (in_body P (write_site P y)) (offset (var_width P.vars y) b) r
         → Tells (high st.values) (var_from P y + offset (var_width P.vars y) b) r
@@ -204,7 +208,7 @@ module _ (P : TypedProgram) (given : Given P) where
         (one_high (high st.values) (body_answer P) ∙ body_answer_is)
         (one_low (high st.values) 0 ∙ ap not s.go)
     own_tells (inner p) f =
-        let t = rule_is P (high st.values) (seen P x.wires) s.ack written_told P.body given.covered given.typed (root_request P) (body_from P) x.root.inner p f s.body in
+        let t = rule_is P (high st.values) (seen P x.wires) s.ack written_told bits_told P.body given.covered given.typed (root_request P) (body_from P) x.root.inner p f s.body in
         let r = rule P.body (seen P x.wires) (high st.values (root_request P)) x.root.inner p in
         let e : r ≡ rule P.body (seen P x.wires) x.root.child x.root.inner p = ap (λ b. rule P.body (seen P x.wires) b x.root.inner p) s.child in
         tells_from (high st.values) (body_from P + place P P.body p) (rule P.body (seen P x.wires) x.root.child x.root.inner p) (get_or (rules_of P P.body (root_request P) (body_from P)) (place P P.body p) no_rules)
@@ -371,7 +375,7 @@ module _ (P : TypedProgram) (given : Given P) where
         length-append (vars_rules P 0 P.vars) (q_child go_number (root_latch P) ∷ q_latch go_number (body_answer P) ∷ rules_of P P.body (root_request P) (body_from P)),
         length-channels_rules P 0 P.channels given.out,
         length-vars_rules P 0 P.vars,
-        length-rules P P.body given.covered (root_request P) (body_from P),
+        length-rules P P.body given.covered given.typed (root_request P) (body_from P),
       )
 
   -- beyond the last node there is no rule

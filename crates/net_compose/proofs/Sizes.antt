@@ -54,7 +54,7 @@ bits_length (suc n) from = ap suc (bits_length n (from + 5))
 pub block_length : (width from : ℕ) → length (block_bits width from) ≡ width
 block_length width from = length-map (bits_from width from) (λ (b : Bit). b.x) ∙ bits_length width from
 
-has_bits : (p : TypedProgram) → HasBits p.vars (bits_at p)
+pub has_bits : (p : TypedProgram) → HasBits p.vars (bits_at p)
 has_bits p x within = block_length _ _
 
 bits_rules_length : (sites : List (List Pair)) (place : ℕ) (bs : List Bit) → length (bits_rules sites place bs) ≡ 5 * length bs
