@@ -16,3 +16,4 @@ pub mod OwnTokens
 pub mod RefusedLemmas
 pub mod Once
 pub mod OneFault
+pub mod Shapes

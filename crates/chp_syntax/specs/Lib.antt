@@ -9,3 +9,4 @@ pub mod View
 pub mod Refusals
 pub mod Limits
 pub mod Seventeenth
+pub mod Shape

@@ -8,6 +8,7 @@ ghost use Rattle.chp_syntax.specs.Grammar.{Derives};
 ghost use Rattle.chp_syntax.specs.Reading.{FirstFault, IsShallow, Reads, few_arms};
 ghost use Rattle.chp_syntax.specs.Tokens.{IfRefused};
 ghost use Rattle.chp_syntax.specs.View.{program_of};
+ghost use Rattle.chp_syntax.specs.Shape.{IsShaped};
 ghost use Rattle.chp_syntax.specs.Refusals.{WhenSyntax, WhenUnread, spot, RefusedTokens, RefusedText};
 
 mod arms;
@@ -112,7 +113,7 @@ fn parse_list(alloc: Global, tokens: &[Token], end: u32) -> Result<Program, Text
     Ok(program)
 }
 
-/// The program that a text of at most 262,144 bytes is.
+/// The program that a text of at most 262,144 bytes is. It has the shape of the grammar, and what it declares has names.
 ///
 /// A text is refused at its first bytes that are no token (10), else at the first `#` (13), at the first `[|` (14), at
 /// the first token behind which more than 256 brackets are open (12), at the first token with which no program goes on,
@@ -122,6 +123,7 @@ pub fn parse(alloc: Global, text: &[u8]) -> Result<Program, TextError>
     requires { length text.now ≤ 262144 }
     ensures reads { IfOk result (λ p. Reads text.now (program_of p)) }
     ensures only { IfOk result (λ p. (q : ProgramTree) → Reads text.now q → q ≡ program_of p) }
+    ensures shaped { IfOk result (λ p. IsShaped (program_of p)) }
     ensures other { IfErr result (IfRefused (λ f. f.other ≡ f.at)) }
     ensures place { IfErr result (IfRefused (λ f. RefusedText text.now f.code f.at)) }
     ensures refused { IfErr result (IfRefused (λ f. (q : ProgramTree) → ¬ Reads text.now q)) }

@@ -6,6 +6,7 @@ pub mod View
 pub mod Typed
 pub mod Order
 pub mod Places
+pub mod Calls
 pub mod Faults
 pub mod Form
 pub mod Sharing

@@ -2,6 +2,7 @@
 use Rattle.std.specs.Prelude.{◌≡◌, ℕ, ◌+◌, ◌-◌, ◌*◌, ◌/◌, ◌%◌, ◌^◌, ◌<◌, ◌≤◌, Bool, true, false, not, nat_lt, nat_le, ◌==◌, bit_and, bit_or, bit_xor}
 use Rattle.chp_syntax.specs.declared.tree.Op.{Op}
 use Rattle.chp_syntax.specs.declared.tree.Op.TheVariants.{And, Or, Xor, Add, Sub, Eq, Ne, Lt, Le, Gt, Ge}
+pub use Rattle.chp_syntax.specs.Shape.{is_comparison}
 use Rattle.width_check.specs.Processes.{Formula, constant, reading, joined, inverted, chained, compared, Formulas, no_parts, and_part, Operations, no_operations, and_operation, part_count, operation_count}
 
 abbrev mutual
@@ -55,14 +56,6 @@ abbrev mutual
   pub chained_value : (ℕ → ℕ) → (width : ℕ) → ℕ → Operations → ℕ
   chained_value store width v no_operations = v
   chained_value store width v (and_operation op e more) = chained_value store width (operated op width v (value store e)) more
-
-abbrev pub is_comparison : Op → Bool
-is_comparison And = false
-is_comparison Or = false
-is_comparison Xor = false
-is_comparison Add = false
-is_comparison Sub = false
-is_comparison _ = true
 
 -- a number is of its width; the bits that are read are bits 63 to 0; a join has parts, and at most 64 bits; a chain has
 -- operators that are no comparisons, between expressions of one width; a comparison is one between two of one width

@@ -5,6 +5,7 @@ mod declared;
 mod evaluate;
 mod fitting;
 mod operate;
+mod resolving;
 #[cfg(test)]
 mod tests;
 mod typed;
@@ -12,5 +13,6 @@ mod width;
 
 pub use evaluate::value;
 pub use operate::operated;
+pub use resolving::resolve;
 pub use typed::{TArm, TExpr, TLink, TStmt, Typed, Var};
 pub use width::width_of;

