@@ -16,7 +16,7 @@ use Rattle.circuit_places.proofs.LineNames.{self_number, same_number}
 use Rattle.circuit_places.proofs.BitTable.{legal, held_t, held_f}
 use Rattle.circuit_places.proofs.Blocks.{now_at}
 use Rattle.circuit_places.proofs.Places.{Mode, idle, running, answered, returning, GuardedAt, g_rests, g_in, g_past, g_back, guarded_cells, guarded_shown, guarded_writing, guarded_moves}
-use Rattle.circuit_places.proofs.Meets.{sends_merged, receives_heard, receives_within}
+use Rattle.circuit_places.proofs.Meets.{receives, sends_merged, receives_heard, receives_within}
 use Rattle.circuit_places.proofs.Left.{guarded_left, Act}
 use Rattle.circuit_places.proofs.Flow.{low_of, or_map, cases}
 use Rattle.circuit_places.proofs.Talks.{either, guarded_offers_talks, guarded_talks_sends, guarded_says_is, guarded_takes_listens, guarded_listens_receives}
@@ -250,8 +250,11 @@ module _ (P : TypedProgram) (script : List OfferValue) {m : Mode} {g : GuardedAt
         let x = line_rises P script hs good (of_channel k) acked ack_is refl low some ready (λ u. absurd (alone u)) (λ j b o. absurd (not_sent (guarded_offers_talks g (of_channel k) j b o))) in
         acked_by x there (taken_in heard (arrives some)) (λ z y. (refl, inr (inr (heard, low)))) (quiet_low low some)
       where
+        used : receives P.body k ≡ true
+        used = guarded_listens_receives g k (guarded_takes_listens g k take)
+
         alone : is_merged P (of_channel k) ≡ true → ⊥
-        alone u = fitted.one_way k (receives_within P P.body good.meets k (guarded_listens_receives g k (guarded_takes_listens g k take))) u heard
+        alone u = fitted.heard_alone k (receives_within P P.body good.meets k used) used u
 
         not_sent : (guarded_shown g).talk (of_channel k) ≡ true → ⊥
         not_sent z = alone (sends_merged P P.body good.meets (of_channel k) (guarded_talks_sends g (of_channel k) z))
@@ -311,6 +314,7 @@ module _ (P : TypedProgram) (script : List OfferValue) {m : Mode} {g : GuardedAt
               to = hears.to;
               act = subst (λ (x : Term). Act x (receiving k hears.at hears.var hears.to) finished (root_left (line_ack P acked) g)) r.0 (subst (λ (y : Term). Act (guarded_left (line_ack P w) g) (receiving k hears.at hears.var hears.to) finished y) r.1 hears.act);
               within = hears.meets.within;
+              used = used;
               into = hears.meets.into;
               widths = hears.meets.widths;
               told = covered (channel_width P.channels k) (w.rail (of_channel k)) (w.bit hears.var) has (λ i t f. one i t f) some;

@@ -14,7 +14,7 @@ use Rattle.circuit_places.specs.Circuit.{turns}
 use Rattle.circuit_places.specs.Whole.{Wires, seen, line_ack, is_heard, is_merged, number_rail, brings, drives, offers, value_on, neutral_on, Node, go_node, own_node, rail_node, ack_node, bit_node, wrote_node, joint_node, answers}
 use Rattle.circuit_places.proofs.RailLemmas.{lows_neutral, value_same, each_bit}
 use Rattle.circuit_places.proofs.Flow.{low_of, cases, or_left, or_right, neither_left, neither_right}
-use Rattle.circuit_places.proofs.Talks.{either}
+use Rattle.circuit_places.proofs.Talks.{either, guarded_talks_sends, guarded_listens_receives}
 use Rattle.circuit_places.proofs.Arriving.{number_some}
 use Rattle.circuit_places.proofs.BitTable.{Now, may, write_t, write_f, some_bit}
 use Rattle.circuit_places.proofs.Blocks.{now_at, block_waits}
@@ -139,7 +139,7 @@ module _ (P : TypedProgram) {script : List OfferValue} (fitted : Fitted P script
     where
       quiet : (i : ℕ) (one : Bool) → w.rail (of_channel c) i one ≡ false
       quiet i one =
-          let o = fitted.hears c r.meets.within r.meets.heard in
+          let o = fitted.hears c r.meets.within (guarded_listens_receives g c r.hears) in
           sym (ap (λ b. if b then w.rail (of_channel c) i one else brings (channel_width P.channels c) (slice_get o.0 (completed hs c)) i one && (not (w.rail (of_channel c) i true) && not (w.rail (of_channel c) i false))) r.high)
           ∙ not_driven c o.0 o.1 i one
 
@@ -149,7 +149,7 @@ module _ (P : TypedProgram) {script : List OfferValue} (fitted : Fitted P script
   no_hanging : Hanging P (seen P w) (guarded_shown g) → ⊥
   no_hanging (let_go (of_channel c) high talks gone) =
       let x = guarded_site P (seen P w) (clean_of good) g good.meets good.fits (of_channel c) talks in
-      let o = fitted.sends c x.within x.merged in
+      let o = fitted.sends c x.within (guarded_talks_sends g (of_channel c) talks) in
       let neutral : neutral_on (channel_width P.channels c) (w.rail (of_channel c)) ≡ true = lows_neutral (channel_width P.channels c) (w.rail (of_channel c)) (λ i one. rails_are (of_channel c) i one x.merged ∙ gone i one) in
       let may : answers (channel_width P.channels c) w c (completed hs c) (offer_at script c) ≡ true =
       ap (answers (channel_width P.channels c) w c (completed hs c)) o.1
@@ -209,10 +209,10 @@ module _ (P : TypedProgram) {script : List OfferValue} (fitted : Fitted P script
   -- what waits has no acceptance left, or no value
   refused : {most : ℕ} {t : Term} {bits : ℕ → Rails} {busy : ℕ → Bool} (r : Followed P script most hs t bits busy) (s : Process) → Blocked P s (seen P w) (guarded_shown g) → Refused r.to s
   refused r s (a_receive c v at to l is) =
-      let o = fitted.hears c l.meets.within l.meets.heard in
+      let o = fitted.hears c l.meets.within (guarded_listens_receives g c l.hears) in
       no_value c v at to is (r.rests c ∙ (ap (λ x. left_over x (completed hs c)) o.1 ∙ ap (λ x. gives x) (behind_none o.0 (completed hs c) (none_left c v l o.0 o.1 (slice_get o.0 (completed hs c)) refl))))
   refused r s (a_send c at x b is) =
-      let o = fitted.sends c b.within b.merged in
+      let o = fitted.sends c b.within (guarded_talks_sends g (of_channel c) b.talks) in
       let some : is_some (value_on (channel_width P.channels c) (w.rail (of_channel c))) ≡ true =
       ap is_some (value_same (channel_width P.channels c) (w.rail (of_channel c)) ((guarded_shown g).offer (of_channel c)) (λ i one. rails_are (of_channel c) i one b.merged)) ∙ b.whole in
       let over : is_over o.0 (completed hs c) ≡ false =

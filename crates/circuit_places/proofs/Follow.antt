@@ -360,7 +360,7 @@ acks w busy after fitted r y k e brought (taken_out out move free) = acknowledge
 acks {P = P} {script = script} {most = most} {hs = hs} w busy after fitted r y k e brought (let_go_in heard high same free) =
     subst (λ (b : Bool). Followed P script (suc most) (if b then hs else passed hs k (value_on (channel_width P.channels k) (w.rail (of_channel k)))) y w.bit after) (sym high) (stays r w.bit after (λ x f. (refl, free x f)) y same)
 acks {P = P} {script = script} {most = most} {hs = hs} w busy after fitted r y k e brought (taken_in heard a) =
-    let o = fitted.hears k a.within heard in
+    let o = fitted.hears k a.within a.used in
     let v = next_value (channel_width P.channels k) (completed hs k) (w.rail (of_channel k)) o.0 (fitted.wide k a.within) (fitted.bounded k o.0 o.1) (brought k o.0 o.1 a.low) a.some in
     subst (λ (b : Bool). Followed P script (suc most) (if b then hs else passed hs k (value_on (channel_width P.channels k) (w.rail (of_channel k)))) y w.bit after) (sym a.low) (arrives_on w fitted r w.bit after k y o.0 o.1 a v.next v.is v.told (λ x f. refl))
 

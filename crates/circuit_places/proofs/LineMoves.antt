@@ -23,8 +23,8 @@ use Rattle.circuit_places.proofs.Flow.{or_map, cases}
 use Rattle.circuit_places.proofs.Change.{GuardedChanged, guarded_changed, AckTurned, Ready, ready_down, Kept, kept_down, Free, free_down, Any, any_down, Received, still_leaves, raise_leaves, lower_leaves, RailMoved, rail_up_leaves, rail_down_leaves}
 use Rattle.circuit_places.proofs.Sites.{is_nil, any_not_nil, same_sites, guarded_offered}
 use Rattle.circuit_places.proofs.Fires.{Passes, Fired, guarded_fires, guarded_still, OneSite, guarded_site}
-use Rattle.circuit_places.proofs.Talks.{either, guarded_offers_talks, guarded_says_talks}
-use Rattle.circuit_places.proofs.Meets.{receives_heard}
+use Rattle.circuit_places.proofs.Talks.{either, guarded_offers_talks, guarded_says_talks, guarded_talks_sends}
+use Rattle.circuit_places.proofs.Meets.{sends, receives_heard}
 use Rattle.circuit_places.proofs.BitTable.{Now, may}
 use Rattle.circuit_places.proofs.Blocks.{Block, now_at, write_role, WriteMoved, write_moved}
 use Rattle.circuit_places.proofs.System.{Good, clean_of, can, driven, sent_turns, heard_turns, root_left, Next, Freed, Rises, Fitted, takes_of, may_low, may_high, up_low, down_high}
@@ -231,11 +231,11 @@ module _ (P : TypedProgram) (script : List OfferValue) {m : Mode} {g : GuardedAt
         some less = omega (arith, less)
 
     -- no rail moves of a channel on which the program receives
-    heard_stay : Fitted P script → is_merged P k ≡ true → i < line_width P k → Received P (seen P w) (seen P (rail_turned w k i side))
+    heard_stay : Fitted P script → sends P.body k ≡ true → i < line_width P k → Received P (seen P w) (seen P (rail_turned w k i side))
     heard_stay fitted n less c h = cases (same_line (of_channel c) k)
         (λ (e : same_line (of_channel c) k ≡ true).
         let same : of_channel c ≡ k = same_line_is (of_channel c) k e in
-        absurd (fitted.one_way c (channel_there P.channels c i (subst (λ (l : Line). i < line_width P l) (sym same) less)) (ap (is_merged P) same ∙ n) h))
+        absurd (fitted.sent_alone c (channel_there P.channels c i (subst (λ (l : Line). i < line_width P l) (sym same) less)) (ap (sends P.body) same ∙ n) h))
         (λ (e : same_line (of_channel c) k ≡ false). ap (λ (b : Bool). if b then rails_turned (w.rail k) i side else w.rail (of_channel c)) e)
 
     -- the environment drives no rail of a line that has sites
@@ -246,7 +246,7 @@ module _ (P : TypedProgram) (script : List OfferValue) {m : Mode} {g : GuardedAt
 
     rail_rises : Fitted P script → is_merged P k ≡ true → w.rail k i side ≡ false → (guarded_shown g).offer k i side ≡ true → Next P script m g w hs (rail_node k i side)
     rail_rises fitted n r o =
-        let rec = heard_stay fitted n (offered_below k i side o) in
+        let rec = heard_stay fitted (guarded_talks_sends g k (guarded_offers_talks g k i side o)) (offered_below k i side o) in
         let low = up_low P script hs good k i side r o in
         let b = write_block (offered_below k i side o) (λ x e. write_rises (w.bit x) (w.rail (of_var x)) (w.wrote x) (line_ack P w (of_var x)) i side
         (subst (λ (l : Line). w.rail l i side ≡ false) e r)
@@ -311,8 +311,8 @@ module _ (P : TypedProgram) (script : List OfferValue) {m : Mode} {g : GuardedAt
 
     rail_falls : Fitted P script → is_merged P k ≡ true → w.rail k i side ≡ true → (guarded_shown g).offer k i side ≡ false → Next P script m g w hs (rail_node k i side)
     rail_falls fitted n r o =
-        let rec = heard_stay fitted n (good.wide k i side r) in
         let high = down_high P script hs good k i side n r o in
+        let rec = heard_stay fitted (guarded_talks_sends g k (good.talk k n high)) (good.wide k i side r) in
         let b = write_block (good.wide k i side r) (λ x e. write_falls (w.bit x) (w.rail (of_var x)) (w.wrote x) (line_ack P w (of_var x)) i side
         (subst (λ (l : Line). w.rail l i side ≡ true) e r)
         (subst (λ (l : Line). line_ack P w l ≡ true) e high)) in

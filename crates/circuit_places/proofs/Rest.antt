@@ -33,6 +33,7 @@ pub record Listening (P : TypedProgram) (c v : ℕ) (env : Seen) (x : Shown) : T
   pub meets : PortMeets P c v
   pub low : env.ack (of_channel c) ≡ false
   pub talks : x.talk (of_var v) ≡ true
+  pub hears : x.listen c ≡ true
   pub all : (i : ℕ) (one : Bool) → env.rail (of_channel c) i one ≡ true → x.offer (of_var v) i one ≡ true
   pub has : env.ack (of_var v) ≡ true → x.take c ≡ true
 
@@ -157,6 +158,7 @@ module _ (P : TypedProgram) (env : Seen) (c x : ℕ) (l : Bool) (q : Rails) (mee
     meets = meets;
     low = n heard;
     talks = self_line (of_var x);
+    hears = self_number c;
     all = λ i one h. both_true (same_line (of_var x) (of_var x)) (q i one) (self_number x) (by (q i one) (n (taking i one)) h);
     has = λ v. both_true (c == c) l (self_number c) (kept l (n stored) v);
   }
@@ -232,6 +234,7 @@ module _ {p : Process} {more : Processes} (P : TypedProgram) (env : Seen) (x y :
       meets = l.meets;
       low = l.low;
       talks = or_left (x.talk (of_var v)) (y.talk (of_var v)) l.talks;
+      hears = or_left (x.listen c) (y.listen c) l.hears;
       all = λ i one h. or_left (x.offer (of_var v) i one) (y.offer (of_var v) i one) (l.all i one h);
       has = λ h. or_left (x.take c) (y.take c) (l.has h);
     }) is
@@ -242,6 +245,7 @@ module _ {p : Process} {more : Processes} (P : TypedProgram) (env : Seen) (x y :
       meets = l.meets;
       low = l.low;
       talks = or_right (x.talk (of_var v)) (y.talk (of_var v)) l.talks;
+      hears = or_right (x.listen c) (y.listen c) l.hears;
       all = λ i one h. or_right (x.offer (of_var v) i one) (y.offer (of_var v) i one) (l.all i one h);
       has = λ h. or_right (x.take c) (y.take c) (l.has h);
     }) is

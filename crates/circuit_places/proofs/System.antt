@@ -20,7 +20,7 @@ use Rattle.circuit_places.proofs.Trees.{node_moves}
 use Rattle.circuit_places.proofs.Blocks.{Block, now_at}
 use Rattle.circuit_places.proofs.BitTable.{single_bit}
 use Rattle.circuit_places.proofs.Places.{Mode, idle, running, answered, returning, asks, is_idle, GuardedAt, guarded_cells, guarded_shown, guarded_writing, GuardedFits, guarded_moves}
-use Rattle.circuit_places.proofs.Meets.{Meets}
+use Rattle.circuit_places.proofs.Meets.{Meets, sends as sends_line, receives as receives_on}
 use Rattle.circuit_places.proofs.Left.{guarded_left, Act, Follows}
 use Rattle.circuit_places.proofs.Flow.{goes, goes_asks, or_map, Clean, GuardedAfter, cases}
 use Rattle.circuit_places.proofs.Begin.{guarded_idle_moves}
@@ -112,6 +112,7 @@ pub record Arrives (P : TypedProgram) (busy after : ℕ → Bool) (c : ℕ) (w :
   pub to : Span
   pub act : Act t (receiving c at var to) finished y
   pub within : c < length P.channels
+  pub used : receives_on P.body c ≡ true
   pub into : var < length P.vars
   pub widths : var_width P.vars var ≡ channel_width P.channels c
   pub told : value_on (channel_width P.channels c) (w.bit var) ≡ value_on (channel_width P.channels c) (w.rail (of_channel c))
@@ -176,13 +177,14 @@ may_low n env k more low e =
 pub may_high : (n : ℕ) (env : Wires) (k : ℕ) (more : Bool) → env.ack k ≡ true → receives n env k more ≡ true → neutral_on n (env.rail (of_channel k)) ≡ true
 may_high n env k more high e = sym (ap (λ b. if b then neutral_on n (env.rail (of_channel k)) else is_some (value_on n (env.rail (of_channel k))) && more) high) ∙ e
 
--- The script fits the channels, each of which is `in` or `out`.
+-- The script fits the channels, each of which is `in` or `out`, or isn't used.
 pub record Fitted (P : TypedProgram) (script : List OfferValue) : Type 0 where
   pub within : (k : ℕ) → offer_at script k ≢ nothing → k < length P.channels
   pub wide : (k : ℕ) → k < length P.channels → 1 ≤ channel_width P.channels k
-  pub one_way : (k : ℕ) → k < length P.channels → is_merged P (of_channel k) ≡ true → is_heard (kind_at P.channels k) ≡ true → ⊥
-  pub sends : (k : ℕ) → k < length P.channels → is_merged P (of_channel k) ≡ true → (count : Count) × (offer_at script k ≡ takes count)
-  pub hears : (k : ℕ) → k < length P.channels → is_heard (kind_at P.channels k) ≡ true → (values : List ℕ) × (offer_at script k ≡ gives values)
+  pub sent_alone : (k : ℕ) → k < length P.channels → sends_line P.body (of_channel k) ≡ true → is_heard (kind_at P.channels k) ≡ true → ⊥
+  pub heard_alone : (k : ℕ) → k < length P.channels → receives_on P.body k ≡ true → is_merged P (of_channel k) ≡ true → ⊥
+  pub sends : (k : ℕ) → k < length P.channels → sends_line P.body (of_channel k) ≡ true → (count : Count) × (offer_at script k ≡ takes count)
+  pub hears : (k : ℕ) → k < length P.channels → receives_on P.body k ≡ true → (values : List ℕ) × (offer_at script k ≡ gives values)
   pub out : (k : ℕ) (count : Count) → offer_at script k ≡ takes count → (is_merged P (of_channel k) ≡ true) × (is_heard (kind_at P.channels k) ≡ false)
   pub brought : (k : ℕ) (values : List ℕ) → offer_at script k ≡ gives values → (is_merged P (of_channel k) ≡ false) × (is_heard (kind_at P.channels k) ≡ true)
   pub bounded : (k : ℕ) (values : List ℕ) → offer_at script k ≡ gives values → (n v : ℕ) → slice_get values n ≡ Some v → v < 2 ^ channel_width P.channels k

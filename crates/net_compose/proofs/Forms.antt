@@ -87,7 +87,7 @@ idle_typed : IsTyped idle.channels idle.vars idle.body
 idle_typed = record { each_channel = All-nil IsDeclaredChannel; each_var = All-nil IsDeclaredVar; distinct = λ i j d below within. absurd (omega arith); body_is = tt }
 
 idle_covered : Covered idle
-idle_covered = record { channels = All-nil (λ (c : Channel). c.kind ≢ kind.Chan); body = tt; sharing = record { variables = λ a b apart. absurd apart; sends = λ a b apart. absurd apart; receives = λ a b apart. absurd apart } }
+idle_covered = record { channels = tt; body = tt; sharing = record { variables = λ a b apart. absurd apart; sends = λ a b apart. absurd apart; receives = λ a b apart. absurd apart } }
 
 -- `X!0` and `X!1`
 
