@@ -114,7 +114,8 @@ abbrev wraps : TypedProgram
 wraps = record {
   channels = record { name = []; kind = Out; width = 64 } ∷ record { name = []; kind = Out; width = 1 } ∷ [];
   vars = record { name = []; width = 64; first = 18446744073709551615 } ∷ [];
-  body = in_turn (and_member (sending 0 at (chained (reading 0 63 0 at) (and_operation Add (constant 64 1) no_operations))) (and_member (sending 1 at (compared Lt (reading 0 63 0 at) (constant 64 1))) no_members));
+  body = in_turn (and_member (sending 0 at (chained (reading 0 63 0 at) (and_operation Add (constant 64 1) no_operations)))
+      (and_member (sending 1 at (compared Lt (reading 0 63 0 at) (constant 64 1))) no_members));
 }
 
 wraps_covered : Covered wraps

@@ -6,8 +6,8 @@ use Rattle.width_check.specs.Processes.{Process, skipping, assigning, sending, r
 use Rattle.width_check.specs.Reads.{reads}
 use Rattle.width_check.specs.Sharing.{MeetsSharing}
 
--- skip, sends, receives, assignments that don't read their own target, sequences, parallel compositions and loops that go
--- on for ever
+-- skip, sends, receives, assignments that don't read their own target, sequences, parallel compositions and loops that
+-- go on for ever
 abbrev mutual
   pub IsCovered : Process → Type 0
   IsCovered skipping = Unit {0}
