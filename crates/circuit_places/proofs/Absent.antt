@@ -1,12 +1,12 @@
 -- A spot that stands for no node never moves.
-use Rattle.std.proofs.Common.{◌≡◌, ℕ, ◌<◌, ◌≤◌, Bool, true, false, List, refl, sym, ap, ◌∙◌, subst, arith}
+use Rattle.std.proofs.Common.{◌≡◌, ℕ, ◌<◌, ◌≤◌, Bool, true, false, List, refl, ◌∙◌, subst, arith}
 use Rattle.std.specs.Prelude.{nat_lt, ◌&&◌, not, if◌then◌else◌}
 use Rattle.std.proofs.lemmas.Bool.Decides.{nat_tests}
-use Rattle.width_check.specs.Processes.{Formula, Process, in_turn, side_by_side, repeating, Processes, member_count, TypedProgram}
-use Rattle.width_check.specs.Typing.{channel_width, var_width}
+use Rattle.width_check.specs.Processes.{Formula, Process, Processes, member_count, TypedProgram}
+use Rattle.width_check.specs.Typing.{channel_width}
 use Rattle.circuit_places.specs.Lines.{Line, of_channel, of_var, Rails, Seen}
 use Rattle.circuit_places.specs.Circuit.{SiteSpot, PortSpot, site_stands, port_stands, Pairs, gate_count, gate_rule, fires, bit_at, joint_count, GuardedSpot, Spot, TurnSpot, BranchSpot, heard, stored, taking, child, latch, next, inner, of_skip, done, gate, of_assign, of_send, of_receive, in_members, of_branch, joint, in_this, in_others, of_loop, ask, in_body, in_last, in_member, in_later, guarded_stands, stands, turn_stands, branch_stands}
-use Rattle.circuit_places.proofs.RailLemmas.{gate_there, fst_true, snd_true}
+use Rattle.circuit_places.proofs.RailLemmas.{gate_there, snd_true}
 use Rattle.circuit_places.proofs.Trees.{joint_absent}
 use Rattle.circuit_places.proofs.Meets.{PortMeets, Meets, TurnMeets, EachMeets}
 use Rattle.circuit_places.proofs.Flow.{Clean, cases}

@@ -1,27 +1,27 @@
 -- What a move of a channel's acknowledge does to the whole circuit: the environment's on an `out` channel, and the program's on
 -- an `in` channel.
-use Rattle.std.proofs.Common.{◌≡◌, ◌≢◌, ℕ, ◌==◌, ◌<◌, ◌≤◌, Bool, true, false, List, length, refl, sym, ap, ◌∙◌, subst, inl, inr, ◌⊎◌, arith}
-use Rattle.std.specs.Prelude.{not, ◌&&◌, ◌||◌, if◌then◌else◌, slice_get, Option, is_some}
+use Rattle.std.proofs.Common.{◌≡◌, ◌≢◌, ℕ, ◌==◌, ◌≤◌, Bool, true, false, List, refl, sym, ap, ◌∙◌, subst, inl, inr, arith}
+use Rattle.std.specs.Prelude.{not, ◌&&◌, if◌then◌else◌, slice_get, is_some}
 use Rattle.env_script.specs.Scripts.{OfferValue, gives, takes, nothing, offer_at, is_over}
 use Rattle.env_script.specs.Runs.{completed}
-use Rattle.width_check.specs.Processes.{Process, receiving, TypedProgram}
+use Rattle.width_check.specs.Processes.{receiving, TypedProgram}
 use Rattle.width_check.specs.Typing.{kind_at, channel_width, var_width}
 use Rattle.chp_meaning.specs.Terms.{Term, finished}
 use Rattle.function_blocks.specs.RailFacts.{covered}
-use Rattle.circuit_places.specs.Lines.{Line, of_channel, of_var, same_line, line_width, Rails}
-use Rattle.circuit_places.specs.Circuit.{low as low_cells, GuardedSpot, fires, turns, takers}
-use Rattle.circuit_places.specs.Whole.{Wires, seen, line_ack, is_heard, is_merged, bit_rule, wrote_rule, value_on, neutral_on, brings, drives, offers, Node, go_node, own_node, rail_node, ack_node, bit_node, wrote_node, joint_node, answers, ack_turned, passed, passed_after}
-use Rattle.circuit_places.proofs.RailLemmas.{fst_true, snd_true, not_true, neutral_low, each_bit}
+use Rattle.circuit_places.specs.Lines.{Line, of_channel, of_var, same_line, Rails}
+use Rattle.circuit_places.specs.Circuit.{low as low_cells, GuardedSpot, turns, takers}
+use Rattle.circuit_places.specs.Whole.{Wires, seen, line_ack, is_heard, is_merged, value_on, neutral_on, brings, offers, Node, go_node, own_node, rail_node, ack_node, bit_node, wrote_node, joint_node, answers, ack_turned, passed, passed_after}
+use Rattle.circuit_places.proofs.RailLemmas.{fst_true, snd_true, neutral_low, each_bit}
 use Rattle.circuit_places.proofs.LineNames.{self_number, same_number}
 use Rattle.circuit_places.proofs.BitTable.{legal, held_t, held_f}
 use Rattle.circuit_places.proofs.Blocks.{now_at}
-use Rattle.circuit_places.proofs.Places.{Mode, idle, running, answered, returning, GuardedAt, g_rests, g_in, g_past, g_back, guarded_cells, guarded_shown, guarded_writing, guarded_moves}
+use Rattle.circuit_places.proofs.Places.{Mode, idle, running, answered, returning, GuardedAt, g_rests, guarded_cells, guarded_shown, guarded_writing, guarded_moves}
 use Rattle.circuit_places.proofs.Meets.{receives, sends_merged, receives_heard, receives_within}
 use Rattle.circuit_places.proofs.Left.{guarded_left, Act}
 use Rattle.circuit_places.proofs.Flow.{low_of, or_map, cases}
 use Rattle.circuit_places.proofs.Talks.{either, guarded_offers_talks, guarded_talks_sends, guarded_says_is, guarded_takes_listens, guarded_listens_receives}
 use Rattle.circuit_places.proofs.Change.{AckTurned, Ready}
-use Rattle.circuit_places.proofs.Hears.{Rising, Hears, Has, guarded_hears}
+use Rattle.circuit_places.proofs.Hears.{Rising, Hears, guarded_hears}
 use Rattle.circuit_places.proofs.Writing.{OneTurned, guarded_writing_falls, guarded_writing_deaf}
 use Rattle.circuit_places.proofs.Sites.{is_nil, any_not_nil, same_takers, guarded_taken}
 use Rattle.circuit_places.proofs.System.{Good, clean_of, can, driven, heard_turns, sent_turns, root_left, Passing, Arrival, Arrives, Acks, taken_out, taken_in, let_go_in, Freed, Next, Fitted, takes_of, may_low, may_high, passed_far}

@@ -2,8 +2,8 @@
 use Rattle.std.proofs.Common.{◌≡◌, ℕ, Bool, true, false, List, refl, sym, ◌∙◌, subst}
 use Rattle.std.specs.Prelude.{not, ◌&&◌}
 use Rattle.width_check.specs.Processes.{Formula, Process, skipping, assigning, sending, receiving, in_turn, side_by_side, choosing, repeating, Processes, no_members, and_member, member_count}
-use Rattle.circuit_places.specs.Lines.{Line, of_channel, of_var, same_line, site_statement, line_width, Rails, Seen}
-use Rattle.circuit_places.specs.Circuit.{Port, PortSpot, low_port, port_rule, heard, stored, taking, of_receive, Site, SiteSpot, site_rule, low_site, gate_count, low_guarded, low, low_turn, low_bits, bit_at, joint_count, low_branches, branch_ends, same_bit, answer, GuardedSpot, Spot, TurnSpot, BranchSpot, child, latch, next, inner, of_skip, done, gate, of_assign, of_send, in_members, of_branch, joint, in_this, in_others, of_loop, ask, in_body, in_last, in_member, in_later, is_apart, gate_rule, guarded_rule, rule, turn_rule, branch_rule}
+use Rattle.circuit_places.specs.Lines.{of_channel, of_var, Rails, Seen}
+use Rattle.circuit_places.specs.Circuit.{Port, PortSpot, low_port, port_rule, heard, stored, taking, of_receive, Site, SiteSpot, site_rule, low_site, gate_count, low_guarded, low, low_turn, low_bits, bit_at, joint_count, low_branches, branch_ends, same_bit, answer, GuardedSpot, Spot, TurnSpot, BranchSpot, child, latch, next, inner, of_skip, done, gate, of_assign, of_send, in_members, of_branch, joint, in_this, in_others, of_loop, ask, in_body, in_last, in_member, in_later, is_apart, guarded_rule, rule, turn_rule, branch_rule}
 use Rattle.circuit_places.proofs.RailLemmas.{gate_apart, fst_true, snd_true, same_value}
 use Rattle.circuit_places.proofs.Trees.{joint_apart}
 use Rattle.circuit_places.proofs.Places.{Mode, asks, acks, site_of, all_ask, GuardedAt, At, TurnAt, BranchesAt, g_rests, g_in, g_past, g_back, port_of, rests, at_skip, at_assign, at_send, at_receive, at_turn, at_side, at_body, no_more, and_at, turn_rests, at_last, at_member, at_later, guarded_cells, cells, turn_cells, branch_cells, low_answer, next_is, link_asks, link_next}

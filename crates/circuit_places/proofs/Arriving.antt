@@ -1,16 +1,15 @@
 -- What is on the rails of an `in` channel is what the environment brings, until it is acknowledged.
-use Rattle.std.proofs.Common.{◌≡◌, ℕ, zero, suc, ◌/◌, ◌^◌, ◌==◌, ◌<◌, ◌≤◌, Bool, true, false, List, [], ◌∷◌, refl, sym, ap, ◌∙◌, subst, arith}
-use Rattle.std.specs.Prelude.{not, ◌&&◌, ◌||◌, if◌then◌else◌, slice_get, Option, Some, None, is_some}
+use Rattle.std.proofs.Common.{◌≡◌, ℕ, zero, suc, ◌/◌, ◌^◌, ◌==◌, ◌<◌, ◌≤◌, Bool, true, false, List, refl, sym, ap, ◌∙◌, subst, arith}
+use Rattle.std.specs.Prelude.{not, slice_get, Option, Some, None, is_some}
 use Rattle.env_script.specs.Environment.{is_odd}
-use Rattle.env_script.specs.Scripts.{OfferValue, gives, takes, nothing, offer_at}
+use Rattle.env_script.specs.Scripts.{OfferValue, gives, offer_at}
 use Rattle.env_script.specs.Runs.{completed}
 use Rattle.width_check.specs.Processes.{TypedProgram}
 use Rattle.width_check.specs.Typing.{kind_at, channel_width}
-use Rattle.function_blocks.specs.Rails.{number_on}
 use Rattle.function_blocks.specs.RailFacts.{covered}
-use Rattle.circuit_places.specs.Lines.{Line, of_channel, of_var, Rails}
+use Rattle.circuit_places.specs.Lines.{Line, of_channel, Rails}
 use Rattle.circuit_places.specs.Circuit.{turns, same_bit}
-use Rattle.circuit_places.specs.Whole.{Wires, value_on, neutral_on, number_rail, brings, drives, offers, is_heard, is_merged, Node, go_node, own_node, rail_node, ack_node, bit_node, wrote_node, joint_node, wires_after, passed_after, answers}
+use Rattle.circuit_places.specs.Whole.{Wires, value_on, number_rail, brings, offers, is_heard, is_merged, Node, go_node, own_node, rail_node, ack_node, bit_node, wrote_node, joint_node, wires_after, passed_after, answers}
 use Rattle.circuit_places.proofs.RailLemmas.{fst_true, snd_true, neutral_low, each_bit}
 use Rattle.circuit_places.proofs.LineNames.{self_number, same_number}
 use Rattle.circuit_places.proofs.Places.{Mode, GuardedAt, guarded_shown}
@@ -18,7 +17,7 @@ use Rattle.circuit_places.proofs.Talks.{either}
 use Rattle.circuit_places.proofs.Flow.{cases}
 use Rattle.circuit_places.proofs.Writing.{number_told, first_number}
 use Rattle.circuit_places.proofs.System.{Good, can, driven, sent_turns, heard_turns, Fitted, takes_of}
-use Rattle.circuit_places.proofs.LineMoves.{Turned, this, that, turned_at, gives_of, takes_gives, same_channel, drives_up}
+use Rattle.circuit_places.proofs.LineMoves.{Turned, this, that, turned_at, takes_gives, drives_up}
 use Rattle.circuit_places.proofs.AckMoves.{acked_far, done_far, acked_near}
 
 -- a rail over a low acknowledge brings the next value

@@ -5,17 +5,17 @@ use Rattle.std.proofs.Math.Path.{fun_ext}
 use Rattle.chp_base.specs.declared.span.Span.{Span}
 use Rattle.width_check.specs.Processes.{Formula, Process, skipping, assigning, sending, receiving, in_turn, side_by_side, choosing, repeating, Processes, no_members, and_member, member_count, TypedProgram}
 use Rattle.chp_meaning.specs.Terms.{Terms, active, opened, opened_turn, opened_each, and_branch, together}
-use Rattle.circuit_places.specs.Lines.{Line, of_channel, of_var, same_line, site_statement, line_width, Rails, Seen}
+use Rattle.circuit_places.specs.Lines.{Line, of_channel, of_var, same_line, Rails, Seen}
 use Rattle.circuit_places.specs.Whole.{value_on, neutral_on}
-use Rattle.circuit_places.specs.Circuit.{Pairs, low_pairs, gate_count, Bits, low_guarded, low, low_site, SiteSpot, low_turn, low_branches, low_bits, bit_at, joint_count, GuardedSpot, Spot, TurnSpot, BranchSpot, of_skip, done, gate, of_assign, of_send, of_receive, PortSpot, heard, stored, taking, in_members, of_branch, joint, in_this, in_others, in_last, in_member, in_later}
-use Rattle.function_blocks.specs.Waves.{good, out_rail, full, empty, Waves}
+use Rattle.circuit_places.specs.Circuit.{Pairs, low_pairs, gate_count, Bits, low_guarded, low, SiteSpot, low_turn, low_branches, low_bits, bit_at, joint_count, GuardedSpot, Spot, TurnSpot, BranchSpot, of_skip, done, gate, of_assign, of_send, of_receive, PortSpot, heard, stored, taking, in_members, of_branch, joint, in_this, in_others, in_last, in_member, in_later}
+use Rattle.function_blocks.specs.Waves.{full, empty, Waves}
 use Rattle.circuit_places.proofs.RailLemmas.{fst_true, snd_true, never_and, low_out}
 use Rattle.circuit_places.proofs.Trees.{Settled, settled_low, top_low, top_of, flat_stands}
-use Rattle.circuit_places.proofs.Places.{Mode, idle, running, answered, returning, asks, wave_may, SiteMay, all_ask, all_ack, all_idle, ends, SideMay, GuardedAt, At, TurnAt, BranchesAt, g_rests, g_in, g_past, g_back, rests, at_skip, at_assign, at_send, at_receive, at_turn, at_side, at_body, no_more, and_at, turn_rests, at_last, at_member, at_later, guarded_of, sides_of, guarded_cells, cells, turn_cells, branch_cells, Shown, none_shown, both_shown, guarded_shown, shown, turn_shown, branches_shown, site_of, site_shown, site_moves, send_fits, SiteFits, port_ends, PortFits, port_moves, Fits, TurnFits, BranchesFit, guarded_moves, moves, turn_moves, branch_moves}
+use Rattle.circuit_places.proofs.Places.{Mode, idle, running, answered, returning, wave_may, SiteMay, all_ask, all_ack, all_idle, ends, SideMay, GuardedAt, At, TurnAt, BranchesAt, g_rests, g_in, g_past, g_back, rests, at_skip, at_assign, at_send, at_receive, at_turn, at_side, at_body, no_more, and_at, turn_rests, at_last, at_member, at_later, guarded_of, sides_of, guarded_cells, cells, turn_cells, branch_cells, Shown, none_shown, both_shown, guarded_shown, shown, turn_shown, branches_shown, site_shown, site_moves, send_fits, SiteFits, port_ends, PortFits, port_moves, Fits, TurnFits, BranchesFit, guarded_moves, moves, turn_moves, branch_moves}
 use Rattle.circuit_places.proofs.Meets.{PortMeets, Meets, TurnMeets, opened_then, sends, receives}
 use Rattle.circuit_places.proofs.Left.{waits, left, turn_left, branches_left}
 use Rattle.circuit_places.proofs.Flow.{Flow, Clean, Quiet, or_left, cases}
-use Rattle.circuit_places.proofs.LineNames.{self_number, same_number, self_line, same_line_is}
+use Rattle.circuit_places.proofs.LineNames.{self_number, self_line}
 
 -- a statement that rests
 mutual

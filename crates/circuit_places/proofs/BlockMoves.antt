@@ -1,16 +1,15 @@
 -- What a move in a variable's block does to the whole circuit; and so any move.
 use Rattle.std.proofs.Common.{◌≡◌, ◌≢◌, ℕ, ◌==◌, ◌<◌, ◌≤◌, Bool, true, false, List, refl, sym, ap, ◌∙◌, subst, ◌⊎◌, inl, inr, arith}
 use Rattle.std.proofs.Math.Path.{fun_ext}
-use Rattle.std.specs.Prelude.{not, ◌&&◌, ◌||◌, if◌then◌else◌, is_some}
+use Rattle.std.specs.Prelude.{not, ◌&&◌, ◌||◌, if◌then◌else◌}
 use Rattle.prs_core.specs.Parts.{turned}
-use Rattle.env_script.specs.Scripts.{OfferValue, gives, takes, nothing, offer_at, is_over}
+use Rattle.env_script.specs.Scripts.{OfferValue, offer_at}
 use Rattle.env_script.specs.Runs.{completed}
 use Rattle.width_check.specs.Processes.{TypedProgram}
 use Rattle.width_check.specs.Typing.{channel_width, var_width}
-use Rattle.chp_meaning.specs.Terms.{Term}
-use Rattle.circuit_places.specs.Lines.{Line, of_channel, of_var, same_line, line_width, Rails}
+use Rattle.circuit_places.specs.Lines.{Line, of_channel, of_var, same_line, Rails}
 use Rattle.circuit_places.specs.Circuit.{GuardedSpot, fires, same_bit, rails_turned, tree_answer}
-use Rattle.circuit_places.specs.Whole.{Wires, seen, line_ack, is_merged, bit_rule, wrote_rule, value_on, neutral_on, Node, go_node, own_node, rail_node, ack_node, bit_node, wrote_node, joint_node, answers, bit_turned, wrote_turned, joint_turned}
+use Rattle.circuit_places.specs.Whole.{Wires, seen, line_ack, bit_rule, wrote_rule, Node, go_node, own_node, rail_node, ack_node, bit_node, wrote_node, joint_node, answers, bit_turned, wrote_turned, joint_turned}
 use Rattle.circuit_places.proofs.RailLemmas.{fst_true, snd_true, not_true, each_bit}
 use Rattle.circuit_places.proofs.Writing.{OneTurned, guarded_writing_there, guarded_writing_falls, guarded_writing_other, guarded_writing_unread}
 use Rattle.circuit_places.proofs.LineNames.{self_number, same_number}
@@ -19,7 +18,6 @@ use Rattle.circuit_places.proofs.Places.{Mode, idle, running, answered, returnin
 use Rattle.circuit_places.proofs.Flow.{or_map, cases}
 use Rattle.circuit_places.proofs.Control.{guarded_advance}
 use Rattle.circuit_places.proofs.Change.{GuardedChanged, guarded_changed, AckTurned, Unread, unread_down, bit_leaves}
-use Rattle.circuit_places.proofs.Fires.{Passes}
 use Rattle.circuit_places.proofs.Talks.{either}
 use Rattle.circuit_places.proofs.Meets.{sends_merged, receives_heard}
 use Rattle.circuit_places.proofs.Blocks.{now_at, bit_can, moves_written, Block, Acked, ack_stays, ack_turns, bit_moved, wrote_turns, joint_turns, joint_some, ready_valid, ready_neutral}

@@ -8,13 +8,13 @@ use Rattle.prs_core.specs.Parts.{Owned, turned}
 use Rattle.prs_core.specs.Turning.{turned_apart, none_among}
 use Rattle.cell_parallel.specs.Trees.{tree_owned}
 use Rattle.circuit_places.specs.Lines.{Rails}
-use Rattle.circuit_places.specs.Circuit.{joint_count, tree_value, tree_answer, fires, is_apart, same_bit, rails_turned}
+use Rattle.circuit_places.specs.Circuit.{tree_value, tree_answer, fires, is_apart, same_bit, rails_turned}
 use Rattle.circuit_places.specs.Whole.{bit_rule, wrote_rule, value_on, neutral_on}
-use Rattle.circuit_places.proofs.RailLemmas.{fst_true, snd_true, both_true, not_true}
+use Rattle.circuit_places.proofs.RailLemmas.{both_true}
 use Rattle.circuit_places.proofs.LineNames.{self_number, same_number}
 use Rattle.circuit_places.proofs.Flow.{cases}
 use Rattle.circuit_places.proofs.Trees.{TreeOver, Settling, node_moves, joint_below, leaf_turns, node_turns, NodeTurned, TopTurned, stays_top, turns_top, waits_on}
-use Rattle.circuit_places.proofs.BitTable.{Now, Role, rail_t, rail_f, write_t, write_f, written, turn, may, legal, now_of, stays, stays_alone, both_turned, stays_after, acknowledged, written_as_acknowledged, is_other, is_own, firm, valid, has_value, same, ready, ready_after, ready_alone, pulled, apart, waits, role_cases, written_t, written_f}
+use Rattle.circuit_places.proofs.BitTable.{Now, Role, rail_t, rail_f, write_t, write_f, written, turn, may, legal, now_of, stays, stays_alone, stays_after, written_as_acknowledged, is_other, is_own, firm, valid, has_value, same, ready, ready_after, ready_alone, apart, waits, role_cases, written_t, written_f}
 
 abbrev pub now_at : (x w : Rails) (wrote : ℕ → Bool) (va : Bool) → ℕ → Now
 now_at x w wrote va i = now_of (x i true) (x i false) (w i true) (w i false) (wrote i) va

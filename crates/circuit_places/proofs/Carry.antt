@@ -3,7 +3,7 @@ use Rattle.std.proofs.Common.{◌≡◌, ◌≢◌, ℕ, zero, suc, ◌+◌, ◌
 use Rattle.std.proofs.Math.ListN.{get_or-eq_default}
 use Rattle.std.proofs.lemmas.Bool.Decides.{nat_tests}
 use Rattle.std.proofs.lemmas.List.Elements.{All-head, All-tail}
-use Rattle.std.specs.Prelude.{not, nat_lt, ◌&&◌, ◌||◌, if◌then◌else◌, slice_get, Option, Some, None, All}
+use Rattle.std.specs.Prelude.{not, nat_lt, ◌&&◌, ◌||◌, if◌then◌else◌, slice_get, Some, All}
 use Rattle.chp_base.specs.declared.channel.Channel.{Channel}
 use Rattle.chp_base.specs.declared.channel.Kind.{Kind}
 use Rattle.chp_base.specs.declared.channel.Kind.TheVariants.{In, Out, Chan}

@@ -1,6 +1,6 @@
 -- What a move of a channel's wire does to the places that read it.
 use Rattle.std.proofs.Common.{◌≡◌, ℕ, ◌≤◌, ◌<◌, ◌==◌, Bool, true, false, List, refl, sym, ap, ◌∙◌, subst}
-use Rattle.std.specs.Prelude.{not, ◌&&◌, ◌||◌, if◌then◌else◌, is_some}
+use Rattle.std.specs.Prelude.{not, ◌&&◌, if◌then◌else◌, is_some}
 use Rattle.chp_base.specs.declared.span.Span.{Span}
 use Rattle.width_check.specs.Processes.{Formula, Process, skipping, assigning, sending, receiving, in_turn, side_by_side, repeating, Processes, no_members, and_member, member_count, TypedProgram}
 use Rattle.circuit_places.specs.Lines.{Line, of_channel, of_var, same_line, site_statement, line_width, Rails, Seen}
@@ -15,7 +15,7 @@ use Rattle.circuit_places.proofs.RailLemmas.{snd_true, both_true, not_true, told
 use Rattle.circuit_places.proofs.Places.{Mode, idle, running, answered, returning, asks, acks, is_idle, inner_may, link, wave_may, SiteMay, SideMay, GuardedAt, At, TurnAt, BranchesAt, g_rests, g_in, g_past, g_back, rests, at_skip, at_assign, at_send, at_receive, at_turn, at_side, at_body, no_more, and_at, turn_rests, at_last, at_member, at_later, Shown, both_shown, guarded_shown, shown, turn_shown, branches_shown, site_shown, site_moves, port_may, port_shown, port_ends, PortFits, port_moves, send_fits, SiteFits, GuardedFits, Fits, TurnFits, BranchesFit, guarded_moves, moves, turn_moves, branch_moves, not_running}
 use Rattle.circuit_places.proofs.Meets.{PortMeets, SiteMeets, site_sends, Meets, TurnMeets, EachMeets, sends, turn_sends, receives, each_receives}
 use Rattle.circuit_places.proofs.Flow.{neither_left, neither_right, low_of, or_left, or_right, cases}
-use Rattle.circuit_places.proofs.LineNames.{self_number, same_number, self_line, same_line_is}
+use Rattle.circuit_places.proofs.LineNames.{self_number, same_number, same_line_is}
 use Rattle.circuit_places.proofs.Begin.{answered_all, answered_full, answered_kept, answered_ack, answered_va, port_answered_moves}
 use Rattle.circuit_places.proofs.PortLeaf.{runs_kept, runs_va, runs_full, back_ack, back_kept, back_none, back_gone, low_by, run_ends, back_ends, still_high, fallen, port_none}
 use Rattle.circuit_places.proofs.Talks.{Beside, beside, or_false_right, or_false_left}

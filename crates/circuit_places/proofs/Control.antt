@@ -3,9 +3,9 @@ use Rattle.std.proofs.Common.{◌≡◌, ◌≢◌, ℕ, Bool, true, false, List
 use Rattle.std.specs.Prelude.{not, ◌&&◌, if◌then◌else◌}
 use Rattle.width_check.specs.Processes.{Process, in_turn, repeating, side_by_side, Processes, no_members, and_member, TypedProgram}
 use Rattle.chp_meaning.specs.Terms.{Term, finished, opened, followed}
-use Rattle.circuit_places.specs.Lines.{Line, of_channel, of_var, same_line, site_statement, line_width, Rails, Seen}
+use Rattle.circuit_places.specs.Lines.{of_channel, Seen}
 use Rattle.circuit_places.specs.Circuit.{low_guarded, low, low_turn, GuardedSpot, Spot, TurnSpot, BranchSpot, child, latch, next, inner, of_assign, of_send, of_receive, in_members, of_branch, joint, in_this, in_others, of_loop, ask, in_body, in_last, in_member, in_later, turned_guarded, turned_turn}
-use Rattle.circuit_places.proofs.Places.{Mode, idle, running, answered, returning, asks, acks, inner_may, link, GuardedAt, At, TurnAt, BranchesAt, g_rests, g_in, g_past, g_back, rests, at_skip, at_assign, at_send, at_receive, at_turn, at_side, at_body, no_more, and_at, turn_rests, at_last, at_member, at_later, guarded_of, ring_of, turn_of, guarded_cells, cells, turn_cells, Shown, none_shown, guarded_shown, shown, turn_shown, branches_shown, GuardedFits, Fits, TurnFits, BranchesFit, writing, guarded_writing, turn_writing, guarded_moves, moves, turn_moves, branch_moves}
+use Rattle.circuit_places.proofs.Places.{Mode, idle, running, answered, returning, asks, acks, inner_may, link, GuardedAt, At, TurnAt, BranchesAt, g_rests, g_in, g_past, g_back, rests, at_skip, at_assign, at_send, at_receive, at_turn, at_side, at_body, no_more, and_at, turn_rests, at_last, at_member, at_later, guarded_of, ring_of, turn_of, guarded_cells, cells, turn_cells, Shown, none_shown, guarded_shown, shown, turn_shown, branches_shown, GuardedFits, Fits, TurnFits, BranchesFit, guarded_writing, turn_writing, guarded_moves, moves, turn_moves, branch_moves}
 use Rattle.circuit_places.proofs.Meets.{Meets, TurnMeets, EachMeets, sends, turn_sends, receives, each_receives}
 use Rattle.circuit_places.proofs.Left.{inner_left, again, guarded_left, left, turn_left, Follows, followed_follows, loop_follows, left_done, turn_left_done, guarded_left_past, writing_done, turn_writing_done, guarded_writing_done}
 use Rattle.circuit_places.proofs.Flow.{goes, goes_asks, Flow, flow_same, flow_by, Clean, Backed, Quiet, low_of, quiet_of, After, GuardedAfter, TurnAfter, BranchAfter, or_left, or_right}

@@ -5,7 +5,7 @@ use Rattle.chp_base.specs.declared.span.Span.{Span}
 use Rattle.env_script.specs.declared.script.Count.{Count}
 use Rattle.env_script.specs.Scripts.{OfferValue, gives, takes, nothing, offer_at, is_over}
 use Rattle.env_script.specs.Runs.{completed}
-use Rattle.width_check.specs.Processes.{Formula, Process, skipping, assigning, sending, receiving, choosing, repeating, TypedProgram}
+use Rattle.width_check.specs.Processes.{Formula, Process, sending, receiving, TypedProgram}
 use Rattle.width_check.specs.Typing.{kind_at, channel_width, var_width}
 use Rattle.chp_meaning.specs.Terms.{Term, finished, Place, statement_at}
 use Rattle.chp_meaning.specs.Steps.{Configuration, Step, a_skip, an_assignment, a_selection, a_turn, an_end, a_repetition, a_communication, a_delivery, an_arrival}
@@ -20,7 +20,7 @@ use Rattle.circuit_places.proofs.BitTable.{Now, may, write_t, write_f, some_bit}
 use Rattle.circuit_places.proofs.Blocks.{now_at, block_waits}
 use Rattle.circuit_places.proofs.Places.{Mode, running, returning, GuardedAt, g_rests, g_in, g_past, g_back, guarded_cells, guarded_shown}
 use Rattle.circuit_places.proofs.Left.{guarded_left}
-use Rattle.circuit_places.proofs.Rest.{Full, Listening, Releasing, Valid, Blocked, a_send, a_receive, Waiting, Hanging, let_go, unstored, holding, Rest, settled, waiting, hanging, guarded_rest}
+use Rattle.circuit_places.proofs.Rest.{Listening, Releasing, Valid, Blocked, a_send, a_receive, Waiting, Hanging, let_go, unstored, holding, Rest, settled, waiting, hanging, guarded_rest}
 use Rattle.circuit_places.proofs.Fires.{guarded_site}
 use Rattle.circuit_places.proofs.System.{Good, clean_of, can, driven, sent_turns, heard_turns, root_left, Fitted}
 use Rattle.circuit_places.proofs.Follow.{fewer, left_over, behind_none, Followed, over_before}

@@ -8,7 +8,7 @@ use Rattle.env_script.specs.declared.script.Count.TheVariants.{All, Times}
 use Rattle.env_script.specs.Scripts.{OfferValue, gives, takes}
 use Rattle.width_check.specs.Processes.{constant, reading, skipping, assigning, sending, receiving, in_turn, side_by_side, no_members, and_member, TypedProgram}
 use Rattle.circuit_places.specs.Lines.{of_channel, of_var}
-use Rattle.circuit_places.specs.Circuit.{Spot, BranchSpot, child, latch, next, inner, of_skip, done, gate, heard, stored, taking, of_assign, of_send, of_receive, in_members, of_branch, joint, in_this, in_others, in_last, in_member, in_later}
+use Rattle.circuit_places.specs.Circuit.{Spot, child, latch, next, inner, of_skip, done, gate, heard, stored, taking, of_assign, of_send, of_receive, in_members, of_branch, joint, in_this, in_others, in_last, in_member, in_later}
 use Rattle.circuit_places.specs.Whole.{Whole, Node, go_node, own_node, rail_node, ack_node, bit_node, wrote_node, joint_node, value_on, enabled, moved, first_of}
 
 abbrev at : Span

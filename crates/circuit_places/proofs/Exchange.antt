@@ -1,8 +1,8 @@
 -- A trial for channels inside of a program: what a rising acknowledge does to a term whose branches may hold both ends.
-use Rattle.std.proofs.Common.{◌≡◌, ℕ, zero, suc, Bool, true, false, List, refl, sym, ap, ◌∙◌, subst}
+use Rattle.std.proofs.Common.{◌≡◌, ℕ, zero, suc, Bool, true, false, refl, sym, ap, ◌∙◌, subst}
 use Rattle.std.specs.Prelude.{◌||◌, if◌then◌else◌, Some}
 use Rattle.width_check.specs.Processes.{Process, Processes}
-use Rattle.chp_meaning.specs.Terms.{Term, Terms, no_branches, and_branch, finished, active, in_sequence, in_parallel, is_finished, all_finished, together, followed, Place, in_first, in_branch, statement_at, branch_at, with_left, with_branch}
+use Rattle.chp_meaning.specs.Terms.{Term, Terms, and_branch, finished, in_sequence, in_parallel, together, followed, Place, in_first, in_branch, statement_at, branch_at, with_left, with_branch}
 use Rattle.circuit_places.proofs.Meets.{followed_on}
 use Rattle.circuit_places.proofs.Left.{Act, followed_act, ActInside, this_act, other_act, together_act, some_stands, inside_stands}
 

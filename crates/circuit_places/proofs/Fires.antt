@@ -1,24 +1,24 @@
 -- What an acknowledge does to the term: where it rises a value passes, and where it falls nothing does.
-use Rattle.std.proofs.Common.{◌≡◌, ℕ, ◌<◌, ◌≤◌, length, ◌==◌, Bool, true, false, List, refl, sym, ap, ◌∙◌, subst}
+use Rattle.std.proofs.Common.{◌≡◌, ℕ, ◌<◌, ◌≤◌, length, Bool, true, false, List, refl, sym, ap, ◌∙◌, subst}
 use Rattle.std.specs.Prelude.{not, ◌&&◌, ◌||◌, Some, is_some}
 use Rattle.chp_base.specs.declared.span.Span.{Span}
-use Rattle.width_check.specs.Processes.{Formula, Process, sending, receiving, in_turn, side_by_side, Processes, and_member, TypedProgram}
+use Rattle.width_check.specs.Processes.{Formula, Process, receiving, in_turn, side_by_side, Processes, and_member, TypedProgram}
 use Rattle.chp_meaning.specs.Terms.{Term, Terms, and_branch, together, finished, active, opened, followed, here as at_here}
 use Rattle.circuit_places.specs.Lines.{Line, of_channel, of_var, same_line, site_statement, line_width, Rails, Seen}
 use Rattle.circuit_places.specs.Whole.{value_on, neutral_on}
 use Rattle.width_check.specs.Values.{width_of, value}
-use Rattle.function_blocks.specs.Waves.{good, out_rail, full, empty, store_of}
+use Rattle.function_blocks.specs.Waves.{good, out_rail, full, store_of}
 use Rattle.circuit_places.specs.Circuit.{Pairs, gate_count}
 use Rattle.width_check.specs.Typing.{kind_at}
 use Rattle.circuit_places.specs.Whole.{is_heard, is_merged}
 use Rattle.circuit_places.proofs.PortLeaf.{runs_kept}
 use Rattle.circuit_places.proofs.RailLemmas.{snd_true}
 use Rattle.circuit_places.proofs.Places.{Mode, idle, running, answered, returning, asks, inner_may, SiteMay, GuardedAt, At, TurnAt, BranchesAt, g_rests, g_in, g_past, g_back, rests, at_skip, at_assign, at_send, at_receive, at_turn, at_side, at_body, no_more, and_at, turn_rests, at_last, at_member, at_later, Shown, both_shown, guarded_shown, shown, turn_shown, branches_shown, site_shown, port_may, port_shown, PortFits, SiteFits, GuardedFits, Fits, TurnFits, BranchesFit}
-use Rattle.circuit_places.proofs.Meets.{HasLine, PortMeets, SiteMeets, read_declared, Meets, TurnMeets, EachMeets, sends, turn_sends}
+use Rattle.circuit_places.proofs.Meets.{HasLine, PortMeets, SiteMeets, read_declared, Meets, TurnMeets, EachMeets}
 use Rattle.circuit_places.proofs.Left.{waits, inner_left, again, guarded_left, left, turn_left, branches_left, Act, followed_act, left_done, ActInside, this_act, other_act, together_act}
 use Rattle.circuit_places.proofs.Talks.{guarded_says_talks, branches_say_talk, either, Beside, beside, or_false_left, or_false_right}
-use Rattle.circuit_places.proofs.Flow.{Clean, low_of, or_left, or_right, cases}
-use Rattle.circuit_places.proofs.LineNames.{self_number, same_number, self_line, same_line_is}
+use Rattle.circuit_places.proofs.Flow.{Clean, low_of, cases}
+use Rattle.circuit_places.proofs.LineNames.{self_number, same_line_is}
 use Rattle.circuit_places.proofs.Change.{Ready, ready_down, Kept, kept_down, AckTurned, near, ready_full, kept_none, site_runs, site_returns}
 
 -- A step that passes the number on the line's rails: the value of an expression over each store that has the numbers of

@@ -18,7 +18,7 @@ use Rattle.circuit_places.specs.Lines.{of_channel, of_var, Rails}
 use Rattle.circuit_places.specs.Whole.{seen, line_ack, is_heard, first_bits, wires_after, rail_turned, bit_turned, Wires, wrote_turned, joint_turned, value_on, Node, go_node, own_node, rail_node, ack_node, bit_node, wrote_node, joint_node, answers, passed, passed_after}
 use Rattle.circuit_places.proofs.Left.{Act, skips, goes_on, Follows}
 use Rattle.circuit_places.proofs.Flow.{cases}
-use Rattle.circuit_places.proofs.LineNames.{self_number, same_number, self_line, same_line_is}
+use Rattle.circuit_places.proofs.LineNames.{self_number, same_number}
 use Rattle.circuit_places.proofs.Fires.{Passes}
 use Rattle.circuit_places.proofs.System.{Passing, Others, Arrival, Arrives, Acks, taken_out, taken_in, let_go_in, Freed, Rises, Stored, no_store, cleared, stores, takes_in, Moves, Fitted, takes_of, may_low}
 use Rattle.circuit_places.proofs.Arriving.{Arriving, next_value}

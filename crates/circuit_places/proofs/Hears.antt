@@ -1,20 +1,19 @@
 -- What an arrival does to the term: where the acknowledge of an `in` channel rises a receive is done, whose variable has the
 -- value.
-use Rattle.std.proofs.Common.{◌≡◌, ℕ, ◌<◌, ◌==◌, Bool, true, false, List, length, refl, sym, ap, ◌∙◌, subst}
-use Rattle.std.specs.Prelude.{not, ◌&&◌, ◌||◌, is_some}
+use Rattle.std.proofs.Common.{◌≡◌, ℕ, ◌==◌, Bool, true, false, List, refl, sym, ap, ◌∙◌, subst}
+use Rattle.std.specs.Prelude.{◌&&◌, ◌||◌, is_some}
 use Rattle.chp_base.specs.declared.span.Span.{Span}
-use Rattle.width_check.specs.Processes.{Process, assigning, sending, receiving, in_turn, side_by_side, Processes, and_member, TypedProgram}
-use Rattle.width_check.specs.Typing.{channel_width, var_width}
+use Rattle.width_check.specs.Processes.{Process, assigning, sending, receiving, Processes, and_member, TypedProgram}
 use Rattle.chp_meaning.specs.Terms.{Term, Terms, and_branch, together, finished, active, opened, followed, here as at_here}
 use Rattle.circuit_places.specs.Lines.{Line, of_channel, of_var, same_line, Rails, Seen}
 use Rattle.circuit_places.specs.Whole.{value_on, neutral_on}
-use Rattle.circuit_places.proofs.RailLemmas.{fst_true, snd_true, both_true, never_and}
+use Rattle.circuit_places.proofs.RailLemmas.{fst_true, snd_true, both_true}
 use Rattle.circuit_places.proofs.Places.{Mode, idle, running, answered, returning, inner_may, under_way, port_may, port_shown, PortFits, GuardedAt, At, TurnAt, BranchesAt, g_rests, g_in, g_past, g_back, rests, at_skip, at_assign, at_send, at_receive, at_turn, at_side, at_body, no_more, and_at, turn_rests, at_last, at_member, at_later, Shown, both_shown, guarded_shown, shown, turn_shown, branches_shown, writing, guarded_writing, branches_writing, turn_writing, GuardedFits, Fits, TurnFits, BranchesFit}
 use Rattle.circuit_places.proofs.Meets.{PortMeets, Meets, TurnMeets, EachMeets}
-use Rattle.circuit_places.proofs.Left.{waits, inner_left, again, guarded_left, left, turn_left, branches_left, Act, followed_act, left_done, writing_done, ActInside, this_act, other_act, together_act}
-use Rattle.circuit_places.proofs.Talks.{either, Beside, beside, or_false_left, or_false_right}
-use Rattle.circuit_places.proofs.Flow.{neither_left, neither_right, low_of, or_left, or_right, or_free, cases}
-use Rattle.circuit_places.proofs.LineNames.{self_number, same_number, self_line, same_line_is}
+use Rattle.circuit_places.proofs.Left.{waits, inner_left, again, guarded_left, left, turn_left, branches_left, Act, followed_act, left_done, ActInside, this_act, other_act, together_act}
+use Rattle.circuit_places.proofs.Talks.{either, beside}
+use Rattle.circuit_places.proofs.Flow.{neither_left, neither_right, or_left, or_right, or_free, cases}
+use Rattle.circuit_places.proofs.LineNames.{self_number, same_number}
 use Rattle.circuit_places.proofs.Begin.{answered_ack}
 use Rattle.circuit_places.proofs.PortLeaf.{runs_va, back_ack}
 

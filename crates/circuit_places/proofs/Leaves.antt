@@ -1,19 +1,18 @@
 -- The own moves of skip, and of the sites of a line.
-use Rattle.std.proofs.Common.{◌≡◌, ◌≢◌, ℕ, ◌<◌, ◌≤◌, ◌==◌, Bool, true, false, refl, sym, ap, ◌∙◌, inl, arith}
+use Rattle.std.proofs.Common.{◌≡◌, ◌≢◌, ℕ, ◌==◌, Bool, true, false, refl, sym, ap, ◌∙◌, inl}
 use Rattle.std.specs.Prelude.{◌&&◌}
 use Rattle.chp_base.specs.declared.span.Span.{Span}
 use Rattle.width_check.specs.Processes.{Formula, skipping, assigning, sending, TypedProgram}
-use Rattle.width_check.specs.Values.{width_of}
-use Rattle.chp_meaning.specs.Terms.{Term, finished, active}
-use Rattle.function_blocks.specs.Rails.{Pairs, turned_pairs, low_pairs}
+use Rattle.chp_meaning.specs.Terms.{Term, finished}
+use Rattle.function_blocks.specs.Rails.{Pairs, turned_pairs}
 use Rattle.function_blocks.specs.Waves.{good, out_rail, full, empty, Waves}
-use Rattle.circuit_places.specs.Lines.{Line, of_channel, of_var, same_line, site_statement, line_width, Rails, Seen}
+use Rattle.circuit_places.specs.Lines.{Line, of_channel, of_var, same_line, Seen}
 use Rattle.circuit_places.specs.Circuit.{gate_count, gate_rule, fires, SiteSpot, low_site, turned_site, Spot, of_skip, done, gate, of_assign, of_send}
 use Rattle.circuit_places.proofs.RailLemmas.{fst_true, snd_true, not_true, never_and, empty_low}
-use Rattle.circuit_places.proofs.Places.{Mode, idle, running, answered, returning, asks, acks, is_idle, wave_may, SiteMay, site_of, site_shown, site_moves, under_way, rests, at_skip, at_assign, at_send, none_shown, send_fits, SiteFits, moves}
+use Rattle.circuit_places.proofs.Places.{Mode, idle, running, answered, returning, acks, is_idle, wave_may, SiteMay, site_of, site_shown, site_moves, under_way, rests, at_skip, at_assign, at_send, none_shown, send_fits, SiteFits, moves}
 use Rattle.circuit_places.proofs.Left.{waits, skip_follows}
 use Rattle.circuit_places.proofs.Flow.{goes, Flow, flow_same, flow_sends, Clean, After, cases}
-use Rattle.circuit_places.proofs.LineNames.{self_number, same_number, self_line, same_line_is}
+use Rattle.circuit_places.proofs.LineNames.{same_line_is}
 use Rattle.circuit_places.proofs.Begin.{site_answered_moves, fits_low, fits_high}
 
 pub skip_after : (env : Seen) (m : Mode) (h : is_idle m ≡ false) (s : Spot skipping) → moves env (at_skip m h) s ≡ true → After skipping m env (at_skip m h) s

@@ -1,9 +1,9 @@
 -- What is left of the program at a place, and its steps.
 use Rattle.std.proofs.Common.{◌≡◌, ℕ, zero, suc, Bool, true, false, List, [], ◌∷◌, refl, sym, ap, ◌∙◌, subst, inl, inr, ◌⊎◌}
 use Rattle.std.specs.Prelude.{Some, ◌&&◌, ◌||◌, if◌then◌else◌}
-use Rattle.width_check.specs.Processes.{constant, Process, skipping, assigning, sending, receiving, repeating, Processes, no_members, and_member, member_count}
+use Rattle.width_check.specs.Processes.{Process, skipping, assigning, sending, receiving, repeating, Processes, no_members, and_member, member_count}
 use Rattle.chp_meaning.specs.Terms.{Term, Terms, no_branches, and_branch, finished, active, in_sequence, in_parallel, is_finished, all_finished, together, opened, followed, Place, here, in_first, in_branch, statement_at, branch_at, with_left, with_branch}
-use Rattle.circuit_places.specs.Lines.{Line, of_channel, of_var, same_line, site_statement, line_width, Rails, Seen}
+use Rattle.circuit_places.specs.Lines.{Line, of_channel, of_var}
 use Rattle.circuit_places.specs.Circuit.{Bits, joint_count}
 use Rattle.circuit_places.proofs.Places.{Mode, idle, running, answered, returning, link, all_ask, all_ack, SideMay, GuardedAt, At, TurnAt, BranchesAt, g_rests, g_in, g_past, g_back, rests, at_skip, at_assign, at_send, at_receive, at_turn, at_side, at_body, no_more, and_at, turn_rests, at_last, at_member, at_later, under_way, writing, guarded_writing, turn_writing, branches_writing}
 

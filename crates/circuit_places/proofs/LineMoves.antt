@@ -1,6 +1,6 @@
 -- What a move of a line's rail or acknowledge does to the whole circuit.
-use Rattle.std.proofs.Common.{◌≡◌, ◌≢◌, ℕ, zero, suc, ◌/◌, ◌==◌, ◌<◌, ◌≤◌, Bool, true, false, List, [], ◌∷◌, refl, sym, ap, ◌∙◌, subst, ◌⊎◌, inl, inr, arith}
-use Rattle.std.specs.Prelude.{not, ◌&&◌, ◌||◌, if◌then◌else◌, length, Option, Some, None, slice_get, is_some}
+use Rattle.std.proofs.Common.{◌≡◌, ◌≢◌, ℕ, zero, suc, ◌/◌, ◌==◌, ◌<◌, ◌≤◌, Bool, true, false, List, [], ◌∷◌, refl, sym, ap, ◌∙◌, subst, inl, arith}
+use Rattle.std.specs.Prelude.{not, ◌&&◌, if◌then◌else◌, length, Option, Some, None, slice_get, is_some}
 use Rattle.std.proofs.Math.Path.{fun_ext}
 use Rattle.chp_base.specs.declared.channel.Channel.{Channel}
 use Rattle.env_script.specs.Environment.{is_odd}
@@ -9,14 +9,13 @@ use Rattle.env_script.specs.Scripts.{OfferValue, gives, takes, nothing, offer_at
 use Rattle.env_script.specs.Runs.{completed}
 use Rattle.width_check.specs.Processes.{TypedProgram}
 use Rattle.width_check.specs.Typing.{kind_at, channel_width, var_width}
-use Rattle.chp_meaning.specs.Terms.{Term}
 use Rattle.circuit_places.specs.Lines.{Line, of_channel, of_var, same_line, line_width, Rails}
 use Rattle.circuit_places.specs.Circuit.{low, GuardedSpot, turns, fires, same_bit, rails_turned, site_rails}
 use Rattle.circuit_places.specs.Whole.{Wires, seen, line_ack, is_heard, is_merged, bit_rule, wrote_rule, value_on, neutral_on, number_rail, brings, drives, offers, Node, go_node, own_node, rail_node, ack_node, bit_node, wrote_node, joint_node, answers, rail_turned}
 use Rattle.function_blocks.specs.RailFacts.{covers}
 use Rattle.circuit_places.proofs.RailLemmas.{fst_true, snd_true, both_true, not_true, same_value, neutral_low, each_bit}
-use Rattle.circuit_places.proofs.LineNames.{self_number, same_number, self_line, same_line_is}
-use Rattle.circuit_places.proofs.Places.{Mode, idle, running, answered, returning, GuardedAt, g_rests, g_in, rests, guarded_cells, guarded_shown, GuardedFits, guarded_writing, guarded_moves}
+use Rattle.circuit_places.proofs.LineNames.{same_number, self_line, same_line_is}
+use Rattle.circuit_places.proofs.Places.{Mode, idle, running, answered, returning, GuardedAt, g_rests, guarded_cells, guarded_shown, GuardedFits, guarded_writing, guarded_moves}
 use Rattle.circuit_places.proofs.Writing.{guarded_writing_unread}
 use Rattle.circuit_places.proofs.Left.{guarded_left}
 use Rattle.circuit_places.proofs.Flow.{or_map, cases}
@@ -25,9 +24,9 @@ use Rattle.circuit_places.proofs.Sites.{is_nil, any_not_nil, same_sites, guarded
 use Rattle.circuit_places.proofs.Fires.{Passes, Fired, guarded_fires, guarded_still, OneSite, guarded_site}
 use Rattle.circuit_places.proofs.Talks.{either, guarded_offers_talks, guarded_says_talks, guarded_talks_sends}
 use Rattle.circuit_places.proofs.Meets.{sends, receives_heard}
-use Rattle.circuit_places.proofs.BitTable.{Now, may}
+use Rattle.circuit_places.proofs.BitTable.{may}
 use Rattle.circuit_places.proofs.Blocks.{Block, now_at, write_role, WriteMoved, write_moved}
-use Rattle.circuit_places.proofs.System.{Good, clean_of, can, driven, sent_turns, heard_turns, root_left, Next, Freed, Rises, Fitted, takes_of, may_low, may_high, up_low, down_high}
+use Rattle.circuit_places.proofs.System.{Good, clean_of, can, driven, sent_turns, heard_turns, root_left, Next, Freed, Fitted, takes_of, may_low, may_high, up_low, down_high}
 
 -- the value of a rail where one is turned over
 pub data Turned (w : Wires) (k : Line) (i : ℕ) (one : Bool) (c : Line) (j : ℕ) (side : Bool) : Type 0 where

@@ -1,23 +1,22 @@
 -- The own moves of a receive: its answer, the node that says that it has stored, and the rails that it takes over.
-use Rattle.std.proofs.Common.{◌≡◌, ◌≢◌, ℕ, ◌<◌, ◌≤◌, ◌==◌, Bool, true, false, refl, sym, ap, ◌∙◌, subst, inl, arith}
+use Rattle.std.proofs.Common.{◌≡◌, ◌≢◌, ℕ, ◌<◌, ◌≤◌, ◌==◌, Bool, true, false, refl, sym, ap, ◌∙◌, subst, inl}
 use Rattle.std.specs.Prelude.{not, ◌&&◌, if◌then◌else◌, is_some}
 use Rattle.std.proofs.Math.Path.{fun_ext}
 use Rattle.prs_core.specs.Deciding.{implies, implies_at}
 use Rattle.chp_base.specs.declared.span.Span.{Span}
 use Rattle.width_check.specs.Processes.{receiving, TypedProgram}
-use Rattle.width_check.specs.Typing.{channel_width, var_width}
-use Rattle.chp_meaning.specs.Terms.{finished, active}
+use Rattle.chp_meaning.specs.Terms.{active}
 use Rattle.function_blocks.specs.RailFacts.{covered, covers, emptied, lows_in}
-use Rattle.circuit_places.specs.Lines.{Line, of_channel, of_var, same_line, line_width, Rails, Seen}
+use Rattle.circuit_places.specs.Lines.{Line, of_channel, of_var, same_line, Rails, Seen}
 use Rattle.circuit_places.specs.Circuit.{PortSpot, heard, stored, taking, Spot, of_receive, low_port, rails_turned, turned_port, same_bit}
 use Rattle.circuit_places.specs.Whole.{value_on, neutral_on}
-use Rattle.circuit_places.proofs.RailLemmas.{fst_true, snd_true, both_true, not_true, never_and, same_value, each_bit, lows_neutral}
-use Rattle.circuit_places.proofs.Places.{Mode, idle, running, answered, returning, asks, acks, port_may, port_of, port_shown, port_ends, PortFits, port_moves, under_way, none_shown, rests, at_receive, moves}
+use Rattle.circuit_places.proofs.RailLemmas.{fst_true, snd_true, both_true, not_true, never_and, same_value, each_bit}
+use Rattle.circuit_places.proofs.Places.{Mode, idle, running, answered, returning, acks, port_may, port_of, port_shown, port_ends, PortFits, port_moves, under_way, none_shown, rests, at_receive, moves}
 use Rattle.circuit_places.proofs.Left.{waits}
 use Rattle.circuit_places.proofs.Flow.{goes, Flow, flow_same, Clean, After, cases}
-use Rattle.circuit_places.proofs.LineNames.{self_number, same_number, self_line, same_line_is}
+use Rattle.circuit_places.proofs.LineNames.{same_number, same_line_is}
 use Rattle.circuit_places.proofs.Meets.{PortMeets}
-use Rattle.circuit_places.proofs.Begin.{answered_kept, port_answered_moves}
+use Rattle.circuit_places.proofs.Begin.{port_answered_moves}
 
 -- what the ends say
 pub runs_kept : (k a v f n : Bool) → port_ends running k a v f n ≡ true → a ≡ true → k ≡ true

@@ -1,13 +1,13 @@
 -- Facts of truth values, of rails alone, and of an expression's gates at rest.
-use Rattle.std.proofs.Common.{◌≡◌, ℕ, zero, suc, ◌<◌, ◌≤◌, Bool, true, false, List, [], ◌∷◌, refl, sym, ap, ◌∙◌, arith}
-use Rattle.std.specs.Prelude.{not, ◌&&◌, ◌||◌, Option, Some, None, is_some}
+use Rattle.std.proofs.Common.{◌≡◌, ℕ, zero, suc, ◌<◌, ◌≤◌, Bool, true, false, List, [], ◌∷◌, refl, ap, ◌∙◌, arith}
+use Rattle.std.specs.Prelude.{not, ◌&&◌, Option, Some, None, is_some}
 use Rattle.std.specs.List.{list_all}
 use Rattle.prs_core.specs.Moves.{bit_value, with_bit}
 use Rattle.width_check.specs.Processes.{Formula}
 use Rattle.width_check.specs.Values.{width_of}
-use Rattle.function_blocks.specs.Rails.{Pair, pair_of, side_of, cross, neutral, Pairs, low_pairs, pair_in, rule_of, fires, is_apart, same_bit, Rails, value_on, neutral_on}
+use Rattle.function_blocks.specs.Rails.{Pair, pair_of, side_of, cross, neutral, Pairs, low_pairs, pair_in, fires, is_apart, same_bit, Rails, value_on, neutral_on}
 use Rattle.function_blocks.specs.Parts.{Input, Part, fixed, read_bit, made, gate_count, outs_of, parts_of}
-use Rattle.function_blocks.specs.Waves.{taken, holds, rows_of, part_rule, rule_among, gate_rule, rails_at, out_rail, full, empty, Waves}
+use Rattle.function_blocks.specs.Waves.{taken, holds, rows_of, part_rule, rule_among, gate_rule, rails_at, out_rail, empty, Waves}
 use Rattle.function_blocks.specs.RailFacts.{lows_in, told_high}
 use Rattle.function_blocks.proofs.Guards.{holds_none}
 use Rattle.function_blocks.proofs.GateLists.{low_in, quiet_in, there_in}

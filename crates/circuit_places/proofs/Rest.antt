@@ -10,7 +10,7 @@ use Rattle.width_check.specs.Typing.{var_width}
 use Rattle.function_blocks.specs.Waves.{out_rail}
 use Rattle.circuit_places.specs.Whole.{is_merged, value_on}
 use Rattle.circuit_places.proofs.RailLemmas.{fst_true, snd_true, same_value, both_true, never_and, value_same, empty_low}
-use Rattle.circuit_places.proofs.Places.{Mode, idle, running, answered, returning, asks, acks, SiteMay, all_ask, all_ack, ends, SideMay, GuardedAt, At, TurnAt, BranchesAt, g_rests, g_in, g_past, g_back, rests, at_skip, at_assign, at_send, at_receive, at_turn, at_side, at_body, no_more, and_at, turn_rests, at_last, at_member, at_later, Shown, both_shown, guarded_shown, shown, turn_shown, branches_shown, site_shown, site_moves, SiteFits, port_may, port_shown, port_moves, PortFits, GuardedFits, Fits, TurnFits, BranchesFit, guarded_moves, moves, turn_moves, branch_moves}
+use Rattle.circuit_places.proofs.Places.{Mode, idle, running, answered, returning, asks, acks, SiteMay, all_ask, all_ack, ends, SideMay, GuardedAt, At, TurnAt, BranchesAt, g_rests, g_in, g_past, g_back, rests, at_skip, at_assign, at_send, at_receive, at_turn, at_side, at_body, no_more, and_at, turn_rests, at_last, at_member, at_later, Shown, both_shown, guarded_shown, shown, turn_shown, branches_shown, site_shown, site_moves, SiteFits, port_may, port_shown, port_moves, GuardedFits, Fits, TurnFits, BranchesFit, guarded_moves, moves, turn_moves, branch_moves}
 use Rattle.circuit_places.proofs.Meets.{HasLine, SiteMeets, PortMeets, Meets, TurnMeets, EachMeets}
 use Rattle.circuit_places.proofs.Left.{waits, again, guarded_left, left, turn_left, branches_left, guarded_left_past, inside_stands, some_stands}
 use Rattle.circuit_places.proofs.Flow.{low_of, or_left, or_right}

@@ -5,7 +5,7 @@ use Rattle.std.proofs.Math.Path.{fun_ext}
 use Rattle.width_check.specs.Processes.{Process, side_by_side, Processes, and_member, member_count}
 use Rattle.prs_core.specs.Parts.{turned as turned_value}
 use Rattle.prs_core.specs.Turning.{turned_apart}
-use Rattle.circuit_places.specs.Lines.{Line, of_channel, of_var, same_line, site_statement, line_width, Rails, Seen}
+use Rattle.circuit_places.specs.Lines.{Seen}
 use Rattle.circuit_places.specs.Circuit.{Bits, bit_at, joint_count, low_branches, turned_bits, GuardedSpot, Spot, BranchSpot, of_branch, joint, in_this, in_others, same_bit}
 use Rattle.circuit_places.proofs.RailLemmas.{fst_true, snd_true, same_value}
 use Rattle.circuit_places.proofs.Trees.{Settled, top_of, joint_moves, turned_next, bits_low, leaf_turns, joint_moved, JointMoved, Topped, not_top, at_top, flat_nodes, flat_stands}

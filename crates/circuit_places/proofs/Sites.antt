@@ -1,9 +1,9 @@
 -- The rails of a channel's sites, and the channel's own that are their merges.
 use Rattle.std.proofs.Common.{◌≡◌, ℕ, ◌==◌, Bool, true, false, List, [], ◌∷◌, ◌++◌, refl, sym, ap, ◌∙◌}
-use Rattle.std.specs.Prelude.{not, ◌&&◌, ◌||◌, if◌then◌else◌}
+use Rattle.std.specs.Prelude.{not, ◌&&◌, ◌||◌}
 use Rattle.std.specs.List.{list_any, list_all}
 use Rattle.width_check.specs.Processes.{Formula, Process, skipping, assigning, sending, receiving, in_turn, side_by_side, choosing, repeating, Processes, no_members, and_member}
-use Rattle.circuit_places.specs.Lines.{Line, of_channel, of_var, same_line, site_statement, line_width, Rails, Seen}
+use Rattle.circuit_places.specs.Lines.{Line, of_channel, of_var, same_line, Rails}
 use Rattle.circuit_places.specs.Circuit.{Port, low_port, rails_of_port, takers_of_port, takers, branch_takers, turn_takers, Site, low_site, rails_of_site, Pairs, low_pairs, gate_count, Cells, TurnCells, BranchCells, low, low_turn, low_branches, fires, is_apart, turns, out_rail, site_rails, turn_rails, branch_rails}
 use Rattle.circuit_places.specs.Whole.{all_low, merged}
 use Rattle.circuit_places.proofs.RailLemmas.{low_out}

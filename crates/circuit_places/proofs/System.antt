@@ -3,7 +3,6 @@ use Rattle.std.proofs.Common.{◌≡◌, ◌≢◌, ℕ, ◌<◌, ◌≤◌, ◌
 use Rattle.std.proofs.lemmas.List.{get_or-set_other}
 use Rattle.std.specs.Prelude.{slice_index, map, not, ◌&&◌, ◌||◌, if◌then◌else◌, length, slice_get, Option, Some, None, is_some}
 use Rattle.chp_base.specs.declared.span.Span.{Span}
-use Rattle.chp_base.specs.declared.channel.Channel.{Channel}
 use Rattle.env_script.specs.declared.script.Count.{Count}
 use Rattle.env_script.specs.Scripts.{OfferValue, gives, takes, nothing, offer_at, is_over}
 use Rattle.env_script.specs.Runs.{history_at, completed}
@@ -11,7 +10,7 @@ use Rattle.width_check.specs.Processes.{Process, receiving, TypedProgram}
 use Rattle.width_check.specs.Typing.{kind_at, channel_width, var_width}
 use Rattle.width_check.specs.declared.typed.Var.{Var}
 use Rattle.function_blocks.specs.Rails.{number_on}
-use Rattle.circuit_places.specs.Lines.{Line, of_channel, of_var, line_width, Rails, Seen}
+use Rattle.circuit_places.specs.Lines.{Line, of_channel, of_var, line_width, Seen}
 use Rattle.chp_meaning.specs.Terms.{Term, finished, opened}
 use Rattle.circuit_places.specs.Circuit.{low, GuardedSpot, turns, fires, site_rails, takers}
 use Rattle.circuit_places.specs.Whole.{first_bits, Wires, seen, line_ack, is_heard, is_merged, bit_rule, wrote_rule, value_on, neutral_on, Node, go_node, own_node, rail_node, ack_node, bit_node, wrote_node, joint_node, wrote_turned, joint_turned, receives, answers, offers, passed, passed_after, wires_after, go_after, root_after}

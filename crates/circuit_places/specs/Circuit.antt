@@ -110,8 +110,8 @@ abbrev mutual
   low (sending chan at e) = low_site e
   low (receiving chan at x to) = low_port
   low (in_turn members) = low_turn members
-  low (side_by_side members) = record { branches = low_branches members; tree = low_bits
-      (joint_count (member_count members)) }
+  low (side_by_side members) =
+      record { branches = low_branches members; tree = low_bits (joint_count (member_count members)) }
   low (repeating p) = record { answer = false; ask = false; inner = low p }
   low _ = tt
 
@@ -122,8 +122,8 @@ abbrev mutual
   pub low_turn : (members : Processes) → TurnCells members
   low_turn no_members = tt
   low_turn (and_member p no_members) = low p
-  low_turn (and_member p (and_member q more)) = record { member = low_guarded (low p); later = low_turn
-      (and_member q more) }
+  low_turn (and_member p (and_member q more)) =
+      record { member = low_guarded (low p); later = low_turn (and_member q more) }
 
 -- the ends of branches, their Q-elements' next requests
 abbrev pub branch_ends : (members : Processes) → BranchCells members → ℕ → Bool
@@ -150,8 +150,9 @@ abbrev mutual
   answer (sending chan at e) x = x.answer
   answer (receiving chan at y to) x = x.answer
   answer (in_turn members) x = turn_answer members x
-  answer (side_by_side members) x = tree_answer (member_count members) (branch_ends members x.branches)
-      (bit_at (joint_count (member_count members)) x.tree)
+  answer (side_by_side members) x =
+      let n = member_count members in
+      tree_answer n (branch_ends members x.branches) (bit_at (joint_count n) x.tree)
   answer (repeating p) x = x.answer
   answer _ x = false
 
@@ -232,8 +233,9 @@ abbrev mutual
 
 -- a node of a completion tree
 abbrev pub tree_rule : (n : ℕ) → (leaf node : ℕ → Bool) → ℕ → Rule
-tree_rule n leaf node k = rule_of (node k) (guard_holds (tree_value n leaf node) (tree_node n k).up)
-    (guard_holds (tree_value n leaf node) (tree_node n k).down)
+tree_rule n leaf node k =
+    let v = tree_value n leaf node in
+    rule_of (node k) (guard_holds v (tree_node n k).up) (guard_holds v (tree_node n k).down)
 
 abbrev pub site_rule : (e : Formula) → (bits : ℕ → Rails) → (ack r : Bool) → Site (gate_count e) → SiteSpot e → Rule
 site_rule e bits ack r x done = rule_of x.answer (r && ack) (not ack)
@@ -267,12 +269,13 @@ abbrev mutual
   rule skipping w r x of_skip = rule_of x r (not r)
   rule (assigning y at e) w r x (of_assign s) = site_rule e w.bit (w.ack (of_var y)) r x s
   rule (sending chan at e) w r x (of_send s) = site_rule e w.bit (w.ack (of_channel chan)) r x s
-  rule (receiving chan at y to) w r x (of_receive s) = port_rule (w.rail (of_channel chan)) (w.ack (of_channel chan))
-      (w.ack (of_var y)) r x s
+  rule (receiving chan at y to) w r x (of_receive s) =
+      port_rule (w.rail (of_channel chan)) (w.ack (of_channel chan)) (w.ack (of_var y)) r x s
   rule (in_turn members) w r x (in_members s) = turn_rule members w r x s
   rule (side_by_side members) w r x (of_branch s) = branch_rule members w r x.branches s
-  rule (side_by_side members) w r x (joint k) = tree_rule (member_count members) (branch_ends members x.branches)
-      (bit_at (joint_count (member_count members)) x.tree) k
+  rule (side_by_side members) w r x (joint k) =
+      let n = member_count members in
+      tree_rule n (branch_ends members x.branches) (bit_at (joint_count n) x.tree) k
   rule (repeating p) w r x of_loop = no_rule x.answer
   rule (repeating p) w r x ask = rule_of x.ask (r && not (answer p x.inner)) (answer p x.inner)
   rule (repeating p) w r x (in_body s) = rule p w x.ask x.inner s
@@ -288,8 +291,8 @@ abbrev mutual
   turn_rule no_members w r x s = no_rule false
   turn_rule (and_member p no_members) w r x (in_last s) = rule p w r x s
   turn_rule (and_member p (and_member q more)) w r x (in_member s) = guarded_rule p w r x.member s
-  turn_rule (and_member p (and_member q more)) w r x (in_later s) = turn_rule
-      (and_member q more) w x.member.next x.later s
+  turn_rule (and_member p (and_member q more)) w r x (in_later s) =
+      turn_rule (and_member q more) w x.member.next x.later s
 
 abbrev pub turned_site : (e : Formula) → Site (gate_count e) → SiteSpot e → Site (gate_count e)
 turned_site e x done = record x { answer = not x.answer }
@@ -319,8 +322,8 @@ abbrev mutual
   turned (receiving chan at y to) x (of_receive s) = turned_port x s
   turned (in_turn members) x (in_members s) = turned_turn members x s
   turned (side_by_side members) x (of_branch s) = record x { branches = turned_branches members x.branches s }
-  turned (side_by_side members) x (joint k) = record x { tree = turned_bits
-      (joint_count (member_count members)) x.tree k }
+  turned (side_by_side members) x (joint k) =
+      record x { tree = turned_bits (joint_count (member_count members)) x.tree k }
   turned (repeating p) x of_loop = record x { answer = not x.answer }
   turned (repeating p) x ask = record x { ask = not x.ask }
   turned (repeating p) x (in_body s) = record x { inner = turned p x.inner s }
@@ -335,8 +338,8 @@ abbrev mutual
   turned_turn no_members x s = x
   turned_turn (and_member p no_members) x (in_last s) = turned p x s
   turned_turn (and_member p (and_member q more)) x (in_member s) = record x { member = turned_guarded p x.member s }
-  turned_turn (and_member p (and_member q more)) x (in_later s) = record x { later = turned_turn
-      (and_member q more) x.later s }
+  turned_turn (and_member p (and_member q more)) x (in_later s) =
+      record x { later = turned_turn (and_member q more) x.later s }
 
 -- the rail of a site's value, if the site is the line's
 abbrev pub rails_of_site : (own : Bool) → (e : Formula) → Site (gate_count e) → (bit : ℕ) → Bool → List Bool
@@ -365,8 +368,8 @@ abbrev mutual
   pub turn_rails : (members : Processes) → TurnCells members → Line → (bit : ℕ) → Bool → List Bool
   turn_rails no_members x k i one = []
   turn_rails (and_member p no_members) x k i one = site_rails p x k i one
-  turn_rails (and_member p (and_member q more)) x k i one = site_rails p x.member.inner k i one ++ turn_rails
-      (and_member q more) x.later k i one
+  turn_rails (and_member p (and_member q more)) x k i one =
+      site_rails p x.member.inner k i one ++ turn_rails (and_member q more) x.later k i one
 
 -- the nodes that say that a receive on the channel has stored, in the order of the text
 abbrev pub takers_of_port : (own : Bool) → Port → List Bool
@@ -388,5 +391,5 @@ abbrev mutual
   pub turn_takers : (members : Processes) → TurnCells members → (chan : ℕ) → List Bool
   turn_takers no_members x c = []
   turn_takers (and_member p no_members) x c = takers p x c
-  turn_takers (and_member p (and_member q more)) x c = takers p x.member.inner c ++ turn_takers
-      (and_member q more) x.later c
+  turn_takers (and_member p (and_member q more)) x c =
+      takers p x.member.inner c ++ turn_takers (and_member q more) x.later c

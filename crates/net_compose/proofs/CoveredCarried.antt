@@ -1,6 +1,6 @@
 -- The net of each covered program carries it.
 use Rattle.std.proofs.Common.{◌≡◌, ◌≢◌, ℕ, zero, suc, ◌+◌, ◌-◌, ◌<◌, ◌≤◌, ◌==◌, Bool, true, false, List, [], ◌∷◌, ◌++◌, map, length, get_or, replicate, Option, Some, None, inl, inr, refl, sym, ap, ◌∙◌, subst, arith, ◌⊎◌, ◌*◌, ⊎_elim, append-nil, append_assoc}
-use Rattle.std.specs.Prelude.{not, ◌&&◌, ◌||◌, if◌then◌else◌, is_some, nat_lt, All, fold, filter, slice_set}
+use Rattle.std.specs.Prelude.{not, ◌&&◌, ◌||◌, if◌then◌else◌, is_some, nat_lt, All, fold, filter}
 use Rattle.std.proofs.lemmas.Bool.{cases_lt, eqb-true, and_from}
 use Rattle.std.proofs.lemmas.Bool.Decides.{nat_tests}
 use Rattle.chp_base.specs.declared.channel.Channel.{Channel}
@@ -31,7 +31,7 @@ use Rattle.circuit_places.specs.Covered.{Covered, IsCovered, AreCovered}
 use Rattle.circuit_places.specs.Circuit.{of_receive, heard, stored, taking, low, Spot, TurnSpot, BranchSpot, of_branch, joint, in_this, in_others, joint_count, child, latch, next, inner, of_skip, done, gate, of_assign, of_send, in_members, of_loop, ask, in_body, in_last, in_member, in_later, gate_count, stands, turn_stands, branch_stands}
 use Rattle.circuit_places.specs.Whole.{first_bits, Whole, Node, go_node, own_node, rail_node, ack_node, bit_node, wrote_node, joint_node, is_node, enabled, moved, first_of, neutral_on, Reaches, at_first, by_move}
 use Rattle.circuit_places.specs.Carried.{IsAtRest, IsCarried, CircuitsCarry}
-use Rattle.net_compose.specs.Translation.{translation, sites_in, sites_in_turn, sites_in_branches, hidden_high, vars_high, in_body as in_program, first_values, rails_at, ack_at, wires_from}
+use Rattle.net_compose.specs.Translation.{translation, sites_in, sites_in_turn, sites_in_branches, hidden_high, vars_high, first_values, rails_at, ack_at, wires_from}
 use Rattle.cell_variable.specs.Variables.{high_first}
 use Rattle.net_compose.specs.Carries.{IsFollowing, IsSettled, IsCarrying, Carries}
 use Rattle.net_compose.proofs.FlatCells.{length-bits, low_bits, IsFine, IsFineTurn, IsFineBranch, rail_place}

@@ -1,6 +1,6 @@
 -- The blocks of variables: where their nodes are numbered, which node a number is, and what their rules say.
-use Rattle.std.proofs.Common.{◌≡◌, ◌≢◌, ℕ, zero, suc, ◌+◌, ◌-◌, ◌*◌, ◌<◌, ◌≤◌, Bool, true, false, List, [], ◌∷◌, ◌++◌, map, length, get_or, refl, sym, ap, ◌∙◌, subst, arith, length-append, append_assoc, get_or-append-add, ⊎_elim}
-use Rattle.std.specs.Prelude.{not, ◌&&◌, ◌||◌, if◌then◌else◌}
+use Rattle.std.proofs.Common.{◌≡◌, ℕ, zero, suc, ◌+◌, ◌-◌, ◌*◌, ◌<◌, ◌≤◌, Bool, true, false, List, [], ◌∷◌, ◌++◌, map, length, get_or, refl, sym, ap, ◌∙◌, subst, arith, length-append, append_assoc, get_or-append-add, ⊎_elim}
+use Rattle.std.specs.Prelude.{not, ◌&&◌, ◌||◌}
 use Rattle.std.specs.List.{list_any, range_with_len}
 use Rattle.std.proofs.lemmas.Bool.{cases_lt}
 use Rattle.std.proofs.lemmas.List.{get_or_append_left}
@@ -14,13 +14,13 @@ use Rattle.width_check.specs.Typing.{var_width}
 use Rattle.handshake_expand.specs.Layout.{block_size, blocks_before, var_from}
 use Rattle.cell_parallel.specs.Trees.{tree_rules, tree_top}
 use Rattle.cell_parallel.specs.Sizes.{tree_length}
-use Rattle.cell_variable.specs.Variables.{Bit, bit_at, bits_from, bit_rules, bits_rules, kept_rail, bit_written, written_leaves, variable_rules}
+use Rattle.cell_variable.specs.Variables.{bit_at, bits_from, bit_rules, bits_rules, kept_rail, bit_written, written_leaves, variable_rules}
 use Rattle.circuit_places.specs.Lines.{Rails}
-use Rattle.circuit_places.specs.Circuit.{Rule, rule_of, joint_count, tree_value, tree_answer, tree_rule}
+use Rattle.circuit_places.specs.Circuit.{Rule, joint_count, tree_value, tree_answer, tree_rule}
 use Rattle.circuit_places.specs.Whole.{bit_rule, wrote_rule, merged, all_low}
 use Rattle.net_compose.specs.Translation.{block_bits, vars_rules, in_body, write_site}
 use Rattle.net_compose.proofs.FlatTrees.{joint_count_is, value_leaf, value_node, answer_value, Alike, tree_alike}
-use Rattle.net_compose.proofs.FlatRules.{one_high, one_low, high_and_low, or_up, or_down}
+use Rattle.net_compose.proofs.FlatRules.{one_high, high_and_low, or_up, or_down}
 use Rattle.net_compose.proofs.FlatSites.{at_site}
 
 -- a node of a block: a rail of a bit, one by which it is written, the node that says that it is, and one of the tree

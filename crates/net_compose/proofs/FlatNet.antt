@@ -16,7 +16,6 @@ use Rattle.chp_base.specs.declared.channel.Channel.{Channel}
 use Rattle.chp_base.specs.declared.channel.Kind.{Kind}
 use Rattle.chp_base.specs.declared.channel.Kind.TheVariants.{In, Out, Chan}
 use Rattle.width_check.specs.Typing.{IsProcess, channel_width, kind_at, var_width}
-use Rattle.width_check.specs.declared.typed.Var.{Var}
 use Rattle.circuit_places.specs.Lines.{of_channel, of_var, Rails}
 use Rattle.prs_core.specs.Parts.{turned as turned_value}
 use Rattle.prs_core.specs.Turning.{turned_here, turned_apart}

@@ -11,7 +11,7 @@ use Rattle.chp_base.specs.declared.span.Span.{Span}
 use Rattle.width_check.specs.Typing.{channel_width, var_width, ReadsFrom, IsProcess, AreProcesses}
 use Rattle.width_check.specs.Values.{IsWellFormed}
 use Rattle.width_check.specs.Reads.{reads}
-use Rattle.handshake_expand.specs.Layout.{formula_size, assign_size, size_of, turn_size, branches_size, channel_from}
+use Rattle.handshake_expand.specs.Layout.{formula_size, size_of, turn_size, branches_size, channel_from}
 use Rattle.handshake_expand.specs.Answers as number
 use Rattle.cell_variable.specs.Variables.{write_answer}
 use Rattle.cell_channel.specs.Ends.{taken_rail, port_rules}
@@ -25,7 +25,7 @@ use Rattle.cell_parallel.specs.Trees.{tree_rules}
 use Rattle.cell_parallel.specs.Sizes.{tree_length}
 use Rattle.circuit_places.specs.Covered.{IsCovered, AreCovered}
 use Rattle.circuit_places.specs.Lines.{of_channel, of_var, Rails, Seen}
-use Rattle.circuit_places.specs.Circuit.{of_receive, heard, stored, taking, Pairs, side_of, Site, gate_count, Cells, TurnCells, BranchCells, bit_at, joint_count, tree_value, tree_rule, branch_ends as cell_ends, answer, turn_answer, Spot, TurnSpot, BranchSpot, of_branch, joint, in_this, in_others, child, latch, next, inner, of_skip, done, gate, of_assign, of_send, in_members, of_loop, ask, in_body, in_last, in_member, in_later, Rule, rule_of, gate_rule, rule, turn_rule, branch_rule}
+use Rattle.circuit_places.specs.Circuit.{of_receive, heard, stored, taking, Pairs, side_of, gate_count, Cells, TurnCells, BranchCells, bit_at, joint_count, tree_value, tree_rule, branch_ends as cell_ends, answer, turn_answer, Spot, TurnSpot, BranchSpot, of_branch, joint, in_this, in_others, child, latch, next, inner, of_skip, done, gate, of_assign, of_send, in_members, of_loop, ask, in_body, in_last, in_member, in_later, Rule, rule_of, gate_rule, rule, turn_rule, branch_rule}
 use Rattle.circuit_places.specs.Whole.{all_low}
 use Rattle.net_compose.specs.Translation.{through_rules, rules_of, turn_rules, branches_rules, branch_ends, branches_end, bits_at, ack_at, written_at}
 use Rattle.net_compose.proofs.Sizes.{has_bits}

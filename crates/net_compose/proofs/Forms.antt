@@ -1,5 +1,5 @@
 -- The programs that are compiled so far are accepted, typed and covered.
-use Rattle.std.proofs.Common.{◌≡◌, ◌≢◌, ℕ, Bool, true, false, List, [], ◌∷◌, inl, inr, refl, sym, ap, ◌∙◌, subst, arith}
+use Rattle.std.proofs.Common.{◌≡◌, ℕ, Bool, true, false, List, [], ◌∷◌, inl, inr, refl, sym, ap, ◌∙◌, subst, arith}
 use Rattle.std.specs.Prelude.{◌&&◌, ◌||◌, Contains, is_some}
 use Rattle.std.proofs.lemmas.Bool.{and_parts}
 use Rattle.chp_base.specs.declared.span.Span.{Span}
@@ -12,8 +12,6 @@ use Rattle.width_check.specs.Processes.{TypedProgram}
 use Rattle.width_check.specs.Form.{typed_form}
 use Rattle.width_check.specs.Typing.{IsTyped, IsDeclaredChannel, IsDeclaredVar}
 use Rattle.std.proofs.lemmas.List.Elements.{All-nil}
-use Rattle.chp_base.specs.declared.channel.Channel.{Channel}
-use Rattle.chp_base.specs.declared.channel.Kind.TheVariants as kind
 use Rattle.width_check.specs.Faults.{FaultAt}
 use Rattle.width_check.specs.Accepted.{IsAccepted}
 use Rattle.circuit_places.specs.Covered.{Covered}

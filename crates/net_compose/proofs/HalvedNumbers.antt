@@ -1,12 +1,11 @@
 -- Node numbers of a program in halves: a hidden variable's block stands before the nodes of its two assignments, which are
 -- those of a sequence.
-use Rattle.std.proofs.Common.{◌≡◌, ◌≢◌, ◌⊎◌, ℕ, zero, suc, ◌+◌, ◌-◌, ◌*◌, ◌<◌, ◌≤◌, Bool, true, false, List, [], ◌∷◌, ◌++◌, length, take, drop, refl, sym, ap, ◌∙◌, subst, arith, append_assoc}
+use Rattle.std.proofs.Common.{◌≡◌, ℕ, suc, ◌+◌, ◌-◌, ◌*◌, ◌<◌, ◌≤◌, Bool, true, false, List, [], ◌∷◌, ◌++◌, length, take, refl, sym, ap, ◌∙◌, subst, arith}
 use Rattle.std.specs.Prelude.{if◌then◌else◌, nat_lt, slice_index}
 use Rattle.std.proofs.lemmas.Bool.Decides.{nat_tests}
 use Rattle.std.proofs.Math.Seq.{take-length}
 use Rattle.std.proofs.lemmas.List.{length-append}
 use Rattle.chp_base.specs.declared.span.Span.{Span}
-use Rattle.chp_base.specs.declared.channel.Channel.{Channel}
 use Rattle.prs_core.specs.Nets.{NodeRules}
 use Rattle.prs_core.specs.Pairs.{Pair}
 use Rattle.width_check.specs.declared.typed.Var.{Var}
@@ -15,15 +14,14 @@ use Rattle.width_check.specs.Values.{width_of}
 use Rattle.width_check.proofs.Bounds.{width_some}
 use Rattle.width_check.specs.Typing.{channel_width, var_width, ReadsFrom, EachReadsFrom, AllReadFrom, IsOfWidth, IsProcess, AreProcesses, AreChoices}
 use Rattle.width_check.specs.Reads.{reads}
-use Rattle.chp_syntax.specs.declared.tree.Op.{Op}
 use Rattle.handshake_expand.specs.Layout.{formula_size, operator_size, block_size, through_size, size_of, turn_size, branches_size, guards_size, bodies_size, var_from}
-use Rattle.handshake_expand.specs.Answers.{answer_of, select_own, again_own, bodies_from}
+use Rattle.handshake_expand.specs.Answers.{select_own, again_own, bodies_from}
 use Rattle.cell_variable.specs.Variables.{all_written, variable_rules, write_answer}
 use Rattle.function_blocks.specs.Expressions.{read_bits, bits_between, formula_rules, joined_rules, chained_rules, formula_result}
 use Rattle.function_blocks.specs.Gates.{operator_rules}
 use Rattle.function_blocks.specs.Gates.{operator_result}
-use Rattle.chp_meaning.specs.Halves.{hidden_of, hidden_vars, hidden_in_each, hidden_in_choices, read_back, in_halves, halved_assign, halved, halved_each, halved_choices, ReadsNoTarget, EachReadsNoTarget, ChoicesReadNoTarget}
-use Rattle.net_compose.specs.Translation.{bits_at, block_bits, written_at, q_rules, through_at, through_rules, Sites, in_body, sites_in, sites_in_turn, sites_in_branches, sites_in_bodies}
+use Rattle.chp_meaning.specs.Halves.{hidden_of, hidden_vars, hidden_in_each, hidden_in_choices, read_back, halved_assign, halved, halved_each, halved_choices, ReadsNoTarget, EachReadsNoTarget, ChoicesReadNoTarget}
+use Rattle.net_compose.specs.Translation.{bits_at, block_bits, written_at, q_rules, through_rules, Sites, in_body, sites_in, sites_in_turn, sites_in_branches, sites_in_bodies}
 use Rattle.net_compose.proofs.Sizes.{block_length}
 
 -- how many nodes the blocks of some variables have
