@@ -36,7 +36,7 @@ module _ (P : TypedProgram) (env : Seen) (clean : Clean P env) where
       here true e = absurd (past i (channel_width P.channels c) h (subst (λ (n : ℕ). i < n) (clean.wide (of_var x) ∙ meets.widths) (f.within i one e)))
       here false e = cases (asks m && env.rail (of_channel c) i one)
           (λ (z : (asks m && env.rail (of_channel c) i one) ≡ true). absurd
-              (past i (channel_width P.channels c) h (clean.below c i one (snd_true (asks m) (env.rail (of_channel c) i one) z))))
+          (past i (channel_width P.channels c) h (clean.below c i one (snd_true (asks m) (env.rail (of_channel c) i one) z))))
           (λ (z : (asks m && env.rail (of_channel c) i one) ≡ false). z)
 
   -- a Q-element that isn't running doesn't move inside

@@ -42,17 +42,17 @@ same_offers w now c a r (takes count) n before after i one e = refl
 same_offers w now c a r nothing n before after i one e = refl
 same_offers w now c a r (gives values) n before after i one e =
     ap (λ b. if b then now.rail (of_channel c) i one else brings n (slice_get values after) i one &&
-        (not (now.rail (of_channel c) i true) && not (now.rail (of_channel c) i false))) a
+    (not (now.rail (of_channel c) i true) && not (now.rail (of_channel c) i false))) a
     ∙ (ap (λ (x : Rails). if w.ack c then x i one else brings n (slice_get values after) i one && (not (x i true) && not (x i false))) r
     ∙ ap (λ d. if w.ack c then w.rail (of_channel c) i one else brings n (slice_get values d) i one &&
-        (not (w.rail (of_channel c) i true) && not (w.rail (of_channel c) i false))) e)
+    (not (w.rail (of_channel c) i true) && not (w.rail (of_channel c) i false))) e)
 
 pub same_driven : (P : TypedProgram) (script : List OfferValue) (w now : Wires) (hs : List (List ℕ)) → now.ack ≡ w.ack → now.rail ≡ w.rail
     → (l : Line) (i : ℕ) (one : Bool) → driven P script now hs l i one ≡ driven P script w hs l i one
 same_driven P script w now hs a r (of_var x) i one = refl
 same_driven P script w now hs a r (of_channel c) i one =
     same_offers w now c (ap (λ (f : ℕ → Bool). f c) a) (ap (λ (f : Line → Rails). f (of_channel c)) r) (offer_at script c) (channel_width P.channels c)
-        (completed hs c) (completed hs c) i one refl
+    (completed hs c) (completed hs c) i one refl
 
 -- the acknowledge of a channel moves, and those of others stay, and what has passed on them
 pub acked_far : (w : Wires) (k c : ℕ) → (c == k) ≡ false → (ack_turned w k).ack c ≡ w.ack c
@@ -105,22 +105,22 @@ module _ (P : TypedProgram) (script : List OfferValue) {m : Mode} {g : GuardedAt
   ack_others (own_node s) ne l d z = l s z
   ack_others (rail_node c j b) ne l d z =
       or_map (sent_turns P w c j b ((guarded_shown g).offer c j b)) (driven P script w hs c j b) (sent_turns P w c j b ((guarded_shown g).offer c j b))
-          (driven P script acked after c j b) (λ y. y) (drive c) z
+      (driven P script acked after c j b) (λ y. y) (drive c) z
     where
       drive : (r : Line) → driven P script w hs r j b ≡ true → driven P script acked after r j b ≡ true
       drive (of_var x) y = absurd (cc y)
       drive (of_channel n) y = cases (n == k)
           (λ (e : (n == k) ≡ true). absurd (d j b (ap (λ r. driven P script w hs (of_channel r) j b) (sym (same_number n k e)) ∙ y)))
           (λ (e : (n == k) ≡ false). same_offers w acked n (far_ack n e) refl (offer_at script n) (channel_width P.channels n) (completed hs n)
-              (completed after n) j b (far_done n e) ∙ y)
+          (completed after n) j b (far_done n e) ∙ y)
   ack_others (ack_node c) ne l d z = cases (c == k)
       (λ (e : (c == k) ≡ true). absurd (ne (ap (λ x. ack_node x) (same_number c k e))))
       (λ (e : (c == k) ≡ false).
       or_map (heard_turns P w c ((guarded_shown g).take c)) (answers (channel_width P.channels c) w c (completed hs c) (offer_at script c))
-          (heard_turns P acked c ((guarded_shown g).take c)) (answers (channel_width P.channels c) acked c (completed after c) (offer_at script c))
+      (heard_turns P acked c ((guarded_shown g).take c)) (answers (channel_width P.channels c) acked c (completed after c) (offer_at script c))
       (λ y. ap (λ a. is_heard (kind_at P.channels c) && turns a ((guarded_shown g).take c) (not ((guarded_shown g).take c))) (far_ack c e) ∙ y)
       (λ y. ap (λ x. answers (channel_width P.channels c) acked c x (offer_at script c)) (far_done c e)
-          ∙ (same_answers w acked c (far_ack c e) refl (offer_at script c) (channel_width P.channels c) (completed hs c) ∙ y))
+      ∙ (same_answers w acked c (far_ack c e) refl (offer_at script c) (channel_width P.channels c) (completed hs c) ∙ y))
       z)
   ack_others (bit_node x j b) ne l d z = z
   ack_others (wrote_node x j) ne l d z = z
@@ -182,16 +182,16 @@ module _ (P : TypedProgram) (script : List OfferValue) {m : Mode} {g : GuardedAt
         let lows = may_high (channel_width P.channels k) w k (is_over t.count (completed hs k)) h t.may in
         acked_by (line_falls P script hs good (of_channel k) acked ack_is refl h lows (deaf kinds.1)) (others kinds.1)
         (taken_out kinds.1 (subst (λ (b : Bool). Passing P (seen P w) (guarded_writing (line_ack P w) g) (of_channel k) b (root_left (line_ack P w) g)
-            (root_left (line_ack P acked) g)) (sym h) (line_stays P script hs good (of_channel k) acked ack_is refl h lows (deaf kinds.1)))
-            (λ z y. free kinds.1 z y))
+        (root_left (line_ack P acked) g)) (sym h) (line_stays P script hs good (of_channel k) acked ack_is refl h lows (deaf kinds.1)))
+        (λ z y. free kinds.1 z y))
         (λ z y. (refl, inl (free kinds.1 z y))) quiet)
         (λ (h : w.ack k ≡ false).
         let some = (may_low (channel_width P.channels k) w k (is_over t.count (completed hs k)) h t.may).0 in
         acked_by (sent_rises P script hs good (of_channel k) acked ack_is refl h some (unheard kinds.1) kinds.0 wide) (others kinds.1)
         (taken_out kinds.1 (subst (λ (b : Bool). Passing P (seen P w) (guarded_writing (line_ack P w) g) (of_channel k) b (root_left (line_ack P w) g)
-            (root_left (line_ack P acked) g)) (sym h)
+        (root_left (line_ack P acked) g)) (sym h)
         (line_passes P script hs good (of_channel k) acked ack_is refl h some (unheard kinds.1) kinds.0 wide
-            (guarded_says_is g k ∙ talks P script hs good (of_channel k) kinds.0 h some wide))) (λ z y. free kinds.1 z y))
+        (guarded_says_is g k ∙ talks P script hs good (of_channel k) kinds.0 h some wide))) (λ z y. free kinds.1 z y))
         (λ z y. (refl, inl (free kinds.1 z y))) quiet)
       where
         unheard : is_heard (kind_at P.channels k) ≡ false → (d : ℕ) → is_heard (kind_at P.channels d) ≡ true → (d == k) ≡ false
@@ -223,9 +223,9 @@ module _ (P : TypedProgram) (script : List OfferValue) {m : Mode} {g : GuardedAt
     quiet_low low some j b z =
         let o = gives_of (channel_width P.channels k) w k (completed hs k) (offer_at script k) j b z in
         let up = drives_up (channel_width P.channels k) w k (slice_get o.0 (completed hs k)) j b low
-            (sym (ap (λ x. offers (channel_width P.channels k) w k (completed hs k) x j b) o.1) ∙ z) in
+        (sym (ap (λ x. offers (channel_width P.channels k) w k (completed hs k) x j b) o.1) ∙ z) in
         one up.1 up.2 (each_bit (channel_width P.channels k) (w.rail (of_channel k)) some j
-            (brings_below (channel_width P.channels k) (slice_get o.0 (completed hs k)) j b up.0))
+        (brings_below (channel_width P.channels k) (slice_get o.0 (completed hs k)) j b up.0))
       where
         one : w.rail (of_channel k) j true ≡ false → w.rail (of_channel k) j false ≡ false → (side : Bool) × (w.rail (of_channel k) j side ≡ true) → ⊥
         one t f (true, h) = cc (t, h)
@@ -237,7 +237,7 @@ module _ (P : TypedProgram) (script : List OfferValue) {m : Mode} {g : GuardedAt
         let o = gives_of (channel_width P.channels k) w k (completed hs k) (offer_at script k) j b z in
         let up : w.rail (of_channel k) j b ≡ true =
         sym (ap (λ x. if x then w.rail (of_channel k) j b else brings (channel_width P.channels k) (slice_get o.0 (completed hs k)) j b &&
-            (not (w.rail (of_channel k) j true) && not (w.rail (of_channel k) j false))) high)
+        (not (w.rail (of_channel k) j true) && not (w.rail (of_channel k) j false))) high)
         ∙ (sym (ap (λ x. offers (channel_width P.channels k) w k (completed hs k) x j b) o.1) ∙ z) in
         cc (neutral_low (channel_width P.channels k) (w.rail (of_channel k)) lows j b (good.wide (of_channel k) j b up), up)
 
@@ -246,7 +246,7 @@ module _ (P : TypedProgram) (script : List OfferValue) {m : Mode} {g : GuardedAt
         let lows = good.neutral k heard high gone in
         let x = line_falls P script hs good (of_channel k) acked ack_is refl high lows let_go in
         acked_by x there (let_go_in heard high (line_stays P script hs good (of_channel k) acked ack_is refl high lows let_go)
-            (λ z y. guarded_writing_falls (line_ack P w) (line_ack P acked) (of_channel k) one_turned high g z y))
+        (λ z y. guarded_writing_falls (line_ack P w) (line_ack P acked) (of_channel k) one_turned high g z y))
         (λ z y. (refl, inl (guarded_writing_falls (line_ack P w) (line_ack P acked) (of_channel k) one_turned high g z y))) (quiet_high high lows)
       where
         let_go : (d : ℕ) → (d == k) ≡ true → (guarded_shown g).take d ≡ false
@@ -272,7 +272,7 @@ module _ (P : TypedProgram) (script : List OfferValue) {m : Mode} {g : GuardedAt
     in_rises low take =
         let some = good.valid k heard low take in
         let x = line_rises P script hs good (of_channel k) acked ack_is refl low some ready (λ u. absurd (alone u))
-            (λ j b o. absurd (not_sent (guarded_offers_talks g (of_channel k) j b o))) in
+        (λ j b o. absurd (not_sent (guarded_offers_talks g (of_channel k) j b o))) in
         acked_by x there (taken_in heard (arrives some)) (λ z y. (refl, inr (inr (heard, low)))) (quiet_low low some)
       where
         used : receives P.body k ≡ true
@@ -288,8 +288,12 @@ module _ (P : TypedProgram) (script : List OfferValue) {m : Mode} {g : GuardedAt
         took d z = ap (guarded_shown g).take (same_number d k z) ∙ take
 
         ready : Ready (of_channel k) (w.rail (of_channel k)) (guarded_writing (line_ack P w) g) P.body (guarded_shown g)
-        ready = record { send = λ e. absurd (alone (sends_merged P P.body good.meets
-            (of_channel k) e)); receive = λ d z e. took d z; calm = calm P script hs good }
+        ready = record {
+          send = λ e. absurd (alone (sends_merged P P.body good.meets
+              (of_channel k) e));
+          receive = λ d z e. took d z;
+          calm = calm P script hs good;
+        }
 
         there : Heard
         there = record {
@@ -304,7 +308,7 @@ module _ (P : TypedProgram) (script : List OfferValue) {m : Mode} {g : GuardedAt
               (λ (e : (c == k) ≡ false). good.neutral c u (sym (far_ack c e) ∙ h) t);
           sited = λ c h u. cases (c == k)
               (λ (e : (c == k) ≡ true). same_takers P.body (low_cells P.body) (guarded_cells g).inner c
-                  ∙ any_not_nil (takers P.body (guarded_cells g).inner c) (guarded_taken g c ∙ took c e))
+              ∙ any_not_nil (takers P.body (guarded_cells g).inner c) (guarded_taken g c ∙ took c e))
               (λ (e : (c == k) ≡ false). good.heard_sited c (sym (far_ack c e) ∙ h) u);
         }
 
@@ -314,8 +318,11 @@ module _ (P : TypedProgram) (script : List OfferValue) {m : Mode} {g : GuardedAt
         hears : Hears P (seen P w) k (guarded_shown g) (guarded_writing (line_ack P w) g) (guarded_writing (line_ack P acked) g) (guarded_left (line_ack P w) g)
             (guarded_left (line_ack P acked) g)
         hears = guarded_hears P (seen P w) (seen P acked) k rising g good.meets good.fits
-            (record { take = take; talk = cases ((guarded_shown g).talk (of_channel k))
-            (λ (z : (guarded_shown g).talk (of_channel k) ≡ true). absurd (not_sent z)) (λ (z : (guarded_shown g).talk (of_channel k) ≡ false). z) })
+            (record {
+              take = take;
+              talk = cases ((guarded_shown g).talk (of_channel k))
+                  (λ (z : (guarded_shown g).talk (of_channel k) ≡ true). absurd (not_sent z)) (λ (z : (guarded_shown g).talk (of_channel k) ≡ false). z);
+            })
 
         root : (m : Mode) (a : GuardedAt P.body m) (x y : Term) → (guarded_shown a).take k ≡ true → x ≡ guarded_left (line_ack P w) a
             → y ≡ guarded_left (line_ack P acked) a → (x ≡ root_left (line_ack P w) a) × (y ≡ root_left (line_ack P acked) a)

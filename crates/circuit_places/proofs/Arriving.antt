@@ -42,14 +42,18 @@ arriving P script fitted {g = g} {w = w} hs good (rail_node l j s) e h k values 
   where
     rises : l ≡ of_channel k → i ≡ j → one ≡ s → w.rail l j s ≡ false → brings (channel_width P.channels k) (slice_get values (completed hs k)) i one ≡ true
     rises c f t r = either (sent_turns P w l j s ((guarded_shown g).offer l j s)) (driven P script w hs l j s) e
-        (λ y. absurd (cc (ap (is_merged P) c, fst_true (is_merged P l) (turns (w.rail l j s) ((guarded_shown g).offer l j s)
-            (not ((guarded_shown g).offer l j s))) y, (fitted.brought k values is).0)))
+        (λ y. absurd (cc (
+          ap (is_merged P) c,
+          fst_true (is_merged P l) (turns (w.rail l j s) ((guarded_shown g).offer l j s)
+              (not ((guarded_shown g).offer l j s))) y,
+          (fitted.brought k values is).0,
+        )))
         (λ y.
         let d : driven P script w hs (of_channel k) j s ≡ true = subst (λ (x : Line). driven P script w hs x j s ≡ true) c y in
         let up = drives_up (channel_width P.channels k) w k (slice_get values (completed hs k)) j s a
-            (sym (ap (λ o. offers (channel_width P.channels k) w k (completed hs k) o j s) is) ∙ d) in
+        (sym (ap (λ o. offers (channel_width P.channels k) w k (completed hs k) o j s) is) ∙ d) in
         ap (λ b. brings (channel_width P.channels k) (slice_get values (completed hs k)) i b) t
-            ∙ (ap (λ n. brings (channel_width P.channels k) (slice_get values (completed hs k)) n s) f ∙ up.0))
+        ∙ (ap (λ n. brings (channel_width P.channels k) (slice_get values (completed hs k)) n s) f ∙ up.0))
 
     not_false : (b : Bool) → not b ≡ true → b ≡ false
     not_false true q = absurd (cc q)
@@ -65,8 +69,11 @@ arriving P script fitted {g = g} {w = w} hs good (ack_node c) e h k values is a 
     ∙ h k values is (sym (acked_far w c k apart) ∙ a) i one z)
   where
     high : w.ack k ≡ true → k ≡ c → (guarded_shown g).take k ≡ false → ⊥
-    high up same gone = cc (neutral_low (channel_width P.channels k) (w.rail (of_channel k)) (good.neutral k (fitted.brought k values is).1 up gone) i one
-        (good.wide (of_channel k) i one z), z)
+    high up same gone = cc (
+      neutral_low (channel_width P.channels k) (w.rail (of_channel k)) (good.neutral k (fitted.brought k values is).1 up gone) i one
+          (good.wide (of_channel k) i one z),
+      z,
+    )
 
     not_taken : (b : Bool) → not b ≡ true → b ≡ false
     not_taken true q = absurd (cc q)
@@ -81,8 +88,8 @@ arriving P script fitted {g = g} {w = w} hs good (ack_node c) e h k values is a 
         let up : w.ack k ≡ true = up_of (w.ack k) (ap (λ n. not (w.ack n)) same ∙ (sym (acked_near w c k (ap (λ n. n == c) same ∙ self_number c)) ∙ a)) in
         either (heard_turns P w c ((guarded_shown g).take c)) (answers (channel_width P.channels c) w c (completed hs c) (offer_at script c)) e
         (λ y. high up same (ap (guarded_shown g).take same ∙ not_taken ((guarded_shown g).take c)
-            (sym (ap (λ b. turns b ((guarded_shown g).take c) (not ((guarded_shown g).take c))) (ap w.ack (sym same) ∙ up))
-            ∙ snd_true (is_heard (kind_at P.channels c)) (turns (w.ack c) ((guarded_shown g).take c) (not ((guarded_shown g).take c))) y)))
+        (sym (ap (λ b. turns b ((guarded_shown g).take c) (not ((guarded_shown g).take c))) (ap w.ack (sym same) ∙ up))
+        ∙ snd_true (is_heard (kind_at P.channels c)) (turns (w.ack c) ((guarded_shown g).take c) (not ((guarded_shown g).take c))) y)))
         (λ y. let t = takes_of (channel_width P.channels c) w c (completed hs c) (offer_at script c) y in
         takes_gives t.count values (sym t.is ∙ (ap (offer_at script) (sym same) ∙ is)))
 
@@ -124,6 +131,6 @@ next_value n done rail values some bounded brought whole = here (slice_get value
     here (Some v) None e f = absurd (cc (f, whole))
     here (Some v) (Some u) e f =
         let same : value_on n (number_rail n v) ≡ value_on n rail = covered n rail (number_rail n v)
-            (λ i one z. sym (ap (λ o. brings n o i one) e) ∙ brought i one z) (number_lone n v) whole in
+        (λ i one z. sym (ap (λ o. brings n o i one) e) ∙ brought i one z) (number_lone n v) whole in
         let equal : u ≡ v = sym (number_told n (number_rail n v) u (same ∙ f)) ∙ first_number n v (bounded done v e) in
         record { next = v; is = e; told = f ∙ ap (λ x. Some x) equal }

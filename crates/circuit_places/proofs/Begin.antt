@@ -140,9 +140,12 @@ port_answered_moves env c x k q f (taking i one) = by (q i one) refl
     by : (b : Bool) → q i one ≡ b → (if b then not true && not (env.rail (of_channel c) i one) else true && env.rail (of_channel c) i one) ≡ false
     by true e = refl
     by false e = cases (env.rail (of_channel c) i one)
-        (λ (z : env.rail (of_channel c) i one ≡ true). absurd (cc (f.behind
-            (answered_kept k (env.ack (of_channel c)) (env.ack (of_var x)) (is_some (value_on (env.width (of_var x)) q))
-            (neutral_on (env.width (of_var x)) q) f.ends) i one z, e)))
+        (λ (z : env.rail (of_channel c) i one ≡ true). absurd (cc (
+          f.behind
+              (answered_kept k (env.ack (of_channel c)) (env.ack (of_var x)) (is_some (value_on (env.width (of_var x)) q))
+              (neutral_on (env.width (of_var x)) q) f.ends) i one z,
+          e,
+        )))
         (λ (z : env.rail (of_channel c) i one ≡ false). z)
 
 mutual
@@ -155,7 +158,7 @@ mutual
   answered_moves P env clean (at_side _ t b h) f (of_branch s) = branches_past_moves env b h.asked (h.all refl) s
   answered_moves P env clean (at_side {members = members} {ks = ks} _ t b h) f (joint k) =
       flat_stands (member_count members) h.known h.some (ends ks) (bit_at (joint_count (member_count members)) t) true h.settles h.top
-          (ends_high b (h.all refl)) k
+      (ends_high b (h.all refl)) k
 
   pub turn_answered_moves : (P : TypedProgram) {members : Processes} (env : Seen) → Clean P env → (t : TurnAt members answered) → TurnFits t env
       → (s : TurnSpot members) → turn_moves env t s ≡ false
@@ -228,7 +231,7 @@ receive_begun P c x at to env meets low idle_va = record {
     ends = ap (λ a. port_ends running false a (env.ack (of_var x)) (is_some (value_on (env.width (of_var x)) (λ i one. false)))
         (neutral_on (env.width (of_var x)) (λ i one. false))) low
         ∙ ap (λ v. port_ends running false false v (is_some (value_on (env.width (of_var x)) (λ i one. false)))
-            (neutral_on (env.width (of_var x)) (λ i one. false))) idle_va;
+        (neutral_on (env.width (of_var x)) (λ i one. false))) idle_va;
     before = λ e i one h. absurd (cc h);
     behind = λ e i one h. absurd (cc e);
     within = λ i one h. absurd (cc h);
@@ -392,8 +395,10 @@ sides_lowered {members = members} {ks = ks} env t b h f =
 
 site_lowered : (P : TypedProgram) (env : Seen) → Clean P env → (k : Line) (e : Formula) (u : Pairs (gate_count e)) → SiteMay e answered u
     → SiteFits k e answered u env → SiteFits k e returning u env
-site_lowered P env clean k e u h f = (still_fits (full e u) (empty e u) (env.ack k) f.0,
-    h.known.ease env.bit u clean.single f.1 (answered_all (full e u) h.may))
+site_lowered P env clean k e u h f = (
+  still_fits (full e u) (empty e u) (env.ack k) f.0,
+  h.known.ease env.bit u clean.single f.1 (answered_all (full e u) h.may),
+)
 
 -- a receive that answers has stored, and lets go
 port_eased : (k a v f n : Bool) → port_ends answered k a v f n ≡ true → port_ends returning k a v f n ≡ true
@@ -415,10 +420,20 @@ port_lowered env c x k q f = record {
 mutual
   pub lowered : (P : TypedProgram) {p : Process} (env : Seen) → Clean P env → (a : At p answered) → Fits a env → Lowered p a env
   lowered P env clean (at_skip _ h) f = record { place = at_skip returning refl; same = refl; fits = tt; shows = refl }
-  lowered P env clean (at_assign {x = x} {e = e} _ u h) f = record { place = at_assign returning u
-      (record { known = h.known; may = refl }); same = refl; fits = site_lowered P env clean (of_var x) e u h f; shows = refl }
-  lowered P env clean (at_send {c = c} {e = e} _ u h) f = record { place = at_send returning u
-      (record { known = h.known; may = refl }); same = refl; fits = site_lowered P env clean (of_channel c) e u h f; shows = refl }
+  lowered P env clean (at_assign {x = x} {e = e} _ u h) f = record {
+    place = at_assign returning u
+        (record { known = h.known; may = refl });
+    same = refl;
+    fits = site_lowered P env clean (of_var x) e u h f;
+    shows = refl;
+  }
+  lowered P env clean (at_send {c = c} {e = e} _ u h) f = record {
+    place = at_send returning u
+        (record { known = h.known; may = refl });
+    same = refl;
+    fits = site_lowered P env clean (of_channel c) e u h f;
+    shows = refl;
+  }
   lowered P env clean (at_receive {c = c} {x = x} _ k q h) f =
       record { place = at_receive returning k q refl; same = refl; fits = port_lowered env c x k q f; shows = refl }
   lowered P env clean (at_side _ t b h) f = sides_lowered env t b h f

@@ -91,10 +91,10 @@ module _ (P : TypedProgram) (script : List OfferValue) {m : Mode} {g : GuardedAt
             block = λ y some. cases (y == x)
                 (λ (h : (y == x) ≡ true). let z = same_number y x h in
                 subst (λ (b : Rails). Block (var_width P.vars y) b (w.rail (of_var y)) (w.wrote y) (w.joint y))
-                    (sym (ap (λ (b : Bool). if b then rails_turned (w.bit x) i one else w.bit y) h))
+                (sym (ap (λ (b : Bool). if b then rails_turned (w.bit x) i one else w.bit y) h))
                 (subst (λ (v : ℕ). Block (var_width P.vars v) (rails_turned (w.bit x) i one) (w.rail (of_var v)) (w.wrote v) (w.joint v)) (sym z) r.block))
                 (λ (h : (y == x) ≡ false). subst (λ (b : Rails). Block (var_width P.vars y) b (w.rail (of_var y)) (w.wrote y) (w.joint y))
-                    (sym (ap (λ (b : Bool). if b then rails_turned (w.bit x) i one else w.bit y) h)) (good.block y some));
+                (sym (ap (λ (b : Bool). if b then rails_turned (w.bit x) i one else w.bit y) h)) (good.block y some));
             no_bit = λ y j s z. below y j s less z;
             no_wrote = good.no_wrote;
             single = good.single;
@@ -105,8 +105,11 @@ module _ (P : TypedProgram) (script : List OfferValue) {m : Mode} {g : GuardedAt
           };
           term = λ ne. inl (still_left P script hs good bitten bit_acks);
           frees = λ y. cases (y == x)
-              (λ (h : (y == x) ≡ true). λ f. absurd (cc (sym (ap (λ (a : Line → Bool). guarded_writing a g y) (fun_ext bit_acks))
-                  ∙ f, subst (λ (v : ℕ). guarded_writing (line_ack P w) g v ≡ true) (sym (same_number y x h)) (being_written less e))))
+              (λ (h : (y == x) ≡ true). λ f. absurd (cc (
+                sym (ap (λ (a : Line → Bool). guarded_writing a g y) (fun_ext bit_acks))
+                    ∙ f,
+                subst (λ (v : ℕ). guarded_writing (line_ack P w) g v ≡ true) (sym (same_number y x h)) (being_written less e),
+              )))
               (λ (h : (y == x) ≡ false). freed P script hs good bitten y ⊥ (ap (λ (b : Bool). if b then rails_turned (w.bit x) i one else w.bit y) h) bit_acks);
           keeps = λ q ne z. others q ne c.keeps r.bits r.wrotes z;
         }
@@ -114,37 +117,37 @@ module _ (P : TypedProgram) (script : List OfferValue) {m : Mode} {g : GuardedAt
         below : (y j : ℕ) (s : Bool) → i < var_width P.vars x → bitten.bit y j s ≡ true → j < var_width P.vars y
         below y j s less z = cases (y == x)
             (λ (h : (y == x) ≡ true). subst (λ (v : ℕ). j < var_width P.vars v) (sym (same_number y x h))
-                (inside (ap (λ (b : Bool). (if b then rails_turned (w.bit x) i one else w.bit y) j s) (sym h) ∙ z)))
+            (inside (ap (λ (b : Bool). (if b then rails_turned (w.bit x) i one else w.bit y) j s) (sym h) ∙ z)))
             (λ (h : (y == x) ≡ false). good.no_bit y j s (ap (λ (b : Bool). (if b then rails_turned (w.bit x) i one else w.bit y) j s) (sym h) ∙ z))
           where
             inside : rails_turned (w.bit x) i one j s ≡ true → j < var_width P.vars x
             inside z = cases ((j == i) && same_bit s one)
                 (λ (h : ((j == i) && same_bit s one) ≡ true). subst (λ (v : ℕ). v < var_width P.vars x)
-                    (sym (same_number j i (fst_true (j == i) (same_bit s one) h))) less)
+                (sym (same_number j i (fst_true (j == i) (same_bit s one) h))) less)
                 (λ (h : ((j == i) && same_bit s one) ≡ false). good.no_bit x j s (ap (λ b. if b then not (w.bit x i one) else w.bit x j s) (sym h) ∙ z))
 
         others : (q : Node P.body) → q ≢ bit_node x i one → ((s : GuardedSpot P.body) → guarded_moves (seen P w) g s ≡ true
             → guarded_moves (seen P bitten) g s ≡ true) → ((j : ℕ) (s : Bool) → (j ≡ i → s ≡ one → ⊥)
             → fires (bit_rule (w.rail (of_var x)) (w.bit x) j s) ≡ true → fires (bit_rule (w.rail (of_var x)) (rails_turned (w.bit x) i one) j s) ≡ true)
             → ((j : ℕ) → fires (wrote_rule (w.rail (of_var x)) (w.bit x) (w.wrote x) j) ≡ true
-                → fires (wrote_rule (w.rail (of_var x)) (rails_turned (w.bit x) i one) (w.wrote x) j) ≡ true)
+            → fires (wrote_rule (w.rail (of_var x)) (rails_turned (w.bit x) i one) (w.wrote x) j) ≡ true)
             → can P script g w hs q ≡ true → can P script g bitten hs q ≡ true
         others go_node ne l b v z = z
         others (own_node s) ne l b v z = l s z
         others (rail_node c j s) ne l b v z =
             or_map (sent_turns P w c j s ((guarded_shown g).offer c j s)) (driven P script w hs c j s) (sent_turns P w c j s ((guarded_shown g).offer c j s))
-                (driven P script bitten hs c j s) (λ y. y)
+            (driven P script bitten hs c j s) (λ y. y)
             (λ y. same_driven P script w bitten hs refl refl c j s ∙ y) z
         others (ack_node c) ne l b v z =
             or_map (heard_turns P w c ((guarded_shown g).take c)) (answers (channel_width P.channels c) w c (completed hs c) (offer_at script c))
-                (heard_turns P w c ((guarded_shown g).take c)) (answers (channel_width P.channels c) bitten c (completed hs c) (offer_at script c)) (λ y. y)
+            (heard_turns P w c ((guarded_shown g).take c)) (answers (channel_width P.channels c) bitten c (completed hs c) (offer_at script c)) (λ y. y)
             (λ y. same_answers w bitten c refl refl (offer_at script c) (channel_width P.channels c) (completed hs c) ∙ y) z
         others (bit_node y j s) ne l b v z = cases (y == x)
             (λ (h : (y == x) ≡ true). let same = same_number y x h in
             ap (λ (a : Bool). fires (bit_rule (w.rail (of_var y)) (if a then rails_turned (w.bit x) i one else w.bit y) j s)) h
             ∙ (ap (λ v. fires (bit_rule (w.rail (of_var v)) (rails_turned (w.bit x) i one) j s)) same
             ∙ b j s (λ k l. ne (ap (λ v. bit_node v j s) same ∙ (ap (λ v. bit_node x v s) k ∙ ap (λ v. bit_node x i v) l)))
-                (ap (λ v. fires (bit_rule (w.rail (of_var v)) (w.bit v) j s)) (sym same) ∙ z)))
+            (ap (λ v. fires (bit_rule (w.rail (of_var v)) (w.bit v) j s)) (sym same) ∙ z)))
             (λ (h : (y == x) ≡ false). ap (λ (a : Bool). fires (bit_rule (w.rail (of_var y)) (if a then rails_turned (w.bit x) i one else w.bit y) j s)) h ∙ z)
         others (wrote_node y j) ne l b v z = cases (y == x)
             (λ (h : (y == x) ≡ true). let same = same_number y x h in
@@ -152,7 +155,7 @@ module _ (P : TypedProgram) (script : List OfferValue) {m : Mode} {g : GuardedAt
             ∙ (ap (λ u. fires (wrote_rule (w.rail (of_var u)) (rails_turned (w.bit x) i one) (w.wrote u) j)) same
             ∙ v j (ap (λ u. fires (wrote_rule (w.rail (of_var u)) (w.bit u) (w.wrote u) j)) (sym same) ∙ z)))
             (λ (h : (y == x) ≡ false). ap (λ (a : Bool). fires (wrote_rule (w.rail (of_var y)) (if a then rails_turned (w.bit x) i one else w.bit y)
-                (w.wrote y) j)) h ∙ z)
+            (w.wrote y) j)) h ∙ z)
         others (joint_node y j) ne l b v z = z
 
   -- A variable's acknowledge turns over, or it stays.
@@ -206,13 +209,13 @@ module _ (P : TypedProgram) (script : List OfferValue) {m : Mode} {g : GuardedAt
             changed = sent_rises P script hs good (of_var x) now here rails h valid.0 (λ d e. refl) refl some;
             term = cases ((guarded_shown g).says (of_var x))
                 (λ (s : (guarded_shown g).says (of_var x) ≡ true). stores h (over ∙ ap not h) valid.1
-                    (line_passes P script hs good (of_var x) now here rails h valid.0 (λ d e. refl) refl some s))
+                (line_passes P script hs good (of_var x) now here rails h valid.0 (λ d e. refl) refl some s))
                 (λ (s : (guarded_shown g).says (of_var x) ≡ false). takes_in h (over ∙ ap not h)
-                    (still_writing s (each_bit (var_width P.vars x) (w.rail (of_var x)) valid.0 0 (let z : 0 < var_width P.vars x = omega (arith, some) in z)))
-                    (line_silent P script hs good (of_var x) now here rails h valid.0 (λ d e. refl) refl some s));
+                (still_writing s (each_bit (var_width P.vars x) (w.rail (of_var x)) valid.0 0 (let z : 0 < var_width P.vars x = omega (arith, some) in z)))
+                (line_silent P script hs good (of_var x) now here rails h valid.0 (λ d e. refl) refl some s));
             frees = λ y e. cases (y == x)
                 (λ (z : (y == x) ≡ true). let same = same_number y x z in inr
-                    (inl (record { low = ap (λ v. line_ack P w (of_var v)) same ∙ h; high = ap (λ v. line_ack P now (of_var v)) same ∙ (over ∙ ap not h) })))
+                (inl (record { low = ap (λ v. line_ack P w (of_var v)) same ∙ h; high = ap (λ v. line_ack P now (of_var v)) same ∙ (over ∙ ap not h) })))
                 (λ (z : (y == x) ≡ false). inl (sym (guarded_writing_other (line_ack P w) (line_ack P now) x one_turned g y (inl z)) ∙ e));
           }
         where
@@ -242,7 +245,7 @@ module _ (P : TypedProgram) (script : List OfferValue) {m : Mode} {g : GuardedAt
         by true h = good.no_wrote x i h
         by false h = either (w.rail (of_var x) i true && w.bit x i true) (w.rail (of_var x) i false && w.bit x i false)
             (ap (λ b. if b then not (w.rail (of_var x) i true) && not (w.rail (of_var x) i false) else (w.rail (of_var x) i true && w.bit x i true) ||
-                (w.rail (of_var x) i false && w.bit x i false)) (sym h) ∙ e)
+            (w.rail (of_var x) i false && w.bit x i false)) (sym h) ∙ e)
             (λ z. good.wide (of_var x) i true (fst_true (w.rail (of_var x) i true) _ z))
             (λ z. good.wide (of_var x) i false (fst_true (w.rail (of_var x) i false) _ z))
 
@@ -253,7 +256,7 @@ module _ (P : TypedProgram) (script : List OfferValue) {m : Mode} {g : GuardedAt
         let r = wrote_turns n (w.bit x) (w.rail (of_var x)) (w.wrote x) (w.joint x) (good.block x (some_of less)) i less e in
         let v = va_changed x written (some_of less) refl refl (λ c. refl) written_others
         (subst (λ (f : ℕ → Bool). Acked n (w.bit x) (w.rail (of_var x)) (w.wrote x) (line_ack P w (of_var x)) (tree_answer n f (w.joint x)))
-            (sym written_here) r.acked) in
+        (sym written_here) r.acked) in
         record {
           mode = m;
           to = g;
@@ -273,7 +276,7 @@ module _ (P : TypedProgram) (script : List OfferValue) {m : Mode} {g : GuardedAt
                 subst (λ (v : ℕ). Block (var_width P.vars v) (w.bit v) (w.rail (of_var v)) (written.wrote v) (w.joint v)) (sym z)
                 (subst (λ (f : ℕ → Bool). Block n (w.bit x) (w.rail (of_var x)) f (w.joint x)) (sym written_here) r.block))
                 (λ (h : (y == x) ≡ false). subst (λ (f : ℕ → Bool). Block (var_width P.vars y) (w.bit y) (w.rail (of_var y)) f (w.joint y))
-                    (sym (written_far y h)) (good.block y some));
+                (sym (written_far y h)) (good.block y some));
             no_bit = good.no_bit;
             no_wrote = λ y j z. below y j less z;
             single = good.single;
@@ -290,7 +293,7 @@ module _ (P : TypedProgram) (script : List OfferValue) {m : Mode} {g : GuardedAt
         below : (y j : ℕ) → i < var_width P.vars x → written.wrote y j ≡ true → j < var_width P.vars y
         below y j less z = cases (y == x)
             (λ (h : (y == x) ≡ true). subst (λ (v : ℕ). j < var_width P.vars v) (sym (same_number y x h))
-                (inside (ap (λ (b : Bool). (if b then turned (w.wrote x) i else w.wrote y) j) (sym h) ∙ z)))
+            (inside (ap (λ (b : Bool). (if b then turned (w.wrote x) i else w.wrote y) j) (sym h) ∙ z)))
             (λ (h : (y == x) ≡ false). good.no_wrote y j (ap (λ (f : ℕ → Bool). f j) (sym (written_far y h)) ∙ z))
           where
             inside : turned (w.wrote x) i j ≡ true → j < var_width P.vars x
@@ -301,19 +304,19 @@ module _ (P : TypedProgram) (script : List OfferValue) {m : Mode} {g : GuardedAt
         others : (q : Node P.body) → q ≢ wrote_node x i → ((s : GuardedSpot P.body) → guarded_moves (seen P w) g s ≡ true
             → guarded_moves (seen P written) g s ≡ true)
             → ((j : ℕ) → j ≢ i → fires (wrote_rule (w.rail (of_var x)) (w.bit x) (w.wrote x) j) ≡ true
-                → fires (wrote_rule (w.rail (of_var x)) (w.bit x) (turned (w.wrote x) i) j) ≡ true)
+            → fires (wrote_rule (w.rail (of_var x)) (w.bit x) (turned (w.wrote x) i) j) ≡ true)
             → ((k : ℕ) → node_moves (var_width P.vars x) (w.wrote x) (w.joint x) k ≡ true
-                → node_moves (var_width P.vars x) (turned (w.wrote x) i) (w.joint x) k ≡ true)
+            → node_moves (var_width P.vars x) (turned (w.wrote x) i) (w.joint x) k ≡ true)
             → can P script g w hs q ≡ true → can P script g written hs q ≡ true
         others go_node ne l b v z = z
         others (own_node s) ne l b v z = l s z
         others (rail_node c j s) ne l b v z =
             or_map (sent_turns P w c j s ((guarded_shown g).offer c j s)) (driven P script w hs c j s) (sent_turns P w c j s ((guarded_shown g).offer c j s))
-                (driven P script written hs c j s) (λ y. y)
+            (driven P script written hs c j s) (λ y. y)
             (λ y. same_driven P script w written hs refl refl c j s ∙ y) z
         others (ack_node c) ne l b v z =
             or_map (heard_turns P w c ((guarded_shown g).take c)) (answers (channel_width P.channels c) w c (completed hs c) (offer_at script c))
-                (heard_turns P w c ((guarded_shown g).take c)) (answers (channel_width P.channels c) written c (completed hs c) (offer_at script c)) (λ y. y)
+            (heard_turns P w c ((guarded_shown g).take c)) (answers (channel_width P.channels c) written c (completed hs c) (offer_at script c)) (λ y. y)
             (λ y. same_answers w written c refl refl (offer_at script c) (channel_width P.channels c) (completed hs c) ∙ y) z
         others (bit_node y j s) ne l b v z = z
         others (wrote_node y j) ne l b v z = cases (y == x)
@@ -321,7 +324,7 @@ module _ (P : TypedProgram) (script : List OfferValue) {m : Mode} {g : GuardedAt
             subst (λ (u : ℕ). fires (wrote_rule (w.rail (of_var u)) (w.bit u) (written.wrote u) j) ≡ true) (sym same)
             (ap (λ (f : ℕ → Bool). fires (wrote_rule (w.rail (of_var x)) (w.bit x) f j)) written_here
             ∙ b j (λ k. ne (ap (λ u. wrote_node u j) same ∙ ap (λ u. wrote_node x u) k))
-                (ap (λ u. fires (wrote_rule (w.rail (of_var u)) (w.bit u) (w.wrote u) j)) (sym same) ∙ z)))
+            (ap (λ u. fires (wrote_rule (w.rail (of_var u)) (w.bit u) (w.wrote u) j)) (sym same) ∙ z)))
             (λ (h : (y == x) ≡ false). ap (λ (f : ℕ → Bool). fires (wrote_rule (w.rail (of_var y)) (w.bit y) f j)) (written_far y h) ∙ z)
         others (joint_node y j) ne l b v z = cases (y == x)
             (λ (h : (y == x) ≡ true). let same = same_number y x h in
@@ -350,7 +353,7 @@ module _ (P : TypedProgram) (script : List OfferValue) {m : Mode} {g : GuardedAt
         let r = joint_turns n (w.bit x) (w.rail (of_var x)) (w.wrote x) (w.joint x) (good.block x some) k e in
         let v = va_changed x jointed some refl refl (λ c. refl) jointed_others
         (subst (λ (f : ℕ → Bool). Acked n (w.bit x) (w.rail (of_var x)) (w.wrote x) (line_ack P w (of_var x)) (tree_answer n (w.wrote x) f))
-            (sym jointed_here) r.acked) in
+        (sym jointed_here) r.acked) in
         record {
           mode = m;
           to = g;
@@ -370,7 +373,7 @@ module _ (P : TypedProgram) (script : List OfferValue) {m : Mode} {g : GuardedAt
                 subst (λ (v : ℕ). Block (var_width P.vars v) (w.bit v) (w.rail (of_var v)) (w.wrote v) (jointed.joint v)) (sym z)
                 (subst (λ (f : ℕ → Bool). Block n (w.bit x) (w.rail (of_var x)) (w.wrote x) f) (sym jointed_here) r.block))
                 (λ (h : (y == x) ≡ false). subst (λ (f : ℕ → Bool). Block (var_width P.vars y) (w.bit y) (w.rail (of_var y)) (w.wrote y) f)
-                    (sym (jointed_far y h)) (good.block y some));
+                (sym (jointed_far y h)) (good.block y some));
             no_bit = good.no_bit;
             no_wrote = good.no_wrote;
             single = good.single;
@@ -387,17 +390,17 @@ module _ (P : TypedProgram) (script : List OfferValue) {m : Mode} {g : GuardedAt
         others : (q : Node P.body) → q ≢ joint_node x k → ((s : GuardedSpot P.body) → guarded_moves (seen P w) g s ≡ true
             → guarded_moves (seen P jointed) g s ≡ true)
             → ((j : ℕ) → j ≢ k → node_moves (var_width P.vars x) (w.wrote x) (w.joint x) j ≡ true
-                → node_moves (var_width P.vars x) (w.wrote x) (turned (w.joint x) k) j ≡ true)
+            → node_moves (var_width P.vars x) (w.wrote x) (turned (w.joint x) k) j ≡ true)
             → can P script g w hs q ≡ true → can P script g jointed hs q ≡ true
         others go_node ne l v z = z
         others (own_node s) ne l v z = l s z
         others (rail_node c j s) ne l v z =
             or_map (sent_turns P w c j s ((guarded_shown g).offer c j s)) (driven P script w hs c j s) (sent_turns P w c j s ((guarded_shown g).offer c j s))
-                (driven P script jointed hs c j s) (λ y. y)
+            (driven P script jointed hs c j s) (λ y. y)
             (λ y. same_driven P script w jointed hs refl refl c j s ∙ y) z
         others (ack_node c) ne l v z =
             or_map (heard_turns P w c ((guarded_shown g).take c)) (answers (channel_width P.channels c) w c (completed hs c) (offer_at script c))
-                (heard_turns P w c ((guarded_shown g).take c)) (answers (channel_width P.channels c) jointed c (completed hs c) (offer_at script c)) (λ y. y)
+            (heard_turns P w c ((guarded_shown g).take c)) (answers (channel_width P.channels c) jointed c (completed hs c) (offer_at script c)) (λ y. y)
             (λ y. same_answers w jointed c refl refl (offer_at script c) (channel_width P.channels c) (completed hs c) ∙ y) z
         others (bit_node y j s) ne l v z = z
         others (wrote_node y j) ne l v z = z
@@ -406,7 +409,7 @@ module _ (P : TypedProgram) (script : List OfferValue) {m : Mode} {g : GuardedAt
             subst (λ (u : ℕ). node_moves (var_width P.vars u) (w.wrote u) (jointed.joint u) j ≡ true) (sym same)
             (ap (λ (f : ℕ → Bool). node_moves (var_width P.vars x) (w.wrote x) f j) jointed_here
             ∙ v j (λ i. ne (ap (λ u. joint_node u j) same ∙ ap (λ u. joint_node x u) i))
-                (ap (λ u. node_moves (var_width P.vars u) (w.wrote u) (w.joint u) j) (sym same) ∙ z)))
+            (ap (λ u. node_moves (var_width P.vars u) (w.wrote u) (w.joint u) j) (sym same) ∙ z)))
             (λ (h : (y == x) ≡ false). ap (λ (f : ℕ → Bool). node_moves (var_width P.vars y) (w.wrote y) f j) (jointed_far y h) ∙ z)
 
 -- go rises
@@ -459,8 +462,11 @@ next_of P script fitted {m = answered} hs good go_node e = absurd (cc e)
 next_of P script fitted {m = returning} hs good go_node e = absurd (cc e)
 next_of P script fitted {g = g} {w = w} hs good (own_node s) e = own_next P script hs good s e
     (guarded_advance P (seen P w) (clean_of good) good.meets g s good.fits
-    record { send = λ k i h. good.talk k (sends_merged P P.body good.meets k i) h; receive = λ c i h. good.listen c
-    (receives_heard P P.body good.meets c i) h } e)
+    record {
+      send = λ k i h. good.talk k (sends_merged P P.body good.meets k i) h;
+      receive = λ c i h. good.listen c
+          (receives_heard P P.body good.meets c i) h;
+    } e)
 next_of P script fitted hs good (rail_node k i side) e = rail_next P script hs good fitted k i side e
 next_of P script fitted hs good (ack_node k) e = ack_next P script hs good k fitted e
 next_of P script fitted hs good (bit_node x i side) e = bit_next P script hs good x i side e

@@ -48,9 +48,12 @@ pub record Touch (r : Role) (i : ℕ) (f g : ℕ → Now) : Type 0 where
 
 rail_touch : (x w : Rails) (wrote : ℕ → Bool) (va : Bool) (i : ℕ) (one : Bool)
     → Touch (rail_role one) i (now_at x w wrote va) (now_at (rails_turned x i one) w wrote va)
-rail_touch x w wrote va i one = record { here = near one; far = λ j e. ap
-    (λ b. now_of (if b && same_bit true one then not (x i one) else x j true) (if b && same_bit false one then not (x i one) else x j false) (w j true)
-    (w j false) (wrote j) va) e }
+rail_touch x w wrote va i one = record {
+  here = near one;
+  far = λ j e. ap
+      (λ b. now_of (if b && same_bit true one then not (x i one) else x j true) (if b && same_bit false one then not (x i one) else x j false) (w j true)
+      (w j false) (wrote j) va) e;
+}
   where
     near : (one : Bool) → now_at (rails_turned x i one) w wrote va i ≡ turn (rail_role one) (now_at x w wrote va i)
     near true = ap (λ b. now_of (if b && same_bit true true then not (x i true) else x i true) (if b && same_bit false true then not (x i true) else x i false)
@@ -60,9 +63,12 @@ rail_touch x w wrote va i one = record { here = near one; far = λ j e. ap
 
 write_touch : (x w : Rails) (wrote : ℕ → Bool) (va : Bool) (i : ℕ) (one : Bool)
     → Touch (write_role one) i (now_at x w wrote va) (now_at x (rails_turned w i one) wrote va)
-write_touch x w wrote va i one = record { here = near one; far = λ j e. ap
-    (λ b. now_of (x j true) (x j false) (if b && same_bit true one then not (w i one) else w j true)
-    (if b && same_bit false one then not (w i one) else w j false) (wrote j) va) e }
+write_touch x w wrote va i one = record {
+  here = near one;
+  far = λ j e. ap
+      (λ b. now_of (x j true) (x j false) (if b && same_bit true one then not (w i one) else w j true)
+      (if b && same_bit false one then not (w i one) else w j false) (wrote j) va) e;
+}
   where
     near : (one : Bool) → now_at x (rails_turned w i one) wrote va i ≡ turn (write_role one) (now_at x w wrote va i)
     near true = ap (λ b. now_of (x i true) (x i false) (if b && same_bit true true then not (w i true) else w i true)
@@ -131,12 +137,16 @@ bit_moved n x w wrote node b i one less e =
     let t = rail_touch x w wrote va i one in
     let m : may (rail_role one) (now_at x w wrote va i) ≡ true = sym (bit_can x w wrote va i one) ∙ e in
     record {
-      block = record { known = b.known; bits = touch_legal (rail_role one) i n (now_at x w wrote va)
-          (now_at (rails_turned x i one) w wrote va) t m b.bits; tree = b.tree };
+      block = record {
+        known = b.known;
+        bits = touch_legal (rail_role one) i n (now_at x w wrote va)
+            (now_at (rails_turned x i one) w wrote va) t m b.bits;
+        tree = b.tree;
+      };
       bits = λ j side ne z.
           bit_can (rails_turned x i one) w wrote va j side
           ∙ touch_firm (rail_role one) i (now_at x w wrote va) (now_at (rails_turned x i one) w wrote va) t (b.bits i less) m (rail_role side) (own_rail side) j
-              (λ k r. ne k (same_role side one r)) (sym (bit_can x w wrote va j side) ∙ z);
+          (λ k r. ne k (same_role side one r)) (sym (bit_can x w wrote va j side) ∙ z);
       wrotes = λ j z. touch_firm (rail_role one) i (now_at x w wrote va) (now_at (rails_turned x i one) w wrote va) t (b.bits i less) m written refl j
           (λ k r. rail_not_written one (sym r)) z;
     }
@@ -153,12 +163,16 @@ write_moved n x w wrote node b i one less m =
     let va = tree_answer n wrote node in
     let t = write_touch x w wrote va i one in
     record {
-      block = record { known = b.known; bits = touch_legal (write_role one) i n (now_at x w wrote va)
-          (now_at x (rails_turned w i one) wrote va) t m b.bits; tree = b.tree };
+      block = record {
+        known = b.known;
+        bits = touch_legal (write_role one) i n (now_at x w wrote va)
+            (now_at x (rails_turned w i one) wrote va) t m b.bits;
+        tree = b.tree;
+      };
       bits = λ j side z.
           bit_can x (rails_turned w i one) wrote va j side
           ∙ touch_firm (write_role one) i (now_at x w wrote va) (now_at x (rails_turned w i one) wrote va) t (b.bits i less) m (rail_role side)
-              (own_rail side) j (λ k r. rail_not_write side one r) (sym (bit_can x w wrote va j side) ∙ z);
+          (own_rail side) j (λ k r. rail_not_write side one r) (sym (bit_can x w wrote va j side) ∙ z);
       wrotes = λ j z. touch_firm (write_role one) i (now_at x w wrote va) (now_at x (rails_turned w i one) wrote va) t (b.bits i less) m written refl j
           (λ k r. written_not_write one r) z;
     }

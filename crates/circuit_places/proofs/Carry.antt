@@ -181,9 +181,9 @@ module _ (P : TypedProgram) (script : List OfferValue) {moves : ℕ} {x : Whole 
           (x.wires.rail k i one)) ≡ (b && turns (x.wires.rail k i one) ((guarded_shown r.place).offer k i one) (not ((guarded_shown r.place).offer k i one)))
       here true u =
           merged_can (x.wires.rail k i one) (site_rails P.body x.root.inner k i one)
-              (λ e. same_sites P.body x.root.inner (low P.body) k i one ∙ r.good.sited k i one u e)
+          (λ e. same_sites P.body x.root.inner (low P.body) k i one ∙ r.good.sited k i one u e)
           ∙ ap (λ b. turns (x.wires.rail k i one) b (not b)) (ap (λ (g : Guarded (Cells P.body)). any (site_rails P.body g.inner k i one)) r.same
-              ∙ guarded_offered r.place k i one)
+          ∙ guarded_offered r.place k i one)
       here false u = no_fire (x.wires.rail k i one)
 
   ack_is : (k : ℕ) → fires (rule_in P x (ack_node k)) ≡ heard_turns P x.wires k ((guarded_shown r.place).take k)
@@ -228,7 +228,7 @@ module _ (P : TypedProgram) (script : List OfferValue) {moves : ℕ} {x : Whole 
       → answers (channel_width P.channels k) x.wires k (completed x.histories k) (offer_at script k) ≡ true
   ack_may n e k is unheard =
       sym (ap (λ b. (b && turns (x.wires.ack k) ((guarded_shown r.place).take k) (not ((guarded_shown r.place).take k))) || answers
-          (channel_width P.channels k) x.wires k (completed x.histories k) (offer_at script k)) unheard)
+      (channel_width P.channels k) x.wires k (completed x.histories k) (offer_at script k)) unheard)
       ∙ may (ack_node k) (ap (enabled P script x) (sym is) ∙ e)
 
   abbrev next_reached : Fitted P script → (n : Node P.body) → enabled P script x n ≡ true → Reached P script (suc moves) (moved P x n)
@@ -264,13 +264,13 @@ module _ (P : TypedProgram) (script : List OfferValue) {moves : ℕ} {x : Whole 
       here false = refl
   apart (bit_node v i one) = by_bits v i
       (λ less. bit_apart (var_width P.vars v) (x.wires.bit v) (x.wires.rail (of_var v)) (x.wires.wrote v) (x.wires.joint v)
-          (r.good.block v (some_of less)) i one less)
+      (r.good.block v (some_of less)) i one less)
       (λ out. ap (λ b. not ((b && not (x.wires.bit v i (not one))) && x.wires.rail (of_var v) i (not one))) (low_rail v i one out))
   apart (wrote_node v i) = by_bits v i
       (λ less. wrote_apart (var_width P.vars v) (x.wires.bit v) (x.wires.rail (of_var v)) (x.wires.wrote v) (x.wires.joint v)
-          (r.good.block v (some_of less)) i less)
+      (r.good.block v (some_of less)) i less)
       (λ out. ap (λ b. not (((b && x.wires.bit v i true) || (x.wires.rail (of_var v) i false && x.wires.bit v i false)) &&
-          (not b && not (x.wires.rail (of_var v) i false)))) (low_rail v i true out)
+      (not b && not (x.wires.rail (of_var v) i false)))) (low_rail v i true out)
       ∙ ap (λ b. not ((b && x.wires.bit v i false) && not b)) (low_rail v i false out))
   apart (joint_node v k) = joint_apart (var_width P.vars v) (x.wires.wrote v) (x.wires.joint v) k
 
@@ -290,13 +290,13 @@ safe P script fitted x r = record {
       (answers (channel_width P.channels k) x.wires k (completed x.histories k) (offer_at script k)) (may P script r (ack_node k) e)
       (λ z. r.good.valid k (heard k z) h (sym (ap (λ b. turns b ((guarded_shown r.place).take k) (not ((guarded_shown r.place).take k))) h) ∙ turning k z))
       (λ z. let t = takes_of (channel_width P.channels k) x.wires k (completed x.histories k) (offer_at script k) z in
-          (may_low (channel_width P.channels k) x.wires k _ h t.may).0);
+      (may_low (channel_width P.channels k) x.wires k _ h t.may).0);
   ack_down = λ k h e. either (heard_turns P x.wires k ((guarded_shown r.place).take k))
       (answers (channel_width P.channels k) x.wires k (completed x.histories k) (offer_at script k)) (may P script r (ack_node k) e)
       (λ z. r.good.neutral k (heard k z) h (not_true ((guarded_shown r.place).take k)
-          (sym (ap (λ b. turns b ((guarded_shown r.place).take k) (not ((guarded_shown r.place).take k))) h) ∙ turning k z)))
+      (sym (ap (λ b. turns b ((guarded_shown r.place).take k) (not ((guarded_shown r.place).take k))) h) ∙ turning k z)))
       (λ z. let t = takes_of (channel_width P.channels k) x.wires k (completed x.histories k) (offer_at script k) z in may_high
-          (channel_width P.channels k) x.wires k _ h t.may);
+      (channel_width P.channels k) x.wires k _ h t.may);
 }
   where
     heard : (k : ℕ) → heard_turns P x.wires k ((guarded_shown r.place).take k) ≡ true → is_heard (kind_at P.channels k) ≡ true
@@ -409,38 +409,38 @@ module _ (P : TypedProgram) (script : List OfferValue) (fitted : Fitted P script
           (λ (d : driven P script x.wires x.histories (of_channel c) i one ≡ true).
           let o = gives_of (channel_width P.channels c) x.wires c (completed x.histories c) (offer_at script c) i one d in
           let e : drives (channel_width P.channels c) x.wires c (slice_get o.0 (completed x.histories c)) i one ≡ true = sym
-              (ap (λ y. offers (channel_width P.channels c) x.wires c (completed x.histories c) y i one) o.1) ∙ d in
+          (ap (λ y. offers (channel_width P.channels c) x.wires c (completed x.histories c) y i one) o.1) ∙ d in
           absurd (not_there i (channel_width P.channels c) z (cases (x.wires.ack c)
           (λ (a : x.wires.ack c ≡ true).
           r.good.wide (of_channel c) i one (sym (ap (λ b. if b then x.wires.rail (of_channel c) i one else brings (channel_width P.channels c)
-              (slice_get o.0 (completed x.histories c)) i one && (not (x.wires.rail (of_channel c) i true) && not (x.wires.rail (of_channel c) i false))) a)
-              ∙ e))
+          (slice_get o.0 (completed x.histories c)) i one && (not (x.wires.rail (of_channel c) i true) && not (x.wires.rail (of_channel c) i false))) a)
+          ∙ e))
           (λ (a : x.wires.ack c ≡ false). brings_below (channel_width P.channels c) (slice_get o.0 (completed x.histories c)) i one
-              (drives_up (channel_width P.channels c) x.wires c (slice_get o.0 (completed x.histories c)) i one a e).0))))
+          (drives_up (channel_width P.channels c) x.wires c (slice_get o.0 (completed x.histories c)) i one a e).0))))
           (λ (d : driven P script x.wires x.histories (of_channel c) i one ≡ false). d)
 
   no_bit : (v i : ℕ) (one : Bool) → nat_lt i (var_width P.vars v) ≡ false → fires (bit_rule (x.wires.rail (of_var v)) (x.wires.bit v) i one) ≡ false
   no_bit v i one h =
       ap (λ b. if b then x.wires.rail (of_var v) i (not one) else x.wires.rail (of_var v) i one && not (x.wires.bit v i (not one)))
-          (cases (x.wires.bit v i one) (λ (e : x.wires.bit v i one ≡ true). absurd (not_there i (var_width P.vars v) h (r.good.no_bit v i one e)))
-          (λ (e : x.wires.bit v i one ≡ false). e))
+      (cases (x.wires.bit v i one) (λ (e : x.wires.bit v i one ≡ true). absurd (not_there i (var_width P.vars v) h (r.good.no_bit v i one e)))
+      (λ (e : x.wires.bit v i one ≡ false). e))
       ∙ ap (λ b. b && not (x.wires.bit v i (not one))) (low_rail P script r v i one (not_there i (var_width P.vars v) h))
 
   no_wrote : (v i : ℕ) → nat_lt i (var_width P.vars v) ≡ false → fires (wrote_rule (x.wires.rail (of_var v)) (x.wires.bit v) (x.wires.wrote v) i) ≡ false
   no_wrote v i h =
       ap (λ b. if b then not (x.wires.rail (of_var v) i true) && not (x.wires.rail (of_var v) i false) else
-          (x.wires.rail (of_var v) i true && x.wires.bit v i true) || (x.wires.rail (of_var v) i false && x.wires.bit v i false))
-          (cases (x.wires.wrote v i) (λ (e : x.wires.wrote v i ≡ true). absurd (not_there i (var_width P.vars v) h (r.good.no_wrote v i e)))
-          (λ (e : x.wires.wrote v i ≡ false). e))
+      (x.wires.rail (of_var v) i true && x.wires.bit v i true) || (x.wires.rail (of_var v) i false && x.wires.bit v i false))
+      (cases (x.wires.wrote v i) (λ (e : x.wires.wrote v i ≡ true). absurd (not_there i (var_width P.vars v) h (r.good.no_wrote v i e)))
+      (λ (e : x.wires.wrote v i ≡ false). e))
       ∙ (ap (λ b. (b && x.wires.bit v i true) || (x.wires.rail (of_var v) i false && x.wires.bit v i false))
-          (low_rail P script r v i true (not_there i (var_width P.vars v) h))
+      (low_rail P script r v i true (not_there i (var_width P.vars v) h))
       ∙ ap (λ b. b && x.wires.bit v i false) (low_rail P script r v i false (not_there i (var_width P.vars v) h)))
 
   no_ack : (k : ℕ) → nat_lt k (length P.channels) ≡ false → enabled P script x (ack_node k) ≡ false
   no_ack k h =
       let out : length script ≤ k = let e = fitted.same in grind (arith, nat_tests) in
       enabled_is P script r (ack_node k) ∙ (ap (λ b. b || answers (channel_width P.channels k) x.wires k (completed x.histories k) (offer_at script k))
-          (here (is_heard (kind_at P.channels k)) refl)
+      (here (is_heard (kind_at P.channels k)) refl)
       ∙ ap (answers (channel_width P.channels k) x.wires k (completed x.histories k)) (get_or-eq_default script nothing out))
     where
       deaf : (guarded_shown r.place).listen k ≡ true → ⊥

@@ -190,29 +190,29 @@ pub record Ready (c : Line) (rail : Rails) (busy : ℕ → Bool) (p : Process) (
 pub ready_down : (c : Line) (rail : Rails) (busy : ℕ → Bool) → Handed (Ready c rail busy)
 ready_down c rail busy = record {
   to_first = λ {p} {more} {x} r. record {
-      send = λ e. r.send (or_left (sends p c) (turn_sends more c) e);
-      receive = λ d z e. r.receive d z (or_left (receives p d) (each_receives more d) e);
-      calm = r.calm;
-    };
+    send = λ e. r.send (or_left (sends p c) (turn_sends more c) e);
+    receive = λ d z e. r.receive d z (or_left (receives p d) (each_receives more d) e);
+    calm = r.calm;
+  };
   to_later = λ {p} {more} {x} r. record {
-      send = λ e. r.send (or_right (sends p c) (turn_sends more c) e);
-      receive = λ d z e. r.receive d z (or_right (receives p d) (each_receives more d) e);
-      calm = r.calm;
-    };
+    send = λ e. r.send (or_right (sends p c) (turn_sends more c) e);
+    receive = λ d z e. r.receive d z (or_right (receives p d) (each_receives more d) e);
+    calm = r.calm;
+  };
   to_this = λ {p} {more} {x} {y} b r. record {
-      send = λ e i one h. sym (or_false_right (x.offer c i one) (y.offer c i one) (b.none_theirs c i one e))
-          ∙ r.send (or_left (sends p c) (turn_sends more c) e) i one h;
-      receive = λ d z e. sym (or_false_right (x.take d) (y.take d) (low_of (y.take d) (b.taken_theirs d) (b.deaf_theirs d e)))
-          ∙ r.receive d z (or_left (receives p d) (each_receives more d) e);
-      calm = λ v h. r.calm v (or_left (x.read v) (y.read v) h);
-    };
+    send = λ e i one h. sym (or_false_right (x.offer c i one) (y.offer c i one) (b.none_theirs c i one e))
+        ∙ r.send (or_left (sends p c) (turn_sends more c) e) i one h;
+    receive = λ d z e. sym (or_false_right (x.take d) (y.take d) (low_of (y.take d) (b.taken_theirs d) (b.deaf_theirs d e)))
+        ∙ r.receive d z (or_left (receives p d) (each_receives more d) e);
+    calm = λ v h. r.calm v (or_left (x.read v) (y.read v) h);
+  };
   to_others = λ {p} {more} {x} {y} b r. record {
-      send = λ e i one h. sym (or_false_left (x.offer c i one) (y.offer c i one) (b.none_mine c i one e))
-          ∙ r.send (or_right (sends p c) (turn_sends more c) e) i one h;
-      receive = λ d z e. sym (or_false_left (x.take d) (y.take d) (low_of (x.take d) (b.taken_mine d) (b.deaf_mine d e)))
-          ∙ r.receive d z (or_right (receives p d) (each_receives more d) e);
-      calm = λ v h. r.calm v (or_right (x.read v) (y.read v) h);
-    };
+    send = λ e i one h. sym (or_false_left (x.offer c i one) (y.offer c i one) (b.none_mine c i one e))
+        ∙ r.send (or_right (sends p c) (turn_sends more c) e) i one h;
+    receive = λ d z e. sym (or_false_left (x.take d) (y.take d) (low_of (x.take d) (b.taken_mine d) (b.deaf_mine d e)))
+        ∙ r.receive d z (or_right (receives p d) (each_receives more d) e);
+    calm = λ v h. r.calm v (or_right (x.read v) (y.read v) h);
+  };
   to_body = λ {p} {x} r. record { send = r.send; receive = r.receive; calm = r.calm };
 }
 
@@ -225,10 +225,16 @@ pub kept_down : (c : Line) (rail : Rails) → Handed (Kept c rail)
 kept_down c rail = record {
   to_first = λ {p} {more} {x} r. record { offer = r.offer; take = r.take };
   to_later = λ {p} {more} {x} r. record { offer = r.offer; take = r.take };
-  to_this = λ {p} {more} {x} {y} b r. record { offer = λ i one h. r.offer i one (or_left (x.offer c i one) (y.offer c i one) h); take = λ d z. neither_left
-      (x.take d) (y.take d) (r.take d z) };
-  to_others = λ {p} {more} {x} {y} b r. record { offer = λ i one h. r.offer i one (or_right (x.offer c i one) (y.offer c i one) h); take = λ d z. neither_right
-      (x.take d) (y.take d) (r.take d z) };
+  to_this = λ {p} {more} {x} {y} b r. record {
+    offer = λ i one h. r.offer i one (or_left (x.offer c i one) (y.offer c i one) h);
+    take = λ d z. neither_left
+        (x.take d) (y.take d) (r.take d z);
+  };
+  to_others = λ {p} {more} {x} {y} b r. record {
+    offer = λ i one h. r.offer i one (or_right (x.offer c i one) (y.offer c i one) h);
+    take = λ d z. neither_right
+        (x.take d) (y.take d) (r.take d z);
+  };
   to_body = λ {p} {x} r. record { offer = r.offer; take = r.take };
 }
 
@@ -359,7 +365,7 @@ bit_leaves P env now v widths same rails far = record {
 pub ready_full : (P : TypedProgram) (env : Seen) (c : Line) → is_some (value_on (line_width P c) (env.rail c)) ≡ true
     → (busy : ℕ → Bool) (d : Line) (at : Span) (e : Formula) (m : Mode) (u : Pairs (gate_count e)) → SiteMay e m u → SiteMeets P d e → same_line d c ≡ true
     → Ready c (env.rail c) busy (site_statement d at e) (site_shown d e u) → SiteFits d e m u env
-        → (full e u ≡ true) × (value_on (width_of e) (out_rail e u) ≡ value_on (line_width P c) (env.rail c))
+    → (full e u ≡ true) × (value_on (width_of e) (out_rail e u) ≡ value_on (line_width P c) (env.rail c))
 ready_full P env c some busy d at e m u h meets same r f =
     let width : width_of e ≡ line_width P c = meets.agrees ∙ ap (line_width P) (same_line_is d c same) in
     let valid : is_some (value_on (width_of e) (env.rail c)) ≡ true = ap (λ n. is_some (value_on n (env.rail c))) width ∙ some in
@@ -436,9 +442,9 @@ raise_leaves P env now c busy t low some wide = record { at_sites = the_site; at
     var_port d x m l q h meets z within same f =
         let line = same_line_is (of_var x) c z in
         let valid : is_some (value_on (env.width (of_var x)) (env.rail c)) ≡ true = ap (λ n. is_some (value_on n (env.rail c)))
-            (wide (of_var x) ∙ ap (line_width P) line) ∙ some in
+        (wide (of_var x) ∙ ap (line_width P) line) ∙ some in
         let all : is_some (value_on (env.width (of_var x)) q) ≡ true = ap is_some (covered (env.width (of_var x)) (env.rail c) q within f.single valid)
-            ∙ valid in
+        ∙ valid in
         let idle_va : env.ack (of_var x) ≡ false = ap env.ack line ∙ low in
         let done : now.ack (of_var x) ≡ true = near P env now c (of_var x) t z ∙ ap not low in
         let many : 1 ≤ env.width (of_var x) = subst (λ (n : ℕ). 1 ≤ n) (sym (wide (of_var x))) meets.some in
@@ -447,25 +453,31 @@ raise_leaves P env now c busy t low some wide = record { at_sites = the_site; at
         raised : (d x : ℕ) (m : Mode) (l : Bool) (q : Rails) → port_may m l ≡ true → now.ack (of_channel d) ≡ env.ack (of_channel d)
             → now.rail (of_channel d) ≡ env.rail (of_channel d) → now.width ≡ env.width → env.ack (of_var x) ≡ false → now.ack (of_var x) ≡ true
             → is_some (value_on (env.width (of_var x)) q) ≡ true → neutral_on (env.width (of_var x)) q ≡ false → PortFits d x m l q env
-                → PortChanged d x m l q env now
+            → PortChanged d x m l q env now
         raised d x idle l q h same rail widths v w all part f = absurd (cc h)
         raised d x answered l q h same rail widths v w all part f = absurd
-            (cc (answered_va l (env.ack (of_channel d)) (env.ack (of_var x)) (is_some (value_on (env.width (of_var x)) q))
-            (neutral_on (env.width (of_var x)) q) f.ends, v))
+            (cc (
+              answered_va l (env.ack (of_channel d)) (env.ack (of_var x)) (is_some (value_on (env.width (of_var x)) q))
+                  (neutral_on (env.width (of_var x)) q) f.ends,
+              v,
+            ))
         raised d x returning l q h same rail widths v w all part f = absurd
-            (cc (back_none l (env.ack (of_channel d)) (env.ack (of_var x)) (is_some (value_on (env.width (of_var x)) q))
-            (neutral_on (env.width (of_var x)) q) f.ends v, part))
+            (cc (
+              back_none l (env.ack (of_channel d)) (env.ack (of_var x)) (is_some (value_on (env.width (of_var x)) q))
+                  (neutral_on (env.width (of_var x)) q) f.ends v,
+              part,
+            ))
         raised d x running l q h same rail widths v w all part f =
             let gone = low_by l (env.ack (of_var x)) (runs_va l (env.ack (of_channel d)) (env.ack (of_var x)) (is_some (value_on (env.width (of_var x)) q))
-                (neutral_on (env.width (of_var x)) q) f.ends) v in
+            (neutral_on (env.width (of_var x)) q) f.ends) v in
             let quiet = low_by (env.ack (of_channel d)) l (runs_kept l (env.ack (of_channel d)) (env.ack (of_var x))
-                (is_some (value_on (env.width (of_var x)) q)) (neutral_on (env.width (of_var x)) q) f.ends) gone in
+            (is_some (value_on (env.width (of_var x)) q)) (neutral_on (env.width (of_var x)) q) f.ends) gone in
             record {
               fits = record {
                 ends = ap (λ (u : Line → ℕ). port_ends running l (now.ack (of_channel d)) (now.ack (of_var x)) (is_some (value_on (u (of_var x)) q))
                     (neutral_on (u (of_var x)) q)) widths
                     ∙ run_ends l (now.ack (of_channel d)) (now.ack (of_var x)) (is_some (value_on (env.width (of_var x)) q))
-                        (neutral_on (env.width (of_var x)) q) (λ e. absurd (cc (sym same ∙ e, quiet))) (λ e. absurd (cc (e, gone))) (λ e. all);
+                    (neutral_on (env.width (of_var x)) q) (λ e. absurd (cc (sym same ∙ e, quiet))) (λ e. absurd (cc (e, gone))) (λ e. all);
                 before = λ y i one r. ap (λ (g : Rails). g i one) rail ∙ f.before y i one r;
                 behind = λ y i one r. f.behind y i one (sym (ap (λ (g : Rails). g i one) rail) ∙ r);
                 within = λ i one r. subst (λ (u : Line → ℕ). i < u (of_var x)) (sym widths) (f.within i one r);
@@ -488,21 +500,27 @@ raise_leaves P env now c busy t low some wide = record { at_sites = the_site; at
         raised : (m : Mode) → port_may m l ≡ true → PortFits d x m l q env → env.ack (of_channel d) ≡ false → now.ack (of_channel d) ≡ true
             → PortChanged d x m l q env now
         raised idle h f a b = absurd (cc h)
-        raised answered h f a b = absurd (cc (answered_ack l (env.ack (of_channel d)) (env.ack (of_var x)) (is_some (value_on (env.width (of_var x)) q))
-            (neutral_on (env.width (of_var x)) q) f.ends, a))
-        raised returning h f a b = absurd (cc (back_ack l (env.ack (of_channel d)) (env.ack (of_var x)) (is_some (value_on (env.width (of_var x)) q))
-            (neutral_on (env.width (of_var x)) q) f.ends kept, a))
+        raised answered h f a b = absurd (cc (
+          answered_ack l (env.ack (of_channel d)) (env.ack (of_var x)) (is_some (value_on (env.width (of_var x)) q))
+              (neutral_on (env.width (of_var x)) q) f.ends,
+          a,
+        ))
+        raised returning h f a b = absurd (cc (
+          back_ack l (env.ack (of_channel d)) (env.ack (of_var x)) (is_some (value_on (env.width (of_var x)) q))
+              (neutral_on (env.width (of_var x)) q) f.ends kept,
+          a,
+        ))
         raised running h f a b =
             let done = runs_va l (env.ack (of_channel d)) (env.ack (of_var x)) (is_some (value_on (env.width (of_var x)) q))
-                (neutral_on (env.width (of_var x)) q) f.ends kept in
+            (neutral_on (env.width (of_var x)) q) f.ends kept in
             let all = runs_full l (env.ack (of_channel d)) (env.ack (of_var x)) (is_some (value_on (env.width (of_var x)) q))
-                (neutral_on (env.width (of_var x)) q) f.ends done in
+            (neutral_on (env.width (of_var x)) q) f.ends done in
             record {
               fits = record {
                 ends = ap (λ (u : Line → ℕ). port_ends running l (now.ack (of_channel d)) (now.ack (of_var x)) (is_some (value_on (u (of_var x)) q))
                     (neutral_on (u (of_var x)) q)) t.widths
                     ∙ run_ends l (now.ack (of_channel d)) (now.ack (of_var x)) (is_some (value_on (env.width (of_var x)) q))
-                        (neutral_on (env.width (of_var x)) q) (λ e. kept) (λ e. same ∙ done) (λ e. all);
+                    (neutral_on (env.width (of_var x)) q) (λ e. kept) (λ e. same ∙ done) (λ e. all);
                 before = λ y i one r. absurd (cc (y, kept));
                 behind = λ y i one r. f.behind y i one (sym (ap (λ (g : Rails). g i one) (t.rails d meets.heard)) ∙ r);
                 within = λ i one r. subst (λ (u : Line → ℕ). i < u (of_var x)) (sym t.widths) (f.within i one r);
@@ -522,10 +540,10 @@ raise_leaves P env now c busy t low some wide = record { at_sites = the_site; at
         (λ (z : same_line (of_var x) c ≡ true).
         var_port d x m l q h meets z (λ i one y. snd_true (same_line (of_var x) c) (q i one) (r.send z i one y)) (t.far (of_channel d) (other d x c z)) f)
         (λ (z : same_line (of_var x) c ≡ false). cases (same_line (of_channel d) c)
-            (λ (y : same_line (of_channel d) c ≡ true). channel_port d x m l q h meets y (snd_true (d == d) l (r.receive d y (self_number d)))
-                (t.far (of_var x) z) f)
-            (λ (y : same_line (of_channel d) c ≡ false). still_port env now d x m l q t.widths (t.far (of_channel d) y) (t.far (of_var x) z)
-                (t.rails d meets.heard) f))
+        (λ (y : same_line (of_channel d) c ≡ true). channel_port d x m l q h meets y (snd_true (d == d) l (r.receive d y (self_number d)))
+        (t.far (of_var x) z) f)
+        (λ (y : same_line (of_channel d) c ≡ false). still_port env now d x m l q t.widths (t.far (of_channel d) y) (t.far (of_var x) z)
+        (t.rails d meets.heard) f))
       where
         other : (d x : ℕ) (c : Line) → same_line (of_var x) c ≡ true → same_line (of_channel d) c ≡ false
         other d x (of_var y) z = refl
@@ -575,11 +593,11 @@ lower_leaves P env now c t high lows wide = record { at_sites = the_site; at_por
     var_port d x m l q h meets z within same f =
         let line = same_line_is (of_var x) c z in
         let gone : neutral_on (env.width (of_var x)) q ≡ true = emptied (env.width (of_var x)) (env.rail c) q within
-            (ap (λ n. neutral_on n (env.rail c)) (wide (of_var x) ∙ ap (line_width P) line) ∙ lows) in
+        (ap (λ n. neutral_on n (env.rail c)) (wide (of_var x) ∙ ap (line_width P) line) ∙ lows) in
         let done : env.ack (of_var x) ≡ true = ap env.ack line ∙ high in
         let many : 1 ≤ env.width (of_var x) = subst (λ (n : ℕ). 1 ≤ n) (sym (wide (of_var x))) meets.some in
         lowered d x m l q h same (t.rails d meets.heard) t.widths done (near P env now c (of_var x) t z ∙ ap not high) gone
-            (part (env.width (of_var x)) q many gone) f
+        (part (env.width (of_var x)) q many gone) f
       where
         part : (n : ℕ) (q : Rails) → 1 ≤ n → neutral_on n q ≡ true → is_some (value_on n q) ≡ false
         part n q many gone = cases (is_some (value_on n q)) (λ (e : is_some (value_on n q) ≡ true). absurd (cc (told_not_low n q many e, gone)))
@@ -588,24 +606,30 @@ lower_leaves P env now c t high lows wide = record { at_sites = the_site; at_por
         lowered : (d x : ℕ) (m : Mode) (l : Bool) (q : Rails) → port_may m l ≡ true → now.ack (of_channel d) ≡ env.ack (of_channel d)
             → now.rail (of_channel d) ≡ env.rail (of_channel d) → now.width ≡ env.width → env.ack (of_var x) ≡ true → now.ack (of_var x) ≡ false
             → neutral_on (env.width (of_var x)) q ≡ true → is_some (value_on (env.width (of_var x)) q) ≡ false → PortFits d x m l q env
-                → PortChanged d x m l q env now
+            → PortChanged d x m l q env now
         lowered d x idle l q h same rail widths v w gone none f = absurd (cc h)
         lowered d x running l q h same rail widths v w gone none f = absurd
-            (cc (runs_full l (env.ack (of_channel d)) (env.ack (of_var x)) (is_some (value_on (env.width (of_var x)) q))
-            (neutral_on (env.width (of_var x)) q) f.ends v, none))
+            (cc (
+              runs_full l (env.ack (of_channel d)) (env.ack (of_var x)) (is_some (value_on (env.width (of_var x)) q))
+                  (neutral_on (env.width (of_var x)) q) f.ends v,
+              none,
+            ))
         lowered d x answered l q h same rail widths v w gone none f = absurd
-            (cc (answered_full l (env.ack (of_channel d)) (env.ack (of_var x)) (is_some (value_on (env.width (of_var x)) q))
-            (neutral_on (env.width (of_var x)) q) f.ends, none))
+            (cc (
+              answered_full l (env.ack (of_channel d)) (env.ack (of_var x)) (is_some (value_on (env.width (of_var x)) q))
+                  (neutral_on (env.width (of_var x)) q) f.ends,
+              none,
+            ))
         lowered d x returning l q h same rail widths v w gone none f =
             let kept = back_kept l (env.ack (of_channel d)) (env.ack (of_var x)) (is_some (value_on (env.width (of_var x)) q))
-                (neutral_on (env.width (of_var x)) q) f.ends v in
+            (neutral_on (env.width (of_var x)) q) f.ends v in
             record {
               fits = record {
                 ends = ap (λ (u : Line → ℕ). port_ends returning l (now.ack (of_channel d)) (now.ack (of_var x)) (is_some (value_on (u (of_var x)) q))
                     (neutral_on (u (of_var x)) q)) widths
                     ∙ back_ends l (now.ack (of_channel d)) (now.ack (of_var x)) (is_some (value_on (env.width (of_var x)) q))
-                        (neutral_on (env.width (of_var x)) q) (λ e. same ∙ back_ack l (env.ack (of_channel d)) (env.ack (of_var x))
-                        (is_some (value_on (env.width (of_var x)) q)) (neutral_on (env.width (of_var x)) q) f.ends e) (λ e. kept) (λ e. gone) (λ e. gone);
+                    (neutral_on (env.width (of_var x)) q) (λ e. same ∙ back_ack l (env.ack (of_channel d)) (env.ack (of_var x))
+                    (is_some (value_on (env.width (of_var x)) q)) (neutral_on (env.width (of_var x)) q) f.ends e) (λ e. kept) (λ e. gone) (λ e. gone);
                 before = λ y i one r. absurd (cc (y, kept));
                 behind = λ y i one r. f.behind y i one (sym (ap (λ (g : Rails). g i one) rail) ∙ r);
                 within = λ i one r. subst (λ (u : Line → ℕ). i < u (of_var x)) (sym widths) (f.within i one r);
@@ -628,21 +652,27 @@ lower_leaves P env now c t high lows wide = record { at_sites = the_site; at_por
         fallen : (m : Mode) → port_may m l ≡ true → PortFits d x m l q env → env.ack (of_channel d) ≡ true → now.ack (of_channel d) ≡ false
             → PortChanged d x m l q env now
         fallen idle h f a b = absurd (cc h)
-        fallen running h f a b = absurd (cc (runs_kept l (env.ack (of_channel d)) (env.ack (of_var x)) (is_some (value_on (env.width (of_var x)) q))
-            (neutral_on (env.width (of_var x)) q) f.ends a, gone))
-        fallen answered h f a b = absurd (cc (answered_kept l (env.ack (of_channel d)) (env.ack (of_var x)) (is_some (value_on (env.width (of_var x)) q))
-            (neutral_on (env.width (of_var x)) q) f.ends, gone))
+        fallen running h f a b = absurd (cc (
+          runs_kept l (env.ack (of_channel d)) (env.ack (of_var x)) (is_some (value_on (env.width (of_var x)) q))
+              (neutral_on (env.width (of_var x)) q) f.ends a,
+          gone,
+        ))
+        fallen answered h f a b = absurd (cc (
+          answered_kept l (env.ack (of_channel d)) (env.ack (of_var x)) (is_some (value_on (env.width (of_var x)) q))
+              (neutral_on (env.width (of_var x)) q) f.ends,
+          gone,
+        ))
         fallen returning h f a b =
             let none = back_gone l (env.ack (of_channel d)) (env.ack (of_var x)) (is_some (value_on (env.width (of_var x)) q))
-                (neutral_on (env.width (of_var x)) q) f.ends gone in
+            (neutral_on (env.width (of_var x)) q) f.ends gone in
             record {
               fits = record {
                 ends = ap (λ (u : Line → ℕ). port_ends returning l (now.ack (of_channel d)) (now.ack (of_var x)) (is_some (value_on (u (of_var x)) q))
                     (neutral_on (u (of_var x)) q)) t.widths
                     ∙ back_ends l (now.ack (of_channel d)) (now.ack (of_var x)) (is_some (value_on (env.width (of_var x)) q))
-                        (neutral_on (env.width (of_var x)) q) (λ e. absurd (cc (e, gone)))
-                        (λ e. back_kept l (env.ack (of_channel d)) (env.ack (of_var x)) (is_some (value_on (env.width (of_var x)) q))
-                        (neutral_on (env.width (of_var x)) q) f.ends (sym same ∙ e)) (λ e. none) (λ e. none);
+                    (neutral_on (env.width (of_var x)) q) (λ e. absurd (cc (e, gone)))
+                    (λ e. back_kept l (env.ack (of_channel d)) (env.ack (of_var x)) (is_some (value_on (env.width (of_var x)) q))
+                    (neutral_on (env.width (of_var x)) q) f.ends (sym same ∙ e)) (λ e. none) (λ e. none);
                 before = λ y i one r. ap (λ (g : Rails). g i one) (t.rails d meets.heard) ∙ f.before y i one r;
                 behind = λ y i one r. absurd (cc (y, gone));
                 within = λ i one r. subst (λ (u : Line → ℕ). i < u (of_var x)) (sym t.widths) (f.within i one r);
@@ -662,10 +692,10 @@ lower_leaves P env now c t high lows wide = record { at_sites = the_site; at_por
         (λ (z : same_line (of_var x) c ≡ true).
         var_port d x m l q h meets z (λ i one y. r.offer i one (both_true (same_line (of_var x) c) (q i one) z y)) (t.far (of_channel d) (other d x c z)) f)
         (λ (z : same_line (of_var x) c ≡ false). cases (same_line (of_channel d) c)
-            (λ (y : same_line (of_channel d) c ≡ true). channel_port d x m l q h meets y (sym (ap (λ b. b && l) (self_number d)) ∙ r.take d y)
-                (t.far (of_var x) z) f)
-            (λ (y : same_line (of_channel d) c ≡ false). still_port env now d x m l q t.widths (t.far (of_channel d) y) (t.far (of_var x) z)
-                (t.rails d meets.heard) f))
+        (λ (y : same_line (of_channel d) c ≡ true). channel_port d x m l q h meets y (sym (ap (λ b. b && l) (self_number d)) ∙ r.take d y)
+        (t.far (of_var x) z) f)
+        (λ (y : same_line (of_channel d) c ≡ false). still_port env now d x m l q t.widths (t.far (of_channel d) y) (t.far (of_var x) z)
+        (t.rails d meets.heard) f))
       where
         other : (d x : ℕ) (c : Line) → same_line (of_var x) c ≡ true → same_line (of_channel d) c ≡ false
         other d x (of_var y) z = refl
@@ -693,9 +723,9 @@ rail_up_leaves P env now c i one t low = record {
         ends = ap (λ (w : Line → ℕ). port_ends m l (now.ack (of_channel c)) (now.ack (of_var x)) (is_some (value_on (w (of_var x)) q))
             (neutral_on (w (of_var x)) q)) t.widths
             ∙ (ap (λ a. port_ends m l a (now.ack (of_var x)) (is_some (value_on (env.width (of_var x)) q)) (neutral_on (env.width (of_var x)) q))
-                (t.acks (of_channel c))
+            (t.acks (of_channel c))
             ∙ (ap (λ v. port_ends m l (env.ack (of_channel c)) v (is_some (value_on (env.width (of_var x)) q)) (neutral_on (env.width (of_var x)) q))
-                (t.acks (of_var x)) ∙ f.ends));
+            (t.acks (of_var x)) ∙ f.ends));
         before = λ z j b r. ap (λ (g : Rails). g j b) t.here ∙ still_high (env.rail (of_channel c)) i one low j b (f.before z j b r);
         behind = λ z j b r. absurd (cc (z, gone));
         within = λ j b r. subst (λ (w : Line → ℕ). j < w (of_var x)) (sym t.widths) (f.within j b r);
@@ -718,16 +748,19 @@ rail_up_leaves P env now c i one t low = record {
             by false z = ap (λ (g : Rails). g j b) t.here ∙ still_high (env.rail (of_channel c)) i one low j b z
         keeps returning h f (taking j b) z =
             let none = back_gone l (env.ack (of_channel c)) (env.ack (of_var x)) (is_some (value_on (env.width (of_var x)) q))
-                (neutral_on (env.width (of_var x)) q) f.ends gone in
-            absurd (cc (ap (λ y. if y then not false && not (env.rail (of_channel c) j b) else false && env.rail (of_channel c) j b)
-                (port_none c x returning l q env f none j b), z))
+            (neutral_on (env.width (of_var x)) q) f.ends gone in
+            absurd (cc (
+              ap (λ y. if y then not false && not (env.rail (of_channel c) j b) else false && env.rail (of_channel c) j b)
+                  (port_none c x returning l q env f none j b),
+              z,
+            ))
 
     the_port : (d x : ℕ) (at to : Span) (m : Mode) (l : Bool) (q : Rails) → port_may m l ≡ true → PortMeets P d x
         → Free c (receiving d at x to) (port_shown d x l q) → PortFits d x m l q env → PortChanged d x m l q env now
     the_port d x at to m l q h meets r f = cases (d == c)
         (λ (z : (d == c) ≡ true). let e = same_number d c z in
         subst (λ (n : ℕ). PortChanged n x m l q env now) (sym e) (here x m l q h (sym (ap (λ b. b && l) z) ∙ r.take)
-            (subst (λ (n : ℕ). PortFits n x m l q env) e f)))
+        (subst (λ (n : ℕ). PortFits n x m l q env) e f)))
         (λ (z : (d == c) ≡ false). still_port env now d x m l q t.widths (t.acks (of_channel d)) (t.acks (of_var x)) (t.far d z) f)
 
 -- it falls, over a high acknowledge
@@ -744,9 +777,9 @@ rail_down_leaves P env now c i one t top high = record {
         ends = ap (λ (w : Line → ℕ). port_ends m l (now.ack (of_channel c)) (now.ack (of_var x)) (is_some (value_on (w (of_var x)) q))
             (neutral_on (w (of_var x)) q)) t.widths
             ∙ (ap (λ a. port_ends m l a (now.ack (of_var x)) (is_some (value_on (env.width (of_var x)) q)) (neutral_on (env.width (of_var x)) q))
-                (t.acks (of_channel c))
+            (t.acks (of_channel c))
             ∙ (ap (λ v. port_ends m l (env.ack (of_channel c)) v (is_some (value_on (env.width (of_var x)) q)) (neutral_on (env.width (of_var x)) q))
-                (t.acks (of_var x)) ∙ f.ends));
+            (t.acks (of_var x)) ∙ f.ends));
         before = λ z j b r. absurd (cc (taken_none m h z f j b, r));
         behind = λ z j b r. f.behind z j b (fallen (env.rail (of_channel c)) i one top j b (sym (ap (λ (g : Rails). g j b) t.here) ∙ r));
         within = λ j b r. subst (λ (w : Line → ℕ). j < w (of_var x)) (sym t.widths) (f.within j b r);
@@ -758,8 +791,11 @@ rail_down_leaves P env now c i one t top high = record {
         -- what hasn't stored has let go
         taken_none : (m : Mode) → port_may m l ≡ true → l ≡ false → PortFits c x m l q env → (j : ℕ) (b : Bool) → q j b ≡ false
         taken_none idle h z f j b = absurd (cc h)
-        taken_none running h z f j b = absurd (cc (runs_kept l (env.ack (of_channel c)) (env.ack (of_var x)) (is_some (value_on (env.width (of_var x)) q))
-            (neutral_on (env.width (of_var x)) q) f.ends high, z))
+        taken_none running h z f j b = absurd (cc (
+          runs_kept l (env.ack (of_channel c)) (env.ack (of_var x)) (is_some (value_on (env.width (of_var x)) q))
+              (neutral_on (env.width (of_var x)) q) f.ends high,
+          z,
+        ))
         taken_none answered h z f j b = absurd (cc (h, z))
         taken_none returning h z f j b = port_none c x returning l q env f
             (back_gone l (env.ack (of_channel c)) (env.ack (of_var x)) (is_some (value_on (env.width (of_var x)) q))
@@ -775,16 +811,22 @@ rail_down_leaves P env now c i one t top high = record {
           where
             by : (y : Bool) → q j b ≡ y → (if y then not true && not (env.rail (of_channel c) j b) else true && env.rail (of_channel c) j b) ≡ true → ⊥
             by true e z = cc z
-            by false e z = cc (f.behind (runs_kept l (env.ack (of_channel c)) (env.ack (of_var x)) (is_some (value_on (env.width (of_var x)) q))
-                (neutral_on (env.width (of_var x)) q) f.ends high) j b z, e)
+            by false e z = cc (
+              f.behind (runs_kept l (env.ack (of_channel c)) (env.ack (of_var x)) (is_some (value_on (env.width (of_var x)) q))
+                  (neutral_on (env.width (of_var x)) q) f.ends high) j b z,
+              e,
+            )
         keeps returning h f (taking j b) z = by (q j b) z
           where
             by : (y : Bool) → (if y then not false && not (env.rail (of_channel c) j b) else false && env.rail (of_channel c) j b) ≡ true
                 → (if y then not false && not (now.rail (of_channel c) j b) else false && now.rail (of_channel c) j b) ≡ true
             by false z = absurd (cc z)
             by true z = ap not (cases (now.rail (of_channel c) j b)
-                (λ (e : now.rail (of_channel c) j b ≡ true). absurd (cc (fallen (env.rail (of_channel c)) i one top j b
-                    (sym (ap (λ (g : Rails). g j b) t.here) ∙ e), z)))
+                (λ (e : now.rail (of_channel c) j b ≡ true). absurd (cc (
+                  fallen (env.rail (of_channel c)) i one top j b
+                      (sym (ap (λ (g : Rails). g j b) t.here) ∙ e),
+                  z,
+                )))
                 (λ (e : now.rail (of_channel c) j b ≡ false). e))
 
     the_port : (d x : ℕ) (at to : Span) (m : Mode) (l : Bool) (q : Rails) → port_may m l ≡ true → PortMeets P d x

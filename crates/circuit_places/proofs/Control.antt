@@ -111,8 +111,18 @@ module _ (P : TypedProgram) {p : Process} (env : Seen) (clean : Clean P env) (me
       keeps b (inner q) ne z = absurd (cc (answered_moves P env clean a f q, z))
 
   latch_up : (a : At p answered) (h : inner_may false answered ≡ true) → Fits a env → GuardedAfter p running env (g_in false a h) latch
-  latch_up a h f = record { mode = running; to = g_in true a refl; same = refl; way = refl; fits = f; flow = flow_same env
-      (shown a); term = inl refl; frees = λ x i. i; keeps = keeps }
+  latch_up a h f = record {
+    mode = running;
+    to = g_in true a refl;
+    same = refl;
+    way = refl;
+    fits = f;
+    flow = flow_same env
+        (shown a);
+    term = inl refl;
+    frees = λ x i. i;
+    keeps = keeps;
+  }
     where
       keeps : (q : GuardedSpot p) → q ≢ latch → guarded_moves env (g_in false a h) q ≡ true → guarded_moves env (g_in true a refl) q ≡ true
       keeps child ne z = absurd (cc z)
@@ -244,7 +254,7 @@ module _ (P : TypedProgram) {p q : Process} {more : Processes} (env : Seen) wher
             frees = λ x i. frees x (guarded_writing_done env.ack to (λ e. cc e) x);
             term = subst (λ (z : Term). Follows (followed (guarded_left env.ack g) (and_member q more)) z) (sym b.term)
                 (subst (λ (z : Term). Follows (followed (guarded_left env.ack g) (and_member q more)) (followed z (and_member q more)))
-                    (guarded_left_past env.ack to)
+                (guarded_left_past env.ack to)
                 (followed_follows (and_member q more) (guarded_left env.ack g) (guarded_left env.ack to) term));
             keeps = hands_on to b.place keeps;
           }
@@ -275,7 +285,7 @@ linked _ _ _ _ h g = absurd (cc h)
 later_after : {p q : Process} {more : Processes} {k n m : Mode} (env : Seen) (g : GuardedAt p k) (t : TurnAt (and_member q more) n) (h : link m k n ≡ true)
     (s : TurnSpot (and_member q more))
     → (d : Mode) (to : TurnAt (and_member q more) d) → turn_cells to ≡ turned_turn (and_member q more) (turn_cells t) s → Linked m k n d → TurnFits to env
-        → Flow env (turn_shown t) (turn_shown to) → Follows (turn_left env.ack t) (turn_left env.ack to)
+    → Flow env (turn_shown t) (turn_shown to) → Follows (turn_left env.ack t) (turn_left env.ack to)
     → ((x : ℕ) → turn_writing env.ack to x ≡ false → turn_writing env.ack t x ≡ false)
     → ((x : TurnSpot (and_member q more)) → x ≢ s → turn_moves env t x ≡ true → turn_moves env to x ≡ true)
     → TurnAfter (and_member p (and_member q more)) m env (at_later g t h) (in_later s)
@@ -532,35 +542,44 @@ mutual
   branch_advance P env clean meets no_more s f back e = absurd (cc e)
   branch_advance P env clean meets (and_at {p = p} {more = more} g b) (in_this s) f back e =
       this_after env g b s f.1 (guarded_advance P env clean meets.0 g s f.0 record {
-          send = λ k h z. sym (or_false_right ((guarded_shown g).talk k) ((branches_shown b).talk k) ((beside meets.1 g b).not_theirs k h))
-              ∙ back.send k (or_left (sends p k) (turn_sends more k) h) z;
-          receive = λ c h z. sym (or_false_right ((guarded_shown g).listen c) ((branches_shown b).listen c) ((beside meets.1 g b).deaf_theirs c h))
-              ∙ back.receive c (or_left (receives p c) (each_receives more c) h) z;
-        } e)
+        send = λ k h z. sym (or_false_right ((guarded_shown g).talk k) ((branches_shown b).talk k) ((beside meets.1 g b).not_theirs k h))
+            ∙ back.send k (or_left (sends p k) (turn_sends more k) h) z;
+        receive = λ c h z. sym (or_false_right ((guarded_shown g).listen c) ((branches_shown b).listen c) ((beside meets.1 g b).deaf_theirs c h))
+            ∙ back.receive c (or_left (receives p c) (each_receives more c) h) z;
+      } e)
   branch_advance P env clean meets (and_at {p = p} {more = more} g b) (in_others s) f back e =
       others_after env g b s f.0 (branch_advance P env clean meets.2 b s f.1 record {
-          send = λ k h z. sym (or_false_left ((guarded_shown g).talk k) ((branches_shown b).talk k) ((beside meets.1 g b).not_mine k h))
-              ∙ back.send k (or_right (sends p k) (turn_sends more k) h) z;
-          receive = λ c h z. sym (or_false_left ((guarded_shown g).listen c) ((branches_shown b).listen c) ((beside meets.1 g b).deaf_mine c h))
-              ∙ back.receive c (or_right (receives p c) (each_receives more c) h) z;
-        } e)
+        send = λ k h z. sym (or_false_left ((guarded_shown g).talk k) ((branches_shown b).talk k) ((beside meets.1 g b).not_mine k h))
+            ∙ back.send k (or_right (sends p k) (turn_sends more k) h) z;
+        receive = λ c h z. sym (or_false_left ((guarded_shown g).listen c) ((branches_shown b).listen c) ((beside meets.1 g b).deaf_mine c h))
+            ∙ back.receive c (or_right (receives p c) (each_receives more c) h) z;
+      } e)
 
   pub turn_advance : (P : TypedProgram) {members : Processes} {m : Mode} (env : Seen) → Clean P env → TurnMeets P members
       → (t : TurnAt members m) (s : TurnSpot members) → TurnFits t env → Backed (in_turn members) (turn_shown t) env → turn_moves env t s ≡ true
       → TurnAfter members m env t s
   turn_advance P env clean meets turn_rests s f back e = absurd (cc e)
   turn_advance P env clean meets (at_last {p = p} a) (in_last s) f back e = last_after env a s
-      (advance P env clean meets a s f record { send = λ k h. back.send k (or_left (sends p k) false h); receive = λ c h. back.receive c
-      (or_left (receives p c) false h) } e)
+      (advance P env clean meets a s f record {
+        send = λ k h. back.send k (or_left (sends p k) false h);
+        receive = λ c h. back.receive c
+            (or_left (receives p c) false h);
+      } e)
   turn_advance P env clean meets (at_member {p = p} {q = q} {more = more} g) (in_member s) f back e =
       member_after P env meets.1 g s record { send = back.send; receive = back.receive }
-          (guarded_advance P env clean meets.0 g s f record { send = λ k h. back.send k
-          (or_left (sends p k) (turn_sends (and_member q more) k) h); receive = λ c h. back.receive c
-          (or_left (receives p c) (each_receives (and_member q more) c) h) } e)
+      (guarded_advance P env clean meets.0 g s f record {
+        send = λ k h. back.send k
+            (or_left (sends p k) (turn_sends (and_member q more) k) h);
+        receive = λ c h. back.receive c
+            (or_left (receives p c) (each_receives (and_member q more) c) h);
+      } e)
   turn_advance P env clean meets (at_member g) (in_later s) f back e = absurd (cc e)
   turn_advance P env clean meets (at_later {p = p} {q = q} {more = more} {k = k} {n = n} {m = m} g t h) (in_later s) f back e =
-      let r = turn_advance P env clean meets.1 t s f record { send = λ k h. back.send k
-          (or_right (sends p k) (turn_sends (and_member q more) k) h); receive = λ c h. back.receive c
-          (or_right (receives p c) (each_receives (and_member q more) c) h) } e in
+      let r = turn_advance P env clean meets.1 t s f record {
+        send = λ k h. back.send k
+            (or_right (sends p k) (turn_sends (and_member q more) k) h);
+        receive = λ c h. back.receive c
+            (or_right (receives p c) (each_receives (and_member q more) c) h);
+      } e in
       later_after env g t h s r.mode r.to r.same (linked m k n r.mode h r.way) r.fits r.flow r.term r.frees r.keeps
   turn_advance P env clean meets (at_later g t h) (in_member s) f back e = behind_after P env clean g t h s f e

@@ -101,9 +101,12 @@ module _ (P : TypedProgram) {script : List OfferValue} (fitted : Fitted P script
       (λ i one. none (bit_node x i one)) (λ i. none (wrote_node x i)) (λ k. none (joint_node x k))
 
   high_waits : (n : Now) → n.va ≡ true → n.wt ≡ false → n.wf ≡ false → (may write_t n || may write_f n) ≡ true → ⊥
-  high_waits n a t f e = cc (ap (λ b. (if b then n.va else not n.va && not n.wf) || (if n.wf then n.va else not n.va && not b)) t,
-      ap (λ b. (if false then n.va else not n.va && not b) || (if b then n.va else not n.va && not false)) f,
-      ap (λ b. (if false then b else not b && not false) || (if false then b else not b && not false)) a, e)
+  high_waits n a t f e = cc (
+    ap (λ b. (if b then n.va else not n.va && not n.wf) || (if n.wf then n.va else not n.va && not b)) t,
+    ap (λ b. (if false then n.va else not n.va && not b) || (if b then n.va else not n.va && not false)) f,
+    ap (λ b. (if false then b else not b && not false) || (if false then b else not b && not false)) a,
+    e,
+  )
 
   low_waits : (n : Now) → n.va ≡ false → (n.wt || n.wf) ≡ true → (may write_t n || may write_f n) ≡ true → ⊥
   low_waits n a o e = here n.wt n.wf n.va a o e
@@ -127,13 +130,13 @@ module _ (P : TypedProgram) {script : List OfferValue} (fitted : Fitted P script
   not_driven c values is i one =
       sym (ap (λ o. offers (channel_width P.channels c) w c (completed hs c) o i one) is)
       ∙ neither_right (sent_turns P w (of_channel c) i one ((guarded_shown g).offer (of_channel c) i one)) (driven P script w hs (of_channel c) i one)
-          (none (rail_node (of_channel c) i one))
+      (none (rail_node (of_channel c) i one))
 
   not_turned : (c : ℕ) → is_heard (kind_at P.channels c) ≡ true → turns (w.ack c) ((guarded_shown g).take c) (not ((guarded_shown g).take c)) ≡ false
   not_turned c heard =
       sym (ap (λ b. b && turns (w.ack c) ((guarded_shown g).take c) (not ((guarded_shown g).take c))) heard)
       ∙ neither_left (heard_turns P w c ((guarded_shown g).take c)) (answers (channel_width P.channels c) w c (completed hs c) (offer_at script c))
-          (none (ack_node c))
+      (none (ack_node c))
 
   some_side : (n : Rails) (i : ℕ) → (one : Bool) × (n i one ≡ true) → (n i true || n i false) ≡ true
   some_side n i (true, h) = or_left (n i true) (n i false) h
@@ -145,7 +148,7 @@ module _ (P : TypedProgram) {script : List OfferValue} (fitted : Fitted P script
       (λ (h : line_ack P w (of_var v) ≡ true).
       let (i, less, e) = block_rest v r.meets.some in
       high_waits (now_at (w.bit v) (w.rail (of_var v)) (w.wrote v) (line_ack P w (of_var v)) i) h (rails_are (of_var v) i true refl ∙ gone i true)
-          (rails_are (of_var v) i false refl ∙ gone i false) e)
+      (rails_are (of_var v) i false refl ∙ gone i false) e)
       (λ (h : line_ack P w (of_var v) ≡ false).
       let free : (guarded_shown g).take c ≡ false = low_of ((guarded_shown g).take c) r.has h in
       cc (not_turned c r.meets.heard, ap (λ b. turns b ((guarded_shown g).take c) (not ((guarded_shown g).take c))) r.high, ap not free))
@@ -154,7 +157,7 @@ module _ (P : TypedProgram) {script : List OfferValue} (fitted : Fitted P script
       quiet i one =
           let o = fitted.hears c r.meets.within (guarded_listens_receives g c r.hears) in
           sym (ap (λ b. if b then w.rail (of_channel c) i one else brings (channel_width P.channels c) (slice_get o.0 (completed hs c)) i one &&
-              (not (w.rail (of_channel c) i true) && not (w.rail (of_channel c) i false))) r.high)
+          (not (w.rail (of_channel c) i true) && not (w.rail (of_channel c) i false))) r.high)
           ∙ not_driven c o.0 o.1 i one
 
       gone : (i : ℕ) (one : Bool) → (guarded_shown g).offer (of_var v) i one ≡ false
@@ -165,22 +168,22 @@ module _ (P : TypedProgram) {script : List OfferValue} (fitted : Fitted P script
       let x = guarded_site P (seen P w) (clean_of good) g good.meets good.fits (of_channel c) talks in
       let o = fitted.sends c x.within (guarded_talks_sends g (of_channel c) talks) in
       let neutral : neutral_on (channel_width P.channels c) (w.rail (of_channel c)) ≡ true = lows_neutral (channel_width P.channels c) (w.rail (of_channel c))
-          (λ i one. rails_are (of_channel c) i one x.merged ∙ gone i one) in
+      (λ i one. rails_are (of_channel c) i one x.merged ∙ gone i one) in
       let may : answers (channel_width P.channels c) w c (completed hs c) (offer_at script c) ≡ true =
       ap (answers (channel_width P.channels c) w c (completed hs c)) o.1
       ∙ (ap (λ b. if b then neutral_on (channel_width P.channels c) (w.rail (of_channel c)) else is_some
-          (value_on (channel_width P.channels c) (w.rail (of_channel c))) && is_over o.0 (completed hs c)) high ∙ neutral) in
+      (value_on (channel_width P.channels c) (w.rail (of_channel c))) && is_over o.0 (completed hs c)) high ∙ neutral) in
       cc (may, not_answered c)
   no_hanging (let_go (of_var v) high talks gone) =
       let x = guarded_site P (seen P w) (clean_of good) g good.meets good.fits (of_var v) talks in
       let (i, less, e) = block_rest v x.some in
       high_waits (now_at (w.bit v) (w.rail (of_var v)) (w.wrote v) (line_ack P w (of_var v)) i) high (rails_are (of_var v) i true refl ∙ gone i true)
-          (rails_are (of_var v) i false refl ∙ gone i false) e
+      (rails_are (of_var v) i false refl ∙ gone i false) e
   no_hanging (unstored v f) =
       let (i, less, e) = block_rest v f.some in
       low_waits (now_at (w.bit v) (w.rail (of_var v)) (w.wrote v) (line_ack P w (of_var v)) i) f.low
       (ap (λ b. b || w.rail (of_var v) i false) (rails_are (of_var v) i true refl)
-          ∙ (ap (λ b. (guarded_shown g).offer (of_var v) i true || b) (rails_are (of_var v) i false refl)
+      ∙ (ap (λ b. (guarded_shown g).offer (of_var v) i true || b) (rails_are (of_var v) i false refl)
       ∙ some_side ((guarded_shown g).offer (of_var v)) i (each_bit (var_width P.vars v) ((guarded_shown g).offer (of_var v)) f.whole i less)))
       e
   no_hanging (holding c v r) = not_held c v r
@@ -205,7 +208,7 @@ module _ (P : TypedProgram) {script : List OfferValue} (fitted : Fitted P script
           (sym (ap (λ b. b && (not (w.rail (of_channel c) i true) && not (w.rail (of_channel c) i false))) h)
           ∙ (sym (ap (λ o. brings (channel_width P.channels c) o i one && (not (w.rail (of_channel c) i true) && not (w.rail (of_channel c) i false))) e)
           ∙ (sym (ap (λ b. if b then w.rail (of_channel c) i one else brings (channel_width P.channels c) (slice_get values (completed hs c)) i one &&
-              (not (w.rail (of_channel c) i true) && not (w.rail (of_channel c) i false))) l.low) ∙ not_driven c values is i one)))
+          (not (w.rail (of_channel c) i true) && not (w.rail (of_channel c) i false))) l.low) ∙ not_driven c values is i one)))
         where
           by : (t f : Bool) → (not t && not f) ≡ false → (t || f) ≡ true
           by true f z = refl
@@ -234,16 +237,16 @@ module _ (P : TypedProgram) {script : List OfferValue} (fitted : Fitted P script
   refused r s (a_receive c v at to l is) =
       let o = fitted.hears c l.meets.within (guarded_listens_receives g c l.hears) in
       no_value c v at to is (r.rests c ∙ (ap (λ x. left_over x (completed hs c)) o.1
-          ∙ ap (λ x. gives x) (behind_none o.0 (completed hs c) (none_left c v l o.0 o.1 (slice_get o.0 (completed hs c)) refl))))
+      ∙ ap (λ x. gives x) (behind_none o.0 (completed hs c) (none_left c v l o.0 o.1 (slice_get o.0 (completed hs c)) refl))))
   refused r s (a_send c at x b is) =
       let o = fitted.sends c b.within (guarded_talks_sends g (of_channel c) b.talks) in
       let some : is_some (value_on (channel_width P.channels c) (w.rail (of_channel c))) ≡ true =
       ap is_some (value_same (channel_width P.channels c) (w.rail (of_channel c)) ((guarded_shown g).offer (of_channel c))
-          (λ i one. rails_are (of_channel c) i one b.merged)) ∙ b.whole in
+      (λ i one. rails_are (of_channel c) i one b.merged)) ∙ b.whole in
       let over : is_over o.0 (completed hs c) ≡ false =
       no_more (is_some (value_on (channel_width P.channels c) (w.rail (of_channel c)))) (is_over o.0 (completed hs c)) some
       (sym (ap (λ b. if b then neutral_on (channel_width P.channels c) (w.rail (of_channel c)) else is_some
-          (value_on (channel_width P.channels c) (w.rail (of_channel c))) && is_over o.0 (completed hs c)) b.low)
+      (value_on (channel_width P.channels c) (w.rail (of_channel c))) && is_over o.0 (completed hs c)) b.low)
       ∙ (sym (ap (answers (channel_width P.channels c) w c (completed hs c)) o.1) ∙ not_answered c)) in
       no_taker c at x (fewer o.0 (completed hs c)) is (r.rests c ∙ ap (λ x. left_over x (completed hs c)) o.1) (not_over o.0 (completed hs c) over)
     where

@@ -42,26 +42,62 @@ followed_exchange more x p q y a =
     })
 
 pub this_exchange : (ts : Terms) (x : Term) (p q : Process) (y : Term) → Exchange x p q y → ExchangeInside (and_branch x ts) p q (and_branch y ts)
-this_exchange ts x p q y a = record { index = zero; at = a.at; second = zero; other = a.other; gives = a.gives; takes = a.takes; still = a.still; then_is = ap
-    (λ t. and_branch t ts) a.then_is }
+this_exchange ts x p q y a = record {
+  index = zero;
+  at = a.at;
+  second = zero;
+  other = a.other;
+  gives = a.gives;
+  takes = a.takes;
+  still = a.still;
+  then_is = ap
+      (λ t. and_branch t ts) a.then_is;
+}
 
 pub other_exchange : (x : Term) (ts : Terms) (p q : Process) (us : Terms) → ExchangeInside ts p q us → ExchangeInside (and_branch x ts) p q (and_branch x us)
 other_exchange x ts p q us a =
-    record { index = suc a.index; at = a.at; second = suc a.second; other = a.other; gives = a.gives; takes = a.takes; still = a.still; then_is = ap
-    (λ t. and_branch x t) a.then_is }
+    record {
+      index = suc a.index;
+      at = a.at;
+      second = suc a.second;
+      other = a.other;
+      gives = a.gives;
+      takes = a.takes;
+      still = a.still;
+      then_is = ap
+          (λ t. and_branch x t) a.then_is;
+    }
 
 -- one end in a branch, the other one in those behind it
 pub gives_first : (x : Term) (ts : Terms) (p q : Process) (y : Term) (us : Terms) → Act x p finished y → ActInside ts q finished us
     → ExchangeInside (and_branch x ts) p q (and_branch y us)
 gives_first x ts p q y us a b =
-    record { index = zero; at = a.at; second = suc b.index; other = b.at; gives = a.stands; takes = b.stands; still = b.stands; then_is = ap
-    (λ t. and_branch t us) a.then_is ∙ ap (λ t. and_branch (with_left x a.at finished) t) b.then_is }
+    record {
+      index = zero;
+      at = a.at;
+      second = suc b.index;
+      other = b.at;
+      gives = a.stands;
+      takes = b.stands;
+      still = b.stands;
+      then_is = ap
+          (λ t. and_branch t us) a.then_is ∙ ap (λ t. and_branch (with_left x a.at finished) t) b.then_is;
+    }
 
 pub takes_first : (x : Term) (ts : Terms) (p q : Process) (y : Term) (us : Terms) → Act x q finished y → ActInside ts p finished us
     → ExchangeInside (and_branch x ts) p q (and_branch y us)
 takes_first x ts p q y us a b =
-    record { index = suc b.index; at = b.at; second = zero; other = a.at; gives = b.stands; takes = a.stands; still = a.stands; then_is = ap
-    (λ t. and_branch t us) a.then_is ∙ ap (λ t. and_branch (with_left x a.at finished) t) b.then_is }
+    record {
+      index = suc b.index;
+      at = b.at;
+      second = zero;
+      other = a.at;
+      gives = b.stands;
+      takes = a.stands;
+      still = a.stands;
+      then_is = ap
+          (λ t. and_branch t us) a.then_is ∙ ap (λ t. and_branch (with_left x a.at finished) t) b.then_is;
+    }
 
 on_beside : (ts : Terms) (k : ℕ) (at : Place) (p : Process) → branch_at ts k at ≡ Some p → together ts ≡ in_parallel ts
 on_beside ts k at p e = ap (λ b. if b then finished else in_parallel ts) (inside_stands ts k at p e)

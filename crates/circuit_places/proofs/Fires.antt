@@ -37,8 +37,13 @@ Fired P env busy c false x y = y ≡ x
 
 module _ (P : TypedProgram) (env : Seen) (busy : ℕ → Bool) (c : Line) where
   passes_then : (more : Processes) (x y : Term) → Passes P env busy c x y → Passes P env busy c (followed x more) (followed y more)
-  passes_then more x y r = record { span = r.span; expression = r.expression; act = followed_act more x
-      (site_statement c r.span r.expression) finished y r.act; read = r.read }
+  passes_then more x y r = record {
+    span = r.span;
+    expression = r.expression;
+    act = followed_act more x
+        (site_statement c r.span r.expression) finished y r.act;
+    read = r.read;
+  }
 
   fired_then : (more : Processes) (b : Bool) (x y : Term) → Fired P env busy c b x y → Fired P env busy c b (followed x more) (followed y more)
   fired_then more true x y r = passes_then more x y r
@@ -78,8 +83,13 @@ module _ (P : TypedProgram) (env : Seen) (busy : ℕ → Bool) (c : Line) where
   fired_both false false x y ts us one f g = ap (λ z. and_branch z us) f ∙ ap (λ z. and_branch x z) g
 
   fired_together : (b : Bool) (ts us : Terms) → FiredInside P env busy c b ts us → Fired P env busy c b (together ts) (together us)
-  fired_together true ts us f = record { span = f.span; expression = f.expression; act = together_act ts
-      (site_statement c f.span f.expression) finished us f.act; read = f.read }
+  fired_together true ts us f = record {
+    span = f.span;
+    expression = f.expression;
+    act = together_act ts
+        (site_statement c f.span f.expression) finished us f.act;
+    read = f.read;
+  }
   fired_together false ts us f = ap together f
 
 module _ (P : TypedProgram) (env now : Seen) (clean : Clean P env) (busy : ℕ → Bool) (c : Line)
@@ -103,10 +113,10 @@ module _ (P : TypedProgram) (env now : Seen) (clean : Clean P env) (busy : ℕ �
           let n : now.ack d ≡ true = near P env now c d t z ∙ ap not low in
           let runs : m ≡ running = site_runs P env d e m u h meets f ready.0 l in
           let x : waits m (env.ack d) (active (site_statement d at e)) ≡ active (site_statement c at e) = ap
-              (λ i. waits i (env.ack d) (active (site_statement d at e))) runs
-              ∙ (ap (λ i. waits running i (active (site_statement d at e))) l ∙ ap (λ i. active (site_statement i at e)) same) in
+          (λ i. waits i (env.ack d) (active (site_statement d at e))) runs
+          ∙ (ap (λ i. waits running i (active (site_statement d at e))) l ∙ ap (λ i. active (site_statement i at e)) same) in
           let y : waits m (now.ack d) (active (site_statement d at e)) ≡ finished = ap (λ i. waits i (now.ack d) (active (site_statement d at e))) runs
-              ∙ ap (λ i. waits running i (active (site_statement d at e))) n in
+          ∙ ap (λ i. waits running i (active (site_statement d at e))) n in
           record {
             span = at;
             expression = e;
@@ -168,7 +178,7 @@ module _ (P : TypedProgram) (env now : Seen) (clean : Clean P env) (busy : ℕ �
     branches_fire (and_at g b) meets r f =
         let s = beside meets.1 g b in
         fired_both P env busy c ((guarded_shown g).says c) ((branches_shown b).says c) (guarded_left env.ack g) (guarded_left now.ack g)
-            (branches_left env.ack b) (branches_left now.ack b)
+        (branches_left env.ack b) (branches_left now.ack b)
         (λ e. low_of ((branches_shown b).says c) (branches_say_talk b c) (s.not_theirs c (s.mine c (guarded_says_talks g c e))))
         (guarded_fires g meets.0 ((ready_down c (env.rail c) busy).to_this s r) f.0)
         (branches_fire b meets.2 ((ready_down c (env.rail c) busy).to_others s r) f.1)
@@ -179,7 +189,7 @@ module _ (P : TypedProgram) (env now : Seen) (clean : Clean P env) (busy : ℕ �
     turn_fires (at_last {p = p} a) meets r f = fires a meets ((ready_down c (env.rail c) busy).to_first r) f
     turn_fires (at_member {p = p} {q = q} {more = more} g) meets r f =
         fired_then P env busy c (and_member q more) ((guarded_shown g).says c) (guarded_left env.ack g) (guarded_left now.ack g)
-            (guarded_fires g meets.0 ((ready_down c (env.rail c) busy).to_first r) f)
+        (guarded_fires g meets.0 ((ready_down c (env.rail c) busy).to_first r) f)
     turn_fires (at_later {p = p} {q = q} {more = more} g t h) meets r f = turn_fires t meets.1 ((ready_down c (env.rail c) busy).to_later r) f
 
 -- an acknowledge that falls leaves the term
@@ -205,8 +215,11 @@ module _ (P : TypedProgram) (env now : Seen) (c : Line) (t : AckTurned P env now
       by : (m : Mode) → port_may m l ≡ true → PortFits d x m l q env → env.ack (of_channel d) ≡ true → l ≡ false
           → waits m (now.ack (of_channel d)) y ≡ waits m (env.ack (of_channel d)) y
       by idle h f a gone = absurd (cc h)
-      by running h f a gone = absurd (cc (runs_kept l (env.ack (of_channel d)) (env.ack (of_var x)) (is_some (value_on (env.width (of_var x)) q))
-          (neutral_on (env.width (of_var x)) q) f.ends a, gone))
+      by running h f a gone = absurd (cc (
+        runs_kept l (env.ack (of_channel d)) (env.ack (of_var x)) (is_some (value_on (env.width (of_var x)) q))
+            (neutral_on (env.width (of_var x)) q) f.ends a,
+        gone,
+      ))
       by answered h f a gone = absurd (cc (h, gone))
       by returning h f a gone = refl
 
@@ -284,15 +297,27 @@ both_site P c x y s e f g = either (x.talk c) (y.talk c) e
     (λ h.
     let o = f h in
     let mine : (i : ℕ) (one : Bool) → (x.offer c i one || y.offer c i one) ≡ x.offer c i one = λ i one. or_false_right (x.offer c i one) (y.offer c i one)
-        (s.none_theirs c i one (s.mine c h)) in
-    record { within = o.within; merged = o.merged; some = o.some; single = λ i p q. o.single i (sym (mine i true) ∙ p)
-        (sym (mine i false) ∙ q); below = λ i one p. o.below i one (sym (mine i one) ∙ p) })
+    (s.none_theirs c i one (s.mine c h)) in
+    record {
+      within = o.within;
+      merged = o.merged;
+      some = o.some;
+      single = λ i p q. o.single i (sym (mine i true) ∙ p)
+          (sym (mine i false) ∙ q);
+      below = λ i one p. o.below i one (sym (mine i one) ∙ p);
+    })
     (λ h.
     let o = g h in
     let theirs : (i : ℕ) (one : Bool) → (x.offer c i one || y.offer c i one) ≡ y.offer c i one = λ i one. or_false_left (x.offer c i one) (y.offer c i one)
-        (s.none_mine c i one (s.theirs c h)) in
-    record { within = o.within; merged = o.merged; some = o.some; single = λ i p q. o.single i (sym (theirs i true) ∙ p)
-        (sym (theirs i false) ∙ q); below = λ i one p. o.below i one (sym (theirs i one) ∙ p) })
+    (s.none_mine c i one (s.theirs c h)) in
+    record {
+      within = o.within;
+      merged = o.merged;
+      some = o.some;
+      single = λ i p q. o.single i (sym (theirs i true) ∙ p)
+          (sym (theirs i false) ∙ q);
+      below = λ i one p. o.below i one (sym (theirs i one) ∙ p);
+    })
 
 mutual
   pub guarded_site : (P : TypedProgram) (env : Seen) → Clean P env → {p : Process} {m : Mode} (g : GuardedAt p m) → Meets P p → GuardedFits g env → (c : Line)

@@ -205,13 +205,13 @@ module _ {P : TypedProgram} {script : List OfferValue} {most : ℕ} {hs : List (
         let same : c ≡ k = same_number c k e in
         subst (λ (i : ℕ). offer_at now_rests i ≡ left_over (offer_at script i) (completed now_histories i)) (sym same)
         (get_or-set_same r.to.rests k (takes (one_fewer (fewer count (completed hs k)))) nothing
-            (let g : k < length r.to.rests = subst (λ (n : ℕ). k < n) (sym r.as_many) below in g)
+        (let g : k < length r.to.rests = subst (λ (n : ℕ). k < n) (sym r.as_many) below in g)
         ∙ (one_more count (completed hs k) (completed now_histories k) long ∙ sym (ap (λ o. left_over o (completed now_histories k)) offered))))
         (λ (e : (c == k) ≡ false).
         let ne : c ≡ k → ⊥ = λ (same : c ≡ k). absurd (cc (e, ap (λ x. x == k) same, self_number k)) in
         get_or-set_other r.to.rests k c (takes (one_fewer (fewer count (completed hs k)))) nothing ne
         ∙ (r.rests c ∙ sym (ap (λ h. left_over (offer_at script c) (length h))
-            (get_or-set_other hs k c (history_at hs k ++ value_in r.to pass.expression ∷ []) [] ne))))
+        (get_or-set_other hs k c (history_at hs k ++ value_in r.to pass.expression ∷ []) [] ne))))
 
     passes_on : Followed P script (suc most) (passed hs k (value_on (channel_width P.channels k) (w.rail (of_channel k)))) y now after
     passes_on = subst (λ (o : Option ℕ). Followed P script (suc most) (passed hs k o) y now after) (sym read) (record {
@@ -264,7 +264,7 @@ module _ {P : TypedProgram} {script : List OfferValue} {most : ℕ} {hs : List (
         let same : c ≡ k = same_number c k e in
         subst (λ (i : ℕ). offer_at here_rests i ≡ left_over (offer_at script i) (completed here_histories i)) (sym same)
         (get_or-set_same r.to.rests k (gives (behind values (suc (completed hs k)))) nothing
-            (let g : k < length r.to.rests = subst (λ (n : ℕ). k < n) (sym r.as_many) a.within in g)
+        (let g : k < length r.to.rests = subst (λ (n : ℕ). k < n) (sym r.as_many) a.within in g)
         ∙ (ap (λ n. gives (behind values n)) (sym here_long) ∙ sym (ap (λ o. left_over o (completed here_histories k)) offered))))
         (λ (e : (c == k) ≡ false).
         let ne : c ≡ k → ⊥ = λ (same : c ≡ k). absurd (cc (e, ap (λ x. x == k) same, self_number k)) in
@@ -277,7 +277,7 @@ module _ {P : TypedProgram} {script : List OfferValue} {most : ℕ} {hs : List (
         ap (λ x. number_on (var_width P.vars x) (w.bit x)) e
         ∙ (number_told (var_width P.vars a.var) (w.bit a.var) v (ap (λ n. value_on n (w.bit a.var)) a.widths ∙ (a.told ∙ told))
         ∙ sym (ap (slice_index (set r.to.store a.var v)) e ∙ get_or-set_same r.to.store a.var v 0
-            (let g : a.var < length r.to.store = subst (λ (n : ℕ). a.var < n) (sym r.as_stored) a.into in g))))
+        (let g : a.var < length r.to.store = subst (λ (n : ℕ). a.var < n) (sym r.as_stored) a.into in g))))
         (λ (h : (z == a.var) ≡ false).
         let ne : z ≡ a.var → ⊥ = λ (e : z ≡ a.var). absurd (cc (h, ap (λ x. x == a.var) e, self_number a.var)) in
         r.stored z less (a.frees z ne f) ∙ sym (get_or-set_other r.to.store a.var z v 0 ne))
@@ -362,10 +362,10 @@ module _ {P : TypedProgram} {script : List OfferValue} {most : ℕ} {hs : List (
           (λ (h : (z == x) ≡ true). let e = same_number z x h in
           ap (λ v. number_on (var_width P.vars v) (w.bit v)) e
           ∙ (number_told (var_width P.vars x) (w.bit x) (value_in r.to pass.expression)
-              (same ∙ pass.read (slice_index r.to.store) (λ v below calm. r.stored v below calm))
+          (same ∙ pass.read (slice_index r.to.store) (λ v below calm. r.stored v below calm))
           ∙ sym (ap (slice_index (set r.to.store x (value_in r.to pass.expression))) e
-              ∙ get_or-set_same r.to.store x (value_in r.to pass.expression) 0
-              (let g : x < length r.to.store = subst (λ (n : ℕ). x < n) (sym r.as_stored) (subst (λ (v : ℕ). v < length P.vars) e less) in g))))
+          ∙ get_or-set_same r.to.store x (value_in r.to pass.expression) 0
+          (let g : x < length r.to.store = subst (λ (n : ℕ). x < n) (sym r.as_stored) (subst (λ (v : ℕ). v < length P.vars) e less) in g))))
           (λ (h : (z == x) ≡ false).
           r.stored z less (still h (frees z f).1)
           ∙ sym (get_or-set_other r.to.store x z (value_in r.to pass.expression) 0 (λ (e : z ≡ x). absurd (cc (h, ap (λ v. v == x) e, self_number x)))))
@@ -379,28 +379,28 @@ module _ {P : TypedProgram} {script : List OfferValue} {most : ℕ} {hs : List (
 acks : {P : TypedProgram} {script : List OfferValue} {most : ℕ} {hs : List (List ℕ)} {t : Term} (w : Wires) (busy after : ℕ → Bool) (fitted : Fitted P script)
     (r : Followed P script most hs t w.bit busy) (y : Term) (k : ℕ)
     → (is_heard (kind_at P.channels k) ≡ false → answers (channel_width P.channels k) w k (completed hs k) (offer_at script k) ≡ true) → Arriving P script hs w
-        → Acks P busy after k w t y
+    → Acks P busy after k w t y
     → Followed P script (suc most) (if w.ack k then hs else passed hs k (value_on (channel_width P.channels k) (w.rail (of_channel k)))) y w.bit after
 acks w busy after fitted r y k e brought (taken_out out move free) = acknowledged w fitted r w.bit after (λ x f. (refl, free x f)) k y (e out)
     (w.ack k) refl move
 acks {P = P} {script = script} {most = most} {hs = hs} w busy after fitted r y k e brought (let_go_in heard high same free) =
     subst (λ (b : Bool). Followed P script (suc most) (if b then hs else passed hs k
-        (value_on (channel_width P.channels k) (w.rail (of_channel k)))) y w.bit after) (sym high) (stays r w.bit after (λ x f. (refl, free x f)) y same)
+    (value_on (channel_width P.channels k) (w.rail (of_channel k)))) y w.bit after) (sym high) (stays r w.bit after (λ x f. (refl, free x f)) y same)
 acks {P = P} {script = script} {most = most} {hs = hs} w busy after fitted r y k e brought (taken_in heard a) =
     let o = fitted.hears k a.within a.used in
     let v = next_value (channel_width P.channels k) (completed hs k) (w.rail (of_channel k)) o.0 (fitted.wide k a.within) (fitted.bounded k o.0 o.1)
-        (brought k o.0 o.1 a.low) a.some in
+    (brought k o.0 o.1 a.low) a.some in
     subst (λ (b : Bool). Followed P script (suc most) (if b then hs else passed hs k
-        (value_on (channel_width P.channels k) (w.rail (of_channel k)))) y w.bit after) (sym a.low)
-        (arrives_on w fitted r w.bit after k y o.0 o.1 a v.next v.is v.told (λ x f. refl))
+    (value_on (channel_width P.channels k) (w.rail (of_channel k)))) y w.bit after) (sym a.low)
+    (arrives_on w fitted r w.bit after k y o.0 o.1 a v.next v.is v.told (λ x f. refl))
 
 -- each move of the circuit is a step of the program or none
 pub follows : {P : TypedProgram} {script : List OfferValue} {most : ℕ} {hs : List (List ℕ)} {t : Term} (w : Wires) (busy after : ℕ → Bool) → Fitted P script
     → Followed P script most hs t w.bit busy → Arriving P script hs w → (y : Term) (n : Node P.body)
     → ((k : ℕ) → n ≡ ack_node k → is_heard (kind_at P.channels k) ≡ false
-        → answers (channel_width P.channels k) w k (completed hs k) (offer_at script k) ≡ true)
+    → answers (channel_width P.channels k) w k (completed hs k) (offer_at script k) ≡ true)
     → ((x : ℕ) → Freed P w (wires_after w n) (busy x) (after x) x (Arrival P w n)) → Moves P w busy after t y n
-        → Followed P script (suc most) (passed_after P.channels w hs n) y (wires_after w n).bit after
+    → Followed P script (suc most) (passed_after P.channels w hs n) y (wires_after w n).bit after
 follows w busy after fitted r brought y go_node e frees move = silent r w.bit after (calm w w busy after (λ x. refl) frees) y move
 follows w busy after fitted r brought y (own_node s) e frees move = silent r w.bit after (calm w w busy after (λ x. refl) frees) y move
 follows w busy after fitted r brought y (rail_node k i one) e frees move = silent r w.bit after

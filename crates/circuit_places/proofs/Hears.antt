@@ -98,10 +98,16 @@ module _ (P : TypedProgram) (env now : Seen) (c : ℕ) (t : Rising env now c) wh
         → (branches_left now.ack b ≡ branches_left env.ack b) × ((z : ℕ) → branches_writing now.ack b z ≡ branches_writing env.ack b z)
     branches_deaf no_more d = (refl, λ z. refl)
     branches_deaf (and_at g b) d =
-        let r = guarded_deaf g (record { listen = neither_left ((guarded_shown g).listen c) ((branches_shown b).listen c) d.listen; talk = neither_left
-            ((guarded_shown g).talk (of_channel c)) ((branches_shown b).talk (of_channel c)) d.talk }) in
-        let q = branches_deaf b (record { listen = neither_right ((guarded_shown g).listen c) ((branches_shown b).listen c) d.listen; talk = neither_right
-            ((guarded_shown g).talk (of_channel c)) ((branches_shown b).talk (of_channel c)) d.talk }) in (
+        let r = guarded_deaf g (record {
+          listen = neither_left ((guarded_shown g).listen c) ((branches_shown b).listen c) d.listen;
+          talk = neither_left
+              ((guarded_shown g).talk (of_channel c)) ((branches_shown b).talk (of_channel c)) d.talk;
+        }) in
+        let q = branches_deaf b (record {
+          listen = neither_right ((guarded_shown g).listen c) ((branches_shown b).listen c) d.listen;
+          talk = neither_right
+              ((guarded_shown g).talk (of_channel c)) ((branches_shown b).talk (of_channel c)) d.talk;
+        }) in (
           ap (λ y. and_branch y (branches_left now.ack b)) r.0 ∙ ap (λ y. and_branch (guarded_left env.ack g) y) q.0,
           λ z. ap (λ y. y || branches_writing now.ack b z) (r.1 z) ∙ ap (λ y. guarded_writing env.ack g z || y) (q.1 z),
         )
@@ -116,7 +122,7 @@ module _ (P : TypedProgram) (env now : Seen) (c : ℕ) (t : Rising env now c) wh
   -- the receive
   port_hears : (d x : ℕ) (at to : Span) (m : Mode) (l : Bool) (q : Rails) → port_may m l ≡ true → PortMeets P d x → PortFits d x m l q env → d ≡ c → l ≡ true
       → Hears P env c (port_shown d x l q) (λ z. (x == z) && under_way m (env.ack (of_channel d))) (λ z. (x == z) && under_way m (now.ack (of_channel d)))
-          (waits m (env.ack (of_channel d)) (active (receiving d at x to))) (waits m (now.ack (of_channel d)) (active (receiving d at x to)))
+      (waits m (env.ack (of_channel d)) (active (receiving d at x to))) (waits m (now.ack (of_channel d)) (active (receiving d at x to)))
   port_hears d x at to m l q h meets f same kept = by m h f (ap (λ n. env.ack (of_channel n)) same ∙ t.low) (ap (λ n. now.ack (of_channel n)) same ∙ t.high)
     where
       other : (m : Mode) (z : ℕ) → (z ≡ x → ⊥) → (b : Bool) → ((x == z) && b) ≡ false
@@ -126,12 +132,18 @@ module _ (P : TypedProgram) (env now : Seen) (c : ℕ) (t : Rising env now c) wh
 
       by : (m : Mode) → port_may m l ≡ true → PortFits d x m l q env → env.ack (of_channel d) ≡ false → now.ack (of_channel d) ≡ true
           → Hears P env c (port_shown d x l q) (λ z. (x == z) && under_way m (env.ack (of_channel d))) (λ z. (x == z) && under_way m (now.ack (of_channel d)))
-              (waits m (env.ack (of_channel d)) (active (receiving d at x to))) (waits m (now.ack (of_channel d)) (active (receiving d at x to)))
+          (waits m (env.ack (of_channel d)) (active (receiving d at x to))) (waits m (now.ack (of_channel d)) (active (receiving d at x to)))
       by idle h f a b = absurd (cc h)
-      by answered h f a b = absurd (cc (answered_ack l (env.ack (of_channel d)) (env.ack (of_var x)) (is_some (value_on (env.width (of_var x)) q))
-          (neutral_on (env.width (of_var x)) q) f.ends, a))
-      by returning h f a b = absurd (cc (back_ack l (env.ack (of_channel d)) (env.ack (of_var x)) (is_some (value_on (env.width (of_var x)) q))
-          (neutral_on (env.width (of_var x)) q) f.ends kept, a))
+      by answered h f a b = absurd (cc (
+        answered_ack l (env.ack (of_channel d)) (env.ack (of_var x)) (is_some (value_on (env.width (of_var x)) q))
+            (neutral_on (env.width (of_var x)) q) f.ends,
+        a,
+      ))
+      by returning h f a b = absurd (cc (
+        back_ack l (env.ack (of_channel d)) (env.ack (of_var x)) (is_some (value_on (env.width (of_var x)) q))
+            (neutral_on (env.width (of_var x)) q) f.ends kept,
+        a,
+      ))
       by running h f a b = record {
         at = at;
         var = x;
@@ -178,8 +190,17 @@ module _ (P : TypedProgram) (env now : Seen) (c : ℕ) (t : Rising env now c) wh
       })
 
   hears_together : (x : Shown) (a b : ℕ → Bool) (ts us : Terms) → HearsInside P env c x a b ts us → Hears P env c x a b (together ts) (together us)
-  hears_together x a b ts us r = record { at = r.at; var = r.var; to = r.to; act = together_act ts
-      (receiving c r.at r.var r.to) finished us r.act; meets = r.meets; done = r.done; all = r.all; frees = r.frees }
+  hears_together x a b ts us r = record {
+    at = r.at;
+    var = r.var;
+    to = r.to;
+    act = together_act ts
+        (receiving c r.at r.var r.to) finished us r.act;
+    meets = r.meets;
+    done = r.done;
+    all = r.all;
+    frees = r.frees;
+  }
 
   none_hears : (x : Shown) (a b : ℕ → Bool) (v w : Term) → v ≡ finished → Hears P env c x a b v w → ⊥
   none_hears x a b finished w e r = cc r.act.stands
@@ -231,20 +252,32 @@ module _ (P : TypedProgram) (env now : Seen) (c : ℕ) (t : Rising env now c) wh
     branches_hear (and_at g b) meets f k = either ((guarded_shown g).take c) ((branches_shown b).take c) k.take
         (λ z.
         let s = beside meets.1 g b in
-        let quiet = branches_deaf b (record { listen = s.deaf_theirs c (s.hears_mine c (s.taken_mine c z)); talk = neither_right
-            ((guarded_shown g).talk (of_channel c)) ((branches_shown b).talk (of_channel c)) k.talk }) in
+        let quiet = branches_deaf b (record {
+          listen = s.deaf_theirs c (s.hears_mine c (s.taken_mine c z));
+          talk = neither_right
+              ((guarded_shown g).talk (of_channel c)) ((branches_shown b).talk (of_channel c)) k.talk;
+        }) in
         hears_both (guarded_shown g) (branches_shown b) (guarded_writing env.ack g) (guarded_writing now.ack g) (branches_writing env.ack b)
-            (branches_writing now.ack b) (guarded_left env.ack g) (guarded_left now.ack g) (branches_left env.ack b) (branches_left now.ack b)
-        (guarded_hears g meets.0 f.0 (record { take = z; talk = neither_left ((guarded_shown g).talk (of_channel c))
-            ((branches_shown b).talk (of_channel c)) k.talk })) quiet.0 quiet.1)
+        (branches_writing now.ack b) (guarded_left env.ack g) (guarded_left now.ack g) (branches_left env.ack b) (branches_left now.ack b)
+        (guarded_hears g meets.0 f.0 (record {
+          take = z;
+          talk = neither_left ((guarded_shown g).talk (of_channel c))
+              ((branches_shown b).talk (of_channel c)) k.talk;
+        })) quiet.0 quiet.1)
         (λ z.
         let s = beside meets.1 g b in
-        let quiet = guarded_deaf g (record { listen = s.deaf_mine c (s.hears_theirs c (s.taken_theirs c z)); talk = neither_left
-            ((guarded_shown g).talk (of_channel c)) ((branches_shown b).talk (of_channel c)) k.talk }) in
+        let quiet = guarded_deaf g (record {
+          listen = s.deaf_mine c (s.hears_theirs c (s.taken_theirs c z));
+          talk = neither_left
+              ((guarded_shown g).talk (of_channel c)) ((branches_shown b).talk (of_channel c)) k.talk;
+        }) in
         both_hear (guarded_shown g) (branches_shown b) (guarded_writing env.ack g) (guarded_writing now.ack g) (branches_writing env.ack b)
-            (branches_writing now.ack b) (guarded_left env.ack g) (guarded_left now.ack g) (branches_left env.ack b) (branches_left now.ack b)
-        (branches_hear b meets.2 f.1 (record { take = z; talk = neither_right ((guarded_shown g).talk (of_channel c))
-            ((branches_shown b).talk (of_channel c)) k.talk })) quiet.0 quiet.1)
+        (branches_writing now.ack b) (guarded_left env.ack g) (guarded_left now.ack g) (branches_left env.ack b) (branches_left now.ack b)
+        (branches_hear b meets.2 f.1 (record {
+          take = z;
+          talk = neither_right ((guarded_shown g).talk (of_channel c))
+              ((branches_shown b).talk (of_channel c)) k.talk;
+        })) quiet.0 quiet.1)
 
     turn_hears : {members : Processes} {m : Mode} (t : TurnAt members m) → TurnMeets P members → TurnFits t env → Has (turn_shown t)
         → Hears P env c (turn_shown t) (turn_writing env.ack t) (turn_writing now.ack t) (turn_left env.ack t) (turn_left now.ack t)

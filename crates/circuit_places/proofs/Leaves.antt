@@ -150,7 +150,7 @@ module _ (P : TypedProgram) (k : Line) (e : Formula) (env : Seen) (clean : Clean
   leaves u f h =
       let none = leave_none (full e u) (empty e u) (env.ack k) f.0 h in
       site_rests (ap (λ (x : Pairs (gate_count e)). site_of e false x) (sym (known.inner_empty env.bit u f.1 none))) refl (goes_quiet u none h) (λ t. refl) refl
-          (keeps none)
+      (keeps none)
     where
       keeps : empty e u ≡ true → (q : SiteSpot e) → q ≢ done → site_moves env k e returning u q ≡ false
       keeps none done ne = absurd (ne refl)
@@ -207,8 +207,18 @@ send_after P c at e env clean m u h s f z = by (site_after P (of_channel c) e en
         kept : (q : Spot (sending c at e)) → q ≢ of_send s → moves env (at_send {c = c} {at = at} {e = e} m u h) q ≡ true
             → moves env (at_send {c = c} {at = at} {e = e} n x may) q ≡ true
         kept (of_send q) ne z = keeps q (λ (i : q ≡ s). ne (ap (λ y. of_send y) i)) z
-    by (site_rests same way flow left writes keeps) = record { mode = idle; to = rests; same = same; way = way; fits = tt; flow = flow; term = inl
-        (left _); frees = λ y i. refl; keeps = kept }
+    by (site_rests same way flow left writes keeps) = record {
+      mode = idle;
+      to = rests;
+      same = same;
+      way = way;
+      fits = tt;
+      flow = flow;
+      term = inl
+          (left _);
+      frees = λ y i. refl;
+      keeps = kept;
+    }
       where
         kept : (q : Spot (sending c at e)) → q ≢ of_send s → moves env (at_send {c = c} {at = at} {e = e} m u h) q ≡ true
             → moves env (rests {p = sending c at e}) q ≡ true
@@ -221,14 +231,34 @@ assign_after P x at e env clean m u h s f z = by (site_after P (of_var x) e env 
   where
     by : SiteAfter (of_var x) e env m u s → After (assigning x at e) m env (at_assign m u h) (of_assign s)
     by (site_goes n a may same way fits flow left writes keeps) =
-        record { mode = n; to = at_assign n a may; same = same; way = way; fits = fits; flow = flow; term = inl (left _); frees = λ y i. ap
-        (λ b. (x == y) && b) writes ∙ i; keeps = kept }
+        record {
+          mode = n;
+          to = at_assign n a may;
+          same = same;
+          way = way;
+          fits = fits;
+          flow = flow;
+          term = inl (left _);
+          frees = λ y i. ap
+              (λ b. (x == y) && b) writes ∙ i;
+          keeps = kept;
+        }
       where
         kept : (q : Spot (assigning x at e)) → q ≢ of_assign s → moves env (at_assign {x = x} {at = at} {e = e} m u h) q ≡ true
             → moves env (at_assign {x = x} {at = at} {e = e} n a may) q ≡ true
         kept (of_assign q) ne z = keeps q (λ (i : q ≡ s). ne (ap (λ y. of_assign y) i)) z
-    by (site_rests same way flow left writes keeps) = record { mode = idle; to = rests; same = same; way = way; fits = tt; flow = flow; term = inl
-        (left _); frees = λ y i. ap (λ b. (x == y) && b) writes ∙ never_and (x == y); keeps = kept }
+    by (site_rests same way flow left writes keeps) = record {
+      mode = idle;
+      to = rests;
+      same = same;
+      way = way;
+      fits = tt;
+      flow = flow;
+      term = inl
+          (left _);
+      frees = λ y i. ap (λ b. (x == y) && b) writes ∙ never_and (x == y);
+      keeps = kept;
+    }
       where
         kept : (q : Spot (assigning x at e)) → q ≢ of_assign s → moves env (at_assign {x = x} {at = at} {e = e} m u h) q ≡ true
             → moves env (rests {p = assigning x at e}) q ≡ true

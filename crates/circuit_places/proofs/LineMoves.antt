@@ -107,7 +107,7 @@ pub drives_up : (n : ℕ) (w : Wires) (c : ℕ) (next : Option ℕ) (i : ℕ) (o
 drives_up n w c next i one low e =
     let z : (brings n next i one && (not (w.rail (of_channel c) i true) && not (w.rail (of_channel c) i false))) ≡ true =
     sym (ap (λ b. if b then w.rail (of_channel c) i one else brings n next i one &&
-        (not (w.rail (of_channel c) i true) && not (w.rail (of_channel c) i false))) low) ∙ e in
+    (not (w.rail (of_channel c) i true) && not (w.rail (of_channel c) i false))) low) ∙ e in
     let y = snd_true (brings n next i one) (not (w.rail (of_channel c) i true) && not (w.rail (of_channel c) i false)) z in (
       fst_true (brings n next i one) (not (w.rail (of_channel c) i true) && not (w.rail (of_channel c) i false)) z,
       not_true (w.rail (of_channel c) i true) (fst_true (not (w.rail (of_channel c) i true)) (not (w.rail (of_channel c) i false)) y),
@@ -160,7 +160,7 @@ module _ (P : TypedProgram) (script : List OfferValue) {m : Mode} {g : GuardedAt
       → (guarded_shown g).offer k i side ≡ true → w.rail k i side ≡ true
   all_high k n low some i side o =
       covers (line_width P k) (w.rail k) ((guarded_shown g).offer k) (λ j b h. good.rising k j b n low h) (λ j p q. one k j p q) some i side
-          (offered_below k i side o) o
+      (offered_below k i side o) o
 
   -- a rail moves
   module _ (k : Line) (i : ℕ) (side : Bool) where
@@ -190,15 +190,15 @@ module _ (P : TypedProgram) (script : List OfferValue) {m : Mode} {g : GuardedAt
         → guarded_moves (seen P (rail_turned w k i side)) g s ≡ true)
         → ((c : ℕ) → k ≡ of_channel c → answers (channel_width P.channels c) w c (completed hs c) (offer_at script c) ≡ true → ⊥)
         → ((c : ℕ) → k ≡ of_channel c → (j : ℕ) (s : Bool) → (j ≡ i → s ≡ side → ⊥) → driven P script w hs (of_channel c) j s ≡ true
-            → driven P script (rail_turned w k i side) hs (of_channel c) j s ≡ true)
+        → driven P script (rail_turned w k i side) hs (of_channel c) j s ≡ true)
         → ((x : ℕ) → k ≡ of_var x → WriteMoved (var_width P.vars x) (w.bit x) (w.rail (of_var x)) (w.wrote x) (w.joint x) i side)
         → can P script g w hs n ≡ true → can P script g (rail_turned w k i side) hs n ≡ true
     rail_others go_node ne l a d b z = z
     rail_others (own_node s) ne l a d b z = l s z
     rail_others (ack_node c) ne l a d b z =
         or_map (heard_turns P w c ((guarded_shown g).take c)) (answers (channel_width P.channels c) w c (completed hs c) (offer_at script c))
-            (heard_turns P w c ((guarded_shown g).take c)) (answers (channel_width P.channels c) (rail_turned w k i side) c (completed hs c)
-            (offer_at script c))
+        (heard_turns P w c ((guarded_shown g).take c)) (answers (channel_width P.channels c) (rail_turned w k i side) c (completed hs c)
+        (offer_at script c))
         (λ y. y)
         (λ y. cases (same_line (of_channel c) k)
         (λ (e : same_line (of_channel c) k ≡ true). absurd (a c (sym (same_line_is (of_channel c) k e)) y))
@@ -206,7 +206,7 @@ module _ (P : TypedProgram) (script : List OfferValue) {m : Mode} {g : GuardedAt
         z
     rail_others (rail_node c j s) ne l a d b z =
         or_map (sent_turns P w c j s ((guarded_shown g).offer c j s)) (driven P script w hs c j s)
-            (sent_turns P (rail_turned w k i side) c j s ((guarded_shown g).offer c j s)) (driven P script (rail_turned w k i side) hs c j s)
+        (sent_turns P (rail_turned w k i side) c j s ((guarded_shown g).offer c j s)) (driven P script (rail_turned w k i side) hs c j s)
         (sent (turned_at w k i side c j s)) (drive c ne) z
       where
         sent : Turned w k i side c j s → sent_turns P w c j s ((guarded_shown g).offer c j s) ≡ true
@@ -226,16 +226,16 @@ module _ (P : TypedProgram) (script : List OfferValue) {m : Mode} {g : GuardedAt
         (λ (e : same_line (of_var x) k ≡ true).
         let same = same_line_is (of_var x) k e in
         ap (λ (r : Rails). fires (bit_rule r (w.bit x) j s)) (ap (λ (b : Bool). if b then rails_turned (w.rail k) i side else w.rail (of_var x)) e
-            ∙ ap (λ (l : Line). rails_turned (w.rail l) i side) (sym same)) ∙ (b x (sym same)).bits j s z)
+        ∙ ap (λ (l : Line). rails_turned (w.rail l) i side) (sym same)) ∙ (b x (sym same)).bits j s z)
         (λ (e : same_line (of_var x) k ≡ false). ap (λ (b : Bool). fires (bit_rule (if b then rails_turned (w.rail k) i side else w.rail (of_var x))
-            (w.bit x) j s)) e ∙ z)
+        (w.bit x) j s)) e ∙ z)
     rail_others (wrote_node x j) ne l a d b z = cases (same_line (of_var x) k)
         (λ (e : same_line (of_var x) k ≡ true).
         let same = same_line_is (of_var x) k e in
         ap (λ (r : Rails). fires (wrote_rule r (w.bit x) (w.wrote x) j)) (ap (λ (b : Bool). if b then rails_turned (w.rail k) i side else w.rail (of_var x)) e
-            ∙ ap (λ (l : Line). rails_turned (w.rail l) i side) (sym same)) ∙ (b x (sym same)).wrotes j z)
+        ∙ ap (λ (l : Line). rails_turned (w.rail l) i side) (sym same)) ∙ (b x (sym same)).wrotes j z)
         (λ (e : same_line (of_var x) k ≡ false). ap (λ (b : Bool). fires (wrote_rule (if b then rails_turned (w.rail k) i side else w.rail (of_var x)) (w.bit x)
-            (w.wrote x) j)) e ∙ z)
+        (w.wrote x) j)) e ∙ z)
     rail_others (joint_node x j) ne l a d b z = z
 
     -- the blocks afterwards
@@ -246,10 +246,10 @@ module _ (P : TypedProgram) (script : List OfferValue) {m : Mode} {g : GuardedAt
         let same = same_line_is (of_var x) k e in
         subst (λ (r : Rails). Block (var_width P.vars x) (w.bit x) r (w.wrote x) (w.joint x))
         (sym (ap (λ (b : Bool). if b then rails_turned (w.rail k) i side else w.rail (of_var x)) e
-            ∙ ap (λ (l : Line). rails_turned (w.rail l) i side) (sym same)))
+        ∙ ap (λ (l : Line). rails_turned (w.rail l) i side) (sym same)))
         (b x (sym same)).block)
         (λ (e : same_line (of_var x) k ≡ false). subst (λ (r : Rails). Block (var_width P.vars x) (w.bit x) r (w.wrote x) (w.joint x))
-            (sym (ap (λ (b : Bool). if b then rails_turned (w.rail k) i side else w.rail (of_var x)) e)) (good.block x some))
+        (sym (ap (λ (b : Bool). if b then rails_turned (w.rail k) i side else w.rail (of_var x)) e)) (good.block x some))
 
     write_block : i < line_width P k → ((x : ℕ) → k ≡ of_var x → may (write_role side)
         (now_at (w.bit x) (w.rail (of_var x)) (w.wrote x) (line_ack P w (of_var x)) i) ≡ true)
@@ -325,10 +325,22 @@ module _ (P : TypedProgram) (script : List OfferValue) {m : Mode} {g : GuardedAt
             → Turned w k i side (of_channel c) j true → Turned w k i side (of_channel c) j false → ⊥
         single c j p q (that t) (that u) = good.single c j (sym t ∙ p) (sym u ∙ q)
         single c j p q (this e f s t) (this a b d u) = cc (s, d)
-        single c j p q (this e f s t) (that u) = cc (other_low k i side n (up_low P script hs good k i side r o) o, ap (λ b. w.rail k i (not b)) s,
-            ap (λ x. w.rail k x false) f, ap (λ x. w.rail x j false) e, u, q)
-        single c j p q (that t) (this e f s u) = cc (other_low k i side n (up_low P script hs good k i side r o) o, ap (λ b. w.rail k i (not b)) s,
-            ap (λ x. w.rail k x true) f, ap (λ x. w.rail x j true) e, t, p)
+        single c j p q (this e f s t) (that u) = cc (
+          other_low k i side n (up_low P script hs good k i side r o) o,
+          ap (λ b. w.rail k i (not b)) s,
+          ap (λ x. w.rail k x false) f,
+          ap (λ x. w.rail x j false) e,
+          u,
+          q,
+        )
+        single c j p q (that t) (this e f s u) = cc (
+          other_low k i side n (up_low P script hs good k i side r o) o,
+          ap (λ b. w.rail k i (not b)) s,
+          ap (λ x. w.rail k x true) f,
+          ap (λ x. w.rail x j true) e,
+          t,
+          p,
+        )
 
         more : (c : Line) (j : ℕ) (b : Bool) → w.rail c j b ≡ true → Turned w k i side c j b → (rail_turned w k i side).rail c j b ≡ true
         more c j b y (this e f s t) = t ∙ ap not r
@@ -344,9 +356,9 @@ module _ (P : TypedProgram) (script : List OfferValue) {m : Mode} {g : GuardedAt
         sited c j b u z (that t) = good.sited c j b u (sym t ∙ z)
         sited c j b u z (this e f s t) =
             ap (λ x. is_nil (site_rails P.body (low P.body) x j b)) e ∙ (ap (λ x. is_nil (site_rails P.body (low P.body) k x b)) f
-                ∙ (ap (λ x. is_nil (site_rails P.body (low P.body) k i x)) s
+            ∙ (ap (λ x. is_nil (site_rails P.body (low P.body) k i x)) s
             ∙ (same_sites P.body (low P.body) (guarded_cells g).inner k i side
-                ∙ any_not_nil (site_rails P.body (guarded_cells g).inner k i side) (guarded_offered g k i side ∙ o))))
+            ∙ any_not_nil (site_rails P.body (guarded_cells g).inner k i side) (guarded_offered g k i side ∙ o))))
 
         no_ack : (c : ℕ) → w.ack c ≡ false → is_merged P (of_channel c) ≡ true → (guarded_shown g).offer (of_channel c) i side ≡ true
             → w.rail (of_channel c) i side ≡ false → answers (channel_width P.channels c) w c (completed hs c) (offer_at script c) ≡ true → ⊥
@@ -399,8 +411,13 @@ module _ (P : TypedProgram) (script : List OfferValue) {m : Mode} {g : GuardedAt
 
         falls : (c : Line) (j : ℕ) (b : Bool) → (guarded_shown g).offer c j b ≡ true → w.rail c j b ≡ true → Turned w k i side c j b
             → (rail_turned w k i side).rail c j b ≡ true
-        falls c j b z y (this e f s t) = absurd (cc (ap (λ x. (guarded_shown g).offer x j b) e, ap (λ x. (guarded_shown g).offer k x b) f,
-            ap ((guarded_shown g).offer k i) s, o, z))
+        falls c j b z y (this e f s t) = absurd (cc (
+          ap (λ x. (guarded_shown g).offer x j b) e,
+          ap (λ x. (guarded_shown g).offer k x b) f,
+          ap ((guarded_shown g).offer k i) s,
+          o,
+          z,
+        ))
         falls c j b z y (that t) = t ∙ y
 
         no_ack : (c : ℕ) → w.ack c ≡ true → w.rail (of_channel c) i side ≡ true
@@ -467,21 +484,21 @@ module _ (P : TypedProgram) (script : List OfferValue) {m : Mode} {g : GuardedAt
     drives_on next e j s ne z = cases (w.ack c)
         (λ (h : w.ack c ≡ true).
         ap (λ b. if b then brought.rail (of_channel c) j s else brings wide next j s &&
-            (not (brought.rail (of_channel c) j true) && not (brought.rail (of_channel c) j false))) h
+        (not (brought.rail (of_channel c) j true) && not (brought.rail (of_channel c) j false))) h
         ∙ (stays_at j s ne ∙ (sym (ap (λ b. if b then w.rail (of_channel c) j s else brings wide next j s &&
-            (not (w.rail (of_channel c) j true) && not (w.rail (of_channel c) j false))) h) ∙ z)))
+        (not (w.rail (of_channel c) j true) && not (w.rail (of_channel c) j false))) h) ∙ z)))
         (λ (h : w.ack c ≡ false).
         let y = drives_up wide w c next j s h z in
         let x = drives_up wide w c next i side h e in
         let apart : (j == i) ≡ false = cases (j == i)
         (λ (same : (j == i) ≡ true). absurd (brings_one wide next i s side (λ q. ne (same_number j i same) q)
-            (ap (λ n. brings wide next n s) (sym (same_number j i same)) ∙ y.0) x.0))
+        (ap (λ n. brings wide next n s) (sym (same_number j i same)) ∙ y.0) x.0))
         (λ (same : (j == i) ≡ false). same) in
         ap (λ b. if b then brought.rail (of_channel c) j s else brings wide next j s &&
-            (not (brought.rail (of_channel c) j true) && not (brought.rail (of_channel c) j false))) h
+        (not (brought.rail (of_channel c) j true) && not (brought.rail (of_channel c) j false))) h
         ∙ both_true (brings wide next j s) (not (brought.rail (of_channel c) j true) && not (brought.rail (of_channel c) j false)) y.0
         (both_true (not (brought.rail (of_channel c) j true)) (not (brought.rail (of_channel c) j false)) (ap not (far_bit j true apart ∙ y.1))
-            (ap not (far_bit j false apart ∙ y.2))))
+        (ap not (far_bit j false apart ∙ y.2))))
 
     -- what holds afterwards
     record Brought : Type 0 where
@@ -510,11 +527,11 @@ module _ (P : TypedProgram) (script : List OfferValue) {m : Mode} {g : GuardedAt
                 (λ (q : same_line l (of_channel c) ≡ false). good.rising l j b u (sym (acks_stay l) ∙ h) (sym (ap (λ (r : Rails). r j b) (far_rail l q)) ∙ z));
             falling = λ l j b h z. cases (same_line l (of_channel c))
                 (λ (q : same_line l (of_channel c) ≡ true). absurd (not_offered alone j b
-                    (sym (ap (λ y. (guarded_shown g).offer y j b) (same_line_is l (of_channel c) q)) ∙ z)))
+                (sym (ap (λ y. (guarded_shown g).offer y j b) (same_line_is l (of_channel c) q)) ∙ z)))
                 (λ (q : same_line l (of_channel c) ≡ false). ap (λ (r : Rails). r j b) (far_rail l q) ∙ good.falling l j b (sym (acks_stay l) ∙ h) z);
             wide = λ l j b z. cases (same_line l (of_channel c))
                 (λ (q : same_line l (of_channel c) ≡ true). let y = same_line_is l (of_channel c) q in subst (λ (k : Line). j < line_width P k) (sym y)
-                    (x.below j b (sym (ap (λ k. brought.rail k j b) y) ∙ z)))
+                (x.below j b (sym (ap (λ k. brought.rail k j b) y) ∙ z)))
                 (λ (q : same_line l (of_channel c) ≡ false). good.wide l j b (sym (ap (λ (r : Rails). r j b) (far_rail l q)) ∙ z));
             sited = λ l j b u z. cases (same_line l (of_channel c))
                 (λ (q : same_line l (of_channel c) ≡ true). absurd (cc (ap (is_merged P) (same_line_is l (of_channel c) q), alone, u)))
@@ -524,22 +541,22 @@ module _ (P : TypedProgram) (script : List OfferValue) {m : Mode} {g : GuardedAt
             no_wrote = good.no_wrote;
             single = λ d j p q. cases (d == c)
                 (λ (z : (d == c) ≡ true). let y = same_number d c z in x.lone j (sym (ap (λ k. brought.rail (of_channel k) j true) y) ∙ p)
-                    (sym (ap (λ k. brought.rail (of_channel k) j false) y) ∙ q))
+                (sym (ap (λ k. brought.rail (of_channel k) j false) y) ∙ q))
                 (λ (z : (d == c) ≡ false). good.single d j (sym (ap (λ (r : Rails). r j true) (far_rail (of_channel d) z)) ∙ p)
-                    (sym (ap (λ (r : Rails). r j false) (far_rail (of_channel d) z)) ∙ q));
+                (sym (ap (λ (r : Rails). r j false) (far_rail (of_channel d) z)) ∙ q));
             listen = good.listen;
             valid = λ d u h t. cases (d == c)
                 (λ (z : (d == c) ≡ true). let y = same_number d c z in
                 subst (λ (k : ℕ). is_some (value_on (channel_width P.channels k) (brought.rail (of_channel k))) ≡ true) (sym y)
-                    (x.full (ap (λ k. w.ack k) (sym y) ∙ h) (ap (λ k. (guarded_shown g).take k) (sym y) ∙ t)))
+                (x.full (ap (λ k. w.ack k) (sym y) ∙ h) (ap (λ k. (guarded_shown g).take k) (sym y) ∙ t)))
                 (λ (z : (d == c) ≡ false). subst (λ (r : Rails). is_some (value_on (channel_width P.channels d) r) ≡ true) (sym (far_rail (of_channel d) z))
-                    (good.valid d u h t));
+                (good.valid d u h t));
             neutral = λ d u h t. cases (d == c)
                 (λ (z : (d == c) ≡ true). let y = same_number d c z in
                 subst (λ (k : ℕ). neutral_on (channel_width P.channels k) (brought.rail (of_channel k)) ≡ true) (sym y)
-                    (x.gone (ap (λ k. w.ack k) (sym y) ∙ h) (ap (λ k. (guarded_shown g).take k) (sym y) ∙ t)))
+                (x.gone (ap (λ k. w.ack k) (sym y) ∙ h) (ap (λ k. (guarded_shown g).take k) (sym y) ∙ t)))
                 (λ (z : (d == c) ≡ false). subst (λ (r : Rails). neutral_on (channel_width P.channels d) r ≡ true) (sym (far_rail (of_channel d) z))
-                    (good.neutral d u h t));
+                (good.neutral d u h t));
             heard_sited = good.heard_sited;
           };
           term = λ ne. inl (still_left brought acks_stay);
@@ -549,8 +566,8 @@ module _ (P : TypedProgram) (script : List OfferValue) {m : Mode} {g : GuardedAt
               takes_gives t.count values (sym t.is ∙ (ap (offer_at script) (sym (same_channel c d y)) ∙ is)))
               (λ d y j s apart a. subst (λ (k : ℕ). driven P script brought hs (of_channel k) j s ≡ true) (same_channel c d y)
               (ap (λ o. offers wide brought c (completed hs c) o j s) is ∙ drives_on (slice_get values (completed hs c)) e j s apart
-                  (sym (ap (λ o. offers wide w c (completed hs c) o j s) is)
-                  ∙ subst (λ (k : ℕ). driven P script w hs (of_channel k) j s ≡ true) (sym (same_channel c d y)) a)))
+              (sym (ap (λ o. offers wide w c (completed hs c) o j s) is)
+              ∙ subst (λ (k : ℕ). driven P script w hs (of_channel k) j s ≡ true) (sym (same_channel c d y)) a)))
               (λ x e. absurd (cc e)) z;
         }
 
@@ -561,8 +578,8 @@ module _ (P : TypedProgram) (script : List OfferValue) {m : Mode} {g : GuardedAt
         let heard = (fitted.brought c o.0 o.1).1 in
         cases (w.ack c)
         (λ (h : w.ack c ≡ true). brought_next o.0 o.1 d (falls heard h (sym
-            (ap (λ b. if b then w.rail (of_channel c) i side else brings wide (slice_get o.0 (completed hs c)) i side &&
-            (not (w.rail (of_channel c) i true) && not (w.rail (of_channel c) i false))) h) ∙ d)))
+        (ap (λ b. if b then w.rail (of_channel c) i side else brings wide (slice_get o.0 (completed hs c)) i side &&
+        (not (w.rail (of_channel c) i true) && not (w.rail (of_channel c) i false))) h) ∙ d)))
         (λ (h : w.ack c ≡ false). let up = drives_up wide w c (slice_get o.0 (completed hs c)) i side h d in
         brought_next o.0 o.1 d (rises heard h up.1 up.2 (brings_below wide (slice_get o.0 (completed hs c)) i side up.0)))
       where
@@ -676,8 +693,8 @@ module _ (P : TypedProgram) (script : List OfferValue) {m : Mode} {g : GuardedAt
           → ((j : ℕ) (b : Bool) → (guarded_shown g).offer k j b ≡ true → w.rail k j b ≡ true) → SeenChanged now
       line_rises ready talk high =
           let x = guarded_changed P (seen P w) (seen P now) (Ready k (w.rail k) (guarded_writing (line_ack P w) g))
-              (ready_down k (w.rail k) (guarded_writing (line_ack P w) g))
-              (raise_leaves P (seen P w) (seen P now) k (guarded_writing (line_ack P w) g) t low some (λ l. refl)) g good.meets ready good.fits in
+          (ready_down k (w.rail k) (guarded_writing (line_ack P w) g))
+          (raise_leaves P (seen P w) (seen P now) k (guarded_writing (line_ack P w) g) t low some (λ l. refl)) g good.meets ready good.fits in
           record {
             fits = x.fits;
             keeps = x.keeps;
@@ -688,7 +705,7 @@ module _ (P : TypedProgram) (script : List OfferValue) {m : Mode} {g : GuardedAt
                 (λ (e : same_line c k ≡ false). good.rising c j b u (sym (t.far c e) ∙ h) (sym (rail_is c j b) ∙ z));
             falling = λ c j b h z. rail_is c j b ∙ cases (same_line c k)
                 (λ (e : same_line c k ≡ true). ap (λ y. w.rail y j b) (same_line_is c k e)
-                    ∙ high j b (ap (λ y. (guarded_shown g).offer y j b) (sym (same_line_is c k e)) ∙ z))
+                ∙ high j b (ap (λ y. (guarded_shown g).offer y j b) (sym (same_line_is c k e)) ∙ z))
                 (λ (e : same_line c k ≡ false). good.falling c j b (sym (t.far c e) ∙ h) z);
           }
 
@@ -696,8 +713,12 @@ module _ (P : TypedProgram) (script : List OfferValue) {m : Mode} {g : GuardedAt
       module _ (unheard : (d : ℕ) → is_heard (kind_at P.channels d) ≡ true → same_line (of_channel d) k ≡ false) (merged : is_merged P k ≡ true)
           (wide : 1 ≤ line_width P k) where
         ready : Ready k (w.rail k) (guarded_writing (line_ack P w) g) P.body (guarded_shown g)
-        ready = record { send = λ e i b h. good.rising k i b merged low h; receive = λ d z e. absurd
-            (cc (unheard d (receives_heard P P.body good.meets d e), z)); calm = calm }
+        ready = record {
+          send = λ e i b h. good.rising k i b merged low h;
+          receive = λ d z e. absurd
+              (cc (unheard d (receives_heard P P.body good.meets d e), z));
+          calm = calm;
+        }
 
         pub sent_rises : SeenChanged now
         sent_rises = line_rises ready (λ u. talks k merged low some wide) (λ j b o. all_high k merged low some j b o)
@@ -710,7 +731,7 @@ module _ (P : TypedProgram) (script : List OfferValue) {m : Mode} {g : GuardedAt
             (root_left (line_ack P now) g)
         line_passes says = talking m g (guarded_writing (line_ack P w) g) (guarded_says_talks g k says)
             (subst (λ (b : Bool). Fired P (seen P w) (guarded_writing (line_ack P w) g) k b (guarded_left (line_ack P w) g)
-                (guarded_left (line_ack P now) g)) says fired)
+            (guarded_left (line_ack P now) g)) says fired)
           where
             talking : (m : Mode) (a : GuardedAt P.body m) (busy : ℕ → Bool) → (guarded_shown a).talk k ≡ true
                 → Passes P (seen P w) busy k (guarded_left (line_ack P w) a) (guarded_left (line_ack P now) a)
@@ -732,16 +753,20 @@ module _ (P : TypedProgram) (script : List OfferValue) {m : Mode} {g : GuardedAt
       pub line_falls : SeenChanged now
       line_falls =
           let x = guarded_changed P (seen P w) (seen P now) (Kept k (w.rail k)) (kept_down k (w.rail k))
-              (lower_leaves P (seen P w) (seen P now) k t high lows (λ l. refl)) g good.meets kept good.fits in
+          (lower_leaves P (seen P w) (seen P now) k t high lows (λ l. refl)) g good.meets kept good.fits in
           record {
             fits = x.fits;
             keeps = x.keeps;
             talk = λ c u h. cases (same_line c k) (λ (e : same_line c k ≡ true). absurd (cc (ap (line_ack P now) (same_line_is c k e), t.here, high, h)))
                 (λ (e : same_line c k ≡ false). good.talk c u (sym (t.far c e) ∙ h));
             rising = λ c j b u h z. cases (same_line c k)
-                (λ (e : same_line c k ≡ true). absurd (cc (ap (λ y. w.rail y j b) (same_line_is c k e),
-                    neutral_low (line_width P k) (w.rail k) lows j b (subst (λ (y : Line). j < line_width P y) (same_line_is c k e)
-                    (good.wide c j b (sym (rail_is c j b) ∙ z))), rail_is c j b, z)))
+                (λ (e : same_line c k ≡ true). absurd (cc (
+                  ap (λ y. w.rail y j b) (same_line_is c k e),
+                  neutral_low (line_width P k) (w.rail k) lows j b (subst (λ (y : Line). j < line_width P y) (same_line_is c k e)
+                      (good.wide c j b (sym (rail_is c j b) ∙ z))),
+                  rail_is c j b,
+                  z,
+                )))
                 (λ (e : same_line c k ≡ false). good.rising c j b u (sym (t.far c e) ∙ h) (sym (rail_is c j b) ∙ z));
             falling = λ c j b h z. rail_is c j b ∙ cases (same_line c k) (λ (e : same_line c k ≡ true). absurd
                 (cc (ap (line_ack P now) (same_line_is c k e), t.here, high, h))) (λ (e : same_line c k ≡ false). good.falling c j b (sym (t.far c e) ∙ h) z);
@@ -760,10 +785,10 @@ module _ (P : TypedProgram) (script : List OfferValue) {m : Mode} {g : GuardedAt
           → (w.ack c ≡ false) × (w.rail (of_channel c) i (not side) ≡ false)
       sent z =
           let rest = turns (w.rail (of_channel c) i side) ((guarded_shown g).offer (of_channel c) i side)
-              (not ((guarded_shown g).offer (of_channel c) i side)) in
+          (not ((guarded_shown g).offer (of_channel c) i side)) in
           let o : (guarded_shown g).offer (of_channel c) i side ≡ true =
           ap (λ v. turns v ((guarded_shown g).offer (of_channel c) i side) (not ((guarded_shown g).offer (of_channel c) i side))) (sym r)
-              ∙ snd_true (is_merged P (of_channel c)) rest z in
+          ∙ snd_true (is_merged P (of_channel c)) rest z in
           let l = up_low P script hs good (of_channel c) i side r o in
           (l, other_low (of_channel c) i side (fst_true (is_merged P (of_channel c)) rest z) l o)
 
@@ -775,13 +800,16 @@ module _ (P : TypedProgram) (script : List OfferValue) {m : Mode} {g : GuardedAt
       drive z =
           let o = gives_of (channel_width P.channels c) w c (completed hs c) (offer_at script c) i side z in
           let d : drives (channel_width P.channels c) w c (slice_get o.0 (completed hs c)) i side ≡ true = sym
-              (ap (λ x. offers (channel_width P.channels c) w c (completed hs c) x i side) o.1) ∙ z in
+          (ap (λ x. offers (channel_width P.channels c) w c (completed hs c) x i side) o.1) ∙ z in
           cases (w.ack c)
           (λ (h : w.ack c ≡ true).
-          absurd (cc (r, sym (ap (λ b. if b then w.rail (of_channel c) i side else brings (channel_width P.channels c)
-              (slice_get o.0 (completed hs c)) i side && (not (w.rail (of_channel c) i true) && not (w.rail (of_channel c) i false))) h) ∙ d)))
+          absurd (cc (
+            r,
+            sym (ap (λ b. if b then w.rail (of_channel c) i side else brings (channel_width P.channels c)
+                (slice_get o.0 (completed hs c)) i side && (not (w.rail (of_channel c) i true) && not (w.rail (of_channel c) i false))) h) ∙ d,
+          )))
           (λ (h : w.ack c ≡ false). let up = drives_up (channel_width P.channels c) w c (slice_get o.0 (completed hs c)) i side h d in
-              (h, low (not side) up.1 up.2))
+          (h, low (not side) up.1 up.2))
 
   pub phase_down : (c i : ℕ) (side : Bool) → w.rail (of_channel c) i side ≡ true → can P script g w hs (rail_node (of_channel c) i side) ≡ true → w.ack c ≡ true
   phase_down c i side r z = either (sent_turns P w (of_channel c) i side ((guarded_shown g).offer (of_channel c) i side))
@@ -790,10 +818,10 @@ module _ (P : TypedProgram) (script : List OfferValue) {m : Mode} {g : GuardedAt
       sent : sent_turns P w (of_channel c) i side ((guarded_shown g).offer (of_channel c) i side) ≡ true → w.ack c ≡ true
       sent z =
           let rest = turns (w.rail (of_channel c) i side) ((guarded_shown g).offer (of_channel c) i side)
-              (not ((guarded_shown g).offer (of_channel c) i side)) in
+          (not ((guarded_shown g).offer (of_channel c) i side)) in
           down_high P script hs good (of_channel c) i side (fst_true (is_merged P (of_channel c)) rest z) r
           (not_true ((guarded_shown g).offer (of_channel c) i side) (ap (λ v. turns v ((guarded_shown g).offer (of_channel c) i side)
-              (not ((guarded_shown g).offer (of_channel c) i side))) (sym r) ∙ snd_true (is_merged P (of_channel c)) rest z))
+          (not ((guarded_shown g).offer (of_channel c) i side))) (sym r) ∙ snd_true (is_merged P (of_channel c)) rest z))
 
       high : (b : Bool) → (w.rail (of_channel c) i true ≡ false) → (w.rail (of_channel c) i false ≡ false) → w.rail (of_channel c) i b ≡ false
       high true t f = t
@@ -803,8 +831,8 @@ module _ (P : TypedProgram) (script : List OfferValue) {m : Mode} {g : GuardedAt
       drive z =
           let o = gives_of (channel_width P.channels c) w c (completed hs c) (offer_at script c) i side z in
           let d : drives (channel_width P.channels c) w c (slice_get o.0 (completed hs c)) i side ≡ true = sym
-              (ap (λ x. offers (channel_width P.channels c) w c (completed hs c) x i side) o.1) ∙ z in
+          (ap (λ x. offers (channel_width P.channels c) w c (completed hs c) x i side) o.1) ∙ z in
           cases (w.ack c)
           (λ (h : w.ack c ≡ true). h)
           (λ (h : w.ack c ≡ false). let up = drives_up (channel_width P.channels c) w c (slice_get o.0 (completed hs c)) i side h d in absurd
-              (cc (high side up.1 up.2, r)))
+          (cc (high side up.1 up.2, r)))

@@ -199,8 +199,12 @@ found_behind o xs d f = found_right (o ∷ []) xs d f
 mutual
   found_read : (e : Formula) (v : ℕ) → reads v e ≡ true → Found (reads_of e) (reads_var v)
   found_read (constant w k) v h = absurd (cc h)
-  found_read (reading x high low at) v h = record { o = record { deed = reads_var x; at = at }; among = (0, omega arith, refl); is = ap (λ n. reads_var n)
-      (same_number x v h) }
+  found_read (reading x high low at) v h = record {
+    o = record { deed = reads_var x; at = at };
+    among = (0, omega arith, refl);
+    is = ap (λ n. reads_var n)
+        (same_number x v h);
+  }
   found_read (joined parts) v h = found_read_parts parts v h
   found_read (inverted e) v h = found_read e v h
   found_read (chained e more) v h = found_either (reads_of e) (reads_of_operations more) (reads_var v) (reads v e) (reads_in_operations v more) h
@@ -220,16 +224,28 @@ mutual
 
 mutual
   found : (p : Process) (k : Line) → sends p k ≡ true → Found (occurrences p) (deed_of k)
-  found (assigning x at e) k h = record { o = record { deed = writes_var x; at = at }; among = (0, omega arith, refl); is = ap deed_of
-      (same_line_is (of_var x) k h) }
-  found (sending c at e) k h = record { o = record { deed = sends_on c; at = at }; among = (0, omega arith, refl); is = ap deed_of
-      (same_line_is (of_channel c) k h) }
+  found (assigning x at e) k h = record {
+    o = record { deed = writes_var x; at = at };
+    among = (0, omega arith, refl);
+    is = ap deed_of
+        (same_line_is (of_var x) k h);
+  }
+  found (sending c at e) k h = record {
+    o = record { deed = sends_on c; at = at };
+    among = (0, omega arith, refl);
+    is = ap deed_of
+        (same_line_is (of_channel c) k h);
+  }
   found (in_turn members) k h = found_each members k h
   found (side_by_side members) k h = found_each members k h
   found (repeating p) k h = found p k h
   found skipping k h = absurd (cc h)
-  found (receiving c at x to) k h = record { o = record { deed = writes_var x; at = to }; among = (1, omega arith, refl); is = ap deed_of
-      (same_line_is (of_var x) k h) }
+  found (receiving c at x to) k h = record {
+    o = record { deed = writes_var x; at = to };
+    among = (1, omega arith, refl);
+    is = ap deed_of
+        (same_line_is (of_var x) k h);
+  }
   found (choosing again choices) k h = absurd (cc h)
 
   found_each : (members : Processes) (k : Line) → turn_sends members k ≡ true → Found (occurrences_of_each members) (deed_of k)
@@ -257,8 +273,12 @@ mutual
 -- and where it receives
 mutual
   found_receive : (p : Process) (c : ℕ) → receives p c ≡ true → Found (occurrences p) (receives_on c)
-  found_receive (receiving k at x to) c h = record { o = record { deed = receives_on k; at = at }; among = (0, omega arith, refl); is = ap (λ n. receives_on n)
-      (same_number k c h) }
+  found_receive (receiving k at x to) c h = record {
+    o = record { deed = receives_on k; at = at };
+    among = (0, omega arith, refl);
+    is = ap (λ n. receives_on n)
+        (same_number k c h);
+  }
   found_receive (in_turn members) c h = found_receive_each members c h
   found_receive (side_by_side members) c h = found_receive_each members c h
   found_receive (repeating p) c h = found_receive p c h
@@ -293,7 +313,7 @@ fair_of p more apart = record {
     none d g clash x true f =
         let y = f refl in
         absurd (apart x.o y.o (inl (inl (x.among, y.among))) (subst (λ (c : Deed). Clash c y.o.deed) (sym x.is)
-            (subst (λ (c : Deed). Clash d c) (sym y.is) clash)))
+        (subst (λ (c : Deed). Clash d c) (sym y.is) clash)))
 
 mutual
   pub meets : TreesSettle → ExpressionsHold → (P : TypedProgram) → ((x : ℕ) → x < length P.vars → 1 ≤ var_width P.vars x) → (p : Process)
@@ -305,8 +325,12 @@ mutual
   meets law hold P some_bit (repeating p) apart h k = meets law hold P some_bit p apart h k
   meets law hold P some_bit (assigning x at e) apart h k = assign_meets hold P x e h k
   meets law hold P some_bit (receiving c at x to) apart h k = port_meets P some_bit c x h
-  meets law hold P some_bit (side_by_side members) apart h k = (h.0, tree_over (member_count members) law
-      (let e : 2 ≤ member_count members = h.0 in let g : 1 ≤ member_count members = omega (arith, e) in g), each_meets law hold P some_bit members apart h.1 k)
+  meets law hold P some_bit (side_by_side members) apart h k = (
+    h.0,
+    tree_over (member_count members) law
+        (let e : 2 ≤ member_count members = h.0 in let g : 1 ≤ member_count members = omega (arith, e) in g),
+    each_meets law hold P some_bit members apart h.1 k,
+  )
   meets law hold P some_bit (choosing again _) apart h k = k
 
   pub turn_meets : TreesSettle → ExpressionsHold → (P : TypedProgram) → ((x : ℕ) → x < length P.vars → 1 ≤ var_width P.vars x) → (members : Processes)
@@ -314,9 +338,11 @@ mutual
       → AreCovered members → TurnMeets P members
   turn_meets law hold P some_bit no_members apart some h k = let g : ⊥ = omega (arith, some) in g
   turn_meets law hold P some_bit (and_member p no_members) apart some h k = meets law hold P some_bit p (λ a b h. apart a b (inl h)) h.0 k.0
-  turn_meets law hold P some_bit (and_member p (and_member q more)) apart some h k =
-      (meets law hold P some_bit p (λ a b h. apart a b (inl h)) h.0 k.0, turn_meets law hold P some_bit (and_member q more) (λ a b h. apart a b (inr h))
-      (let g : 1 ≤ suc (member_count more) = omega arith in g) h.1 k.1)
+  turn_meets law hold P some_bit (and_member p (and_member q more)) apart some h k = (
+    meets law hold P some_bit p (λ a b h. apart a b (inl h)) h.0 k.0,
+    turn_meets law hold P some_bit (and_member q more) (λ a b h. apart a b (inr h))
+        (let g : 1 ≤ suc (member_count more) = omega arith in g) h.1 k.1,
+  )
 
   pub each_meets : TreesSettle → ExpressionsHold → (P : TypedProgram) → ((x : ℕ) → x < length P.vars → 1 ≤ var_width P.vars x) → (members : Processes)
       → ((a b : Occurrence) → Parallel (side_by_side members) a b → ¬ Clash a.deed b.deed) → AreProcesses P.channels P.vars members → AreCovered members

@@ -378,7 +378,7 @@ low_sides_answer : (members : Processes) → answer (side_by_side members) (low 
 low_sides_answer members =
     let n = member_count members in
     all_low_value n (branch_ends members (low_branches members)) (bit_at (joint_count n) (low_bits (joint_count n))) (low_end members) (low_bit (joint_count n))
-        (tree_top (range_with_len 0 n) n)
+    (tree_top (range_with_len 0 n) n)
 
 mutual
   pub low_answer : (p : Process) → answer p (low p) ≡ false
@@ -490,7 +490,7 @@ mutual
   low_quiet (side_by_side members) env (joint k) =
       let n = member_count members in
       joint_quiet n (branch_ends members (low_branches members)) (bit_at (joint_count n) (low_bits (joint_count n))) (low_end members)
-          (low_bit (joint_count n)) k
+      (low_bit (joint_count n)) k
   low_quiet (choosing again _) env s = refl
 
   pub low_branch_quiet : (members : Processes) (env : Seen) (s : BranchSpot members) → fires (branch_rule members env false (low_branches members) s) ≡ false

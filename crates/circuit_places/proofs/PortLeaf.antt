@@ -231,8 +231,14 @@ module _ (P : TypedProgram) (c x : ℕ) (env : Seen) (clean : Clean P env) (meet
       let done = runs_va k ack va (full q) (none q) f.ends kept in
       let all = runs_full k ack va (full q) (none q) f.ends done in
       port_goes answered k q kept refl refl
-      (record { ends = both_true k _ kept
-          (both_true ack _ h (both_true va _ done all)); before = f.before; behind = f.behind; within = f.within; single = f.single })
+      (record {
+        ends = both_true k _ kept
+            (both_true ack _ h (both_true va _ done all));
+        before = f.before;
+        behind = f.behind;
+        within = f.within;
+        single = f.single;
+      })
       (flow_same env (port_shown c x k q)) (sym (ap (waits running) h)) (ap (under_way running) h) keeps
     where
       keeps : (t : PortSpot) → t ≢ heard → port_moves env c x running k q t ≡ true → port_moves env c x answered k q t ≡ true
@@ -247,8 +253,14 @@ module _ (P : TypedProgram) (c x : ℕ) (env : Seen) (clean : Clean P env) (meet
       let all = runs_full k ack va (full q) (none q) f.ends h in
       let w = whole k q gone running f all in
       port_goes running true q refl (ap (λ b. port_of false (not b) q) (sym gone)) refl
-      (record { ends = run_ends true ack va (full q) (none q) (λ e. refl) (λ e. h) (λ e. all); before = λ e i one z. absurd
-          (cc e); behind = λ e i one z. w.1 i one z; within = f.within; single = f.single })
+      (record {
+        ends = run_ends true ack va (full q) (none q) (λ e. refl) (λ e. h) (λ e. all);
+        before = λ e i one z. absurd
+            (cc e);
+        behind = λ e i one z. w.1 i one z;
+        within = f.within;
+        single = f.single;
+      })
       (subst (λ (b : Bool). Flow env (port_shown c x b q) (port_shown c x true q)) (sym gone) (has_stored q low w.0)) refl refl keeps
     where
       keeps : (t : PortSpot) → t ≢ stored → port_moves env c x running k q t ≡ true → port_moves env c x running true q t ≡ true
@@ -296,7 +308,7 @@ module _ (P : TypedProgram) (c x : ℕ) (env : Seen) (clean : Clean P env) (meet
       keeps gone stored ne z = z
       keeps gone (taking j b) ne z = cases ((j == i) && same_bit b one)
           (λ (e : ((j == i) && same_bit b one) ≡ true). absurd (ne (ap (λ n. taking n b) (same_number j i (fst_true (j == i) (same_bit b one) e))
-              ∙ ap (λ s. taking i s) (same_value b one (snd_true (j == i) (same_bit b one) e)))))
+          ∙ ap (λ s. taking i s) (same_value b one (snd_true (j == i) (same_bit b one) e)))))
           (λ (e : ((j == i) && same_bit b one) ≡ false). ap (λ y. if y then not true && not (rail j b) else true && rail j b) (turned_else q i one j b e) ∙ z)
 
   -- the answer falls
@@ -306,7 +318,7 @@ module _ (P : TypedProgram) (c x : ℕ) (env : Seen) (clean : Clean P env) (meet
       let idle_va = low_by va k (back_kept k ack va (full q) (none q) f.ends) gone in
       let lows = none_taken k q returning f (back_none k ack va (full q) (none q) f.ends idle_va) in
       port_rests (ap (λ b. port_of false b (λ i one. false)) (sym gone) ∙ ap (port_of false k) (sym (fun_ext (λ i. fun_ext (λ one. lows i one))))) refl
-          (goes_quiet k q gone h idle_va lows) refl (keeps gone lows)
+      (goes_quiet k q gone h idle_va lows) refl (keeps gone lows)
     where
       keeps : k ≡ false → ((i : ℕ) (one : Bool) → q i one ≡ false) → (t : PortSpot) → t ≢ heard → port_moves env c x returning k q t ≡ false
       keeps gone lows heard ne = absurd (ne refl)
@@ -320,10 +332,16 @@ module _ (P : TypedProgram) (c x : ℕ) (env : Seen) (clean : Clean P env) (meet
       let gone = back_none k ack va (full q) (none q) f.ends h in
       let lows = none_taken k q returning f gone in
       let neutral : neutral_on (env.width (of_channel c)) rail ≡ true = emptied (env.width (of_channel c)) q rail (λ i one z. f.behind kept i one z)
-          (ap (λ n. neutral_on n q) (sym wide) ∙ gone) in
+      (ap (λ n. neutral_on n q) (sym wide) ∙ gone) in
       port_goes returning false q refl (ap (λ b. port_of true (not b) q) (sym kept)) refl
-      (record { ends = back_ends false ack va (full q) (none q) (λ e. absurd (cc e)) (λ e. absurd (differ va e h)) (λ e. gone)
-          (λ e. gone); before = λ e i one z. absurd (cc (lows i one, z)); behind = λ e i one z. absurd (cc e); within = f.within; single = f.single })
+      (record {
+        ends = back_ends false ack va (full q) (none q) (λ e. absurd (cc e)) (λ e. absurd (differ va e h)) (λ e. gone)
+            (λ e. gone);
+        before = λ e i one z. absurd (cc (lows i one, z));
+        behind = λ e i one z. absurd (cc e);
+        within = f.within;
+        single = f.single;
+      })
       (subst (λ (b : Bool). Flow env (port_shown c x b q) (port_shown c x false q)) (sym kept) (has_gone q high neutral)) refl refl keeps
     where
       keeps : (t : PortSpot) → t ≢ stored → port_moves env c x returning k q t ≡ true → port_moves env c x returning false q t ≡ true
@@ -336,7 +354,7 @@ module _ (P : TypedProgram) (c x : ℕ) (env : Seen) (clean : Clean P env) (meet
       → PortAfter c x env returning k q (taking i one)
   drops k q i one f o h =
       let high : va ≡ true = cases va (λ (e : va ≡ true). e) (λ (e : va ≡ false). absurd
-          (cc (none_taken k q returning f (back_none k ack va (full q) (none q) f.ends e) i one, o))) in
+      (cc (none_taken k q returning f (back_none k ack va (full q) (none q) f.ends e) i one, o))) in
       let kept = back_kept k ack va (full q) (none q) f.ends high in
       let p = rails_turned q i one in
       port_goes returning k p refl refl refl
@@ -345,8 +363,12 @@ module _ (P : TypedProgram) (c x : ℕ) (env : Seen) (clean : Clean P env) (meet
             (λ e. absurd (differ k kept e));
         before = λ e j b z. absurd (differ k kept e);
         behind = λ e j b z. cases ((j == i) && same_bit b one)
-            (λ (y : ((j == i) && same_bit b one) ≡ true). absurd (cc (h, ap (λ n. rail n b) (same_number j i (fst_true (j == i) (same_bit b one) y)),
-                ap (rail i) (same_value b one (snd_true (j == i) (same_bit b one) y)), z)))
+            (λ (y : ((j == i) && same_bit b one) ≡ true). absurd (cc (
+              h,
+              ap (λ n. rail n b) (same_number j i (fst_true (j == i) (same_bit b one) y)),
+              ap (rail i) (same_value b one (snd_true (j == i) (same_bit b one) y)),
+              z,
+            )))
             (λ (y : ((j == i) && same_bit b one) ≡ false). turned_else q i one j b y ∙ f.behind kept j b z);
         within = λ j b z. f.within j b (fallen q i one o j b z);
         single = λ j y z. f.single j (fallen q i one o j true y) (fallen q i one o j false z);
@@ -358,7 +380,7 @@ module _ (P : TypedProgram) (c x : ℕ) (env : Seen) (clean : Clean P env) (meet
       keeps stored ne z = z
       keeps (taking j b) ne z = cases ((j == i) && same_bit b one)
           (λ (e : ((j == i) && same_bit b one) ≡ true). absurd (ne (ap (λ n. taking n b) (same_number j i (fst_true (j == i) (same_bit b one) e))
-              ∙ ap (λ s. taking i s) (same_value b one (snd_true (j == i) (same_bit b one) e)))))
+          ∙ ap (λ s. taking i s) (same_value b one (snd_true (j == i) (same_bit b one) e)))))
           (λ (e : ((j == i) && same_bit b one) ≡ false). ap (λ y. if y then not false && not (rail j b) else false && rail j b) (turned_else q i one j b e) ∙ z)
 
   port_after : (m : Mode) (k : Bool) (q : Rails) → port_may m k ≡ true → (s : PortSpot) → PortFits c x m k q env → port_moves env c x m k q s ≡ true
@@ -378,7 +400,7 @@ module _ (P : TypedProgram) (c x : ℕ) (env : Seen) (clean : Clean P env) (meet
       (λ (e : k ≡ false). absurd (cc (ap (λ b. if b then not va else false && va) e, z)))
   port_after returning k q h (taking i one) f z = cases (q i one)
       (λ (e : q i one ≡ true). drops k q i one f e (not_true (rail i one)
-          (sym (ap (λ b. if b then not false && not (rail i one) else false && rail i one) e) ∙ z)))
+      (sym (ap (λ b. if b then not false && not (rail i one) else false && rail i one) e) ∙ z)))
       (λ (e : q i one ≡ false). absurd (cc (ap (λ b. if b then not false && not (rail i one) else false && rail i one) e, z)))
 
 pub receive_after : (P : TypedProgram) (c x : ℕ) (at to : Span) (env : Seen) → Clean P env

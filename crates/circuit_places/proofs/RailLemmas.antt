@@ -73,7 +73,7 @@ each_bit (suc n) rail valid zero below = here (rail zero true) (rail zero false)
     here false false ht hf s = absurd (cc (s, ht, hf))
 each_bit (suc n) rail valid (suc i) below =
     each_bit n (λ i. rail (suc i)) (some_both (bit_value (rail zero true) (rail zero false)) (value_on n (λ i. rail (suc i))) valid).1 i
-        (let g : i < n = omega (arith, below) in g)
+    (let g : i < n = omega (arith, below) in g)
 
 -- a number of at least one bit isn't told by low rails
 pub told_not_low : (n : ℕ) (rail : Rails) → 1 ≤ n → is_some (value_on n rail) ≡ true → neutral_on n rail ≡ false

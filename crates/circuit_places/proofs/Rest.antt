@@ -149,7 +149,7 @@ send_rest P env valid c at e answered u h meets f n = settled refl
 send_rest P env valid c at e running u h meets f n =
     let low : env.ack (of_channel c) ≡ false = n done in
     waiting refl (subst (λ (t : Term). Waiting P t env (site_shown (of_channel c) e u)) (sym (ap (λ b. waits running b (active (sending c at e))) low))
-        (record { going = λ z. cc z; blocked = blocked }))
+    (record { going = λ z. cc z; blocked = blocked }))
   where
     blocked : (place : Place) (s : Process) → statement_at (active (sending c at e)) place ≡ Some s → Blocked P s env (site_shown (of_channel c) e u)
     blocked at_here s z = a_send c at e (site_full P env valid (of_channel c) e u h meets f n) (some_is z)
@@ -207,7 +207,7 @@ receive_rest P env c x at to returning l q h meets n = hanging (holding c x (por
 receive_rest P env c x at to running l q h meets n =
     let low : env.ack (of_channel c) ≡ false = n heard in
     waiting refl (subst (λ (t : Term). Waiting P t env (port_shown c x l q)) (sym (ap (λ b. waits running b (active (receiving c at x to))) low))
-        (record { going = λ z. cc z; blocked = blocked }))
+    (record { going = λ z. cc z; blocked = blocked }))
   where
     blocked : (place : Place) (s : Process) → statement_at (active (receiving c at x to)) place ≡ Some s → Blocked P s env (port_shown c x l q)
     blocked at_here s z = a_receive c x at to (port_waits P env c x l q meets n) (some_is z)
@@ -244,56 +244,54 @@ module _ {p : Process} {more : Processes} (P : TypedProgram) (env : Seen) (x y :
   this_blocked : (q : Process) → Blocked P q env x → Blocked P q env (both_shown x y)
   this_blocked q (a_send c at e site is) = a_send c at e (this_full (of_channel c) site) is
   this_blocked q (a_receive c v at to l is) = a_receive c v at to (record {
-      meets = l.meets;
-      low = l.low;
-      talks = or_left (x.talk (of_var v)) (y.talk (of_var v)) l.talks;
-      hears = or_left (x.listen c) (y.listen c) l.hears;
-      all = λ i one h. or_left (x.offer (of_var v) i one) (y.offer (of_var v) i one) (l.all i one h);
-      has = λ h. or_left (x.take c) (y.take c) (l.has h);
-    }) is
+    meets = l.meets;
+    low = l.low;
+    talks = or_left (x.talk (of_var v)) (y.talk (of_var v)) l.talks;
+    hears = or_left (x.listen c) (y.listen c) l.hears;
+    all = λ i one h. or_left (x.offer (of_var v) i one) (y.offer (of_var v) i one) (l.all i one h);
+    has = λ h. or_left (x.take c) (y.take c) (l.has h);
+  }) is
 
   others_blocked : (q : Process) → Blocked P q env y → Blocked P q env (both_shown x y)
   others_blocked q (a_send c at e site is) = a_send c at e (others_full (of_channel c) site) is
   others_blocked q (a_receive c v at to l is) = a_receive c v at to (record {
-      meets = l.meets;
-      low = l.low;
-      talks = or_right (x.talk (of_var v)) (y.talk (of_var v)) l.talks;
-      hears = or_right (x.listen c) (y.listen c) l.hears;
-      all = λ i one h. or_right (x.offer (of_var v) i one) (y.offer (of_var v) i one) (l.all i one h);
-      has = λ h. or_right (x.take c) (y.take c) (l.has h);
-    }) is
+    meets = l.meets;
+    low = l.low;
+    talks = or_right (x.talk (of_var v)) (y.talk (of_var v)) l.talks;
+    hears = or_right (x.listen c) (y.listen c) l.hears;
+    all = λ i one h. or_right (x.offer (of_var v) i one) (y.offer (of_var v) i one) (l.all i one h);
+    has = λ h. or_right (x.take c) (y.take c) (l.has h);
+  }) is
 
   this_hangs : Hanging P env x → Hanging P env (both_shown x y)
   this_hangs (unstored v f) = unstored v (this_full (of_var v) f)
   this_hangs (let_go k high talks none) = let_go k high
       (or_left (x.talk k) (y.talk k) talks)
       (λ i one. or_false_left (x.offer k i one) (y.offer k i one) (none i one) ∙ s.none_theirs k i one (s.mine k talks))
-
   this_hangs (holding c v r) = holding c v (record {
-      meets = r.meets;
-      high = r.high;
-      talks = or_left (x.talk (of_var v)) (y.talk (of_var v)) r.talks;
-      hears = or_left (x.listen c) (y.listen c) r.hears;
-      all = λ i one h. r.all i one (sym (or_false_right (x.offer (of_var v) i one) (y.offer (of_var v) i one)
-          (s.none_theirs (of_var v) i one (s.mine (of_var v) r.talks))) ∙ h);
-      has = λ h. r.has (sym (or_false_right (x.take c) (y.take c) (low_of (y.take c) (s.taken_theirs c) (s.deaf_theirs c (s.hears_mine c r.hears)))) ∙ h);
-    })
+    meets = r.meets;
+    high = r.high;
+    talks = or_left (x.talk (of_var v)) (y.talk (of_var v)) r.talks;
+    hears = or_left (x.listen c) (y.listen c) r.hears;
+    all = λ i one h. r.all i one (sym (or_false_right (x.offer (of_var v) i one) (y.offer (of_var v) i one)
+        (s.none_theirs (of_var v) i one (s.mine (of_var v) r.talks))) ∙ h);
+    has = λ h. r.has (sym (or_false_right (x.take c) (y.take c) (low_of (y.take c) (s.taken_theirs c) (s.deaf_theirs c (s.hears_mine c r.hears)))) ∙ h);
+  })
 
   others_hang : Hanging P env y → Hanging P env (both_shown x y)
   others_hang (unstored v f) = unstored v (others_full (of_var v) f)
   others_hang (let_go k high talks none) = let_go k high
       (or_right (x.talk k) (y.talk k) talks)
       (λ i one. or_false_left (x.offer k i one) (y.offer k i one) (s.none_mine k i one (s.theirs k talks)) ∙ none i one)
-
   others_hang (holding c v r) = holding c v (record {
-      meets = r.meets;
-      high = r.high;
-      talks = or_right (x.talk (of_var v)) (y.talk (of_var v)) r.talks;
-      hears = or_right (x.listen c) (y.listen c) r.hears;
-      all = λ i one h. r.all i one (sym (or_false_left (x.offer (of_var v) i one) (y.offer (of_var v) i one)
-          (s.none_mine (of_var v) i one (s.theirs (of_var v) r.talks))) ∙ h);
-      has = λ h. r.has (sym (or_false_left (x.take c) (y.take c) (low_of (x.take c) (s.taken_mine c) (s.deaf_mine c (s.hears_theirs c r.hears)))) ∙ h);
-    })
+    meets = r.meets;
+    high = r.high;
+    talks = or_right (x.talk (of_var v)) (y.talk (of_var v)) r.talks;
+    hears = or_right (x.listen c) (y.listen c) r.hears;
+    all = λ i one h. r.all i one (sym (or_false_left (x.offer (of_var v) i one) (y.offer (of_var v) i one)
+        (s.none_mine (of_var v) i one (s.theirs (of_var v) r.talks))) ∙ h);
+    has = λ h. r.has (sym (or_false_left (x.take c) (y.take c) (low_of (x.take c) (s.taken_mine c) (s.deaf_mine c (s.hears_theirs c r.hears)))) ∙ h);
+  })
 
 -- Branches in which nothing moves, under the request: all have ended, or some wait and the others have ended, or one
 -- hangs.
@@ -324,20 +322,29 @@ module _ {p : Process} {more : Processes} (P : TypedProgram) (env : Seen) (x y :
   both_rest k ks t ts a over (waiting e w) (one_hangs h) = one_hangs (others_hang P env x y s h)
   both_rest k ks t ts a over (settled e) (all_ended h f) = all_ended (both_true (acks k) (all_ack ks) (e ∙ a) h)
       (ap (λ z. is_finished z && all_finished ts) (over e) ∙ f)
-  both_rest k ks t ts a over (settled e) (some_wait w) = some_wait (record { going = ap (λ b. is_finished t && b) w.going
-      ∙ never (is_finished t); blocked = here (over e) })
+  both_rest k ks t ts a over (settled e) (some_wait w) = some_wait (record {
+    going = ap (λ b. is_finished t && b) w.going
+        ∙ never (is_finished t);
+    blocked = here (over e);
+  })
     where
       here : t ≡ finished → (j : ℕ) (at : Place) (q : Process) → branch_at (and_branch t ts) j at ≡ Some q → Blocked P q env (both_shown x y)
       here over zero at q h = absurd (cc (ap is_finished over, some_stands t at q h))
       here over (suc j) at q h = others_blocked P env x y s q (w.blocked j at q h)
-  both_rest k ks t ts a over (waiting e w) (all_ended h f) = some_wait (record { going = ap (λ b. b && all_finished ts)
-      (not_finished t w.going); blocked = here })
+  both_rest k ks t ts a over (waiting e w) (all_ended h f) = some_wait (record {
+    going = ap (λ b. b && all_finished ts)
+        (not_finished t w.going);
+    blocked = here;
+  })
     where
       here : (j : ℕ) (at : Place) (q : Process) → branch_at (and_branch t ts) j at ≡ Some q → Blocked P q env (both_shown x y)
       here zero at q h = this_blocked P env x y s q (w.blocked at q h)
       here (suc j) at q h = absurd (cc (f, inside_stands ts j at q h))
-  both_rest k ks t ts a over (waiting e w) (some_wait v) = some_wait (record { going = ap (λ b. b && all_finished ts)
-      (not_finished t w.going); blocked = here })
+  both_rest k ks t ts a over (waiting e w) (some_wait v) = some_wait (record {
+    going = ap (λ b. b && all_finished ts)
+        (not_finished t w.going);
+    blocked = here;
+  })
     where
       here : (j : ℕ) (at : Place) (q : Process) → branch_at (and_branch t ts) j at ≡ Some q → Blocked P q env (both_shown x y)
       here zero at q h = this_blocked P env x y s q (w.blocked at q h)
@@ -436,7 +443,7 @@ mutual
   branches_rest P env valid (and_at {k = k} {ks = ks} g b) meets f h n =
       let a : asks k ≡ true = same_value (asks k) true (fst_true (same_bit (asks k) true) (all_ask true ks) h) in
       both_rest P env (guarded_shown g) (branches_shown b) (beside meets.1 g b) k ks (guarded_left env.ack g) (branches_left env.ack b) a
-          (guarded_over env.ack g a)
+      (guarded_over env.ack g a)
       (guarded_rest P env valid g meets.0 f.0 (λ s. n (in_this s)))
       (branches_rest P env valid b meets.2 f.1 (snd_true (same_bit (asks k) true) (all_ask true ks) h) (λ s. n (in_others s)))
 
@@ -446,8 +453,8 @@ mutual
   turn_rest P env valid (at_last a) meets f n = rest P env valid a meets f (λ s. n (in_last s))
   turn_rest P env valid (at_member {q = q} {more = more} g) meets f n =
       running_rest P (guarded_left env.ack g) (followed (guarded_left env.ack g) (and_member q more)) env (guarded_shown g)
-          (λ r. waiting_then P (and_member q more) (guarded_left env.ack g) env (guarded_shown g) r)
-          (guarded_rest P env valid g meets.0 f (λ s. n (in_member s)))
+      (λ r. waiting_then P (and_member q more) (guarded_left env.ack g) env (guarded_shown g) r)
+      (guarded_rest P env valid g meets.0 f (λ s. n (in_member s)))
   turn_rest P env valid (at_later {k = answered} {n = running} {m = running} g t h) meets f n = turn_rest P env valid t meets.1 f (λ s. n (in_later s))
   turn_rest P env valid (at_later {m = answered} g t h) meets f n = settled refl
   turn_rest P env valid (at_later {k = returning} {n = answered} {m = returning} (g_back true) t h) meets f n = absurd (cc (n (in_member latch)))

@@ -161,15 +161,15 @@ module _ {members : Processes} {ks : List Mode} (env : Seen) (m : Mode) (t : Bit
           let same : ends r.modes ≡ ends ks = fun_ext f in
           moved_on
           (may (subst (λ (x : ℕ → Bool). Settled (member_count members) x t) (sym same) h.settles)
-              (ap (λ (x : ℕ → Bool). top_of (member_count members) x t) same ∙ h.top))
+          (ap (λ (x : ℕ → Bool). top_of (member_count members) x t) same ∙ h.top))
           (λ k z. ap (λ (x : ℕ → Bool). joint_moves (member_count members) x t k) same ∙ z)
       here (one_end i less f e) =
           let same : ends r.modes ≡ turned_value (ends ks) i = fun_ext f in
           let y = leaf_turns (member_count members) h.known h.some (ends ks) (bit_at (joint_count (member_count members)) t) i
-              (subst (λ (x : ℕ). i < x) (as_many b) less) h.settles (e ∙ (away m (side_goes m h r.way) ∙ sym h.top)) in
+          (subst (λ (x : ℕ). i < x) (as_many b) less) h.settles (e ∙ (away m (side_goes m h r.way) ∙ sym h.top)) in
           moved_on
           (may (subst (λ (x : ℕ → Bool). Settled (member_count members) x t) (sym same) y.settled)
-              (ap (λ (x : ℕ → Bool). top_of (member_count members) x t) same ∙ (y.top ∙ h.top)))
+          (ap (λ (x : ℕ → Bool). top_of (member_count members) x t) same ∙ (y.top ∙ h.top)))
           (λ k z. ap (λ (x : ℕ → Bool). joint_moves (member_count members) x t k) same ∙ y.keeps k z)
 
 -- a node of the completion tree moves
@@ -259,8 +259,8 @@ module _ {members : Processes} {ks : List Mode} (env : Seen) (t : Bits (joint_co
         to = rests;
         same = sym (ap (λ x. sides_of members x (turned_bits (joint_count (member_count members)) t k)) (branches_idle b idles).0
             ∙ ap (λ x. sides_of members (low_branches members) x) (bits_low (joint_count (member_count members))
-                (turned_bits (joint_count (member_count members)) t k) (flat_nodes (member_count members) h.known (ends ks)
-                (bit_at (joint_count (member_count members)) (turned_bits (joint_count (member_count members)) t k)) false r.settled top all)));
+            (turned_bits (joint_count (member_count members)) t k) (flat_nodes (member_count members) h.known (ends ks)
+            (bit_at (joint_count (member_count members)) (turned_bits (joint_count (member_count members)) t k)) false r.settled top all)));
         way = refl;
         fits = tt;
         flow = flow_by env (branches_shown b) (branches_shown b) none_shown (branches_idle b idles).1 (flow_same env (branches_shown b));
@@ -273,9 +273,11 @@ module _ {members : Processes} {ks : List Mode} (env : Seen) (t : Bits (joint_co
           → moves env (rests {p = side_by_side members}) q ≡ true
       here idles (of_branch q) ne z = absurd (cc (branches_idle_moves env b idles q, z))
       here idles (joint j) ne z =
-          absurd (cc (flat_stands (member_count members) h.known h.some (ends ks)
-              (bit_at (joint_count (member_count members)) (turned_bits (joint_count (member_count members)) t k)) false r.settled top all j,
-              r.keeps j (λ (e : j ≡ k). ne (ap (λ y. joint y) e)) z))
+          absurd (cc (
+            flat_stands (member_count members) h.known h.some (ends ks)
+                (bit_at (joint_count (member_count members)) (turned_bits (joint_count (member_count members)) t k)) false r.settled top all j,
+            r.keeps j (λ (e : j ≡ k). ne (ap (λ y. joint y) e)) z,
+          ))
 
   pub joint_after : (m : Mode) (h : SideMay (member_count members) m ks t) → BranchesFit b env → joint_moves (member_count members) (ends ks) t k ≡ true
       → After (side_by_side members) m env (at_side m t b h) (joint k)
@@ -284,8 +286,11 @@ module _ {members : Processes} {ks : List Mode} (env : Seen) (t : Bits (joint_co
       here : (m : Mode) (h : SideMay (member_count members) m ks t) → JointMoved (member_count members) h.known (ends ks) t k → BranchesFit b env
           → joint_moves (member_count members) (ends ks) t k ≡ true → After (side_by_side members) m env (at_side m t b h) (joint k)
       here idle h r f e = absurd (cc h.awake)
-      here answered h r f e = absurd (cc (flat_stands (member_count members) h.known h.some (ends ks)
-          (bit_at (joint_count (member_count members)) t) true h.settles h.top (ends_high b (h.all refl)) k, e))
+      here answered h r f e = absurd (cc (
+        flat_stands (member_count members) h.known h.some (ends ks)
+            (bit_at (joint_count (member_count members)) t) true h.settles h.top (ends_high b (h.all refl)) k,
+        e,
+      ))
       here running h r f e = by r.top
         where
           by : Topped (member_count members) h.known (ends ks) t k → After (side_by_side members) running env (at_side running t b h) (joint k)

@@ -177,11 +177,11 @@ mutual
   turn_offered (at_last a) k i one = offered a k i one
   turn_offered (at_member {p = p} {q = q} {more = more} g) k i one =
       none_both (site_rails p (guarded_cells g).inner k i one) (turn_rails (and_member q more) (low_turn (and_member q more)) k i one) _ false
-          (guarded_offered g k i one) (low_turn_sites (and_member q more) k i one)
+      (guarded_offered g k i one) (low_turn_sites (and_member q more) k i one)
       ∙ or_false ((guarded_shown g).offer k i one)
   turn_offered (at_later {p = p} {q = q} {more = more} {k = j} {n = n} {m = m} g t h) k i one =
       none_both (site_rails p (guarded_cells g).inner k i one) (turn_rails (and_member q more) (turn_cells t) k i one) false _
-          (past_sites g k i one (not_running m j n h)) (turn_offered t k i one)
+      (past_sites g k i one (not_running m j n h)) (turn_offered t k i one)
 
 -- The nodes that say that a receive has stored, and the acknowledge that is their merge.
 same_taker : (b : Bool) (x y : Port) → is_nil (takers_of_port b x) ≡ is_nil (takers_of_port b y)
@@ -280,7 +280,7 @@ mutual
   turn_taken (at_last a) c = taken a c
   turn_taken (at_member {p = p} {q = q} {more = more} g) c =
       none_both (takers p (guarded_cells g).inner c) (turn_takers (and_member q more) (low_turn (and_member q more)) c) _ false (guarded_taken g c)
-          (low_turn_takers (and_member q more) c) ∙ or_false ((guarded_shown g).take c)
+      (low_turn_takers (and_member q more) c) ∙ or_false ((guarded_shown g).take c)
   turn_taken (at_later {p = p} {q = q} {more = more} {k = j} {n = n} {m = m} g t h) c =
       none_both (takers p (guarded_cells g).inner c) (turn_takers (and_member q more) (turn_cells t) c) false _ (past_takers g c (not_running m j n h))
-          (turn_taken t c)
+      (turn_taken t c)

@@ -52,8 +52,13 @@ pub record Good (P : TypedProgram) (m : Mode) (g : GuardedAt P.body m) (w : Wire
 
 -- so no bit of a variable has both rails high
 pub clean_of : {P : TypedProgram} {m : Mode} {g : GuardedAt P.body m} {w : Wires} → Good P m g w → Clean P (seen P w)
-clean_of {P = P} {w = w} good = record { single = λ x i. here x i (w.bit x i true)
-    (w.bit x i false) refl refl; wide = λ k. refl; rails = good.single; below = λ c i one h. good.wide (of_channel c) i one h }
+clean_of {P = P} {w = w} good = record {
+  single = λ x i. here x i (w.bit x i true)
+      (w.bit x i false) refl refl;
+  wide = λ k. refl;
+  rails = good.single;
+  below = λ c i one h. good.wide (of_channel c) i one h;
+}
   where
     here : (x i : ℕ) (t f : Bool) → w.bit x i true ≡ t → w.bit x i false ≡ f → not (w.bit x i true && w.bit x i false) ≡ true
     here x i false f ht hf = ap (λ b. not (b && w.bit x i false)) ht
@@ -61,7 +66,7 @@ clean_of {P = P} {w = w} good = record { single = λ x i. here x i (w.bit x i tr
     here x i true true ht hf =
         let less = good.no_bit x i true ht in
         single_bit (now_at (w.bit x) (w.rail (of_var x)) (w.wrote x) (line_ack P w (of_var x)) i)
-            ((good.block x (let g : 1 ≤ var_width P.vars x = omega (arith, less) in g)).bits i less)
+        ((good.block x (let g : 1 ≤ var_width P.vars x = omega (arith, less) in g)).bits i less)
 
 -- the environment moves a rail of an `in` channel
 abbrev pub driven : TypedProgram → List OfferValue → Wires → List (List ℕ) → Line → ℕ → Bool → Bool
@@ -181,7 +186,7 @@ pub may_low : (n : ℕ) (env : Wires) (k : ℕ) (more : Bool) → env.ack k ≡ 
     → (is_some (value_on n (env.rail (of_channel k))) ≡ true) × (more ≡ true)
 may_low n env k more low e =
     let both : (is_some (value_on n (env.rail (of_channel k))) && more) ≡ true = sym
-        (ap (λ b. if b then neutral_on n (env.rail (of_channel k)) else is_some (value_on n (env.rail (of_channel k))) && more) low) ∙ e in
+    (ap (λ b. if b then neutral_on n (env.rail (of_channel k)) else is_some (value_on n (env.rail (of_channel k))) && more) low) ∙ e in
     (fst_true (is_some (value_on n (env.rail (of_channel k)))) more both, snd_true (is_some (value_on n (env.rail (of_channel k)))) more both)
 
 pub may_high : (n : ℕ) (env : Wires) (k : ℕ) (more : Bool) → env.ack k ≡ true → receives n env k more ≡ true → neutral_on n (env.rail (of_channel k)) ≡ true
@@ -229,10 +234,10 @@ module _ (P : TypedProgram) (script : List OfferValue) {m : Mode} {g : GuardedAt
     own_keeps (own_node q) ne z = r.keeps q (λ (i : q ≡ s). ne (ap (λ y. own_node y) i)) z
     own_keeps (rail_node k i one) ne z =
         or_map (sent_turns P w k i one ((guarded_shown g).offer k i one)) (driven P script w hs k i one)
-            (sent_turns P w k i one ((guarded_shown r.to).offer k i one)) (driven P script w hs k i one)
+        (sent_turns P w k i one ((guarded_shown r.to).offer k i one)) (driven P script w hs k i one)
         (λ z. both_true (is_merged P k) (turns (w.rail k i one) ((guarded_shown r.to).offer k i one) (not ((guarded_shown r.to).offer k i one)))
-            (fst_true (is_merged P k) _ z) (here (fst_true (is_merged P k) _ z) (w.rail k i one) ((guarded_shown g).offer k i one)
-            ((guarded_shown r.to).offer k i one) refl refl refl (snd_true (is_merged P k) _ z)))
+        (fst_true (is_merged P k) _ z) (here (fst_true (is_merged P k) _ z) (w.rail k i one) ((guarded_shown g).offer k i one)
+        ((guarded_shown r.to).offer k i one) refl refl refl (snd_true (is_merged P k) _ z)))
         (λ z. z) z
       where
         here : is_merged P k ≡ true → (v o n : Bool) → w.rail k i one ≡ v → (guarded_shown g).offer k i one ≡ o → (guarded_shown r.to).offer k i one ≡ n
@@ -244,10 +249,10 @@ module _ (P : TypedProgram) (script : List OfferValue) {m : Mode} {g : GuardedAt
         here u false false n hv ho hn z = absurd (cc z)
     own_keeps (ack_node k) ne z =
         or_map (heard_turns P w k ((guarded_shown g).take k)) (answers (channel_width P.channels k) w k (completed hs k) (offer_at script k))
-            (heard_turns P w k ((guarded_shown r.to).take k)) (answers (channel_width P.channels k) w k (completed hs k) (offer_at script k))
+        (heard_turns P w k ((guarded_shown r.to).take k)) (answers (channel_width P.channels k) w k (completed hs k) (offer_at script k))
         (λ z. both_true (is_heard (kind_at P.channels k)) (turns (w.ack k) ((guarded_shown r.to).take k) (not ((guarded_shown r.to).take k)))
-            (fst_true (is_heard (kind_at P.channels k)) _ z) (here (w.ack k) ((guarded_shown g).take k) ((guarded_shown r.to).take k) refl refl refl
-            (snd_true (is_heard (kind_at P.channels k)) _ z)))
+        (fst_true (is_heard (kind_at P.channels k)) _ z) (here (w.ack k) ((guarded_shown g).take k) ((guarded_shown r.to).take k) refl refl refl
+        (snd_true (is_heard (kind_at P.channels k)) _ z)))
         (λ z. z) z
       where
         here : (v o n : Bool) → w.ack k ≡ v → (guarded_shown g).take k ≡ o → (guarded_shown r.to).take k ≡ n → turns v o (not o) ≡ true

@@ -171,7 +171,7 @@ contains_at from (r ∷ rs) zero less = subst (λ (i : ℕ). Contains (owned_fro
 contains_at from (r ∷ rs) (suc k) less =
     subst (λ (i : ℕ). Contains (owned_from from (r ∷ rs)) (owned i (get_or rs k no_guards))) (let e : from + 1 + k ≡ from + suc k = omega arith in e)
     (Contains-append_right (owned from r ∷ []) (owned_from (from + 1) rs) (owned (from + 1 + k) (get_or rs k no_guards))
-        (contains_at (from + 1) rs k (omega arith)))
+    (contains_at (from + 1) rs k (omega arith)))
 
 pub record Numbered (from : ℕ) (rs : List NodeRules) (o : Owned) : Type 0 where
   pub at : ℕ
@@ -187,8 +187,12 @@ numbered from (r ∷ rs) o among = by (among_cases (owned from r) (owned_from (f
     by (inl e) f = record { at = 0; less = omega arith; is = ap (λ i. owned i r) (let z : from + 0 ≡ from = omega arith in z) ∙ e }
     by (inr h) f =
         let y = f h in
-        record { at = suc y.at; less = (let z = y.less in omega (arith, z)); is = ap (λ i. owned i (get_or rs y.at no_guards))
-            (let z : from + suc y.at ≡ from + 1 + y.at = omega arith in z) ∙ y.is }
+        record {
+          at = suc y.at;
+          less = (let z = y.less in omega (arith, z));
+          is = ap (λ i. owned i (get_or rs y.at no_guards))
+              (let z : from + suc y.at ≡ from + 1 + y.at = omega arith in z) ∙ y.is;
+        }
 
 -- what is known of the tree over so many leaves
 abbrev pub TreeOver : ℕ → Type 0
@@ -286,7 +290,7 @@ module _ (n : ℕ) where
               let below = joint_below n leaf node k f in
               sym (own_fires (turned leaf i) node k)
               ∙ subst (λ (v : ℕ → Bool). parts.fires v (node_of k) ≡ true) same
-                  (known.firm (values leaf node) (node_of k) i s.is (own k below) (own_fires leaf node k ∙ f) move (λ (x : i ≡ n + k). omega (arith, less, x)));
+              (known.firm (values leaf node) (node_of k) i s.is (own k below) (own_fires leaf node k ∙ f) move (λ (x : i ≡ n + k). omega (arith, less, x)));
         }
 
     -- a node of its own moves
@@ -307,8 +311,8 @@ module _ (n : ℕ) where
       keeps = λ j ne g.
           sym (own_fires leaf (turned node k) j)
           ∙ subst (λ (v : ℕ → Bool). parts.fires v (node_of j) ≡ true) same
-              (known.firm (values leaf node) (node_of j) (n + k) s.is (own j (joint_below n leaf node j g)) (own_fires leaf node j ∙ g) move
-              (λ (x : n + k ≡ n + j). ne (omega (arith, x))));
+          (known.firm (values leaf node) (node_of j) (n + k) s.is (own j (joint_below n leaf node j g)) (own_fires leaf node j ∙ g) move
+          (λ (x : n + k ≡ n + j). ne (omega (arith, x))));
     }
       where
         less : k < joint_count n
@@ -330,9 +334,9 @@ module _ (n : ℕ) where
         by (inr ne) = stays_top (at (tree_top leaves n) ∙ turned_apart (values leaf node) (n + k) (tree_top leaves n) (λ e. ne (sym e)))
         by (inl e) = turns_top
             (at (tree_top leaves n) ∙ (ap (turned (values leaf node) (n + k)) (sym e)
-                ∙ (turned_here (values leaf node) (n + k) ∙ ap (λ x. not (values leaf node x)) e)))
+            ∙ (turned_here (values leaf node) (n + k) ∙ ap (λ x. not (values leaf node x)) e)))
             (λ i below. sym (value_leaf n leaf node i below) ∙ All-contains (λ x. values leaf node x ≡ not (values leaf node (tree_top leaves n))) leaves i
-                (known.turns (values leaf node) (node_of k) s.is (own k less) enabled e) (leaf_there i below))
+            (known.turns (values leaf node) (node_of k) s.is (own k less) enabled e) (leaf_there i below))
 
     -- where all leaves have the top's value, all nodes have it, and none moves
     pub flat_nodes : (leaf : ℕ → Bool) (node : ℕ → Bool) (b : Bool) → Settling n leaf node → tree_answer n leaf node ≡ b → ((i : ℕ) → i < n → leaf i ≡ b)
@@ -340,7 +344,7 @@ module _ (n : ℕ) where
     flat_nodes leaf node b s at all k less =
         sym (value_node n leaf node k)
         ∙ (known.flat (values leaf node) s.is (all_leaves (λ i. values leaf node i ≡ values leaf node (tree_top leaves n))
-            (λ i below. value_leaf n leaf node i below ∙ (all i below ∙ sym at))) (node_of k) (own k less) ∙ at)
+        (λ i below. value_leaf n leaf node i below ∙ (all i below ∙ sym at))) (node_of k) (own k less) ∙ at)
 
     differ : (b : Bool) → b ≡ not b → ⊥
     differ true e = cc e

@@ -43,26 +43,32 @@ site_there env y e m u h f x i one low z =
     (λ (n : empty e u ≡ true). absurd (cc (empty_low e h.known u n i one, snd_true (y == x) (out_rail e u i one) z)))
     (λ (n : empty e u ≡ false). n) in
     both_true (y == x) (under_way m (env.ack (of_var y))) same (held_runs m (full e u) (empty e u) (env.ack (of_var y)) h.may f.0 some
-        (ap (λ v. env.ack (of_var v)) (same_number y x same) ∙ low))
+    (ap (λ v. env.ack (of_var v)) (same_number y x same) ∙ low))
 
 port_there : (env : Seen) (c y : ℕ) (m : Mode) (k : Bool) (q : Rails) → port_may m k ≡ true → PortFits c y m k q env → (x i : ℕ) (one : Bool)
     → env.ack (of_var x) ≡ false → ((y == x) && q i one) ≡ true → ((y == x) && under_way m (env.ack (of_channel c))) ≡ true
 port_there env c y m k q h f x i one low z =
     let same = fst_true (y == x) (q i one) z in
     both_true (y == x) (under_way m (env.ack (of_channel c))) same (by m h f (ap (λ v. env.ack (of_var v)) (same_number y x same) ∙ low)
-        (snd_true (y == x) (q i one) z))
+    (snd_true (y == x) (q i one) z))
   where
     by : (m : Mode) → port_may m k ≡ true → PortFits c y m k q env → env.ack (of_var y) ≡ false → q i one ≡ true → under_way m (env.ack (of_channel c)) ≡ true
     by idle h f v o = absurd (cc h)
-    by answered h f v o = absurd (cc (answered_va k (env.ack (of_channel c)) (env.ack (of_var y)) (is_some (value_on (env.width (of_var y)) q))
-        (neutral_on (env.width (of_var y)) q) f.ends, v))
-    by returning h f v o = absurd (cc (port_none c y returning k q env f (back_none k (env.ack (of_channel c)) (env.ack (of_var y))
-        (is_some (value_on (env.width (of_var y)) q)) (neutral_on (env.width (of_var y)) q) f.ends v) i one, o))
+    by answered h f v o = absurd (cc (
+      answered_va k (env.ack (of_channel c)) (env.ack (of_var y)) (is_some (value_on (env.width (of_var y)) q))
+          (neutral_on (env.width (of_var y)) q) f.ends,
+      v,
+    ))
+    by returning h f v o = absurd (cc (
+      port_none c y returning k q env f (back_none k (env.ack (of_channel c)) (env.ack (of_var y))
+          (is_some (value_on (env.width (of_var y)) q)) (neutral_on (env.width (of_var y)) q) f.ends v) i one,
+      o,
+    ))
     by running h f v o =
         let gone = low_by k (env.ack (of_var y)) (runs_va k (env.ack (of_channel c)) (env.ack (of_var y)) (is_some (value_on (env.width (of_var y)) q))
-            (neutral_on (env.width (of_var y)) q) f.ends) v in
+        (neutral_on (env.width (of_var y)) q) f.ends) v in
         ap not (low_by (env.ack (of_channel c)) k (runs_kept k (env.ack (of_channel c)) (env.ack (of_var y)) (is_some (value_on (env.width (of_var y)) q))
-            (neutral_on (env.width (of_var y)) q) f.ends) gone)
+        (neutral_on (env.width (of_var y)) q) f.ends) gone)
 
 mutual
   pub guarded_writing_there : {p : Process} {m : Mode} (env : Seen) (g : GuardedAt p m) → GuardedFits g env → (x i : ℕ) (one : Bool)
@@ -179,7 +185,7 @@ mutual
   branches_writing_other ack now v t no_more x e = refl
   branches_writing_other ack now v t (and_at g b) x e =
       ap (λ z. z || branches_writing now b x) (guarded_writing_other ack now v t g x (first e))
-          ∙ ap (λ z. guarded_writing ack g x || z) (branches_writing_other ack now v t b x (second e))
+      ∙ ap (λ z. guarded_writing ack g x || z) (branches_writing_other ack now v t b x (second e))
     where
       first : (x == v) ≡ false ⊎ (((guarded_shown g).says (of_var x) || (branches_shown b).says (of_var x)) ≡ false)
           → (x == v) ≡ false ⊎ ((guarded_shown g).says (of_var x) ≡ false)
@@ -224,7 +230,7 @@ mutual
   branches_writing_deaf ack now c t (and_at g b) e x =
       ap (λ z. z || branches_writing now b x) (guarded_writing_deaf ack now c t g (neither_left ((guarded_shown g).listen c) ((branches_shown b).listen c) e) x)
       ∙ ap (λ z. guarded_writing ack g x || z) (branches_writing_deaf ack now c t b
-          (neither_right ((guarded_shown g).listen c) ((branches_shown b).listen c) e) x)
+      (neither_right ((guarded_shown g).listen c) ((branches_shown b).listen c) e) x)
 
   turn_writing_deaf : {members : Processes} {m : Mode} (ack now : Line → Bool) (c : ℕ) → OneTurned ack now (of_channel c) → (z : TurnAt members m)
       → (turn_shown z).listen c ≡ false → (x : ℕ) → turn_writing now z x ≡ turn_writing ack z x

@@ -202,7 +202,7 @@ module _ (P : TypedProgram) (given : Given P) where
   high_is m h =
       ap (λ l. high l m) first_is
       ∙ (raised_is (vars_high P 0 P.vars) (replicate (nodes_of P) false) m (omega (arith, h, length-replicated (nodes_of P)))
-          ∙ ap (λ b. b || member m (vars_high P 0 P.vars)) (all_low_at (nodes_of P) m))
+      ∙ ap (λ b. b || member m (vars_high P 0 P.vars)) (all_low_at (nodes_of P) m))
 
   -- beside the blocks all are low
   low_there : (m : ℕ) → m < nodes_of P → (m < 2 + wires_before P.channels (length P.channels)) ⊎ (root_request P ≤ m) → high (first_values P) m ≡ false
@@ -221,14 +221,14 @@ module _ (P : TypedProgram) (given : Given P) where
   block_there y b hy hb =
       let e = part_bounds P given y b hy hb in
       high_is (var_from P y + offset (var_width P.vars y) b) (omega (arith, e.1))
-          ∙ by (member (var_from P y + offset (var_width P.vars y) b) (vars_high P 0 P.vars)) refl
+      ∙ by (member (var_from P y + offset (var_width P.vars y) b) (vars_high P 0 P.vars)) refl
     where
       found : HighRail P 0 P.vars (var_from P y + offset (var_width P.vars y) b) → part_value P given (first_of P).wires y b ≡ true
       found r =
           let u = same_var P given r.var y (a_bit r.bit r.one) b r.some hy r.below hb (high_at P (var_from P y + offset (var_width P.vars y) b) r) in
           let below : r.bit < var_width P.vars y = subst (λ (n : ℕ). r.bit < var_width P.vars n) u r.below in
           let q = same_part P given y (a_bit r.bit r.one) b below hb (sym (ap (λ n. var_from P n + (5 * r.bit + side r.one)) u)
-              ∙ high_at P (var_from P y + offset (var_width P.vars y) b) r) in
+          ∙ high_at P (var_from P y + offset (var_width P.vars y) b) r) in
           ap (part_value P given (first_of P).wires y) (sym q) ∙ (ap (λ n. first_bits P.vars n r.bit r.one) (sym u) ∙ r.high)
 
       none : (b : Part) → member (var_from P y + offset (var_width P.vars y) b) (vars_high P 0 P.vars) ≡ false
@@ -239,8 +239,11 @@ module _ (P : TypedProgram) (given : Given P) where
       none (a_bit i one) e = low (first_bits P.vars y i one) refl
         where
           low : (z : Bool) → first_bits P.vars y i one ≡ z → z ≡ false
-          low true h = absurd (cc (e, ap (λ n. member (var_from P n + (5 * i + side one)) (vars_high P 0 P.vars)) (let g : y ≡ 0 + y = omega arith in g)
-              ∙ high_there P 0 P.vars y i one h))
+          low true h = absurd (cc (
+            e,
+            ap (λ n. member (var_from P n + (5 * i + side one)) (vars_high P 0 P.vars)) (let g : y ≡ 0 + y = omega arith in g)
+                ∙ high_there P 0 P.vars y i one h,
+          ))
           low false h = refl
 
       by : (z : Bool) → member (var_from P y + offset (var_width P.vars y) b) (vars_high P 0 P.vars) ≡ z → z ≡ part_value P given (first_of P).wires y b
@@ -254,8 +257,10 @@ module _ (P : TypedProgram) (given : Given P) where
     done = low_there 1 (omega arith) (inl (omega arith));
     child = low_there (root_request P) (omega arith) (inr (omega arith));
     latch = low_there (root_latch P) (omega arith) (inr (omega arith));
-    body = record { at = λ i h. low_there (body_from P + i) (let e = length-bits P P.body given.covered (low P.body) in omega (arith, h, e)) (inr (omega arith))
-        ∙ sym (ap (λ l. get_or l i false) (low_bits P P.body given.covered) ∙ all_low_at (size_of P P.body) i) };
+    body = record {
+      at = λ i h. low_there (body_from P + i) (let e = length-bits P P.body given.covered (low P.body) in omega (arith, h, e)) (inr (omega arith))
+          ∙ sym (ap (λ l. get_or l i false) (low_bits P P.body given.covered) ∙ all_low_at (size_of P P.body) i);
+    };
     rail = λ k i one hk hi. let e = rail_bounds P k i one hk hi in low_there (channel_from P k + rail_place i one) (omega (arith, e.1)) (inl e.1);
     ack = λ k hk. let e = ack_bounds P k hk in low_there (ack_at P k) (omega (arith, e.1)) (inl e.1);
     block = block_there;
@@ -312,7 +317,7 @@ module _ (P : TypedProgram) (given : Given P) where
     reach (n ∷ ns) st moves r run =
         let e : suc moves + length ns ≡ moves + suc (length ns) = omega arith in
         subst (λ k. Reached (after (translation P) (moved_flat (translation P) st n) ns) k) e
-            (reach ns (moved_flat (translation P) st n) (suc moves) (one_more st moves r n run.0) run.1)
+        (reach ns (moved_flat (translation P) st n) (suc moves) (one_more st moves r n run.0) run.1)
 
     module _ (carried : (moves : ℕ) (x : Whole P.body) → Reaches P script moves x → IsCarried P script moves x) where
       apart : (st : RunState) (moves : ℕ) → Reached st moves → IsApart (translation P) st
@@ -352,11 +357,11 @@ module _ (P : TypedProgram) (given : Given P) where
             let s = r.shows in
             let w = r.cells.wires in
             ap (λ b. if b then high st.values (ack_at P k) else not (high st.values (ack_at P k)) && not
-                (high st.values (channel_from P k + rail_place i (not one)))) (s.rail k i one hk hi)
+            (high st.values (channel_from P k + rail_place i (not one)))) (s.rail k i one hk hi)
             ∙ (ap (λ b. if w.rail (of_channel k) i one then b else not b && not (high st.values (channel_from P k + rail_place i (not one)))) (s.ack k hk)
             ∙ (ap (λ b. if w.rail (of_channel k) i one then w.ack k else not (w.ack k) && not b) (s.rail k i (not one) hk hi)
             ∙ by_value (w.rail (of_channel k) i one) (w.ack k) (w.rail (of_channel k) i (not one)) (λ low. safe.rail_up k i one low (may_rail k i one hk hi e))
-                (λ up. safe.rail_down k i one up (may_rail k i one hk hi e))))
+            (λ up. safe.rail_down k i one up (may_rail k i one hk hi e))))
           where
             by_value : (b a o : Bool) → (b ≡ false → (a ≡ false) × (o ≡ false)) → (b ≡ true → a ≡ true) → (if b then a else not a && not o) ≡ true
             by_value true a o up down = down refl
@@ -369,12 +374,12 @@ module _ (P : TypedProgram) (given : Given P) where
             let w = r.cells.wires in
             let width = channel_width P.channels k in
             let rails : (i : ℕ) (one : Bool) → i < width → high st.values (channel_from P k + rail_place i one) ≡ w.rail
-                (of_channel k) i one = λ i one lt. s.rail k i one hk lt in
+            (of_channel k) i one = λ i one lt. s.rail k i one hk lt in
             ap (λ b. if b then neutral (high st.values) (rails_of (rails_at P k)) else valid (high st.values) (rails_of (rails_at P k))) (s.ack k hk)
             ∙ (ap (λ b. if w.ack k then b else valid (high st.values) (rails_of (rails_at P k)))
-                (neutral_is (high st.values) width (channel_from P k) (w.rail (of_channel k)) rails)
+            (neutral_is (high st.values) width (channel_from P k) (w.rail (of_channel k)) rails)
             ∙ (ap (λ o. if w.ack k then neutral_on width (w.rail (of_channel k)) else is_some o)
-                (value_is (high st.values) width (channel_from P k) (w.rail (of_channel k)) rails)
+            (value_is (high st.values) width (channel_from P k) (w.rail (of_channel k)) rails)
             ∙ by_value (w.ack k) (λ up. safe.ack_down k up (may_ack k hk e)) (λ low. safe.ack_up k low (may_ack k hk e))))
           where
             by_value : {x y : Bool} → (a : Bool) → (a ≡ true → x ≡ true) → (a ≡ false → y ≡ true) → (if a then x else y) ≡ true
@@ -391,11 +396,11 @@ module _ (P : TypedProgram) (given : Given P) where
             let a : (get_or (wires_from P 0 P.channels) k no_channel).ack ≡ ack_at P k = w.1 ∙ ap (ack_at P) z in
             let b : (get_or (wires_from P 0 P.channels) k no_channel).rails ≡ rails_of (rails_at P k) = w.0 ∙ ap (λ j. rails_of (rails_at P j)) z in
             ap (λ l. rails_keep (high st.values) (get_or (wires_from P 0 P.channels) k no_channel).ack l n &&
-                (not (n == (get_or (wires_from P 0 P.channels) k no_channel).ack) || ack_keeps (high st.values)
-                (get_or (wires_from P 0 P.channels) k no_channel).ack l)) b
+            (not (n == (get_or (wires_from P 0 P.channels) k no_channel).ack) || ack_keeps (high st.values)
+            (get_or (wires_from P 0 P.channels) k no_channel).ack l)) b
             ∙ (ap (λ m. rails_keep (high st.values) m (rails_of (rails_at P k)) n && (not (n == m) || ack_keeps (high st.values) m (rails_of (rails_at P k)))) a
             ∙ and_from (rails_keep (high st.values) (ack_at P k) (rails_of (rails_at P k)) n)
-                (not (n == ack_at P k) || ack_keeps (high st.values) (ack_at P k) (rails_of (rails_at P k)))
+            (not (n == ack_at P k) || ack_keeps (high st.values) (ack_at P k) (rails_of (rails_at P k)))
             (rails_kept (high st.values) (channel_width P.channels k) (channel_from P k) (ack_at P k) n (λ i one lt e. rail_keeps_phase k i one hk lt e))
             (by_test (n == ack_at P k) (λ e. ack_keeps_phase k hk (eqb-true n (ack_at P k) e))))
           where
@@ -428,7 +433,7 @@ module _ (P : TypedProgram) (given : Given P) where
             let on = one q.steps q.to q.leads in
             let e : q.steps + (moves - q.steps) ≡ moves = omega (arith, q.within) in
             let a = behind_on q.to (rounds P script q.steps) (rounds P script (q.steps + (moves - q.steps))) (append q.to (rounds P script q.steps) on.0 on.1)
-                (rounds_behind P script hold q.steps (moves - q.steps)) k in
+            (rounds_behind P script hold q.steps (moves - q.steps)) k in
             (a.0, ap (λ m. history_at (rounds P script m).histories k) (sym e) ∙ (a.1 ∙ ap (λ hs. history_at hs k ++ a.0) (q.passed ∙ sym r.shows.histories)))
 
         settled : (st : RunState) (moves : ℕ) → Reached st moves → IsAtRestFlat (translation P) script st → IsSettled st (rounds P script moves)
@@ -440,7 +445,7 @@ module _ (P : TypedProgram) (given : Given P) where
             let there : rounds P script moves ≡ q.to =
             ap (rounds P script) (sym e) ∙ (rounds_on (start_of P script) q.steps (moves - q.steps)
             ∙ (ap (λ c. rounds_from c (moves - q.steps)) (sym (leads_nowhere q.to (rounds P script q.steps) on.0 z.still on.1))
-                ∙ rounds_stay steps_taken q.to z.still (moves - q.steps))) in
+            ∙ rounds_stay steps_taken q.to z.still (moves - q.steps))) in
             subst (λ c. IsSettled st c) (sym there) (record {
               whole = λ k. ap (λ hs. history_at hs k) (r.shows.histories ∙ sym q.passed);
               still = z.still;
@@ -457,8 +462,8 @@ module _ (P : TypedProgram) (given : Given P) where
             let first : Reached (begin_at (translation P) (translation P).first) 0 = record { cells = first_of P; reaches = at_first; shows = starts } in
             let e : 0 + length ns ≡ length ns = omega arith in
             let last : Reached (after (translation P) (begin_at (translation P) (translation P).first) ns) (length ns) = subst
-                (λ k. Reached (after (translation P) (begin_at (translation P) (translation P).first) ns) k) e
-                (reach ns (begin_at (translation P) (translation P).first) 0 first run) in
+            (λ k. Reached (after (translation P) (begin_at (translation P) (translation P).first) ns) k) e
+            (reach ns (begin_at (translation P) (translation P).first) 0 first run) in
             record {
               safe = safe_run ns (begin_at (translation P) (translation P).first) 0 first run;
               prefix = following (after (translation P) (begin_at (translation P) (translation P).first) ns) (length ns) last;
@@ -473,7 +478,7 @@ have_bits (v ∷ vs) each (suc y) h = have_bits vs (All-tail IsDeclaredVar v vs 
 -- what is assumed here are laws of steps and rounds, and that of circuits as trees of cells
 pub covered_carried : ((c d : Configuration) (at : Place) → step_at c at ≡ Some d → Step c at d) → ((c d : Configuration) (n : ℕ) → Leads c n d → IsBehind c d)
     → ((p : TypedProgram) (script : List OfferValue) → MeetsSharing p.body → OneHistory p script)
-        → ((p : TypedProgram) (script : List OfferValue) → MeetsSharing p.body → RoundsHold p script)
+    → ((p : TypedProgram) (script : List OfferValue) → MeetsSharing p.body → RoundsHold p script)
     → CircuitsCarry → (P : TypedProgram) → IsTyped P.channels P.vars P.body → Covered P → Carries (translation P) P
 covered_carried steps_taken append one hold circuits P typed covered =
     let given : Given P = record { typed = typed.body_is; covered = covered.body; some = have_bits P.vars typed.each_var } in

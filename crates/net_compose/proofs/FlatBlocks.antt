@@ -100,8 +100,13 @@ fifth (suc zero) = record { whole = 0; rest = 1; below = omega arith; is = refl 
 fifth (suc (suc zero)) = record { whole = 0; rest = 2; below = omega arith; is = refl }
 fifth (suc (suc (suc zero))) = record { whole = 0; rest = 3; below = omega arith; is = refl }
 fifth (suc (suc (suc (suc zero)))) = record { whole = 0; rest = 4; below = omega arith; is = refl }
-fifth (suc (suc (suc (suc (suc m))))) = let r = fifth m in record { whole = suc r.whole; rest = r.rest; below = r.below; is =
-    (let e = r.is in omega (arith, e)) }
+fifth (suc (suc (suc (suc (suc m))))) = let r = fifth m in record {
+  whole = suc r.whole;
+  rest = r.rest;
+  below = r.below;
+  is =
+      (let e = r.is in omega (arith, e));
+}
 
 pub record PartAt (n m : ℕ) : Type 0 where
   pub part : Part
@@ -136,21 +141,26 @@ leaves_count (suc n) from = ap (λ k. suc k) (leaves_count n (from + 5))
 
 pub length-variable_rules : (n from : ℕ) (sites : List (List Pair)) → length (variable_rules n from sites) ≡ block_size n
 length-variable_rules n from sites =
-    omega (arith, length-append (bits_rules sites 0 (bits_from n from)) (tree_rules (written_leaves n from) (from + 5 * n)), length-bits_rules sites 0 n from,
-        tree_length (written_leaves n from) (from + 5 * n), leaves_count n from)
+    omega (
+      arith,
+      length-append (bits_rules sites 0 (bits_from n from)) (tree_rules (written_leaves n from) (from + 5 * n)),
+      length-bits_rules sites 0 n from,
+      tree_length (written_leaves n from) (from + 5 * n),
+      leaves_count n from,
+    )
 
 bits_rule : (sites : List (List Pair)) (place n from i r : ℕ) → i < n → r < 5
     → get_or (bits_rules sites place (bits_from n from)) (5 * i + r) no_rules ≡ get_or (bit_rules sites (place + i) (bit_at (from + 5 * i))) r no_rules
 bits_rule sites place zero from i r h k = absurd (let g : ⊥ = omega (arith, h) in g)
 bits_rule sites place (suc n) from zero r h k =
     ap (λ m. get_or (bit_rules sites place (bit_at from) ++ bits_rules sites (suc place) (bits_from n (from + 5))) m no_rules)
-        (let e : 5 * 0 + r ≡ r = omega arith in e)
+    (let e : 5 * 0 + r ≡ r = omega arith in e)
     ∙ (get_or_append_left (bit_rules sites place (bit_at from)) (bits_rules sites (suc place) (bits_from n (from + 5))) no_rules r k
     ∙ (ap (λ m. get_or (bit_rules sites m (bit_at from)) r no_rules) (let e : place ≡ place + 0 = omega arith in e)
     ∙ ap (λ m. get_or (bit_rules sites (place + 0) (bit_at m)) r no_rules) (let e : from ≡ from + 5 * 0 = omega arith in e)))
 bits_rule sites place (suc n) from (suc i) r h k =
     ap (λ m. get_or (bit_rules sites place (bit_at from) ++ bits_rules sites (suc place) (bits_from n (from + 5))) m no_rules)
-        (let e : 5 * suc i + r ≡ 5 + (5 * i + r) = omega arith in e)
+    (let e : 5 * suc i + r ≡ 5 + (5 * i + r) = omega arith in e)
     ∙ (get_or-append-add (bit_rules sites place (bit_at from)) (bits_rules sites (suc place) (bits_from n (from + 5))) (5 * i + r) no_rules
     ∙ (bits_rule sites (suc place) n (from + 5) i r (let e : i < n = omega (arith, h) in e) k
     ∙ (ap (λ m. get_or (bit_rules sites m (bit_at (from + 5 + 5 * i))) r no_rules) (let e : suc place + i ≡ place + suc i = omega arith in e)
@@ -160,7 +170,7 @@ block_rule : (n from : ℕ) (sites : List (List Pair)) (i r : ℕ) → i < n →
     → get_or (variable_rules n from sites) (5 * i + r) no_rules ≡ get_or (bit_rules sites i (bit_at (from + 5 * i))) r no_rules
 block_rule n from sites i r h k =
     get_or_append_left (bits_rules sites 0 (bits_from n from)) (tree_rules (written_leaves n from) (from + 5 * n)) no_rules (5 * i + r)
-        (omega (arith, length-bits_rules sites 0 n from, h, k))
+    (omega (arith, length-bits_rules sites 0 n from, h, k))
     ∙ (bits_rule sites 0 n from i r h k ∙ ap (λ m. get_or (bit_rules sites m (bit_at (from + 5 * i))) r no_rules) (let e : 0 + i ≡ i = omega arith in e))
 
 tree_rule_at : (n from : ℕ) (sites : List (List Pair)) (k : ℕ) → get_or (variable_rules n from sites) (5 * n + k) no_rules ≡ get_or
@@ -222,8 +232,12 @@ module _ (v : ℕ → Bool) where
 
     says : (m : ℕ) (r : Rule) (g : NodeRules) → get_or (variable_rules n from sites) m no_rules ≡ g → v (from + m) ≡ r.now → guard_holds v g.up ≡ r.up
         → guard_holds v g.down ≡ r.down → Says m r
-    says m r g e now up down = record { now = now; up = ap (λ (z : NodeRules). guard_holds v z.up) e ∙ up; down = ap (λ (z : NodeRules). guard_holds v z.down) e
-        ∙ down }
+    says m r g e now up down = record {
+      now = now;
+      up = ap (λ (z : NodeRules). guard_holds v z.up) e ∙ up;
+      down = ap (λ (z : NodeRules). guard_holds v z.down) e
+          ∙ down;
+    }
 
     -- the nodes of a bit
     xt : (i : ℕ) → i < n → v (from + 5 * i) ≡ x i true
@@ -274,7 +288,7 @@ module _ (v : ℕ → Bool) where
         let told = tree_alike v (tree_value n wrote node) (written_leaves n from) (range_with_len 0 n) (from + 5 * n) n alike
         (λ j lt. ap v (let e : from + 5 * n + j ≡ from + (5 * n + j) = omega arith in e) ∙ (b.joints j lt ∙ sym (value_node n wrote node j))) k in
         says (5 * n + k) (tree_rule n wrote node k) (get_or (tree_rules (written_leaves n from) (from + 5 * n)) k no_rules) (tree_rule_at n from sites k)
-            (b.joints k h) told.0 told.1
+        (b.joints k h) told.0 told.1
 
     -- the acknowledge
     pub written_is : 1 ≤ n → v (tree_top (written_leaves n from) (from + 5 * n)) ≡ tree_answer n wrote node
@@ -325,12 +339,16 @@ owner (v ∷ vs) n h =
 pub length-vars_rules : (P : TypedProgram) (x : ℕ) (vs : List Var) → length (vars_rules P x vs) ≡ blocks_before vs (length vs)
 length-vars_rules P x [] = refl
 length-vars_rules P x (v ∷ vs) =
-    omega (arith, length-append (variable_rules v.width (var_from P x) (in_body P (write_site P x))) (vars_rules P (suc x) vs),
-        length-variable_rules v.width (var_from P x) (in_body P (write_site P x)), length-vars_rules P (suc x) vs)
+    omega (
+      arith,
+      length-append (variable_rules v.width (var_from P x) (in_body P (write_site P x))) (vars_rules P (suc x) vs),
+      length-variable_rules v.width (var_from P x) (in_body P (write_site P x)),
+      length-vars_rules P (suc x) vs,
+    )
 
 pub vars_rule : (P : TypedProgram) (x : ℕ) (vs : List Var) (tail : List NodeRules) (y m : ℕ) → y < length vs → m < block_size (var_width vs y)
     → get_or (vars_rules P x vs ++ tail) (blocks_before vs y + m) no_rules ≡ get_or
-        (variable_rules (var_width vs y) (var_from P (x + y)) (in_body P (write_site P (x + y)))) m no_rules
+    (variable_rules (var_width vs y) (var_from P (x + y)) (in_body P (write_site P (x + y)))) m no_rules
 vars_rule P x [] tail y m h k = absurd (let g : ⊥ = omega (arith, h) in g)
 vars_rule P x (v ∷ vs) tail zero m h k =
     let first = variable_rules v.width (var_from P x) (in_body P (write_site P x)) in
@@ -343,10 +361,10 @@ vars_rule P x (v ∷ vs) tail (suc y) m h k =
     let first = variable_rules v.width (var_from P x) (in_body P (write_site P x)) in
     let rest = vars_rules P (suc x) vs in
     let o : block_size v.width + blocks_before vs y + m ≡ length first + (blocks_before vs y + m) = omega
-        (arith, length-variable_rules v.width (var_from P x) (in_body P (write_site P x))) in
+    (arith, length-variable_rules v.width (var_from P x) (in_body P (write_site P x))) in
     ap (λ l. get_or l (block_size v.width + blocks_before vs y + m) no_rules) (append_assoc first rest tail)
     ∙ (ap (λ i. get_or (first ++ (rest ++ tail)) i no_rules) o
     ∙ (get_or-append-add first (rest ++ tail) (blocks_before vs y + m) no_rules
     ∙ (vars_rule P (suc x) vs tail y m (omega (arith, h)) k
     ∙ ap (λ i. get_or (variable_rules (var_width vs y) (var_from P i) (in_body P (write_site P i))) m no_rules)
-        (let e : suc x + y ≡ x + suc y = omega arith in e))))
+    (let e : suc x + y ≡ x + suc y = omega arith in e))))

@@ -67,17 +67,17 @@ module _ (P : TypedProgram) (given : Given P) where
       (q_child go_number (root_latch P) ∷ q_latch go_number (body_answer P) ∷ rules_of P P.body (root_request P) (body_from P)) m no_rules
   root_told n m e =
       let i : n ≡ suc (suc (length (channels_rules P 0 P.channels) + (length (vars_rules P 0 P.vars) + m))) = omega
-          (arith, e, length-channels_rules P 0 P.channels, length-vars_rules P 0 P.vars) in
+      (arith, e, length-channels_rules P 0 P.channels, length-vars_rules P 0 P.vars) in
       ap (λ k. get_or (all_rules P) k no_rules) i
       ∙ (get_or-append-add (channels_rules P 0 P.channels) behind_wires (length (vars_rules P 0 P.vars) + m) no_rules
       ∙ get_or-append-add (vars_rules P 0 P.vars) (q_child go_number (root_latch P) ∷ q_latch go_number (body_answer P) ∷ rules_of P P.body (root_request P)
-          (body_from P)) m no_rules)
+      (body_from P)) m no_rules)
 
   block_told : (y m : ℕ) → y < length P.vars → m < block_size (var_width P.vars y)
       → get_or (all_rules P) (var_from P y + m) no_rules ≡ get_or (variable_rules (var_width P.vars y) (var_from P y) (in_body P (write_site P y))) m no_rules
   block_told y m hy hm =
       let i : var_from P y + m ≡ suc (suc (length (channels_rules P 0 P.channels) + (blocks_before P.vars y + m))) = omega
-          (arith, length-channels_rules P 0 P.channels) in
+      (arith, length-channels_rules P 0 P.channels) in
       ap (λ k. get_or (all_rules P) k no_rules) i
       ∙ (get_or-append-add (channels_rules P 0 P.channels) behind_wires (blocks_before P.vars y + m) no_rules
       ∙ vars_rule P 0 P.vars (q_child go_number (root_latch P) ∷ q_latch go_number (body_answer P) ∷ rules_of P P.body (root_request P) (body_from P)) y m hy hm
@@ -185,8 +185,13 @@ module _ (P : TypedProgram) (given : Given P) where
 
     block_is : (y : ℕ) → y < length P.vars → BlockIs (high st.values) (var_width P.vars y) (var_from P y) (x.wires.bit y) (x.wires.rail (of_var y))
         (x.wires.wrote y) (x.wires.joint y)
-    block_is y h = record { bits = λ i one l. s.block y (a_bit i one) h l; puts = λ i one l. s.block y (a_put i one) h l; marks = λ i l. s.block y
-        (a_mark i) h l; joints = λ k l. s.block y (a_joint k) h l }
+    block_is y h = record {
+      bits = λ i one l. s.block y (a_bit i one) h l;
+      puts = λ i one l. s.block y (a_put i one) h l;
+      marks = λ i l. s.block y
+          (a_mark i) h l;
+      joints = λ k l. s.block y (a_joint k) h l;
+    }
 
     written_told : (y : ℕ) → y < length P.vars → high st.values (written_at P y) ≡ line_ack P x.wires (of_var y)
     written_told y h = written_is (high st.values) (var_width P.vars y) (var_from P y) (x.wires.bit y) (x.wires.rail (of_var y)) (x.wires.wrote y)
@@ -198,7 +203,7 @@ module _ (P : TypedProgram) (given : Given P) where
 
     part_tells : (y : ℕ) (b : Part) (h : y < length P.vars) → IsPart (var_width P.vars y) b → (r : Rule)
         → Says (high st.values) (var_width P.vars y) (var_from P y) (x.wires.bit y) (x.wires.rail (of_var y)) (x.wires.wrote y) (x.wires.joint y) (block_is y h)
-            (in_body P (write_site P y)) (offset (var_width P.vars y) b) r
+        (in_body P (write_site P y)) (offset (var_width P.vars y) b) r
         → Tells (high st.values) (var_from P y + offset (var_width P.vars y) b) r
     part_tells y b h l r z = tells_from (high st.values) (var_from P y + offset (var_width P.vars y) b) r
         (get_or (variable_rules (var_width P.vars y) (var_from P y) (in_body P (write_site P y))) (offset (var_width P.vars y) b) no_rules)
@@ -211,32 +216,32 @@ module _ (P : TypedProgram) (given : Given P) where
     own_tells next f =
         tells_from (high st.values) 1 (guarded_rule P.body (seen P x.wires) x.go x.root next) (q_next (root_latch P) (body_answer P)) refl s.done
         (high_and_low (high st.values) (root_latch P) (body_answer P) ∙ (ap (λ b. b && not (high st.values (body_answer P))) s.latch
-            ∙ ap (λ b. x.root.latch && not b) body_answer_is))
+        ∙ ap (λ b. x.root.latch && not b) body_answer_is))
         (one_low (high st.values) (root_latch P) ∙ ap not s.latch)
     own_tells child f =
         tells_from (high st.values) (root_request P) (guarded_rule P.body (seen P x.wires) x.go x.root child) (q_child go_number (root_latch P))
-            (root_told (root_request P) 0 (omega arith)) s.child
+        (root_told (root_request P) 0 (omega arith)) s.child
         (high_and_low (high st.values) 0 (root_latch P) ∙ (ap (λ b. b && not (high st.values (root_latch P))) s.go ∙ ap (λ b. x.go && not b) s.latch))
         (one_high (high st.values) (root_latch P) ∙ s.latch)
     own_tells latch f =
         tells_from (high st.values) (root_latch P) (guarded_rule P.body (seen P x.wires) x.go x.root latch) (q_latch go_number (body_answer P))
-            (root_told (root_latch P) 1 refl) s.latch
+        (root_told (root_latch P) 1 refl) s.latch
         (one_high (high st.values) (body_answer P) ∙ body_answer_is)
         (one_low (high st.values) 0 ∙ ap not s.go)
     own_tells (inner p) f =
         let t = rule_is P (high st.values) (seen P x.wires) s.ack written_told bits_told s.rail P.body given.covered given.typed (root_request P)
-            (body_from P) x.root.inner p f s.body in
+        (body_from P) x.root.inner p f s.body in
         let r = rule P.body (seen P x.wires) (high st.values (root_request P)) x.root.inner p in
         let e : r ≡ rule P.body (seen P x.wires) x.root.child x.root.inner p = ap (λ b. rule P.body (seen P x.wires) b x.root.inner p) s.child in
         tells_from (high st.values) (body_from P + place P P.body p) (rule P.body (seen P x.wires) x.root.child x.root.inner p)
-            (get_or (rules_of P P.body (root_request P) (body_from P)) (place P P.body p) no_rules)
+        (get_or (rules_of P P.body (root_request P) (body_from P)) (place P P.body p) no_rules)
         (root_told (body_from P + place P P.body p) (suc (suc (place P P.body p))) (omega arith))
         (t.now ∙ ap (λ (z : Rule). z.now) e) (t.up ∙ ap (λ (z : Rule). z.up) e) (t.down ∙ ap (λ (z : Rule). z.down) e)
 
     -- a rail of a channel, by the channel's kind
     rail_tells : (k i : ℕ) (one : Bool) → k < length P.channels → i < channel_width P.channels k → (kind : Kind) → kind_at P.channels k ≡ kind
         → Tells (high st.values) (channel_from P k + rail_place i one) (if is_sent kind then merged (x.wires.rail (of_channel k) i one)
-            (site_rails P.body x.root.inner (of_channel k) i one) else no_rule (x.wires.rail (of_channel k) i one))
+        (site_rails P.body x.root.inner (of_channel k) i one) else no_rule (x.wires.rail (of_channel k) i one))
     rail_tells k i one hk hi kind is = by kind (place_is ∙ ap (λ z. rail_guards P z k i one) is)
       where
         place_is : get_or (all_rules P) (channel_from P k + rail_place i one) no_rules ≡ rail_guards P (kind_at P.channels k) k i one
@@ -246,20 +251,20 @@ module _ (P : TypedProgram) (given : Given P) where
 
         merges : get_or (all_rules P) (channel_from P k + rail_place i one) no_rules ≡ or_of (map (at_site i one) (in_body P (send_site k)))
             → Tells (high st.values) (channel_from P k + rail_place i one)
-                (merged (x.wires.rail (of_channel k) i one) (site_rails P.body x.root.inner (of_channel k) i one))
+            (merged (x.wires.rail (of_channel k) i one) (site_rails P.body x.root.inner (of_channel k) i one))
         merges told =
             let sites = in_body P (send_site k) in
             let e = sites_are (high st.values) P (of_channel k) i one hi P.body given.covered given.typed (body_from P) x.root.inner s.body in
             tells_from (high st.values) (channel_from P k + rail_place i one)
-                (merged (x.wires.rail (of_channel k) i one) (site_rails P.body x.root.inner (of_channel k) i one)) (or_of (map (at_site i one) sites)) told
+            (merged (x.wires.rail (of_channel k) i one) (site_rails P.body x.root.inner (of_channel k) i one)) (or_of (map (at_site i one) sites)) told
             (s.rail k i one hk hi)
             (or_up (high st.values) (map (at_site i one) sites) ∙ ap (list_any (λ b. b)) e)
             (or_down (high st.values) (map (at_site i one) sites) ∙ ap all_low e)
 
         by : (kind : Kind) → get_or (all_rules P) (channel_from P k + rail_place i one) no_rules ≡ rail_guards P kind k i one
             → Tells (high st.values) (channel_from P k + rail_place i one)
-                (if is_sent kind then merged (x.wires.rail (of_channel k) i one) (site_rails P.body x.root.inner (of_channel k) i one) else no_rule
-                (x.wires.rail (of_channel k) i one))
+            (if is_sent kind then merged (x.wires.rail (of_channel k) i one) (site_rails P.body x.root.inner (of_channel k) i one) else no_rule
+            (x.wires.rail (of_channel k) i one))
         by Out told = merges told
         by Chan told = merges told
         by In told = tells_from (high st.values) (channel_from P k + rail_place i one) (no_rule (x.wires.rail (of_channel k) i one)) no_rules told
@@ -297,8 +302,8 @@ module _ (P : TypedProgram) (given : Given P) where
     node_tells (rail_node (of_var y) i one) f = part_tells y (a_put i one) f.0 f.1
         (merged (x.wires.rail (of_var y) i one) (site_rails P.body x.root.inner (of_var y) i one))
         (put_says (high st.values) (var_width P.vars y) (var_from P y) (x.wires.bit y) (x.wires.rail (of_var y)) (x.wires.wrote y) (x.wires.joint y)
-            (block_is y f.0) (in_body P (write_site P y)) i one (site_rails P.body x.root.inner (of_var y) i one) f.1
-            (sites_are (high st.values) P (of_var y) i one f.1 P.body given.covered given.typed (body_from P) x.root.inner s.body))
+        (block_is y f.0) (in_body P (write_site P y)) i one (site_rails P.body x.root.inner (of_var y) i one) f.1
+        (sites_are (high st.values) P (of_var y) i one f.1 P.body given.covered given.typed (body_from P) x.root.inner s.body))
     node_tells (bit_node y i one) f = part_tells y (a_bit i one) f.0 f.1 (bit_rule (x.wires.rail (of_var y)) (x.wires.bit y) i one)
         (bit_says (high st.values) (var_width P.vars y) (var_from P y) (x.wires.bit y) (x.wires.rail (of_var y)) (x.wires.wrote y) (x.wires.joint y)
         (block_is y f.0) (in_body P (write_site P y)) i one f.1)
@@ -337,7 +342,7 @@ module _ (P : TypedProgram) (given : Given P) where
         → env_enabled (translation P) script (completed st.histories) (high st.values) n ≡ false
     quiet_environment script n h far =
         ap (λ b. (b && not (high st.values 0)) || channels_move (high st.values) (offer_at script) (completed st.histories) 0 (wires_from P 0 P.channels) n)
-            (ne_eqb n 0 (λ e. absurd (omega (arith, e, h))))
+        (ne_eqb n 0 (λ e. absurd (omega (arith, e, h))))
         ∙ quiet_channels script n far
 
     or_nothing : (b : Bool) → (b || false) ≡ b
@@ -350,13 +355,13 @@ module _ (P : TypedProgram) (given : Given P) where
     -- at the wires of one channel the others' environments don't move
     one_channel : (script : List OfferValue) (n k : ℕ) (b : Bool) → 1 ≤ n → k < length P.channels → ((j : ℕ) → j < length P.channels → j ≢ k → Beyond n j)
         → ((c : Channel) → offer_moves (high st.values) (wires_at P script (completed st.histories) (high st.values) k c) (offer_at script k)
-            (completed st.histories k) n ≡ b) → env_enabled (translation P) script (completed st.histories) (high st.values) n ≡ b
+        (completed st.histories k) n ≡ b) → env_enabled (translation P) script (completed st.histories) (high st.values) n ≡ b
     one_channel script n k b h hk far here =
         ap (λ b. (b && not (high st.values 0)) || channels_move (high st.values) (offer_at script) (completed st.histories) 0 (wires_from P 0 P.channels) n)
-            (ne_eqb n 0 (λ e. absurd (omega (arith, e, h))))
+        (ne_eqb n 0 (λ e. absurd (omega (arith, e, h))))
         ∙ moves_some P script (completed st.histories) (high st.values) 0 P.channels n k b (omega arith) (omega (arith, hk))
         (λ j low up ne c. let z = far j (omega (arith, up)) ne in quiet_offer P script (completed st.histories) (high st.values) j n z.0 z.1
-            (offer_at script j) c) here
+        (offer_at script j) c) here
 
     ack_moves : (script : List OfferValue) (k : ℕ) → k < length P.channels
         → env_enabled (translation P) script (completed st.histories) (high st.values) (ack_at P k) ≡ answers (channel_width P.channels k) x.wires k
@@ -395,13 +400,13 @@ module _ (P : TypedProgram) (given : Given P) where
             let value = value_is (high st.values) w (channel_from P k) (x.wires.rail (of_channel k)) rails in
             let none = neutral_is (high st.values) w (channel_from P k) (x.wires.rail (of_channel k)) rails in
             ap (λ b. b && (if high st.values (ack_at P k) then neutral (high st.values) (rails_of (rails_at P k)) else valid (high st.values)
-                (rails_of (rails_at P k)) && is_over count (completed st.histories k))) (eq-eqb (ack_at P k) (ack_at P k) refl)
+            (rails_of (rails_at P k)) && is_over count (completed st.histories k))) (eq-eqb (ack_at P k) (ack_at P k) refl)
             ∙ (ap (λ b. if b then neutral (high st.values) (rails_of (rails_at P k)) else valid (high st.values) (rails_of (rails_at P k)) && is_over count
-                (completed st.histories k)) (s.ack k hk)
+            (completed st.histories k)) (s.ack k hk)
             ∙ (ap (λ b. if x.wires.ack k then b else valid (high st.values) (rails_of (rails_at P k)) && is_over count (completed st.histories k)) none
             ∙ (ap (λ o. if x.wires.ack k then neutral_on w (x.wires.rail (of_channel k)) else is_some o && is_over count (completed st.histories k)) value
             ∙ ap (λ m. if x.wires.ack k then neutral_on w (x.wires.rail (of_channel k)) else is_some
-                (value_on w (x.wires.rail (of_channel k))) && is_over count m) (done_is k))))
+            (value_on w (x.wires.rail (of_channel k))) && is_over count m) (done_is k))))
 
     -- the rails of an `in` channel
     rail_moves : (script : List OfferValue) (k i : ℕ) (one : Bool) → k < length P.channels → i < channel_width P.channels k
@@ -419,16 +424,16 @@ module _ (P : TypedProgram) (given : Given P) where
         here c nothing = refl
         here c (takes count) =
             ap (λ b. b && (if high st.values (ack_at P k) then neutral (high st.values) (rails_of (rails_at P k)) else valid (high st.values)
-                (rails_of (rails_at P k)) && is_over count (completed st.histories k)))
+            (rails_of (rails_at P k)) && is_over count (completed st.histories k)))
             (ne_eqb (channel_from P k + rail_place i one) (ack_at P k) (rail_no_ack P k k i one hk hk hi))
         here c (gives values) =
             ap (λ m. if high st.values (ack_at P k) then lowers (high st.values) (rails_of (rails_at P k))
-                (channel_from P k + rail_place i one) else raises_next (high st.values) (slice_get values m) (rails_of (rails_at P k))
-                (channel_from P k + rail_place i one)) (done_is k)
+            (channel_from P k + rail_place i one) else raises_next (high st.values) (slice_get values m) (rails_of (rails_at P k))
+            (channel_from P k + rail_place i one)) (done_is k)
             ∙ (ap (λ b. if b then lowers (high st.values) (rails_of (rails_at P k)) (channel_from P k + rail_place i one) else raises_next (high st.values)
-                (slice_get values (completed x.histories k)) (rails_of (rails_at P k)) (channel_from P k + rail_place i one)) (s.ack k hk)
+            (slice_get values (completed x.histories k)) (rails_of (rails_at P k)) (channel_from P k + rail_place i one)) (s.ack k hk)
             ∙ (ap (λ b. if x.wires.ack k then b else raises_next (high st.values) (slice_get values (completed x.histories k)) (rails_of (rails_at P k))
-                (channel_from P k + rail_place i one)) falls
+            (channel_from P k + rail_place i one)) falls
             ∙ ap (λ b. if x.wires.ack k then x.wires.rail (of_channel k) i one else b) (rises (slice_get values (completed x.histories k)))))
           where
             always : (b : Bool) → (b && true) ≡ b
@@ -438,7 +443,7 @@ module _ (P : TypedProgram) (given : Given P) where
             falls : lowers (high st.values) (rails_of (rails_at P k)) (channel_from P k + rail_place i one) ≡ x.wires.rail (of_channel k) i one
             falls =
                 ap (λ b. high st.values (channel_from P k + rail_place i one) && b)
-                    (is_listed (high st.values) (channel_width P.channels k) (channel_from P k) i one hi)
+                (is_listed (high st.values) (channel_width P.channels k) (channel_from P k) i one hi)
                 ∙ (always (high st.values (channel_from P k + rail_place i one)) ∙ s.rail k i one hk hi)
 
             rises : (value : Option ℕ) → raises_next (high st.values) value (rails_of (rails_at P k)) (channel_from P k + rail_place i one) ≡
@@ -447,9 +452,9 @@ module _ (P : TypedProgram) (given : Given P) where
             rises (Some value) =
                 raised_is (high st.values) (channel_width P.channels k) (channel_from P k) value i one hi
                 ∙ (ap (λ b. number_rail (channel_width P.channels k) value i one && (not b && not (high st.values (channel_from P k + rail_place i false))))
-                    (s.rail k i true hk hi)
+                (s.rail k i true hk hi)
                 ∙ ap (λ b. number_rail (channel_width P.channels k) value i one && (not (x.wires.rail (of_channel k) i true) && not b))
-                    (s.rail k i false hk hi))
+                (s.rail k i false hk hi))
 
     rule_fires : (n : ℕ) (r : Rule) → Tells (high st.values) n r → rule_enabled (translation P) (high st.values) n ≡ fires r
     rule_fires n r t =
@@ -481,7 +486,7 @@ module _ (P : TypedProgram) (given : Given P) where
     pub enabled_is : (script : List OfferValue) (n : Node P.body) → Fine n → move_enabled (translation P) script st (number_of n) ≡ enabled P script x n
     enabled_is script n f =
         ap (λ b. b || env_enabled (translation P) script (completed st.histories) (high st.values) (number_of n))
-            (rule_fires (number_of n) (rule_in P x n) (node_tells n f))
+        (rule_fires (number_of n) (rule_in P x n) (node_tells n f))
         ∙ ap (λ b. fires (rule_in P x n) || b) (env_is script n f)
 
     -- its guards hold as those of the cells do
@@ -568,7 +573,7 @@ module _ (P : TypedProgram) (given : Given P) where
       let env = quiet_environment st x s script n (omega (arith, h, root_is)) (above_all st x s n (omega (arith, h))) in
       ap (λ b. rule_enabled (translation P) (high st.values) n || b) env
       ∙ (ap (λ g. (if high st.values n then guard_holds (high st.values) (down_of (translation P) n) else guard_holds (high st.values) g) || false)
-          (past_up n h)
+      (past_up n h)
       ∙ (ap (λ g. (if high st.values n then guard_holds (high st.values) g else false) || false) (past_down n h) ∙ both_none (high st.values n)))
     where
       both_none : (b : Bool) → ((if b then false else false) || false) ≡ false
@@ -698,20 +703,20 @@ module _ (P : TypedProgram) (given : Given P) where
         latch = latch_far st x s (body_from P + place P P.body p) lt (λ e. absurd (omega (arith, e)));
         body = subst (λ l. Stands (high (fired st.values (body_from P + place P P.body p))) (body_from P) l) (turned_is P P.body given.covered x.root.inner p f)
             (record {
-          at = λ i h.
-              let below : i < length xs = omega (arith, h, length-set xs (place P P.body p) (not (get_or xs (place P P.body p) false))) in
-              ⊎_elim
-              (λ (e : i ≡ place P P.body p).
-              let n : body_from P + i ≡ body_from P + place P P.body p = ap (λ j. body_from P + j) e in
-              fired_here st x s (body_from P + place P P.body p) lt (body_from P + i) n
-              ∙ (ap not (s.body.at i below ∙ ap (λ j. get_or xs j false) e)
-              ∙ (sym (get_or-set_same xs (place P P.body p) (not (get_or xs (place P P.body p) false)) false (omega (arith, k, long)))
-              ∙ ap (λ j. get_or (set xs (place P P.body p) (not (get_or xs (place P P.body p) false))) j false) (sym e))))
-              (λ (ne : i ≢ place P P.body p).
-              fired_far st x s (body_from P + place P P.body p) lt (body_from P + i) (λ e. ne (omega (arith, e)))
-              ∙ (s.body.at i below ∙ sym (get_or-set_other xs (place P P.body p) i (not (get_or xs (place P P.body p) false)) false ne)))
-              (cases_eq i (place P P.body p));
-        });
+              at = λ i h.
+                  let below : i < length xs = omega (arith, h, length-set xs (place P P.body p) (not (get_or xs (place P P.body p) false))) in
+                  ⊎_elim
+                  (λ (e : i ≡ place P P.body p).
+                  let n : body_from P + i ≡ body_from P + place P P.body p = ap (λ j. body_from P + j) e in
+                  fired_here st x s (body_from P + place P P.body p) lt (body_from P + i) n
+                  ∙ (ap not (s.body.at i below ∙ ap (λ j. get_or xs j false) e)
+                  ∙ (sym (get_or-set_same xs (place P P.body p) (not (get_or xs (place P P.body p) false)) false (omega (arith, k, long)))
+                  ∙ ap (λ j. get_or (set xs (place P P.body p) (not (get_or xs (place P P.body p) false))) j false) (sym e))))
+                  (λ (ne : i ≢ place P P.body p).
+                  fired_far st x s (body_from P + place P P.body p) lt (body_from P + i) (λ e. ne (omega (arith, e)))
+                  ∙ (s.body.at i below ∙ sym (get_or-set_other xs (place P P.body p) i (not (get_or xs (place P P.body p) false)) false ne)))
+                  (cases_eq i (place P P.body p));
+            });
         rail = rail_outside st x s (body_from P + place P P.body p) lt (inr (omega arith));
         ack = ack_outside st x s (body_from P + place P P.body p) lt (inr (omega arith));
         block = block_outside st x s (body_from P + place P P.body p) lt (inr (omega arith));
@@ -751,7 +756,7 @@ module _ (P : TypedProgram) (given : Given P) where
   same_rail_back : (c k j i : ℕ) (side one : Bool) → c ≡ k → j ≡ i → side ≡ one → ((c == k) && ((j == i) && same_bit side one)) ≡ true
   same_rail_back c k j i side one ec ej es =
       ap (λ b. b && ((j == i) && same_bit side one)) (eq-eqb c k ec) ∙ (ap (λ b. b && same_bit side one) (eq-eqb j i ej)
-          ∙ (ap (λ b. same_bit b one) es ∙ itself one))
+      ∙ (ap (λ b. same_bit b one) es ∙ itself one))
     where
       itself : (b : Bool) → same_bit b b ≡ true
       itself true = refl
@@ -792,8 +797,8 @@ module _ (P : TypedProgram) (given : Given P) where
         block = λ z c hz hc. ⊎_elim (λ (same : var_from P z + offset (var_width P.vars z) c ≡ m). one_part lt z c hz hc same)
             (λ (ne : var_from P z + offset (var_width P.vars z) c ≢ m).
             fired_far st x s m lt (var_from P z + offset (var_width P.vars z) c) ne
-                ∙ (s.block z c hz hc ∙ sym (far z c (λ u q. ne (ap (λ n. var_from P n + offset (var_width P.vars n) c) u
-                ∙ ap (λ d. var_from P y + offset (var_width P.vars y) d) q)))))
+            ∙ (s.block z c hz hc ∙ sym (far z c (λ u q. ne (ap (λ n. var_from P n + offset (var_width P.vars n) c) u
+            ∙ ap (λ d. var_from P y + offset (var_width P.vars y) d) q)))))
             (cases_eq (var_from P z + offset (var_width P.vars z) c) m);
         histories = still_histories st x s m lt (above_wires st x s m e.0);
         channels = s.channels;
@@ -805,10 +810,10 @@ module _ (P : TypedProgram) (given : Given P) where
       one_part lt z c hz hc same =
           let u = same_var z y c b hz hy hc hb same in
           let q = same_part y c b (subst (λ (n : ℕ). IsPart (var_width P.vars n) c) u hc) hb
-              (sym (ap (λ n. var_from P n + offset (var_width P.vars n) c) u) ∙ same) in
+          (sym (ap (λ n. var_from P n + offset (var_width P.vars n) c) u) ∙ same) in
           fired_here st x s (var_from P y + offset (var_width P.vars y) b) lt (var_from P z + offset (var_width P.vars z) c) same
           ∙ (ap (λ n. not (high st.values n)) same ∙ (ap not (s.block y b hy hb)
-              ∙ (sym here ∙ (ap (λ d. part_value now y d) (sym q) ∙ ap (λ n. part_value now n c) (sym u)))))
+          ∙ (sym here ∙ (ap (λ d. part_value now y d) (sym q) ∙ ap (λ n. part_value now n c) (sym u)))))
 
   rails_far : (r : Rails) (i : ℕ) (one : Bool) (j : ℕ) (t : Bool) → (j ≡ i → t ≡ one → ⊥) → rails_turned r i one j t ≡ r j t
   rails_far r i one j t ne = by ((j == i) && same_bit t one) refl
@@ -831,7 +836,7 @@ module _ (P : TypedProgram) (given : Given P) where
       → (if z == y then rails_turned (rs y) i one else rs z) j t ≡ rs z j t
   rails_by rs y i one z j t ne = ⊎_elim
       (λ (e : z ≡ y). ap (λ (r : Rails). r j t) (of_same y z (rails_turned (rs y) i one) (rs z) e)
-          ∙ (rails_far (rs y) i one j t (ne e) ∙ ap (λ n. rs n j t) (sym e)))
+      ∙ (rails_far (rs y) i one j t (ne e) ∙ ap (λ n. rs n j t) (sym e)))
       (λ (n : z ≢ y). ap (λ (r : Rails). r j t) (of_one y z (rails_turned (rs y) i one) (rs z) n))
       (cases_eq z y)
 
@@ -874,7 +879,7 @@ module _ (P : TypedProgram) (given : Given P) where
       by_test : channel_from P k + rail_place i one < nodes_of P → (c j : ℕ) (side : Bool) → c < length P.channels → j < channel_width P.channels c → (t : Bool)
           → ((c == k) && ((j == i) && same_bit side one)) ≡ t
           → high (fired st.values (channel_from P k + rail_place i one)) (channel_from P c + rail_place j side) ≡
-              (if t then not (x.wires.rail (of_channel k) i one) else x.wires.rail (of_channel c) j side)
+          (if t then not (x.wires.rail (of_channel k) i one) else x.wires.rail (of_channel c) j side)
       by_test lt c j side hc hj true e =
           let q = same_rail c k j i side one e in
           let n : channel_from P c + rail_place j side ≡ channel_from P k + rail_place i one = cc (q.0, q.1, q.2) in
@@ -923,7 +928,7 @@ module _ (P : TypedProgram) (given : Given P) where
           values_some P (high st.values) 0 P.channels st.histories (ack_at P k) k (ap length s.histories ∙ s.channels) hk (ap (ack_at P) (sym e))
           (λ i low up ne z. ne (sym (ack_same P k i hk (omega (arith, up)) z) ∙ sym e))
           ∙ (ap (λ h. passed h k (if not (high st.values (ack_at P k)) then rail_value_of (high st.values)
-              (rails_of (rails_at P (0 + k))) else None)) s.histories
+          (rails_of (rails_at P (0 + k))) else None)) s.histories
           ∙ (ap (λ b. passed x.histories k (if not b then rail_value_of (high st.values) (rails_of (rails_at P (0 + k))) else None)) (s.ack k hk)
           ∙ (ap (λ j. passed x.histories k (if not (x.wires.ack k) then rail_value_of (high st.values) (rails_of (rails_at P j)) else None)) e
           ∙ ap (λ o. passed x.histories k (if not (x.wires.ack k) then o else None)) value_here)))
@@ -952,7 +957,7 @@ module _ (P : TypedProgram) (given : Given P) where
   after_move st x s (rail_node (of_var y) i one) f = part_after st x s y (a_put i one) f.0 f.1 (rail_turned x.wires (of_var y) i one) (λ k j t. refl)
       (λ k. refl)
       (ap (λ (r : Rails). r i one) (of_same y y (rails_turned (x.wires.rail (of_var y)) i one) (x.wires.rail (of_var y)) refl)
-          ∙ rails_here (x.wires.rail (of_var y)) i one) far
+      ∙ rails_here (x.wires.rail (of_var y)) i one) far
     where
       far : (z : ℕ) (c : Part) → (z ≡ y → c ≡ a_put i one → ⊥) → part_value (rail_turned x.wires (of_var y) i one) z c ≡ part_value x.wires z c
       far z (a_put j t) ne = rails_by (λ n. x.wires.rail (of_var n)) y i one z j t (λ u v q. ne u (ap (λ n. a_put n t) v ∙ ap (λ n. a_put i n) q))

@@ -43,8 +43,12 @@ pub record Told (v : ℕ → Bool) (rules : List NodeRules) (from i : ℕ) (r : 
   pub down : guard_holds v (get_or rules i no_rules).down ≡ r.down
 
 pub told_of : (v : ℕ → Bool) (rules : List NodeRules) (from i : ℕ) (r s : Rule) → r ≡ s → Told v rules from i r → Told v rules from i s
-told_of v rules from i r s e t = record { now = t.now ∙ ap (λ (x : Rule). x.now) e; up = t.up ∙ ap (λ (x : Rule). x.up) e; down = t.down
-    ∙ ap (λ (x : Rule). x.down) e }
+told_of v rules from i r s e t = record {
+  now = t.now ∙ ap (λ (x : Rule). x.now) e;
+  up = t.up ∙ ap (λ (x : Rule). x.up) e;
+  down = t.down
+      ∙ ap (λ (x : Rule). x.down) e;
+}
 
 -- the same place further on in a longer list
 pub told_within : (v : ℕ → Bool) (rules more : List NodeRules) (from i to j : ℕ) (r : Rule) → get_or more j no_rules ≡ get_or rules i no_rules
@@ -93,16 +97,25 @@ module _ (v : ℕ → Bool) where
   one_low n = elim (v n) as (λ b. ((not b && true) || false) ≡ not b) [ true ↦ refl | false ↦ refl ]
 
   pub high_and_low : (n m : ℕ) → guard_holds v (one_term (is_high n ∷ is_low m ∷ [])) ≡ (v n && not (v m))
-  high_and_low n m = elim (v n) as (λ b. ((b && (not (v m) && true)) || false) ≡ (b && not (v m))) [ true ↦ elim (v m) as
-      (λ c. ((not c && true) || false) ≡ not c) [ true ↦ refl | false ↦ refl ] | false ↦ refl ]
+  high_and_low n m = elim (v n) as (λ b. ((b && (not (v m) && true)) || false) ≡ (b && not (v m))) [
+    | true ↦ elim (v m) as
+        (λ c. ((not c && true) || false) ≡ not c) [ true ↦ refl | false ↦ refl ]
+    | false ↦ refl
+  ]
 
   pub both_high : (n m : ℕ) → guard_holds v (one_term (is_high n ∷ is_high m ∷ [])) ≡ (v n && v m)
-  both_high n m = elim (v n) as (λ b. ((b && (v m && true)) || false) ≡ (b && v m)) [ true ↦ elim (v m) as
-      (λ c. ((c && true) || false) ≡ c) [ true ↦ refl | false ↦ refl ] | false ↦ refl ]
+  both_high n m = elim (v n) as (λ b. ((b && (v m && true)) || false) ≡ (b && v m)) [
+    | true ↦ elim (v m) as
+        (λ c. ((c && true) || false) ≡ c) [ true ↦ refl | false ↦ refl ]
+    | false ↦ refl
+  ]
 
   pub both_low : (n m : ℕ) → guard_holds v (one_term (is_low n ∷ is_low m ∷ [])) ≡ (not (v n) && not (v m))
-  both_low n m = elim (v n) as (λ b. ((not b && (not (v m) && true)) || false) ≡ (not b && not (v m))) [ true ↦ refl | false ↦ elim (v m) as
-      (λ c. ((not c && true) || false) ≡ not c) [ true ↦ refl | false ↦ refl ] ]
+  both_low n m = elim (v n) as (λ b. ((not b && (not (v m) && true)) || false) ≡ (not b && not (v m))) [
+    | true ↦ refl
+    | false ↦ elim (v m) as
+        (λ c. ((not c && true) || false) ≡ not c) [ true ↦ refl | false ↦ refl ]
+  ]
 
   -- a rail among so many pairs
   pub rail_value : (n : ℕ) (q : Rails) (from i : ℕ) (one : Bool) → i < n → Stands v from (rail_bits n q) → v (from + rail_place i one) ≡ q i one
@@ -112,7 +125,7 @@ module _ (v : ℕ → Bool) where
   rail_value (suc n) q from (suc i) one h s =
       let e : from + suc (suc (rail_place i one)) ≡ from + 2 + rail_place i one = omega arith in
       ap v e ∙ rail_value n (λ k. q (suc k)) (from + 2) i one (omega arith)
-          (stands_after from (from + 2) (q zero true ∷ q zero false ∷ []) (rail_bits n (λ k. q (suc k))) s (omega arith))
+      (stands_after from (from + 2) (q zero true ∷ q zero false ∷ []) (rail_bits n (λ k. q (suc k))) s (omega arith))
 
   -- a merge over some nodes
   any_high : (ns : List ℕ) → guard_holds v (map (λ k. is_high k ∷ []) ns) ≡ list_any (λ b. b) (map v ns)
@@ -235,7 +248,7 @@ module _ (P : TypedProgram) where
         → Stands v from (bits P (side_by_side members) x) → Stands v (from + branches_size P members) (tree_bits (joint_count (member_count members)) x.tree)
     stands_tree members c from x s =
         stands_after v from (from + branches_size P members) (branch_bits P members x.branches) (tree_bits (joint_count (member_count members)) x.tree) s
-            (omega (arith, length-branch_bits P members c x.branches))
+        (omega (arith, length-branch_bits P members c x.branches))
 
     pub stands_this : (p : Process) (more : Processes) (from : ℕ) (x : BranchCells (and_member p more)) → Stands v from (branch_bits P (and_member p more) x)
         → Stands v (from + 3) (bits P p x.0.inner)
@@ -259,7 +272,7 @@ module _ (P : TypedProgram) where
         → v (from + branches_size P members + k) ≡ bit_at (joint_count (member_count members)) x.tree k
     tree_at members c from x s k less =
         (stands_tree members c from x s).at k (omega (arith, less, length-tree_bits (joint_count (member_count members)) x.tree))
-            ∙ tree_bit (joint_count (member_count members)) x.tree k
+        ∙ tree_bit (joint_count (member_count members)) x.tree k
 
     leaves_alike : (w : ℕ → Bool) (members : Processes) → AreCovered members → (from a : ℕ) (x : BranchCells members) → Stands v from (branch_bits P members x)
         → ((i : ℕ) → i < member_count members → w (a + i) ≡ cell_ends members x i)
@@ -274,16 +287,16 @@ module _ (P : TypedProgram) where
     joint_told : (members : Processes) → AreCovered members → (from : ℕ) (x : Cells (side_by_side members)) (k : ℕ) → k < joint_count (member_count members)
         → Stands v from (bits P (side_by_side members) x)
         → Told v (tree_rules (branch_ends P members from) (branches_end P members from)) (from + branches_size P members) k
-            (tree_rule (member_count members) (cell_ends members x.branches) (bit_at (joint_count (member_count members)) x.tree) k)
+        (tree_rule (member_count members) (cell_ends members x.branches) (bit_at (joint_count (member_count members)) x.tree) k)
     joint_told members c from x k less s =
         let n = member_count members in
         let leaf = cell_ends members x.branches in
         let node = bit_at (joint_count (member_count members)) x.tree in
         let same = leaves_alike (tree_value n leaf node) members c from 0 x.branches (stands_branches members from x s)
-            (λ i lt. ap (tree_value n leaf node) (let e : 0 + i ≡ i = omega arith in e) ∙ value_leaf n leaf node i lt) in
+        (λ i lt. ap (tree_value n leaf node) (let e : 0 + i ≡ i = omega arith in e) ∙ value_leaf n leaf node i lt) in
         let told = tree_alike v (tree_value n leaf node) (branch_ends P members from) (range_with_len 0 n) (branches_end P members from) n same
         (λ j lt. ap v (let e : branches_end P members from + j ≡ from + branches_size P members + j = omega (arith, branches_end_is members from) in e)
-            ∙ (tree_at members c from x s j lt ∙ sym (value_node n leaf node j))) k in
+        ∙ (tree_at members c from x s j lt ∙ sym (value_node n leaf node j))) k in
         record { now = tree_at members c from x s k less; up = told.0; down = told.1 }
 
     pub stands_body : (p : Process) (from : ℕ) (x : Cells (repeating p)) → Stands v from (bits P (repeating p) x) → Stands v (from + 2) (bits P p x.inner)
@@ -304,7 +317,7 @@ module _ (P : TypedProgram) where
           let n = member_count members in
           let some : 2 ≤ member_count members = t.0 in
           ap v (let e : from + (branches_size P members + (member_count members - 1)) - 1 ≡ from + branches_size P members + (member_count members - 2) = omega
-              (arith, some) in e)
+          (arith, some) in e)
           ∙ (tree_at members c from x s (n - 2) (omega (arith, some, joint_count_is (member_count members)))
           ∙ sym (answer_value n (cell_ends members x.branches) (bit_at (joint_count (member_count members)) x.tree) some))
       answer_is (choosing again choices) c t from x s = absurd c
@@ -321,7 +334,7 @@ module _ (P : TypedProgram) where
         (puts : (x : ℕ) → x < length P.vars → v (written_at P x) ≡ w.ack (of_var x))
         (bits_are : (x i : ℕ) (one : Bool) → x < length P.vars → i < var_width P.vars x → v (node_of (pair_of (bits_at P x) i) one) ≡ w.bit x i one)
         (rails_are : (k i : ℕ) (one : Bool) → k < length P.channels → i < channel_width P.channels k
-            → v (channel_from P k + rail_place i one) ≡ w.rail (of_channel k) i one) where
+        → v (channel_from P k + rail_place i one) ≡ w.rail (of_channel k) i one) where
       gate_told : (r from i : ℕ) (one : Bool) (e : Formula) → IsWellFormed e → ReadsFrom P.vars e → (g : Pairs (gate_count e)) → i < gate_count e
           → Stands v from (pair_bits (gate_count e) g)
           → Told v (formula_rules (bits_at P) e r from) from (rail_place i one) (gate_rule e w.bit (v r) g i one)
@@ -344,9 +357,9 @@ module _ (P : TypedProgram) where
         }
         rule_is (sending chan at e) c t r from x (of_send (gate i one)) f s =
             told_within v (formula_rules (bits_at P) e r (from + 1)) (rules_of P (sending chan at e) r from) (from + 1) (rail_place i one) from
-                (suc (rail_place i one)) (gate_rule e w.bit (v r) x.gates i one) refl (omega arith)
+            (suc (rail_place i one)) (gate_rule e w.bit (v r) x.gates i one) refl (omega arith)
             (gate_told r (from + 1) i one e t.sent.formed t.sent.reads x.gates f
-                (stands_after v from (from + 1) (x.answer ∷ []) (pair_bits (gate_count e) x.gates) s (omega arith)))
+            (stands_after v from (from + 1) (x.answer ∷ []) (pair_bits (gate_count e) x.gates) s (omega arith)))
         rule_is (in_turn members) c t r from x (in_members z) f s = turn_rule_is members c t.1 r from x z f s
         rule_is (repeating p) c t r from x of_loop f s = record { now = s.at 0 (omega arith); up = refl; down = refl }
         rule_is (repeating p) c t r from x ask f s =
@@ -359,24 +372,24 @@ module _ (P : TypedProgram) where
         rule_is (repeating p) c t r from x (in_body z) f s =
             let b : v (from + 1) ≡ x.ask = s.at 1 (omega arith) in
             told_of v (rules_of P (repeating p) r from) from (suc (suc (place P p z))) (rule p w (v (from + 1)) x.inner z) (rule p w x.ask x.inner z)
-                (ap (λ b. rule p w b x.inner z) b)
+            (ap (λ b. rule p w b x.inner z) b)
             (told_within v (rules_of P p (from + 1) (from + 2)) (rules_of P (repeating p) r from) (from + 2) (place P p z) from (suc (suc (place P p z)))
-                (rule p w (v (from + 1)) x.inner z) refl (omega arith)
+            (rule p w (v (from + 1)) x.inner z) refl (omega arith)
             (rule_is p c t (from + 1) (from + 2) x.inner z f (stands_body p from x s)))
         rule_is (assigning y at e) c t r from x (of_assign done) f s =
             told_as v (rules_of P (assigning y at e) r from) (write_answer r (written_at P y) ∷ formula_rules (bits_at P) e r (from + 1)) from 0
-                (rule_of x.answer (v r && w.ack (of_var y)) (not (w.ack (of_var y)))) (plain_rules y at e c r from) (record {
+            (rule_of x.answer (v r && w.ack (of_var y)) (not (w.ack (of_var y)))) (plain_rules y at e c r from) (record {
               now = s.at 0 (omega arith);
               up = both_high v r (written_at P y) ∙ ap (λ z. v r && z) (puts y t.0);
               down = one_low v (written_at P y) ∙ ap not (puts y t.0);
             })
         rule_is (assigning y at e) c t r from x (of_assign (gate i one)) f s =
             told_as v (rules_of P (assigning y at e) r from) (write_answer r (written_at P y) ∷ formula_rules (bits_at P) e r (from + 1)) from
-                (suc (rail_place i one)) (gate_rule e w.bit (v r) x.gates i one) (plain_rules y at e c r from)
+            (suc (rail_place i one)) (gate_rule e w.bit (v r) x.gates i one) (plain_rules y at e c r from)
             (told_within v (formula_rules (bits_at P) e r (from + 1)) (write_answer r (written_at P y) ∷ formula_rules (bits_at P) e r (from + 1)) (from + 1)
-                (rail_place i one) from (suc (rail_place i one)) (gate_rule e w.bit (v r) x.gates i one) refl (omega arith)
+            (rail_place i one) from (suc (rail_place i one)) (gate_rule e w.bit (v r) x.gates i one) refl (omega arith)
             (gate_told r (from + 1) i one e t.1.formed t.1.reads x.gates f
-                (stands_after v from (from + 1) (x.answer ∷ []) (pair_bits (gate_count e) x.gates) s (omega arith))))
+            (stands_after v from (from + 1) (x.answer ∷ []) (pair_bits (gate_count e) x.gates) s (omega arith))))
         rule_is (receiving chan at y to) c t r from x (of_receive heard) f s = record {
           now = s.at 0 (omega arith);
           up = both_high v r (ack_at P chan) ∙ ap (λ z. v r && z) (acks chan t.within);
@@ -402,17 +415,17 @@ module _ (P : TypedProgram) where
             let here = branches_rules P members r from in
             let rest = tree_rules (branch_ends P members from) (branches_end P members from) in
             told_within v here (rules_of P (side_by_side members) r from) from (branch_place P members z) from (branch_place P members z)
-                (branch_rule members w (v r) x.branches z)
+            (branch_rule members w (v r) x.branches z)
             (get_or_append_left here rest no_rules (branch_place P members z)
-                (omega (arith, branch_place_lt P members c z f, length-branches_rules members c t.1 r from))) refl
+            (omega (arith, branch_place_lt P members c z f, length-branches_rules members c t.1 r from))) refl
             (branch_rule_is members c t.1 r from x.branches z f (stands_branches members from x s))
         rule_is (side_by_side members) c t r from x (joint k) f s =
             let here = branches_rules P members r from in
             let rest = tree_rules (branch_ends P members from) (branches_end P members from) in
             told_within v rest (rules_of P (side_by_side members) r from) (from + branches_size P members) k from (branches_size P members + k)
-                (tree_rule (member_count members) (cell_ends members x.branches) (bit_at (joint_count (member_count members)) x.tree) k)
+            (tree_rule (member_count members) (cell_ends members x.branches) (bit_at (joint_count (member_count members)) x.tree) k)
             (ap (λ n. get_or (here ++ rest) (n + k) no_rules) (sym (length-branches_rules members c t.1 r from)) ∙ get_or-append-add here rest k no_rules)
-                (omega arith)
+            (omega arith)
             (joint_told members c from x k f s)
         rule_is (choosing again choices) c t r from x z f s = absurd c
 
@@ -441,7 +454,7 @@ module _ (P : TypedProgram) where
             let rest = branches_rules P more r (from + 3 + size_of P p) in
             let k = place P p z in
             told_of v (branches_rules P (and_member p more) r from) from (suc (suc (suc k))) (rule p w (v from) x.0.inner z) (rule p w x.0.child x.0.inner z)
-                (ap (λ b. rule p w b x.0.inner z) b)
+            (ap (λ b. rule p w b x.0.inner z) b)
             (told_within v here (branches_rules P (and_member p more) r from) (from + 3) k from (suc (suc (suc k))) (rule p w (v from) x.0.inner z)
             (get_or_append_left here rest no_rules k (omega (arith, place_lt P p c.0 z f, length-rules p c.0 t.0 from (from + 3)))) (omega arith)
             (rule_is p c.0 t.0 from (from + 3) x.0.inner z f (stands_this p more from x s)))
@@ -450,9 +463,9 @@ module _ (P : TypedProgram) where
             let rest = branches_rules P more r (from + 3 + size_of P p) in
             let k = branch_place P more z in
             told_within v rest (branches_rules P (and_member p more) r from) (from + 3 + size_of P p) k from (suc (suc (suc (size_of P p + k))))
-                (branch_rule more w (v r) x.1 z)
+            (branch_rule more w (v r) x.1 z)
             (ap (λ n. get_or (here ++ rest) (n + k) no_rules) (sym (length-rules p c.0 t.0 from (from + 3))) ∙ get_or-append-add here rest k no_rules)
-                (omega arith)
+            (omega arith)
             (branch_rule_is more c.1 t.1 r (from + 3 + size_of P p) x.1 z f (stands_others p more c.0 from x s))
 
         pub turn_rule_is : (members : Processes) → AreCovered members → AreProcesses P.channels P.vars members
@@ -477,14 +490,14 @@ module _ (P : TypedProgram) where
             }
         turn_rule_is (and_member p (and_member q more)) c t r from x (in_member (inner z)) f s =
             let b : v from ≡ x.member.child = stands_head v from x.member.child
-                (x.member.latch ∷ x.member.next ∷ (bits P p x.member.inner ++ turn_bits P (and_member q more) x.later)) s in
+            (x.member.latch ∷ x.member.next ∷ (bits P p x.member.inner ++ turn_bits P (and_member q more) x.later)) s in
             let here = rules_of P p from (from + 3) in
             let rest = turn_rules P (and_member q more) (from + 2) (from + 3 + size_of P p) in
             let k = place P p z in
             told_of v (turn_rules P (and_member p (and_member q more)) r from) from (suc (suc (suc k))) (rule p w (v from) x.member.inner z)
-                (rule p w x.member.child x.member.inner z) (ap (λ b. rule p w b x.member.inner z) b)
+            (rule p w x.member.child x.member.inner z) (ap (λ b. rule p w b x.member.inner z) b)
             (told_within v here (turn_rules P (and_member p (and_member q more)) r from) (from + 3) k from (suc (suc (suc k)))
-                (rule p w (v from) x.member.inner z)
+            (rule p w (v from) x.member.inner z)
             (get_or_append_left here rest no_rules k (omega (arith, place_lt P p c.0 z f, length-rules p c.0 t.0 from (from + 3)))) (omega arith)
             (rule_is p c.0 t.0 from (from + 3) x.member.inner z f (stands_member p q more from x s)))
         turn_rule_is (and_member p (and_member q more)) c t r from x (in_later z) f s =
@@ -493,10 +506,10 @@ module _ (P : TypedProgram) where
             let rest = turn_rules P (and_member q more) (from + 2) (from + 3 + size_of P p) in
             let k = turn_place P (and_member q more) z in
             told_of v (turn_rules P (and_member p (and_member q more)) r from) from (suc (suc (suc (size_of P p + k))))
-                (turn_rule (and_member q more) w (v (from + 2)) x.later z) (turn_rule (and_member q more) w x.member.next x.later z)
-                (ap (λ b. turn_rule (and_member q more) w b x.later z) b)
+            (turn_rule (and_member q more) w (v (from + 2)) x.later z) (turn_rule (and_member q more) w x.member.next x.later z)
+            (ap (λ b. turn_rule (and_member q more) w b x.later z) b)
             (told_within v rest (turn_rules P (and_member p (and_member q more)) r from) (from + 3 + size_of P p) k from (suc (suc (suc (size_of P p + k))))
-                (turn_rule (and_member q more) w (v (from + 2)) x.later z)
+            (turn_rule (and_member q more) w (v (from + 2)) x.later z)
             (ap (λ n. get_or (here ++ rest) (n + k) no_rules) (sym (length-rules p c.0 t.0 from (from + 3))) ∙ get_or-append-add here rest k no_rules)
-                (omega arith)
+            (omega arith)
             (turn_rule_is (and_member q more) c.1 t.1 (from + 2) (from + 3 + size_of P p) x.later z f (stands_later p q more c.0 from x s)))

@@ -51,7 +51,7 @@ module _ (v : ℕ → Bool) where
         → Stands v from (pair_bits (gate_count e) x.gates) → at_sites i one (formula_result e from ∷ []) ≡ rails_of_site true e x i one
     value_here e formed read h from x s =
         ap (λ b. b ∷ []) ((listed P.vars e formed read).outputs (bits_at P) 0 from v (v 0) (λ y k side. v (node_of (pair_of (bits_at P y) k) side)) x.gates
-            (record {
+        (record {
           asked = refl;
           gates = λ k side less. gate_value v (gate_count e) x.gates from k side less s;
           read = λ y k side z less. refl;
@@ -79,7 +79,7 @@ module _ (v : ℕ → Bool) where
             let same = eqb-true y z q in
             let wide : width_of e ≡ var_width P.vars z = agrees ∙ ap (var_width P.vars) same in
             ap (λ b. at_sites i one ((if b then read_back (through_at (var_width P.vars z) (formula_size e) from) else formula_result e (from + 1)) ∷ []))
-                (ap (λ n. reads n e) (sym same) ∙ plain)
+            (ap (λ n. reads n e) (sym same) ∙ plain)
             ∙ value_here e formed read (omega (arith, wide, h)) (from + 1) x s
         by false q = refl
 
@@ -95,7 +95,7 @@ module _ (v : ℕ → Bool) where
             let wide : var_width P.vars z ≡ channel_width P.channels chan = ap (var_width P.vars) (sym (eqb-true y z q)) ∙ widths in
             let less : i < channel_width P.channels chan = omega (arith, wide, h) in
             ap (λ b. b ∷ []) (ap v (pair_place (channel_width P.channels chan) (from + 2) i one less)
-                ∙ rail_value v (channel_width P.channels chan) x.taken (from + 2) i one less s)
+            ∙ rail_value v (channel_width P.channels chan) x.taken (from + 2) i one less s)
 
     skip_here : (k : Line) (from : ℕ) → at_sites i one (line_site P k skipping from) ≡ []
     skip_here (of_channel k) from = refl
@@ -108,10 +108,10 @@ module _ (v : ℕ → Bool) where
       sites_are skipping c t from x s = skip_here P i one k from
       sites_are (sending chan at e) c t from x s =
           send_here P i one k chan at e t.sent.formed t.sent.reads t.sent.agrees within from x
-              (stands_after v from (from + 1) (x.answer ∷ []) (pair_bits (gate_count e) x.gates) s (omega arith))
+          (stands_after v from (from + 1) (x.answer ∷ []) (pair_bits (gate_count e) x.gates) s (omega arith))
       sites_are (assigning y at e) c t from x s =
           assign_here P i one k y at e c t.1.formed t.1.reads t.1.agrees within from x
-              (stands_after v from (from + 1) (x.answer ∷ []) (pair_bits (gate_count e) x.gates) s (omega arith))
+          (stands_after v from (from + 1) (x.answer ∷ []) (pair_bits (gate_count e) x.gates) s (omega arith))
       sites_are (in_turn members) c t from x s = turn_sites_are members c t.1 from x s
       sites_are (repeating p) c t from x s = sites_are p c t (from + 2) x.inner (stands_body P v p from x s)
       sites_are (receiving chan at y to) c t from x s = port_here P i one k chan y at to t.widths within from x
@@ -139,7 +139,7 @@ module _ (v : ℕ → Bool) where
           at_append i one first rest
           ∙ (ap (λ l. l ++ at_sites i one rest) (sites_are p c.0 t.0 (from + 3) x.member.inner (stands_member P v p q more from x s))
           ∙ ap (λ l. site_rails p x.member.inner k i one ++ l) (turn_sites_are (and_member q more) c.1 t.1 (from + 3 + size_of P p) x.later
-              (stands_later P v p q more c.0 from x s)))
+          (stands_later P v p q more c.0 from x s)))
 
   -- the nodes by which receives on a channel have stored
   mapped_append : (xs ys : List ℕ) → map v (xs ++ ys) ≡ map v xs ++ map v ys
@@ -183,4 +183,4 @@ module _ (v : ℕ → Bool) where
           mapped_append first rest
           ∙ (ap (λ l. l ++ map v rest) (takers_are p c.0 t.0 (from + 3) x.member.inner (stands_member P v p q more from x s))
           ∙ ap (λ l. takers p x.member.inner k ++ l) (turn_takers_are (and_member q more) c.1 t.1 (from + 3 + size_of P p) x.later
-              (stands_later P v p q more c.0 from x s)))
+          (stands_later P v p q more c.0 from x s)))

@@ -109,7 +109,7 @@ module _ (v w : ℕ → Bool) where
     ap v (let e : to ≡ to + 0 = omega arith in e) ∙ (own 0 (omega arith) ∙ ap w (let e : from + 0 ≡ from = omega arith in e)),
     next_alike ms ls (to + 1) (from + 1) h.1.1 (λ j less.
         ap v (let e : to + 1 + j ≡ to + suc j = omega arith in e) ∙ (own (suc j) (omega (arith, less))
-            ∙ ap w (let e : from + suc j ≡ from + 1 + j = omega arith in e))),
+        ∙ ap w (let e : from + suc j ≡ from + 1 + j = omega arith in e))),
   )
   next_alike [] (l ∷ ls) to from h own = absurd h
   next_alike (m ∷ ms) [] to from h own = absurd h
@@ -124,7 +124,7 @@ module _ (v w : ℕ → Bool) where
       let long = level_length ls in
       let whole = length-append (level_rules ls) (levels_rules n (next_level ls from) (from + length ls / 2)) in
       rules_append (level_rules ms) (level_rules ls) (levels_rules n (next_level ms to) (to + length ms / 2))
-          (levels_rules n (next_level ls from) (from + length ls / 2)) (level_alike ms ls h)
+      (levels_rules n (next_level ls from) (from + length ls / 2)) (level_alike ms ls h)
       (levels_alike n (next_level ms to) (next_level ls from) (to + length ms / 2) (from + length ls / 2)
       (next_alike ms ls to from h (λ j less. own j (omega (arith, less, whole))))
       (λ j less.
@@ -133,8 +133,8 @@ module _ (v w : ℕ → Bool) where
 
   pub tree_alike : (ms ls : List ℕ) (to from : ℕ) → Alike v w ms ls → ((j : ℕ) → j < length (tree_rules ls from) → v (to + j) ≡ w (from + j)) → (k : ℕ)
       → (guard_holds v (get_or (tree_rules ms to) k no_rules).up ≡ guard_holds w (get_or (tree_rules ls from) k no_rules).up) ×
-          (guard_holds v (get_or (tree_rules ms to) k no_rules).down ≡ guard_holds w (get_or (tree_rules ls from) k no_rules).down)
+      (guard_holds v (get_or (tree_rules ms to) k no_rules).down ≡ guard_holds w (get_or (tree_rules ls from) k no_rules).down)
   tree_alike ms ls to from h own =
       rules_at (tree_rules ms to) (tree_rules ls from)
       (subst (λ (n : ℕ). RulesAlike v w (levels_rules n ms to) (tree_rules ls from)) (sym (alike_length ms ls h))
-          (levels_alike (length ls) ms ls to from h own))
+      (levels_alike (length ls) ms ls to from h own))

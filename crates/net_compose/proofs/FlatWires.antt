@@ -56,11 +56,17 @@ wire_within [] n h = absurd (omega arith)
 wire_within (c ∷ cs) n h =
     ⊎_elim
     (λ (lt : n < wires_size c.width). let here : Within (c ∷ cs) n =
-        record { channel = zero; offset = n; some = omega arith; below = lt; is = omega arith } in here)
+    record { channel = zero; offset = n; some = omega arith; below = lt; is = omega arith } in here)
     (λ (le : wires_size c.width ≤ n).
     let r = wire_within cs (n - wires_size c.width) (omega arith) in
-    let here : Within (c ∷ cs) n = record { channel = suc r.channel; offset = r.offset; some = omega (arith, r.some); below = r.below; is = omega
-        (arith, r.is) } in
+    let here : Within (c ∷ cs) n = record {
+      channel = suc r.channel;
+      offset = r.offset;
+      some = omega (arith, r.some);
+      below = r.below;
+      is = omega
+          (arith, r.is);
+    } in
     here)
     (cases_lt n (wires_size c.width))
 
@@ -153,13 +159,19 @@ rail_rule sites j (suc w) (suc i) one h = let e : suc j + i ≡ j + suc i = omeg
 
 -- of each kind of channel
 pub length-channel_rules : (P : TypedProgram) (k w : ℕ) (kind : Kind) → length (channel_rules P k w kind) ≡ wires_size w
-length-channel_rules P k w Out = omega (arith, length-append (rail_rules (in_body P (send_site k)) 0 w) (no_rules ∷ []),
-    length-rail_rules (in_body P (send_site k)) 0 w)
+length-channel_rules P k w Out = omega (
+  arith,
+  length-append (rail_rules (in_body P (send_site k)) 0 w) (no_rules ∷ []),
+  length-rail_rules (in_body P (send_site k)) 0 w,
+)
 length-channel_rules P k w In =
     omega (arith, length-append (replicate (2 * w) no_rules) (or_of (in_body P (receive_site k)) ∷ []), length-replicate (2 * w) no_rules)
 length-channel_rules P k w Chan =
-    omega (arith, length-append (rail_rules (in_body P (send_site k)) 0 w) (or_of (in_body P (receive_site k)) ∷ []),
-        length-rail_rules (in_body P (send_site k)) 0 w)
+    omega (
+      arith,
+      length-append (rail_rules (in_body P (send_site k)) 0 w) (or_of (in_body P (receive_site k)) ∷ []),
+      length-rail_rules (in_body P (send_site k)) 0 w,
+    )
 
 -- the rails of a channel merge the sites of sends, and its acknowledge those of receives, but where the environment moves them
 abbrev pub rail_guards : TypedProgram → Kind → (k i : ℕ) → Bool → NodeRules
@@ -175,7 +187,7 @@ merged_rail : (P : TypedProgram) (k w i : ℕ) (one : Bool) (last : NodeRules) �
 merged_rail P k w i one last h =
     let e : 0 + i ≡ i = omega arith in
     get_or_append_left (rail_rules (in_body P (send_site k)) 0 w) (last ∷ []) no_rules (rail_place i one)
-        (omega (arith, length-rail_rules (in_body P (send_site k)) 0 w, rail_place_lt i w one h))
+    (omega (arith, length-rail_rules (in_body P (send_site k)) 0 w, rail_place_lt i w one h))
     ∙ (rail_rule (in_body P (send_site k)) 0 w i one h ∙ ap (λ n. or_of (map (at_site n one) (in_body P (send_site k)))) e)
 
 none_at : (n m : ℕ) → get_or (replicate n no_rules) m no_rules ≡ no_rules
@@ -189,7 +201,7 @@ kind_rail P k w Out i one h = merged_rail P k w i one no_rules h
 kind_rail P k w Chan i one h = merged_rail P k w i one (or_of (in_body P (receive_site k))) h
 kind_rail P k w In i one h =
     get_or_append_left (replicate (2 * w) no_rules) (or_of (in_body P (receive_site k)) ∷ []) no_rules (rail_place i one)
-        (omega (arith, length-replicate (2 * w) no_rules, rail_place_lt i w one h))
+    (omega (arith, length-replicate (2 * w) no_rules, rail_place_lt i w one h))
     ∙ none_at (2 * w) (rail_place i one)
 
 last_at : (xs : List NodeRules) (last : NodeRules) (n : ℕ) → length xs ≡ n → get_or (xs ++ last ∷ []) n no_rules ≡ last
@@ -206,8 +218,12 @@ kind_ack P k w In = last_at (replicate (2 * w) no_rules) (or_of (in_body P (rece
 pub length-channels_rules : (P : TypedProgram) (k : ℕ) (cs : List Channel) → length (channels_rules P k cs) ≡ wires_before cs (length cs)
 length-channels_rules P k [] = refl
 length-channels_rules P k (c ∷ cs) =
-    omega (arith, length-append (channel_rules P k c.width c.kind) (channels_rules P (suc k) cs), length-channel_rules P k c.width c.kind,
-        length-channels_rules P (suc k) cs)
+    omega (
+      arith,
+      length-append (channel_rules P k c.width c.kind) (channels_rules P (suc k) cs),
+      length-channel_rules P k c.width c.kind,
+      length-channels_rules P (suc k) cs,
+    )
 
 channel_rule : (P : TypedProgram) (k : ℕ) (cs : List Channel) (tail : List NodeRules) (j m : ℕ) → j < length cs → m < wires_size (channel_width cs j)
     → get_or (channels_rules P k cs ++ tail) (wires_before cs j + m) no_rules ≡ get_or (channel_rules P (k + j) (channel_width cs j) (kind_at cs j)) m no_rules
@@ -241,7 +257,7 @@ module _ (P : TypedProgram) (tail : List NodeRules) where
       let e : 0 + k ≡ k = omega arith in
       channel_rule P 0 P.channels tail k (rail_place i one) hk (omega (arith, rail_place_lt i (channel_width P.channels k) one hi))
       ∙ (ap (λ n. get_or (channel_rules P n (channel_width P.channels k) (kind_at P.channels k)) (rail_place i one) no_rules) e
-          ∙ kind_rail P k (channel_width P.channels k) (kind_at P.channels k) i one hi)
+      ∙ kind_rail P k (channel_width P.channels k) (kind_at P.channels k) i one hi)
 
   pub ack_rules_at : (k : ℕ) → k < length P.channels → get_or (channels_rules P 0 P.channels ++ tail)
       (wires_before P.channels k + 2 * channel_width P.channels k) no_rules ≡ ack_guards P (kind_at P.channels k) k
@@ -249,7 +265,7 @@ module _ (P : TypedProgram) (tail : List NodeRules) where
       let e : 0 + k ≡ k = omega arith in
       channel_rule P 0 P.channels tail k (2 * channel_width P.channels k) hk (omega arith)
       ∙ (ap (λ n. get_or (channel_rules P n (channel_width P.channels k) (kind_at P.channels k)) (2 * channel_width P.channels k) no_rules) e
-          ∙ kind_ack P k (channel_width P.channels k) (kind_at P.channels k))
+      ∙ kind_ack P k (channel_width P.channels k) (kind_at P.channels k))
 
 -- what stands on rails
 
@@ -265,7 +281,7 @@ module _ (v : ℕ → Bool) where
       let t : v from ≡ rail zero true = let n : from ≡ from + 0 = omega arith in ap v n ∙ h zero true (omega arith) in
       let f : v (from + 1) ≡ rail zero false = h zero false (omega arith) in
       let r = value_is w (from + 2) (λ i. rail (suc i)) (λ i one lt. let n : from + 2 + rail_place i one ≡ from + suc
-          (suc (rail_place i one)) = omega arith in ap v n ∙ h (suc i) one (omega arith)) in
+      (suc (rail_place i one)) = omega arith in ap v n ∙ h (suc i) one (omega arith)) in
       ap (λ b. with_bit (bit_value b (v (from + 1))) (rail_value_of v (rails_of (pairs_from w (from + 2))))) t
       ∙ (ap (λ b. with_bit (bit_value (rail zero true) b) (rail_value_of v (rails_of (pairs_from w (from + 2))))) f
       ∙ ap (with_bit (bit_value (rail zero true) (rail zero false))) r)
@@ -281,7 +297,7 @@ module _ (v : ℕ → Bool) where
       let t : v from ≡ rail zero true = let n : from ≡ from + 0 = omega arith in ap v n ∙ h zero true (omega arith) in
       let f : v (from + 1) ≡ rail zero false = h zero false (omega arith) in
       let r = neutral_is w (from + 2) (λ i. rail (suc i)) (λ i one lt. let n : from + 2 + rail_place i one ≡ from + suc
-          (suc (rail_place i one)) = omega arith in ap v n ∙ h (suc i) one (omega arith)) in
+      (suc (rail_place i one)) = omega arith in ap v n ∙ h (suc i) one (omega arith)) in
       and_apart (not (v from)) (not (v (from + 1))) (neutral v (rails_of (pairs_from w (from + 2))))
       ∙ (ap (λ b. (not b && not (v (from + 1))) && neutral v (rails_of (pairs_from w (from + 2)))) t
       ∙ (ap (λ b. (not (rail zero true) && not b) && neutral v (rails_of (pairs_from w (from + 2)))) f
@@ -294,7 +310,7 @@ module _ (v : ℕ → Bool) where
   rails_kept (suc w) from ack n h =
       let z : from + 0 ≡ from = omega arith in
       let t : n ≡ from → rail_keeps v ack from (from + 1) ≡ true = λ e. ap (λ m. rail_keeps v ack m (from + 1)) (sym z)
-          ∙ h zero true (omega arith) (e ∙ sym z) in
+      ∙ h zero true (omega arith) (e ∙ sym z) in
       let f : n ≡ from + 1 → rail_keeps v ack (from + 1) from ≡ true = λ e. ap (λ m. rail_keeps v ack (from + 1) m) (sym z) ∙ h zero false (omega arith) e in
       let more = rails_kept w (from + 2) ack n (λ i one lt e.
       let a : from + suc (suc (rail_place i one)) ≡ from + 2 + rail_place i one = omega arith in
@@ -302,7 +318,7 @@ module _ (v : ℕ → Bool) where
       ap (λ m. rail_keeps v ack m (from + 2 + rail_place i (not one))) (sym a)
       ∙ (ap (λ m. rail_keeps v ack (from + suc (suc (rail_place i one))) m) (sym b) ∙ h (suc i) one (omega arith) (e ∙ sym a))) in
       all_three (not (n == from) || rail_keeps v ack from (from + 1)) (not (n == from + 1) || rail_keeps v ack (from + 1) from)
-          (rails_keep v ack (rails_of (pairs_from w (from + 2))) n)
+      (rails_keep v ack (rails_of (pairs_from w (from + 2))) n)
       (if_there from (rail_keeps v ack from (from + 1)) t) (if_there (from + 1) (rail_keeps v ack (from + 1) from) f) more
     where
       all_three : (a b c : Bool) → a ≡ true → b ≡ true → c ≡ true → ((a && b) && c) ≡ true
@@ -327,9 +343,9 @@ module _ (v : ℕ → Bool) where
   not_listed zero from n far = refl
   not_listed (suc w) from n far =
       let rest = not_listed w (from + 2) n (λ i one lt e. far (suc i) one (omega (arith, lt))
-          (let z : n ≡ from + suc (suc (rail_place i one)) = omega (arith, e) in z)) in
+      (let z : n ≡ from + suc (suc (rail_place i one)) = omega (arith, e) in z)) in
       ap (λ b. b || ((n == from + 1) || list_any (λ rail. n == rail) (rails_of (pairs_from w (from + 2)))))
-          (ne_eqb n from (λ e. far zero true (omega arith) (let z : n ≡ from + 0 = omega (arith, e) in z)))
+      (ne_eqb n from (λ e. far zero true (omega arith) (let z : n ≡ from + 0 = omega (arith, e) in z)))
       ∙ (ap (λ b. b || list_any (λ rail. n == rail) (rails_of (pairs_from w (from + 2)))) (ne_eqb n (from + 1) (λ e. far zero false (omega arith) e)) ∙ rest)
 
   pub is_listed : (w from i : ℕ) (one : Bool) → i < w → list_any (λ rail. from + rail_place i one == rail) (rails_of (pairs_from w from)) ≡ true
@@ -338,14 +354,14 @@ module _ (v : ℕ → Bool) where
       (eq-eqb (from + 0) from (omega arith))
   is_listed (suc w) from zero false h =
       ap (λ b. b || ((from + 1 == from + 1) || list_any (λ rail. from + 1 == rail) (rails_of (pairs_from w (from + 2)))))
-          (ne_eqb (from + 1) from (λ e. absurd (omega (arith, e))))
+      (ne_eqb (from + 1) from (λ e. absurd (omega (arith, e))))
       ∙ ap (λ b. b || list_any (λ rail. from + 1 == rail) (rails_of (pairs_from w (from + 2)))) (eq-eqb (from + 1) (from + 1) refl)
   is_listed (suc w) from (suc i) one h =
       let e : from + suc (suc (rail_place i one)) ≡ from + 2 + rail_place i one = omega arith in
       ap (λ b. b || ((from + suc (suc (rail_place i one)) == from + 1) || list_any (λ rail. from + suc (suc (rail_place i one)) == rail)
-          (rails_of (pairs_from w (from + 2))))) (ne_eqb (from + suc (suc (rail_place i one))) from (λ z. absurd (omega (arith, z))))
+      (rails_of (pairs_from w (from + 2))))) (ne_eqb (from + suc (suc (rail_place i one))) from (λ z. absurd (omega (arith, z))))
       ∙ (ap (λ b. b || list_any (λ rail. from + suc (suc (rail_place i one)) == rail) (rails_of (pairs_from w (from + 2))))
-          (ne_eqb (from + suc (suc (rail_place i one))) (from + 1) (λ z. absurd (omega (arith, z))))
+      (ne_eqb (from + suc (suc (rail_place i one))) (from + 1) (λ z. absurd (omega (arith, z))))
       ∙ (ap (λ n. list_any (λ rail. n == rail) (rails_of (pairs_from w (from + 2)))) e ∙ is_listed w (from + 2) i one (omega arith)))
 
   -- which rail stands for a bit
@@ -358,7 +374,7 @@ module _ (v : ℕ → Bool) where
   not_raised zero from n value far = refl
   not_raised (suc w) from n value far =
       let rest = not_raised w (from + 2) n (value / 2) (λ i one lt e. far (suc i) one (omega (arith, lt))
-          (let z : n ≡ from + suc (suc (rail_place i one)) = omega (arith, e) in z)) in
+      (let z : n ≡ from + suc (suc (rail_place i one)) = omega (arith, e) in z)) in
       ap (λ b. (b && (not (v from) && not (v (from + 1)))) || raises_value v (value / 2) (rails_of (pairs_from w (from + 2))) n)
       (side_ne (is_odd value) from n (λ e. far zero true (omega arith) (let z : n ≡ from + 0 = omega (arith, e) in z)) (λ e. far zero false (omega arith) e))
       ∙ rest
@@ -373,26 +389,26 @@ module _ (v : ℕ → Bool) where
 
   pub raised_is : (w from value i : ℕ) (one : Bool) → i < w
       → raises_value v value (rails_of (pairs_from w from)) (from + rail_place i one) ≡
-          (number_rail w value i one && (not (v (from + rail_place i true)) && not (v (from + rail_place i false))))
+      (number_rail w value i one && (not (v (from + rail_place i true)) && not (v (from + rail_place i false))))
   raised_is zero from value i one h = absurd (omega arith)
   raised_is (suc w) from value zero true h =
       ap (λ b. b || raises_value v (value / 2) (rails_of (pairs_from w (from + 2))) (from + 0))
-          (ap (λ b. b && (not (v from) && not (v (from + 1)))) (here_true (is_odd value) from))
+      (ap (λ b. b && (not (v from) && not (v (from + 1)))) (here_true (is_odd value) from))
       ∙ (ap (λ b. (same_bit (is_odd value) true && (not (v from) && not (v (from + 1)))) || b)
-          (not_raised w (from + 2) (from + 0) (value / 2) (λ i one lt e. absurd (omega (arith, e))))
+      (not_raised w (from + 2) (from + 0) (value / 2) (λ i one lt e. absurd (omega (arith, e))))
       ∙ (or_nothing (same_bit (is_odd value) true && (not (v from) && not (v (from + 1))))
-          ∙ ap (λ n. same_bit (is_odd value) true && (not (v n) && not (v (from + 1)))) (let e : from ≡ from + 0 = omega arith in e)))
+      ∙ ap (λ n. same_bit (is_odd value) true && (not (v n) && not (v (from + 1)))) (let e : from ≡ from + 0 = omega arith in e)))
   raised_is (suc w) from value zero false h =
       ap (λ b. b || raises_value v (value / 2) (rails_of (pairs_from w (from + 2))) (from + 1))
-          (ap (λ b. b && (not (v from) && not (v (from + 1)))) (here_false (is_odd value) from))
+      (ap (λ b. b && (not (v from) && not (v (from + 1)))) (here_false (is_odd value) from))
       ∙ (ap (λ b. (same_bit (is_odd value) false && (not (v from) && not (v (from + 1)))) || b)
-          (not_raised w (from + 2) (from + 1) (value / 2) (λ i one lt e. absurd (omega (arith, e))))
+      (not_raised w (from + 2) (from + 1) (value / 2) (λ i one lt e. absurd (omega (arith, e))))
       ∙ (or_nothing (same_bit (is_odd value) false && (not (v from) && not (v (from + 1))))
-          ∙ ap (λ n. same_bit (is_odd value) false && (not (v n) && not (v (from + 1)))) (let e : from ≡ from + 0 = omega arith in e)))
+      ∙ ap (λ n. same_bit (is_odd value) false && (not (v n) && not (v (from + 1)))) (let e : from ≡ from + 0 = omega arith in e)))
   raised_is (suc w) from value (suc i) one h =
       let e = λ (b : Bool). (let z : from + 2 + rail_place i b ≡ from + suc (suc (rail_place i b)) = omega arith in z) in
       ap (λ b. (b && (not (v from) && not (v (from + 1)))) || raises_value v (value / 2) (rails_of (pairs_from w (from + 2)))
-          (from + suc (suc (rail_place i one))))
+      (from + suc (suc (rail_place i one))))
       (side_ne (is_odd value) from (from + suc (suc (rail_place i one))) (λ z. absurd (omega (arith, z))) (λ z. absurd (omega (arith, z))))
       ∙ (ap (λ n. raises_value v (value / 2) (rails_of (pairs_from w (from + 2))) n) (sym (e one))
       ∙ (raised_is w (from + 2) (value / 2) i one (omega arith)
@@ -419,7 +435,7 @@ module _ (P : TypedProgram) (script : List OfferValue) (done : ℕ → ℕ) (v :
       ⊎_elim
       (λ (same : k ≡ m).
       ap (λ r. offer_moves v (wires_at k c) (offer_at script k) (done k) n || r)
-          (moves_none (suc k) cs n (λ j l u. far j (omega arith) (omega arith) (λ z. absurd (omega (arith, z, same, l)))))
+      (moves_none (suc k) cs n (λ j l u. far j (omega arith) (omega arith) (λ z. absurd (omega (arith, z, same, l)))))
       ∙ (or_nothing (offer_moves v (wires_at k c) (offer_at script k) (done k) n)
       ∙ (ap (λ i. offer_moves v (wires_at i c) (offer_at script i) (done i) n) same ∙ here c)))
       (λ (other : k ≢ m).
@@ -436,7 +452,7 @@ module _ (P : TypedProgram) (script : List OfferValue) (done : ℕ → ℕ) (v :
   quiet_offer j n ack far nothing c = refl
   quiet_offer j n ack far (takes count) c =
       ap (λ b. b && (if v (ack_at P j) then neutral v (rails_of (rails_at P j)) else valid v (rails_of (rails_at P j)) && is_over count (done j)))
-          (ne_eqb n (ack_at P j) ack)
+      (ne_eqb n (ack_at P j) ack)
   quiet_offer j n ack far (gives values) c = by (v (ack_at P j)) (slice_get values (done j))
     where
       never : (b : Bool) → (b && false) ≡ false
@@ -457,9 +473,9 @@ module _ (P : TypedProgram) (v : ℕ → Bool) where
   values_none k (c ∷ cs) [] n e h = absurd (omega (arith, e))
   values_none k (c ∷ cs) (x ∷ hs) n e h =
       let z : completes v (record { channel = c; rails = rails_of (rails_at P k); ack = ack_at P k }) n ≡ None = ap
-          (λ b. if b && not (v n) then rail_value_of v (rails_of (rails_at P k)) else None) (ne_eqb n (ack_at P k) (h k (omega arith) (omega arith))) in
+      (λ b. if b && not (v n) then rail_value_of v (rails_of (rails_at P k)) else None) (ne_eqb n (ack_at P k) (h k (omega arith) (omega arith))) in
       ap (λ o. with_value o x ∷ with_values v n (wires_from P (suc k) cs) hs) z
-          ∙ ap (λ l. x ∷ l) (values_none (suc k) cs hs n (omega (arith, e)) (λ j l u. h j (omega arith) (omega arith)))
+      ∙ ap (λ l. x ∷ l) (values_none (suc k) cs hs n (omega (arith, e)) (λ j l u. h j (omega arith) (omega arith)))
 
   passed_later : (x : List ℕ) (hs : List (List ℕ)) (j : ℕ) (o : Option ℕ) → x ∷ passed hs j o ≡ passed (x ∷ hs) (suc j) o
   passed_later x hs j None = refl
@@ -479,9 +495,9 @@ module _ (P : TypedProgram) (v : ℕ → Bool) where
       let test : (n == ack_at P k) ≡ true = eq-eqb n (ack_at P k) (here ∙ ap (ack_at P) s) in
       let rest = values_none (suc k) cs hs n (omega (arith, e)) (λ i l u. far i (omega arith) (omega arith) (λ z. absurd (omega (arith, z, l)))) in
       let z : completes v (record { channel = c; rails = rails_of (rails_at P k); ack = ack_at P k }) n ≡
-          (if not (v n) then rail_value_of v (rails_of (rails_at P (k + 0))) else None)
+      (if not (v n) then rail_value_of v (rails_of (rails_at P (k + 0))) else None)
       = ap (λ b. if b && not (v n) then rail_value_of v (rails_of (rails_at P k)) else None) test
-          ∙ ap (λ i. if not (v n) then rail_value_of v (rails_of (rails_at P i)) else None) (sym s) in
+      ∙ ap (λ i. if not (v n) then rail_value_of v (rails_of (rails_at P i)) else None) (sym s) in
       ap (λ o. with_value o x ∷ with_values v n (wires_from P (suc k) cs) hs) z
       ∙ (ap (λ l. with_value (if not (v n) then rail_value_of v (rails_of (rails_at P (k + 0))) else None) x ∷ l) rest
       ∙ passed_first x hs (if not (v n) then rail_value_of v (rails_of (rails_at P (k + 0))) else None))
@@ -489,9 +505,9 @@ module _ (P : TypedProgram) (v : ℕ → Bool) where
       let s : k + suc j ≡ suc k + j = omega arith in
       let z : completes v (record { channel = c; rails = rails_of (rails_at P k); ack = ack_at P k }) n ≡ None
       = ap (λ b. if b && not (v n) then rail_value_of v (rails_of (rails_at P k)) else None)
-          (ne_eqb n (ack_at P k) (far k (omega arith) (omega arith) (λ y. absurd (omega (arith, y))))) in
+      (ne_eqb n (ack_at P k) (far k (omega arith) (omega arith) (λ y. absurd (omega (arith, y))))) in
       let rest = values_some (suc k) cs hs n j (omega (arith, e)) (omega arith) (here ∙ ap (ack_at P) s)
-          (λ i l u ne. far i (omega arith) (omega arith) (λ y. ne (y ∙ s))) in
+      (λ i l u ne. far i (omega arith) (omega arith) (λ y. ne (y ∙ s))) in
       ap (λ o. with_value o x ∷ with_values v n (wires_from P (suc k) cs) hs) z
       ∙ (ap (λ l. x ∷ l) rest
       ∙ (ap (λ i. x ∷ passed hs j (if not (v n) then rail_value_of v (rails_of (rails_at P i)) else None)) (sym s)

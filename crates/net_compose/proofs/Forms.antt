@@ -57,7 +57,7 @@ skip_accepted at = record {
 
 idle_by : (Q : ProgramTree → Type 0) → ((at : Span) → Q (record { decls = []; procs = []; body = skips at }))
     → (ds : List Decl) (ps : List Procedure) (s : Statement) → does_nothing s ≡ true → is_none ds ≡ true → is_none ps ≡ true
-        → Q (record { decls = ds; procs = ps; body = s })
+    → Q (record { decls = ds; procs = ps; body = s })
 idle_by Q here [] [] (skips at) e f g = here at
 idle_by Q here (d ∷ ds) ps s e f g = absurd (cc f)
 idle_by Q here [] (q ∷ ps) s e f g = absurd (cc g)
@@ -83,12 +83,21 @@ pub idle_accepted : (p : ProgramTree) → is_idle p ≡ true → IsAccepted p
 idle_accepted = idle_is IsAccepted skip_accepted
 
 idle_typed : IsTyped idle.channels idle.vars idle.body
-idle_typed = record { each_channel = All-nil IsDeclaredChannel; each_var = All-nil IsDeclaredVar; distinct = λ i j d below within. absurd
-    (omega arith); body_is = tt }
+idle_typed = record {
+  each_channel = All-nil IsDeclaredChannel;
+  each_var = All-nil IsDeclaredVar;
+  distinct = λ i j d below within. absurd
+      (omega arith);
+  body_is = tt;
+}
 
 idle_covered : Covered idle
-idle_covered = record { channels = tt; body = tt; sharing =
-    record { variables = λ a b apart. absurd apart; sends = λ a b apart. absurd apart; receives = λ a b apart. absurd apart } }
+idle_covered = record {
+  channels = tt;
+  body = tt;
+  sharing =
+      record { variables = λ a b apart. absurd apart; sends = λ a b apart. absurd apart; receives = λ a b apart. absurd apart };
+}
 
 -- `X!0` and `X!1`
 
@@ -134,7 +143,7 @@ pub bit_built : (p : ProgramTree) (name : List ℕ) (bit : Bool) → IsBitForm p
 bit_built p name bit f =
     let sends_it : sends_bit (f.decl ∷ []) p.body ≡ true = ap (λ b. b && is_some (bit_sent f.decl p.body)) f.out ∙ ap is_some f.sent in
     let form : is_bit_form p ≡ true = ap (λ ds. sends_bit ds p.body && is_none p.procs) f.only
-        ∙ (ap (λ b. b && is_none p.procs) sends_it ∙ ap is_none f.alone) in
+    ∙ (ap (λ b. b && is_none p.procs) sends_it ∙ ap is_none f.alone) in
     or_there (is_idle p) (is_bit_form p) form
   where
     or_there : (a b : Bool) → b ≡ true → (a || b) ≡ true

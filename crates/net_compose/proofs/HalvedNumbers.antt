@@ -40,12 +40,12 @@ assign_halved : (P Q : TypedProgram) (n x : ℕ) (at : Span) (e : Formula) (b : 
     → (if b then through_size (var_width P.vars x) e else 1 + formula_size e) ≡ size_of Q (halved_assign b n x at e) + blocks (hidden_of b e)
 assign_halved P Q n x at e false none wide some plain =
     let s : size_of Q (assigning x at e) ≡ 1 + formula_size e = ap (λ (b : Bool). if b then through_size
-        (var_width Q.vars x) e else 1 + formula_size e) none in omega arith
+    (var_width Q.vars x) e else 1 + formula_size e) none in omega arith
 assign_halved P Q n x at e true self wide some plain =
     let first : size_of Q (assigning n at e) ≡ 1 + formula_size e = ap (λ (b : Bool). if b then through_size
-        (var_width Q.vars n) e else 1 + formula_size e) plain.0 in
+    (var_width Q.vars n) e else 1 + formula_size e) plain.0 in
     let second : size_of Q (assigning x at (read_back n e at)) ≡ 1 + 2 * (width_of e - 1 + 1 - 0) = ap
-        (λ (b : Bool). if b then through_size (var_width Q.vars x) (read_back n e at) else 1 + formula_size (read_back n e at)) plain.1.0 in
+    (λ (b : Bool). if b then through_size (var_width Q.vars x) (read_back n e at) else 1 + formula_size (read_back n e at)) plain.1.0 in
     let same : block_size (width_of e) ≡ block_size (var_width P.vars x) = ap block_size wide in
     omega arith
 
@@ -181,7 +181,7 @@ mutual
   rules_same vars f g same (chained e more) h request from =
       ap (λ rs. rs ++ chained_rules f (width_of e) (formula_result e from) more request (from + formula_size e)) (rules_same vars f g same e h.0 request from)
       ∙ ap (λ rs. formula_rules g e request from ++ rs) (chained_same vars f g same (width_of e) (formula_result e from) more h.1 request
-          (from + formula_size e))
+      (from + formula_size e))
   rules_same vars f g same (compared op e d) h request from =
       let last = operator_rules op (formula_result e from) (formula_result d (from + formula_size e)) (from + formula_size e + formula_size d) in
       ap (λ rs. rs ++ (formula_rules f d request (from + formula_size e) ++ last)) (rules_same vars f g same e h.0 request from)
@@ -220,7 +220,7 @@ pub through_is : (P : TypedProgram) (bits : ℕ → List Pair) (written : ℕ �
     → IsOfWidth P.vars (var_width P.vars x) e
     → through_rules P x e request from
     ≡ variable_rules (var_width P.vars x) from (formula_result e (from + block_size
-        (var_width P.vars x) + 3 + 1) ∷ []) ++ halves_rules bits written h x at e request (from + block_size (var_width P.vars x))
+    (var_width P.vars x) + 3 + 1) ∷ []) ++ halves_rules bits written h x at e request (from + block_size (var_width P.vars x))
 through_is P bits written h x at e request from same joint own_bits own_joint typed =
     let w = var_width P.vars x in
     let element = from + block_size w in
@@ -234,13 +234,13 @@ through_is P bits written h x at e request from same joint own_bits own_joint ty
     ∙ (ap (λ k. take k (block_bits w from)) (number ∙ sym long) ∙ take-length (block_bits w from)) in
     ap (λ rs. front ++ (q_rules request (element + 3) element ++ rs))
     (ap (λ k. write_answer element k ∷ (formula_rules (bits_at P) e element (element + 3 + 1) ++
-        (write_answer (element + 2) (written_at P x) ∷ read_bits (element + 2) (block_bits w from)))) own_joint
+    (write_answer (element + 2) (written_at P x) ∷ read_bits (element + 2) (block_bits w from)))) own_joint
     ∙ (ap (λ rs. write_answer element (written h) ∷ (rs ++ (write_answer (element + 2) (written_at P x) ∷ read_bits (element + 2) (block_bits w from))))
-        (rules_same P.vars (bits_at P) bits same e typed.reads element (element + 3 + 1))
+    (rules_same P.vars (bits_at P) bits same e typed.reads element (element + 3 + 1))
     ∙ (ap (λ k. write_answer element (written h) ∷ (formula_rules bits e element (element + 3 + 1) ++
-        (write_answer (element + 2) k ∷ read_bits (element + 2) (block_bits w from)))) joint
+    (write_answer (element + 2) k ∷ read_bits (element + 2) (block_bits w from)))) joint
     ∙ ap (λ xs. write_answer element (written h) ∷ (formula_rules bits e element (element + 3 + 1) ++
-        (write_answer (element + 2) (written x) ∷ read_bits (element + 2) xs))) (sym back))))
+    (write_answer (element + 2) (written x) ∷ read_bits (element + 2) xs))) (sym back))))
 
 -- the numbers from one on have these blocks
 abbrev pub BlocksFrom : (block : ℕ → ℕ) → ℕ → List ℕ → Type 0
