@@ -22,3 +22,7 @@ pub mod ExpressionKeeps
 pub mod SiteTrial
 pub mod WaveExamples
 pub mod GuardTrial
+pub mod Emitted
+pub mod Emission
+pub mod Within
+pub mod Giving

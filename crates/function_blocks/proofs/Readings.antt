@@ -42,7 +42,7 @@ module _ (P : ℕ → ℕ → Type 0) where
   equality_only : (us vs : List Input) (from : ℕ) → Only P (equality_parts us vs from)
   equality_only us vs from = only_append P (bitwise_parts alike us vs) (all_parts (result_inputs us from) (from + length us)) (bitwise_only alike us vs) (all_only (result_inputs us from) (from + length us))
 
-  operator_only : (op : Op) (us vs : List Input) (from : ℕ) → Only P (operator_parts op us vs from)
+  pub operator_only : (op : Op) (us vs : List Input) (from : ℕ) → Only P (operator_parts op us vs from)
   operator_only And us vs from = bitwise_only all_one us vs
   operator_only Or us vs from = bitwise_only some_one us vs
   operator_only Xor us vs from = bitwise_only odd_ones us vs
@@ -55,7 +55,7 @@ module _ (P : ℕ → ℕ → Type 0) where
   operator_only Gt us vs from = borrow_only vs us [] from
   operator_only Le us vs from = borrow_only vs us [] from
 
-  fixed_only : (w v : ℕ) → Only P (fixed_parts w v)
+  pub fixed_only : (w v : ℕ) → Only P (fixed_parts w v)
   fixed_only zero v = tt
   fixed_only (suc n) v = fixed_only n (v / 2)
 

@@ -92,7 +92,7 @@ one_bit Le xs from h = refl
 one_bit Gt xs from h = refl
 one_bit Ge xs from h = refl
 
-each_bit : (op : Op) (xs : List Pair) (from : ℕ) → is_comparison op ≡ false → length (operator_result op xs from) ≡ length xs
+pub each_bit : (op : Op) (xs : List Pair) (from : ℕ) → is_comparison op ≡ false → length (operator_result op xs from) ≡ length xs
 each_bit And xs from h = results_length xs from
 each_bit Or xs from h = results_length xs from
 each_bit Xor xs from h = results_length xs from

@@ -6,3 +6,4 @@ pub mod Waves
 pub mod Listed
 pub mod ExpressionParts
 pub mod RailFacts
+pub mod Blocks
