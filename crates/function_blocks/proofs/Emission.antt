@@ -1,9 +1,11 @@
 -- The guards of an expression, part by part: how far they are made, and what is left.
-use Rattle.std.proofs.Common.{◌≡◌, ℕ, zero, suc, ◌+◌, ◌-◌, ◌*◌, ◌^◌, ◌<◌, ◌≤◌, List, [], ◌∷◌, ◌++◌, length, map, take, drop, refl, sym, ap, subst, ◌∙◌, arith, append_assoc, length-append}
+use Rattle.std.proofs.Common.{◌≡◌, ◌≢◌, ℕ, zero, suc, ◌+◌, ◌-◌, ◌*◌, ◌^◌, ◌<◌, ◌≤◌, List, [], ◌∷◌, ◌++◌, length, take, drop, All, refl, sym, ap, subst, ◌∙◌, arith, append_assoc, length-append}
 use Rattle.std.proofs.lemmas.List.{append-nil}
 use Rattle.std.specs.Prelude.{slice_index_or, min}
 use Rattle.prs_core.specs.Nets.{NodeRules}
+use Rattle.prs_core.specs.Pairs as nodes
 use Rattle.prs_core.specs.Pairs.{Pair, pair_at, pairs_from}
+use Rattle.prs_core.specs.Parts.{Keeps}
 use Rattle.chp_syntax.specs.declared.tree.Op.{Op}
 use Rattle.width_check.specs.declared.typed.Var.{Var}
 use Rattle.width_check.specs.Processes.{Formula, constant, reading, joined, inverted, chained, compared, Formulas, no_parts, and_part, Operations, no_operations, and_operation}
@@ -12,9 +14,13 @@ use Rattle.width_check.specs.Typing.{var_width, ReadsFrom, EachReadsFrom, AllRea
 use Rattle.handshake_expand.specs.Layout.{operator_size, formula_size, parts_size, operations_size}
 use Rattle.function_blocks.specs.Gates.{operator_rules, operator_result}
 use Rattle.function_blocks.specs.Expressions.{HasBits, bits_between, formula_result, joined_result, chained_result, formula_rules, joined_rules, chained_rules}
-use Rattle.function_blocks.specs.Blocks.{bits_apart, bits_in_blocks, HasBit, EachRead, EachPart, EachOperation}
+use Rattle.function_blocks.specs.Blocks.{bits_apart, bits_in_blocks, HasBit}
+use Rattle.function_blocks.specs.BitsRead.{EachRead, EachPart, EachOperation, bits_read}
+use Rattle.function_blocks.specs.ExpressionParts.{IsOutside, AreDistinct, expression_part}
 use Rattle.width_check.proofs.Bounds.{width_most}
 use Rattle.function_blocks.proofs.PartSizes.{some_width}
+use Rattle.function_blocks.proofs.ReadBits.{each_formed, var_bound, vars_over, over_bits, over_reads}
+use Rattle.function_blocks.proofs.ExpressionKeeps.{expression_keeps}
 use Rattle.function_blocks.proofs.Sizes.{result_length, rules_length, operator_length, each_bit}
 
 -- bits of a block
@@ -39,47 +45,22 @@ between_apart high low first some most =
     let all : 64 ≡ low + (64 - low) = omega (arith, some, most) in
     ap (take count) (drop_apart 5 low 64 (64 - low) first all) ∙ take_apart 5 count (64 - low) (first + 5 * low) (omega (arith, some, most))
 
--- variables of 64 bits, so many as there are blocks
-abbrev pub wide_vars : List ℕ → List Var
-wide_vars [] = []
-wide_vars (n ∷ ns) = record { name = []; width = 64; first = 0 } ∷ wide_vars ns
+-- each bit that is read is one of its variable's 64
+blocks_there : (firsts : List ℕ) (e : Formula) → IsWellFormed e → EachRead (λ x bit. bit < length (bits_in_blocks firsts x)) e
+blocks_there firsts e h = each_formed _ (λ x i l. let w = apart_length 5 64 (slice_index_or firsts x 0) in omega (arith, w, l)) e h
 
-wide_count : (firsts : List ℕ) → length (wide_vars firsts) ≡ length firsts
-wide_count [] = refl
-wide_count (n ∷ ns) = ap suc (wide_count ns)
+-- and so the rules are as for variables of 64 bits
+abbrev pub block_vars : List ℕ → Formula → List Var
+block_vars firsts e = vars_over (bits_in_blocks firsts) 0 (var_bound e)
 
-wide_width : (firsts : List ℕ) (x : ℕ) → x < length firsts → var_width (wide_vars firsts) x ≡ 64
-wide_width [] x l = absurd (omega (arith, l))
-wide_width (n ∷ ns) zero l = refl
-wide_width (n ∷ ns) (suc x) l = wide_width ns x (omega (arith, l))
+pub block_bits : (firsts : List ℕ) (e : Formula) → HasBits (block_vars firsts e) (bits_in_blocks firsts)
+block_bits firsts e = over_bits (bits_in_blocks firsts) (var_bound e)
 
-pub wide_bits : (firsts : List ℕ) → HasBits (wide_vars firsts) (bits_in_blocks firsts)
-wide_bits firsts x l = apart_length 5 64 (slice_index_or firsts x 0) ∙ sym (wide_width firsts x (let e = wide_count firsts in omega (arith, e, l)))
+pub block_reads : (firsts : List ℕ) (e : Formula) → IsWellFormed e → ReadsFrom (block_vars firsts e) e
+block_reads firsts e h = over_reads (bits_in_blocks firsts) (var_bound e) e h (blocks_there firsts e h) (omega arith)
 
-module _ (count : ℕ) (firsts : List ℕ) where
-  mutual
-    pub wide_reads : (e : Formula) → IsWellFormed e → EachRead (HasBit count firsts) e → ReadsFrom (wide_vars firsts) e
-    wide_reads (constant width v) h r = tt
-    wide_reads (reading x high low at) h r =
-        let entry = (r high h.0 (omega arith)).entry in
-        let e = wide_count firsts in
-        let w = wide_width firsts x entry in
-        (omega (arith, entry, e), omega (arith, w, h.1))
-    wide_reads (joined parts) h r = wide_parts parts h.2 r
-    wide_reads (inverted e) h r = wide_reads e h r
-    wide_reads (chained e more) h r = (wide_reads e h.0 r.0, wide_operations (width_of e) more h.2 r.1)
-    wide_reads (compared op e f) h r = (wide_reads e h.2 r.0, wide_reads f h.3 r.1)
-
-    wide_parts : (parts : Formulas) → AreWellFormed parts → EachPart (HasBit count firsts) parts → EachReadsFrom (wide_vars firsts) parts
-    wide_parts no_parts h r = tt
-    wide_parts (and_part e more) h r = (wide_reads e h.0 r.0, wide_parts more h.1 r.1)
-
-    wide_operations : (width : ℕ) (more : Operations) → AreOperations width more → EachOperation (HasBit count firsts) more → AllReadFrom (wide_vars firsts) more
-    wide_operations width no_operations h r = tt
-    wide_operations width (and_operation op e more) h r = (wide_reads e h.2 r.0, wide_operations width more h.3 r.1)
-
-  pub counted : (e : Formula) (request from : ℕ) → IsWellFormed e → EachRead (HasBit count firsts) e → length (formula_rules (bits_in_blocks firsts) e request from) ≡ formula_size e
-  counted e request from h r = rules_length (wide_vars firsts) (bits_in_blocks firsts) (wide_bits firsts) e request from h (wide_reads e h r)
+pub counted : (firsts : List ℕ) (e : Formula) (request from : ℕ) → IsWellFormed e → length (formula_rules (bits_in_blocks firsts) e request from) ≡ formula_size e
+counted firsts e request from h = rules_length (block_vars firsts e) (bits_in_blocks firsts) (block_bits firsts e) e request from h (block_reads firsts e h)
 
 -- the place behind what was added
 grown : (from : ℕ) (old more now : List NodeRules) (n : ℕ) → now ≡ old ++ more → length more ≡ n → from + length now ≡ from + length old + n
@@ -129,7 +110,7 @@ module _ (firsts : List ℕ) (request from : ℕ) where
 
   pub join_more : (old : List NodeRules) (f e : Formula) (more : Formulas) (made now : List NodeRules) (bits lower all : List Pair) → Joining old f (and_part e more) made bits → now ≡ made ++ formula_rules Bits e request (from + length made) → lower ≡ formula_result e (from + length made) → all ≡ lower ++ bits → Joining old f more now all
   join_more old f e more made now bits lower all j is lower_is all_is =
-      let at = grown from made (formula_rules Bits e request (from + length made)) now (formula_size e) is (counted (2 ^ 32) firsts e request (from + length made) j.formed.0 j.read.0) in
+      let at = grown from made (formula_rules Bits e request (from + length made)) now (formula_size e) is (counted firsts e request (from + length made) j.formed.0) in
       let room = j.room in record {
         made_is =
             ap (λ n. now ++ joined_rules Bits more request n) at
@@ -153,7 +134,7 @@ module _ (firsts : List ℕ) (request from : ℕ) where
       let read = subst Read is r in
       let size = ap formula_size is in
       let wide : length bits ≡ width_of e = ap length d.bits_are ∙ result_length e (from + length old) formed.0 in
-      let at = grown from old (formula_rules Bits e request (from + length old)) made (formula_size e) d.made_is (counted (2 ^ 32) firsts e request (from + length old) formed.0 read.0) in record {
+      let at = grown from old (formula_rules Bits e request (from + length old)) made (formula_size e) d.made_is (counted firsts e request (from + length old) formed.0) in record {
         made_is =
             ap (λ n. made ++ chained_rules Bits n bits rest request (from + length made)) wide
             ∙ (ap (λ n. made ++ chained_rules Bits (width_of e) bits rest request n) at
@@ -182,7 +163,7 @@ module _ (firsts : List ℕ) (request from : ℕ) where
   pub chain_fits : (old : List NodeRules) (f e : Formula) (op : Op) (more : Operations) (made there : List NodeRules) (bits right : List Pair) → Chaining old f (and_operation op e more) made bits → there ≡ made ++ formula_rules Bits e request (from + length made) → right ≡ formula_result e (from + length made) → Fits there op bits right
   chain_fits old f e op more made there bits right j there_is right_is =
       let first = from + length made in
-      let at = grown from made (formula_rules Bits e request first) there (formula_size e) there_is (counted (2 ^ 32) firsts e request first j.formed.2 j.read.0) in
+      let at = grown from made (formula_rules Bits e request first) there (formula_size e) there_is (counted firsts e request first j.formed.2) in
       let room = j.room in record {
         some = j.some;
         most = j.most;
@@ -196,7 +177,7 @@ module _ (firsts : List ℕ) (request from : ℕ) where
       let first = from + length made in
       let second = first + formula_size e in
       let third = second + operator_size op w in
-      let at = grown from made (formula_rules Bits e request first) there (formula_size e) there_is (counted (2 ^ 32) firsts e request first j.formed.2 j.read.0) in
+      let at = grown from made (formula_rules Bits e request first) there (formula_size e) there_is (counted firsts e request first j.formed.2) in
       let wide : length right ≡ w = ap length right_is ∙ (result_length e first j.formed.2 ∙ j.formed.1) in
       let next = grown from there (operator_rules op bits right (from + length there)) now (operator_size op w) now_is (operator_length op bits right (from + length there) wide j.some) in
       let place : from + length now ≡ third = omega (arith, at, next) in
@@ -242,7 +223,7 @@ module _ (firsts : List ℕ) (request from : ℕ) where
       let formed = subst IsWellFormed is h in
       let read = subst Read is r in
       let size = ap formula_size is in
-      let at = grown from old (formula_rules Bits e request (from + length old)) made (formula_size e) d.made_is (counted (2 ^ 32) firsts e request (from + length old) formed.2 read.0) in record {
+      let at = grown from old (formula_rules Bits e request (from + length old)) made (formula_size e) d.made_is (counted firsts e request (from + length old) formed.2) in record {
         formed = formed.3;
         read = read.1;
         room = omega (arith, at, size, room);
@@ -253,8 +234,8 @@ module _ (firsts : List ℕ) (request from : ℕ) where
       let formed = subst IsWellFormed is h in
       let read = subst Read is r in
       let size = ap formula_size is in
-      let at = grown from old (formula_rules Bits e request (from + length old)) made (formula_size e) d.made_is (counted (2 ^ 32) firsts e request (from + length old) formed.2 read.0) in
-      let next = grown from made (formula_rules Bits g request (from + length made)) there (formula_size g) k.made_is (counted (2 ^ 32) firsts g request (from + length made) formed.3 read.1) in
+      let at = grown from old (formula_rules Bits e request (from + length old)) made (formula_size e) d.made_is (counted firsts e request (from + length old) formed.2) in
+      let next = grown from made (formula_rules Bits g request (from + length made)) there (formula_size g) k.made_is (counted firsts g request (from + length made) formed.3) in
       let wide : length left ≡ width_of e = ap length d.bits_are ∙ result_length e (from + length old) formed.2 in
       let gates = ap (operator_size op) wide in
       let some = some_width e formed.2 in
@@ -272,8 +253,8 @@ module _ (firsts : List ℕ) (request from : ℕ) where
       let first = from + length old in
       let second = first + formula_size e in
       let third = second + formula_size g in
-      let at = grown from old (formula_rules Bits e request first) made (formula_size e) d.made_is (counted (2 ^ 32) firsts e request first formed.2 read.0) in
-      let next = grown from made (formula_rules Bits g request (from + length made)) there (formula_size g) k.made_is (counted (2 ^ 32) firsts g request (from + length made) formed.3 read.1) in
+      let at = grown from old (formula_rules Bits e request first) made (formula_size e) d.made_is (counted firsts e request first formed.2) in
+      let next = grown from made (formula_rules Bits g request (from + length made)) there (formula_size g) k.made_is (counted firsts g request (from + length made) formed.3) in
       let place : from + length there ≡ third = omega (arith, at, next) in
       let own = operator_rules op (formula_result e first) (formula_result g second) third in
       let right_is : right ≡ formula_result g second = k.bits_are ∙ ap (formula_result g) at in
@@ -306,3 +287,7 @@ pub first_made : (none now : List NodeRules) (rules : ℕ → List NodeRules) (f
 first_made none now rules from empty is =
     let place : from + length none ≡ from = let e = ap length empty in omega (arith, e) in
     is ∙ (ap (λ n. none ++ rules n) place ∙ ap (λ l. l ++ rules from) empty)
+
+pub blocks_keep : (firsts : List ℕ) (e : Formula) (request from : ℕ) → IsWellFormed e → All (IsOutside from (formula_size e)) (request ∷ nodes.rails_of (bits_read (bits_in_blocks firsts) e)) → All (λ rail. rail ≢ request) (nodes.rails_of (bits_read (bits_in_blocks firsts) e)) → AreDistinct (bits_read (bits_in_blocks firsts) e) → Keeps (expression_part (bits_in_blocks firsts) e request from)
+blocks_keep firsts e request from h outside unasked distinct =
+    expression_keeps (bits_in_blocks firsts) e request from (record { formed = h; there = blocks_there firsts e h; outside = outside; unasked = unasked; distinct = distinct })

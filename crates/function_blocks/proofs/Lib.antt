@@ -18,6 +18,7 @@ pub mod Minterms
 pub mod ListedHolds
 pub mod GatesTold
 pub mod NodePairs
+pub mod ReadBits
 pub mod ExpressionKeeps
 pub mod SiteTrial
 pub mod WaveExamples

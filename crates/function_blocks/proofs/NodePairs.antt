@@ -5,12 +5,12 @@ use Rattle.std.specs.List.{list_all}
 use Rattle.std.proofs.lemmas.List.Elements.{Contains-append_right}
 use Rattle.prs_core.specs.Nets.{NodeRules}
 use Rattle.prs_core.specs.Pairs as nodes
-use Rattle.prs_core.specs.Moves.{guard_holds, bit_value, with_bit}
+use Rattle.prs_core.specs.Moves.{guard_holds, bit_value, with_bit, rail_value_of}
 use Rattle.prs_core.specs.Parts as parts
 use Rattle.prs_core.specs.Parts.{Owned, owned, owned_from, Wire, wire, Moment, turned, all_low, is_valid}
 use Rattle.prs_core.specs.Turning.{turned_here, turned_apart, among_cases, none_among}
-use Rattle.prs_core.specs.Deciding.{left_of, right_of}
-use Rattle.function_blocks.specs.Rails.{pair_of, side_of, Pairs, pair_in, turned_pairs, Rule, fires, Rails, value_on, neutral_on}
+use Rattle.prs_core.specs.Deciding.{left_of, right_of, both_of}
+use Rattle.function_blocks.specs.Rails.{pair_of, side_of, single, some, Pairs, low_pairs, pair_in, turned_pairs, Rule, fires, Rails, value_on, neutral_on}
 use Rattle.function_blocks.specs.Listed.{rail_place, node_of, Told}
 use Rattle.function_blocks.specs.ExpressionParts.{rail_wire, rail_wires, variable_wire, variable_wires}
 
@@ -145,6 +145,30 @@ module _ (v : ℕ → Bool) where
       ∙ (ap (λ b. (rail 0 true && not b || not (rail 0 true) && b) && list_all (is_valid v) ps) (f 0 false (omega arith))
       ∙ (ap (λ b. (rail 0 true && not (rail 0 false) || not (rail 0 true) && rail 0 false) && b) (valid_is ps (λ i. rail (suc i)) (agree_rest p ps rail f))
       ∙ valid_bit (rail 0 true) (rail 0 false) (value_on (length ps) (λ i. rail (suc i)))))
+
+  pub number_is : (ps : List nodes.Pair) (rail : Rails) → Agree ps rail → rail_value_of v (nodes.rails_of ps) ≡ value_on (length ps) rail
+  number_is [] rail f = refl
+  number_is (p ∷ ps) rail f =
+      ap (λ b. with_bit (bit_value b (v p.f)) (rail_value_of v (nodes.rails_of ps))) (f 0 true (omega arith))
+      ∙ (ap (λ b. with_bit (bit_value (rail 0 true) b) (rail_value_of v (nodes.rails_of ps))) (f 0 false (omega arith))
+      ∙ ap (with_bit (bit_value (rail 0 true) (rail 0 false))) (number_is ps (λ i. rail (suc i)) (agree_rest p ps rail f)))
+
+  -- pairs of nodes one behind the other
+  valid_pair : (t f : Bool) → ((t || f) && not (t && f)) ≡ true → (t && not f || not t && f) ≡ true
+  valid_pair true true h = absurd (cc h)
+  valid_pair true false h = refl
+  valid_pair false true h = refl
+  valid_pair false false h = absurd (cc h)
+
+  pub each_valid : (from n : ℕ) → ((k : ℕ) → k < n → (some (pair_in n (pairs_at v from n) k) && single (pair_in n (pairs_at v from n) k)) ≡ true) → list_all (is_valid v) (nodes.pairs_from n from) ≡ true
+  each_valid from zero f = refl
+  each_valid from (suc n) f = both_of _ _ (valid_pair (v from) (v (from + 1)) (f 0 (omega arith))) (each_valid (from + 2) n (λ k l. f (suc k) (omega (arith, l))))
+
+  pub each_neutral : (from n : ℕ) → pairs_at v from n ≡ low_pairs n → all_low v (nodes.rails_of (nodes.pairs_from n from)) ≡ true
+  each_neutral from zero e = refl
+  each_neutral from (suc n) e =
+      both_of _ _ (ap (λ (u : Pairs (suc n)). not u.0.t) e)
+      (both_of _ _ (ap (λ (u : Pairs (suc n)). not u.0.f) e) (each_neutral (from + 2) n (ap (λ (u : Pairs (suc n)). u.1) e)))
 
 -- among the wires
 pub record RailWire (request : ℕ) (number : (ℕ → Bool) → ℕ) (from : ℕ) (ps : List nodes.Pair) (w : Wire) : Type 0 where

@@ -6,16 +6,17 @@ use Rattle.prs_core.specs.Deciding.{left_of, right_of, both_of}
 use Rattle.width_check.specs.Processes.{Formula}
 use Rattle.width_check.specs.Values.{width_of, IsWellFormed}
 use Rattle.width_check.specs.Typing.{var_width}
-use Rattle.function_blocks.specs.Rails.{Pairs, low_pairs, pair_in, turned_pairs, Rails, value_on, neutral_on, Single}
+use Rattle.function_blocks.specs.Rails.{fires, Pairs, low_pairs, pair_in, turned_pairs, Rails, value_on, neutral_on, Single}
 use Rattle.function_blocks.specs.Parts.{Input, Part, fixed, read_bit, made, gate_count, outs_of, parts_of}
-use Rattle.function_blocks.specs.Waves.{taken, all_fit, cold, good, out_rail, full, empty, Waves}
+use Rattle.function_blocks.specs.BitsRead.{EachRead}
+use Rattle.function_blocks.specs.Waves.{taken, all_fit, cold, gate_rule, good, out_rail, full, empty, Waves}
 use Rattle.function_blocks.proofs.Guards.{arrived, bits_in}
 use Rattle.function_blocks.proofs.GateLists.{singles, there_in, own_all, grows_all, law_all, apart_all, firm_all, cold_stays, all_arrived, named_in, arrived_all, arrived_at, all_low, low_in, begins_in, idle_in, cold_low, ease_all, answered_all, quiet_in}
 use Rattle.function_blocks.proofs.GateRest.{Only, only_more, only_all, Alike, fit_same, rule_same, earlier, rest_all, agrees_all}
 use Rattle.function_blocks.proofs.PartSizes.{outs_length, parts_length}
 use Rattle.function_blocks.proofs.Ordered.{below, outs_below, parts_ordered}
 use Rattle.function_blocks.proofs.Used.{member, parts_used}
-use Rattle.function_blocks.proofs.Readings.{parts_only, parts_within}
+use Rattle.function_blocks.proofs.Readings.{parts_only, parts_within, parts_read}
 use Rattle.function_blocks.proofs.BitNumbers.{number_of}
 use Rattle.function_blocks.proofs.PartValues.{value_at, bits_length}
 use Rattle.function_blocks.proofs.Right.{result_bits, agrees_with, right_all, right_out, bit_of, head_of}
@@ -58,6 +59,18 @@ module _ (e : Formula) (w : IsWellFormed e) where
       let z : zero + n ≡ n = omega arith in
       right_out (result_bits bits gs) (pair_in n u) n (singles true (pair_in n u) bits gs n u (left_of _ _ h))
       (right_all (result_bits bits gs) bits gs n u x (agrees_with bits gs (parts_ordered e 0 w)) (parts_ordered e 0 w) (left_of _ _ h)) us (ap (λ k. below k us) (sym z) ∙ outs_below e 0 w) i one p
+
+  -- while the request is high only the bits that are read matter
+  pub read_alone : (r : Bool) (bits now : ℕ → Rails) (u : Pairs n) → EachRead (λ x i. (one : Bool) → bits x i one ≡ now x i one) e → (good r bits e u ≡ good r now e u) × ((k : ℕ) (one : Bool) → gate_rule e bits r u k one ≡ gate_rule e now r u k one)
+  read_alone r bits now u f =
+      let o = only_more _ (Alike r bits now) (λ x i h one. ap (λ z. r && z) (h one)) gs (parts_read _ e 0 f) in
+      (ap (λ z. z && cold gs n u) (fit_same r (pair_in n u) bits now gs n u o), rule_same r (pair_in n u) bits now gs n u o)
+
+  -- and only these are waited for
+  pub rest_read : (bits : ℕ → Rails) (u : Pairs n) → EachRead (λ x i. (bits x i true || bits x i false) ≡ true) e → good true bits e u ≡ true → ((k : ℕ) (one : Bool) → fires (gate_rule e bits true u k one) ≡ false) → full e u ≡ true
+  rest_read bits u y h m =
+      let a = rest_all true bits gs n u (left_of _ _ h) (parts_ordered e 0 w) (parts_read _ e 0 y) m in
+      ap is_some (told bits u h (outer true u a))
 
   pub expression_holds : Waves e
   expression_holds = record {

@@ -13,51 +13,15 @@ use Rattle.function_blocks.specs.Gates.{table, minterm, gate, gate_rail}
 use Rattle.function_blocks.specs.Expressions.{following, read_rail, formula_rules}
 use Rattle.function_blocks.specs.Parts.{Input, Part, fixed, read_bit, made, read_parts, operator_parts, operator_inputs, operator_gates, gate_count, outs_of, parts_of, joined_parts, chained_parts}
 use Rattle.function_blocks.specs.Listed.{placed, part_rules, rules_listed}
-use Rattle.function_blocks.specs.Blocks.{bits_apart, bits_in_blocks, HasBit, EachRead, EachPart, EachOperation}
+use Rattle.function_blocks.specs.Blocks.{bits_apart, bits_in_blocks, HasBit}
+use Rattle.function_blocks.specs.BitsRead.{EachRead, EachPart, EachOperation}
 use Rattle.function_blocks.proofs.GateLists.{ordered_one, ordered, is_lt}
-use Rattle.function_blocks.proofs.GateRest.{Only, only_append, only_more}
-use Rattle.function_blocks.proofs.Readings.{operator_only, fixed_only}
+use Rattle.function_blocks.proofs.GateRest.{Only}
+use Rattle.function_blocks.proofs.Readings.{parts_read}
 use Rattle.function_blocks.proofs.Ordered.{below, parts_ordered}
 use Rattle.function_blocks.proofs.PartSizes.{parts_length}
 use Rattle.function_blocks.proofs.GatesTold.{listed}
-use Rattle.function_blocks.proofs.Emission.{wide_vars, wide_bits, wide_reads}
-
--- the bits that the gates read are those that the expression reads
-
-read_between : (P : ℕ → ℕ → Type 0) (x i n : ℕ) → ((j : ℕ) → i ≤ j → j < i + n → P x j) → Only P (read_parts x i n)
-read_between P x i zero f = tt
-read_between P x i (suc n) f = (f i (omega arith) (omega arith), read_between P x (suc i) n (λ j l m. f j (omega (arith, l)) (omega (arith, m))))
-
-mutual
-  pub parts_read : (P : ℕ → ℕ → Type 0) (e : Formula) (from : ℕ) → EachRead P e → Only P (parts_of e from)
-  parts_read P (constant w v) from r = fixed_only P w v
-  parts_read P (reading x high low at) from r = read_between P x low (high + 1 - low) (λ j l m. r j l (omega (arith, l, m)))
-  parts_read P (joined parts) from r = joined_read P parts from r
-  parts_read P (inverted e) from r = parts_read P e from r
-  parts_read P (chained e more) from r =
-      only_append P (parts_of e from) (chained_parts (width_of e) (outs_of e from) more (from + gate_count e))
-      (parts_read P e from r.0) (chained_read P (width_of e) (outs_of e from) more (from + gate_count e) r.1)
-  parts_read P (compared op e g) from r =
-      let fb = from + gate_count e in
-      let fo = fb + gate_count g in
-      let own = operator_parts op (outs_of e from) (outs_of g fb) fo in
-      only_append P (parts_of e from) (parts_of g fb ++ own) (parts_read P e from r.0)
-      (only_append P (parts_of g fb) own (parts_read P g fb r.1) (operator_only P op (outs_of e from) (outs_of g fb) fo))
-
-  joined_read : (P : ℕ → ℕ → Type 0) (parts : Formulas) (from : ℕ) → EachPart P parts → Only P (joined_parts parts from)
-  joined_read P no_parts from r = tt
-  joined_read P (and_part e more) from r =
-      only_append P (parts_of e from) (joined_parts more (from + gate_count e)) (parts_read P e from r.0) (joined_read P more (from + gate_count e) r.1)
-
-  chained_read : (P : ℕ → ℕ → Type 0) (width : ℕ) (left : List Input) (more : Operations) (from : ℕ) → EachOperation P more → Only P (chained_parts width left more from)
-  chained_read P width left no_operations from r = tt
-  chained_read P width left (and_operation op e more) from r =
-      let next = from + gate_count e in
-      let own = operator_parts op left (outs_of e from) next in
-      let rest = chained_parts width (operator_inputs op left next) more (next + operator_gates op width) in
-      only_append P (parts_of e from) (own ++ rest) (parts_read P e from r.0)
-      (only_append P own rest (operator_only P op left (outs_of e from) next)
-      (chained_read P width (operator_inputs op left next) more (next + operator_gates op width) r.1))
+use Rattle.function_blocks.proofs.Emission.{block_vars, block_bits, block_reads}
 
 -- each is one of 64 bits
 mutual
@@ -159,11 +123,11 @@ module _ (count : ℕ) where
 pub rules_within : (count : ℕ) (firsts : List ℕ) (e : Formula) (request from : ℕ) → IsWellFormed e → EachRead (HasBit count firsts) e → request < count → from + formula_size e ≤ count → All (Within count) (formula_rules (bits_in_blocks firsts) e request from)
 rules_within count firsts e request from h r asked room =
     let bits = bits_in_blocks firsts in
-    let list = listed (wide_vars firsts) e h (wide_reads count firsts e h r) in
+    let list = listed (block_vars firsts e) e h (block_reads firsts e h) in
     let size = list.size in
     let long = parts_length e 0 h in
     let near : (x i : ℕ) → i ≤ 63 → HasBit count firsts x i → IsNear count (pair_of (bits x) i) =
     λ x i l k. subst (IsNear count) (sym (apart_at 5 64 _ i (omega (arith, l)))) (let w = k.within in (omega (arith, w), w)) in
-    subst (All (Within count)) (sym (list.rules bits (wide_bits firsts) request from))
+    subst (All (Within count)) (sym (list.rules bits (block_bits firsts e) request from))
     (listed_near count bits request from (gate_count e) asked (omega (arith, size, room)) (parts_of e 0) 0 (omega (arith, long)) (parts_ordered e 0 h)
     (parts_read _ e 0 (each_within _ _ near e h r)))

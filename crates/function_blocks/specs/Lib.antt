@@ -7,3 +7,5 @@ pub mod Listed
 pub mod ExpressionParts
 pub mod RailFacts
 pub mod Blocks
+pub mod Functions
+pub mod BitsRead

@@ -1,14 +1,16 @@
 //! The rules of the circuit of an expression.
 
-ghost use Rattle.std.specs.Prelude.{◌≡◌, ◌≢◌, ℕ, ◌+◌, ◌*◌, ◌<◌, ◌≤◌, ◌^◌, ◌++◌, map, length, All, slice_index_or, IfOk, OnOk, OnErr};
+ghost use Rattle.std.specs.Prelude.{◌≡◌, ◌≢◌, ℕ, ◌+◌, ◌*◌, ◌<◌, ◌≤◌, ◌^◌, ◌∷◌, ◌++◌, map, length, All, slice_index_or, IfOk, OnOk, OnErr};
 ghost use Rattle.prs_core.specs.Nets.{NodeRules, IsAlone, IsBelow};
 ghost use Rattle.prs_core.specs.Pairs.{exchanged, rails_of};
-ghost use Rattle.prs_core.specs.Parts.{Owned, owned_from, with_owned};
+ghost use Rattle.prs_core.specs.Parts.{Owned, Keeps, owned_from, with_owned};
 ghost use Rattle.width_check.specs.View.{formula_of};
 ghost use Rattle.width_check.specs.Values.{IsWellFormed};
 ghost use Rattle.handshake_expand.specs.Layout.{formula_size};
 ghost use Rattle.function_blocks.specs.Expressions.{constant_bit, constant_bits, read_bits, bits_between, formula_rules, formula_result};
-ghost use Rattle.function_blocks.specs.Blocks.{bits_apart, bits_in_blocks, EachRead, HasBit};
+ghost use Rattle.function_blocks.specs.Blocks.{bits_apart, bits_in_blocks, HasBit};
+ghost use Rattle.function_blocks.specs.BitsRead.{EachRead, bits_read};
+ghost use Rattle.function_blocks.specs.ExpressionParts.{IsOutside, AreDistinct, expression_part};
 
 use crate::node::{Bit, NodeGuards, bits_apart, following, read_rail, without_rules};
 use crate::operator::operator;
@@ -176,7 +178,8 @@ fn give(guards: Vec<NodeGuards>, from: u32, rules: &mut Rules)
 /// Writes the guards of the nodes of an expression's circuit (Martin), which are numbered from `from` on, and no others,
 /// and answers the rails of its value: rail t and rail f of each bit, the lowest bit first. Under `request` one rail of each
 /// bit rises, that of the value; when it falls they fall. `vars` has for each variable the first node of its block, which
-/// begins with five nodes for each bit, the first two of them the bit's rails. Where memory runs out, nothing is written.
+/// begins with five nodes for each bit, the first two of them the bit's rails. Where memory runs out, nothing is written. Where
+/// no two of the bits that are read share a node, the circuit keeps the contract of an expression alone.
 pub fn emit_expr(
     alloc: Global,
     e: &TExpr,
@@ -189,11 +192,14 @@ pub fn emit_expr(
     requires vars { EachRead (HasBit (length rules.old.up) vars.now) (formula_of e.now) }
     requires request { request < length rules.old.up }
     requires own { from + formula_size (formula_of e.now) ≤ length rules.old.up }
+    requires apart { All (IsOutside from (formula_size (formula_of e.now))) (request ∷ rails_of (bits_read (bits_in_blocks vars.now) (formula_of e.now))) }
+    requires unasked { All (λ rail. rail ≢ request) (rails_of (bits_read (bits_in_blocks vars.now) (formula_of e.now))) }
     ensures made { OnOk result (rules.new ≡ with_owned (owned_from from (formula_rules (bits_in_blocks vars.now) (formula_of e.now) request from)) rules.old) }
     ensures rails { IfOk result (λ rails. rails.items ≡ rails_of (formula_result (formula_of e.now) from)) }
     ensures kept { OnErr result (rules.new ≡ rules.old) }
     ensures nodes { length rules.new.up ≡ length rules.old.up }
     ensures others { (node : ℕ) → All (λ (o : Owned). o.node ≢ node) (owned_from from (formula_rules (bits_in_blocks vars.now) (formula_of e.now) request from)) → IsAlone rules.old rules.new node }
+    ensures keeps { AreDistinct (bits_read (bits_in_blocks vars.now) (formula_of e.now)) → Keeps (expression_part (bits_in_blocks vars.now) (formula_of e.now) request from) }
 {
     // tells the proof that there are fewer than 2^32 nodes, so that the numbers from `from` on fit
     let _count = rules.nodes();

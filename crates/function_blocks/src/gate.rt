@@ -5,7 +5,7 @@ ghost use Rattle.prs_core.specs.Nets.{one_term};
 ghost use Rattle.prs_core.specs.Pairs.{lows, rails_of};
 ghost use Rattle.function_blocks.specs.Gates.{all_one, some_one, odd_ones, carries, borrows, table, minterm, gate_rail, gate};
 ghost use Rattle.function_blocks.specs.Waves.{rows_of};
-ghost use Rattle.function_blocks.specs.Blocks.{truth, carried_on};
+ghost use Rattle.function_blocks.specs.Functions.{truth, carried_on};
 
 use crate::node::{Bit, NodeGuards};
 use prs_core::{Guard, Term, all_of, high, low};

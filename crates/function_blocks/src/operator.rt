@@ -4,7 +4,7 @@ ghost use Rattle.std.specs.Prelude.{◌≡◌, ◌+◌, ◌-◌, ◌*◌, ◌<�
 ghost use Rattle.prs_core.specs.Pairs.{pair_at, exchanged};
 ghost use Rattle.handshake_expand.specs.Layout.{operator_size};
 ghost use Rattle.function_blocks.specs.Gates.{bitwise, result_pairs, ripple, ripple_result, borrow_gates, equality, operator_rules, operator_result};
-ghost use Rattle.function_blocks.specs.Blocks.{truth};
+ghost use Rattle.function_blocks.specs.Functions.{truth};
 
 use crate::gate::{Function, gate_over};
 use crate::node::{Bit, NodeGuards, bits_apart};

@@ -5,7 +5,7 @@ use Rattle.prs_core.specs.Writing.{others_alone}
 use Rattle.width_check.specs.View.{formula_of}
 use Rattle.function_blocks.specs.Expressions.{formula_rules}
 use Rattle.function_blocks.specs.Blocks.{bits_in_blocks, HasBit}
-use Rattle.function_blocks.proofs.Emission.{counted, first_made}
+use Rattle.function_blocks.proofs.Emission.{counted, first_made, blocks_keep}
 use Rattle.function_blocks.proofs.Within.{Within, each_within, rules_within}
 use Rattle.function_blocks.proofs.emit.emit_expr.Goals as goal
 
@@ -17,7 +17,7 @@ expression-requires-clause-read c =
 pub give-requires-clause-own : goal.give-requires-clause-own
 give-requires-clause-own c =
     let are : c.expression.new.guards.items ≡ formula_rules (bits_in_blocks c.args.vars.now) (formula_of c.args.e.now) c.args.request c.args.from = first_made _ _ (formula_rules (bits_in_blocks c.args.vars.now) (formula_of c.args.e.now) c.args.request) c.args.from c.new-guards.ensures.items c.in_ok-bits.ensures.made in
-    let size = counted (length c.args.rules.now.up) c.args.vars.now (formula_of c.args.e.now) c.args.request c.args.from c.requires.formed c.requires.vars in
+    let size = counted c.args.vars.now (formula_of c.args.e.now) c.args.request c.args.from c.requires.formed in
     omega (arith, ap length are, size, c.requires.own)
 
 pub give-requires-clause-within : goal.give-requires-clause-within
@@ -31,3 +31,12 @@ returns-clause-others c =
     λ node other. subst (λ (r : RulesValue). IsAlone c.args.rules.now r node) (sym c.give.ensures.made)
     (subst (λ rs. IsAlone c.args.rules.now (with_owned (owned_from c.args.from rs) c.args.rules.now) node) (sym are)
     (others_alone node (owned_from c.args.from (formula_rules (bits_in_blocks c.args.vars.now) (formula_of c.args.e.now) c.args.request c.args.from)) c.args.rules.now other))
+
+pub returns-in_err-bits-clause-keeps : goal.returns-in_err-bits-clause-keeps
+returns-in_err-bits-clause-keeps c = blocks_keep c.args.vars.now (formula_of c.args.e.now) c.args.request c.args.from c.requires.formed c.requires.apart c.requires.unasked
+
+pub returns-in_err-rails-clause-keeps : goal.returns-in_err-rails-clause-keeps
+returns-in_err-rails-clause-keeps c = blocks_keep c.args.vars.now (formula_of c.args.e.now) c.args.request c.args.from c.requires.formed c.requires.apart c.requires.unasked
+
+pub returns-clause-keeps : goal.returns-clause-keeps
+returns-clause-keeps c = blocks_keep c.args.vars.now (formula_of c.args.e.now) c.args.request c.args.from c.requires.formed c.requires.apart c.requires.unasked

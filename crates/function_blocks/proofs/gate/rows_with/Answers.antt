@@ -1,6 +1,6 @@
 use Rattle.std.proofs.Common.{arith}
 use Rattle.function_blocks.specs.Waves.{rows_of}
-use Rattle.function_blocks.specs.Blocks.{truth}
+use Rattle.function_blocks.specs.Functions.{truth}
 use Rattle.function_blocks.proofs.Emitted.{row_at, rows_step}
 use Rattle.function_blocks.proofs.gate.rows_with.Goals as goal
 

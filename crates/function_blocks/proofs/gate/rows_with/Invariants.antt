@@ -2,7 +2,7 @@ use Rattle.std.proofs.Common.{◌≡◌, ◌++◌, map, length, drop}
 use Rattle.std.specs.Prelude.{filter}
 use Rattle.function_blocks.specs.Gates.{table, minterm}
 use Rattle.function_blocks.specs.Waves.{rows_of}
-use Rattle.function_blocks.specs.Blocks.{truth}
+use Rattle.function_blocks.specs.Functions.{truth}
 use Rattle.function_blocks.proofs.gate.rows_with.Given as goal
 
 abbrev pub invariant-loop-number : goal.invariant-loop-number

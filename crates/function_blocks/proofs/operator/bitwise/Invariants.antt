@@ -1,6 +1,6 @@
 use Rattle.std.proofs.Common.{◌≡◌, ◌++◌, drop}
 use Rattle.function_blocks.specs.Gates.{bitwise}
-use Rattle.function_blocks.specs.Blocks.{truth}
+use Rattle.function_blocks.specs.Functions.{truth}
 use Rattle.function_blocks.proofs.operator.bitwise.Given as goal
 
 abbrev pub invariant-loop-place : goal.invariant-loop-place

@@ -1,6 +1,6 @@
 use Rattle.std.proofs.Common.{◌≡◌, ◌+◌, ◌*◌, ◌++◌, [], drop}
 use Rattle.function_blocks.specs.Gates.{borrow_gates}
-use Rattle.function_blocks.specs.Blocks.{carried_on}
+use Rattle.function_blocks.specs.Functions.{carried_on}
 use Rattle.function_blocks.proofs.operator.less.Given as goal
 
 abbrev pub invariant-loop-place : goal.invariant-loop-place

@@ -1,6 +1,6 @@
 use Rattle.std.proofs.Common.{◌≡◌, ◌+◌, ◌*◌, ◌++◌, [], drop}
 use Rattle.function_blocks.specs.Gates.{ripple}
-use Rattle.function_blocks.specs.Blocks.{truth, carried_on}
+use Rattle.function_blocks.specs.Functions.{truth, carried_on}
 use Rattle.function_blocks.proofs.operator.ripple.Given as goal
 
 abbrev pub invariant-loop-place : goal.invariant-loop-place
