@@ -23,7 +23,7 @@ use Rattle.function_blocks.specs.Parts.{gate_count}
 use Rattle.function_blocks.specs.Waves.{gate_rule, good, out_rail, full, empty, store_of, Waves}
 use Rattle.function_blocks.specs.Listed.{rail_place, node_of, Valued, Told, Listed}
 use Rattle.function_blocks.specs.BitsRead.{EachRead, bits_read}
-use Rattle.function_blocks.specs.ExpressionParts.{IsOutside, value_seen, rail_wire, variable_wire, variable_wires, expression_part, inner_bits, StandsApart}
+use Rattle.function_blocks.specs.ExpressionParts.{IsOutside, value_seen, rail_wire, variable_wire, variable_wires, expression_part, inner_bits, StandsApart, IsAtRest}
 use Rattle.function_blocks.proofs.Tables.{not_true}
 use Rattle.function_blocks.proofs.Sizes.{result_length, rules_length}
 use Rattle.function_blocks.proofs.PartSizes.{count_doubled}
@@ -424,7 +424,7 @@ module _ (bits : ℕ → List nodes.Pair) (e : Formula) (request from : ℕ) (ap
   )))
     where
       within : (x i : ℕ) → reads_bit x i e ≡ true → i < var_width vars x
-      within x i h = bits_within bits vars e apart.formed reads_from has x i h
+      within x i h = bits_within vars e apart.formed reads_from x i h
 
   promised_at : (v : ℕ → Bool) → Holds v → (k : ℕ) (side : Bool) → k < n → rule_fires v k side ≡ true → (i : ℕ) (one : Bool) → i < length result → node_of (nodes.pair_of result i) one ≡ from + rail_place k side → (if v (node_of (nodes.pair_of result i) one) then not (v request) else (v request && value_rail v i one)) ≡ true
   promised_at v h k side l f i one b is =
@@ -474,11 +474,9 @@ module _ (bits : ℕ → List nodes.Pair) (e : Formula) (request from : ℕ) (ap
   abbrev ask_wire : Wire
   ask_wire = wire request (λ m. all_low m.value (nodes.rails_of result) && list_all (is_valid m.value) read) (λ m. list_all (is_valid m.value) result)
 
-  abbrev Waits : Moment → Type 0
-  Waits m = (w : Wire) × Contains part.allows w × (may_move m w ≡ true)
-
-  waits : (m : Moment) → Holds m.value → ((o : Owned) → Contains part.own o → parts.fires m.value o ≡ false) → Waits m
-  waits m h none = cases (v request) full_waits low_waits
+  -- at rest: the request may move, or it is low and a bit that is read isn't valid
+  pub rests : (m : Moment) → Holds m.value → ((o : Owned) → Contains part.own o → parts.fires m.value o ≡ false) → IsAtRest bits e request from m
+  rests m h none = cases (v request) full_rests low_rests
     where
       v : ℕ → Bool
       v = m.value
@@ -486,17 +484,27 @@ module _ (bits : ℕ → List nodes.Pair) (e : Formula) (request from : ℕ) (ap
       quiet : (q : Bool) → m.value request ≡ q → (k : ℕ) (one : Bool) → fires (gate_rule e (now m.value) q (at m.value) k one) ≡ false
       quiet q z k one = ap (λ b. fires (gate_rule e (now m.value) b (at m.value) k one)) (sym z) ∙ still m.value none k one
 
-      full_waits : m.value request ≡ true → Waits m
-      full_waits z =
+      full_rests : m.value request ≡ true → IsAtRest bits e request from m
+      full_rests z =
           let whole = rest_read e apart.formed (now m.value) (at m.value) (each_from _ e (λ x i k. h.2 z x i k)) (good_at m.value true z h.1) (quiet true z) in
-          (ask_wire, (0, omega arith, refl), ap (λ b. if b then list_all (is_valid m.value) result else (all_low m.value (nodes.rails_of result) && list_all (is_valid m.value) read)) z ∙ (valid_are m.value ∙ whole))
+          inl (ap (λ b. if b then list_all (is_valid m.value) result else (all_low m.value (nodes.rails_of result) && list_all (is_valid m.value) read)) z ∙ (valid_are m.value ∙ whole))
 
-      low_waits : m.value request ≡ false → Waits m
-      low_waits z =
+      low_rests : m.value request ≡ false → IsAtRest bits e request from m
+      low_rests z =
           let none_high = known.rest_down (now m.value) (at m.value) (good_at m.value false z h.1) (quiet false z) in
           cases (list_all (is_valid m.value) read)
-          (λ q. (ask_wire, (0, omega arith, refl), ap (λ b. if b then list_all (is_valid m.value) result else (all_low m.value (nodes.rails_of result) && list_all (is_valid m.value) read)) z ∙ both_of (all_low m.value (nodes.rails_of result)) (list_all (is_valid m.value) read) (lows_are m.value ∙ none_high) q))
-          (λ q.
+          (λ q. inl (ap (λ b. if b then list_all (is_valid m.value) result else (all_low m.value (nodes.rails_of result) && list_all (is_valid m.value) read)) z ∙ both_of (all_low m.value (nodes.rails_of result)) (list_all (is_valid m.value) read) (lows_are m.value ∙ none_high) q))
+          (λ q. inr (z, q))
+
+  abbrev Waits : Moment → Type 0
+  Waits m = (w : Wire) × Contains part.allows w × (may_move m w ≡ true)
+
+  waits : (m : Moment) → Holds m.value → ((o : Owned) → Contains part.own o → parts.fires m.value o ≡ false) → Waits m
+  waits m h none = by (rests m h none)
+    where
+      by : IsAtRest bits e request from m → Waits m
+      by (inl may) = (ask_wire, (0, omega arith, refl), may)
+      by (inr (z, q)) =
           let (p, there, bad) = none_all (is_valid m.value) read q in
           let rb = read_among bits e p apart.formed there in
           let single : not (m.value p.t && m.value p.f) ≡ true =
@@ -506,7 +514,7 @@ module _ (bits : ℕ → List nodes.Pair) (e : Formula) (request from : ℕ) (ap
             variable_wire request p true,
             Contains-append_right (ask_wire ∷ []) (variable_wires request read) (variable_wire request p true) (among_variable request read p true there),
             ap (λ b. if b then not (m.value request) else (not (m.value request) && not (m.value p.f))) lows.0 ∙ (ap (λ b. not b && not (m.value p.f)) z ∙ ap not lows.1),
-          ))
+          )
 
   first : (v : ℕ → Bool) → IsFirst part v → Holds v
   first v is = (
@@ -545,6 +553,9 @@ module _ (bits : ℕ → List nodes.Pair) (e : Formula) (request from : ℕ) (ap
         bits = λ q. refl;
         waits = λ none. inl (waits m h none);
       }
+
+  pub at_rest : (m : Moment) → Reached part m → ((o : Owned) → Contains part.own o → parts.fires m.value o ≡ false) → IsAtRest bits e request from m
+  at_rest m reached none = rests m (each_holds m reached) none
 
   -- what the rails of the result say of the inner ones
   pub valid_inside : (m : Moment) → Reached part m → m.value request ≡ true → list_all (is_valid m.value) result ≡ true → list_all (is_valid m.value) (inner_bits e from) ≡ true
@@ -600,3 +611,6 @@ module _ (bits : ℕ → List nodes.Pair) (e : Formula) (request from : ℕ) (ap
 
   pub value_of_rail : (m : Moment) → Reached (expression_part bits e request from) m → m.value request ≡ true → (i : ℕ) (one : Bool) → i < length (formula_result e from) → m.value (node_of (nodes.pair_of (formula_result e from) i) one) ≡ true → (value_seen bits e m.value / 2 ^ i % 2 == 1) ≡ one
   value_of_rail = rail_told bits e request from apart over reads_over (over_bits bits (var_bound e)) (expression_holds e w) (listed over e w reads_over) (result_length e from w) (rules_length over bits (over_bits bits (var_bound e)) e request from w reads_over) (count_doubled e)
+
+  pub expression_rests : (m : Moment) → Reached (expression_part bits e request from) m → ((o : Owned) → Contains (owned_from from (formula_rules bits e request from)) o → parts.fires m.value o ≡ false) → IsAtRest bits e request from m
+  expression_rests = at_rest bits e request from apart over reads_over (over_bits bits (var_bound e)) (expression_holds e w) (listed over e w reads_over) (result_length e from w) (rules_length over bits (over_bits bits (var_bound e)) e request from w reads_over) (count_doubled e)

@@ -301,30 +301,27 @@ module _ (bits : ℕ → List nodes.Pair) where
     over_operations n width no_operations h r l = tt
     over_operations n width (and_operation op e more) h r l = (over_reads n e h.2 r.0 (omega (arith, l)), over_operations n width more h.3 r.1 (omega (arith, l)))
 
--- a bit that is read is one that its variable has
-module _ (bits : ℕ → List nodes.Pair) (vars : List Var) where
-  abbrev Within : ℕ → ℕ → Type 0
-  Within x i = i < var_width vars x
-
+-- a bit that is read is one of 64, and one that its variable has
+module _ (vars : List Var) (P : ℕ → ℕ → Type 0) (f : (x i : ℕ) → x < length vars → i < var_width vars x → i ≤ 63 → P x i) where
   mutual
-    each_has : (e : Formula) → IsWellFormed e → ReadsFrom vars e → EachRead Within e
-    each_has (constant w v) h r = tt
-    each_has (reading x high low at) h r = λ i l m. let k = r.1 in omega (arith, m, k)
-    each_has (joined parts) h r = parts_have parts h.2 r
-    each_has (inverted e) h r = each_has e h r
-    each_has (chained e more) h r = (each_has e h.0 r.0, operations_have (width_of e) more h.2 r.1)
-    each_has (compared op e g) h r = (each_has e h.2 r.0, each_has g h.3 r.1)
+    pub each_declared : (e : Formula) → IsWellFormed e → ReadsFrom vars e → EachRead P e
+    each_declared (constant w v) h r = tt
+    each_declared (reading x high low at) h r = λ i l m. f x i r.0 (let k = r.1 in omega (arith, m, k)) (omega (arith, m, h.1))
+    each_declared (joined parts) h r = parts_declared parts h.2 r
+    each_declared (inverted e) h r = each_declared e h r
+    each_declared (chained e more) h r = (each_declared e h.0 r.0, operations_declared (width_of e) more h.2 r.1)
+    each_declared (compared op e g) h r = (each_declared e h.2 r.0, each_declared g h.3 r.1)
 
-    parts_have : (parts : Formulas) → AreWellFormed parts → EachReadsFrom vars parts → EachPart Within parts
-    parts_have no_parts h r = tt
-    parts_have (and_part e more) h r = (each_has e h.0 r.0, parts_have more h.1 r.1)
+    parts_declared : (parts : Formulas) → AreWellFormed parts → EachReadsFrom vars parts → EachPart P parts
+    parts_declared no_parts h r = tt
+    parts_declared (and_part e more) h r = (each_declared e h.0 r.0, parts_declared more h.1 r.1)
 
-    operations_have : (width : ℕ) (more : Operations) → AreOperations width more → AllReadFrom vars more → EachOperation Within more
-    operations_have width no_operations h r = tt
-    operations_have width (and_operation op e more) h r = (each_has e h.2 r.0, operations_have width more h.3 r.1)
+    operations_declared : (width : ℕ) (more : Operations) → AreOperations width more → AllReadFrom vars more → EachOperation P more
+    operations_declared width no_operations h r = tt
+    operations_declared width (and_operation op e more) h r = (each_declared e h.2 r.0, operations_declared width more h.3 r.1)
 
-  pub bits_within : (e : Formula) → IsWellFormed e → ReadsFrom vars e → HasBits vars bits → (x i : ℕ) → reads_bit x i e ≡ true → i < var_width vars x
-  bits_within e h r has x i k = each_at Within e x i (each_has e h r) k
+pub bits_within : (vars : List Var) (e : Formula) → IsWellFormed e → ReadsFrom vars e → (x i : ℕ) → reads_bit x i e ≡ true → i < var_width vars x
+bits_within vars e h r x i k = each_at _ e x i (each_declared vars (λ x i. i < var_width vars x) (λ x i l m few. m) e h r) k
 
 -- in the value
 

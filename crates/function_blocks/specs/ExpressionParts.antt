@@ -1,8 +1,8 @@
 -- The contract of an expression's circuit alone.
-use Rattle.std.specs.Prelude.{◌≡◌, ◌≢◌, ℕ, suc, ◌+◌, ◌/◌, ◌%◌, ◌^◌, ◌<◌, ◌==◌, Bool, true, false, not, ◌&&◌, List, [], ◌∷◌, length, map, All, Contains}
+use Rattle.std.specs.Prelude.{◌≡◌, ◌≢◌, ℕ, suc, ◌+◌, ◌/◌, ◌%◌, ◌^◌, ◌<◌, ◌==◌, Bool, true, false, not, ◌&&◌, ◌⊎◌, List, [], ◌∷◌, length, map, All, Contains}
 use Rattle.std.specs.List.{list_all}
 use Rattle.prs_core.specs.Pairs.{Pair, pair_of, pairs_from, rails_of}
-use Rattle.prs_core.specs.Parts.{Owned, Part, Wire, owned_from, wire, all_low, is_valid, never_blocked, no_notes}
+use Rattle.prs_core.specs.Parts.{Owned, Part, Wire, Moment, owned_from, wire, may_move, all_low, is_valid, never_blocked, no_notes}
 use Rattle.width_check.specs.Processes.{Formula}
 use Rattle.width_check.specs.Values.{IsWellFormed, value}
 use Rattle.handshake_expand.specs.Layout.{formula_size}
@@ -85,3 +85,9 @@ pub record StandsApart (bits : ℕ → List Pair) (e : Formula) (request from : 
   pub outside : All (IsOutside from (formula_size e)) (request ∷ rails_of (bits_read bits e))
   pub unasked : All (λ rail. rail ≢ request) (rails_of (bits_read bits e))
   pub distinct : AreDistinct (bits_read bits e)
+
+-- What it waits for at rest: for its request, or, while that is low, for a bit that is read and isn't valid.
+abbrev pub IsAtRest : (ℕ → List Pair) → Formula → (request from : ℕ) → Moment → Type 0
+IsAtRest bits e request from m =
+    (may_move m (request_wire request (bits_read bits e) (formula_result e from)) ≡ true)
+    ⊎ ((m.value request ≡ false) × (list_all (is_valid m.value) (bits_read bits e) ≡ false))

@@ -1,6 +1,6 @@
 //! Laws of the circuits of expressions.
 
-ghost use Rattle.std.specs.Prelude.{◌≡◌, List, ℕ, ◌/◌, ◌%◌, ◌^◌, ◌<◌, ◌==◌, Bool, true, false, Some, length};
+ghost use Rattle.std.specs.Prelude.{◌≡◌, List, ℕ, ◌/◌, ◌%◌, ◌^◌, ◌<◌, ◌==◌, Bool, true, false, Some, Contains, length};
 ghost use Rattle.std.specs.List.{list_all};
 ghost use Rattle.prs_core.specs.Moves.{rail_value_of};
 ghost use Rattle.prs_core.specs.Pairs.{Pair, pair_of, rails_of};
@@ -12,8 +12,8 @@ ghost use Rattle.handshake_expand.specs.Layout.{formula_size};
 ghost use Rattle.function_blocks.specs.Expressions.{HasBits, formula_result, formula_rules};
 ghost use Rattle.function_blocks.specs.Waves.{Waves};
 ghost use Rattle.function_blocks.specs.Listed.{Listed, node_of};
-ghost use Rattle.function_blocks.specs.ExpressionParts.{StandsApart, expression_part, inner_bits, value_seen};
-ghost use Rattle.prs_core.specs.Parts.{Keeps, Moment, Reached, all_low, is_valid};
+ghost use Rattle.function_blocks.specs.ExpressionParts.{StandsApart, IsAtRest, expression_part, inner_bits, value_seen};
+ghost use Rattle.prs_core.specs.Parts.{Keeps, Moment, Owned, Reached, all_low, fires, is_valid, owned_from};
 
 /// Law: the value of a well-formed expression has as many bits as the expression's width.
 pub fn bits_counted()
@@ -43,6 +43,13 @@ pub fn gates_listed()
 /// Then each rail that rises is that of the value, and the circuit waits for nobody else.
 pub fn expressions_keep()
     ensures { (bits : ℕ → List Pair) (e : Formula) (request from : ℕ) → StandsApart bits e request from → Keeps (expression_part bits e request from) }
+{}
+
+/// Law: beside such neighbours, where no rule of the circuit is enabled it waits for its request, or, while that is low, for
+/// a bit that is read and isn't valid.
+pub fn expressions_wait()
+    ensures { (bits : ℕ → List Pair) (e : Formula) (request from : ℕ) → StandsApart bits e request from → (m : Moment) → Reached (expression_part bits e request from) m
+        → ((o : Owned) → Contains (owned_from from (formula_rules bits e request from)) o → fires m.value o ≡ false) → IsAtRest bits e request from m }
 {}
 
 /// Law: in each moment that the circuit of an expression reaches beside such neighbours, where its request is high and all

@@ -107,7 +107,10 @@ pub fn following(alloc: Global, request: u32) -> Result<NodeGuards, AllocError>
 pub fn read_rail(alloc: Global, request: u32, rail: u32) -> Result<NodeGuards, AllocError>
     ensures { IfOk result (λ guards. guards ≡ read_rail request rail) }
 {
-    let up = all_of(alloc, &[high(request), high(rail)])?;
-    let down = all_of(alloc, &[low(request)])?;
-    Ok(NodeGuards { up, down })
+    let rises = all_of(alloc, &[high(request), high(rail)])?;
+    let falls = all_of(alloc, &[low(request)])?;
+    Ok(NodeGuards {
+        up: rises,
+        down: falls,
+    })
 }
