@@ -30,16 +30,19 @@ apart_length step zero from = refl
 apart_length step (suc n) from = ap suc (apart_length step n (from + step))
 
 drop_apart : (step k m n from : ℕ) → m ≡ k + n → drop k (bits_apart step m from) ≡ bits_apart step n (from + step * k)
-drop_apart step zero m n from e = let f : from ≡ from + step * 0 = omega arith in let g : m ≡ n = omega (arith, e) in ap (λ l. bits_apart step l from) g ∙ ap (bits_apart step n) f
+drop_apart step zero m n from e = let f : from ≡ from + step * 0 = omega arith in let g : m ≡ n = omega (arith, e) in
+    ap (λ l. bits_apart step l from) g ∙ ap (bits_apart step n) f
 drop_apart step (suc k) zero n from e = absurd (omega (arith, e))
-drop_apart step (suc k) (suc m) n from e = let f : from + step + step * k ≡ from + step * suc k = grind arith in drop_apart step k m n (from + step) (omega (arith, e)) ∙ ap (bits_apart step n) f
+drop_apart step (suc k) (suc m) n from e = let f : from + step + step * k ≡ from + step * suc k = grind arith in
+    drop_apart step k m n (from + step) (omega (arith, e)) ∙ ap (bits_apart step n) f
 
 take_apart : (step k m from : ℕ) → k ≤ m → take k (bits_apart step m from) ≡ bits_apart step k from
 take_apart step zero m from h = refl
 take_apart step (suc k) zero from h = absurd (omega (arith, h))
 take_apart step (suc k) (suc m) from h = ap (λ ps. pair_at from ∷ ps) (take_apart step k m (from + step) (omega (arith, h)))
 
-pub between_apart : (high low first : ℕ) → low ≤ high → high ≤ 63 → bits_between high low (bits_apart 5 64 first) ≡ bits_apart 5 (high + 1 - low) (first + 5 * low)
+pub between_apart : (high low first : ℕ) → low ≤ high → high ≤ 63
+    → bits_between high low (bits_apart 5 64 first) ≡ bits_apart 5 (high + 1 - low) (first + 5 * low)
 between_apart high low first some most =
     let count = high + 1 - low in
     let all : 64 ≡ low + (64 - low) = omega (arith, some, most) in
@@ -59,7 +62,8 @@ block_bits firsts e = over_bits (bits_in_blocks firsts) (var_bound e)
 pub block_reads : (firsts : List ℕ) (e : Formula) → IsWellFormed e → ReadsFrom (block_vars firsts e) e
 block_reads firsts e h = over_reads (bits_in_blocks firsts) (var_bound e) e h (blocks_there firsts e h) (omega arith)
 
-pub counted : (firsts : List ℕ) (e : Formula) (request from : ℕ) → IsWellFormed e → length (formula_rules (bits_in_blocks firsts) e request from) ≡ formula_size e
+pub counted : (firsts : List ℕ) (e : Formula) (request from : ℕ) → IsWellFormed e
+    → length (formula_rules (bits_in_blocks firsts) e request from) ≡ formula_size e
 counted firsts e request from h = rules_length (block_vars firsts e) (bits_in_blocks firsts) (block_bits firsts e) e request from h (block_reads firsts e h)
 
 -- the place behind what was added
@@ -96,7 +100,8 @@ module _ (firsts : List ℕ) (request from : ℕ) where
     pub some : 1 ≤ length bits
     pub most : length bits ≤ 64
 
-  pub join_begin : (old : List NodeRules) (f : Formula) (rest : Formulas) → f ≡ joined rest → IsWellFormed f → Read f → from + length old + formula_size f < 2 ^ 32 → Joining old f rest old []
+  pub join_begin : (old : List NodeRules) (f : Formula) (rest : Formulas) → f ≡ joined rest → IsWellFormed f → Read f
+      → from + length old + formula_size f < 2 ^ 32 → Joining old f rest old []
   join_begin old f rest is h r room =
       let formed = subst IsWellFormed is h in
       let read = subst Read is r in
@@ -108,14 +113,19 @@ module _ (firsts : List ℕ) (request from : ℕ) where
         room = omega (arith, size, room);
       }
 
-  pub join_more : (old : List NodeRules) (f e : Formula) (more : Formulas) (made now : List NodeRules) (bits lower all : List Pair) → Joining old f (and_part e more) made bits → now ≡ made ++ formula_rules Bits e request (from + length made) → lower ≡ formula_result e (from + length made) → all ≡ lower ++ bits → Joining old f more now all
+  pub join_more : (old : List NodeRules) (f e : Formula) (more : Formulas) (made now : List NodeRules) (bits lower all : List Pair)
+      → Joining old f (and_part e more) made bits → now ≡ made ++ formula_rules Bits e request (from + length made)
+      → lower ≡ formula_result e (from + length made) → all ≡ lower ++ bits → Joining old f more now all
   join_more old f e more made now bits lower all j is lower_is all_is =
-      let at = grown from made (formula_rules Bits e request (from + length made)) now (formula_size e) is (counted firsts e request (from + length made) j.formed.0) in
+      let at =
+      grown from made (formula_rules Bits e request (from + length made)) now (formula_size e) is
+      (counted firsts e request (from + length made) j.formed.0) in
       let room = j.room in record {
         made_is =
             ap (λ n. now ++ joined_rules Bits more request n) at
             ∙ (ap (λ l. l ++ joined_rules Bits more request (from + length made + formula_size e)) is
-            ∙ (append_assoc made (formula_rules Bits e request (from + length made)) (joined_rules Bits more request (from + length made + formula_size e)) ∙ j.made_is));
+            ∙ (append_assoc made (formula_rules Bits e request (from + length made)) (joined_rules Bits more request (from + length made + formula_size e))
+            ∙ j.made_is));
         bits_are =
             ap (λ n. joined_result more n ++ all) at
             ∙ (ap (λ l. joined_result more (from + length made + formula_size e) ++ l) (all_is ∙ ap (λ l. l ++ bits) lower_is)
@@ -128,24 +138,28 @@ module _ (firsts : List ℕ) (request from : ℕ) where
   pub join_end : (old : List NodeRules) (f : Formula) (made : List NodeRules) (bits : List Pair) → Joining old f no_parts made bits → Done old f made bits
   join_end old f made bits j = record { made_is = sym (append-nil made) ∙ j.made_is; bits_are = j.bits_are }
 
-  pub chain_begin : (old : List NodeRules) (f e : Formula) (rest : Operations) (made : List NodeRules) (bits : List Pair) → f ≡ chained e rest → IsWellFormed f → Read f → from + length old + formula_size f < 2 ^ 32 → Done old e made bits → Chaining old f rest made bits
+  pub chain_begin : (old : List NodeRules) (f e : Formula) (rest : Operations) (made : List NodeRules) (bits : List Pair) → f ≡ chained e rest → IsWellFormed f
+      → Read f → from + length old + formula_size f < 2 ^ 32 → Done old e made bits → Chaining old f rest made bits
   chain_begin old f e rest made bits is h r room d =
       let formed = subst IsWellFormed is h in
       let read = subst Read is r in
       let size = ap formula_size is in
       let wide : length bits ≡ width_of e = ap length d.bits_are ∙ result_length e (from + length old) formed.0 in
-      let at = grown from old (formula_rules Bits e request (from + length old)) made (formula_size e) d.made_is (counted firsts e request (from + length old) formed.0) in record {
+      let at = grown from old (formula_rules Bits e request (from + length old)) made (formula_size e) d.made_is
+      (counted firsts e request (from + length old) formed.0) in record {
         made_is =
             ap (λ n. made ++ chained_rules Bits n bits rest request (from + length made)) wide
             ∙ (ap (λ n. made ++ chained_rules Bits (width_of e) bits rest request n) at
             ∙ (ap (λ l. made ++ chained_rules Bits (width_of e) l rest request (from + length old + formula_size e)) d.bits_are
             ∙ (ap (λ l. l ++ chained_rules Bits (width_of e) (formula_result e (from + length old)) rest request (from + length old + formula_size e)) d.made_is
-            ∙ (append_assoc old (formula_rules Bits e request (from + length old)) (chained_rules Bits (width_of e) (formula_result e (from + length old)) rest request (from + length old + formula_size e))
+            ∙ (append_assoc old (formula_rules Bits e request (from + length old))
+            (chained_rules Bits (width_of e) (formula_result e (from + length old)) rest request (from + length old + formula_size e))
             ∙ ap (λ g. old ++ formula_rules Bits g request (from + length old)) (sym is)))));
         bits_are =
             ap (λ n. chained_result n bits rest (from + length made)) wide
             ∙ (ap (λ n. chained_result (width_of e) bits rest n) at
-            ∙ (ap (λ l. chained_result (width_of e) l rest (from + length old + formula_size e)) d.bits_are ∙ ap (λ g. formula_result g (from + length old)) (sym is)));
+            ∙ (ap (λ l. chained_result (width_of e) l rest (from + length old + formula_size e)) d.bits_are
+            ∙ ap (λ g. formula_result g (from + length old)) (sym is)));
         formed = subst (λ n. AreOperations n rest) (sym wide) formed.2;
         read = read.1;
         room = let k = ap (λ n. operations_size n rest) wide in omega (arith, at, size, room, k);
@@ -160,7 +174,9 @@ module _ (firsts : List ℕ) (request from : ℕ) where
     pub agree : length right ≡ length left
     pub room : from + length made + operator_size op (length left) < 2 ^ 32
 
-  pub chain_fits : (old : List NodeRules) (f e : Formula) (op : Op) (more : Operations) (made there : List NodeRules) (bits right : List Pair) → Chaining old f (and_operation op e more) made bits → there ≡ made ++ formula_rules Bits e request (from + length made) → right ≡ formula_result e (from + length made) → Fits there op bits right
+  pub chain_fits : (old : List NodeRules) (f e : Formula) (op : Op) (more : Operations) (made there : List NodeRules) (bits right : List Pair)
+      → Chaining old f (and_operation op e more) made bits → there ≡ made ++ formula_rules Bits e request (from + length made)
+      → right ≡ formula_result e (from + length made) → Fits there op bits right
   chain_fits old f e op more made there bits right j there_is right_is =
       let first = from + length made in
       let at = grown from made (formula_rules Bits e request first) there (formula_size e) there_is (counted firsts e request first j.formed.2) in
@@ -171,7 +187,10 @@ module _ (firsts : List ℕ) (request from : ℕ) where
         room = omega (arith, at, room);
       }
 
-  pub chain_more : (old : List NodeRules) (f e : Formula) (op : Op) (more : Operations) (made there now : List NodeRules) (bits right all : List Pair) → Chaining old f (and_operation op e more) made bits → there ≡ made ++ formula_rules Bits e request (from + length made) → right ≡ formula_result e (from + length made) → now ≡ there ++ operator_rules op bits right (from + length there) → all ≡ operator_result op bits (from + length there) → Chaining old f more now all
+  pub chain_more : (old : List NodeRules) (f e : Formula) (op : Op) (more : Operations) (made there now : List NodeRules) (bits right all : List Pair)
+      → Chaining old f (and_operation op e more) made bits → there ≡ made ++ formula_rules Bits e request (from + length made)
+      → right ≡ formula_result e (from + length made) → now ≡ there ++ operator_rules op bits right (from + length there)
+      → all ≡ operator_result op bits (from + length there) → Chaining old f more now all
   chain_more old f e op more made there now bits right all j there_is right_is now_is all_is =
       let w = length bits in
       let first = from + length made in
@@ -179,7 +198,8 @@ module _ (firsts : List ℕ) (request from : ℕ) where
       let third = second + operator_size op w in
       let at = grown from made (formula_rules Bits e request first) there (formula_size e) there_is (counted firsts e request first j.formed.2) in
       let wide : length right ≡ w = ap length right_is ∙ (result_length e first j.formed.2 ∙ j.formed.1) in
-      let next = grown from there (operator_rules op bits right (from + length there)) now (operator_size op w) now_is (operator_length op bits right (from + length there) wide j.some) in
+      let next = grown from there (operator_rules op bits right (from + length there)) now (operator_size op w) now_is
+      (operator_length op bits right (from + length there) wide j.some) in
       let place : from + length now ≡ third = omega (arith, at, next) in
       let same : length all ≡ w = ap length all_is ∙ each_bit op bits (from + length there) j.formed.0 in
       let are : all ≡ operator_result op bits second = all_is ∙ ap (operator_result op bits) at in
@@ -195,8 +215,10 @@ module _ (firsts : List ℕ) (request from : ℕ) where
             ∙ (ap (λ n. now ++ chained_rules Bits w all more request n) place
             ∙ (ap (λ l. now ++ chained_rules Bits w l more request third) are
             ∙ (ap (λ l. l ++ chained_rules Bits w (operator_result op bits second) more request third) added
-            ∙ (append_assoc made (formula_rules Bits e request first ++ operator_rules op bits (formula_result e first) second) (chained_rules Bits w (operator_result op bits second) more request third)
-            ∙ (ap (λ l. made ++ l) (append_assoc (formula_rules Bits e request first) (operator_rules op bits (formula_result e first) second) (chained_rules Bits w (operator_result op bits second) more request third))
+            ∙ (append_assoc made (formula_rules Bits e request first ++ operator_rules op bits (formula_result e first) second)
+            (chained_rules Bits w (operator_result op bits second) more request third)
+            ∙ (ap (λ l. made ++ l) (append_assoc (formula_rules Bits e request first) (operator_rules op bits (formula_result e first) second)
+            (chained_rules Bits w (operator_result op bits second) more request third))
             ∙ j.made_is)))));
         bits_are =
             ap (λ n. chained_result n all more (from + length now)) same
@@ -209,7 +231,8 @@ module _ (firsts : List ℕ) (request from : ℕ) where
         most = let s = j.most in omega (arith, same, s);
       }
 
-  pub chain_end : (old : List NodeRules) (f : Formula) (made : List NodeRules) (bits : List Pair) → Chaining old f no_operations made bits → Done old f made bits
+  pub chain_end : (old : List NodeRules) (f : Formula) (made : List NodeRules) (bits : List Pair) → Chaining old f no_operations made bits
+      → Done old f made bits
   chain_end old f made bits j = record { made_is = sym (append-nil made) ∙ j.made_is; bits_are = j.bits_are }
 
   -- the left side of a comparison is made, and then the right one
@@ -218,24 +241,29 @@ module _ (firsts : List ℕ) (request from : ℕ) where
     pub read : Read g
     pub room : from + length made + formula_size g < 2 ^ 32
 
-  pub compare_second : (old : List NodeRules) (f e g : Formula) (op : Op) (made : List NodeRules) (left : List Pair) → f ≡ compared op e g → IsWellFormed f → Read f → from + length old + formula_size f < 2 ^ 32 → Done old e made left → Second made g
+  pub compare_second : (old : List NodeRules) (f e g : Formula) (op : Op) (made : List NodeRules) (left : List Pair) → f ≡ compared op e g → IsWellFormed f
+      → Read f → from + length old + formula_size f < 2 ^ 32 → Done old e made left → Second made g
   compare_second old f e g op made left is h r room d =
       let formed = subst IsWellFormed is h in
       let read = subst Read is r in
       let size = ap formula_size is in
-      let at = grown from old (formula_rules Bits e request (from + length old)) made (formula_size e) d.made_is (counted firsts e request (from + length old) formed.2) in record {
+      let at = grown from old (formula_rules Bits e request (from + length old)) made (formula_size e) d.made_is
+      (counted firsts e request (from + length old) formed.2) in record {
         formed = formed.3;
         read = read.1;
         room = omega (arith, at, size, room);
       }
 
-  pub compare_fits : (old : List NodeRules) (f e g : Formula) (op : Op) (made there : List NodeRules) (left right : List Pair) → f ≡ compared op e g → IsWellFormed f → Read f → from + length old + formula_size f < 2 ^ 32 → Done old e made left → Done made g there right → Fits there op left right
+  pub compare_fits : (old : List NodeRules) (f e g : Formula) (op : Op) (made there : List NodeRules) (left right : List Pair) → f ≡ compared op e g
+      → IsWellFormed f → Read f → from + length old + formula_size f < 2 ^ 32 → Done old e made left → Done made g there right → Fits there op left right
   compare_fits old f e g op made there left right is h r room d k =
       let formed = subst IsWellFormed is h in
       let read = subst Read is r in
       let size = ap formula_size is in
-      let at = grown from old (formula_rules Bits e request (from + length old)) made (formula_size e) d.made_is (counted firsts e request (from + length old) formed.2) in
-      let next = grown from made (formula_rules Bits g request (from + length made)) there (formula_size g) k.made_is (counted firsts g request (from + length made) formed.3) in
+      let at = grown from old (formula_rules Bits e request (from + length old)) made (formula_size e) d.made_is
+      (counted firsts e request (from + length old) formed.2) in
+      let next = grown from made (formula_rules Bits g request (from + length made)) there (formula_size g) k.made_is
+      (counted firsts g request (from + length made) formed.3) in
       let wide : length left ≡ width_of e = ap length d.bits_are ∙ result_length e (from + length old) formed.2 in
       let gates = ap (operator_size op) wide in
       let some = some_width e formed.2 in
@@ -246,7 +274,9 @@ module _ (firsts : List ℕ) (request from : ℕ) where
         room = omega (arith, at, next, size, room, gates);
       }
 
-  pub compare_end : (old : List NodeRules) (f e g : Formula) (op : Op) (made there now : List NodeRules) (left right all : List Pair) → f ≡ compared op e g → IsWellFormed f → Read f → Done old e made left → Done made g there right → now ≡ there ++ operator_rules op left right (from + length there) → all ≡ operator_result op left (from + length there) → Done old f now all
+  pub compare_end : (old : List NodeRules) (f e g : Formula) (op : Op) (made there now : List NodeRules) (left right all : List Pair) → f ≡ compared op e g
+      → IsWellFormed f → Read f → Done old e made left → Done made g there right → now ≡ there ++ operator_rules op left right (from + length there)
+      → all ≡ operator_result op left (from + length there) → Done old f now all
   compare_end old f e g op made there now left right all is h r d k now_is all_is =
       let formed = subst IsWellFormed is h in
       let read = subst Read is r in
@@ -254,14 +284,16 @@ module _ (firsts : List ℕ) (request from : ℕ) where
       let second = first + formula_size e in
       let third = second + formula_size g in
       let at = grown from old (formula_rules Bits e request first) made (formula_size e) d.made_is (counted firsts e request first formed.2) in
-      let next = grown from made (formula_rules Bits g request (from + length made)) there (formula_size g) k.made_is (counted firsts g request (from + length made) formed.3) in
+      let next = grown from made (formula_rules Bits g request (from + length made)) there (formula_size g) k.made_is
+      (counted firsts g request (from + length made) formed.3) in
       let place : from + length there ≡ third = omega (arith, at, next) in
       let own = operator_rules op (formula_result e first) (formula_result g second) third in
       let right_is : right ≡ formula_result g second = k.bits_are ∙ ap (formula_result g) at in
       let there_is : there ≡ old ++ (formula_rules Bits e request first ++ formula_rules Bits g request second) =
       k.made_is
       ∙ (ap (λ n. made ++ formula_rules Bits g request n) at
-      ∙ (ap (λ l. l ++ formula_rules Bits g request second) d.made_is ∙ append_assoc old (formula_rules Bits e request first) (formula_rules Bits g request second))) in record {
+      ∙ (ap (λ l. l ++ formula_rules Bits g request second) d.made_is
+      ∙ append_assoc old (formula_rules Bits e request first) (formula_rules Bits g request second))) in record {
         made_is =
             now_is
             ∙ (ap (λ n. there ++ operator_rules op left right n) place
@@ -288,6 +320,16 @@ first_made none now rules from empty is =
     let place : from + length none ≡ from = let e = ap length empty in omega (arith, e) in
     is ∙ (ap (λ n. none ++ rules n) place ∙ ap (λ l. l ++ rules from) empty)
 
-pub blocks_keep : (firsts : List ℕ) (e : Formula) (request from : ℕ) → IsWellFormed e → All (IsOutside from (formula_size e)) (request ∷ nodes.rails_of (bits_read (bits_in_blocks firsts) e)) → All (λ rail. rail ≢ request) (nodes.rails_of (bits_read (bits_in_blocks firsts) e)) → AreDistinct (bits_read (bits_in_blocks firsts) e) → Keeps (expression_part (bits_in_blocks firsts) e request from)
+pub blocks_keep : (firsts : List ℕ) (e : Formula) (request from : ℕ) → IsWellFormed e
+    → All (IsOutside from (formula_size e)) (request ∷ nodes.rails_of (bits_read (bits_in_blocks firsts) e))
+    → All (λ rail. rail ≢ request) (nodes.rails_of (bits_read (bits_in_blocks firsts) e)) → AreDistinct (bits_read (bits_in_blocks firsts) e)
+    → Keeps (expression_part (bits_in_blocks firsts) e request from)
 blocks_keep firsts e request from h outside unasked distinct =
-    expression_keeps (bits_in_blocks firsts) e request from (record { formed = h; there = blocks_there firsts e h; outside = outside; unasked = unasked; distinct = distinct })
+    expression_keeps (bits_in_blocks firsts) e request from (record {
+      formed = h;
+      there = blocks_there firsts e h;
+      outside = outside;
+      unasked =
+          unasked;
+      distinct = distinct;
+    })

@@ -66,7 +66,8 @@ module _ (P : ℕ → ℕ → Type 0) where
 
     operations_from : (more : Operations) → ((x i : ℕ) → operation_reads x i more ≡ true → P x i) → EachOperation P more
     operations_from no_operations f = tt
-    operations_from (and_operation op e more) f = (each_from e (λ x i h. f x i (or_left _ _ h)), operations_from more (λ x i h. f x i (or_right (reads_bit x i e) _ h)))
+    operations_from (and_operation op e more) f =
+        (each_from e (λ x i h. f x i (or_left _ _ h)), operations_from more (λ x i h. f x i (or_right (reads_bit x i e) _ h)))
 
   read_here : (x i y high low : ℕ) → ((j : ℕ) → low ≤ j → j ≤ high → P y j) → y ≡ x → low ≤ i → i ≤ high → P x i
   read_here x i y high low r e l m = rw (← e) (r i l m)
@@ -137,7 +138,8 @@ among_taken : (n i : ℕ) (ps : List nodes.Pair) → i < n → i < length ps →
 among_taken n i [] l m = absurd (omega (arith, m))
 among_taken zero i (p ∷ ps) l m = absurd (omega (arith, l))
 among_taken (suc n) zero (p ∷ ps) l m = (0, omega arith, refl)
-among_taken (suc n) (suc i) (p ∷ ps) l m = Contains-append_right (p ∷ []) (take n ps) (nodes.pair_of ps i) (among_taken n i ps (omega (arith, l)) (omega (arith, m)))
+among_taken (suc n) (suc i) (p ∷ ps) l m =
+    Contains-append_right (p ∷ []) (take n ps) (nodes.pair_of ps i) (among_taken n i ps (omega (arith, l)) (omega (arith, m)))
 
 among_between : (high low i : ℕ) (ps : List nodes.Pair) → low ≤ i → i ≤ high → i < length ps → Contains (bits_between high low ps) (nodes.pair_of ps i)
 among_between high zero i ps l m k = among_taken (high + 1 - 0) i ps (omega (arith, m)) k
@@ -160,7 +162,8 @@ taken_among zero ps p among = absurd (none_among p among)
 taken_among (suc n) [] p among = absurd (none_among p among)
 taken_among (suc n) (q ∷ ps) p among = by (among_cases q (take n ps) p among) (taken_among n ps p)
   where
-    by : (q ≡ p) ⊎ Contains (take n ps) p → (Contains (take n ps) p → (i : ℕ) × (i < n) × (nodes.pair_of ps i ≡ p)) → (i : ℕ) × (i < suc n) × (nodes.pair_of (q ∷ ps) i ≡ p)
+    by : (q ≡ p) ⊎ Contains (take n ps) p → (Contains (take n ps) p → (i : ℕ) × (i < n) × (nodes.pair_of ps i ≡ p)) → (i : ℕ) × (i < suc n)
+        × (nodes.pair_of (q ∷ ps) i ≡ p)
     by (inl e) rest = (0, omega arith, e)
     by (inr here) rest = let (i, l, is) = rest here in (suc i, omega (arith, l), is)
 
@@ -196,7 +199,8 @@ pub record ReadBit (bits : ℕ → List nodes.Pair) (reads : (x bit : ℕ) → B
   pub read : reads var bit ≡ true
   pub is : nodes.pair_of (bits var) bit ≡ p
 
-more_reads : (bits : ℕ → List nodes.Pair) (f g : (x bit : ℕ) → Bool) (p : nodes.Pair) → ((x i : ℕ) → f x i ≡ true → g x i ≡ true) → ReadBit bits f p → ReadBit bits g p
+more_reads : (bits : ℕ → List nodes.Pair) (f g : (x bit : ℕ) → Bool) (p : nodes.Pair) → ((x i : ℕ) → f x i ≡ true → g x i ≡ true) → ReadBit bits f p
+    → ReadBit bits g p
 more_reads bits f g p h r = record { var = r.var; bit = r.bit; read = h r.var r.bit r.read; is = r.is }
 
 either_list : {A : Type 0} {B : Type 0} {C : Type 0} → A ⊎ B → (A → C) → (B → C) → C
@@ -214,22 +218,28 @@ module _ (bits : ℕ → List nodes.Pair) where
     read_among (inverted e) p h among = read_among e p h among
     read_among (chained e more) p h among =
         either_list (append_cases (bits_read bits e) (bits_of_operations bits more) p among)
-        (λ k. more_reads bits _ _ p (λ x i z. or_left _ _ z) (read_among e p h.0 k)) (λ k. more_reads bits _ _ p (λ x i z. or_right (reads_bit x i e) _ z) (operation_among (width_of e) more p h.2 k))
+        (λ k. more_reads bits _ _ p (λ x i z. or_left _ _ z) (read_among e p h.0 k))
+        (λ k. more_reads bits _ _ p (λ x i z. or_right (reads_bit x i e) _ z) (operation_among (width_of e) more p h.2 k))
     read_among (compared op e g) p h among =
         either_list (append_cases (bits_read bits e) (bits_read bits g) p among)
-        (λ k. more_reads bits _ _ p (λ x i z. or_left _ _ z) (read_among e p h.2 k)) (λ k. more_reads bits _ _ p (λ x i z. or_right (reads_bit x i e) _ z) (read_among g p h.3 k))
+        (λ k. more_reads bits _ _ p (λ x i z. or_left _ _ z) (read_among e p h.2 k))
+        (λ k. more_reads bits _ _ p (λ x i z. or_right (reads_bit x i e) _ z) (read_among g p h.3 k))
 
-    part_among : (parts : Formulas) (p : nodes.Pair) → AreWellFormed parts → Contains (bits_of_parts bits parts) p → ReadBit bits (λ x i. part_reads x i parts) p
+    part_among : (parts : Formulas) (p : nodes.Pair) → AreWellFormed parts → Contains (bits_of_parts bits parts) p
+        → ReadBit bits (λ x i. part_reads x i parts) p
     part_among no_parts p h among = absurd (none_among p among)
     part_among (and_part e more) p h among =
         either_list (append_cases (bits_read bits e) (bits_of_parts bits more) p among)
-        (λ k. more_reads bits _ _ p (λ x i z. or_left _ _ z) (read_among e p h.0 k)) (λ k. more_reads bits _ _ p (λ x i z. or_right (reads_bit x i e) _ z) (part_among more p h.1 k))
+        (λ k. more_reads bits _ _ p (λ x i z. or_left _ _ z) (read_among e p h.0 k))
+        (λ k. more_reads bits _ _ p (λ x i z. or_right (reads_bit x i e) _ z) (part_among more p h.1 k))
 
-    operation_among : (width : ℕ) (more : Operations) (p : nodes.Pair) → AreOperations width more → Contains (bits_of_operations bits more) p → ReadBit bits (λ x i. operation_reads x i more) p
+    operation_among : (width : ℕ) (more : Operations) (p : nodes.Pair) → AreOperations width more → Contains (bits_of_operations bits more) p
+        → ReadBit bits (λ x i. operation_reads x i more) p
     operation_among width no_operations p h among = absurd (none_among p among)
     operation_among width (and_operation op e more) p h among =
         either_list (append_cases (bits_read bits e) (bits_of_operations bits more) p among)
-        (λ k. more_reads bits _ _ p (λ x i z. or_left _ _ z) (read_among e p h.2 k)) (λ k. more_reads bits _ _ p (λ x i z. or_right (reads_bit x i e) _ z) (operation_among width more p h.3 k))
+        (λ k. more_reads bits _ _ p (λ x i z. or_left _ _ z) (read_among e p h.2 k))
+        (λ k. more_reads bits _ _ p (λ x i z. or_right (reads_bit x i e) _ z) (operation_among width more p h.3 k))
 
   abbrev Has : ℕ → ℕ → Type 0
   Has x i = i < length (bits x)
@@ -246,19 +256,25 @@ module _ (bits : ℕ → List nodes.Pair) where
     among_read (joined parts) x i k h = among_part parts x i k h
     among_read (inverted e) x i k h = among_read e x i k h
     among_read (chained e more) x i k h =
-        either (reads_bit x i e) _ h (λ z. Contains-append_left (bits_read bits e) (bits_of_operations bits more) _ (among_read e x i k z)) (λ z. Contains-append_right (bits_read bits e) (bits_of_operations bits more) _ (among_operation more x i k z))
+        either (reads_bit x i e) _ h (λ z. Contains-append_left (bits_read bits e) (bits_of_operations bits more) _ (among_read e x i k z))
+        (λ z. Contains-append_right (bits_read bits e) (bits_of_operations bits more) _ (among_operation more x i k z))
     among_read (compared op e g) x i k h =
-        either (reads_bit x i e) _ h (λ z. Contains-append_left (bits_read bits e) (bits_read bits g) _ (among_read e x i k z)) (λ z. Contains-append_right (bits_read bits e) (bits_read bits g) _ (among_read g x i k z))
+        either (reads_bit x i e) _ h (λ z. Contains-append_left (bits_read bits e) (bits_read bits g) _ (among_read e x i k z))
+        (λ z. Contains-append_right (bits_read bits e) (bits_read bits g) _ (among_read g x i k z))
 
-    among_part : (parts : Formulas) (x i : ℕ) → i < length (bits x) → part_reads x i parts ≡ true → Contains (bits_of_parts bits parts) (nodes.pair_of (bits x) i)
+    among_part : (parts : Formulas) (x i : ℕ) → i < length (bits x) → part_reads x i parts ≡ true
+        → Contains (bits_of_parts bits parts) (nodes.pair_of (bits x) i)
     among_part no_parts x i k h = absurd (cc h)
     among_part (and_part e more) x i k h =
-        either (reads_bit x i e) _ h (λ z. Contains-append_left (bits_read bits e) (bits_of_parts bits more) _ (among_read e x i k z)) (λ z. Contains-append_right (bits_read bits e) (bits_of_parts bits more) _ (among_part more x i k z))
+        either (reads_bit x i e) _ h (λ z. Contains-append_left (bits_read bits e) (bits_of_parts bits more) _ (among_read e x i k z))
+        (λ z. Contains-append_right (bits_read bits e) (bits_of_parts bits more) _ (among_part more x i k z))
 
-    among_operation : (more : Operations) (x i : ℕ) → i < length (bits x) → operation_reads x i more ≡ true → Contains (bits_of_operations bits more) (nodes.pair_of (bits x) i)
+    among_operation : (more : Operations) (x i : ℕ) → i < length (bits x) → operation_reads x i more ≡ true
+        → Contains (bits_of_operations bits more) (nodes.pair_of (bits x) i)
     among_operation no_operations x i k h = absurd (cc h)
     among_operation (and_operation op e more) x i k h =
-        either (reads_bit x i e) _ h (λ z. Contains-append_left (bits_read bits e) (bits_of_operations bits more) _ (among_read e x i k z)) (λ z. Contains-append_right (bits_read bits e) (bits_of_operations bits more) _ (among_operation more x i k z))
+        either (reads_bit x i e) _ h (λ z. Contains-append_left (bits_read bits e) (bits_of_operations bits more) _ (among_read e x i k z))
+        (λ z. Contains-append_right (bits_read bits e) (bits_of_operations bits more) _ (among_operation more x i k z))
 
   -- variables that have these bits, so many that all that are read are among them
   abbrev pub vars_over : (from count : ℕ) → List Var
@@ -272,7 +288,8 @@ module _ (bits : ℕ → List nodes.Pair) where
   over_width : (from n x : ℕ) → x < n → var_width (vars_over from n) x ≡ length (bits (from + x))
   over_width from zero x l = absurd (omega (arith, l))
   over_width from (suc n) zero l = let e : from ≡ from + 0 = omega arith in ap (λ k. length (bits k)) e
-  over_width from (suc n) (suc x) l = let e : suc from + x ≡ from + suc x = omega arith in over_width (suc from) n x (omega (arith, l)) ∙ ap (λ k. length (bits k)) e
+  over_width from (suc n) (suc x) l = let e : suc from + x ≡ from + suc x = omega arith in
+      over_width (suc from) n x (omega (arith, l)) ∙ ap (λ k. length (bits k)) e
 
   over_is : (n x : ℕ) → x < n → var_width (vars_over 0 n) x ≡ length (bits x)
   over_is n x l = let e : 0 + x ≡ x = omega arith in over_width 0 n x l ∙ ap (λ k. length (bits k)) e
@@ -297,9 +314,11 @@ module _ (bits : ℕ → List nodes.Pair) where
     over_parts n no_parts h r l = tt
     over_parts n (and_part e more) h r l = (over_reads n e h.0 r.0 (omega (arith, l)), over_parts n more h.1 r.1 (omega (arith, l)))
 
-    over_operations : (n width : ℕ) (more : Operations) → AreOperations width more → EachOperation Has more → operations_bound more ≤ n → AllReadFrom (vars_over 0 n) more
+    over_operations : (n width : ℕ) (more : Operations) → AreOperations width more → EachOperation Has more → operations_bound more ≤ n
+        → AllReadFrom (vars_over 0 n) more
     over_operations n width no_operations h r l = tt
-    over_operations n width (and_operation op e more) h r l = (over_reads n e h.2 r.0 (omega (arith, l)), over_operations n width more h.3 r.1 (omega (arith, l)))
+    over_operations n width (and_operation op e more) h r l =
+        (over_reads n e h.2 r.0 (omega (arith, l)), over_operations n width more h.3 r.1 (omega (arith, l)))
 
 -- a bit that is read is one of 64, and one that its variable has
 module _ (vars : List Var) (P : ℕ → ℕ → Type 0) (f : (x i : ℕ) → x < length vars → i < var_width vars x → i ≤ 63 → P x i) where
@@ -327,7 +346,8 @@ bits_within vars e h r x i k = each_at _ e x i (each_declared vars (λ x i. i < 
 
 list_same : (rail now : Rails) (l n : ℕ) → ((j : ℕ) → l ≤ j → j < l + n → rail j true ≡ now j true) → read_list rail l n ≡ read_list now l n
 list_same rail now l zero f = refl
-list_same rail now l (suc n) f = ap (λ b. b ∷ read_list rail (suc l) n) (f l (omega arith) (omega arith)) ∙ ap (λ bs. now l true ∷ bs) (list_same rail now (suc l) n (λ j h k. f j (omega (arith, h)) (omega (arith, k))))
+list_same rail now l (suc n) f = ap (λ b. b ∷ read_list rail (suc l) n) (f l (omega arith) (omega arith))
+    ∙ ap (λ bs. now l true ∷ bs) (list_same rail now (suc l) n (λ j h k. f j (omega (arith, h)) (omega (arith, k))))
 
 -- the value of an expression is that of the bits that it reads, whatever stands on the other rails
 module _ (w u : ℕ → ℕ) (rail now : ℕ → Rails) where
@@ -349,16 +369,21 @@ module _ (w u : ℕ → ℕ) (rail now : ℕ → Rails) where
         let few = top.0 in
         let less = top.1 in
         sym (read_number (w x) low n (rail x) (omega (arith, few, h.0)))
-        ∙ (ap number_of (list_same (rail x) (now x) low n (λ j l m. (r j l (omega (arith, l, m))).2)) ∙ read_number (u x) low n (now x) (omega (arith, less, h.0)))
+        ∙ (ap number_of (list_same (rail x) (now x) low n (λ j l m. (r j l (omega (arith, l, m))).2))
+        ∙ read_number (u x) low n (now x) (omega (arith, less, h.0)))
     value_same (joined parts) h r = joined_same parts h.2 r
     value_same (inverted e) h r = ap (λ n. 2 ^ width_of e - 1 - n) (value_same e h r)
     value_same (chained e more) h r = ap (λ n. chained_value f (width_of e) n more) (value_same e h.0 r.0) ∙ chained_same (width_of e) (value g e) more h.2 r.1
-    value_same (compared op d e) h r = ap (λ n. operated op (width_of d) n (value f e)) (value_same d h.2 r.0) ∙ ap (operated op (width_of d) (value g d)) (value_same e h.3 r.1)
+    value_same (compared op d e) h r =
+        ap (λ n. operated op (width_of d) n (value f e)) (value_same d h.2 r.0) ∙ ap (operated op (width_of d) (value g d)) (value_same e h.3 r.1)
 
     joined_same : (parts : Formulas) → AreWellFormed parts → EachPart Same parts → joined_value f parts ≡ joined_value g parts
     joined_same no_parts h r = refl
-    joined_same (and_part e more) h r = ap (λ n. n * 2 ^ widths_of more + joined_value f more) (value_same e h.0 r.0) ∙ ap (λ n. value g e * 2 ^ widths_of more + n) (joined_same more h.1 r.1)
+    joined_same (and_part e more) h r =
+        ap (λ n. n * 2 ^ widths_of more + joined_value f more) (value_same e h.0 r.0) ∙ ap (λ n. value g e * 2 ^ widths_of more + n) (joined_same more h.1 r.1)
 
-    chained_same : (width n : ℕ) (more : Operations) → AreOperations width more → EachOperation Same more → chained_value f width n more ≡ chained_value g width n more
+    chained_same : (width n : ℕ) (more : Operations) → AreOperations width more → EachOperation Same more
+        → chained_value f width n more ≡ chained_value g width n more
     chained_same width n no_operations h r = refl
-    chained_same width n (and_operation op e more) h r = ap (λ k. chained_value f width (operated op width n k) more) (value_same e h.2 r.0) ∙ chained_same width (operated op width n (value g e)) more h.3 r.1
+    chained_same width n (and_operation op e more) h r =
+        ap (λ k. chained_value f width (operated op width n k) more) (value_same e h.2 r.0) ∙ chained_same width (operated op width n (value g e)) more h.3 r.1

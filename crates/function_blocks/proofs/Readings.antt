@@ -41,7 +41,8 @@ module _ (P : ℕ → ℕ → Type 0) where
   all_only (a ∷ us) from = conjunction_only a us from
 
   equality_only : (us vs : List Input) (from : ℕ) → Only P (equality_parts us vs from)
-  equality_only us vs from = only_append P (bitwise_parts alike us vs) (all_parts (result_inputs us from) (from + length us)) (bitwise_only alike us vs) (all_only (result_inputs us from) (from + length us))
+  equality_only us vs from = only_append P (bitwise_parts alike us vs) (all_parts (result_inputs us from) (from + length us)) (bitwise_only alike us vs)
+      (all_only (result_inputs us from) (from + length us))
 
   operator_only : (op : Op) (us vs : List Input) (from : ℕ) → Only P (operator_parts op us vs from)
   operator_only And us vs from = bitwise_only all_one us vs
@@ -73,13 +74,15 @@ mutual
   parts_only P (inverted e) from f = parts_only P e from f
   parts_only P (chained e more) from f =
       only_append P (parts_of e from) (chained_parts (width_of e) (outs_of e from) more (from + gate_count e))
-      (parts_only P e from (λ x i h. f x i (or_left _ _ h))) (chained_only P (width_of e) (outs_of e from) more (from + gate_count e) (λ x i h. f x i (or_right (reads x e) _ h)))
+      (parts_only P e from (λ x i h. f x i (or_left _ _ h))) (chained_only P (width_of e) (outs_of e from) more (from + gate_count e)
+      (λ x i h. f x i (or_right (reads x e) _ h)))
   parts_only P (compared op e g) from f =
       let fb = from + gate_count e in
       let fo = fb + gate_count g in
       let own = operator_parts op (outs_of e from) (outs_of g fb) fo in
       only_append P (parts_of e from) (parts_of g fb ++ own) (parts_only P e from (λ x i h. f x i (or_left _ _ h)))
-      (only_append P (parts_of g fb) own (parts_only P g fb (λ x i h. f x i (or_right (reads x e) _ h))) (operator_only P op (outs_of e from) (outs_of g fb) fo))
+      (only_append P (parts_of g fb) own (parts_only P g fb (λ x i h. f x i (or_right (reads x e) _ h)))
+      (operator_only P op (outs_of e from) (outs_of g fb) fo))
 
   joined_only : (P : ℕ → ℕ → Type 0) (parts : Formulas) (from : ℕ) → ((x i : ℕ) → reads_in_parts x parts ≡ true → P x i) → Only P (joined_parts parts from)
   joined_only P no_parts from f = tt
@@ -87,7 +90,8 @@ mutual
       only_append P (parts_of e from) (joined_parts more (from + gate_count e))
       (parts_only P e from (λ x i h. f x i (or_left _ _ h))) (joined_only P more (from + gate_count e) (λ x i h. f x i (or_right (reads x e) _ h)))
 
-  chained_only : (P : ℕ → ℕ → Type 0) (width : ℕ) (left : List Input) (more : Operations) (from : ℕ) → ((x i : ℕ) → reads_in_operations x more ≡ true → P x i) → Only P (chained_parts width left more from)
+  chained_only : (P : ℕ → ℕ → Type 0) (width : ℕ) (left : List Input) (more : Operations) (from : ℕ) → ((x i : ℕ) → reads_in_operations x more ≡ true → P x i)
+      → Only P (chained_parts width left more from)
   chained_only P width left no_operations from f = tt
   chained_only P width left (and_operation op e more) from f =
       let next = from + gate_count e in
@@ -120,9 +124,11 @@ mutual
   joined_within : (vars : List Var) (parts : Formulas) (from : ℕ) → AreWellFormed parts → EachReadsFrom vars parts → Only (Has vars) (joined_parts parts from)
   joined_within vars no_parts from h r = tt
   joined_within vars (and_part e more) from h r =
-      only_append (Has vars) (parts_of e from) (joined_parts more (from + gate_count e)) (parts_within vars e from h.0 r.0) (joined_within vars more (from + gate_count e) h.1 r.1)
+      only_append (Has vars) (parts_of e from) (joined_parts more (from + gate_count e)) (parts_within vars e from h.0 r.0)
+      (joined_within vars more (from + gate_count e) h.1 r.1)
 
-  chained_within : (vars : List Var) (width : ℕ) (left : List Input) (more : Operations) (from : ℕ) → AreOperations width more → AllReadFrom vars more → Only (Has vars) (chained_parts width left more from)
+  chained_within : (vars : List Var) (width : ℕ) (left : List Input) (more : Operations) (from : ℕ) → AreOperations width more → AllReadFrom vars more
+      → Only (Has vars) (chained_parts width left more from)
   chained_within vars width left no_operations from h r = tt
   chained_within vars width left (and_operation op e more) from h r =
       let next = from + gate_count e in
@@ -159,7 +165,8 @@ mutual
   joined_read P (and_part e more) from r =
       only_append P (parts_of e from) (joined_parts more (from + gate_count e)) (parts_read P e from r.0) (joined_read P more (from + gate_count e) r.1)
 
-  chained_read : (P : ℕ → ℕ → Type 0) (width : ℕ) (left : List Input) (more : Operations) (from : ℕ) → EachOperation P more → Only P (chained_parts width left more from)
+  chained_read : (P : ℕ → ℕ → Type 0) (width : ℕ) (left : List Input) (more : Operations) (from : ℕ) → EachOperation P more
+      → Only P (chained_parts width left more from)
   chained_read P width left no_operations from r = tt
   chained_read P width left (and_operation op e more) from r =
       let next = from + gate_count e in

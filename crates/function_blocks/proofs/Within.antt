@@ -13,7 +13,7 @@ use Rattle.function_blocks.specs.Gates.{table, minterm, gate, gate_rail}
 use Rattle.function_blocks.specs.Expressions.{following, read_rail, formula_rules}
 use Rattle.function_blocks.specs.Parts.{Input, Part, fixed, read_bit, made, read_parts, operator_parts, operator_inputs, operator_gates, gate_count, outs_of, parts_of, joined_parts, chained_parts}
 use Rattle.function_blocks.specs.Listed.{placed, part_rules, rules_listed}
-use Rattle.function_blocks.specs.Blocks.{bits_apart, bits_in_blocks, HasBit}
+use Rattle.function_blocks.specs.Blocks.{bits_apart, bits_in_blocks, AreBelow, HasBit}
 use Rattle.function_blocks.specs.BitsRead.{EachRead, EachPart, EachOperation}
 use Rattle.function_blocks.proofs.GateLists.{ordered_one, ordered, is_lt}
 use Rattle.function_blocks.proofs.GateRest.{Only}
@@ -37,21 +37,23 @@ mutual
   parts_within P Q f no_parts h r = tt
   parts_within P Q f (and_part e more) h r = (each_within P Q f e h.0 r.0, parts_within P Q f more h.1 r.1)
 
-  operations_within : (P Q : ℕ → ℕ → Type 0) → ((x i : ℕ) → i ≤ 63 → P x i → Q x i) → (width : ℕ) (more : Operations) → AreOperations width more → EachOperation P more → EachOperation Q more
+  operations_within : (P Q : ℕ → ℕ → Type 0) → ((x i : ℕ) → i ≤ 63 → P x i → Q x i) → (width : ℕ) (more : Operations) → AreOperations width more
+      → EachOperation P more → EachOperation Q more
   operations_within P Q f width no_operations h r = tt
   operations_within P Q f width (and_operation op e more) h r = (each_within P Q f e h.2 r.0, operations_within P Q f width more h.3 r.1)
 
 pub apart_at : (step n from i : ℕ) → i < n → pair_of (bits_apart step n from) i ≡ pair_at (from + step * i)
 apart_at step zero from i l = absurd (omega (arith, l))
 apart_at step (suc n) from zero l = let e : from ≡ from + step * 0 = omega arith in ap pair_at e
-apart_at step (suc n) from (suc i) l = let e : from + step + step * i ≡ from + step * suc i = grind arith in apart_at step n (from + step) i (omega (arith, l)) ∙ ap pair_at e
+apart_at step (suc n) from (suc i) l = let e : from + step + step * i ≡ from + step * suc i = grind arith in
+    apart_at step n (from + step) i (omega (arith, l)) ∙ ap pair_at e
 
 module _ (count : ℕ) where
   abbrev Near : Literal → Type 0
   Near l = l.node < count
 
-  abbrev pub Within : NodeRules → Type 0
-  Within n = IsBelow count n.up × IsBelow count n.down
+  abbrev Within : NodeRules → Type 0
+  Within n = AreBelow count n
 
   abbrev IsNear : Pair → Type 0
   IsNear p = (p.t < count) × (p.f < count)
@@ -99,28 +101,38 @@ module _ (count : ℕ) where
 
     inputs_near : (m : ℕ) → m ≤ n → (ins : List Input) → below m ins ≡ true → AreNear (map (placed base) ins)
     inputs_near m l [] h = tt
-    inputs_near m l (i ∷ ins) h = (placed_near i (let k : i.at < m = is_lt _ _ (left_of _ _ h) in omega (arith, k, l)), inputs_near m l ins (right_of (nat_lt i.at m) _ h))
+    inputs_near m l (i ∷ ins) h =
+        (placed_near i (let k : i.at < m = is_lt _ _ (left_of _ _ h) in omega (arith, k, l)), inputs_near m l ins (right_of (nat_lt i.at m) _ h))
 
     follows_near : Within (following request)
     follows_near = (one_near (is_high request ∷ []) (single (is_high request) asked), one_near (is_low request ∷ []) (single (is_low request) asked))
 
     read_near : (rail : ℕ) → rail < count → Within (read_rail request rail)
-    read_near rail l = (one_near (is_high request ∷ is_high rail ∷ []) (All-cons Near (is_high request) (is_high rail ∷ []) asked (single (is_high rail) l)), one_near (is_low request ∷ []) (single (is_low request) asked))
+    read_near rail l = (
+      one_near (is_high request ∷ is_high rail ∷ []) (All-cons Near (is_high request) (is_high rail ∷ []) asked (single (is_high rail) l)),
+      one_near (is_low request ∷ []) (single (is_low request) asked),
+    )
 
-    pub listed_near : (gs : List Part) (from : ℕ) → from + length gs ≤ n → ordered from gs ≡ true → Only (λ x i. IsNear (pair_of (bits x) i)) gs → All Within (rules_listed bits request base gs)
+    pub listed_near : (gs : List Part) (from : ℕ) → from + length gs ≤ n → ordered from gs ≡ true → Only (λ x i. IsNear (pair_of (bits x) i)) gs
+        → All Within (rules_listed bits request base gs)
     listed_near [] from l o r = All-nil Within
-    listed_near (fixed true ∷ gs) from l o r = two (following request) no_rules (rules_listed bits request base gs) follows_near none_near (listed_near gs (suc from) (omega (arith, l)) (right_of (ordered_one from (fixed true)) _ o) r)
-    listed_near (fixed false ∷ gs) from l o r = two no_rules (following request) (rules_listed bits request base gs) none_near follows_near (listed_near gs (suc from) (omega (arith, l)) (right_of (ordered_one from (fixed false)) _ o) r)
+    listed_near (fixed true ∷ gs) from l o r = two (following request) no_rules (rules_listed bits request base gs) follows_near none_near
+        (listed_near gs (suc from) (omega (arith, l)) (right_of (ordered_one from (fixed true)) _ o) r)
+    listed_near (fixed false ∷ gs) from l o r = two no_rules (following request) (rules_listed bits request base gs) none_near follows_near
+        (listed_near gs (suc from) (omega (arith, l)) (right_of (ordered_one from (fixed false)) _ o) r)
     listed_near (read_bit x i ∷ gs) from l o r =
-        two (read_rail request (pair_of (bits x) i).t) (read_rail request (pair_of (bits x) i).f) (rules_listed bits request base gs) (read_near _ r.0.0) (read_near _ r.0.1)
+        two (read_rail request (pair_of (bits x) i).t) (read_rail request (pair_of (bits x) i).f) (rules_listed bits request base gs) (read_near _ r.0.0)
+        (read_near _ r.0.1)
         (listed_near gs (suc from) (omega (arith, l)) (right_of (ordered_one from (read_bit x i)) _ o) r.1)
     listed_near (made f i more ∷ gs) from l o r =
         let ins = map (placed base) (i ∷ more) in
         let near = inputs_near from (omega (arith, l)) (i ∷ more) (left_of _ _ o) in
-        two (gate_rail ins f) (gate_rail ins (λ row. not (f row))) (rules_listed bits request base gs) (rail_near ins f near) (rail_near ins (λ row. not (f row)) near)
+        two (gate_rail ins f) (gate_rail ins (λ row. not (f row))) (rules_listed bits request base gs) (rail_near ins f near)
+        (rail_near ins (λ row. not (f row)) near)
         (listed_near gs (suc from) (omega (arith, l)) (right_of (ordered_one from (made f i more)) _ o) r)
 
-pub rules_within : (count : ℕ) (firsts : List ℕ) (e : Formula) (request from : ℕ) → IsWellFormed e → EachRead (HasBit count firsts) e → request < count → from + formula_size e ≤ count → All (Within count) (formula_rules (bits_in_blocks firsts) e request from)
+pub rules_within : (count : ℕ) (firsts : List ℕ) (e : Formula) (request from : ℕ) → IsWellFormed e → EachRead (HasBit count firsts) e → request < count
+    → from + formula_size e ≤ count → All (AreBelow count) (formula_rules (bits_in_blocks firsts) e request from)
 rules_within count firsts e request from h r asked room =
     let bits = bits_in_blocks firsts in
     let list = listed (block_vars firsts e) e h (block_reads firsts e h) in
@@ -128,6 +140,6 @@ rules_within count firsts e request from h r asked room =
     let long = parts_length e 0 h in
     let near : (x i : ℕ) → i ≤ 63 → HasBit count firsts x i → IsNear count (pair_of (bits x) i) =
     λ x i l k. subst (IsNear count) (sym (apart_at 5 64 _ i (omega (arith, l)))) (let w = k.within in (omega (arith, w), w)) in
-    subst (All (Within count)) (sym (list.rules bits (block_bits firsts e) request from))
+    subst (All (AreBelow count)) (sym (list.rules bits (block_bits firsts e) request from))
     (listed_near count bits request from (gate_count e) asked (omega (arith, size, room)) (parts_of e 0) 0 (omega (arith, long)) (parts_ordered e 0 h)
     (parts_read _ e 0 (each_within _ _ near e h r)))

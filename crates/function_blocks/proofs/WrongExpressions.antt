@@ -22,7 +22,8 @@ left_high p m (node ∷ nodes) = can_move p m node && left_high p (after p m nod
 move_of : (p : Part) (m : Moment) (node : ℕ) → can_move p m node ≡ true → IsMove p m node
 move_of p m node can = either (or_cases _ _ can)
   where
-    either : (list_any (λ (o : Owned). o.node == node && fires m.value o) p.own ≡ true) ⊎ (list_any (λ (w : Wire). w.node == node && may_move m w) p.allows ≡ true) → IsMove p m node
+    either : (list_any (λ (o : Owned). o.node == node && fires m.value o) p.own ≡ true) ⊎
+        (list_any (λ (w : Wire). w.node == node && may_move m w) p.allows ≡ true) → IsMove p m node
     either (inl own) =
         let (k, o, within, is, holds) = Any-from_list_any (λ (o : Owned). o.node == node && fires m.value o) p.own own in
         let (same, enabled) = and_parts _ _ holds in
@@ -62,4 +63,5 @@ all_low_at_first = record { value = λ n. false; noted = λ n. false }
 
 -- The carry rises, and the whole wave comes and goes before it has fallen: nothing waits for it.
 pub carry_breaks : ¬ (Keeps with_carry)
-carry_breaks = breaks with_carry all_low_at_first (1 ∷ 4 ∷ 0 ∷ 5 ∷ 8 ∷ 9 ∷ 12 ∷ 0 ∷ 5 ∷ 8 ∷ 9 ∷ []) (at_first (λ n. false) (record { outside = refl; own = refl; bits = refl })) refl
+carry_breaks = breaks with_carry all_low_at_first (1 ∷ 4 ∷ 0 ∷ 5 ∷ 8 ∷ 9 ∷ 12 ∷ 0 ∷ 5 ∷ 8 ∷ 9 ∷ [])
+    (at_first (λ n. false) (record { outside = refl; own = refl; bits = refl })) refl

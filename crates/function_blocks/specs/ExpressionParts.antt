@@ -2,11 +2,12 @@
 use Rattle.std.specs.Prelude.{◌≡◌, ◌≢◌, ℕ, suc, ◌+◌, ◌/◌, ◌%◌, ◌^◌, ◌<◌, ◌==◌, Bool, true, false, not, ◌&&◌, ◌⊎◌, List, [], ◌∷◌, length, map, All, Contains}
 use Rattle.std.specs.List.{list_all}
 use Rattle.prs_core.specs.Pairs.{Pair, pair_of, pairs_from, rails_of}
-use Rattle.prs_core.specs.Parts.{Owned, Part, Wire, Moment, owned_from, wire, may_move, all_low, is_valid, never_blocked, no_notes}
+use Rattle.prs_core.specs.Parts.{Owned, Part, Wire, Moment, Reached, owned_from, wire, may_move, all_low, is_valid, never_blocked, no_notes}
 use Rattle.width_check.specs.Processes.{Formula}
 use Rattle.width_check.specs.Values.{IsWellFormed, value}
 use Rattle.handshake_expand.specs.Layout.{formula_size}
 use Rattle.function_blocks.specs.Expressions.{formula_result, formula_rules}
+use Rattle.function_blocks.specs.Blocks.{bits_in_blocks}
 use Rattle.function_blocks.specs.BitsRead.{EachRead, bits_read}
 use Rattle.function_blocks.specs.Rails.{same_bit, number_on}
 use Rattle.function_blocks.specs.Parts.{gate_count}
@@ -20,7 +21,8 @@ numbers_on bits v x = number_on (length (bits x)) (λ i one. v (node_of (pair_of
 abbrev pub value_seen : (ℕ → List Pair) → Formula → (ℕ → Bool) → ℕ
 value_seen bits e v = value (numbers_on bits v) e
 
--- A rail of the result is to rise under the request where it is that of the value's bit, and to fall without the request.
+-- A rail of the result is to rise under the request where it is that of the value's bit, and to fall without the
+-- request.
 abbrev pub rail_wire : (request : ℕ) → (number : (ℕ → Bool) → ℕ) → (bit : ℕ) → Pair → Bool → Wire
 rail_wire request number i p one =
     wire (node_of p one)
@@ -35,15 +37,16 @@ rail_wires request number i (p ∷ ps) =
 -- A rail of a bit that is read moves while the request is low, and rises only where the bit's other rail is low.
 abbrev pub variable_wire : (request : ℕ) → Pair → Bool → Wire
 variable_wire request p one =
-    wire (node_of p one) (λ m. not (m.value request) && not (m.value (node_of p (not one)))) (λ m. not (m.value request))
+    wire (node_of p one) (λ m. not (m.value request) && not (m.value (node_of p (not one))))
+    (λ m. not (m.value request))
 
 abbrev pub variable_wires : (request : ℕ) → List Pair → List Wire
 variable_wires request [] = []
 variable_wires request (p ∷ ps) =
     variable_wire request p true ∷ variable_wire request p false ∷ variable_wires request ps
 
--- The request may rise where the rails of the result are low and each bit that is read is valid, and fall where each bit
--- of the result is.
+-- The request may rise where the rails of the result are low and each bit that is read is valid, and fall where each
+-- bit of the result is.
 abbrev pub request_wire : (request : ℕ) → (read result : List Pair) → Wire
 request_wire request read result =
     wire request
@@ -76,7 +79,8 @@ IsOutside from size node = (k : ℕ) → k < size → node ≢ from + k
 -- no node is a rail of two bits, or both rails of one
 abbrev pub AreDistinct : List Pair → Type 0
 AreDistinct read =
-    (p q : Pair) (one side : Bool) → Contains read p → Contains read q → node_of p one ≡ node_of q side → (p ≡ q) × (one ≡ side)
+    (p q : Pair) (one side : Bool) → Contains read p → Contains read q → node_of p one ≡ node_of q side → (p ≡ q)
+    × (one ≡ side)
 
 -- A well-formed expression whose request and whose variables' rails are nodes apart, and none of its own.
 pub record StandsApart (bits : ℕ → List Pair) (e : Formula) (request from : ℕ) : Type 0 where
@@ -91,3 +95,16 @@ abbrev pub IsAtRest : (ℕ → List Pair) → Formula → (request from : ℕ) �
 IsAtRest bits e request from m =
     (may_move m (request_wire request (bits_read bits e) (formula_result e from)) ≡ true)
     ⊎ ((m.value request ≡ false) × (list_all (is_valid m.value) (bits_read bits e) ≡ false))
+
+-- in each moment that such a circuit reaches, whatever its neighbours do within the contract
+abbrev pub InEachMoment : ((ℕ → List Pair) → Formula → (request from : ℕ) → Moment → Type 0) → Type 0
+InEachMoment P =
+    (bits : ℕ → List Pair) (e : Formula) (request from : ℕ) → StandsApart bits e request from
+    → (m : Moment) → Reached (expression_part bits e request from) m → P bits e request from m
+
+-- The nodes with their rules, and the rails that are read, where the variables' blocks begin at these nodes.
+abbrev pub expression_owned : (firsts : List ℕ) → Formula → (request from : ℕ) → List Owned
+expression_owned firsts e request from = owned_from from (formula_rules (bits_in_blocks firsts) e request from)
+
+abbrev pub rails_read : (firsts : List ℕ) → Formula → List ℕ
+rails_read firsts e = rails_of (bits_read (bits_in_blocks firsts) e)

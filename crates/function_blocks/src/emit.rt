@@ -1,16 +1,16 @@
 //! The rules of the circuit of an expression.
 
 ghost use Rattle.std.specs.Prelude.{◌≡◌, ◌≢◌, ℕ, ◌+◌, ◌*◌, ◌<◌, ◌≤◌, ◌^◌, ◌∷◌, ◌++◌, map, length, All, slice_index_or, IfOk, OnOk, OnErr};
-ghost use Rattle.prs_core.specs.Nets.{NodeRules, IsAlone, IsBelow};
+ghost use Rattle.prs_core.specs.Nets.{IsAlone};
 ghost use Rattle.prs_core.specs.Pairs.{exchanged, rails_of};
 ghost use Rattle.prs_core.specs.Parts.{Owned, Keeps, owned_from, with_owned};
 ghost use Rattle.width_check.specs.View.{formula_of};
 ghost use Rattle.width_check.specs.Values.{IsWellFormed};
 ghost use Rattle.handshake_expand.specs.Layout.{formula_size};
 ghost use Rattle.function_blocks.specs.Expressions.{constant_bit, constant_bits, read_bits, bits_between, formula_rules, formula_result};
-ghost use Rattle.function_blocks.specs.Blocks.{bits_apart, bits_in_blocks, HasBit};
+ghost use Rattle.function_blocks.specs.Blocks.{bits_apart, bits_in_blocks, AreBelow, HasBit};
 ghost use Rattle.function_blocks.specs.BitsRead.{EachRead, bits_read};
-ghost use Rattle.function_blocks.specs.ExpressionParts.{IsOutside, AreDistinct, expression_part};
+ghost use Rattle.function_blocks.specs.ExpressionParts.{IsOutside, AreDistinct, expression_part, expression_owned, rails_read};
 
 use crate::node::{Bit, NodeGuards, bits_apart, following, read_rail, without_rules};
 use crate::operator::operator;
@@ -69,7 +69,8 @@ fn reading(
     requires some { low ≤ high }
     requires most { high ≤ 63 }
     requires rails { first + 5 * high + 1 < 2 ^ 32 }
-    ensures { OnOk result (guards.new.items ≡ guards.old.items ++ read_bits request (bits_between high low (bits_apart 5 64 first))) }
+    ensures { OnOk result (guards.new.items
+        ≡ guards.old.items ++ read_bits request (bits_between high low (bits_apart 5 64 first))) }
 {
     for bit in low..high + 1 {
         let rail = first + 5 * u32::from(bit);
@@ -90,7 +91,8 @@ fn exchanged(alloc: Global, bits: &[Bit]) -> Result<Vec<Bit>, AllocError>
     Ok(turned)
 }
 
-/// Adds the guards of an expression's nodes, and answers the bits of its value. Node `from` is that of the first guards.
+/// Adds the guards of an expression's nodes, and answers the bits of its value. The first of all guards are those of
+/// node `from`.
 fn expression(
     alloc: Global,
     e: &TExpr,
@@ -102,8 +104,10 @@ fn expression(
     requires formed { IsWellFormed (formula_of e.now) }
     requires read { EachRead (HasBit (2 ^ 32) vars.now) (formula_of e.now) }
     requires room { from + length guards.old.items + formula_size (formula_of e.now) < 2 ^ 32 }
-    ensures made { OnOk result (guards.new.items ≡ guards.old.items ++ formula_rules (bits_in_blocks vars.now) (formula_of e.now) request (from + length guards.old.items)) }
-    ensures bits { IfOk result (λ bits. bits.items ≡ formula_result (formula_of e.now) (from + length guards.old.items)) }
+    ensures made { OnOk result (guards.new.items ≡ guards.old.items
+        ++ formula_rules (bits_in_blocks vars.now) (formula_of e.now) request (from + length guards.old.items)) }
+    ensures bits { IfOk result (λ bits. bits.items
+        ≡ formula_result (formula_of e.now) (from + length guards.old.items)) }
 {
     let node = from + guards.len() as u32;
     match e {
@@ -161,7 +165,7 @@ fn rails_of(alloc: Global, bits: &[Bit]) -> Result<Vec<u32>, AllocError>
 /// Gives the nodes from `from` on these guards.
 fn give(guards: Vec<NodeGuards>, from: u32, rules: &mut Rules)
     requires own { from + length guards.items ≤ length rules.old.up }
-    requires within { All (λ (n : NodeRules). IsBelow (length rules.old.up) n.up × IsBelow (length rules.old.up) n.down) guards.items }
+    requires within { All (AreBelow (length rules.old.up)) guards.items }
     ensures made { rules.new ≡ with_owned (owned_from from guards.items) rules.old }
     ensures nodes { length rules.new.up ≡ length rules.old.up }
 {
@@ -175,11 +179,12 @@ fn give(guards: Vec<NodeGuards>, from: u32, rules: &mut Rules)
     }
 }
 
-/// Writes the guards of the nodes of an expression's circuit (Martin), which are numbered from `from` on, and no others,
-/// and answers the rails of its value: rail t and rail f of each bit, the lowest bit first. Under `request` one rail of each
-/// bit rises, that of the value; when it falls they fall. `vars` has for each variable the first node of its block, which
-/// begins with five nodes for each bit, the first two of them the bit's rails. Where memory runs out, nothing is written. Where
-/// no two of the bits that are read share a node, the circuit keeps the contract of an expression alone.
+/// Writes the guards of the nodes of an expression's circuit (Martin), which are numbered from `from` on, and no
+/// others, and answers the rails of its value: rail t and rail f of each bit, the lowest bit first. Under `request` the
+/// rails rise to the value, and when it falls they fall. `vars` has for each variable the first node of its block, which
+/// begins with five nodes for each bit, the first two of them the bit's rails. The request and the rails that are read
+/// are none of the own nodes, and the request is none of the rails. Where memory runs out, nothing is written. Where no
+/// two of the bits that are read share a node, the circuit keeps the contract of an expression alone.
 pub fn emit_expr(
     alloc: Global,
     e: &TExpr,
@@ -192,14 +197,19 @@ pub fn emit_expr(
     requires vars { EachRead (HasBit (length rules.old.up) vars.now) (formula_of e.now) }
     requires request { request < length rules.old.up }
     requires own { from + formula_size (formula_of e.now) ≤ length rules.old.up }
-    requires apart { All (IsOutside from (formula_size (formula_of e.now))) (request ∷ rails_of (bits_read (bits_in_blocks vars.now) (formula_of e.now))) }
-    requires unasked { All (λ rail. rail ≢ request) (rails_of (bits_read (bits_in_blocks vars.now) (formula_of e.now))) }
-    ensures made { OnOk result (rules.new ≡ with_owned (owned_from from (formula_rules (bits_in_blocks vars.now) (formula_of e.now) request from)) rules.old) }
+    requires apart { All (IsOutside from (formula_size (formula_of e.now)))
+        (request ∷ rails_read vars.now (formula_of e.now)) }
+    requires unasked { All (λ rail. rail ≢ request) (rails_read vars.now (formula_of e.now)) }
+    ensures made { OnOk result (rules.new
+        ≡ with_owned (expression_owned vars.now (formula_of e.now) request from) rules.old) }
     ensures rails { IfOk result (λ rails. rails.items ≡ rails_of (formula_result (formula_of e.now) from)) }
     ensures kept { OnErr result (rules.new ≡ rules.old) }
     ensures nodes { length rules.new.up ≡ length rules.old.up }
-    ensures others { (node : ℕ) → All (λ (o : Owned). o.node ≢ node) (owned_from from (formula_rules (bits_in_blocks vars.now) (formula_of e.now) request from)) → IsAlone rules.old rules.new node }
-    ensures keeps { AreDistinct (bits_read (bits_in_blocks vars.now) (formula_of e.now)) → Keeps (expression_part (bits_in_blocks vars.now) (formula_of e.now) request from) }
+    ensures others { (node : ℕ)
+        → All (λ (o : Owned). o.node ≢ node) (expression_owned vars.now (formula_of e.now) request from)
+        → IsAlone rules.old rules.new node }
+    ensures keeps { AreDistinct (bits_read (bits_in_blocks vars.now) (formula_of e.now))
+        → Keeps (expression_part (bits_in_blocks vars.now) (formula_of e.now) request from) }
 {
     // tells the proof that there are fewer than 2^32 nodes, so that the numbers from `from` on fit
     let _count = rules.nodes();

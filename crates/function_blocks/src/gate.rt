@@ -132,7 +132,8 @@ fn add_row(
     requires some { 2 ≤ length inputs.now }
     requires most { length inputs.now ≤ 3 }
     requires agree { length row.now ≡ length inputs.now }
-    ensures { OnOk result (terms.new.items ≡ terms.old.items ++ map (minterm inputs.now) (filter (rows_of value (truth function)) (row.now ∷ []))) }
+    ensures { OnOk result (terms.new.items
+        ≡ terms.old.items ++ map (minterm inputs.now) (filter (rows_of value (truth function)) (row.now ∷ []))) }
 {
     if function.value(row) == value {
         terms.push(minterm(alloc, inputs, row)?)?;
@@ -149,7 +150,8 @@ fn rows_with(
 ) -> Result<Guard, AllocError>
     requires some { 2 ≤ length inputs.now }
     requires most { length inputs.now ≤ 3 }
-    ensures { IfOk result (λ guard. guard ≡ map (minterm inputs.now) (filter (rows_of value (truth function)) (table (length inputs.now)))) }
+    ensures { IfOk result (λ guard. guard
+        ≡ map (minterm inputs.now) (filter (rows_of value (truth function)) (table (length inputs.now)))) }
 {
     let mut terms = Vec::new(alloc);
     for number in 0..row_count(inputs.len()) {
@@ -220,7 +222,8 @@ pub fn gate_over(
     carried: &Option<Bit>,
     guards: &mut Vec<NodeGuards>,
 ) -> Result<(), AllocError>
-    ensures { OnOk result (guards.new.items ≡ guards.old.items ++ gate (left.now ∷ right.now ∷ carried_on carried.now) (truth function)) }
+    ensures { OnOk result (guards.new.items
+        ≡ guards.old.items ++ gate (left.now ∷ right.now ∷ carried_on carried.now) (truth function)) }
 {
     match carried {
         None => gate(alloc, function, &[*left, *right], guards),

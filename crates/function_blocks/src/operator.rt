@@ -48,8 +48,9 @@ fn each_place(
     bits_apart(alloc, 2, left.len() as u8, from)
 }
 
-/// Adds for each place the gate of the result's bit and, below the top place, that of what is carried on. No gate carries on
-/// from the top place: nothing would wait for its rails. The gates' nodes are numbered from `from` on.
+/// Adds for each place the gate of the result's bit and, below the top place, that of what is carried on, and answers
+/// the result's bits. No gate carries on from the top place: nothing would wait for its rails. The gates' nodes are
+/// numbered from `from` on.
 #[tactic(auto, using(crate::proofs::Emitted::ripples_apart))]
 fn ripple(
     alloc: Global,
@@ -63,7 +64,8 @@ fn ripple(
     requires most { length left.now ≤ 64 }
     requires agree { length right.now ≡ length left.now }
     requires room { from + (4 * length left.now - 2) < 2 ^ 32 }
-    ensures made { OnOk result (guards.new.items ≡ guards.old.items ++ ripple (truth carry) left.now right.now [] from) }
+    ensures made { OnOk result (guards.new.items
+        ≡ guards.old.items ++ ripple (truth carry) left.now right.now [] from) }
     ensures bits { IfOk result (λ bits. bits.items ≡ ripple_result left.now from) }
 {
     let top = left.len() - 1;
@@ -124,8 +126,8 @@ fn less(
     Ok(Bit::at(node - 2))
 }
 
-/// Adds the gates of each place's equality, then those of the conjunctions, from the lowest place on, and answers the last
-/// one: whether the numbers are equal.
+/// Adds the gates of each place's equality, then those of the conjunctions, from the lowest place on, and answers the
+/// last one: whether the numbers are equal.
 fn equal(
     alloc: Global,
     left: &[Bit],
@@ -161,8 +163,8 @@ fn alone(alloc: Global, bit: Bit) -> Result<Vec<Bit>, AllocError>
     Ok(bits)
 }
 
-/// Adds the gates of an operator on two numbers of one width, from 1 to 64 bits, and answers the bits of its result. The
-/// gates' nodes are numbered from `from` on.
+/// Adds the gates of an operator on two numbers of one width, from 1 to 64 bits, and answers the bits of its result.
+/// The gates' nodes are numbered from `from` on.
 pub fn operator(
     alloc: Global,
     op: Op,

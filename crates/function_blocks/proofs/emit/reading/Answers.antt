@@ -5,7 +5,9 @@ use Rattle.function_blocks.proofs.Emitted.{reading_step}
 use Rattle.function_blocks.proofs.emit.reading.Goals as goal
 
 pub loop-bit-init : goal.loop-bit-init
-loop-bit-init c = ap (λ bits. c.args.guards.now.items ++ read_bits c.args.request bits) (sym (between_apart c.args.high c.args.low c.args.first c.requires.some c.requires.most))
+loop-bit-init c =
+    ap (λ bits. c.args.guards.now.items ++ read_bits c.args.request bits)
+    (sym (between_apart c.args.high c.args.low c.args.first c.requires.some c.requires.most))
 
 pub loop-bit-preserved : goal.loop-bit-preserved
 loop-bit-preserved c =
