@@ -47,10 +47,10 @@ turn_ordered p no_members request from = omega arith
 turn_ordered p (and_member s no_members) request from = ordered_more p s request from from (from + size_of p s) no_children (omega arith) (omega arith)
 turn_ordered p (and_member s (and_member t more)) request from =
     let rest : Ordered (from + 3 + size_of p s) (from + 3 + size_of p s + turn_size p (and_member t more)) (expanded_in_turn p (and_member t more) (from + 2) (from + 3 + size_of p s)) =
-        turn_ordered p (and_member t more) (from + 2) (from + 3 + size_of p s) in
+    turn_ordered p (and_member t more) (from + 2) (from + 3 + size_of p s) in
     let end : from + 3 + size_of p s + turn_size p (and_member t more) ≡ from + turn_size p (and_member s (and_member t more)) = omega arith in
     ordered_more p s from (from + 3) from (from + turn_size p (and_member s (and_member t more))) (expanded_in_turn p (and_member t more) (from + 2) (from + 3 + size_of p s)) (omega arith)
-      (subst (λ n. Ordered (from + 3 + size_of p s) n (expanded_in_turn p (and_member t more) (from + 2) (from + 3 + size_of p s))) end rest)
+    (subst (λ n. Ordered (from + 3 + size_of p s) n (expanded_in_turn p (and_member t more) (from + 2) (from + 3 + size_of p s))) end rest)
 
 branches_ordered : (p : TypedProgram) (members : Processes) (from high : ℕ) → from + branches_size p members ≤ high → Ordered from high (expanded_branches p members from)
 branches_ordered p no_members from high room = omega (arith, room)
@@ -73,7 +73,7 @@ all_in : (low high : ℕ) (outer : Range) (trees : PartTrees) → Ordered low hi
 all_in low high outer no_children h first last = All-nil (λ r. LiesIn r outer)
 all_in low high outer (and_child child more) h first last =
     All-cons (λ r. LiesIn r outer) (range_of child) (ranges_of more) (omega (arith, h.0, first), omega (arith, behind ((range_of child).from + (range_of child).count) high more h.1, last))
-      (all_in ((range_of child).from + (range_of child).count) high outer more h.1 (omega (arith, h.0, first)) last)
+    (all_in ((range_of child).from + (range_of child).count) high outer more h.1 (omega (arith, h.0, first)) last)
 
 all_behind : (low high : ℕ) (r : Range) (trees : PartTrees) → Ordered low high trees → r.from + r.count ≤ low → All (LiesBefore r) (ranges_of trees)
 all_behind low high r no_children h first = All-nil (LiesBefore r)
@@ -107,12 +107,12 @@ mutual
   nested p (choosing again choices) request from =
       let size = choosing_size p again choices in
       nests p (choosing again choices) request from from (from + size_of p (choosing again choices)) (expanded_bodies p choices (from + own_before again + choice_count choices) (bodies_from choices (own_before again) from))
-        (bodies_ordered p choices (from + own_before again + choice_count choices) (bodies_from choices (own_before again) from) from (from + size_of p (choosing again choices)) (omega arith) (omega (arith, size)))
-        (omega arith) (omega arith) (nested_bodies p choices (from + own_before again + choice_count choices) (bodies_from choices (own_before again) from))
+      (bodies_ordered p choices (from + own_before again + choice_count choices) (bodies_from choices (own_before again) from) from (from + size_of p (choosing again choices)) (omega arith) (omega (arith, size)))
+      (omega arith) (omega arith) (nested_bodies p choices (from + own_before again + choice_count choices) (bodies_from choices (own_before again) from))
   nested p (repeating s) request from =
       nests p (repeating s) request from from (from + size_of p (repeating s)) (and_child (expanded p s (from + 1) (from + 2)) no_children)
-        (ordered_more p s (from + 1) (from + 2) from (from + size_of p (repeating s)) no_children (omega arith) (omega arith))
-        (omega arith) (omega arith) (nested p s (from + 1) (from + 2), tt)
+      (ordered_more p s (from + 1) (from + 2) from (from + size_of p (repeating s)) no_children (omega arith) (omega arith))
+      (omega arith) (omega arith) (nested p s (from + 1) (from + 2), tt)
 
   nested_in_turn : (p : TypedProgram) (members : Processes) (request from : ℕ) → AreNested (expanded_in_turn p members request from)
   nested_in_turn p no_members request from = tt
@@ -158,7 +158,7 @@ module _ (p : TypedProgram) where
     turn_within (and_member s no_members) from some h = answer_within s from h.0
     turn_within (and_member s (and_member t more)) from some h =
         let rest : (from + 3 + size_of p s ≤ turn_answer p (and_member t more) (from + 3 + size_of p s)) × (turn_answer p (and_member t more) (from + 3 + size_of p s) < from + 3 + size_of p s + turn_size p (and_member t more)) =
-            turn_within (and_member t more) (from + 3 + size_of p s) (omega arith) h.1 in
+        turn_within (and_member t more) (from + 3 + size_of p s) (omega arith) h.1 in
         (omega (arith, rest.0), omega (arith, rest.1))
 
   -- so all requests and answers of parts are nodes below the end
@@ -177,7 +177,7 @@ module _ (p : TypedProgram) where
       nodes_below (choosing again choices) request from h asked room =
           let size = choosing_size p again choices in
           below (choosing again choices) request from (expanded_bodies p choices (from + own_before again + choice_count choices) (bodies_from choices (own_before again) from)) h asked room
-            (bodies_below choices (from + own_before again + choice_count choices) (bodies_from choices (own_before again) from) h.2 (omega (arith, size, room)) (omega (arith, size, room)))
+          (bodies_below choices (from + own_before again + choice_count choices) (bodies_from choices (own_before again) from) h.2 (omega (arith, size, room)) (omega (arith, size, room)))
       nodes_below (repeating s) request from h asked room = below (repeating s) request from (and_child (expanded p s (from + 1) (from + 2)) no_children) h asked room (nodes_below s (from + 1) (from + 2) h (omega (arith, room)) (omega (arith, room)), tt)
 
       turn_below : (members : Processes) (request from : ℕ) → AreProcesses p.channels p.vars members → request < n → from + turn_size p members ≤ n → HaveNodesBelow n (expanded_in_turn p members request from)

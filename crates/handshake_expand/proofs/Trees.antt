@@ -31,6 +31,9 @@ tree_answer (part kind request answer from count _) = answer
 abbrev pub tree_count : PartTree → ℕ
 tree_count (part kind request answer from count _) = count
 
+abbrev pub tree_from : PartTree → ℕ
+tree_from (part kind request answer from count _) = from
+
 pub answer_read : (x : Part) → (out-Part x).answer ≡ tree_answer (tree_of x)
 unfolding out-Part out
 answer_read (Part' kind request answer from count shape children) = refl
@@ -84,6 +87,10 @@ expanded_count p (in_turn _) request from = refl
 expanded_count p (side_by_side _) request from = refl
 expanded_count p (choosing again _) request from = refl
 expanded_count p (repeating s) request from = refl
+
+pub from_read : (x : Part) → (out-Part x).from ≡ tree_from (tree_of x)
+unfolding out-Part out
+from_read (Part' kind request answer from count shape children) = refl
 
 pub child_count : (x : Part) (p : TypedProgram) (s : Process) (request from : ℕ) → tree_of x ≡ expanded p s request from → (out-Part x).count ≡ size_of p s
 child_count x p s request from is = count_read x ∙ (ap tree_count is ∙ expanded_count p s request from)

@@ -111,7 +111,10 @@ fn named_line(
     let count = count.format(part.count).as_bytes();
     to.extend_from_slice(margin)?;
     to.extend_from_slice(kind_word(part.kind))?;
-    append(to, &[b" ", request, b" ", answer, b" ", from, b" ", count, b"\n"])
+    append(
+        to,
+        &[b" ", request, b" ", answer, b" ", from, b" ", count, b"\n"],
+    )
 }
 
 /// Appends the line of a part behind the margin.
@@ -131,7 +134,13 @@ fn part_line(
     let mut answer = [0; 32];
     let request_end = name_from(program, root, part.request, &mut request);
     let answer_end = name_from(program, root, part.answer, &mut answer);
-    named_line(part, &request[..request_end], &answer[..answer_end], margin, to)
+    named_line(
+        part,
+        &request[..request_end],
+        &answer[..answer_end],
+        margin,
+        to,
+    )
 }
 
 /// Appends the lines of a part and of those in it, which stand two spaces further to the right.
@@ -161,6 +170,8 @@ pub fn print_parts(alloc: Global, program: &Typed, parts: &Parts) -> Result<Vec<
     requires { expansion_of parts.now ≡ expansion (program_of program.now) }
     ensures { IfOk result (λ text. text.items ≡ parts_text (program_of program.now) (expansion_of parts.now)) }
 {
+    // what the program's type keeps is told of its body
+    let _body = program.body();
     let mut text = Vec::new(alloc);
     channel_lines(program, &parts.channels, &mut text)?;
     var_lines(program, &parts.vars, &mut text)?;
