@@ -1,6 +1,7 @@
 -- Where parts lie.
-use Rattle.std.proofs.Common.{◌≡◌, ℕ, zero, suc, ◌+◌, ◌-◌, ◌*◌, ◌<◌, ◌≤◌, Bool, true, false, List, [], ◌∷◌, ◌++◌, length, map, refl, sym, ap, ◌∙◌, subst, arith, append_assoc}
+use Rattle.std.proofs.Common.{◌≡◌, ℕ, zero, suc, ◌+◌, ◌-◌, ◌*◌, ◌<◌, ◌≤◌, Bool, true, false, List, [], ◌∷◌, ◌++◌, length, map, refl, sym, ap, ◌∙◌, subst, inl, inr, arith}
 use Rattle.std.specs.Prelude.{All, AllPairs, Contains, if◌then◌else◌}
+use Rattle.std.proofs.lemmas.Bool.{cases_lt}
 use Rattle.std.proofs.lemmas.List.Elements.{All-nil, All-cons}
 use Rattle.std.proofs.lemmas.List.Kept.{AllPairs-cons}
 use Rattle.chp_base.specs.declared.channel.Channel.{Channel}
@@ -8,9 +9,10 @@ use Rattle.width_check.specs.declared.typed.Var.{Var}
 use Rattle.width_check.specs.Processes.{Formula, Process, skipping, assigning, sending, receiving, in_turn, side_by_side, choosing, repeating, Processes, no_members, and_member, member_count, Choices, no_choices, and_choice, choice_count, TypedProgram}
 use Rattle.width_check.specs.Reads.{reads}
 use Rattle.width_check.specs.Typing.{IsProcess, AreProcesses, AreChoices, IsTyped, var_width}
+use Rattle.handshake_expand.specs.declared.site.SiteNode.{SiteNode}
 use Rattle.handshake_expand.specs.Answers.{answer_of, turn_answer, bodies_from, second_answer}
 use Rattle.handshake_expand.specs.Expansions.{BlockValue, Expansion, channel_block, var_block, blocks_from, channel_blocks, var_blocks, expansion}
-use Rattle.handshake_expand.specs.Layout.{formula_size, through_size, assign_size, size_of, turn_size, branches_size, guards_size, bodies_size, wires_size, block_size, wires_before, blocks_before, vars_from, root_request, body_from, nodes_of}
+use Rattle.handshake_expand.specs.Layout.{formula_size, through_size, assign_size, size_of, turn_size, branches_size, guards_size, bodies_size, wires_size, block_size, wires_before, blocks_before, channel_from, var_from, vars_from, root_request, body_from, nodes_of}
 use Rattle.handshake_expand.specs.PartLaws.{Range, range, Has, LiesIn, LiesBefore, range_of, ranges_of, IsNested, AreNested, block_range, outer_ranges, Follow, IsIn}
 use Rattle.handshake_expand.specs.PartText.{HasNodesBelow, HaveNodesBelow}
 use Rattle.handshake_expand.specs.PartTree.{PartTree, part, PartTrees, no_children, and_child, expanded, expanded_in_turn, expanded_branches, expanded_bodies, own_before, root_part}
@@ -163,8 +165,8 @@ module _ (p : TypedProgram) where
 
   -- so all requests and answers of parts are nodes below the end
   module _ (n : ℕ) where
-    below : (s : Process) (request from : ℕ) (children : PartTrees) → IsProcess p.channels p.vars s → request < n → from + size_of p s ≤ n → HaveNodesBelow n children → (request < n) × (answer_of p s from < n) × HaveNodesBelow n children
-    below s request from children h asked room inner = (asked, omega (arith, (answer_within s from h).1, room), inner)
+    below : (s : Process) (request from : ℕ) (inner_parts : PartTrees) → IsProcess p.channels p.vars s → request < n → from + size_of p s ≤ n → HaveNodesBelow n inner_parts → (request < n) × (answer_of p s from < n) × HaveNodesBelow n inner_parts
+    below s request from inner_parts h asked room inner = (asked, omega (arith, (answer_within s from h).1, room), inner)
 
     mutual
       pub nodes_below : (s : Process) (request from : ℕ) → IsProcess p.channels p.vars s → request < n → from + size_of p s ≤ n → HasNodesBelow n (expanded p s request from)
@@ -197,3 +199,56 @@ module _ (p : TypedProgram) where
 
   pub root_below : IsProcess p.channels p.vars p.body → HasNodesBelow (nodes_of p) (root_part p)
   root_below h = (omega arith, omega arith, (nodes_below (nodes_of p) p.body (root_request p) (body_from p) h (omega arith) (omega arith), tt))
+
+-- the blocks follow one another
+module _ (p : TypedProgram) (sites : List SiteNode) where
+  channels_follow : (cs : List Channel) (k w end : ℕ) (rest : List Range) → ((m : ℕ) → wires_before p.channels (k + m) ≡ w + wires_before cs m) → Follow (2 + (w + wires_before cs (length cs))) rest end
+      → Follow (2 + w) (map block_range (blocks_from (channel_block p sites) k cs) ++ rest) end
+  channels_follow [] k w end rest before h = let none : w + 0 ≡ w = omega arith in subst (λ n. Follow (2 + n) rest end) none h
+  channels_follow (c ∷ cs) k w end rest before h =
+      let first : channel_from p k ≡ 2 + w = let place : k + 0 ≡ k = omega arith in omega (arith, before 0, ap (wires_before p.channels) place) in
+      let next : 2 + (w + wires_size c.width) ≡ channel_from p k + wires_size c.width = omega (arith, first) in
+      let end_same : 2 + (w + wires_before (c ∷ cs) (length (c ∷ cs))) ≡ 2 + (w + wires_size c.width + wires_before cs (length cs)) = omega arith in
+      let tail : Follow (2 + (w + wires_size c.width)) (map block_range (blocks_from (channel_block p sites) (suc k) cs) ++ rest) end =
+          channels_follow cs (suc k) (w + wires_size c.width) end rest (λ m. let place : suc k + m ≡ k + suc m = omega arith in omega (arith, before (suc m), ap (wires_before p.channels) place)) (subst (λ n. Follow n rest end) end_same h) in
+      (first, subst (λ n. Follow n (map block_range (blocks_from (channel_block p sites) (suc k) cs) ++ rest) end) next tail)
+
+  vars_follow : (vs : List Var) (k w end : ℕ) (rest : List Range) → ((m : ℕ) → blocks_before p.vars (k + m) ≡ w + blocks_before vs m) → Follow (vars_from p + (w + blocks_before vs (length vs))) rest end
+      → Follow (vars_from p + w) (map block_range (blocks_from (var_block p sites) k vs) ++ rest) end
+  vars_follow [] k w end rest before h = let none : w + 0 ≡ w = omega arith in subst (λ n. Follow (vars_from p + n) rest end) none h
+  vars_follow (v ∷ vs) k w end rest before h =
+      let first : var_from p k ≡ vars_from p + w = let place : k + 0 ≡ k = omega arith in omega (arith, before 0, ap (blocks_before p.vars) place) in
+      let next : vars_from p + (w + block_size v.width) ≡ var_from p k + block_size v.width = omega (arith, first) in
+      let end_same : vars_from p + (w + blocks_before (v ∷ vs) (length (v ∷ vs))) ≡ vars_from p + (w + block_size v.width + blocks_before vs (length vs)) = omega arith in
+      let tail : Follow (vars_from p + (w + block_size v.width)) (map block_range (blocks_from (var_block p sites) (suc k) vs) ++ rest) end =
+          vars_follow vs (suc k) (w + block_size v.width) end rest (λ m. let place : suc k + m ≡ k + suc m = omega arith in omega (arith, before (suc m), ap (blocks_before p.vars) place)) (subst (λ n. Follow n rest end) end_same h) in
+      (first, subst (λ n. Follow n (map block_range (blocks_from (var_block p sites) (suc k) vs) ++ rest) end) next tail)
+
+pub blocks_follow : (p : TypedProgram) → Follow 2 (outer_ranges (expansion p)) (nodes_of p)
+blocks_follow p =
+    let sites = in_body p (own_sites p) in
+    let zero_more : (m : ℕ) → 0 + m ≡ m = λ m. omega arith in
+    let root : Follow (root_request p) (range (root_request p) (2 + size_of p p.body) ∷ []) (nodes_of p) = (refl, omega arith) in
+    let vars : Follow (vars_from p + 0) (map block_range (var_blocks p sites) ++ range (root_request p) (2 + size_of p p.body) ∷ []) (nodes_of p) =
+        vars_follow p sites p.vars 0 0 (nodes_of p) (range (root_request p) (2 + size_of p p.body) ∷ []) (λ m. ap (blocks_before p.vars) (zero_more m) ∙ sym (zero_more (blocks_before p.vars m)))
+          (subst (λ n. Follow n (range (root_request p) (2 + size_of p p.body) ∷ []) (nodes_of p)) (omega arith) root) in
+    channels_follow p sites p.channels 0 0 (nodes_of p) (map block_range (var_blocks p sites) ++ range (root_request p) (2 + size_of p p.body) ∷ [])
+      (λ m. ap (wires_before p.channels) (zero_more m) ∙ sym (zero_more (wires_before p.channels m)))
+      (subst (λ n. Follow n (map block_range (var_blocks p sites) ++ range (root_request p) (2 + size_of p p.body) ∷ []) (nodes_of p)) (omega arith) vars)
+
+-- so no node is in two of them, and each from the first on is in one
+follow_behind : (from end : ℕ) (rs : List Range) (r : Range) → Follow from rs end → r.from + r.count ≤ from → All (LiesBefore r) rs
+follow_behind from end [] r h first = All-nil (LiesBefore r)
+follow_behind from end (x ∷ xs) r h first =
+    All-cons (LiesBefore r) x xs (omega (arith, h.0, first)) (follow_behind (x.from + x.count) end xs r h.1 (omega (arith, h.0, first)))
+
+pub follow_apart : (from end : ℕ) (rs : List Range) → Follow from rs end → AllPairs LiesBefore rs
+follow_apart from end [] h = λ i j d below within. absurd (omega (arith, within))
+follow_apart from end (x ∷ xs) h = AllPairs-cons LiesBefore x xs (follow_behind (x.from + x.count) end xs x h.1 (omega arith)) (follow_apart (x.from + x.count) end xs h.1)
+
+pub follow_all : (from end : ℕ) (rs : List Range) (node : ℕ) → Follow from rs end → from ≤ node → node < end → IsIn rs node
+follow_all from end [] node h low high = absurd (omega (arith, h, low, high))
+follow_all from end (x ∷ xs) node h low high = elim (cases_lt node (x.from + x.count)) [
+  | inl here ↦ (x, (zero, omega arith, refl), (omega (arith, h.0, low), here))
+  | inr there ↦ let rest : IsIn xs node = follow_all (x.from + x.count) end xs node h.1 there high in (rest.0, (suc rest.1.0, omega (arith, rest.1.1), rest.1.2), rest.2)
+]
