@@ -15,6 +15,8 @@ pub mod BitNet
 pub mod BitAccepted
 pub mod Forms
 pub mod Sizes
+pub mod GuardCosts
+pub mod NetLiterals
 pub mod HalvedNumbers
 pub mod HalvedCarried
 pub mod ResetCarried

@@ -1,7 +1,7 @@
 //! Laws of nets and the programs that they carry.
 
-ghost use Rattle.std.specs.Prelude.{◌↔◌};
-ghost use Rattle.prs_core.specs.Nets.{NetValue};
+ghost use Rattle.std.specs.Prelude.{◌↔◌, ◌≤◌, ◌*◌};
+ghost use Rattle.prs_core.specs.Nets.{NetValue, literals_of};
 ghost use Rattle.width_check.specs.Processes.{TypedProgram};
 ghost use Rattle.width_check.specs.Typing.{IsTyped};
 ghost use Rattle.circuit_places.specs.Covered.{Covered};
@@ -56,4 +56,13 @@ pub fn carries_reset()
     ensures { (net : NetValue) (p : TypedProgram) → ResetCarries net p }
 {
     reset_runs();
+}
+
+/// Law: the net of a typed program has at most 64 literals for each of its nodes.
+pub fn few_literals()
+    ensures { (p : TypedProgram) → IsTyped p.channels p.vars p.body → literals_of (translation p) ≤ 64 * nodes_of p }
+{
+    function_blocks::laws::bits_counted();
+    function_blocks::laws::rules_counted();
+    cell_parallel::tree_counted();
 }
