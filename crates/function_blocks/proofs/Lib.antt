@@ -1,4 +1,5 @@
 pub mod Examples
+pub mod ThreeBits
 pub mod Sizes
 pub mod Tables
 pub mod Guards
