@@ -17,6 +17,7 @@ pub mod Forms
 pub mod Sizes
 pub mod GuardCosts
 pub mod NetLiterals
+pub mod NetNames
 pub mod HalvedNumbers
 pub mod HalvedCarried
 pub mod ResetCarried

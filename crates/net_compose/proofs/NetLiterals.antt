@@ -272,11 +272,11 @@ module _ (p : TypedProgram) where
   share_both : (s t : ℕ → List (List Pair)) (r u : ℕ → List ℕ) (w z : ℕ → List (List Pair)) → share (λ k. s k ++ t k) (λ k. r k ++ u k) (λ x. w x ++ z x) ≡ share s r w + share t u z
   share_both s t r u w z =
       let channels =
-          channels_as (λ k. length (s k ++ t k)) (λ k. length (r k ++ u k)) (λ k. length (s k) + length (t k)) (λ k. length (r k) + length (u k)) (λ k. length-append (s k) (t k)) (λ k. length-append (r k) (u k)) 0 p.channels
-          ∙ channels_sum (λ k. length (s k)) (λ k. length (r k)) (λ k. length (t k)) (λ k. length (u k)) 0 p.channels in
+      channels_as (λ k. length (s k ++ t k)) (λ k. length (r k ++ u k)) (λ k. length (s k) + length (t k)) (λ k. length (r k) + length (u k)) (λ k. length-append (s k) (t k)) (λ k. length-append (r k) (u k)) 0 p.channels
+      ∙ channels_sum (λ k. length (s k)) (λ k. length (r k)) (λ k. length (t k)) (λ k. length (u k)) 0 p.channels in
       let vars =
-          vars_as (λ x. length (w x ++ z x)) (λ x. length (w x) + length (z x)) (λ x. length-append (w x) (z x)) 0 p.vars
-          ∙ vars_sum (λ x. length (w x)) (λ x. length (z x)) 0 p.vars in
+      vars_as (λ x. length (w x ++ z x)) (λ x. length (w x) + length (z x)) (λ x. length-append (w x) (z x)) 0 p.vars
+      ∙ vars_sum (λ x. length (w x)) (λ x. length (z x)) 0 p.vars in
       omega (arith, channels, vars)
 
   share_none : share (λ k. []) (λ k. []) (λ x. []) ≡ 0

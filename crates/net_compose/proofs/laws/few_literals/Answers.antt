@@ -1,4 +1,5 @@
 use Rattle.net_compose.proofs.NetLiterals.{few_literals}
+use Rattle.net_compose.proofs.NetNames.{trial}
 use Rattle.net_compose.proofs.laws.few_literals.Goals as goal
 
 pub returns : goal.returns
