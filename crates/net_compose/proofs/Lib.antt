@@ -18,6 +18,7 @@ pub mod Sizes
 pub mod GuardCosts
 pub mod NetLiterals
 pub mod NetNames
+pub mod NetFilled
 pub mod HalvedNumbers
 pub mod HalvedCarried
 pub mod ResetCarried

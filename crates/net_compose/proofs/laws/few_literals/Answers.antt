@@ -1,5 +1,6 @@
 use Rattle.net_compose.proofs.NetLiterals.{few_literals}
 use Rattle.net_compose.proofs.NetNames.{trial}
+use Rattle.net_compose.proofs.NetFilled.{all_filled}
 use Rattle.net_compose.proofs.laws.few_literals.Goals as goal
 
 pub returns : goal.returns
