@@ -1,6 +1,5 @@
 -- What follows from the way in which a call ended.
 use Rattle.std.proofs.Common.{◌≡◌, ◌≢◌, ℕ, ◌≤◌, List, [], ◌++◌, length, take, Bool, true, false, Option, Some, None, ◌⊎◌, inl, inr, refl, sym, ap, subst}
-use Rattle.std.specs.Prelude.{Contains}
 use Rattle.chp_edge.specs.Faults.{Rose, IsReadFault}
 use Rattle.chp_cli.specs.declared.answer.Ending.{Ending}
 use Rattle.chp_cli.specs.declared.answer.Ending.TheVariants as ending

@@ -1,5 +1,5 @@
 -- Where nothing speaks against it, a command writes.
-use Rattle.std.proofs.Common.{◌≡◌, ◌∙◌, ℕ, List, true, None, Some, refl, sym, ap, subst}
+use Rattle.std.proofs.Common.{◌≡◌, ◌∙◌, ℕ, List, true, refl, ap, subst}
 use Rattle.chp_syntax.specs.Reading.{Reads}
 use Rattle.net_compose.specs.Built.{is_built}
 use Rattle.prs_core.specs.Nets.{NetValue}

@@ -161,8 +161,9 @@ module _ (d : Decl) (bit_d : IsBit d) (chan : Ident) (n : ℕ) (at : Span) (same
   wide_no : (w v : ℕ) → w ≡ 1 → v ≡ n → 2 ^ w ≤ v → ⊥
   wide_no w v e f h = let g : 2 ^ w ≡ 2 ^ 1 = ap (λ x. 2 ^ x) e in absurd (omega (arith, small, f, g, h))
 
-  pub accepted_is : (procs : List Procedure) → IsAccepted (record { decls = d ∷ []; procs = procs; body = sends chan (number n at) })
-  accepted_is procs = record {
+  pub accepted_is : IsAccepted (record { decls = d ∷ []; procs = []; body = sends chan (number n at) })
+  accepted_is = record {
+    call_free = record { procs = refl; body = refl };
     named = (
       (λ s f. no_second f.earlier f.later f.second f.order f.second_is),
       (
@@ -216,11 +217,11 @@ module _ (d : Decl) (bit_d : IsBit d) (chan : Ident) (n : ℕ) (at : Span) (same
           here (inl g) = absurd (cc g.1)
           here (inr g) = g
 
-      no_misfit : (s : Span) → ¬ FaultAt (record { decls = d ∷ []; procs = procs; body = sends chan (number n at) }) code.Width s
+      no_misfit : (s : Span) → ¬ FaultAt (record { decls = d ∷ []; procs = []; body = sends chan (number n at) }) code.Width s
       no_misfit s (inl f) = leaf_fits f.leaf (only (expect (number n at) (declared_width (d ∷ []) chan.name)) f.leaf f.among) f.misfit
       no_misfit s (inr f) = none f.receive f.among
 
-      no_wide : (s : Span) → ¬ FaultAt (record { decls = d ∷ []; procs = procs; body = sends chan (number n at) }) code.ConstantTooWide s
+      no_wide : (s : Span) → ¬ FaultAt (record { decls = d ∷ []; procs = []; body = sends chan (number n at) }) code.ConstantTooWide s
       no_wide s (inl f) =
           let e = only (expect (number n at) (declared_width (d ∷ []) chan.name)) (expect (number f.value s) f.width) f.among in
           let v : n ≡ f.value = ap (λ (x : Expected). number_in x.expression) e in

@@ -29,6 +29,7 @@ none_in x (k, below, is) = absurd (omega arith)
 
 skip_accepted : (at : Span) → IsAccepted (record { decls = []; procs = []; body = skips at })
 skip_accepted at = record {
+  call_free = record { procs = refl; body = refl };
   named = (
     (λ s d. absurd (cc d.second_is)),
     (
@@ -103,7 +104,7 @@ form_of p name bit f =
     let here : HasForm (record { decls = f.decl ∷ []; procs = []; body = sends s.chan (number s.value s.at) }) f.decl.name.name bit = record {
       at = s.chan.at;
       typed = typed_is f.decl d s.chan s.value s.at s.same s.small bit s.bit [];
-      accepted = accepted_is f.decl d s.chan s.value s.at s.same s.small [];
+      accepted = accepted_is f.decl d s.chan s.value s.at s.same s.small;
       named = d.name;
     } in
     subst (λ n. HasForm p n bit) (sym f.name_is)

@@ -1,4 +1,5 @@
 pub mod Examples
+pub mod BranchExamples
 pub mod NameLemmas
 pub mod Nothing
 pub mod FlatTrees
