@@ -20,6 +20,7 @@ pub mod GuardCosts
 pub mod NetLiterals
 pub mod NetNames
 pub mod NetFilled
+pub mod NetHolds
 pub mod HalvedNumbers
 pub mod HalvedCarried
 pub mod ResetCarried

@@ -74,7 +74,7 @@ pub data Key : Type 0 where
   plain : ℕ → Key
   dotted : Line → Tail → Key
 
-abbrev channel_name : List Channel → ℕ → List ℕ
+abbrev pub channel_name : List Channel → ℕ → List ℕ
 channel_name [] k = []
 channel_name (c ∷ cs) zero = c.name
 channel_name (c ∷ cs) (suc k) = channel_name cs k
@@ -210,7 +210,7 @@ abbrev line_place : TypedProgram → Line → ℕ
 line_place p (of_channel k) = k
 line_place p (of_var x) = length p.channels + x
 
-channel_name_at : (cs : List Channel) (more : List (List ℕ)) (k : ℕ) → k < length cs → get_or (map (λ (c : Channel). c.name) cs ++ more) k [] ≡ channel_name cs k
+pub channel_name_at : (cs : List Channel) (more : List (List ℕ)) (k : ℕ) → k < length cs → get_or (map (λ (c : Channel). c.name) cs ++ more) k [] ≡ channel_name cs k
 channel_name_at [] more k h = absurd (omega (arith, h))
 channel_name_at (c ∷ cs) more zero h = refl
 channel_name_at (c ∷ cs) more (suc k) h = channel_name_at cs more k (omega (arith, h))
@@ -228,7 +228,7 @@ line_name_at : (p : TypedProgram) (l : Line) → IsDeclared p l → get_or (name
 line_name_at p (of_channel k) h = channel_name_at p.channels (map (λ (v : Var). v.name) p.vars) k h
 line_name_at p (of_var x) h = vars_behind p.channels (map (λ (v : Var). v.name) p.vars) x ∙ var_name_at p.vars x h
 
-names_count : (p : TypedProgram) → length (names_of p.channels p.vars) ≡ length p.channels + length p.vars
+pub names_count : (p : TypedProgram) → length (names_of p.channels p.vars) ≡ length p.channels + length p.vars
 names_count p =
     let e = length-append (map (λ (c : Channel). c.name) p.channels) (map (λ (v : Var). v.name) p.vars) in
     let c : length (map (λ (c : Channel). c.name) p.channels) ≡ length p.channels = length-map p.channels _ in
@@ -324,14 +324,14 @@ numbered_at from count i h = get_or-map numbered (range_with_len from count) i 0
 numbered_length : (from count : ℕ) → length (numbered_from from count) ≡ count
 numbered_length from count = length-map (range_with_len from count) numbered ∙ length-range_with_len from count
 
-abbrev rails_named : List ℕ → (from width : ℕ) → List (List ℕ)
+abbrev pub rails_named : List ℕ → (from width : ℕ) → List (List ℕ)
 rails_named name from width = flat_map (λ bit. true_rail name bit ∷ false_rail name bit ∷ []) (range_with_len from width)
 
-rails_length : (name : List ℕ) (from width : ℕ) → length (rails_named name from width) ≡ 2 * width
+pub rails_length : (name : List ℕ) (from width : ℕ) → length (rails_named name from width) ≡ 2 * width
 rails_length name from zero = refl
 rails_length name from (suc w) = let e = rails_length name (from + 1) w in omega (arith, e)
 
-abbrev rail_text : List ℕ → ℕ → Bool → List ℕ
+abbrev pub rail_text : List ℕ → ℕ → Bool → List ℕ
 rail_text name bit one = if one then true_rail name bit else false_rail name bit
 
 pub rail_at : (name : List ℕ) (from width i : ℕ) (one : Bool) → i < width → get_or (rails_named name from width) (rail_place i one) [] ≡ rail_text name (from + i) one
@@ -451,7 +451,7 @@ pub record Found (p : TypedProgram) (n : ℕ) : Type 0 where
   pub node_is : node p key ≡ n
 
 module _ (p : TypedProgram) (typed : IsTyped p.channels p.vars p.body) (small : nodes_of p ≤ 65536) where
-  abbrev blocks_and_body : List (List ℕ)
+  abbrev pub blocks_and_body : List (List ℕ)
   blocks_and_body = block_names p.vars (vars_from p) ++ numbered_from (root_request p) (2 + size_of p p.body)
 
   narrow_channel : (cs : List Channel) → All IsDeclaredChannel cs → (k : ℕ) → k < length cs → channel_width cs k ≤ 64
@@ -464,7 +464,7 @@ module _ (p : TypedProgram) (typed : IsTyped p.channels p.vars p.body) (small : 
   narrow_var (v ∷ vs) h zero lt = (All-head IsDeclaredVar v vs h).most
   narrow_var (v ∷ vs) h (suc x) lt = narrow_var vs (All-tail IsDeclaredVar v vs h) x (omega (arith, lt))
 
-  abbrev rail_side : Bool → ℕ
+  abbrev pub rail_side : Bool → ℕ
   rail_side true = 0
   rail_side false = 1
 
@@ -472,11 +472,11 @@ module _ (p : TypedProgram) (typed : IsTyped p.channels p.vars p.body) (small : 
   side_small true = omega arith
   side_small false = omega arith
 
-  rail_text_is : (name : List ℕ) (bit : ℕ) (one : Bool) → rail_text name (0 + bit) one ≡ name ++ 46 ∷ tail_text (a_bit bit (rail_side one))
+  pub rail_text_is : (name : List ℕ) (bit : ℕ) (one : Bool) → rail_text name (0 + bit) one ≡ name ++ 46 ∷ tail_text (a_bit bit (rail_side one))
   rail_text_is name bit true = ap (λ b. true_rail name b) (let e : 0 + bit ≡ bit = omega arith in e) ∙ named_is name (decimal bit) (side 0)
   rail_text_is name bit false = ap (λ b. false_rail name b) (let e : 0 + bit ≡ bit = omega arith in e) ∙ named_is name (decimal bit) (side 1)
 
-  rail_named : (k i : ℕ) (one : Bool) → k < length p.channels → i < channel_width p.channels k → get_or (wire_names p.channels ++ blocks_and_body) (wires_before p.channels k + rail_place i one) [] ≡ text p (dotted (of_channel k) (a_bit i (rail_side one)))
+  pub rail_named : (k i : ℕ) (one : Bool) → k < length p.channels → i < channel_width p.channels k → get_or (wire_names p.channels ++ blocks_and_body) (wires_before p.channels k + rail_place i one) [] ≡ text p (dotted (of_channel k) (a_bit i (rail_side one)))
   rail_named k i one h lt =
       let name = channel_name p.channels k in
       let w = channel_width p.channels k in
@@ -486,7 +486,7 @@ module _ (p : TypedProgram) (typed : IsTyped p.channels p.vars p.body) (small : 
       ∙ (get_or_append_left (rail_names name w) (ack_name name ∷ []) [] (rail_place i one) (omega (arith, below, n))
       ∙ (rail_at name 0 w i one lt ∙ rail_text_is name i one))
 
-  ack_named : (k : ℕ) → k < length p.channels → get_or (wire_names p.channels ++ blocks_and_body) (wires_before p.channels k + 2 * channel_width p.channels k) [] ≡ text p (dotted (of_channel k) the_ack)
+  pub ack_named : (k : ℕ) → k < length p.channels → get_or (wire_names p.channels ++ blocks_and_body) (wires_before p.channels k + 2 * channel_width p.channels k) [] ≡ text p (dotted (of_channel k) the_ack)
   ack_named k h =
       let name = channel_name p.channels k in
       let w = channel_width p.channels k in
@@ -639,7 +639,7 @@ module _ (p : TypedProgram) (typed : IsTyped p.channels p.vars p.body) (small : 
           at_body (j - blocks_before p.vars (length p.vars)) (omega (arith, is, le, lt)) (omega (arith, is, le)) (omega (arith, is, le)))
           (cases_lt j (blocks_before p.vars (length p.vars)))
 
-  count_of_names : length (node_names p) ≡ nodes_of p
+  pub count_of_names : length (node_names p) ≡ nodes_of p
   count_of_names =
       let w = wire_names_length p.channels in
       let b = block_names_length p.vars (vars_from p) in
@@ -663,6 +663,3 @@ module _ (p : TypedProgram) (typed : IsTyped p.channels p.vars p.body) (small : 
       let keys = key_same p typed r.key s.key r.fine s.fine texts in
       let nodes : i ≡ j = sym r.node_is ∙ (ap (node p) keys ∙ s.node_is) in
       absurd (omega (arith, less, nodes))
-
-pub trial : (p : TypedProgram) → IsTyped p.channels p.vars p.body → nodes_of p ≤ 65536 → All IsNodeName (node_names p) × AllPairs (λ (a b : List ℕ). a ≢ b) (node_names p)
-trial p t s = (each_is_name p t s, all_differ p t s)

@@ -198,11 +198,11 @@ mutual
 
 -- all rules
 
-rails_length : (sites : List (List Pair)) (place width : ℕ) → length (rail_rules sites place width) ≡ 2 * width
+pub rails_length : (sites : List (List Pair)) (place width : ℕ) → length (rail_rules sites place width) ≡ 2 * width
 rails_length sites place zero = refl
 rails_length sites place (suc n) = let e = rails_length sites (suc place) n in omega (arith, e)
 
-wires_length : (p : TypedProgram) (k width : ℕ) (kind : Kind) → length (channel_rules p k width kind) ≡ wires_size width
+pub wires_length : (p : TypedProgram) (k width : ℕ) (kind : Kind) → length (channel_rules p k width kind) ≡ wires_size width
 wires_length p k width In = both (replicate (2 * width) _) (_ ∷ []) _ 1 (length-replicate (2 * width) _) refl
 wires_length p k width Out = both (rail_rules (in_body p (send_site k)) 0 width) (_ ∷ []) _ 1 (rails_length _ 0 width) refl
 wires_length p k width Chan = both (rail_rules (in_body p (send_site k)) 0 width) (_ ∷ []) _ 1 (rails_length _ 0 width) refl

@@ -1,6 +1,5 @@
 use Rattle.net_compose.proofs.NetLiterals.{few_literals}
-use Rattle.net_compose.proofs.NetNames.{trial}
-use Rattle.net_compose.proofs.NetFilled.{all_filled}
+use Rattle.net_compose.proofs.NetHolds.{low_before}
 use Rattle.net_compose.proofs.laws.few_literals.Goals as goal
 
 pub returns : goal.returns
