@@ -3,10 +3,10 @@ use Rattle.std.proofs.Common.{◌≡◌, ℕ, Bool, true, false, List, refl, sym
 use Rattle.std.specs.Prelude.{not, ◌&&◌}
 use Rattle.width_check.specs.Processes.{Formula, Process, skipping, assigning, sending, receiving, in_turn, side_by_side, choosing, repeating, Processes, no_members, and_member, member_count}
 use Rattle.circuit_places.specs.Lines.{Line, of_channel, of_var, same_line, site_statement, line_width, Rails, Seen}
-use Rattle.circuit_places.specs.Circuit.{Site, SiteSpot, site_rule, low_site, gate_count, low_guarded, low, low_turn, low_bits, bit_at, joint_count, low_branches, branch_ends, same_bit, answer, GuardedSpot, Spot, TurnSpot, BranchSpot, child, latch, next, inner, of_skip, done, gate, of_assign, of_send, in_members, of_branch, joint, in_this, in_others, of_loop, ask, in_body, in_last, in_member, in_later, is_apart, gate_rule, guarded_rule, rule, turn_rule, branch_rule}
+use Rattle.circuit_places.specs.Circuit.{Port, PortSpot, low_port, port_rule, heard, stored, taking, of_receive, Site, SiteSpot, site_rule, low_site, gate_count, low_guarded, low, low_turn, low_bits, bit_at, joint_count, low_branches, branch_ends, same_bit, answer, GuardedSpot, Spot, TurnSpot, BranchSpot, child, latch, next, inner, of_skip, done, gate, of_assign, of_send, in_members, of_branch, joint, in_this, in_others, of_loop, ask, in_body, in_last, in_member, in_later, is_apart, gate_rule, guarded_rule, rule, turn_rule, branch_rule}
 use Rattle.circuit_places.proofs.RailLemmas.{gate_apart, fst_true, snd_true, same_value}
 use Rattle.circuit_places.proofs.Trees.{joint_apart}
-use Rattle.circuit_places.proofs.Places.{Mode, asks, acks, site_of, all_ask, GuardedAt, At, TurnAt, BranchesAt, g_rests, g_in, g_past, g_back, rests, at_skip, at_assign, at_send, at_turn, at_side, at_body, no_more, and_at, turn_rests, at_last, at_member, at_later, guarded_cells, cells, turn_cells, branch_cells, low_answer, next_is, link_asks, link_next}
+use Rattle.circuit_places.proofs.Places.{Mode, asks, acks, site_of, all_ask, GuardedAt, At, TurnAt, BranchesAt, g_rests, g_in, g_past, g_back, port_of, rests, at_skip, at_assign, at_send, at_receive, at_turn, at_side, at_body, no_more, and_at, turn_rests, at_last, at_member, at_later, guarded_cells, cells, turn_cells, branch_cells, low_answer, next_is, link_asks, link_next}
 
 both_of : (r u : Bool) → not ((r && not u) && u) ≡ true
 both_of true true = refl
@@ -40,6 +40,16 @@ site_apart : (e : Formula) (bits : ℕ → Rails) (ack r : Bool) (x : Site (gate
 site_apart e bits ack r x done = ack_apart r ack
 site_apart e bits ack r x (gate i one) = gate_apart e bits r x.gates i one
 
+take_apart : (r b : Bool) → not ((r && b) && (not r && not b)) ≡ true
+take_apart true true = refl
+take_apart true false = refl
+take_apart false b = refl
+
+port_apart : (rail : Rails) (ack va r : Bool) (x : Port) (s : PortSpot) → is_apart (port_rule rail ack va r x s) ≡ true
+port_apart rail ack va r x heard = ack_apart r ack
+port_apart rail ack va r x stored = ack_apart r va
+port_apart rail ack va r x (taking i one) = take_apart r (rail i one)
+
 mutual
   low_guarded_apart : (p : Process) (env : Seen) (s : GuardedSpot p) → is_apart (guarded_rule p env false (low_guarded (low p)) s) ≡ true
   low_guarded_apart p env child = refl
@@ -55,7 +65,7 @@ mutual
   low_apart (repeating p) env of_loop = refl
   low_apart (repeating p) env ask = refl
   low_apart (repeating p) env (in_body s) = low_apart p env s
-  low_apart (receiving c at x to) env s = refl
+  low_apart (receiving c at x to) env (of_receive s) = port_apart (env.rail (of_channel c)) (env.ack (of_channel c)) (env.ack (of_var x)) false low_port s
   low_apart (side_by_side members) env (of_branch s) = low_branch_apart members env s
   low_apart (side_by_side members) env (joint k) = joint_apart (member_count members) (branch_ends members (low_branches members)) (bit_at (joint_count (member_count members)) (low_bits (joint_count (member_count members)))) k
   low_apart (choosing again _) env s = refl
@@ -92,6 +102,7 @@ mutual
   own_apart env (at_skip m h) of_skip = either_way (asks m)
   own_apart env (at_assign {x = x} {e = e} m u h) (of_assign s) = site_apart e env.bit (env.ack (of_var x)) (asks m) (site_of e (acks m) u) s
   own_apart env (at_send {c = c} {e = e} m u h) (of_send s) = site_apart e env.bit (env.ack (of_channel c)) (asks m) (site_of e (acks m) u) s
+  own_apart env (at_receive {c = c} {x = x} m k q h) (of_receive s) = port_apart (env.rail (of_channel c)) (env.ack (of_channel c)) (env.ack (of_var x)) (asks m) (port_of (acks m) k q) s
   own_apart env (at_turn t) (in_members s) = turn_apart env t s
   own_apart env (at_side m t b h) (of_branch s) = branch_apart env (asks m) b h.asked s
   own_apart env (at_side {members = members} m t b h) (joint k) = joint_apart (member_count members) (branch_ends members (branch_cells b)) (bit_at (joint_count (member_count members)) t) k

@@ -66,6 +66,10 @@ agreed true b h = sym h
 agreed false true h = absurd (cc h)
 agreed false false h = refl
 
+both_high : (a b : Bool) → a ≡ true → b ≡ true → (a && b) ≡ true
+both_high true b h k = k
+both_high false b h k = absurd (cc h)
+
 -- each move keeps a legal bit legal
 pub stays : (k : Role) (n : Now) → legal n ≡ true → may k n ≡ true → legal (turn k n) ≡ true
 stays rail_t n = implies_both (legal n) (may rail_t n) (legal (turn rail_t n)) (at_now (λ n. implies (legal n) (implies (may rail_t n) (legal (turn rail_t n)))) refl n)
@@ -87,6 +91,13 @@ acknowledged n = record n { va = not n.va }
 
 pub stays_after : (n : Now) → legal n ≡ true → n.wa ≡ not n.va → legal (acknowledged n) ≡ true
 stays_after n l e = implies_both (legal n) (agree n.wa (not n.va)) (legal (acknowledged n)) (at_now (λ n. implies (legal n) (implies (agree n.wa (not n.va)) (legal (acknowledged n)))) refl n) l (agree_from n.wa (not n.va) e)
+
+-- while the acknowledge is high a rail by which the bit is written says what the bit has
+pub held_t : (n : Now) → legal n ≡ true → n.va ≡ true → n.wt ≡ true → n.xt ≡ true
+held_t n l a h = implies_both (legal n) (n.va && n.wt) n.xt (at_now (λ n. implies (legal n) (implies (n.va && n.wt) n.xt)) refl n) l (both_high n.va n.wt a h)
+
+pub held_f : (n : Now) → legal n ≡ true → n.va ≡ true → n.wf ≡ true → n.xf ≡ true
+held_f n l a h = implies_both (legal n) (n.va && n.wf) n.xf (at_now (λ n. implies (legal n) (implies (n.va && n.wf) n.xf)) refl n) l (both_high n.va n.wf a h)
 
 -- that node leaves the acknowledge's value
 pub written_as_acknowledged : (n : Now) → legal n ≡ true → may written n ≡ true → n.wa ≡ n.va

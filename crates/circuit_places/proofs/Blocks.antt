@@ -8,8 +8,8 @@ use Rattle.prs_core.specs.Parts.{Owned, turned}
 use Rattle.prs_core.specs.Turning.{turned_apart, none_among}
 use Rattle.cell_parallel.specs.Trees.{tree_owned}
 use Rattle.circuit_places.specs.Lines.{Rails}
-use Rattle.circuit_places.specs.Circuit.{joint_count, tree_value, tree_answer, fires, is_apart, same_bit}
-use Rattle.circuit_places.specs.Whole.{bit_rule, wrote_rule, rails_turned, value_on, neutral_on}
+use Rattle.circuit_places.specs.Circuit.{joint_count, tree_value, tree_answer, fires, is_apart, same_bit, rails_turned}
+use Rattle.circuit_places.specs.Whole.{bit_rule, wrote_rule, value_on, neutral_on}
 use Rattle.circuit_places.proofs.RailLemmas.{fst_true, snd_true, both_true, not_true}
 use Rattle.circuit_places.proofs.LineNames.{self_number, same_number}
 use Rattle.circuit_places.proofs.Flow.{cases}

@@ -2,7 +2,7 @@
 use Rattle.std.proofs.Common.{◌≡◌, ◌≢◌, ℕ, ◌<◌, ◌≤◌, ◌==◌, Bool, true, false, refl, sym, ap, ◌∙◌, inl, arith}
 use Rattle.std.specs.Prelude.{◌&&◌}
 use Rattle.chp_base.specs.declared.span.Span.{Span}
-use Rattle.width_check.specs.Processes.{Formula, skipping, assigning, sending}
+use Rattle.width_check.specs.Processes.{Formula, skipping, assigning, sending, TypedProgram}
 use Rattle.width_check.specs.Values.{width_of}
 use Rattle.chp_meaning.specs.Terms.{Term, finished, active}
 use Rattle.function_blocks.specs.Rails.{Pairs, turned_pairs, low_pairs}
@@ -55,7 +55,7 @@ pub data SiteAfter (k : Line) (e : Formula) (env : Seen) (m : Mode) (u : Pairs (
       → ((t : Term) → finished ≡ waits m (env.ack k) t) → under_way m (env.ack k) ≡ false
       → ((q : SiteSpot e) → q ≢ s → site_moves env k e m u q ≡ false) → SiteAfter k e env m u s
 
-module _ (k : Line) (e : Formula) (env : Seen) (clean : Clean env) (known : Waves e) where
+module _ (P : TypedProgram) (k : Line) (e : Formula) (env : Seen) (clean : Clean P env) (known : Waves e) where
   at_line : (j : Line) (x b : Bool) → env.ack k ≡ b → (same_line k j && x) ≡ true → env.ack j ≡ b
   at_line j x b l o = ap env.ack (sym (same_line_is k j (fst_true (same_line k j) x o))) ∙ l
 
@@ -157,13 +157,13 @@ module _ (k : Line) (e : Formula) (env : Seen) (clean : Clean env) (known : Wave
   site_after running u h (gate i one) f z = rises u i one f z
   site_after returning u h done f z = leaves u f (not_true (env.ack k) z)
   site_after returning u h (gate i one) f z = falls u i one f z
-  site_after answered u h s f z = absurd (cc (site_answered_moves env clean k e u h f s, z))
+  site_after answered u h s f z = absurd (cc (site_answered_moves P env clean k e u h f s, z))
   site_after idle u h s f z = absurd (cc h.may)
 
 -- so of a send, and of an assignment
-pub send_after : (c : ℕ) (at : Span) (e : Formula) (env : Seen) → Clean env → (m : Mode) (u : Pairs (gate_count e)) (h : SiteMay e m u) (s : SiteSpot e) → SiteFits (of_channel c) e m u env → site_moves env (of_channel c) e m u s ≡ true
+pub send_after : (P : TypedProgram) (c : ℕ) (at : Span) (e : Formula) (env : Seen) → Clean P env → (m : Mode) (u : Pairs (gate_count e)) (h : SiteMay e m u) (s : SiteSpot e) → SiteFits (of_channel c) e m u env → site_moves env (of_channel c) e m u s ≡ true
     → After (sending c at e) m env (at_send m u h) (of_send s)
-send_after c at e env clean m u h s f z = by (site_after (of_channel c) e env clean h.known m u h s f z)
+send_after P c at e env clean m u h s f z = by (site_after P (of_channel c) e env clean h.known m u h s f z)
   where
     by : SiteAfter (of_channel c) e env m u s → After (sending c at e) m env (at_send m u h) (of_send s)
     by (site_goes n x may same way fits flow left writes keeps) = record { mode = n; to = at_send n x may; same = same; way = way; fits = fits; flow = flow; term = inl (left _); frees = λ y i. refl; keeps = kept }
@@ -175,9 +175,9 @@ send_after c at e env clean m u h s f z = by (site_after (of_channel c) e env cl
         kept : (q : Spot (sending c at e)) → q ≢ of_send s → moves env (at_send {c = c} {at = at} {e = e} m u h) q ≡ true → moves env (rests {p = sending c at e}) q ≡ true
         kept (of_send q) ne z = absurd (cc (keeps q (λ (i : q ≡ s). ne (ap (λ y. of_send y) i)), z))
 
-pub assign_after : (x : ℕ) (at : Span) (e : Formula) (env : Seen) → Clean env → (m : Mode) (u : Pairs (gate_count e)) (h : SiteMay e m u) (s : SiteSpot e) → SiteFits (of_var x) e m u env → site_moves env (of_var x) e m u s ≡ true
+pub assign_after : (P : TypedProgram) (x : ℕ) (at : Span) (e : Formula) (env : Seen) → Clean P env → (m : Mode) (u : Pairs (gate_count e)) (h : SiteMay e m u) (s : SiteSpot e) → SiteFits (of_var x) e m u env → site_moves env (of_var x) e m u s ≡ true
     → After (assigning x at e) m env (at_assign m u h) (of_assign s)
-assign_after x at e env clean m u h s f z = by (site_after (of_var x) e env clean h.known m u h s f z)
+assign_after P x at e env clean m u h s f z = by (site_after P (of_var x) e env clean h.known m u h s f z)
   where
     by : SiteAfter (of_var x) e env m u s → After (assigning x at e) m env (at_assign m u h) (of_assign s)
     by (site_goes n a may same way fits flow left writes keeps) = record { mode = n; to = at_assign n a may; same = same; way = way; fits = fits; flow = flow; term = inl (left _); frees = λ y i. ap (λ b. (x == y) && b) writes ∙ i; keeps = kept }

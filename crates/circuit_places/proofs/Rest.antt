@@ -2,19 +2,19 @@
 use Rattle.std.proofs.Common.{◌≡◌, ◌≢◌, ℕ, zero, suc, ◌<◌, ◌≤◌, ◌==◌, Bool, true, false, List, ◌∷◌, refl, sym, ap, ◌∙◌, subst}
 use Rattle.std.specs.Prelude.{not, ◌&&◌, ◌||◌, if◌then◌else◌, Some, is_some}
 use Rattle.chp_base.specs.declared.span.Span.{Span}
-use Rattle.width_check.specs.Processes.{Formula, Process, assigning, sending, side_by_side, Processes, and_member, member_count, TypedProgram}
+use Rattle.width_check.specs.Processes.{Formula, Process, assigning, sending, receiving, side_by_side, Processes, and_member, member_count, TypedProgram}
 use Rattle.chp_meaning.specs.Terms.{Term, Terms, and_branch, is_finished, all_finished, together, finished, active, in_sequence, in_parallel, followed, Place, here as at_here, in_first, in_branch, statement_at, branch_at}
-use Rattle.circuit_places.specs.Lines.{Line, of_channel, of_var, same_line, site_statement, line_width, Rails, Seen}
-use Rattle.circuit_places.specs.Circuit.{Pairs, gate_count, SiteSpot, Bits, bit_at, joint_count, same_bit, GuardedSpot, Spot, TurnSpot, BranchSpot, child, latch, next, inner, of_skip, done, gate, of_assign, of_send, in_members, of_branch, joint, in_this, in_others, ask, in_body, in_last, in_member, in_later}
+use Rattle.circuit_places.specs.Lines.{Line, of_channel, of_var, same_line, line_width, Rails, Seen}
+use Rattle.circuit_places.specs.Circuit.{Pairs, gate_count, SiteSpot, PortSpot, heard, stored, taking, Bits, bit_at, joint_count, same_bit, GuardedSpot, Spot, TurnSpot, BranchSpot, child, latch, next, inner, of_skip, done, gate, of_assign, of_send, of_receive, in_members, of_branch, joint, in_this, in_others, ask, in_body, in_last, in_member, in_later}
 use Rattle.width_check.specs.Typing.{var_width}
 use Rattle.function_blocks.specs.Waves.{out_rail}
 use Rattle.circuit_places.specs.Whole.{is_merged, value_on}
 use Rattle.circuit_places.proofs.RailLemmas.{fst_true, snd_true, same_value, both_true, never_and, value_same, empty_low}
-use Rattle.circuit_places.proofs.Places.{Mode, idle, running, answered, returning, asks, acks, SiteMay, all_ask, all_ack, ends, SideMay, GuardedAt, At, TurnAt, BranchesAt, g_rests, g_in, g_past, g_back, rests, at_skip, at_assign, at_send, at_turn, at_side, at_body, no_more, and_at, turn_rests, at_last, at_member, at_later, Shown, both_shown, guarded_shown, shown, turn_shown, branches_shown, site_shown, site_moves, SiteFits, GuardedFits, Fits, TurnFits, BranchesFit, guarded_moves, moves, turn_moves, branch_moves}
-use Rattle.circuit_places.proofs.Meets.{HasLine, SiteMeets, Meets, TurnMeets, EachMeets}
+use Rattle.circuit_places.proofs.Places.{Mode, idle, running, answered, returning, asks, acks, SiteMay, all_ask, all_ack, ends, SideMay, GuardedAt, At, TurnAt, BranchesAt, g_rests, g_in, g_past, g_back, rests, at_skip, at_assign, at_send, at_receive, at_turn, at_side, at_body, no_more, and_at, turn_rests, at_last, at_member, at_later, Shown, both_shown, guarded_shown, shown, turn_shown, branches_shown, site_shown, site_moves, SiteFits, port_may, port_shown, port_moves, PortFits, GuardedFits, Fits, TurnFits, BranchesFit, guarded_moves, moves, turn_moves, branch_moves}
+use Rattle.circuit_places.proofs.Meets.{HasLine, SiteMeets, PortMeets, Meets, TurnMeets, EachMeets}
 use Rattle.circuit_places.proofs.Left.{waits, again, guarded_left, left, turn_left, branches_left, guarded_left_past, inside_stands, some_stands}
-use Rattle.circuit_places.proofs.Flow.{or_left, or_right}
-use Rattle.circuit_places.proofs.LineNames.{self_number, same_number, self_line, same_line_is}
+use Rattle.circuit_places.proofs.Flow.{low_of, or_left, or_right}
+use Rattle.circuit_places.proofs.LineNames.{self_number, self_line}
 use Rattle.circuit_places.proofs.Begin.{ends_high}
 use Rattle.circuit_places.proofs.Talks.{Beside, beside, or_false_left, or_false_right}
 use Rattle.circuit_places.proofs.Trees.{waits_on}
@@ -28,13 +28,27 @@ pub record Full (P : TypedProgram) (k : Line) (env : Seen) (x : Shown) : Type 0 
   pub talks : x.talk k ≡ true
   pub whole : is_some (value_on (line_width P k) (x.offer k)) ≡ true
 
--- a send whose site is so
-pub record Blocked (P : TypedProgram) (s : Process) (env : Seen) (x : Shown) : Type 0 where
-  pub channel : ℕ
-  pub span : Span
-  pub expression : Formula
-  pub site : Full P (of_channel channel) env x
-  pub is : s ≡ sending channel span expression
+-- A receive that waits for a value has all the rails that are there, and has stored where the variable is written.
+pub record Listening (P : TypedProgram) (c v : ℕ) (env : Seen) (x : Shown) : Type 0 where
+  pub meets : PortMeets P c v
+  pub low : env.ack (of_channel c) ≡ false
+  pub talks : x.talk (of_var v) ≡ true
+  pub all : (i : ℕ) (one : Bool) → env.rail (of_channel c) i one ≡ true → x.offer (of_var v) i one ≡ true
+  pub has : env.ack (of_var v) ≡ true → x.take c ≡ true
+
+-- One that has let go holds no rail that is low, and has its value until the variable isn't written.
+pub record Releasing (P : TypedProgram) (c v : ℕ) (env : Seen) (x : Shown) : Type 0 where
+  pub meets : PortMeets P c v
+  pub high : env.ack (of_channel c) ≡ true
+  pub talks : x.talk (of_var v) ≡ true
+  pub hears : x.listen c ≡ true
+  pub all : (i : ℕ) (one : Bool) → x.offer (of_var v) i one ≡ true → env.rail (of_channel c) i one ≡ true
+  pub has : x.take c ≡ true → env.ack (of_var v) ≡ true
+
+-- a send or a receive that waits
+pub data Blocked (P : TypedProgram) (s : Process) (env : Seen) (x : Shown) : Type 0 where
+  a_send : (c : ℕ) (at : Span) (e : Formula) → Full P (of_channel c) env x → s ≡ sending c at e → Blocked P s env x
+  a_receive : (c v : ℕ) (at to : Span) → Listening P c v env x → s ≡ receiving c at v to → Blocked P s env x
 
 -- each bit of each variable has a rail high
 abbrev pub Valid : TypedProgram → Seen → Type 0
@@ -46,10 +60,11 @@ pub record Waiting (P : TypedProgram) (t : Term) (env : Seen) (x : Shown) : Type
   pub blocked : (at : Place) (s : Process) → statement_at t at ≡ Some s → Blocked P s env x
 
 -- what others are to move on: a site that let go of its rails, whose acknowledge is high, or an assignment that isn't
--- stored
+-- stored, or a receive that lets go
 pub data Hanging (P : TypedProgram) (env : Seen) (x : Shown) : Type 0 where
   let_go : (k : Line) → env.ack k ≡ true → x.talk k ≡ true → ((i : ℕ) (one : Bool) → x.offer k i one ≡ false) → Hanging P env x
   unstored : (v : ℕ) → Full P (of_var v) env x → Hanging P env x
+  holding : (c v : ℕ) → Releasing P c v env x → Hanging P env x
 
 pub data Rest (P : TypedProgram) (m : Mode) (t : Term) (env : Seen) (x : Shown) : Type 0 where
   settled : acks m ≡ asks m → Rest P m t env x
@@ -127,13 +142,67 @@ send_rest P env valid c at e running u h meets f n =
     waiting refl (subst (λ (t : Term). Waiting P t env (site_shown (of_channel c) e u)) (sym (ap (λ b. waits running b (active (sending c at e))) low)) (record { going = λ z. cc z; blocked = blocked }))
   where
     blocked : (place : Place) (s : Process) → statement_at (active (sending c at e)) place ≡ Some s → Blocked P s env (site_shown (of_channel c) e u)
-    blocked at_here s z = record { channel = c; span = at; expression = e; site = site_full P env valid (of_channel c) e u h meets f n; is = some_is z }
+    blocked at_here s z = a_send c at e (site_full P env valid (of_channel c) e u h meets f n) (some_is z)
       where
         some_is : Some (sending c at e) ≡ Some s → s ≡ sending c at e
         some_is z = cc z
     blocked (in_first place) s z = absurd (cc z)
     blocked (in_branch k place) s z = absurd (cc z)
 send_rest P env valid c at e returning u h meets f n = hanging (site_hangs P env valid (of_channel c) e u h f n)
+
+-- a receive that runs or returns
+module _ (P : TypedProgram) (env : Seen) (c x : ℕ) (l : Bool) (q : Rails) (meets : PortMeets P c x) where
+  port_waits : ((s : PortSpot) → port_moves env c x running l q s ≡ false) → Listening P c x env (port_shown c x l q)
+  port_waits n = record {
+    meets = meets;
+    low = n heard;
+    talks = self_line (of_var x);
+    all = λ i one h. both_true (same_line (of_var x) (of_var x)) (q i one) (self_number x) (by (q i one) (n (taking i one)) h);
+    has = λ v. both_true (c == c) l (self_number c) (kept l (n stored) v);
+  }
+    where
+      by : {r : Bool} (b : Bool) → (if b then not true && not r else true && r) ≡ false → r ≡ true → b ≡ true
+      by true z h = refl
+      by false z h = absurd (cc (z, h))
+
+      kept : {v : Bool} (b : Bool) → (if b then not v else true && v) ≡ false → v ≡ true → b ≡ true
+      kept true z h = refl
+      kept false z h = absurd (cc (z, h))
+
+  port_holds : ((s : PortSpot) → port_moves env c x returning l q s ≡ false) → Releasing P c x env (port_shown c x l q)
+  port_holds n = record {
+    meets = meets;
+    high = flip (env.ack (of_channel c)) (n heard);
+    talks = self_line (of_var x);
+    hears = self_number c;
+    all = λ i one h. by (q i one) (n (taking i one)) (snd_true (same_line (of_var x) (of_var x)) (q i one) h);
+    has = λ k. kept l (n stored) (snd_true (c == c) l k);
+  }
+    where
+      by : {r : Bool} (b : Bool) → (if b then not false && not r else false && r) ≡ false → b ≡ true → r ≡ true
+      by {r = r} true z h = flip r z
+      by false z h = absurd (cc h)
+
+      kept : {v : Bool} (b : Bool) → (if b then not v else false && v) ≡ false → b ≡ true → v ≡ true
+      kept {v = v} true z h = flip v z
+      kept false z h = absurd (cc h)
+
+receive_rest : (P : TypedProgram) (env : Seen) (c x : ℕ) (at to : Span) (m : Mode) (l : Bool) (q : Rails) → port_may m l ≡ true → PortMeets P c x → ((s : PortSpot) → port_moves env c x m l q s ≡ false)
+    → Rest P m (waits m (env.ack (of_channel c)) (active (receiving c at x to))) env (port_shown c x l q)
+receive_rest P env c x at to idle l q h meets n = absurd (cc h)
+receive_rest P env c x at to answered l q h meets n = settled refl
+receive_rest P env c x at to returning l q h meets n = hanging (holding c x (port_holds P env c x l q meets n))
+receive_rest P env c x at to running l q h meets n =
+    let low : env.ack (of_channel c) ≡ false = n heard in
+    waiting refl (subst (λ (t : Term). Waiting P t env (port_shown c x l q)) (sym (ap (λ b. waits running b (active (receiving c at x to))) low)) (record { going = λ z. cc z; blocked = blocked }))
+  where
+    blocked : (place : Place) (s : Process) → statement_at (active (receiving c at x to)) place ≡ Some s → Blocked P s env (port_shown c x l q)
+    blocked at_here s z = a_receive c x at to (port_waits P env c x l q meets n) (some_is z)
+      where
+        some_is : Some (receiving c at x to) ≡ Some s → s ≡ receiving c at x to
+        some_is z = cc z
+    blocked (in_first place) s z = absurd (cc z)
+    blocked (in_branch k place) s z = absurd (cc z)
 
 -- What one of several branches shows, all show, and no more of its line.
 module _ {p : Process} {more : Processes} (P : TypedProgram) (env : Seen) (x y : Shown) (s : Beside p more x y) where
@@ -158,10 +227,24 @@ module _ {p : Process} {more : Processes} (P : TypedProgram) (env : Seen) (x y :
   }
 
   this_blocked : (q : Process) → Blocked P q env x → Blocked P q env (both_shown x y)
-  this_blocked q b = record { channel = b.channel; span = b.span; expression = b.expression; site = this_full (of_channel b.channel) b.site; is = b.is }
+  this_blocked q (a_send c at e site is) = a_send c at e (this_full (of_channel c) site) is
+  this_blocked q (a_receive c v at to l is) = a_receive c v at to (record {
+      meets = l.meets;
+      low = l.low;
+      talks = or_left (x.talk (of_var v)) (y.talk (of_var v)) l.talks;
+      all = λ i one h. or_left (x.offer (of_var v) i one) (y.offer (of_var v) i one) (l.all i one h);
+      has = λ h. or_left (x.take c) (y.take c) (l.has h);
+    }) is
 
   others_blocked : (q : Process) → Blocked P q env y → Blocked P q env (both_shown x y)
-  others_blocked q b = record { channel = b.channel; span = b.span; expression = b.expression; site = others_full (of_channel b.channel) b.site; is = b.is }
+  others_blocked q (a_send c at e site is) = a_send c at e (others_full (of_channel c) site) is
+  others_blocked q (a_receive c v at to l is) = a_receive c v at to (record {
+      meets = l.meets;
+      low = l.low;
+      talks = or_right (x.talk (of_var v)) (y.talk (of_var v)) l.talks;
+      all = λ i one h. or_right (x.offer (of_var v) i one) (y.offer (of_var v) i one) (l.all i one h);
+      has = λ h. or_right (x.take c) (y.take c) (l.has h);
+    }) is
 
   this_hangs : Hanging P env x → Hanging P env (both_shown x y)
   this_hangs (unstored v f) = unstored v (this_full (of_var v) f)
@@ -169,11 +252,29 @@ module _ {p : Process} {more : Processes} (P : TypedProgram) (env : Seen) (x y :
       (or_left (x.talk k) (y.talk k) talks)
       (λ i one. or_false_left (x.offer k i one) (y.offer k i one) (none i one) ∙ s.none_theirs k i one (s.mine k talks))
 
+  this_hangs (holding c v r) = holding c v (record {
+      meets = r.meets;
+      high = r.high;
+      talks = or_left (x.talk (of_var v)) (y.talk (of_var v)) r.talks;
+      hears = or_left (x.listen c) (y.listen c) r.hears;
+      all = λ i one h. r.all i one (sym (or_false_right (x.offer (of_var v) i one) (y.offer (of_var v) i one) (s.none_theirs (of_var v) i one (s.mine (of_var v) r.talks))) ∙ h);
+      has = λ h. r.has (sym (or_false_right (x.take c) (y.take c) (low_of (y.take c) (s.taken_theirs c) (s.deaf_theirs c (s.hears_mine c r.hears)))) ∙ h);
+    })
+
   others_hang : Hanging P env y → Hanging P env (both_shown x y)
   others_hang (unstored v f) = unstored v (others_full (of_var v) f)
   others_hang (let_go k high talks none) = let_go k high
       (or_right (x.talk k) (y.talk k) talks)
       (λ i one. or_false_left (x.offer k i one) (y.offer k i one) (s.none_mine k i one (s.theirs k talks)) ∙ none i one)
+
+  others_hang (holding c v r) = holding c v (record {
+      meets = r.meets;
+      high = r.high;
+      talks = or_right (x.talk (of_var v)) (y.talk (of_var v)) r.talks;
+      hears = or_right (x.listen c) (y.listen c) r.hears;
+      all = λ i one h. r.all i one (sym (or_false_left (x.offer (of_var v) i one) (y.offer (of_var v) i one) (s.none_mine (of_var v) i one (s.theirs (of_var v) r.talks))) ∙ h);
+      has = λ h. r.has (sym (or_false_left (x.take c) (y.take c) (low_of (x.take c) (s.taken_mine c) (s.deaf_mine c (s.hears_theirs c r.hears)))) ∙ h);
+    })
 
 -- Branches in which nothing moves, under the request: all have ended, or some wait and the others have ended, or one
 -- hangs.
@@ -283,6 +384,7 @@ mutual
   rest P env valid (at_skip returning h) meets f n = absurd (cc (n of_skip))
   rest P env valid (at_assign {x = x} {at = at} {e = e} m u h) meets f n = assign_rest P env valid x at e m u h meets f (λ s. n (of_assign s))
   rest P env valid (at_send {c = c} {at = at} {e = e} m u h) meets f n = send_rest P env valid c at e m u h meets f (λ s. n (of_send s))
+  rest P env valid (at_receive {c = c} {x = x} {at = at} {to = to} m l q h) meets f n = receive_rest P env c x at to m l q h meets (λ s. n (of_receive s))
   rest P env valid (at_turn t) meets f n = turn_rest P env valid t meets f (λ s. n (in_members s))
   rest P env valid (at_side idle t b h) meets f n = absurd (cc h.awake)
   rest P env valid (at_side answered t b h) meets f n = settled refl

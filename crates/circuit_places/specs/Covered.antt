@@ -1,18 +1,19 @@
 -- The programs whose circuits are proved so far.
-use Rattle.std.specs.Prelude.{◌≡◌, false, All}
+use Rattle.std.specs.Prelude.{◌≡◌, ◌≢◌, false, All}
 use Rattle.chp_base.specs.declared.channel.Channel.{Channel}
-use Rattle.chp_base.specs.declared.channel.Kind.TheVariants.{Out}
-use Rattle.width_check.specs.Processes.{Process, skipping, assigning, sending, in_turn, side_by_side, repeating, Processes, no_members, and_member, TypedProgram}
+use Rattle.chp_base.specs.declared.channel.Kind.TheVariants.{Chan}
+use Rattle.width_check.specs.Processes.{Process, skipping, assigning, sending, receiving, in_turn, side_by_side, repeating, Processes, no_members, and_member, TypedProgram}
 use Rattle.width_check.specs.Reads.{reads}
 use Rattle.width_check.specs.Sharing.{MeetsSharing}
 
--- skip, sends, assignments that don't read their own target, sequences, parallel compositions and loops that go on for
--- ever
+-- skip, sends, receives, assignments that don't read their own target, sequences, parallel compositions and loops that go
+-- on for ever
 abbrev mutual
   pub IsCovered : Process → Type 0
   IsCovered skipping = Unit {0}
   IsCovered (assigning var at e) = reads var e ≡ false
   IsCovered (sending chan at e) = Unit {0}
+  IsCovered (receiving chan chan_at var var_at) = Unit {0}
   IsCovered (in_turn members) = AreCovered members
   IsCovered (side_by_side members) = AreCovered members
   IsCovered (repeating p) = IsCovered p
@@ -22,8 +23,8 @@ abbrev mutual
   AreCovered no_members = Unit {0}
   AreCovered (and_member p more) = IsCovered p × AreCovered more
 
--- over channels on which the environment receives, under the sharing rule
+-- over channels at whose other end is the environment, under the sharing rule
 pub record Covered (P : TypedProgram) : Type 0 where
-  pub channels : All (λ (c : Channel). c.kind ≡ Out) P.channels
+  pub channels : All (λ (c : Channel). c.kind ≢ Chan) P.channels
   pub body : IsCovered P.body
   pub sharing : MeetsSharing P.body

@@ -3,8 +3,6 @@
 
 mod count;
 mod expr;
-#[cfg(test)]
-mod tests;
 
 pub use count::count_nodes;
 pub use expr::{expr_nodes, operator_nodes, reads};

@@ -254,7 +254,7 @@ bit_typed name at b is = record {
 
 pub bit_covered : (name : List ℕ) (at : Span) (b : Bool) → Covered (bit_program name at b)
 bit_covered name at b = record {
-  channels = All-cons (λ (c : Channel). c.kind ≡ kind.Out) (record { name = name; kind = kind.Out; width = 1 }) [] refl (All-nil (λ (c : Channel). c.kind ≡ kind.Out));
+  channels = All-cons (λ (c : Channel). c.kind ≢ kind.Chan) (record { name = name; kind = kind.Out; width = 1 }) [] (λ e. cc e) (All-nil (λ (c : Channel). c.kind ≢ kind.Chan));
   body = tt;
   sharing = record { variables = λ a b apart. absurd apart; sends = λ a b apart. absurd apart; receives = λ a b apart. absurd apart };
 }

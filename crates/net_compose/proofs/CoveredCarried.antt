@@ -28,7 +28,7 @@ use Rattle.chp_meaning.proofs.HalvedTyping.{typed_sized}
 use Rattle.chp_meaning.specs.Laws.{IsBehind, OneHistory, RoundsHold}
 use Rattle.handshake_expand.specs.Layout.{wires_before, var_from, channel_from, nodes_of, size_of, body_from, root_request, root_latch}
 use Rattle.circuit_places.specs.Covered.{Covered, IsCovered, AreCovered}
-use Rattle.circuit_places.specs.Circuit.{low, Spot, TurnSpot, BranchSpot, of_branch, joint, in_this, in_others, joint_count, child, latch, next, inner, of_skip, done, gate, of_assign, of_send, in_members, of_loop, ask, in_body, in_last, in_member, in_later, gate_count, stands, turn_stands, branch_stands}
+use Rattle.circuit_places.specs.Circuit.{of_receive, heard, stored, taking, low, Spot, TurnSpot, BranchSpot, of_branch, joint, in_this, in_others, joint_count, child, latch, next, inner, of_skip, done, gate, of_assign, of_send, in_members, of_loop, ask, in_body, in_last, in_member, in_later, gate_count, stands, turn_stands, branch_stands}
 use Rattle.circuit_places.specs.Whole.{first_bits, Whole, Node, go_node, own_node, rail_node, ack_node, bit_node, wrote_node, joint_node, is_node, enabled, moved, first_of, neutral_on, Reaches, at_first, by_move}
 use Rattle.circuit_places.specs.Carried.{IsAtRest, IsCarried, CircuitsCarry}
 use Rattle.net_compose.specs.Translation.{translation, sites_in, sites_in_turn, sites_in_branches, hidden_high, vars_high, in_body as in_program, first_values, rails_at, ack_at, wires_from}
@@ -92,7 +92,7 @@ below_told : (i n : ℕ) → nat_lt i n ≡ true → i < n
 below_told i n h = grind (arith, nat_tests)
 
 mutual
-  fine_spot : (P : TypedProgram) (p : Process) (s : Spot p) → stands s ≡ true → IsFine P p s
+  fine_spot : (P : TypedProgram) (p : Process) (s : Spot p) → stands P.channels s ≡ true → IsFine P p s
   fine_spot P skipping of_skip h = tt
   fine_spot P (sending chan at e) (of_send done) h = tt
   fine_spot P (sending chan at e) (of_send (gate i one)) h = below_told i (gate_count e) h
@@ -102,12 +102,14 @@ mutual
   fine_spot P (repeating p) (in_body s) h = fine_spot P p s h
   fine_spot P (assigning x at e) (of_assign done) h = tt
   fine_spot P (assigning x at e) (of_assign (gate i one)) h = below_told i (gate_count e) h
-  fine_spot P (receiving k at x to) s h = elim s [ ]
+  fine_spot P (receiving k at x to) (of_receive heard) h = tt
+  fine_spot P (receiving k at x to) (of_receive stored) h = tt
+  fine_spot P (receiving k at x to) (of_receive (taking i one)) h = below_told i (channel_width P.channels k) h
   fine_spot P (side_by_side members) (of_branch s) h = fine_branch P members s h
   fine_spot P (side_by_side members) (joint k) h = below_told k (joint_count (member_count members)) h
   fine_spot P (choosing again choices) s h = elim s [ ]
 
-  fine_branch : (P : TypedProgram) (members : Processes) (s : BranchSpot members) → branch_stands s ≡ true → IsFineBranch P members s
+  fine_branch : (P : TypedProgram) (members : Processes) (s : BranchSpot members) → branch_stands P.channels s ≡ true → IsFineBranch P members s
   fine_branch P no_members s h = elim s [ ]
   fine_branch P (and_member p more) (in_this child) h = tt
   fine_branch P (and_member p more) (in_this latch) h = tt
@@ -115,7 +117,7 @@ mutual
   fine_branch P (and_member p more) (in_this (inner s)) h = fine_spot P p s h
   fine_branch P (and_member p more) (in_others s) h = fine_branch P more s h
 
-  fine_turn : (P : TypedProgram) (members : Processes) (s : TurnSpot members) → turn_stands s ≡ true → IsFineTurn P members s
+  fine_turn : (P : TypedProgram) (members : Processes) (s : TurnSpot members) → turn_stands P.channels s ≡ true → IsFineTurn P members s
   fine_turn P no_members s h = elim s [ ]
   fine_turn P (and_member p no_members) (in_last s) h = fine_spot P p s h
   fine_turn P (and_member p (and_member q more)) (in_member child) h = tt
@@ -159,7 +161,7 @@ mutual
   none_hidden P (in_turn members) c from = none_hidden_turn P members c from
   none_hidden P (repeating p) c from = none_hidden P p c (from + 2)
   none_hidden P (assigning x at e) c from = ap (λ b. if b then high_first (var_width P.vars x) 0 from else []) c
-  none_hidden P (receiving k at x to) c from = absurd c
+  none_hidden P (receiving k at x to) c from = refl
   none_hidden P (side_by_side members) c from = none_hidden_branches P members c from
   none_hidden P (choosing again choices) c from = absurd c
 
@@ -279,10 +281,10 @@ module _ (P : TypedProgram) (given : Given P) where
           node = q.node;
           fine = q.fine;
           is = q.is;
-          may = sym (enabled_is P given st r.cells r.shows script fits q.node q.fine) ∙ (ap (move_enabled (translation P) script st) q.is ∙ on);
+          may = sym (enabled_is P given st r.cells r.shows script q.node q.fine) ∙ (ap (move_enabled (translation P) script st) q.is ∙ on);
         } in
         here)
-        (λ (le : nodes_of P ≤ n). absurd (cc (past_end P given st r.cells r.shows script fits n le, on)))
+        (λ (le : nodes_of P ≤ n). absurd (cc (past_end P given st r.cells r.shows script n le, on)))
         (cases_lt n (nodes_of P))
 
     next_shows : (st : RunState) (moves : ℕ) (r : Reached st moves) (n : ℕ) (m : Moving st moves r n) → Shows P given (moved_flat (translation P) st n) (moved P r.cells m.node)
@@ -317,15 +319,15 @@ module _ (P : TypedProgram) (given : Given P) where
           let q = moving st moves r m there in
           let still = safe.stable q.node p.node (λ (e : q.node ≡ p.node). ne (sym q.is ∙ (ap (number_of P given) e ∙ p.is))) q.may p.may in
           ap (move_enabled (translation P) script (moved_flat (translation P) st n)) (sym q.is)
-          ∙ (enabled_is P given (moved_flat (translation P) st n) (moved P r.cells p.node) (next_shows st moves r n p) script fits q.node q.fine ∙ still)
+          ∙ (enabled_is P given (moved_flat (translation P) st n) (moved P r.cells p.node) (next_shows st moves r n p) script q.node q.fine ∙ still)
 
       -- each channel keeps its phases
       module _ (st : RunState) (moves : ℕ) (r : Reached st moves) (n : ℕ) (on : move_enabled (translation P) script st n ≡ true) where
         may_rail : (k i : ℕ) (one : Bool) → k < length P.channels → i < channel_width P.channels k → n ≡ channel_from P k + rail_place i one → enabled P script r.cells (rail_node (of_channel k) i one) ≡ true
-        may_rail k i one hk hi e = sym (enabled_is P given st r.cells r.shows script fits (rail_node (of_channel k) i one) (hk, hi)) ∙ (ap (move_enabled (translation P) script st) (sym e) ∙ on)
+        may_rail k i one hk hi e = sym (enabled_is P given st r.cells r.shows script (rail_node (of_channel k) i one) (hk, hi)) ∙ (ap (move_enabled (translation P) script st) (sym e) ∙ on)
 
         may_ack : (k : ℕ) → k < length P.channels → n ≡ ack_at P k → enabled P script r.cells (ack_node k) ≡ true
-        may_ack k hk e = sym (enabled_is P given st r.cells r.shows script fits (ack_node k) hk) ∙ (ap (move_enabled (translation P) script st) (sym e) ∙ on)
+        may_ack k hk e = sym (enabled_is P given st r.cells r.shows script (ack_node k) hk) ∙ (ap (move_enabled (translation P) script st) (sym e) ∙ on)
 
         rail_keeps_phase : (k i : ℕ) (one : Bool) → k < length P.channels → i < channel_width P.channels k → n ≡ channel_from P k + rail_place i one
             → rail_keeps (high st.values) (ack_at P k) (channel_from P k + rail_place i one) (channel_from P k + rail_place i (not one)) ≡ true
@@ -392,7 +394,7 @@ module _ (P : TypedProgram) (given : Given P) where
       at_rest : (st : RunState) (moves : ℕ) (r : Reached st moves) → IsAtRestFlat (translation P) script st → IsAtRest P script r.cells
       at_rest st moves r still n stands_there =
           let f = fine_node P given n stands_there in
-          sym (enabled_is P given st r.cells r.shows script fits n f) ∙ still (number_of P given n)
+          sym (enabled_is P given st r.cells r.shows script n f) ∙ still (number_of P given n)
 
       module _ (steps_taken : (c d : Configuration) (at : Place) → step_at c at ≡ Some d → Step c at d) (append : (c d : Configuration) (n : ℕ) → Leads c n d → IsBehind c d) (one : OneHistory P script) (hold : RoundsHold P script) where
         following : (st : RunState) (moves : ℕ) → Reached st moves → IsFollowing st (rounds P script moves)
@@ -443,7 +445,7 @@ pub covered_carried : ((c d : Configuration) (at : Place) → step_at c at ≡ S
     → ((p : TypedProgram) (script : List OfferValue) → MeetsSharing p.body → OneHistory p script) → ((p : TypedProgram) (script : List OfferValue) → MeetsSharing p.body → RoundsHold p script)
     → CircuitsCarry → (P : TypedProgram) → IsTyped P.channels P.vars P.body → Covered P → Carries (translation P) P
 covered_carried steps_taken append one hold circuits P typed covered =
-    let given : Given P = record { typed = typed.body_is; covered = covered.body; out = covered.channels; some = have_bits P.vars typed.each_var } in
+    let given : Given P = record { typed = typed.body_is; covered = covered.body; some = have_bits P.vars typed.each_var } in
     let meets = covered.sharing in
     record {
       channels = same_channels P given 0 P.channels;

@@ -8,7 +8,7 @@ use Rattle.width_check.specs.Typing.{var_width}
 use Rattle.handshake_expand.specs.Layout.{var_from}
 use Rattle.cell_variable.specs.Variables.{high_first}
 use Rattle.circuit_places.specs.Circuit.{same_bit}
-use Rattle.circuit_places.specs.Whole.{first_bit, first_bits}
+use Rattle.circuit_places.specs.Whole.{number_rail, first_bits}
 use Rattle.net_compose.specs.Translation.{vars_high}
 use Rattle.net_compose.proofs.FlatBlocks.{side}
 
@@ -65,7 +65,7 @@ record HighBit (n v from m : ℕ) : Type 0 where
   pub one : Bool
   pub below : bit < n
   pub is : from + (5 * bit + side one) ≡ m
-  pub high : first_bit n v bit one ≡ true
+  pub high : number_rail n v bit one ≡ true
 
 bit_member : (n v from m : ℕ) → member m (high_first n v from) ≡ true → HighBit n v from m
 bit_member zero v from m h = absurd (cc h)
@@ -89,7 +89,7 @@ or_right : (a b : Bool) → b ≡ true → (a || b) ≡ true
 or_right true b h = refl
 or_right false b h = h
 
-bit_there : (n v from i : ℕ) (one : Bool) → first_bit n v i one ≡ true → member (from + (5 * i + side one)) (high_first n v from) ≡ true
+bit_there : (n v from i : ℕ) (one : Bool) → number_rail n v i one ≡ true → member (from + (5 * i + side one)) (high_first n v from) ≡ true
 bit_there zero v from i one h = absurd (cc h)
 bit_there (suc n) v from zero true h = or_left ((if v % 2 == 1 then from else from + 1) == (from + (5 * 0 + 0))) (member (from + (5 * 0 + 0)) (high_first n (v / 2) (from + 5)))
     (eq-eqb (if v % 2 == 1 then from else from + 1) (from + (5 * 0 + 0)) (ap (λ b. if b then from else from + 1) (sym (same_true (v % 2 == 1)) ∙ h) ∙ (let e : from ≡ from + (5 * 0 + 0) = omega arith in e)))

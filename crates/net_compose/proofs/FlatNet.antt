@@ -1,6 +1,6 @@
 -- The net of a covered program, read at its numbers, moves as its circuit of cells does.
 use Rattle.std.proofs.Common.{◌≡◌, ◌≢◌, ℕ, zero, suc, ◌+◌, ◌-◌, ◌*◌, ◌<◌, ◌≤◌, ◌==◌, Bool, true, false, List, [], ◌∷◌, ◌++◌, map, length, get_or, set, Option, Some, None, ◌⊎◌, inl, inr, refl, sym, ap, ◌∙◌, subst, arith, length-append, length-set, get_or-append-add, get_or-set_same, get_or-set_other, ⊎_elim}
-use Rattle.std.specs.Prelude.{not, ◌&&◌, ◌||◌, if◌then◌else◌, is_some}
+use Rattle.std.specs.Prelude.{not, ◌&&◌, ◌||◌, if◌then◌else◌, slice_get, is_some}
 use Rattle.std.specs.List.{list_any}
 use Rattle.std.proofs.lemmas.Bool.{cases_lt, cases_eq, eqb-true, eq-eqb, ne_eqb}
 use Rattle.std.proofs.lemmas.List.{get_or_past}
@@ -8,13 +8,13 @@ use Rattle.prs_core.specs.Nets.{NodeRules, up_of, down_of}
 use Rattle.prs_core.specs.Pairs.{pair_of, rails_of, no_rules, or_of}
 use Rattle.function_blocks.specs.Listed.{node_of}
 use Rattle.prs_core.specs.Moves.{high, guard_holds, rule_enabled, both_ways, fired, rail_value_of, neutral}
-use Rattle.env_script.specs.Scripts.{OfferValue, offer_at, is_over, IsScript}
-use Rattle.env_script.specs.Environment.{env_enabled, channels_move, valid}
+use Rattle.env_script.specs.Scripts.{OfferValue, gives, takes, nothing, offer_at, is_over}
+use Rattle.env_script.specs.Environment.{env_enabled, channels_move, offer_moves, lowers, raises_next, valid}
 use Rattle.env_script.specs.Runs.{RunState, history_at, completed, move_enabled, moved as moved_flat}
 use Rattle.width_check.specs.Processes.{TypedProgram}
-use Rattle.std.proofs.lemmas.List.Elements.{All-head, All-tail}
 use Rattle.chp_base.specs.declared.channel.Channel.{Channel}
-use Rattle.chp_base.specs.declared.channel.Kind.TheVariants.{Out}
+use Rattle.chp_base.specs.declared.channel.Kind.{Kind}
+use Rattle.chp_base.specs.declared.channel.Kind.TheVariants.{In, Out, Chan}
 use Rattle.width_check.specs.Typing.{IsProcess, channel_width, kind_at, var_width}
 use Rattle.width_check.specs.declared.typed.Var.{Var}
 use Rattle.circuit_places.specs.Lines.{of_channel, of_var, Rails}
@@ -25,13 +25,13 @@ use Rattle.net_compose.proofs.FlatBlocks.{Part, a_bit, a_put, a_mark, a_joint, o
 use Rattle.handshake_expand.specs.Layout.{block_size, var_from, wires_before, channel_from, blocks_before, root_request, root_latch, body_from, nodes_of, go_node as go_number}
 use Rattle.cell_sequence.specs.Sequence.{q_child, q_latch, q_next}
 use Rattle.circuit_places.specs.Covered.{IsCovered}
-use Rattle.circuit_places.specs.Circuit.{joint_count, tree_rule, answer, GuardedSpot, child, latch, next, inner, Rule, no_rule, fires, is_apart, same_bit, guarded_rule, rule, site_rails}
-use Rattle.circuit_places.specs.Whole.{Wires, line_ack, bit_rule, wrote_rule, bit_turned, wrote_turned, joint_turned, ack_turned, seen, is_sent, rails_turned, rail_turned, Whole, Node, go_node, own_node, rail_node, ack_node, bit_node, wrote_node, joint_node, merged, all_low, rule_in, answers, env_moves, enabled, moved, passed, value_on, neutral_on}
-use Rattle.net_compose.specs.Translation.{translation, all_rules, channels_rules, vars_rules, rules_of, in_body, write_site, bits_at, written_at, send_site, rails_at, ack_at, wires_from, body_answer}
+use Rattle.circuit_places.specs.Circuit.{joint_count, tree_rule, answer, GuardedSpot, child, latch, next, inner, Rule, no_rule, fires, is_apart, same_bit, guarded_rule, rule, site_rails, rails_turned, takers}
+use Rattle.circuit_places.specs.Whole.{Wires, line_ack, bit_rule, wrote_rule, bit_turned, wrote_turned, joint_turned, ack_turned, seen, is_sent, is_heard, rail_turned, Whole, Node, go_node, own_node, rail_node, ack_node, bit_node, wrote_node, joint_node, merged, all_low, rule_in, answers, offers, brings, number_rail, env_moves, enabled, moved, passed, value_on, neutral_on}
+use Rattle.net_compose.specs.Translation.{translation, all_rules, channels_rules, vars_rules, rules_of, in_body, write_site, bits_at, written_at, send_site, receive_site, rails_at, ack_at, wires_from, body_answer}
 use Rattle.net_compose.proofs.FlatCells.{bits, place, IsFine, length-bits, place_lt, rail_place, turned_is, spot_of}
 use Rattle.net_compose.proofs.FlatRules.{Stands, one_high, one_low, high_and_low, or_up, or_down, length-rules, answer_is, rule_is}
-use Rattle.net_compose.proofs.FlatSites.{at_site, sites_are}
-use Rattle.net_compose.proofs.FlatWires.{Wire, a_rail, an_ack, wire_of, rail_same, ack_same, rail_no_ack, rail_bounds, ack_bounds, length-channels_rules, AllOut, rail_rules_at, ack_rules_at, value_is, neutral_is, takes_at, moves_none, moves_some, values_none, values_some}
+use Rattle.net_compose.proofs.FlatSites.{at_site, sites_are, takers_are}
+use Rattle.net_compose.proofs.FlatWires.{Wire, a_rail, an_ack, wire_of, rail_same, ack_same, rail_no_ack, rail_bounds, ack_bounds, length-channels_rules, rail_guards, ack_guards, rail_rules_at, ack_rules_at, value_is, neutral_is, not_listed, is_listed, not_raised, raised_is, wires_at, moves_none, moves_some, quiet_offer, values_none, values_some}
 
 -- the two guards of a node of the net are those of its rules
 up_told : (xs : List NodeRules) (n : ℕ) → get_or (map (λ (r : NodeRules). r.up) xs) n [] ≡ (get_or xs n no_rules).up
@@ -44,16 +44,10 @@ down_told [] n = refl
 down_told (x ∷ xs) zero = refl
 down_told (x ∷ xs) (suc n) = down_told xs n
 
-out_sent : (cs : List Channel) → AllOut cs → (k : ℕ) → k < length cs → is_sent (kind_at cs k) ≡ true
-out_sent [] out k h = refl
-out_sent (c ∷ cs) out zero h = ap is_sent (All-head (λ (c : Channel). c.kind ≡ Out) c cs out)
-out_sent (c ∷ cs) out (suc k) h = out_sent cs (All-tail (λ (c : Channel). c.kind ≡ Out) c cs out) k (omega (arith, h))
-
 -- what is assumed of the program
 pub record Given (P : TypedProgram) : Type 0 where
   pub typed : IsProcess P.channels P.vars P.body
   pub covered : IsCovered P.body
-  pub out : AllOut P.channels
   pub some : (y : ℕ) → y < length P.vars → 1 ≤ var_width P.vars y
 
 module _ (P : TypedProgram) (given : Given P) where
@@ -71,14 +65,14 @@ module _ (P : TypedProgram) (given : Given P) where
 
   root_told : (n m : ℕ) → n ≡ root_request P + m → get_or (all_rules P) n no_rules ≡ get_or (q_child go_number (root_latch P) ∷ q_latch go_number (body_answer P) ∷ rules_of P P.body (root_request P) (body_from P)) m no_rules
   root_told n m e =
-      let i : n ≡ suc (suc (length (channels_rules P 0 P.channels) + (length (vars_rules P 0 P.vars) + m))) = omega (arith, e, length-channels_rules P 0 P.channels given.out, length-vars_rules P 0 P.vars) in
+      let i : n ≡ suc (suc (length (channels_rules P 0 P.channels) + (length (vars_rules P 0 P.vars) + m))) = omega (arith, e, length-channels_rules P 0 P.channels, length-vars_rules P 0 P.vars) in
       ap (λ k. get_or (all_rules P) k no_rules) i
       ∙ (get_or-append-add (channels_rules P 0 P.channels) behind_wires (length (vars_rules P 0 P.vars) + m) no_rules
       ∙ get_or-append-add (vars_rules P 0 P.vars) (q_child go_number (root_latch P) ∷ q_latch go_number (body_answer P) ∷ rules_of P P.body (root_request P) (body_from P)) m no_rules)
 
   block_told : (y m : ℕ) → y < length P.vars → m < block_size (var_width P.vars y) → get_or (all_rules P) (var_from P y + m) no_rules ≡ get_or (variable_rules (var_width P.vars y) (var_from P y) (in_body P (write_site P y))) m no_rules
   block_told y m hy hm =
-      let i : var_from P y + m ≡ suc (suc (length (channels_rules P 0 P.channels) + (blocks_before P.vars y + m))) = omega (arith, length-channels_rules P 0 P.channels given.out) in
+      let i : var_from P y + m ≡ suc (suc (length (channels_rules P 0 P.channels) + (blocks_before P.vars y + m))) = omega (arith, length-channels_rules P 0 P.channels) in
       ap (λ k. get_or (all_rules P) k no_rules) i
       ∙ (get_or-append-add (channels_rules P 0 P.channels) behind_wires (blocks_before P.vars y + m) no_rules
       ∙ vars_rule P 0 P.vars (q_child go_number (root_latch P) ∷ q_latch go_number (body_answer P) ∷ rules_of P P.body (root_request P) (body_from P)) y m hy hm
@@ -153,7 +147,7 @@ module _ (P : TypedProgram) (given : Given P) where
     pub done : high st.values 1 ≡ x.root.next
     pub child : high st.values (root_request P) ≡ x.root.child
     pub latch : high st.values (root_latch P) ≡ x.root.latch
-    pub body : Stands (high st.values) (body_from P) (bits P.body x.root.inner)
+    pub body : Stands (high st.values) (body_from P) (bits P P.body x.root.inner)
     pub rail : (k i : ℕ) (one : Bool) → k < length P.channels → i < channel_width P.channels k → high st.values (channel_from P k + rail_place i one) ≡ x.wires.rail (of_channel k) i one
     pub ack : (k : ℕ) → k < length P.channels → high st.values (ack_at P k) ≡ x.wires.ack k
     pub block : (y : ℕ) (b : Part) → y < length P.vars → IsPart (var_width P.vars y) b → high st.values (var_from P y + offset (var_width P.vars y) b) ≡ part_value x.wires y b
@@ -208,38 +202,66 @@ module _ (P : TypedProgram) (given : Given P) where
         (one_high (high st.values) (body_answer P) ∙ body_answer_is)
         (one_low (high st.values) 0 ∙ ap not s.go)
     own_tells (inner p) f =
-        let t = rule_is P (high st.values) (seen P x.wires) s.ack written_told bits_told P.body given.covered given.typed (root_request P) (body_from P) x.root.inner p f s.body in
+        let t = rule_is P (high st.values) (seen P x.wires) s.ack written_told bits_told s.rail P.body given.covered given.typed (root_request P) (body_from P) x.root.inner p f s.body in
         let r = rule P.body (seen P x.wires) (high st.values (root_request P)) x.root.inner p in
         let e : r ≡ rule P.body (seen P x.wires) x.root.child x.root.inner p = ap (λ b. rule P.body (seen P x.wires) b x.root.inner p) s.child in
         tells_from (high st.values) (body_from P + place P P.body p) (rule P.body (seen P x.wires) x.root.child x.root.inner p) (get_or (rules_of P P.body (root_request P) (body_from P)) (place P P.body p) no_rules)
         (root_told (body_from P + place P P.body p) (suc (suc (place P P.body p))) (omega arith))
         (t.now ∙ ap (λ (z : Rule). z.now) e) (t.up ∙ ap (λ (z : Rule). z.up) e) (t.down ∙ ap (λ (z : Rule). z.down) e)
 
-    rail_tells : (k i : ℕ) (one : Bool) → k < length P.channels → i < channel_width P.channels k → Tells (high st.values) (channel_from P k + rail_place i one) (merged (x.wires.rail (of_channel k) i one) (site_rails P.body x.root.inner (of_channel k) i one))
-    rail_tells k i one hk hi =
-        let sites = in_body P (send_site k) in
-        let e = sites_are (high st.values) P (of_channel k) i one hi P.body given.covered given.typed (body_from P) x.root.inner s.body in
-        let n : channel_from P k + rail_place i one ≡ suc (suc (wires_before P.channels k + rail_place i one)) = omega arith in
-        tells_from (high st.values) (channel_from P k + rail_place i one) (merged (x.wires.rail (of_channel k) i one) (site_rails P.body x.root.inner (of_channel k) i one)) (or_of (map (at_site i one) sites))
-        (ap (λ m. get_or (all_rules P) m no_rules) n ∙ rail_rules_at P given.out behind_wires k i one hk hi)
-        (s.rail k i one hk hi)
-        (or_up (high st.values) (map (at_site i one) sites) ∙ ap (list_any (λ b. b)) e)
-        (or_down (high st.values) (map (at_site i one) sites) ∙ ap all_low e)
+    -- a rail of a channel, by the channel's kind
+    rail_tells : (k i : ℕ) (one : Bool) → k < length P.channels → i < channel_width P.channels k → (kind : Kind) → kind_at P.channels k ≡ kind
+        → Tells (high st.values) (channel_from P k + rail_place i one) (if is_sent kind then merged (x.wires.rail (of_channel k) i one) (site_rails P.body x.root.inner (of_channel k) i one) else no_rule (x.wires.rail (of_channel k) i one))
+    rail_tells k i one hk hi kind is = by kind (place_is ∙ ap (λ z. rail_guards P z k i one) is)
+      where
+        place_is : get_or (all_rules P) (channel_from P k + rail_place i one) no_rules ≡ rail_guards P (kind_at P.channels k) k i one
+        place_is =
+            let n : channel_from P k + rail_place i one ≡ suc (suc (wires_before P.channels k + rail_place i one)) = omega arith in
+            ap (λ m. get_or (all_rules P) m no_rules) n ∙ rail_rules_at P behind_wires k i one hk hi
 
-    ack_tells : (k : ℕ) → k < length P.channels → Tells (high st.values) (ack_at P k) (no_rule (x.wires.ack k))
-    ack_tells k hk =
-        let n : ack_at P k ≡ suc (suc (wires_before P.channels k + 2 * channel_width P.channels k)) = omega arith in
-        tells_from (high st.values) (ack_at P k) (no_rule (x.wires.ack k)) no_rules
-        (ap (λ m. get_or (all_rules P) m no_rules) n ∙ ack_rules_at P given.out behind_wires k hk)
-        (s.ack k hk) refl refl
+        merges : get_or (all_rules P) (channel_from P k + rail_place i one) no_rules ≡ or_of (map (at_site i one) (in_body P (send_site k)))
+            → Tells (high st.values) (channel_from P k + rail_place i one) (merged (x.wires.rail (of_channel k) i one) (site_rails P.body x.root.inner (of_channel k) i one))
+        merges told =
+            let sites = in_body P (send_site k) in
+            let e = sites_are (high st.values) P (of_channel k) i one hi P.body given.covered given.typed (body_from P) x.root.inner s.body in
+            tells_from (high st.values) (channel_from P k + rail_place i one) (merged (x.wires.rail (of_channel k) i one) (site_rails P.body x.root.inner (of_channel k) i one)) (or_of (map (at_site i one) sites)) told
+            (s.rail k i one hk hi)
+            (or_up (high st.values) (map (at_site i one) sites) ∙ ap (list_any (λ b. b)) e)
+            (or_down (high st.values) (map (at_site i one) sites) ∙ ap all_low e)
+
+        by : (kind : Kind) → get_or (all_rules P) (channel_from P k + rail_place i one) no_rules ≡ rail_guards P kind k i one
+            → Tells (high st.values) (channel_from P k + rail_place i one) (if is_sent kind then merged (x.wires.rail (of_channel k) i one) (site_rails P.body x.root.inner (of_channel k) i one) else no_rule (x.wires.rail (of_channel k) i one))
+        by Out told = merges told
+        by Chan told = merges told
+        by In told = tells_from (high st.values) (channel_from P k + rail_place i one) (no_rule (x.wires.rail (of_channel k) i one)) no_rules told (s.rail k i one hk hi) refl refl
+
+    ack_tells : (k : ℕ) → k < length P.channels → (kind : Kind) → kind_at P.channels k ≡ kind
+        → Tells (high st.values) (ack_at P k) (if is_heard kind then merged (x.wires.ack k) (takers P.body x.root.inner k) else no_rule (x.wires.ack k))
+    ack_tells k hk kind is = by kind (place_is ∙ ap (λ z. ack_guards P z k) is)
+      where
+        place_is : get_or (all_rules P) (ack_at P k) no_rules ≡ ack_guards P (kind_at P.channels k) k
+        place_is =
+            let n : ack_at P k ≡ suc (suc (wires_before P.channels k + 2 * channel_width P.channels k)) = omega arith in
+            ap (λ m. get_or (all_rules P) m no_rules) n ∙ ack_rules_at P behind_wires k hk
+
+        merges : get_or (all_rules P) (ack_at P k) no_rules ≡ or_of (in_body P (receive_site k)) → Tells (high st.values) (ack_at P k) (merged (x.wires.ack k) (takers P.body x.root.inner k))
+        merges told =
+            let e = takers_are (high st.values) P k P.body given.covered given.typed (body_from P) x.root.inner s.body in
+            tells_from (high st.values) (ack_at P k) (merged (x.wires.ack k) (takers P.body x.root.inner k)) (or_of (in_body P (receive_site k))) told
+            (s.ack k hk)
+            (or_up (high st.values) (in_body P (receive_site k)) ∙ ap (list_any (λ b. b)) e)
+            (or_down (high st.values) (in_body P (receive_site k)) ∙ ap all_low e)
+
+        by : (kind : Kind) → get_or (all_rules P) (ack_at P k) no_rules ≡ ack_guards P kind k → Tells (high st.values) (ack_at P k) (if is_heard kind then merged (x.wires.ack k) (takers P.body x.root.inner k) else no_rule (x.wires.ack k))
+        by Out told = tells_from (high st.values) (ack_at P k) (no_rule (x.wires.ack k)) no_rules told (s.ack k hk) refl refl
+        by Chan told = merges told
+        by In told = merges told
 
     pub node_tells : (n : Node P.body) → Fine n → Tells (high st.values) (number_of n) (rule_in P x n)
     node_tells go_node f = tells_from (high st.values) 0 (no_rule x.go) no_rules refl s.go refl refl
     node_tells (own_node p) f = own_tells p f
-    node_tells (rail_node (of_channel k) i one) f =
-        subst (λ (b : Bool). Tells (high st.values) (channel_from P k + rail_place i one) (if b then merged (x.wires.rail (of_channel k) i one) (site_rails P.body x.root.inner (of_channel k) i one) else no_rule (x.wires.rail (of_channel k) i one)))
-        (sym (out_sent P.channels given.out k f.0)) (rail_tells k i one f.0 f.1)
-    node_tells (ack_node k) f = ack_tells k f
+    node_tells (rail_node (of_channel k) i one) f = rail_tells k i one f.0 f.1 (kind_at P.channels k) refl
+    node_tells (ack_node k) f = ack_tells k f (kind_at P.channels k) refl
     node_tells (rail_node (of_var y) i one) f = part_tells y (a_put i one) f.0 f.1 (merged (x.wires.rail (of_var y) i one) (site_rails P.body x.root.inner (of_var y) i one))
         (put_says (high st.values) (var_width P.vars y) (var_from P y) (x.wires.bit y) (x.wires.rail (of_var y)) (x.wires.wrote y) (x.wires.joint y) (block_is y f.0) (in_body P (write_site P y)) i one (site_rails P.body x.root.inner (of_var y) i one) f.1 (sites_are (high st.values) P (of_var y) i one f.1 P.body given.covered given.typed (body_from P) x.root.inner s.body))
     node_tells (bit_node y i one) f = part_tells y (a_bit i one) f.0 f.1 (bit_rule (x.wires.rail (of_var y)) (x.wires.bit y) i one) (bit_says (high st.values) (var_width P.vars y) (var_from P y) (x.wires.bit y) (x.wires.rail (of_var y)) (x.wires.wrote y) (x.wires.joint y) (block_is y f.0) (in_body P (write_site P y)) i one f.1)
@@ -248,8 +270,13 @@ module _ (P : TypedProgram) (given : Given P) where
 
     -- the environment's moves
 
-    quiet_channels : (script : List OfferValue) → IsScript P.channels script → (n : ℕ) → ((j : ℕ) → j < length P.channels → n ≢ ack_at P j) → channels_move (high st.values) (offer_at script) (completed st.histories) 0 (wires_from P 0 P.channels) n ≡ false
-    quiet_channels script fits n far = moves_none P script (completed st.histories) (high st.values) 0 P.channels n (λ j low up. (takes_at P.channels script given.out fits j (omega (arith, up)), far j (omega (arith, up))))
+    -- the node is none of a channel's wires
+    abbrev Beyond : ℕ → ℕ → Type 0
+    Beyond n j = (n ≢ ack_at P j) × ((i : ℕ) (one : Bool) → i < channel_width P.channels j → n ≢ channel_from P j + rail_place i one)
+
+    quiet_channels : (script : List OfferValue) (n : ℕ) → ((j : ℕ) → j < length P.channels → Beyond n j) → channels_move (high st.values) (offer_at script) (completed st.histories) 0 (wires_from P 0 P.channels) n ≡ false
+    quiet_channels script n far = moves_none P script (completed st.histories) (high st.values) 0 P.channels n
+        (λ j low up c. let z = far j (omega (arith, up)) in quiet_offer P script (completed st.histories) (high st.values) j n z.0 z.1 (offer_at script j) c)
 
     -- no channel moves a node that isn't one of the wires
     below_wires : (n : ℕ) → n < 2 → (j : ℕ) → j < length P.channels → n ≢ ack_at P j
@@ -258,58 +285,126 @@ module _ (P : TypedProgram) (given : Given P) where
     above_wires : (n : ℕ) → 2 + wires_before P.channels (length P.channels) ≤ n → (j : ℕ) → j < length P.channels → n ≢ ack_at P j
     above_wires n h j lt e = let b = ack_bounds P j lt in absurd (omega (arith, h, e, b.1))
 
-    quiet_environment : (script : List OfferValue) → IsScript P.channels script → (n : ℕ) → 1 ≤ n → ((j : ℕ) → j < length P.channels → n ≢ ack_at P j) → env_enabled (translation P) script (completed st.histories) (high st.values) n ≡ false
-    quiet_environment script fits n h far =
+    below_all : (n : ℕ) → n < 2 → (j : ℕ) → j < length P.channels → Beyond n j
+    below_all n h j lt = (below_wires n h j lt, λ i one l e. let b = rail_bounds P j i one lt l in absurd (omega (arith, h, e, b.0)))
+
+    above_all : (n : ℕ) → 2 + wires_before P.channels (length P.channels) ≤ n → (j : ℕ) → j < length P.channels → Beyond n j
+    above_all n h j lt = (above_wires n h j lt, λ i one l e. let b = rail_bounds P j i one lt l in absurd (omega (arith, h, e, b.1)))
+
+    quiet_environment : (script : List OfferValue) (n : ℕ) → 1 ≤ n → ((j : ℕ) → j < length P.channels → Beyond n j) → env_enabled (translation P) script (completed st.histories) (high st.values) n ≡ false
+    quiet_environment script n h far =
         ap (λ b. (b && not (high st.values 0)) || channels_move (high st.values) (offer_at script) (completed st.histories) 0 (wires_from P 0 P.channels) n) (ne_eqb n 0 (λ e. absurd (omega (arith, e, h))))
-        ∙ quiet_channels script fits n far
+        ∙ quiet_channels script n far
 
     or_nothing : (b : Bool) → (b || false) ≡ b
     or_nothing true = refl
     or_nothing false = refl
 
-    ack_moves : (script : List OfferValue) → IsScript P.channels script → (k : ℕ) → k < length P.channels → env_enabled (translation P) script (completed st.histories) (high st.values) (ack_at P k) ≡ answers (channel_width P.channels k) x.wires k (completed x.histories k) (offer_at script k)
-    ack_moves script fits k hk =
-        let t = takes_at P.channels script given.out fits k hk in
-        let w = channel_width P.channels k in
-        let rails : (i : ℕ) (one : Bool) → i < w → high st.values (channel_from P k + rail_place i one) ≡ x.wires.rail (of_channel k) i one = λ i one lt. s.rail k i one hk lt in
-        let value = value_is (high st.values) w (channel_from P k) (x.wires.rail (of_channel k)) rails in
-        let none = neutral_is (high st.values) w (channel_from P k) (x.wires.rail (of_channel k)) rails in
-        let done : completed st.histories k ≡ completed x.histories k = ap (λ h. completed h k) s.histories in
-        let start : (ack_at P k == 0) ≡ false = ne_eqb (ack_at P k) 0 (λ e. absurd (omega (arith, e))) in
-        ap (λ b. (b && not (high st.values 0)) || channels_move (high st.values) (offer_at script) (completed st.histories) 0 (wires_from P 0 P.channels) (ack_at P k)) start
-        ∙ (moves_some P script (completed st.histories) (high st.values) 0 P.channels (ack_at P k) k (omega arith) (omega (arith, hk)) refl
-        (λ j low up. (takes_at P.channels script given.out fits j (omega (arith, up)), λ ne e. ne (sym (ack_same P k j hk (omega (arith, up)) e)))) t.0 t.1
-        ∙ (ap (λ b. if b then neutral (high st.values) (rails_of (rails_at P k)) else valid (high st.values) (rails_of (rails_at P k)) && is_over t.0 (completed st.histories k)) (s.ack k hk)
-        ∙ (ap (λ b. if x.wires.ack k then b else valid (high st.values) (rails_of (rails_at P k)) && is_over t.0 (completed st.histories k)) none
-        ∙ (ap (λ o. if x.wires.ack k then neutral_on w (x.wires.rail (of_channel k)) else is_some o && is_over t.0 (completed st.histories k)) value
-        ∙ (ap (λ m. if x.wires.ack k then neutral_on w (x.wires.rail (of_channel k)) else is_some (value_on w (x.wires.rail (of_channel k))) && is_over t.0 m) done
-        ∙ ap (answers w x.wires k (completed x.histories k)) (sym t.1))))))
+    done_is : (k : ℕ) → completed st.histories k ≡ completed x.histories k
+    done_is k = ap (λ h. completed h k) s.histories
+
+    -- at the wires of one channel the others' environments don't move
+    one_channel : (script : List OfferValue) (n k : ℕ) (b : Bool) → 1 ≤ n → k < length P.channels → ((j : ℕ) → j < length P.channels → j ≢ k → Beyond n j)
+        → ((c : Channel) → offer_moves (high st.values) (wires_at P script (completed st.histories) (high st.values) k c) (offer_at script k) (completed st.histories k) n ≡ b) → env_enabled (translation P) script (completed st.histories) (high st.values) n ≡ b
+    one_channel script n k b h hk far here =
+        ap (λ b. (b && not (high st.values 0)) || channels_move (high st.values) (offer_at script) (completed st.histories) 0 (wires_from P 0 P.channels) n) (ne_eqb n 0 (λ e. absurd (omega (arith, e, h))))
+        ∙ moves_some P script (completed st.histories) (high st.values) 0 P.channels n k b (omega arith) (omega (arith, hk))
+        (λ j low up ne c. let z = far j (omega (arith, up)) ne in quiet_offer P script (completed st.histories) (high st.values) j n z.0 z.1 (offer_at script j) c) here
+
+    ack_moves : (script : List OfferValue) (k : ℕ) → k < length P.channels → env_enabled (translation P) script (completed st.histories) (high st.values) (ack_at P k) ≡ answers (channel_width P.channels k) x.wires k (completed x.histories k) (offer_at script k)
+    ack_moves script k hk = one_channel script (ack_at P k) k (answers (channel_width P.channels k) x.wires k (completed x.histories k) (offer_at script k)) (let b = ack_bounds P k hk in omega (arith, b.0)) hk
+        (λ j lt ne. (λ e. ne (sym (ack_same P k j hk lt e)), λ i one l e. rail_no_ack P j k i one lt hk l (sym e)))
+        (λ c. here c (offer_at script k))
+      where
+        width : ℕ
+        width = channel_width P.channels k
+
+        rails : (i : ℕ) (one : Bool) → i < channel_width P.channels k → high st.values (channel_from P k + rail_place i one) ≡ x.wires.rail (of_channel k) i one
+        rails i one lt = s.rail k i one hk lt
+
+        far : (i : ℕ) (one : Bool) → i < channel_width P.channels k → ack_at P k ≢ channel_from P k + rail_place i one
+        far i one l e = rail_no_ack P k k i one hk hk l (sym e)
+
+        here : (c : Channel) (offer : OfferValue) → offer_moves (high st.values) (wires_at P script (completed st.histories) (high st.values) k c) offer (completed st.histories k) (ack_at P k) ≡ answers (channel_width P.channels k) x.wires k (completed x.histories k) offer
+        here c nothing = refl
+        here c (gives values) = by (high st.values (ack_at P k)) (slice_get values (completed st.histories k))
+          where
+            never : (b : Bool) → (b && false) ≡ false
+            never true = refl
+            never false = refl
+
+            by : (a : Bool) (value : Option ℕ) → (if a then lowers (high st.values) (rails_of (rails_at P k)) (ack_at P k) else raises_next (high st.values) value (rails_of (rails_at P k)) (ack_at P k)) ≡ false
+            by true value = ap (λ b. high st.values (ack_at P k) && b) (not_listed (high st.values) (channel_width P.channels k) (channel_from P k) (ack_at P k) far) ∙ never (high st.values (ack_at P k))
+            by false None = refl
+            by false (Some value) = not_raised (high st.values) (channel_width P.channels k) (channel_from P k) (ack_at P k) value far
+        here c (takes count) =
+            let w = channel_width P.channels k in
+            let value = value_is (high st.values) w (channel_from P k) (x.wires.rail (of_channel k)) rails in
+            let none = neutral_is (high st.values) w (channel_from P k) (x.wires.rail (of_channel k)) rails in
+            ap (λ b. b && (if high st.values (ack_at P k) then neutral (high st.values) (rails_of (rails_at P k)) else valid (high st.values) (rails_of (rails_at P k)) && is_over count (completed st.histories k))) (eq-eqb (ack_at P k) (ack_at P k) refl)
+            ∙ (ap (λ b. if b then neutral (high st.values) (rails_of (rails_at P k)) else valid (high st.values) (rails_of (rails_at P k)) && is_over count (completed st.histories k)) (s.ack k hk)
+            ∙ (ap (λ b. if x.wires.ack k then b else valid (high st.values) (rails_of (rails_at P k)) && is_over count (completed st.histories k)) none
+            ∙ (ap (λ o. if x.wires.ack k then neutral_on w (x.wires.rail (of_channel k)) else is_some o && is_over count (completed st.histories k)) value
+            ∙ ap (λ m. if x.wires.ack k then neutral_on w (x.wires.rail (of_channel k)) else is_some (value_on w (x.wires.rail (of_channel k))) && is_over count m) (done_is k))))
+
+    -- the rails of an `in` channel
+    rail_moves : (script : List OfferValue) (k i : ℕ) (one : Bool) → k < length P.channels → i < channel_width P.channels k → env_enabled (translation P) script (completed st.histories) (high st.values) (channel_from P k + rail_place i one) ≡ offers (channel_width P.channels k) x.wires k (completed x.histories k) (offer_at script k) i one
+    rail_moves script k i one hk hi = one_channel script (channel_from P k + rail_place i one) k (offers (channel_width P.channels k) x.wires k (completed x.histories k) (offer_at script k) i one) (let b = rail_bounds P k i one hk hi in omega (arith, b.0)) hk
+        (λ j lt ne. (rail_no_ack P k j i one hk lt hi, λ l side hl e. ne (sym (rail_same P k j i l one side hk lt hi hl e).0)))
+        (λ c. here c (offer_at script k))
+      where
+        here : (c : Channel) (offer : OfferValue) → offer_moves (high st.values) (wires_at P script (completed st.histories) (high st.values) k c) offer (completed st.histories k) (channel_from P k + rail_place i one) ≡ offers (channel_width P.channels k) x.wires k (completed x.histories k) offer i one
+        here c nothing = refl
+        here c (takes count) =
+            ap (λ b. b && (if high st.values (ack_at P k) then neutral (high st.values) (rails_of (rails_at P k)) else valid (high st.values) (rails_of (rails_at P k)) && is_over count (completed st.histories k)))
+            (ne_eqb (channel_from P k + rail_place i one) (ack_at P k) (rail_no_ack P k k i one hk hk hi))
+        here c (gives values) =
+            ap (λ m. if high st.values (ack_at P k) then lowers (high st.values) (rails_of (rails_at P k)) (channel_from P k + rail_place i one) else raises_next (high st.values) (slice_get values m) (rails_of (rails_at P k)) (channel_from P k + rail_place i one)) (done_is k)
+            ∙ (ap (λ b. if b then lowers (high st.values) (rails_of (rails_at P k)) (channel_from P k + rail_place i one) else raises_next (high st.values) (slice_get values (completed x.histories k)) (rails_of (rails_at P k)) (channel_from P k + rail_place i one)) (s.ack k hk)
+            ∙ (ap (λ b. if x.wires.ack k then b else raises_next (high st.values) (slice_get values (completed x.histories k)) (rails_of (rails_at P k)) (channel_from P k + rail_place i one)) falls
+            ∙ ap (λ b. if x.wires.ack k then x.wires.rail (of_channel k) i one else b) (rises (slice_get values (completed x.histories k)))))
+          where
+            always : (b : Bool) → (b && true) ≡ b
+            always true = refl
+            always false = refl
+
+            falls : lowers (high st.values) (rails_of (rails_at P k)) (channel_from P k + rail_place i one) ≡ x.wires.rail (of_channel k) i one
+            falls =
+                ap (λ b. high st.values (channel_from P k + rail_place i one) && b) (is_listed (high st.values) (channel_width P.channels k) (channel_from P k) i one hi)
+                ∙ (always (high st.values (channel_from P k + rail_place i one)) ∙ s.rail k i one hk hi)
+
+            rises : (value : Option ℕ) → raises_next (high st.values) value (rails_of (rails_at P k)) (channel_from P k + rail_place i one) ≡ (brings (channel_width P.channels k) value i one && (not (x.wires.rail (of_channel k) i true) && not (x.wires.rail (of_channel k) i false)))
+            rises None = refl
+            rises (Some value) =
+                raised_is (high st.values) (channel_width P.channels k) (channel_from P k) value i one hi
+                ∙ (ap (λ b. number_rail (channel_width P.channels k) value i one && (not b && not (high st.values (channel_from P k + rail_place i false)))) (s.rail k i true hk hi)
+                ∙ ap (λ b. number_rail (channel_width P.channels k) value i one && (not (x.wires.rail (of_channel k) i true) && not b)) (s.rail k i false hk hi))
 
     rule_fires : (n : ℕ) (r : Rule) → Tells (high st.values) n r → rule_enabled (translation P) (high st.values) n ≡ fires r
     rule_fires n r t =
         ap (λ b. if b then guard_holds (high st.values) (down_of (translation P) n) else guard_holds (high st.values) (up_of (translation P) n)) t.now
         ∙ (ap (λ b. if r.now then b else guard_holds (high st.values) (up_of (translation P) n)) t.down ∙ ap (λ b. if r.now then r.down else b) t.up)
 
-    env_is : (script : List OfferValue) → IsScript P.channels script → (n : Node P.body) → Fine n → env_enabled (translation P) script (completed st.histories) (high st.values) (number_of n) ≡ env_moves P script x n
-    env_is script fits go_node f =
+    env_is : (script : List OfferValue) (n : Node P.body) → Fine n → env_enabled (translation P) script (completed st.histories) (high st.values) (number_of n) ≡ env_moves P script x n
+    env_is script go_node f =
         ap (λ b. not b || channels_move (high st.values) (offer_at script) (completed st.histories) 0 (wires_from P 0 P.channels) 0) s.go
-        ∙ (ap (λ b. not x.go || b) (quiet_channels script fits 0 (below_wires 0 (omega arith))) ∙ or_nothing (not x.go))
-    env_is script fits (own_node next) f = quiet_environment script fits 1 (omega arith) (below_wires 1 (omega arith))
-    env_is script fits (own_node child) f = quiet_environment script fits (root_request P) (omega (arith, root_is)) (above_wires (root_request P) (omega arith))
-    env_is script fits (own_node latch) f = quiet_environment script fits (root_latch P) (omega (arith, root_is)) (above_wires (root_latch P) (omega arith))
-    env_is script fits (own_node (inner p)) f = quiet_environment script fits (body_from P + place P P.body p) (omega (arith, root_is)) (above_wires (body_from P + place P P.body p) (omega arith))
-    env_is script fits (rail_node (of_channel k) i one) f = quiet_environment script fits (channel_from P k + rail_place i one) (omega arith) (λ j lt. rail_no_ack P k j i one f.0 lt f.1)
-    env_is script fits (ack_node k) f = ack_moves script fits k f
-    env_is script fits (rail_node (of_var y) i one) f = let e = part_bounds y (a_put i one) f.0 f.1 in quiet_environment script fits (var_from P y + offset (var_width P.vars y) (a_put i one)) (omega arith) (above_wires (var_from P y + offset (var_width P.vars y) (a_put i one)) e.0)
-    env_is script fits (bit_node y i one) f = let e = part_bounds y (a_bit i one) f.0 f.1 in quiet_environment script fits (var_from P y + offset (var_width P.vars y) (a_bit i one)) (omega arith) (above_wires (var_from P y + offset (var_width P.vars y) (a_bit i one)) e.0)
-    env_is script fits (wrote_node y i) f = let e = part_bounds y (a_mark i) f.0 f.1 in quiet_environment script fits (var_from P y + offset (var_width P.vars y) (a_mark i)) (omega arith) (above_wires (var_from P y + offset (var_width P.vars y) (a_mark i)) e.0)
-    env_is script fits (joint_node y k) f = let e = part_bounds y (a_joint k) f.0 f.1 in quiet_environment script fits (var_from P y + offset (var_width P.vars y) (a_joint k)) (omega arith) (above_wires (var_from P y + offset (var_width P.vars y) (a_joint k)) e.0)
+        ∙ (ap (λ b. not x.go || b) (quiet_channels script 0 (below_all 0 (omega arith))) ∙ or_nothing (not x.go))
+    env_is script (own_node next) f = quiet_environment script 1 (omega arith) (below_all 1 (omega arith))
+    env_is script (own_node child) f = quiet_environment script (root_request P) (omega (arith, root_is)) (above_all (root_request P) (omega arith))
+    env_is script (own_node latch) f = quiet_environment script (root_latch P) (omega (arith, root_is)) (above_all (root_latch P) (omega arith))
+    env_is script (own_node (inner p)) f = quiet_environment script (body_from P + place P P.body p) (omega (arith, root_is)) (above_all (body_from P + place P P.body p) (omega arith))
+    env_is script (rail_node (of_channel k) i one) f = rail_moves script k i one f.0 f.1
+    env_is script (ack_node k) f = ack_moves script k f
+    env_is script (rail_node (of_var y) i one) f = let e = part_bounds y (a_put i one) f.0 f.1 in quiet_environment script (var_from P y + offset (var_width P.vars y) (a_put i one)) (omega arith) (above_all (var_from P y + offset (var_width P.vars y) (a_put i one)) e.0)
+    env_is script (bit_node y i one) f = let e = part_bounds y (a_bit i one) f.0 f.1 in quiet_environment script (var_from P y + offset (var_width P.vars y) (a_bit i one)) (omega arith) (above_all (var_from P y + offset (var_width P.vars y) (a_bit i one)) e.0)
+    env_is script (wrote_node y i) f = let e = part_bounds y (a_mark i) f.0 f.1 in quiet_environment script (var_from P y + offset (var_width P.vars y) (a_mark i)) (omega arith) (above_all (var_from P y + offset (var_width P.vars y) (a_mark i)) e.0)
+    env_is script (joint_node y k) f = let e = part_bounds y (a_joint k) f.0 f.1 in quiet_environment script (var_from P y + offset (var_width P.vars y) (a_joint k)) (omega arith) (above_all (var_from P y + offset (var_width P.vars y) (a_joint k)) e.0)
 
     -- a node of the net may move exactly where its node of the cells may
-    pub enabled_is : (script : List OfferValue) → IsScript P.channels script → (n : Node P.body) → Fine n → move_enabled (translation P) script st (number_of n) ≡ enabled P script x n
-    enabled_is script fits n f =
+    pub enabled_is : (script : List OfferValue) (n : Node P.body) → Fine n → move_enabled (translation P) script st (number_of n) ≡ enabled P script x n
+    enabled_is script n f =
         ap (λ b. b || env_enabled (translation P) script (completed st.histories) (high st.values) (number_of n)) (rule_fires (number_of n) (rule_in P x n) (node_tells n f))
-        ∙ ap (λ b. fires (rule_in P x n) || b) (env_is script fits n f)
+        ∙ ap (λ b. fires (rule_in P x n) || b) (env_is script n f)
 
     -- its guards hold as those of the cells do
     pub apart_is : (n : Node P.body) → Fine n → is_apart (rule_in P x n) ≡ true → both_ways (translation P) (high st.values) (number_of n) ≡ false
@@ -373,7 +468,7 @@ module _ (P : TypedProgram) (given : Given P) where
         arith,
         length-append (channels_rules P 0 P.channels) behind_wires,
         length-append (vars_rules P 0 P.vars) (q_child go_number (root_latch P) ∷ q_latch go_number (body_answer P) ∷ rules_of P P.body (root_request P) (body_from P)),
-        length-channels_rules P 0 P.channels given.out,
+        length-channels_rules P 0 P.channels,
         length-vars_rules P 0 P.vars,
         length-rules P P.body given.covered given.typed (root_request P) (body_from P),
       )
@@ -388,9 +483,9 @@ module _ (P : TypedProgram) (given : Given P) where
   pub past_apart : (st : RunState) (n : ℕ) → nodes_of P ≤ n → both_ways (translation P) (high st.values) n ≡ false
   past_apart st n h = ap (λ g. guard_holds (high st.values) g && guard_holds (high st.values) (down_of (translation P) n)) (past_up n h)
 
-  pub past_end : (st : RunState) (x : Whole P.body) → Shows st x → (script : List OfferValue) → IsScript P.channels script → (n : ℕ) → nodes_of P ≤ n → move_enabled (translation P) script st n ≡ false
-  past_end st x s script fits n h =
-      let env = quiet_environment st x s script fits n (omega (arith, h, root_is)) (above_wires st x s n (omega (arith, h))) in
+  pub past_end : (st : RunState) (x : Whole P.body) → Shows st x → (script : List OfferValue) (n : ℕ) → nodes_of P ≤ n → move_enabled (translation P) script st n ≡ false
+  past_end st x s script n h =
+      let env = quiet_environment st x s script n (omega (arith, h, root_is)) (above_all st x s n (omega (arith, h))) in
       ap (λ b. rule_enabled (translation P) (high st.values) n || b) env
       ∙ (ap (λ g. (if high st.values n then guard_holds (high st.values) (down_of (translation P) n) else guard_holds (high st.values) g) || false) (past_up n h)
       ∙ (ap (λ g. (if high st.values n then guard_holds (high st.values) g else false) || false) (past_down n h) ∙ both_none (high st.values n)))
@@ -427,7 +522,7 @@ module _ (P : TypedProgram) (given : Given P) where
     latch_far : root_latch P ≢ m → high (fired st.values m) (root_latch P) ≡ x.root.latch
     latch_far ne = fired_far (root_latch P) ne ∙ s.latch
 
-    body_far : m < body_from P → Stands (high (fired st.values m)) (body_from P) (bits P.body x.root.inner)
+    body_far : m < body_from P → Stands (high (fired st.values m)) (body_from P) (bits P P.body x.root.inner)
     body_far below = record { at = λ i h. fired_far (body_from P + i) (λ e. absurd (omega (arith, e, below))) ∙ s.body.at i h }
 
     -- where the node isn't a wire
@@ -507,7 +602,7 @@ module _ (P : TypedProgram) (given : Given P) where
       let m = body_from P + place P P.body p in
       let k = place_lt P P.body given.covered p f in
       let lt : body_from P + place P P.body p < nodes_of P = omega (arith, k) in
-      let xs = bits P.body x.root.inner in
+      let xs = bits P P.body x.root.inner in
       let long = length-bits P P.body given.covered x.root.inner in
       record {
         count = fired_count st x s (body_from P + place P P.body p) lt;

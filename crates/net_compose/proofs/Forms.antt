@@ -1,5 +1,5 @@
 -- The programs that are compiled so far are accepted, typed and covered.
-use Rattle.std.proofs.Common.{◌≡◌, ℕ, Bool, true, false, List, [], ◌∷◌, inl, inr, refl, sym, ap, ◌∙◌, subst, arith}
+use Rattle.std.proofs.Common.{◌≡◌, ◌≢◌, ℕ, Bool, true, false, List, [], ◌∷◌, inl, inr, refl, sym, ap, ◌∙◌, subst, arith}
 use Rattle.std.specs.Prelude.{◌&&◌, ◌||◌, Contains, is_some}
 use Rattle.std.proofs.lemmas.Bool.{and_parts}
 use Rattle.chp_base.specs.declared.span.Span.{Span}
@@ -87,7 +87,7 @@ idle_typed : IsTyped idle.channels idle.vars idle.body
 idle_typed = record { each_channel = All-nil IsDeclaredChannel; each_var = All-nil IsDeclaredVar; distinct = λ i j d below within. absurd (omega arith); body_is = tt }
 
 idle_covered : Covered idle
-idle_covered = record { channels = All-nil (λ (c : Channel). c.kind ≡ kind.Out); body = tt; sharing = record { variables = λ a b apart. absurd apart; sends = λ a b apart. absurd apart; receives = λ a b apart. absurd apart } }
+idle_covered = record { channels = All-nil (λ (c : Channel). c.kind ≢ kind.Chan); body = tt; sharing = record { variables = λ a b apart. absurd apart; sends = λ a b apart. absurd apart; receives = λ a b apart. absurd apart } }
 
 -- `X!0` and `X!1`
 

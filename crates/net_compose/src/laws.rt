@@ -15,10 +15,10 @@ use chp_meaning::{one_history, rounds_hold, runs_append, steps_taken};
 use circuit_places::circuits_carry;
 use reset_runs::reset_runs;
 
-/// Law: the net of a covered program carries it. Covered are skip, sends of any expression over variables, assignments of
-/// any expression that doesn't read their own target, sequences, parallel compositions and loops that go on for ever, on
-/// channels on which the environment receives, under the sharing rule; any number of sites on a channel or a variable,
-/// of any width, and whatever else is declared. In every
+/// Law: the net of a covered program carries it. Covered are skip, sends of any expression over variables, receives,
+/// assignments of any expression that doesn't read their own target, sequences, parallel compositions and loops that go
+/// on for ever, on `in` and `out` channels, under the sharing rule; any number of sites on a channel or a variable, of any
+/// width, and whatever `in` and `out` channels and variables are declared besides. In every
 /// run of the net, under every script and in whatever order the nodes switch, no enabled move is taken away, no node is
 /// pulled both ways and no channel leaves its phases; what has passed on a channel after some moves is a front of what
 /// has passed there after as many rounds of the program; and at rest it is all of it, the program goes no further, and
