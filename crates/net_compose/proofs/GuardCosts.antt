@@ -1,5 +1,5 @@
 -- How many literals the guards of gates, cells and expressions have.
-use Rattle.std.proofs.Common.{◌≡◌, ℕ, zero, suc, ◌+◌, ◌-◌, ◌*◌, ◌/◌, ◌%◌, ◌≤◌, Bool, true, false, List, [], ◌∷◌, ◌++◌, map, length, refl, sym, ap, ◌∙◌, arith, length-append}
+use Rattle.std.proofs.Common.{◌≡◌, ℕ, zero, suc, ◌+◌, ◌*◌, ◌/◌, ◌%◌, ◌≤◌, Bool, true, false, List, [], ◌∷◌, ◌++◌, map, length, refl, arith, length-append}
 use Rattle.std.specs.Prelude.{not, ◌==◌, filter, replicate, sum_by}
 use Rattle.std.proofs.lemmas.List.{length-map}
 use Rattle.std.proofs.lemmas.List.Sums.{sum_by-append}
@@ -7,17 +7,16 @@ use Rattle.std.proofs.lemmas.List.Filters.{length-filter_both}
 use Rattle.chp_syntax.specs.declared.tree.Op.{Op}
 use Rattle.chp_syntax.specs.declared.tree.Op.TheVariants.{And, Or, Xor, Add, Sub, Eq, Ne, Lt, Le, Gt, Ge}
 use Rattle.prs_core.specs.declared.rule.Literal.{Literal}
-use Rattle.prs_core.specs.Nets.{GuardValue, NodeRules, guard_literals, is_high, one_term}
-use Rattle.prs_core.specs.Pairs.{Pair, pair_at, no_rules, or_of, lows, rails_of}
+use Rattle.prs_core.specs.Nets.{GuardValue, NodeRules, guard_literals, is_high}
+use Rattle.prs_core.specs.Pairs.{Pair, pair_at, no_rules, or_of, lows}
 use Rattle.width_check.specs.Processes.{Formula, constant, reading, joined, inverted, chained, compared, Formulas, no_parts, and_part, Operations, no_operations, and_operation}
-use Rattle.width_check.specs.Values.{width_of, widths_of, IsWellFormed, AreWellFormed, AreOperations}
+use Rattle.width_check.specs.Values.{width_of, widths_of, IsWellFormed, AreWellFormed}
 use Rattle.width_check.proofs.Bounds.{width_some}
-use Rattle.handshake_expand.specs.Layout.{operator_size, formula_size, parts_size, operations_size}
+use Rattle.handshake_expand.specs.Layout.{operator_size, formula_size, parts_size}
 use Rattle.cell_parallel.specs.Trees.{level_rules, next_level, levels_rules, tree_rules}
 use Rattle.cell_channel.specs.Ends.{port_rules}
-use Rattle.cell_select.specs.Selections.{all_false, only_one_true, latches, started, starts}
 use Rattle.function_blocks.specs.Gates.{table, minterm, gate, all_one, some_one, odd_ones, carries, borrows, alike, bitwise, ripple, borrow_gates, conjunctions, all_of_bits, equality, result_pairs, operator_rules}
-use Rattle.function_blocks.specs.Expressions.{constant_bit, constant_bits, read_bits, bits_between, formula_result, joined_result, formula_rules, joined_rules, chained_rules}
+use Rattle.function_blocks.specs.Expressions.{constant_bit, constant_bits, read_bits, bits_between, formula_result, formula_rules, joined_rules, chained_rules}
 use Rattle.function_blocks.specs.Gates.{operator_result}
 
 -- the literals of a guard, of a node's two guards, and of the guards of some nodes

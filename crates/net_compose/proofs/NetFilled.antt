@@ -1,7 +1,7 @@
 -- No guard of a typed program's net has an empty term.
-use Rattle.std.proofs.Common.{◌≡◌, ℕ, zero, suc, ◌+◌, ◌-◌, ◌*◌, ◌/◌, ◌%◌, ◌≤◌, ◌<◌, Bool, true, false, List, [], ◌∷◌, ◌++◌, map, length, refl, sym, ap, ◌∙◌, arith}
+use Rattle.std.proofs.Common.{◌≡◌, ℕ, zero, suc, ◌+◌, ◌*◌, ◌/◌, ◌%◌, ◌≤◌, ◌<◌, Bool, true, false, List, [], ◌∷◌, ◌++◌, map, length, refl, arith}
 use Rattle.std.specs.Prelude.{not, ◌==◌, ◌&&◌, if◌then◌else◌, filter, replicate, All}
-use Rattle.std.specs.List.{list_all, range_with_len}
+use Rattle.std.specs.List.{list_all}
 use Rattle.std.proofs.lemmas.Bool.{and_from, and_parts}
 use Rattle.std.proofs.lemmas.List.Elements.{All-nil, All-cons}
 use Rattle.chp_base.specs.declared.channel.Channel.{Channel}
@@ -11,22 +11,21 @@ use Rattle.chp_syntax.specs.declared.tree.Op.{Op}
 use Rattle.chp_syntax.specs.declared.tree.Op.TheVariants.{And, Or, Xor, Add, Sub, Eq, Ne, Lt, Le, Gt, Ge}
 use Rattle.prs_core.specs.declared.rule.Literal.{Literal}
 use Rattle.prs_core.specs.Nets.{GuardValue, NodeRules, IsFilled, is_high, is_low, one_term}
-use Rattle.prs_core.specs.Pairs.{Pair, pair_at, pair_of, no_rules, or_of, lows, rails_of, merged_true, merged_false}
+use Rattle.prs_core.specs.Pairs.{Pair, pair_at, pair_of, no_rules, or_of, merged_true, merged_false}
 use Rattle.width_check.specs.declared.typed.Var.{Var}
 use Rattle.width_check.specs.Processes.{Formula, constant, reading, joined, inverted, chained, compared, Formulas, no_parts, and_part, Operations, no_operations, and_operation, Process, skipping, assigning, sending, receiving, in_turn, side_by_side, choosing, repeating, Processes, no_members, and_member, Choices, no_choices, and_choice, choice_count, TypedProgram}
 use Rattle.width_check.specs.Values.{width_of}
-use Rattle.width_check.specs.Typing.{var_width, IsProcess, AreProcesses, AreChoices, IsTyped}
+use Rattle.width_check.specs.Typing.{var_width, IsProcess, AreProcesses, AreChoices}
 use Rattle.width_check.specs.Reads.{reads}
-use Rattle.handshake_expand.specs.Layout.{operator_size, formula_size, size_of, var_from, root_request, root_latch, body_from, go_node}
+use Rattle.handshake_expand.specs.Layout.{operator_size, formula_size, size_of, var_from, root_request, body_from}
 use Rattle.handshake_expand.specs.Answers.{guards_from, bodies_from, select_own, again_own}
-use Rattle.cell_sequence.specs.Sequence.{q_next}
 use Rattle.cell_parallel.specs.Trees.{level_rules, next_level, levels_rules, tree_rules}
 use Rattle.cell_variable.specs.Variables.{Bit, bits_from, bit_written, bits_rules, written_leaves, variable_rules, all_written, write_answer}
-use Rattle.cell_channel.specs.Ends.{port_rules, end_answer}
+use Rattle.cell_channel.specs.Ends.{port_rules}
 use Rattle.cell_select.specs.Selections.{Choosing, Repeating, all_false, only_one_true, latches, starts, joined_answer, evaluation, leave_latch, select_rules, again_rules}
 use Rattle.function_blocks.specs.Gates.{table, minterm, gate_rail, gate, all_one, some_one, odd_ones, carries, borrows, alike, bitwise, ripple, borrow_gates, conjunctions, all_of_bits, equality, result_pairs, operator_rules, operator_result}
 use Rattle.function_blocks.specs.Expressions.{constant_bit, constant_bits, read_bits, bits_between, formula_result, formula_rules, joined_rules, chained_rules}
-use Rattle.net_compose.specs.Translation.{through_at, block_bits, bits_at, written_at, rails_at, ack_at, body_answer, q_rules, through_rules, guard_pairs, guards_rules, choosing_at, repeating_at, branch_ends, branches_end, rules_of, turn_rules, branches_rules, bodies_rules, send_site, receive_site, write_site, in_body, rail_rules, channel_rules, channels_rules, vars_rules, all_rules}
+use Rattle.net_compose.specs.Translation.{through_at, block_bits, bits_at, written_at, rails_at, q_rules, through_rules, guard_pairs, guards_rules, choosing_at, repeating_at, branch_ends, branches_end, rules_of, turn_rules, branches_rules, bodies_rules, send_site, receive_site, write_site, in_body, rail_rules, channel_rules, channels_rules, vars_rules, all_rules}
 use Rattle.net_compose.proofs.Sizes.{root_and_body}
 
 abbrev pub is_filled : List Literal → Bool

@@ -1,8 +1,7 @@
 -- The rules of a typed program's net have at most 64 literals for each node: a merge has some for each site, and each site
 -- has rails of its own.
-use Rattle.std.proofs.Common.{◌≡◌, ℕ, zero, suc, ◌+◌, ◌-◌, ◌*◌, ◌≤◌, ◌<◌, Bool, true, false, List, [], ◌∷◌, ◌++◌, map, length, refl, sym, ap, subst, ◌≢◌, ◌∙◌, arith, length-append}
+use Rattle.std.proofs.Common.{◌≡◌, ℕ, zero, suc, ◌+◌, ◌*◌, ◌≤◌, Bool, true, false, List, [], ◌∷◌, ◌++◌, map, length, refl, sym, ap, subst, ◌≢◌, ◌∙◌, arith, length-append}
 use Rattle.std.specs.Prelude.{◌==◌, if◌then◌else◌, replicate}
-use Rattle.std.specs.List.{range_with_len}
 use Rattle.std.proofs.lemmas.List.{length-map}
 use Rattle.std.proofs.lemmas.List.FromFn.{length-range_with_len}
 use Rattle.chp_base.specs.declared.span.Span.{Span}
@@ -13,18 +12,18 @@ use Rattle.prs_core.specs.declared.rule.Literal.{Literal}
 use Rattle.prs_core.specs.Nets.{NodeRules, literals_of, is_high, is_low, one_term}
 use Rattle.prs_core.specs.Pairs.{Pair, pairs_from, no_rules, or_of, lows, rails_of, merged_true, merged_false, pair_of}
 use Rattle.width_check.specs.declared.typed.Var.{Var}
-use Rattle.width_check.specs.Processes.{Formula, Process, skipping, assigning, sending, receiving, in_turn, side_by_side, choosing, repeating, Processes, no_members, and_member, member_count, Choices, no_choices, and_choice, choice_count, TypedProgram}
-use Rattle.width_check.specs.Values.{width_of, IsWellFormed}
+use Rattle.width_check.specs.Processes.{Formula, Process, skipping, assigning, sending, receiving, in_turn, side_by_side, choosing, repeating, Processes, no_members, and_member, Choices, no_choices, and_choice, choice_count, TypedProgram}
+use Rattle.width_check.specs.Values.{IsWellFormed}
 use Rattle.width_check.specs.Typing.{channel_width, var_width, ReadsFrom, IsOfWidth, IsProcess, AreProcesses, AreChoices, IsTyped}
 use Rattle.width_check.specs.Reads.{reads}
-use Rattle.handshake_expand.specs.Layout.{formula_size, block_size, through_size, assign_size, size_of, turn_size, branches_size, guards_size, bodies_size, wires_size, wires_before, blocks_before, var_from, vars_from, root_request, root_latch, body_from, nodes_of, go_node}
+use Rattle.handshake_expand.specs.Layout.{formula_size, through_size, size_of, turn_size, branches_size, guards_size, bodies_size, blocks_before, var_from, root_request, body_from, nodes_of}
 use Rattle.handshake_expand.specs.Answers.{guards_from, bodies_from, select_own, again_own}
 use Rattle.cell_parallel.specs.Trees.{tree_rules}
-use Rattle.cell_variable.specs.Variables.{Bit, bits_from, bits_rules, bit_rules, written_leaves, variable_rules, all_written, write_answer}
-use Rattle.cell_select.specs.Selections.{Choosing, Repeating, all_false, only_one_true, latches, started, starts, select_rules, again_rules}
+use Rattle.cell_variable.specs.Variables.{bits_from, bits_rules, written_leaves, variable_rules, all_written, write_answer}
+use Rattle.cell_select.specs.Selections.{Choosing, Repeating, all_false, only_one_true, latches, starts, select_rules, again_rules}
 use Rattle.function_blocks.specs.Expressions.{formula_result, formula_rules, read_bits}
-use Rattle.net_compose.specs.Translation.{Through, through_at, block_bits, bits_at, written_at, rails_at, body_answer, q_rules, through_rules, guard_pairs, branch_answers, guards_rules, choosing_at, repeating_at, branch_ends, branches_end, rules_of, turn_rules, branches_rules, bodies_rules, Sites, sites_in, sites_in_turn, sites_in_branches, sites_in_bodies, send_site, receive_site, write_site, assigned_rails, in_body, rail_rules, channel_rules, channels_rules, vars_rules, all_rules, composed, translation}
-use Rattle.net_compose.proofs.GuardCosts.{cost, cost-append, net_cost, literals_in, Cheap, formula_cheap, reads_cheap, tree_cheap, ports_cheap, or_cost, silent_cost, singles_cost, size_wide}
+use Rattle.net_compose.specs.Translation.{through_at, block_bits, bits_at, written_at, rails_at, q_rules, through_rules, branch_answers, guards_rules, choosing_at, repeating_at, branch_ends, branches_end, rules_of, turn_rules, branches_rules, bodies_rules, sites_in, sites_in_turn, sites_in_branches, sites_in_bodies, send_site, receive_site, write_site, assigned_rails, in_body, rail_rules, channel_rules, channels_rules, vars_rules, all_rules, translation}
+use Rattle.net_compose.proofs.GuardCosts.{cost, cost-append, net_cost, formula_cheap, tree_cheap, or_cost, silent_cost, singles_cost, size_wide}
 use Rattle.net_compose.proofs.Sizes.{Counted, has_bits, block_length, pairs_length, pairs_of_guards, ends_length, root_and_body}
 use Rattle.circuit_places.proofs.LineNames.{self_number, same_number}
 use Rattle.cell_channel.specs.Ends.{port_rules}

@@ -1,6 +1,6 @@
 -- The names of a typed program's nodes: each is the name of a node, and no two are alike.
 use Rattle.std.proofs.Common.{◌≡◌, ◌≢◌, ℕ, zero, suc, ◌+◌, ◌-◌, ◌*◌, ◌<◌, ◌≤◌, ◌^◌, ◌==◌, Bool, true, false, List, [], ◌∷◌, ◌++◌, map, length, get_or, refl, sym, ap, subst, ◌∙◌, ⊎_elim, arith, lit<, lit≤, length-append, append_assoc, get_or-append-add}
-use Rattle.std.specs.Prelude.{not, ◌&&◌, ◌||◌, if◌then◌else◌, All, AllPairs, codes, decimal, drop}
+use Rattle.std.specs.Prelude.{◌&&◌, ◌||◌, if◌then◌else◌, All, AllPairs, codes, decimal, drop}
 use Rattle.std.specs.List.{list_all, range_with_len, flat_map}
 use Rattle.std.specs.Str.Parse.{AllDigits}
 use Rattle.std.proofs.lemmas.Bool.{and_from, and_parts, cases_lt}
@@ -8,15 +8,15 @@ use Rattle.std.proofs.lemmas.Bool.Decides.{nat_tests}
 use Rattle.std.proofs.lemmas.Str.Parse.{tells_digits}
 use Rattle.std.proofs.lemmas.List.{length-map, get_or_append_left, get_or-map, get_or_default}
 use Rattle.std.proofs.lemmas.List.FromFn.{get_or-range_with_len, length-range_with_len}
-use Rattle.std.proofs.lemmas.List.Elements.{All-get_or, All-from_get_or, All-head, All-tail}
+use Rattle.std.proofs.lemmas.List.Elements.{All-from_get_or, All-head, All-tail}
 use Rattle.std.proofs.lemmas.Fmt.{decimal_injective, decimal_is_IsNumeral, length-decimal-le}
-use Rattle.chp_base.specs.Names.{IsName, IsNodeName, letter, digit, word_part, node_part, begins_with_letter}
+use Rattle.chp_base.specs.Names.{IsName, IsNodeName, letter, digit, word_part, node_part}
 use Rattle.chp_base.specs.declared.channel.Channel.{Channel}
 use Rattle.prs_core.specs.Nets.{true_rail, false_rail, rail_names, ack_name}
 use Rattle.width_check.specs.declared.typed.Var.{Var}
 use Rattle.width_check.specs.Processes.{TypedProgram}
 use Rattle.width_check.specs.Typing.{channel_width, var_width, names_of, IsTyped, IsDeclaredChannel, IsDeclaredVar}
-use Rattle.handshake_expand.specs.Layout.{wires_size, block_size, wires_before, blocks_before, channel_from, var_from, vars_from, root_request, body_from, size_of, nodes_of}
+use Rattle.handshake_expand.specs.Layout.{wires_size, block_size, wires_before, blocks_before, channel_from, var_from, vars_from, root_request, size_of, nodes_of}
 use Rattle.handshake_expand.specs.Named.{numbered, numbered_from, wire_names, bit_names, block_names, node_names}
 use Rattle.circuit_places.specs.Lines.{Line, of_channel, of_var}
 use Rattle.net_compose.specs.Translation.{ack_at}

@@ -218,7 +218,7 @@ vars_length k p x (v ∷ vs) = both (variable_rules v.width _ (in_body p (write_
 abbrev pub root_and_body : TypedProgram → List NodeRules
 root_and_body p = q_child go_node (root_latch p) ∷ q_latch go_node (body_answer p) ∷ rules_of p p.body (root_request p) (body_from p)
 
-all_length : Counted → (p : TypedProgram) → IsProcess p.channels p.vars p.body → length (all_rules p) ≡ nodes_of p
+pub all_length : Counted → (p : TypedProgram) → IsProcess p.channels p.vars p.body → length (all_rules p) ≡ nodes_of p
 all_length k p h =
     let body = statement_length k p p.body (root_request p) (body_from p) h in
     let vars = both (vars_rules p 0 p.vars) (root_and_body p) _ _ (vars_length k p 0 p.vars) (ap (λ n. suc (suc n)) body) in
