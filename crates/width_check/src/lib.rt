@@ -6,8 +6,6 @@ mod evaluate;
 mod fitting;
 mod operate;
 mod resolving;
-#[cfg(test)]
-mod tests;
 mod typed;
 mod width;
 
