@@ -3,9 +3,12 @@
 
 mod declared;
 mod evaluate;
+mod findings;
 mod fitting;
 mod operate;
 mod resolving;
+mod scope;
+mod survey;
 #[cfg(test)]
 mod tests;
 mod typed;
