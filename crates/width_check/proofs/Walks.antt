@@ -11,8 +11,8 @@ use Rattle.chp_syntax.specs.declared.tree.Ident.{Ident}
 use Rattle.chp_syntax.specs.declared.tree.Op.{Op}
 use Rattle.chp_syntax.specs.Trees.{Expression, number, whole, slice, bit, join, negation, chain, Expressions, no_parts, and_part, Links, no_links, and_link, Statement, assigns, sends, follows, besides, selects, repeats, Statements, no_members, and_member, Arms, no_arms, and_arm}
 use Rattle.width_check.specs.declared.findings.Findings.{Findings}
-use Rattle.width_check.specs.Places.{use_of, written, sent_on, read, compares, own_width, own_widths, span_of, Expected, expect, leaves, leaves_of_links, declared_width, expressions_in, expressions_in_each, expressions_in_arms, inside}
-use Rattle.width_check.specs.Walk.{earlier, first_of, Met, met_both, met_nothing, met_use, met_in, met_join, met_chain, met_in_parts, met_in_links, met_of, met_of_each, met_of_arms, all_inside, leaves_of_all, capped, side_width, exceeds, is_unfit, is_misfit, is_wide_number, lacking_parts, lacks_width, noted}
+use Rattle.width_check.specs.Places.{declaration, use_of, written, sent_on, read, compares, own_width, own_widths, span_of, Expected, expect, leaves, leaves_of_parts, leaves_of_links, declared_width, expressions_in, expressions_in_each, expressions_in_arms, inside}
+use Rattle.width_check.specs.Walk.{earlier, first_of, Met, met_both, met_nothing, met_use, met_in, met_join, met_chain, met_in_parts, met_in_links, met_of, met_of_each, met_of_arms, all_inside, leaves_of_all, capped, side_width, exceeds, is_unfit, is_misfit, is_wide_number, lacking_parts, noted, differs_in_kind, goes_against}
 
 pub first_of-append : {X : Type 0} (test : X → Bool) (at : X → Span) (o : Option Span) (xs ys : List X) → first_of test at o (xs ++ ys) ≡ first_of test at (first_of test at o xs) ys
 first_of-append test at o [] ys = refl
@@ -53,7 +53,7 @@ chain_same : (decls : List Decl) {test : Expected → Bool} {v w : ℕ} → IsBl
     → ((o : Option Span) → first_of test place_of o (leaves decls v e) ≡ first_of test place_of o (leaves decls w e))
     → ((o : Option Span) → first_of test place_of o (leaves_of_links decls v more) ≡ first_of test place_of o (leaves_of_links decls w more))
     → (o : Option Span) → first_of test place_of o (leaves decls v (chain e more at)) ≡ first_of test place_of o (leaves decls w (chain e more at))
-chain_same decls blind e more at true is first rest o = rw is (leaf_same blind (chain e more at) o _)
+chain_same decls blind e more at true is first rest o = rw is (leaf_same blind (chain e more at) o (leaves decls (unwrap_or (side_width decls e more) 0) e ++ leaves_of_links decls (unwrap_or (side_width decls e more) 0) more))
 chain_same decls {test} {v} {w} blind e more at false is first rest o =
     rw is (first_of-append test place_of o (leaves decls v e) (leaves_of_links decls v more)
     ∙ ap (λ (p : Option Span). first_of test place_of p (leaves_of_links decls v more)) (first o)
@@ -66,7 +66,7 @@ mutual
   leaves_same decls blind (whole of) o = leaf_same blind (whole of) o []
   leaves_same decls blind (slice of high low at) o = leaf_same blind (slice of high low at) o []
   leaves_same decls blind (bit of place at) o = leaf_same blind (bit of place at) o []
-  leaves_same decls blind (join parts at) o = leaf_same blind (join parts at) o _
+  leaves_same decls blind (join parts at) o = leaf_same blind (join parts at) o (leaves_of_parts decls parts)
   leaves_same decls blind (negation e at) o = leaves_same decls blind e o
   leaves_same decls blind (chain e more at) o = chain_same decls blind e more at (compares more) refl (λ p. leaves_same decls blind e p) (λ p. links_same decls blind more p) o
 
@@ -94,8 +94,8 @@ pub join_node : (decls : List Decl) (parts : Expressions) (at : Span) (f g : Fin
     → record g { leaf = (if nat_lt 64 n || not (n == w) then earlier g.leaf at else g.leaf) } ≡ noted decls f (met_join w parts at)
 join_node decls parts at f g n w own is = rw (is, own, misfit_capped (own_widths decls parts) w, append-nil (lacking_parts decls parts)) refl
 
-pub noted_part : (decls : List Decl) (f g whole : Findings) (e : Expression) (more : Expressions) (o : Option ℕ) (w : ℕ) → noted decls f (met_in_parts decls (and_part e more)) ≡ whole → o ≡ option_map capped (own_width decls e) → w ≡ unwrap_or o 0 → g ≡ noted decls f (met_in decls w e) → noted decls g (met_in_parts decls more) ≡ whole
-noted_part decls f g whole e more o w so_far own wanted new =
+pub noted_part : (decls : List Decl) (f g total : Findings) (e : Expression) (more : Expressions) (o : Option ℕ) (w : ℕ) → noted decls f (met_in_parts decls (and_part e more)) ≡ total → o ≡ option_map capped (own_width decls e) → w ≡ unwrap_or o 0 → g ≡ noted decls f (met_in decls w e) → noted decls g (met_in_parts decls more) ≡ total
+noted_part decls f g total e more o w so_far own wanted new =
     let same : capped w ≡ capped (unwrap_or (own_width decls e) 0) = ap capped (wanted ∙ ap (λ (p : Option ℕ). unwrap_or p 0) own) ∙ wanted_own (own_width decls e) in
     ap (λ (h : Findings). noted decls h (met_in_parts decls more)) (new ∙ noted_wanted decls f w (unwrap_or (own_width decls e) 0) e same)
     ∙ noted_both decls f (met_in decls (unwrap_or (own_width decls e) 0) e) (met_in_parts decls more) ∙ so_far
@@ -105,8 +105,8 @@ noted_join decls f g w parts at is = ap (λ (h : Findings). noted decls h (met_i
 
 -- a chain
 
-pub noted_link : (decls : List Decl) (f g whole : Findings) (w : ℕ) (op : Op) (e : Expression) (more : Links) → noted decls f (met_in_links decls w (and_link op e more)) ≡ whole → g ≡ noted decls f (met_in decls w e) → noted decls g (met_in_links decls w more) ≡ whole
-noted_link decls f g whole w op e more so_far new =
+pub noted_link : (decls : List Decl) (f g total : Findings) (w : ℕ) (op : Op) (e : Expression) (more : Links) → noted decls f (met_in_links decls w (and_link op e more)) ≡ total → g ≡ noted decls f (met_in decls w e) → noted decls g (met_in_links decls w more) ≡ total
+noted_link decls f g total w op e more so_far new =
     ap (λ (h : Findings). noted decls h (met_in_links decls w more)) new ∙ noted_both decls f (met_in decls w e) (met_in_links decls w more) ∙ so_far
 
 links_wanted : (decls : List Decl) (f : Findings) (v w : ℕ) (more : Links) → capped v ≡ capped w → noted decls f (met_in_links decls v more) ≡ noted decls f (met_in_links decls w more)
@@ -144,15 +144,15 @@ noted_chain decls f g h w v e more at wanted node first =
 each_pieces : (decls : List Decl) (s : Statement) (more : Statements) → met_both (met_of decls s) (met_of_each decls more) ≡ met_of_each decls (and_member s more)
 each_pieces decls s more = simp flat_map-append
 
-pub noted_member : (decls : List Decl) (f g whole : Findings) (s : Statement) (more : Statements) → noted decls f (met_of_each decls (and_member s more)) ≡ whole → g ≡ noted decls f (met_of decls s) → noted decls g (met_of_each decls more) ≡ whole
-noted_member decls f g whole s more so_far new =
+pub noted_member : (decls : List Decl) (f g total : Findings) (s : Statement) (more : Statements) → noted decls f (met_of_each decls (and_member s more)) ≡ total → g ≡ noted decls f (met_of decls s) → noted decls g (met_of_each decls more) ≡ total
+noted_member decls f g total s more so_far new =
     ap (λ (h : Findings). noted decls h (met_of_each decls more)) new ∙ noted_both decls f (met_of decls s) (met_of_each decls more) ∙ ap (λ (m : Met). noted decls f m) (each_pieces decls s more) ∙ so_far
 
 arm_pieces : (decls : List Decl) (g : Expression) (s : Statement) (more : Arms) → met_both (met_in decls 1 g) (met_both (met_of decls s) (met_of_arms decls more)) ≡ met_of_arms decls (and_arm g s more)
 arm_pieces decls g s more = simp flat_map-append
 
-pub noted_arm : (decls : List Decl) (f g h whole : Findings) (guard : Expression) (s : Statement) (more : Arms) → noted decls f (met_of_arms decls (and_arm guard s more)) ≡ whole → g ≡ noted decls f (met_in decls 1 guard) → h ≡ noted decls g (met_of decls s) → noted decls h (met_of_arms decls more) ≡ whole
-noted_arm decls f g h whole guard s more so_far first second =
+pub noted_arm : (decls : List Decl) (f g h total : Findings) (guard : Expression) (s : Statement) (more : Arms) → noted decls f (met_of_arms decls (and_arm guard s more)) ≡ total → g ≡ noted decls f (met_in decls 1 guard) → h ≡ noted decls g (met_of decls s) → noted decls h (met_of_arms decls more) ≡ total
+noted_arm decls f g h total guard s more so_far first second =
     ap (λ (x : Findings). noted decls x (met_of_arms decls more)) second
     ∙ noted_both decls g (met_of decls s) (met_of_arms decls more)
     ∙ ap (λ (x : Findings). noted decls x (met_both (met_of decls s) (met_of_arms decls more))) first
@@ -165,12 +165,23 @@ assign_pieces decls target e = simp append-nil
 send_pieces : (decls : List Decl) (chan : Ident) (e : Expression) → met_both (met_use (use_of chan sent_on)) (met_in decls (declared_width decls chan.name) e) ≡ met_of decls (sends chan e)
 send_pieces decls chan e = simp append-nil
 
--- a variable that is read is noted as one that is written
+kind_same : (o : Option Decl) → differs_in_kind o read ≡ differs_in_kind o written
+kind_same None = refl
+kind_same (Some d) = refl
+
+side_same : (o : Option Decl) → goes_against o read ≡ goes_against o written
+side_same None = refl
+side_same (Some d) = refl
+
+-- a variable that is written is noted as one that is read
+read_written : (decls : List Decl) (f : Findings) (target : Ident) → noted decls f (met_use (use_of target read)) ≡ noted decls f (met_use (use_of target written))
+read_written decls f target = rw (kind_same (declaration decls target.name), side_same (declaration decls target.name)) refl
+
 pub noted_assign : (decls : List Decl) (f g h : Findings) (target : Ident) (e : Expression) (w : ℕ) → g ≡ noted decls f (met_use (use_of target read)) → w ≡ capped (declared_width decls target.name) → h ≡ noted decls g (met_in decls w e) → h ≡ noted decls f (met_of decls (assigns target e))
 noted_assign decls f g h target e w first wanted second =
     let same : capped w ≡ capped (declared_width decls target.name) = grind arith in
     second ∙ noted_wanted decls g w (declared_width decls target.name) e same
-    ∙ ap (λ (x : Findings). noted decls x (met_in decls (declared_width decls target.name) e)) first
+    ∙ ap (λ (x : Findings). noted decls x (met_in decls (declared_width decls target.name) e)) (first ∙ read_written decls f target)
     ∙ noted_both decls f (met_use (use_of target written)) (met_in decls (declared_width decls target.name) e)
     ∙ ap (λ (m : Met). noted decls f m) (assign_pieces decls target e)
 
