@@ -5,6 +5,7 @@ mod declared;
 mod evaluate;
 mod findings;
 mod fitting;
+mod naming;
 mod operate;
 mod resolving;
 mod scope;
