@@ -9,6 +9,7 @@ pub mod Places
 pub mod Calls
 pub mod Faults
 pub mod Walk
+pub mod Refusing
 pub mod Form
 pub mod Sharing
 pub mod Accepted

@@ -38,6 +38,10 @@ abbrev pub earlier : Option Span → Span → Option Span
 earlier None s = Some s
 earlier (Some t) s = if is_earlier s t then Some s else Some t
 
+abbrev pub earlier_of : Option Span → Option Span → Option Span
+earlier_of o None = o
+earlier_of o (Some s) = earlier o s
+
 -- the first of a place and those of the items that pass a test
 abbrev pub first_of : {X : Type 0} → (X → Bool) → (X → Span) → Option Span → List X → Option Span
 first_of test at o [] = o

@@ -1,6 +1,7 @@
 //! Programs whose names and widths are checked.
 #![tactic(auto)]
 
+mod causes;
 mod declared;
 mod evaluate;
 mod findings;
