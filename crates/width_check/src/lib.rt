@@ -6,6 +6,7 @@ mod declared;
 mod evaluate;
 mod findings;
 mod fitting;
+pub mod laws;
 mod naming;
 mod operate;
 mod resolving;
