@@ -106,10 +106,10 @@ shifted ns ms d ds s move h = record {
   second = h.second;
   second_is = h.second_is;
   before =
-    ⊎_elim
-    (λ c. ⊎_elim (λ there. inl there) (λ (same : d.name.name ≡ h.second.name.name). inr (record { earlier = 0; order = omega arith; first = d; first_is = refl; same = same })) (move h.second.name.name c))
-    (λ (g : Again ds h.later h.second.name.name). inr (record { earlier = suc g.earlier; order = omega (arith, g.order); first = g.first; first_is = g.first_is; same = g.same }))
-    h.before;
+      ⊎_elim
+      (λ c. ⊎_elim (λ there. inl there) (λ (same : d.name.name ≡ h.second.name.name). inr (record { earlier = 0; order = omega arith; first = d; first_is = refl; same = same })) (move h.second.name.name c))
+      (λ (g : Again ds h.later h.second.name.name). inr (record { earlier = suc g.earlier; order = omega (arith, g.order); first = g.first; first_is = g.first_is; same = g.same }))
+      h.before;
   at = h.at;
 }
 
@@ -153,9 +153,9 @@ double_of P ns o (d ∷ ds) least = by_test (list_any (bytes_eq d.name.name) ns)
         least_same (λ s. P s ⊎ DoubleIn ms ds s) (λ s. P s ⊎ DoubleIn ns (d ∷ ds) s) (first_double ms o ds)
         (λ s h. ⊎_elim (λ p. inl p) (λ q. inr (shifted ms ns d ds s (λ n c. behind ns d.name.name n c) q)) h)
         (λ s h.
-            ⊎_elim (λ p. inl p)
-            (λ q. ⊎_elim (λ e. absurd (let t : true ≡ false = sym (any_there d.name.name ns e.1) ∙ is in cc t)) (λ r. inr r) (unshifted ns ms d ds s (λ n c. Contains-append_left ns (d.name.name ∷ []) n c) (Contains-append_right ns (d.name.name ∷ []) d.name.name (0, omega arith, refl)) q))
-            h)
+        ⊎_elim (λ p. inl p)
+        (λ q. ⊎_elim (λ e. absurd (let t : true ≡ false = sym (any_there d.name.name ns e.1) ∙ is in cc t)) (λ r. inr r) (unshifted ns ms d ds s (λ n c. Contains-append_left ns (d.name.name ∷ []) n c) (Contains-append_right ns (d.name.name ∷ []) d.name.name (0, omega arith, refl)) q))
+        h)
         (rest P ms o least)
 
 pub double_least : (p : ProgramTree) → IsLeast (λ s. IsDouble p s) (first_double [] None p.decls)

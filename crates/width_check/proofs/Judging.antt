@@ -14,11 +14,12 @@ use Rattle.width_check.specs.Order.{IsNoLater, IsFirst}
 use Rattle.width_check.specs.Places.{declared_width, compares, or_width, own_width, own_widths, first_width, span_of, Expected, expect, leaves, leaves_of_parts, leaves_of_links, expressions_in, expressions_in_each, expressions_in_arms}
 use Rattle.width_check.specs.Faults.{all_expressions, all_leaves, IsWideJoin, IsMisfit, IsMisfitLeaf, IsMisfitReceive, IsWideNumber, IsWideFirst, FaultAt, naming_faults, HasNone, IsFirstFault}
 use Rattle.width_check.specs.Refusing.{AreNone, IsFirstCause}
+use Rattle.width_check.specs.Sound.{AreRanged}
 use Rattle.width_check.specs.Walk.{is_earlier, earlier, earlier_of, first_of, first_double, met_of, capped, side_width, is_bad_part, is_unfit, is_misfit, exceeds, is_wide_number, is_misfit_target, is_out_of_range, is_wide_first, no_findings, noted}
 use Rattle.width_check.proofs.Least.{IsLeast, Passes, least_same, least_more, least_in, no_later_chain, in_rest, front_or_rest, no_item}
 use Rattle.width_check.proofs.Reasons.{is_false, not_both, none_pass, undeclared_least, wrong_kind_least, direction_least, slice_least, widthless_least, target_least, range_least, in_flat_map, flat_map_in}
 use Rattle.width_check.proofs.Doubles.{double_least}
-use Rattle.width_check.proofs.Leaves.{leaf_of_program, AreRanged, ranged_some, ranged_most, declared_most, wide_leaf}
+use Rattle.width_check.proofs.Leaves.{leaf_of_program, ranged_most, declared_most, wide_leaf}
 
 -- the earlier of two
 pub least_either : (P Q : Span → Type 0) (a b : Option Span) → IsLeast P a → IsLeast Q b → IsLeast (λ s. P s ⊎ Q s) (earlier_of a b)
@@ -246,17 +247,17 @@ pub number_least : (p : ProgramTree) → AreRanged p.decls → AreFit p.decls (a
 number_least p ranged fit =
     least_same (λ s. Passes is_wide_number place_of (all_leaves p) s) (λ s. IsWideNumber p s) _
     (λ s h.
-        let w = wide_of h.item.expression h.item.width (all_narrow p ranged fit h.item h.among) h.passed in
-        let same : s ≡ w.1 = h.place ∙ ap span_of w.2 in
-        record {
-          width = h.item.width;
-          value = w.0;
-          among = subst (λ (t : Span). Contains (all_leaves p) (expect (number w.0 t) h.item.width)) (sym same) (subst (λ (x : Expression). Contains (all_leaves p) (expect x h.item.width)) w.2 h.among);
-          wide = w.3;
-        })
+    let w = wide_of h.item.expression h.item.width (all_narrow p ranged fit h.item h.among) h.passed in
+    let same : s ≡ w.1 = h.place ∙ ap span_of w.2 in
+    record {
+      width = h.item.width;
+      value = w.0;
+      among = subst (λ (t : Span). Contains (all_leaves p) (expect (number w.0 t) h.item.width)) (sym same) (subst (λ (x : Expression). Contains (all_leaves p) (expect x h.item.width)) w.2 h.among);
+      wide = w.3;
+    })
     (λ s h.
-        let most = all_narrow p ranged fit (expect (number h.value s) h.width) h.among in
-        record { item = expect (number h.value s) h.width; among = h.among; passed = let same = capped_narrow h.width most in rw same (le_test (2 ^ h.width) h.value h.wide); place = refl })
+    let most = all_narrow p ranged fit (expect (number h.value s) h.width) h.among in
+    record { item = expect (number h.value s) h.width; among = h.among; passed = let same = capped_narrow h.width most in rw same (le_test (2 ^ h.width) h.value h.wide); place = refl })
     (least_in is_wide_number place_of (all_leaves p))
 
 -- a first value that is too great
@@ -361,20 +362,20 @@ judged p double range f wide c s found first =
     let known = facts p double range f wide found in
     first_cause p code.DoubleName from_range double _ c s (subst (λ (o : Option Span). IsLeast (FaultAt p code.DoubleName) o) (sym found.doubles) (double_least p))
     (λ none1 rest1. first_cause p code.WidthRange from_names range _ c s (subst (λ (o : Option Span). IsLeast (FaultAt p code.WidthRange) o) (sym found.ranges) (range_least p))
-      (λ none2 rest2. first_cause p code.Undeclared from_kinds f.undeclared _ c s (subst (λ (g : Findings). IsLeast (FaultAt p code.Undeclared) g.undeclared) (sym found.findings) (undeclared_least p))
-        (λ none3 rest3. first_cause p code.WrongKind from_directions f.wrong_kind _ c s (subst (λ (g : Findings). IsLeast (FaultAt p code.WrongKind) g.wrong_kind) (sym found.findings) (wrong_kind_least p))
-          (λ none4 rest4. first_cause p code.Direction from_slices f.direction _ c s (subst (λ (g : Findings). IsLeast (FaultAt p code.Direction) g.direction) (sym found.findings) (direction_least p))
-            (λ none5 rest5. first_cause p code.BadSlice from_widthless f.slice _ c s (subst (λ (g : Findings). IsLeast (FaultAt p code.BadSlice) g.slice) (sym found.findings) (slice_least p))
-              (λ none6 rest6. first_cause p code.UnknownWidth from_widths f.widthless _ c s (subst (λ (g : Findings). IsLeast (FaultAt p code.UnknownWidth) g.widthless) (sym found.findings) (widthless_least p))
-                (λ none7 rest7. first_cause p code.Width from_constants (earlier_of f.leaf f.target) _ c s (known.width none2 none6)
-                  (λ none8 rest8. first_cause p code.ConstantTooWide [] (earlier_of f.number wide) _ c s (known.constant none2 (left_none f.leaf f.target none8)) (λ none9 rest9. absurd rest9) rest8)
-                  rest7)
-                rest6)
-              rest5)
-            rest4)
-          rest3)
-        rest2)
-      rest1)
+    (λ none2 rest2. first_cause p code.Undeclared from_kinds f.undeclared _ c s (subst (λ (g : Findings). IsLeast (FaultAt p code.Undeclared) g.undeclared) (sym found.findings) (undeclared_least p))
+    (λ none3 rest3. first_cause p code.WrongKind from_directions f.wrong_kind _ c s (subst (λ (g : Findings). IsLeast (FaultAt p code.WrongKind) g.wrong_kind) (sym found.findings) (wrong_kind_least p))
+    (λ none4 rest4. first_cause p code.Direction from_slices f.direction _ c s (subst (λ (g : Findings). IsLeast (FaultAt p code.Direction) g.direction) (sym found.findings) (direction_least p))
+    (λ none5 rest5. first_cause p code.BadSlice from_widthless f.slice _ c s (subst (λ (g : Findings). IsLeast (FaultAt p code.BadSlice) g.slice) (sym found.findings) (slice_least p))
+    (λ none6 rest6. first_cause p code.UnknownWidth from_widths f.widthless _ c s (subst (λ (g : Findings). IsLeast (FaultAt p code.UnknownWidth) g.widthless) (sym found.findings) (widthless_least p))
+    (λ none7 rest7. first_cause p code.Width from_constants (earlier_of f.leaf f.target) _ c s (known.width none2 none6)
+    (λ none8 rest8. first_cause p code.ConstantTooWide [] (earlier_of f.number wide) _ c s (known.constant none2 (left_none f.leaf f.target none8)) (λ none9 rest9. absurd rest9) rest8)
+    rest7)
+    rest6)
+    rest5)
+    rest4)
+    rest3)
+    rest2)
+    rest1)
     first
 
 nowhere : (p : ProgramTree) (d : FaultCode) (o : Option Span) → o ≡ None → IsLeast (FaultAt p d) o → (s : Span) → ¬ FaultAt p d s
@@ -385,13 +386,28 @@ unjudged p double range f wide found none =
     let known = facts p double range f wide found in
     let ranges = none.1.0 in
     let slices = none.1.1.1.1.1.0 in
-    let widths = none.1.1.1.1.1.1.1.0 in
-    (nowhere p code.DoubleName double none.0 (subst (λ (o : Option Span). IsLeast (FaultAt p code.DoubleName) o) (sym found.doubles) (double_least p)),
-      (nowhere p code.WidthRange range ranges (subst (λ (o : Option Span). IsLeast (FaultAt p code.WidthRange) o) (sym found.ranges) (range_least p)),
-        (nowhere p code.Undeclared f.undeclared none.1.1.0 (subst (λ (g : Findings). IsLeast (FaultAt p code.Undeclared) g.undeclared) (sym found.findings) (undeclared_least p)),
-          (nowhere p code.WrongKind f.wrong_kind none.1.1.1.0 (subst (λ (g : Findings). IsLeast (FaultAt p code.WrongKind) g.wrong_kind) (sym found.findings) (wrong_kind_least p)),
-            (nowhere p code.Direction f.direction none.1.1.1.1.0 (subst (λ (g : Findings). IsLeast (FaultAt p code.Direction) g.direction) (sym found.findings) (direction_least p)),
-              (nowhere p code.BadSlice f.slice slices (subst (λ (g : Findings). IsLeast (FaultAt p code.BadSlice) g.slice) (sym found.findings) (slice_least p)),
-                (nowhere p code.UnknownWidth f.widthless none.1.1.1.1.1.1.0 (subst (λ (g : Findings). IsLeast (FaultAt p code.UnknownWidth) g.widthless) (sym found.findings) (widthless_least p)),
-                  (nowhere p code.Width (earlier_of f.leaf f.target) widths (known.width ranges slices),
-                    (nowhere p code.ConstantTooWide (earlier_of f.number wide) none.1.1.1.1.1.1.1.1.0 (known.constant ranges (left_none f.leaf f.target widths)), tt)))))))))
+    let widths = none.1.1.1.1.1.1.1.0 in (
+      nowhere p code.DoubleName double none.0 (subst (λ (o : Option Span). IsLeast (FaultAt p code.DoubleName) o) (sym found.doubles) (double_least p)),
+      (
+        nowhere p code.WidthRange range ranges (subst (λ (o : Option Span). IsLeast (FaultAt p code.WidthRange) o) (sym found.ranges) (range_least p)),
+        (
+          nowhere p code.Undeclared f.undeclared none.1.1.0 (subst (λ (g : Findings). IsLeast (FaultAt p code.Undeclared) g.undeclared) (sym found.findings) (undeclared_least p)),
+          (
+            nowhere p code.WrongKind f.wrong_kind none.1.1.1.0 (subst (λ (g : Findings). IsLeast (FaultAt p code.WrongKind) g.wrong_kind) (sym found.findings) (wrong_kind_least p)),
+            (
+              nowhere p code.Direction f.direction none.1.1.1.1.0 (subst (λ (g : Findings). IsLeast (FaultAt p code.Direction) g.direction) (sym found.findings) (direction_least p)),
+              (
+                nowhere p code.BadSlice f.slice slices (subst (λ (g : Findings). IsLeast (FaultAt p code.BadSlice) g.slice) (sym found.findings) (slice_least p)),
+                (
+                  nowhere p code.UnknownWidth f.widthless none.1.1.1.1.1.1.0 (subst (λ (g : Findings). IsLeast (FaultAt p code.UnknownWidth) g.widthless) (sym found.findings) (widthless_least p)),
+                  (
+                    nowhere p code.Width (earlier_of f.leaf f.target) widths (known.width ranges slices),
+                    (nowhere p code.ConstantTooWide (earlier_of f.number wide) none.1.1.1.1.1.1.1.1.0 (known.constant ranges (left_none f.leaf f.target widths)), tt),
+                  ),
+                ),
+              ),
+            ),
+          ),
+        ),
+      ),
+    )

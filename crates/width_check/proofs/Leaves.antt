@@ -8,6 +8,7 @@ use Rattle.chp_syntax.specs.declared.tree.Decl.{Decl}
 use Rattle.chp_syntax.specs.Trees.{Expression, number, whole, slice, bit, join, negation, chain, Expressions, no_parts, and_part, Links, no_links, and_link, ProgramTree}
 use Rattle.width_check.specs.Places.{declaration, declared_width, compares, own_width, own_widths, Expected, expect, leaves, leaves_of_parts, leaves_of_links, expressions_in, inside, inside_parts, inside_links}
 use Rattle.width_check.specs.Faults.{all_expressions, all_leaves, IsWideJoin}
+use Rattle.width_check.specs.Sound.{AreRanged}
 use Rattle.width_check.specs.Walk.{side_width, is_bad_part, is_out_of_range}
 use Rattle.width_check.proofs.Least.{in_rest, front_or_rest, no_item}
 use Rattle.width_check.proofs.Reasons.{not_both, in_flat_map, flat_map_in}
@@ -79,9 +80,6 @@ leaf_of_program p l c =
     wider (inside e.0.expression) (all_expressions p) l (λ x k. flat_map_in (λ (y : Expected). inside y.expression) (expressions_in p.decls p.body) e.0 x e.1 k) (leaf_inside p.decls e.0.width e.0.expression l e.2)
 
 -- declared widths
-
-abbrev pub AreRanged : List Decl → Type 0
-AreRanged ds = (d : Decl) → Contains ds d → is_out_of_range d ≡ false
 
 pub declared_among : (ds : List Decl) (name : List ℕ) (d : Decl) → declaration ds name ≡ Some d → Contains ds d
 declared_among [] name d is = absurd (cc is)

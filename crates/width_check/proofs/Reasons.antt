@@ -205,8 +205,8 @@ pub widthless_least : (p : ProgramTree) → IsLeast (λ s. IsOfUnknownWidth p s)
 widthless_least p =
     least_same (λ s. Passes (λ (s : Span). true) (λ (s : Span). s) (flat_map (lacking p.decls) (all_expressions p)) s) (λ s. IsOfUnknownWidth p s) _
     (λ s h.
-        let e = in_flat_map (lacking p.decls) (all_expressions p) h.item h.among in
-        record { expression = e.0; among = e.1; lacks = subst (λ (t : Span). LacksWidth p.decls e.0 t) (sym h.place) (lacks_is p.decls e.0 h.item e.2) })
+    let e = in_flat_map (lacking p.decls) (all_expressions p) h.item h.among in
+    record { expression = e.0; among = e.1; lacks = subst (λ (t : Span). LacksWidth p.decls e.0 t) (sym h.place) (lacks_is p.decls e.0 h.item e.2) })
     (λ s h. record { item = s; among = flat_map_in (lacking p.decls) (all_expressions p) h.expression s h.among (is_lacking p.decls h.expression s h.lacks); passed = refl; place = refl })
     (least_in (λ (s : Span). true) (λ (s : Span). s) (flat_map (lacking p.decls) (all_expressions p)))
 

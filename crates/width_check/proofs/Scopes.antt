@@ -20,7 +20,7 @@ found_within [] name i is = absurd (cc is)
 found_within (d ∷ ds) name zero is = omega arith
 found_within (d ∷ ds) name (suc i) is = let less = found_within ds name i is in omega arith
 
-none_among : (n name : List ℕ) (ds : List Decl) (i : ℕ) → AllByRecursion (λ y. bytes_eq n y ≡ false) (names ds) → slice_get (names ds) i ≡ Some name → bytes_eq n name ≡ false
+pub none_among : (n name : List ℕ) (ds : List Decl) (i : ℕ) → AllByRecursion (λ y. bytes_eq n y ≡ false) (names ds) → slice_get (names ds) i ≡ Some name → bytes_eq n name ≡ false
 none_among n name [] i none is = absurd (cc is)
 none_among n name (d ∷ ds) zero none is = let same : d.name.name ≡ name = cc is in subst (λ (m : List ℕ). bytes_eq n m ≡ false) same none.0
 none_among n name (d ∷ ds) (suc i) none is = none_among n name ds i none.1 is

@@ -10,6 +10,7 @@ pub mod Calls
 pub mod Faults
 pub mod Walk
 pub mod Refusing
+pub mod Sound
 pub mod Form
 pub mod Sharing
 pub mod Accepted

@@ -1,12 +1,15 @@
 //! Declarations: their names, and what is wrong with them alone.
 
 ghost use Rattle.std.specs.Prelude.{◌≡◌, ◌≤◌, [], map, length, None, IfOk};
+ghost use Rattle.width_check.specs.Form as form;
+ghost use Rattle.width_check.specs.Sound.{AreRanged, kind_of, numbers_of};
 ghost use Rattle.width_check.specs.Walk as walk;
 
 use crate::findings::{earlier, earlier_if, is_wide};
 use crate::scope::capped;
-use chp_base::{Added, Span, Symbols};
-use chp_syntax::Decl;
+use crate::typed::Var;
+use chp_base::{Added, Channel, Kind, Span, Symbols};
+use chp_syntax::{Decl, DeclKind};
 use std::alloc::{AllocError, Global};
 
 /// The names of some declarations, and the first place at which one is declared again.
@@ -51,7 +54,80 @@ pub fn first_wide(decls: &[Decl]) -> Option<Span>
 {
     let mut first = None;
     for decl in decls {
-        first = earlier_if(is_wide(decl.first, capped(decl.width)), first, decl.first_at);
+        first = earlier_if(
+            is_wide(decl.first, capped(decl.width)),
+            first,
+            decl.first_at,
+        );
     }
     first
+}
+
+/// The number of each declaration: channels are counted apart from variables.
+pub fn number_all(alloc: Global, decls: &[Decl]) -> Result<Vec<u32>, AllocError>
+    requires { length decls.now ≤ 300000 }
+    ensures { IfOk result (λ numbers. numbers.items ≡ numbers_of 0 0 decls.now) }
+{
+    let mut numbers = Vec::new(alloc);
+    let mut channels = 0;
+    let mut vars = 0;
+    for decl in decls {
+        if decl.kind == DeclKind::Var {
+            numbers.push(vars)?;
+            vars += 1;
+        } else {
+            numbers.push(channels)?;
+            channels += 1;
+        }
+    }
+    Ok(numbers)
+}
+
+fn kind_of(kind: DeclKind) -> Kind
+    ensures { result ≡ kind_of kind }
+{
+    match kind {
+        DeclKind::In => Kind::In,
+        DeclKind::Out => Kind::Out,
+        DeclKind::Chan | DeclKind::Var => Kind::Chan,
+    }
+}
+
+/// The channels that are declared, in their order.
+pub fn channels_of(alloc: Global, decls: &[Decl]) -> Result<Vec<Channel>, AllocError>
+    requires { AreRanged decls.now }
+    ensures { IfOk result (λ channels. channels.items ≡ form.channels_of decls.now) }
+{
+    let mut channels = Vec::new(alloc);
+    for decl in decls {
+        if decl.kind != DeclKind::Var {
+            let name = decl.name.name.copy()?;
+            let kind = kind_of(decl.kind);
+            channels.push(Channel {
+                name,
+                kind,
+                width: decl.width as u8,
+            })?;
+        }
+    }
+    Ok(channels)
+}
+
+/// The variables that are declared, in their order.
+pub fn vars_of(alloc: Global, decls: &[Decl]) -> Result<Vec<Var>, AllocError>
+    requires { AreRanged decls.now }
+    ensures { IfOk result (λ vars. vars.items ≡ form.vars_of decls.now) }
+{
+    let mut vars = Vec::new(alloc);
+    for decl in decls {
+        if decl.kind == DeclKind::Var {
+            let name = decl.name.name.copy()?;
+            vars.push(Var {
+                name,
+                width: decl.width as u8,
+                first: decl.first,
+            })?;
+        }
+    }
+    Ok(vars)
 }

@@ -1,19 +1,24 @@
 //! The declarations of a program, by name, and the widths that they give to its expressions.
 
-ghost use Rattle.std.specs.Prelude.{◌≡◌, ◌+◌, ◌-◌, ℕ, map, IfSome, IfNone, Some, None, option_map};
+ghost use Rattle.std.specs.Prelude.{◌≡◌, ◌≤◌, ◌+◌, ◌-◌, ℕ, true, false, map, IfSome, IfNone, IsSome, Some, None, option_map};
 ghost use Rattle.chp_syntax.specs.View.{expression_of};
+ghost use Rattle.width_check.specs.Form.{channel_number, var_number};
 ghost use Rattle.width_check.specs.Places as plain;
+ghost use Rattle.width_check.specs.Sound.{AreRanged, is_var_in, numbers_of};
 ghost use Rattle.width_check.specs.Walk.{capped, links_of, side_width};
 
 use crate::fitting::is_comparison;
 use chp_base::{Name, Symbols};
 use chp_syntax::{Decl, Expr, Link};
 
-/// The declarations, none of them twice, and a table of their names.
+/// The declarations, none of a name twice, a table of their names, and the number of each among the channels or the
+/// variables.
 pub struct Scope<'a> {
     decls: &'a [Decl],
     names: Symbols,
+    numbers: Vec<u32>,
     ghost in_order: { names ≡ map (λ d. d.name.name) decls.now },
+    ghost numbered: { numbers.items ≡ numbers_of 0 0 decls.now },
 }
 
 /// A number of bits, where more than 64 count as 65.
@@ -54,11 +59,17 @@ pub fn compares(links: &[Link]) -> bool
 }
 
 impl<'a> Scope<'a> {
-    pub fn new(decls: &'a [Decl], names: Symbols) -> Scope<'a>
-        requires { names ≡ map (λ d. d.name.name) decls.now }
+    /// Declarations with their names and their numbers.
+    pub fn new(decls: &'a [Decl], names: Symbols, numbers: Vec<u32>) -> Scope<'a>
+        requires in_order { names ≡ map (λ d. d.name.name) decls.now }
+        requires numbered { numbers.items ≡ numbers_of 0 0 decls.now }
         ensures { result.decls.now ≡ decls.now }
     {
-        Scope { decls, names }
+        Scope {
+            decls,
+            names,
+            numbers,
+        }
     }
 
     /// The declaration of a name.
@@ -77,6 +88,29 @@ impl<'a> Scope<'a> {
         match self.find(name) {
             Some(decl) => decl.width,
             None => 0,
+        }
+    }
+
+    /// The declared width of a name, which is in 1 to 64 like all of them.
+    pub fn bits(&self, name: &Name) -> u8
+        requires ranged { AreRanged self.now.decls.now }
+        requires declared { IsSome (plain.declaration self.now.decls.now name.now) }
+        ensures value { result ≡ plain.declared_width self.now.decls.now name.now }
+        ensures some { 1 ≤ result }
+        ensures most { result ≤ 64 }
+    {
+        self.width(name) as u8
+    }
+
+    /// The number of a name among the channels or the variables, whichever it is.
+    pub fn number(&self, name: &Name) -> u32
+        requires { IsSome (plain.declaration self.now.decls.now name.now) }
+        ensures var { is_var_in self.now.decls.now name.now ≡ Some true → result ≡ var_number self.now.decls.now name.now }
+        ensures channel { is_var_in self.now.decls.now name.now ≡ Some false → result ≡ channel_number self.now.decls.now name.now }
+    {
+        match self.names.find(name) {
+            Some(place) => self.numbers[place as usize],
+            None => unreachable!(),
         }
     }
 
