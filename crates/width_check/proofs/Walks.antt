@@ -116,10 +116,10 @@ links_wanted decls f v w more same =
     rw (links_same decls misfits more f.leaf, links_same decls numbers more f.number) refl
 
 -- what is wanted of the members
-abbrev wanted_of : List Decl → ℕ → Expression → Links → ℕ
+abbrev pub wanted_of : List Decl → ℕ → Expression → Links → ℕ
 wanted_of decls w e more = if compares more then unwrap_or (side_width decls e more) 0 else w
 
-chain_pieces : (decls : List Decl) (w : ℕ) (e : Expression) (more : Links) (at : Span) (b : Bool) → compares more ≡ b
+pub chain_pieces : (decls : List Decl) (w : ℕ) (e : Expression) (more : Links) (at : Span) (b : Bool) → compares more ≡ b
     → met_both (met_chain w e more at) (met_both (met_in decls (wanted_of decls w e more) e) (met_in_links decls (wanted_of decls w e more) more)) ≡ met_in decls w (chain e more at)
 chain_pieces decls w e more at true is = rw is refl
 chain_pieces decls w e more at false is = rw is refl
