@@ -226,12 +226,14 @@ side_width_of ds ranged w e more at is shaped s = by_side (side_width ds e more)
   where
     by_side : (o : Option ℕ) → side_width ds e more ≡ o → (v : ℕ) × IsSideWidth ds e more v
     by_side None none = absurd (s.widths (chain e more at) at (0, omega arith, refl) (rw (is, none) (0, omega arith, refl)))
-    by_side (Some v) some =
-        (v, record {
-          side = some;
-          some = or_some (own_width ds e) (first_width ds more) v (λ u h. own_some ds ranged (wanted_of ds w e more) e u shaped.2 (sound_first ds w e more at s) h) (λ u h. first_some ds ranged (wanted_of ds w e more) more u shaped.3 (sound_rest ds w e more at s) h) some;
-          most = either_most (own_width ds e) (first_width ds more) v (λ u h. own_most ds (wanted_of ds w e more) e u (sound_first ds w e more at s).leaves h) (λ u h. first_most ds (wanted_of ds w e more) more u (sound_rest ds w e more at s).leaves h) some;
-        })
+    by_side (Some v) some = (
+      v,
+      record {
+        side = some;
+        some = or_some (own_width ds e) (first_width ds more) v (λ u h. own_some ds ranged (wanted_of ds w e more) e u shaped.2 (sound_first ds w e more at s) h) (λ u h. first_some ds ranged (wanted_of ds w e more) more u shaped.3 (sound_rest ds w e more at s) h) some;
+        most = either_most (own_width ds e) (first_width ds more) v (λ u h. own_most ds (wanted_of ds w e more) e u (sound_first ds w e more at s).leaves h) (λ u h. first_most ds (wanted_of ds w e more) more u (sound_rest ds w e more at s).leaves h) some;
+      },
+    )
 
 -- numbers
 
@@ -284,7 +286,7 @@ one_typed ds w v e no_links at is one side left shaped right = absurd (cc is)
 one_typed ds w v e (and_link op f rest) at is one side left shaped right =
     rw (is, side, one) (compared_over (vars_of ds) v v op (formula_form ds v e) (formula_form ds v f) left (right op f rest refl) refl is)
 
-bit_within : (w place : ℕ) → nat_le w place ≡ false → place < w
+pub bit_within : (w place : ℕ) → nat_le w place ≡ false → place < w
 bit_within w place h = grind (arith, nat_tests)
 
 operations_counted : (ds : List Decl) (w : ℕ) (more : Links) → link_count more ≡ typed.operation_count (operations_form ds w more)

@@ -141,14 +141,14 @@ noted_chain decls f g h w v e more at wanted node first =
 
 -- statements
 
-each_pieces : (decls : List Decl) (s : Statement) (more : Statements) → met_both (met_of decls s) (met_of_each decls more) ≡ met_of_each decls (and_member s more)
+pub each_pieces : (decls : List Decl) (s : Statement) (more : Statements) → met_both (met_of decls s) (met_of_each decls more) ≡ met_of_each decls (and_member s more)
 each_pieces decls s more = simp flat_map-append
 
 pub noted_member : (decls : List Decl) (f g total : Findings) (s : Statement) (more : Statements) → noted decls f (met_of_each decls (and_member s more)) ≡ total → g ≡ noted decls f (met_of decls s) → noted decls g (met_of_each decls more) ≡ total
 noted_member decls f g total s more so_far new =
     ap (λ (h : Findings). noted decls h (met_of_each decls more)) new ∙ noted_both decls f (met_of decls s) (met_of_each decls more) ∙ ap (λ (m : Met). noted decls f m) (each_pieces decls s more) ∙ so_far
 
-arm_pieces : (decls : List Decl) (g : Expression) (s : Statement) (more : Arms) → met_both (met_in decls 1 g) (met_both (met_of decls s) (met_of_arms decls more)) ≡ met_of_arms decls (and_arm g s more)
+pub arm_pieces : (decls : List Decl) (g : Expression) (s : Statement) (more : Arms) → met_both (met_in decls 1 g) (met_both (met_of decls s) (met_of_arms decls more)) ≡ met_of_arms decls (and_arm g s more)
 arm_pieces decls g s more = simp flat_map-append
 
 pub noted_arm : (decls : List Decl) (f g h total : Findings) (guard : Expression) (s : Statement) (more : Arms) → noted decls f (met_of_arms decls (and_arm guard s more)) ≡ total → g ≡ noted decls f (met_in decls 1 guard) → h ≡ noted decls g (met_of decls s) → noted decls h (met_of_arms decls more) ≡ total
@@ -159,10 +159,10 @@ noted_arm decls f g h total guard s more so_far first second =
     ∙ noted_both decls f (met_in decls 1 guard) (met_both (met_of decls s) (met_of_arms decls more))
     ∙ ap (λ (m : Met). noted decls f m) (arm_pieces decls guard s more) ∙ so_far
 
-assign_pieces : (decls : List Decl) (target : Ident) (e : Expression) → met_both (met_use (use_of target written)) (met_in decls (declared_width decls target.name) e) ≡ met_of decls (assigns target e)
+pub assign_pieces : (decls : List Decl) (target : Ident) (e : Expression) → met_both (met_use (use_of target written)) (met_in decls (declared_width decls target.name) e) ≡ met_of decls (assigns target e)
 assign_pieces decls target e = simp append-nil
 
-send_pieces : (decls : List Decl) (chan : Ident) (e : Expression) → met_both (met_use (use_of chan sent_on)) (met_in decls (declared_width decls chan.name) e) ≡ met_of decls (sends chan e)
+pub send_pieces : (decls : List Decl) (chan : Ident) (e : Expression) → met_both (met_use (use_of chan sent_on)) (met_in decls (declared_width decls chan.name) e) ≡ met_of decls (sends chan e)
 send_pieces decls chan e = simp append-nil
 
 kind_same : (o : Option Decl) → differs_in_kind o read ≡ differs_in_kind o written

@@ -7,6 +7,7 @@ mod evaluate;
 mod findings;
 mod fitting;
 pub mod laws;
+mod making;
 mod naming;
 mod operate;
 mod resolving;

@@ -13,6 +13,7 @@ use chp_syntax::{Decl, Expr, Link};
 
 /// The declarations, none of a name twice, a table of their names, and the number of each among the channels or the
 /// variables.
+#[derive(Drop)]
 pub struct Scope<'a> {
     decls: &'a [Decl],
     names: Symbols,

@@ -24,15 +24,15 @@ returns-clause-var c =
     let place = subst (λ (ns : List (List ℕ)). slice_get ns c.in-Some.place ≡ Some c.args.name.now) c.args.self.now.in_order c.in-Some.ensures.some in
     let distinct = subst (λ (ns : List (List ℕ)). IsDistinct bytes_eq ns) c.args.self.now.in_order c.find.ensures.distinct in
     λ is.
-        let found = numbered_var c.index.result.now 0 0 c.args.self.now.decls.now c.args.name.now c.in-Some.place distinct place is in
-        let here = ap (λ (xs : List ℕ). get_or xs c.in-Some.place c.index.result.now) c.args.self.now.numbered in
-        omega (arith, c.index.ensures, here, found)
+    let found = numbered_var c.index.result.now 0 0 c.args.self.now.decls.now c.args.name.now c.in-Some.place distinct place is in
+    let here = ap (λ (xs : List ℕ). get_or xs c.in-Some.place c.index.result.now) c.args.self.now.numbered in
+    omega (arith, c.index.ensures, here, found)
 
 pub returns-clause-channel : goal.returns-clause-channel
 returns-clause-channel c =
     let place = subst (λ (ns : List (List ℕ)). slice_get ns c.in-Some.place ≡ Some c.args.name.now) c.args.self.now.in_order c.in-Some.ensures.some in
     let distinct = subst (λ (ns : List (List ℕ)). IsDistinct bytes_eq ns) c.args.self.now.in_order c.find.ensures.distinct in
     λ is.
-        let found = numbered_channel c.index.result.now 0 0 c.args.self.now.decls.now c.args.name.now c.in-Some.place distinct place is in
-        let here = ap (λ (xs : List ℕ). get_or xs c.in-Some.place c.index.result.now) c.args.self.now.numbered in
-        omega (arith, c.index.ensures, here, found)
+    let found = numbered_channel c.index.result.now 0 0 c.args.self.now.decls.now c.args.name.now c.in-Some.place distinct place is in
+    let here = ap (λ (xs : List ℕ). get_or xs c.in-Some.place c.index.result.now) c.args.self.now.numbered in
+    omega (arith, c.index.ensures, here, found)
