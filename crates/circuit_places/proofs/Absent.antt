@@ -1,12 +1,12 @@
 -- A spot that stands for no node never moves.
-use Rattle.std.proofs.Common.{◌≡◌, ℕ, ◌<◌, ◌≤◌, Bool, true, false, List, refl, sym, ap, ◌∙◌, subst, arith}
+use Rattle.std.proofs.Common.{◌≡◌, ℕ, ◌<◌, ◌≤◌, Bool, true, false, List, refl, ◌∙◌, subst, arith}
 use Rattle.std.specs.Prelude.{nat_lt, ◌&&◌, not, if◌then◌else◌}
 use Rattle.std.proofs.lemmas.Bool.Decides.{nat_tests}
-use Rattle.width_check.specs.Processes.{Formula, Process, in_turn, side_by_side, repeating, Processes, member_count, TypedProgram}
-use Rattle.width_check.specs.Typing.{channel_width, var_width}
+use Rattle.width_check.specs.Processes.{Formula, Process, Processes, member_count, TypedProgram}
+use Rattle.width_check.specs.Typing.{channel_width}
 use Rattle.circuit_places.specs.Lines.{Line, of_channel, of_var, Rails, Seen}
 use Rattle.circuit_places.specs.Circuit.{SiteSpot, PortSpot, site_stands, port_stands, Pairs, gate_count, gate_rule, fires, bit_at, joint_count, GuardedSpot, Spot, TurnSpot, BranchSpot, heard, stored, taking, child, latch, next, inner, of_skip, done, gate, of_assign, of_send, of_receive, in_members, of_branch, joint, in_this, in_others, of_loop, ask, in_body, in_last, in_member, in_later, guarded_stands, stands, turn_stands, branch_stands}
-use Rattle.circuit_places.proofs.RailLemmas.{gate_there, fst_true, snd_true}
+use Rattle.circuit_places.proofs.RailLemmas.{gate_there, snd_true}
 use Rattle.circuit_places.proofs.Trees.{joint_absent}
 use Rattle.circuit_places.proofs.Meets.{PortMeets, Meets, TurnMeets, EachMeets}
 use Rattle.circuit_places.proofs.Flow.{Clean, cases}
@@ -18,14 +18,16 @@ not_below i n h = grind (arith, nat_tests)
 past : (i n : ℕ) → nat_lt i n ≡ false → i < n → ⊥
 past i n h less = let g = not_below i n h in let z : ⊥ = omega (arith, g, less) in z
 
-absent_site : (env : Seen) (k : Line) (e : Formula) (m : Mode) (u : Pairs (gate_count e)) (s : SiteSpot e) → site_stands s ≡ false → site_moves env k e m u s ≡ false
+absent_site : (env : Seen) (k : Line) (e : Formula) (m : Mode) (u : Pairs (gate_count e)) (s : SiteSpot e) → site_stands s ≡ false
+    → site_moves env k e m u s ≡ false
 absent_site env k e m u done h = absurd (cc h)
 absent_site env k e m u (gate i one) h = cases (fires (gate_rule e env.bit (asks m) u i one))
     (λ (z : fires (gate_rule e env.bit (asks m) u i one) ≡ true). absurd (past i (gate_count e) h (gate_there e env.bit (asks m) u i one z)))
     (λ (z : fires (gate_rule e env.bit (asks m) u i one) ≡ false). z)
 
 module _ (P : TypedProgram) (env : Seen) (clean : Clean P env) where
-  absent_port : (c x : ℕ) (m : Mode) (k : Bool) (q : Rails) → PortMeets P c x → PortFits c x m k q env → (s : PortSpot) → port_stands (channel_width P.channels c) s ≡ false → port_moves env c x m k q s ≡ false
+  absent_port : (c x : ℕ) (m : Mode) (k : Bool) (q : Rails) → PortMeets P c x → PortFits c x m k q env → (s : PortSpot)
+      → port_stands (channel_width P.channels c) s ≡ false → port_moves env c x m k q s ≡ false
   absent_port c x m k q meets f heard h = absurd (cc h)
   absent_port c x m k q meets f stored h = absurd (cc h)
   absent_port c x m k q meets f (taking i one) h = here (q i one) refl
@@ -33,11 +35,13 @@ module _ (P : TypedProgram) (env : Seen) (clean : Clean P env) where
       here : (b : Bool) → q i one ≡ b → (if b then not (asks m) && not (env.rail (of_channel c) i one) else asks m && env.rail (of_channel c) i one) ≡ false
       here true e = absurd (past i (channel_width P.channels c) h (subst (λ (n : ℕ). i < n) (clean.wide (of_var x) ∙ meets.widths) (f.within i one e)))
       here false e = cases (asks m && env.rail (of_channel c) i one)
-          (λ (z : (asks m && env.rail (of_channel c) i one) ≡ true). absurd (past i (channel_width P.channels c) h (clean.below c i one (snd_true (asks m) (env.rail (of_channel c) i one) z))))
+          (λ (z : (asks m && env.rail (of_channel c) i one) ≡ true). absurd
+          (past i (channel_width P.channels c) h (clean.below c i one (snd_true (asks m) (env.rail (of_channel c) i one) z))))
           (λ (z : (asks m && env.rail (of_channel c) i one) ≡ false). z)
 
   -- a Q-element that isn't running doesn't move inside
-  past_absent : {p : Process} {k : Mode} (g : GuardedAt p k) → (k ≡ running → ⊥) → (s : GuardedSpot p) → guarded_stands P.channels s ≡ false → guarded_moves env g s ≡ false
+  past_absent : {p : Process} {k : Mode} (g : GuardedAt p k) → (k ≡ running → ⊥) → (s : GuardedSpot p) → guarded_stands P.channels s ≡ false
+      → guarded_moves env g s ≡ false
   past_absent g_rests out s h = refl
   past_absent g_past out s h = refl
   past_absent (g_back u) out (inner s) h = refl
@@ -47,7 +51,8 @@ module _ (P : TypedProgram) (env : Seen) (clean : Clean P env) where
   past_absent (g_in u a j) out s h = absurd (out refl)
 
   mutual
-    pub guarded_absent : {p : Process} {m : Mode} (g : GuardedAt p m) → Meets P p → GuardedFits g env → (s : GuardedSpot p) → guarded_stands P.channels s ≡ false → guarded_moves env g s ≡ false
+    pub guarded_absent : {p : Process} {m : Mode} (g : GuardedAt p m) → Meets P p → GuardedFits g env → (s : GuardedSpot p)
+        → guarded_stands P.channels s ≡ false → guarded_moves env g s ≡ false
     guarded_absent g_rests meets f s h = refl
     guarded_absent (g_in u a i) meets f (inner s) h = absent a meets f s h
     guarded_absent (g_in u a i) meets f child h = absurd (cc h)
@@ -73,12 +78,14 @@ module _ (P : TypedProgram) (env : Seen) (clean : Clean P env) where
     absent (at_body a) meets f of_loop h = absurd (cc h)
     absent (at_body a) meets f ask h = absurd (cc h)
 
-    branches_absent : {members : Processes} {ks : List Mode} (b : BranchesAt members ks) → EachMeets P members → BranchesFit b env → (s : BranchSpot members) → branch_stands P.channels s ≡ false → branch_moves env b s ≡ false
+    branches_absent : {members : Processes} {ks : List Mode} (b : BranchesAt members ks) → EachMeets P members → BranchesFit b env → (s : BranchSpot members)
+        → branch_stands P.channels s ≡ false → branch_moves env b s ≡ false
     branches_absent no_more meets f s h = refl
     branches_absent (and_at g b) meets f (in_this s) h = guarded_absent g meets.0 f.0 s h
     branches_absent (and_at g b) meets f (in_others s) h = branches_absent b meets.2 f.1 s h
 
-    turn_absent : {members : Processes} {m : Mode} (t : TurnAt members m) → TurnMeets P members → TurnFits t env → (s : TurnSpot members) → turn_stands P.channels s ≡ false → turn_moves env t s ≡ false
+    turn_absent : {members : Processes} {m : Mode} (t : TurnAt members m) → TurnMeets P members → TurnFits t env → (s : TurnSpot members)
+        → turn_stands P.channels s ≡ false → turn_moves env t s ≡ false
     turn_absent turn_rests meets f s h = refl
     turn_absent (at_last a) meets f (in_last s) h = absent a meets f s h
     turn_absent (at_member g) meets f (in_member s) h = guarded_absent g meets.0 f s h

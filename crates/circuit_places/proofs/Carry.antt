@@ -1,16 +1,16 @@
 -- Each covered program's circuit carries it.
-use Rattle.std.proofs.Common.{◌≡◌, ◌≢◌, ℕ, zero, suc, ◌/◌, ◌^◌, ◌<◌, ◌≤◌, ◌⊎◌, inl, inr, Bool, true, false, List, [], ◌∷◌, length, refl, sym, ap, ◌∙◌, subst, arith}
+use Rattle.std.proofs.Common.{◌≡◌, ◌≢◌, ℕ, zero, suc, ◌+◌, ◌/◌, ◌^◌, ◌<◌, ◌≤◌, ◌⊎◌, inl, inr, Bool, true, false, List, [], ◌∷◌, length, refl, sym, ap, ◌∙◌, subst, arith}
 use Rattle.std.proofs.Math.ListN.{get_or-eq_default}
 use Rattle.std.proofs.lemmas.Bool.Decides.{nat_tests}
 use Rattle.std.proofs.lemmas.List.Elements.{All-head, All-tail}
-use Rattle.std.specs.Prelude.{not, nat_lt, ◌&&◌, ◌||◌, if◌then◌else◌, slice_get, Option, Some, None, All}
+use Rattle.std.specs.Prelude.{not, nat_lt, ◌&&◌, ◌||◌, if◌then◌else◌, slice_get, Some, All}
 use Rattle.chp_base.specs.declared.channel.Channel.{Channel}
 use Rattle.chp_base.specs.declared.channel.Kind.{Kind}
 use Rattle.chp_base.specs.declared.channel.Kind.TheVariants.{In, Out, Chan}
 use Rattle.env_script.specs.declared.script.Count.{Count}
 use Rattle.env_script.specs.Scripts.{OfferValue, gives, takes, nothing, offer_at, IsScript, Suits}
 use Rattle.env_script.specs.Runs.{completed}
-use Rattle.width_check.specs.Processes.{TypedProgram}
+use Rattle.width_check.specs.Processes.{Process, TypedProgram}
 use Rattle.width_check.specs.Typing.{kind_at, channel_width, var_width, IsDeclaredChannel}
 use Rattle.width_check.specs.declared.typed.Var.{Var}
 use Rattle.width_check.specs.Sharing.{Occurrence, Parallel}
@@ -22,11 +22,11 @@ use Rattle.circuit_places.specs.Lines.{Line, of_channel, of_var, line_width}
 use Rattle.circuit_places.specs.Circuit.{low, joint_count, tree_answer, same_bit, Guarded, Cells, turns, fires, no_rule, is_apart, guarded_rule, site_rails, takers}
 use Rattle.circuit_places.specs.Whole.{seen, line_ack, is_sent, is_heard, is_merged, merged, brings, drives, offers, bit_rule, wrote_rule, number_rail, first_bits, Whole, Node, go_node, own_node, rail_node, ack_node, bit_node, wrote_node, joint_node, is_node, rule_in, answers, enabled, wires_after, go_after, root_after, moved, first_of, Reaches, at_first, by_move}
 use Rattle.chp_meaning.specs.Halves.{IsSized, IsSizedVar}
-use Rattle.circuit_places.specs.Covered.{Covered}
+use Rattle.circuit_places.specs.Covered.{talks_on, InternalUnused, Covered}
 use Rattle.circuit_places.specs.Carried.{IsSafe, IsCarried, CircuitsCarry}
 use Rattle.circuit_places.proofs.Places.{Mode, idle, running, answered, returning, asks, is_idle, GuardedAt, g_rests, guarded_cells, guarded_shown, guarded_writing, guarded_can_is}
 use Rattle.circuit_places.proofs.Writing.{first_numbers}
-use Rattle.circuit_places.proofs.Meets.{ExpressionsHold, Meets, Clash, meets, receives_within}
+use Rattle.circuit_places.proofs.Meets.{ExpressionsHold, Meets, Clash, meets, sends_merged, receives_heard, receives_within, sends_talks, receives_talks}
 use Rattle.circuit_places.proofs.Trees.{TreesSettle, tree_over, all_low_value, settling_low, joint_apart, joint_absent}
 use Rattle.circuit_places.proofs.BitTable.{valid, legal_at_first}
 use Rattle.circuit_places.proofs.Blocks.{Block, now_at, bit_apart, wrote_apart}
@@ -43,18 +43,9 @@ use Rattle.circuit_places.proofs.RailLemmas.{fst_true, snd_true, not_true, never
 use Rattle.circuit_places.proofs.Absent.{guarded_absent}
 use Rattle.circuit_places.proofs.Ended.{at_end}
 
--- a channel isn't `chan`, and its offer suits its kind
-one_way_kind : (k : Kind) → k ≢ Chan → is_sent k ≡ true → is_heard k ≡ true → ⊥
-one_way_kind In ne s h = cc s
-one_way_kind Out ne s h = cc h
-one_way_kind Chan ne s h = ne refl
-
-one_way_at : (channels : List Channel) → All (λ (c : Channel). c.kind ≢ Chan) channels → (k : ℕ) → k < length channels → is_sent (kind_at channels k) ≡ true → is_heard (kind_at channels k) ≡ true → ⊥
-one_way_at [] each k below s h = let g : ⊥ = omega (arith, below) in g
-one_way_at (c ∷ cs) each zero below s h = one_way_kind c.kind (All-head (λ (c : Channel). c.kind ≢ Chan) c cs each) s h
-one_way_at (c ∷ cs) each (suc k) below s h = one_way_at cs (All-tail (λ (c : Channel). c.kind ≢ Chan) c cs each) k (let g : k < length cs = omega (arith, below) in g) s h
-
-suited : (channels : List Channel) (script : List OfferValue) → IsScript channels script → (k : ℕ) → k < length channels → Suits (kind_at channels k) (channel_width channels k) (offer_at script k)
+-- an offer suits the kind of its channel
+suited : (channels : List Channel) (script : List OfferValue) → IsScript channels script → (k : ℕ) → k < length channels
+    → Suits (kind_at channels k) (channel_width channels k) (offer_at script k)
 suited [] script s k below = absurd (let g : ⊥ = omega (arith, below) in g)
 suited (c ∷ cs) [] s k below = absurd s
 suited (c ∷ cs) (o ∷ os) s zero below = s.0
@@ -115,12 +106,24 @@ var_bits [] each x below = absurd (let g : ⊥ = omega (arith, below) in g)
 var_bits (v ∷ vs) each zero below = (All-head IsSizedVar v vs each).some
 var_bits (v ∷ vs) each (suc x) below = var_bits vs (All-tail IsSizedVar v vs each) x (let g : x < length vs = omega (arith, below) in g)
 
-not_chan : (channels : List Channel) → All (λ (c : Channel). c.kind ≢ Chan) channels → (k : ℕ) → k < length channels → kind_at channels k ≢ Chan
-not_chan [] each k below = absurd (let g : ⊥ = omega (arith, below) in g)
-not_chan (c ∷ cs) each zero below = All-head (λ (c : Channel). c.kind ≢ Chan) c cs each
-not_chan (c ∷ cs) each (suc k) below = not_chan cs (All-tail (λ (c : Channel). c.kind ≢ Chan) c cs each) k (let g : k < length cs = omega (arith, below) in g)
+-- an internal channel isn't used
+unused_at : (channels : List Channel) (p : Process) (n k : ℕ) → InternalUnused n channels p → k < length channels → kind_at channels k ≡ Chan
+    → talks_on (n + k) p ≡ false
+unused_at [] p n k each below e = absurd (let g : ⊥ = omega (arith, below) in g)
+unused_at (c ∷ cs) p n zero each below e = ap (λ m. talks_on m p) (let g : n + 0 ≡ n = omega arith in g) ∙ each.0 e
+unused_at (c ∷ cs) p n (suc k) each below e = ap (λ m. talks_on m p) (let g : n + suc k ≡ suc n + k = omega arith in g)
+    ∙ unused_at cs p (suc n) k each.1 (let g : k < length cs = omega (arith, below) in g) e
 
-module _ (P : TypedProgram) (script : List OfferValue) (typed : IsSized P.channels P.vars P.body) (covered : Covered P) (s : IsScript P.channels script) where
+module _ (P : TypedProgram) (script : List OfferValue) (typed : IsSized P.channels P.vars P.body) (covered : Covered P) (meets : Meets P P.body)
+    (s : IsScript P.channels script) where
+  used_kind : (k : ℕ) → k < length P.channels → talks_on k P.body ≡ true → kind_at P.channels k ≢ Chan
+  used_kind k below t e = cc (unused_at P.channels P.body 0 k covered.channels below e, ap (λ m. talks_on m P.body) (let g : 0 + k ≡ k = omega arith in g), t)
+
+  not_both : (kind : Kind) → kind ≢ Chan → is_sent kind ≡ true → is_heard kind ≡ true → ⊥
+  not_both In ne s h = cc s
+  not_both Out ne s h = cc h
+  not_both Chan ne s h = ne refl
+
   within : (k : ℕ) → offer_at script k ≢ nothing → k < length P.channels
   within k e = subst (λ (n : ℕ). k < n) (as_many P.channels script s) (offers_within script k e)
 
@@ -131,12 +134,16 @@ module _ (P : TypedProgram) (script : List OfferValue) (typed : IsSized P.channe
   fits = record {
     within = within;
     wide = has_bits P.channels typed.each_channel;
-    one_way = one_way_at P.channels covered.channels;
-    sends = λ k below h. sent_takes (kind_at P.channels k) (channel_width P.channels k) (offer_at script k) (not_chan P.channels covered.channels k below) (suited P.channels script s k below) h;
-    hears = λ k below h. heard_gives (kind_at P.channels k) (channel_width P.channels k) (offer_at script k) (not_chan P.channels covered.channels k below) (suited P.channels script s k below) h;
+    sent_alone = λ k below t h. not_both (kind_at P.channels k) (used_kind k below (sends_talks P.body k t)) (sends_merged P P.body meets (of_channel k) t) h;
+    heard_alone = λ k below t h. not_both (kind_at P.channels k) (used_kind k below (receives_talks P.body k t)) h (receives_heard P P.body meets k t);
+    sends = λ k below t. sent_takes (kind_at P.channels k) (channel_width P.channels k) (offer_at script k) (used_kind k below (sends_talks P.body k t))
+        (suited P.channels script s k below) (sends_merged P P.body meets (of_channel k) t);
+    hears = λ k below t. heard_gives (kind_at P.channels k) (channel_width P.channels k) (offer_at script k) (used_kind k below (receives_talks P.body k t))
+        (suited P.channels script s k below) (receives_heard P P.body meets k t);
     out = λ k count e. takes_kind (kind_at P.channels k) (channel_width P.channels k) count (suits k (takes count) e (λ z. cc z));
     brought = λ k values e. let x = gives_kind (kind_at P.channels k) (channel_width P.channels k) values (suits k (gives values) e (λ z. cc z)) in (x.0, x.1);
-    bounded = λ k values e n v. all_at (λ v. v < 2 ^ channel_width P.channels k) values (gives_kind (kind_at P.channels k) (channel_width P.channels k) values (suits k (gives values) e (λ z. cc z))).2 n v;
+    bounded = λ k values e n v. all_at (λ v. v < 2 ^ channel_width P.channels k) values
+        (gives_kind (kind_at P.channels k) (channel_width P.channels k) values (suits k (gives values) e (λ z. cc z))).2 n v;
     same = as_many P.channels script s;
     firsts = first_numbers P.vars typed.each_var;
   }
@@ -170,16 +177,20 @@ module _ (P : TypedProgram) (script : List OfferValue) {moves : ℕ} {x : Whole 
   rail_is : (k : Line) (i : ℕ) (one : Bool) → fires (rule_in P x (rail_node k i one)) ≡ sent_turns P x.wires k i one ((guarded_shown r.place).offer k i one)
   rail_is k i one = here (is_merged P k) refl
     where
-      here : (b : Bool) → is_merged P k ≡ b → fires (if b then merged (x.wires.rail k i one) (site_rails P.body x.root.inner k i one) else no_rule (x.wires.rail k i one)) ≡ (b && turns (x.wires.rail k i one) ((guarded_shown r.place).offer k i one) (not ((guarded_shown r.place).offer k i one)))
+      here : (b : Bool) → is_merged P k ≡ b → fires (if b then merged (x.wires.rail k i one) (site_rails P.body x.root.inner k i one) else no_rule
+          (x.wires.rail k i one)) ≡ (b && turns (x.wires.rail k i one) ((guarded_shown r.place).offer k i one) (not ((guarded_shown r.place).offer k i one)))
       here true u =
-          merged_can (x.wires.rail k i one) (site_rails P.body x.root.inner k i one) (λ e. same_sites P.body x.root.inner (low P.body) k i one ∙ r.good.sited k i one u e)
-          ∙ ap (λ b. turns (x.wires.rail k i one) b (not b)) (ap (λ (g : Guarded (Cells P.body)). any (site_rails P.body g.inner k i one)) r.same ∙ guarded_offered r.place k i one)
+          merged_can (x.wires.rail k i one) (site_rails P.body x.root.inner k i one)
+          (λ e. same_sites P.body x.root.inner (low P.body) k i one ∙ r.good.sited k i one u e)
+          ∙ ap (λ b. turns (x.wires.rail k i one) b (not b)) (ap (λ (g : Guarded (Cells P.body)). any (site_rails P.body g.inner k i one)) r.same
+          ∙ guarded_offered r.place k i one)
       here false u = no_fire (x.wires.rail k i one)
 
   ack_is : (k : ℕ) → fires (rule_in P x (ack_node k)) ≡ heard_turns P x.wires k ((guarded_shown r.place).take k)
   ack_is k = here (is_heard (kind_at P.channels k)) refl
     where
-      here : (b : Bool) → is_heard (kind_at P.channels k) ≡ b → fires (if b then merged (x.wires.ack k) (takers P.body x.root.inner k) else no_rule (x.wires.ack k)) ≡ (b && turns (x.wires.ack k) ((guarded_shown r.place).take k) (not ((guarded_shown r.place).take k)))
+      here : (b : Bool) → is_heard (kind_at P.channels k) ≡ b → fires (if b then merged (x.wires.ack k) (takers P.body x.root.inner k) else no_rule
+          (x.wires.ack k)) ≡ (b && turns (x.wires.ack k) ((guarded_shown r.place).take k) (not ((guarded_shown r.place).take k)))
       here true u =
           merged_can (x.wires.ack k) (takers P.body x.root.inner k) (λ e. same_takers P.body x.root.inner (low P.body) k ∙ r.good.heard_sited k e u)
           ∙ ap (λ b. turns (x.wires.ack k) b (not b)) (ap (λ (g : Guarded (Cells P.body)). any (takers P.body g.inner k)) r.same ∙ guarded_taken r.place k)
@@ -193,7 +204,8 @@ module _ (P : TypedProgram) (script : List OfferValue) {moves : ℕ} {x : Whole 
       here (inr out) = g (λ less. omega (arith, less, out))
 
   low_rail : (v i : ℕ) (one : Bool) → (i < var_width P.vars v → ⊥) → x.wires.rail (of_var v) i one ≡ false
-  low_rail v i one out = cases (x.wires.rail (of_var v) i one) (λ (h : x.wires.rail (of_var v) i one ≡ true). absurd (out (r.good.wide (of_var v) i one h))) (λ (h : x.wires.rail (of_var v) i one ≡ false). h)
+  low_rail v i one out = cases (x.wires.rail (of_var v) i one) (λ (h : x.wires.rail (of_var v) i one ≡ true). absurd (out (r.good.wide (of_var v) i one h)))
+      (λ (h : x.wires.rail (of_var v) i one ≡ false). h)
 
   -- which moves are enabled in it
   pub enabled_is : (n : Node P.body) → enabled P script x n ≡ can P script r.place x.wires x.histories n
@@ -212,9 +224,11 @@ module _ (P : TypedProgram) (script : List OfferValue) {moves : ℕ} {x : Whole 
   may : (n : Node P.body) → enabled P script x n ≡ true → can P script r.place x.wires x.histories n ≡ true
   may n e = sym (enabled_is n) ∙ e
 
-  ack_may : (n : Node P.body) → enabled P script x n ≡ true → (k : ℕ) → n ≡ ack_node k → is_heard (kind_at P.channels k) ≡ false → answers (channel_width P.channels k) x.wires k (completed x.histories k) (offer_at script k) ≡ true
+  ack_may : (n : Node P.body) → enabled P script x n ≡ true → (k : ℕ) → n ≡ ack_node k → is_heard (kind_at P.channels k) ≡ false
+      → answers (channel_width P.channels k) x.wires k (completed x.histories k) (offer_at script k) ≡ true
   ack_may n e k is unheard =
-      sym (ap (λ b. (b && turns (x.wires.ack k) ((guarded_shown r.place).take k) (not ((guarded_shown r.place).take k))) || answers (channel_width P.channels k) x.wires k (completed x.histories k) (offer_at script k)) unheard)
+      sym (ap (λ b. (b && turns (x.wires.ack k) ((guarded_shown r.place).take k) (not ((guarded_shown r.place).take k))) || answers
+      (channel_width P.channels k) x.wires k (completed x.histories k) (offer_at script k)) unheard)
       ∙ may (ack_node k) (ap (enabled P script x) (sym is) ∙ e)
 
   abbrev next_reached : Fitted P script → (n : Node P.body) → enabled P script x n ≡ true → Reached P script (suc moves) (moved P x n)
@@ -228,7 +242,9 @@ module _ (P : TypedProgram) (script : List OfferValue) {moves : ℕ} {x : Whole 
         same = ap (λ g. root_after P.body g n) r.same ∙ sym y.same;
         good = y.good;
         brought = arriving P script fitted x.histories r.good n (may n e) r.brought;
-        followed = follows x.wires (guarded_writing (line_ack P x.wires) r.place) (guarded_writing (line_ack P (wires_after x.wires n)) y.to) fitted r.followed r.brought (root_left (line_ack P (wires_after x.wires n)) y.to) n (ack_may n e) y.frees (y.term r.root);
+        followed = follows x.wires (guarded_writing (line_ack P x.wires) r.place)
+            (guarded_writing (line_ack P (wires_after x.wires n)) y.to) fitted r.followed r.brought (root_left (line_ack P (wires_after x.wires n)) y.to) n
+            (ack_may n e) y.frees (y.term r.root);
       }
 
   apart : (n : Node P.body) → is_apart (rule_in P x n) ≡ true
@@ -247,15 +263,19 @@ module _ (P : TypedProgram) (script : List OfferValue) {moves : ℕ} {x : Whole 
       here true = merged_apart (x.wires.ack k) (takers P.body x.root.inner k)
       here false = refl
   apart (bit_node v i one) = by_bits v i
-      (λ less. bit_apart (var_width P.vars v) (x.wires.bit v) (x.wires.rail (of_var v)) (x.wires.wrote v) (x.wires.joint v) (r.good.block v (some_of less)) i one less)
+      (λ less. bit_apart (var_width P.vars v) (x.wires.bit v) (x.wires.rail (of_var v)) (x.wires.wrote v) (x.wires.joint v)
+      (r.good.block v (some_of less)) i one less)
       (λ out. ap (λ b. not ((b && not (x.wires.bit v i (not one))) && x.wires.rail (of_var v) i (not one))) (low_rail v i one out))
   apart (wrote_node v i) = by_bits v i
-      (λ less. wrote_apart (var_width P.vars v) (x.wires.bit v) (x.wires.rail (of_var v)) (x.wires.wrote v) (x.wires.joint v) (r.good.block v (some_of less)) i less)
-      (λ out. ap (λ b. not (((b && x.wires.bit v i true) || (x.wires.rail (of_var v) i false && x.wires.bit v i false)) && (not b && not (x.wires.rail (of_var v) i false)))) (low_rail v i true out)
+      (λ less. wrote_apart (var_width P.vars v) (x.wires.bit v) (x.wires.rail (of_var v)) (x.wires.wrote v) (x.wires.joint v)
+      (r.good.block v (some_of less)) i less)
+      (λ out. ap (λ b. not (((b && x.wires.bit v i true) || (x.wires.rail (of_var v) i false && x.wires.bit v i false)) &&
+      (not b && not (x.wires.rail (of_var v) i false)))) (low_rail v i true out)
       ∙ ap (λ b. not ((b && x.wires.bit v i false) && not b)) (low_rail v i false out))
   apart (joint_node v k) = joint_apart (var_width P.vars v) (x.wires.wrote v) (x.wires.joint v) k
 
-stable : (P : TypedProgram) (script : List OfferValue) → Fitted P script → {moves : ℕ} (x : Whole P.body) → Reached P script moves x → (n m : Node P.body) → n ≢ m → enabled P script x n ≡ true → enabled P script x m ≡ true → enabled P script (moved P x m) n ≡ true
+stable : (P : TypedProgram) (script : List OfferValue) → Fitted P script → {moves : ℕ} (x : Whole P.body) → Reached P script moves x → (n m : Node P.body)
+    → n ≢ m → enabled P script x n ≡ true → enabled P script x m ≡ true → enabled P script (moved P x m) n ≡ true
 stable P script fitted x r n m ne hn hm =
     let y = next_of P script fitted x.histories r.good m (may P script r m hm) in
     enabled_is P script (next_reached P script r fitted m hm) n ∙ y.keeps n ne (may P script r n hn)
@@ -266,18 +286,24 @@ safe P script fitted x r = record {
   apart = apart P script r;
   rail_up = λ k i one h e. phase_up P script x.histories r.good k i one h (may P script r (rail_node (of_channel k) i one) e);
   rail_down = λ k i one h e. phase_down P script x.histories r.good k i one h (may P script r (rail_node (of_channel k) i one) e);
-  ack_up = λ k h e. either (heard_turns P x.wires k ((guarded_shown r.place).take k)) (answers (channel_width P.channels k) x.wires k (completed x.histories k) (offer_at script k)) (may P script r (ack_node k) e)
+  ack_up = λ k h e. either (heard_turns P x.wires k ((guarded_shown r.place).take k))
+      (answers (channel_width P.channels k) x.wires k (completed x.histories k) (offer_at script k)) (may P script r (ack_node k) e)
       (λ z. r.good.valid k (heard k z) h (sym (ap (λ b. turns b ((guarded_shown r.place).take k) (not ((guarded_shown r.place).take k))) h) ∙ turning k z))
-      (λ z. let t = takes_of (channel_width P.channels k) x.wires k (completed x.histories k) (offer_at script k) z in (may_low (channel_width P.channels k) x.wires k _ h t.may).0);
-  ack_down = λ k h e. either (heard_turns P x.wires k ((guarded_shown r.place).take k)) (answers (channel_width P.channels k) x.wires k (completed x.histories k) (offer_at script k)) (may P script r (ack_node k) e)
-      (λ z. r.good.neutral k (heard k z) h (not_true ((guarded_shown r.place).take k) (sym (ap (λ b. turns b ((guarded_shown r.place).take k) (not ((guarded_shown r.place).take k))) h) ∙ turning k z)))
-      (λ z. let t = takes_of (channel_width P.channels k) x.wires k (completed x.histories k) (offer_at script k) z in may_high (channel_width P.channels k) x.wires k _ h t.may);
+      (λ z. let t = takes_of (channel_width P.channels k) x.wires k (completed x.histories k) (offer_at script k) z in
+      (may_low (channel_width P.channels k) x.wires k _ h t.may).0);
+  ack_down = λ k h e. either (heard_turns P x.wires k ((guarded_shown r.place).take k))
+      (answers (channel_width P.channels k) x.wires k (completed x.histories k) (offer_at script k)) (may P script r (ack_node k) e)
+      (λ z. r.good.neutral k (heard k z) h (not_true ((guarded_shown r.place).take k)
+      (sym (ap (λ b. turns b ((guarded_shown r.place).take k) (not ((guarded_shown r.place).take k))) h) ∙ turning k z)))
+      (λ z. let t = takes_of (channel_width P.channels k) x.wires k (completed x.histories k) (offer_at script k) z in may_high
+      (channel_width P.channels k) x.wires k _ h t.may);
 }
   where
     heard : (k : ℕ) → heard_turns P x.wires k ((guarded_shown r.place).take k) ≡ true → is_heard (kind_at P.channels k) ≡ true
     heard k z = fst_true (is_heard (kind_at P.channels k)) (turns (x.wires.ack k) ((guarded_shown r.place).take k) (not ((guarded_shown r.place).take k))) z
 
-    turning : (k : ℕ) → heard_turns P x.wires k ((guarded_shown r.place).take k) ≡ true → turns (x.wires.ack k) ((guarded_shown r.place).take k) (not ((guarded_shown r.place).take k)) ≡ true
+    turning : (k : ℕ) → heard_turns P x.wires k ((guarded_shown r.place).take k) ≡ true
+        → turns (x.wires.ack k) ((guarded_shown r.place).take k) (not ((guarded_shown r.place).take k)) ≡ true
     turning k z = snd_true (is_heard (kind_at P.channels k)) (turns (x.wires.ack k) ((guarded_shown r.place).take k) (not ((guarded_shown r.place).take k))) z
 
 -- the first values of variables
@@ -312,12 +338,14 @@ first_low : (P : TypedProgram) (k : Line) → line_ack P (first_of P).wires k �
 first_low P (of_channel c) = refl
 first_low P (of_var x) = none_high (var_width P.vars x)
 
-first_block : TreesSettle → (P : TypedProgram) (x : ℕ) → 1 ≤ var_width P.vars x → Block (var_width P.vars x) (first_bits P.vars x) (λ i one. false) (λ i. false) (λ k. false)
+first_block : TreesSettle → (P : TypedProgram) (x : ℕ) → 1 ≤ var_width P.vars x
+    → Block (var_width P.vars x) (first_bits P.vars x) (λ i one. false) (λ i. false) (λ k. false)
 first_block law P x some =
     let n = var_width P.vars x in
     record {
       known = tree_over n law some;
-      bits = λ i less. legal_at_first (now_at (first_bits P.vars x) (λ i one. false) (λ i. false) (tree_answer n (λ i. false) (λ k. false)) i) (first_valid P.vars x i less) refl refl (none_high n) refl;
+      bits = λ i less. legal_at_first (now_at (first_bits P.vars x) (λ i one. false) (λ i. false) (tree_answer n (λ i. false) (λ k. false)) i)
+          (first_valid P.vars x i less) refl refl (none_high n) refl;
       tree = settling_low n (tree_over n law some) (λ i. false) (λ k. false) (λ i. refl) (λ k. refl);
     }
 
@@ -349,7 +377,8 @@ first_reached law P script fitted meets = record {
   followed = started P script fitted;
 }
 
-reach : TreesSettle → (P : TypedProgram) (script : List OfferValue) → Fitted P script → Meets P P.body → (moves : ℕ) (x : Whole P.body) → Reaches P script moves x → Reached P script moves x
+reach : TreesSettle → (P : TypedProgram) (script : List OfferValue) → Fitted P script → Meets P P.body → (moves : ℕ) (x : Whole P.body)
+    → Reaches P script moves x → Reached P script moves x
 reach law P script fitted meets _ _ at_first = first_reached law P script fitted meets
 reach law P script fitted meets _ _ (by_move {k = k} {x = x} n run e) = next_reached P script (reach law P script fitted meets k x run) fitted n e
 
@@ -359,12 +388,14 @@ module _ (P : TypedProgram) (script : List OfferValue) (fitted : Fitted P script
   not_there i n h below = let g : nat_lt i n ≡ true = grind (arith, nat_tests) in cc (g, h)
 
   no_rail : (k : Line) (i : ℕ) (one : Bool) → nat_lt i (line_width P k) ≡ false → enabled P script x (rail_node k i one) ≡ false
-  no_rail k i one h = enabled_is P script r (rail_node k i one) ∙ neither (sent_turns P x.wires k i one ((guarded_shown r.place).offer k i one)) (driven P script x.wires x.histories k i one) sent (drive k h)
+  no_rail k i one h = enabled_is P script r (rail_node k i one) ∙ neither (sent_turns P x.wires k i one ((guarded_shown r.place).offer k i one))
+      (driven P script x.wires x.histories k i one) sent (drive k h)
     where
       neither : (a b : Bool) → a ≡ false → b ≡ false → (a || b) ≡ false
       neither a b e f = ap (λ z. z || b) e ∙ f
 
-      here : (v o : Bool) → x.wires.rail k i one ≡ v → (guarded_shown r.place).offer k i one ≡ o → turns (x.wires.rail k i one) ((guarded_shown r.place).offer k i one) (not ((guarded_shown r.place).offer k i one)) ≡ false
+      here : (v o : Bool) → x.wires.rail k i one ≡ v → (guarded_shown r.place).offer k i one ≡ o
+          → turns (x.wires.rail k i one) ((guarded_shown r.place).offer k i one) (not ((guarded_shown r.place).offer k i one)) ≡ false
       here true o hv ho = absurd (not_there i (line_width P k) h (r.good.wide k i one hv))
       here false true hv ho = absurd (not_there i (line_width P k) h (offered_below P script x.histories r.good k i one ho))
       here false false hv ho = ap (λ v. turns v ((guarded_shown r.place).offer k i one) (not ((guarded_shown r.place).offer k i one))) hv ∙ ho
@@ -377,28 +408,39 @@ module _ (P : TypedProgram) (script : List OfferValue) (fitted : Fitted P script
       drive (of_channel c) z = cases (driven P script x.wires x.histories (of_channel c) i one)
           (λ (d : driven P script x.wires x.histories (of_channel c) i one ≡ true).
           let o = gives_of (channel_width P.channels c) x.wires c (completed x.histories c) (offer_at script c) i one d in
-          let e : drives (channel_width P.channels c) x.wires c (slice_get o.0 (completed x.histories c)) i one ≡ true = sym (ap (λ y. offers (channel_width P.channels c) x.wires c (completed x.histories c) y i one) o.1) ∙ d in
+          let e : drives (channel_width P.channels c) x.wires c (slice_get o.0 (completed x.histories c)) i one ≡ true = sym
+          (ap (λ y. offers (channel_width P.channels c) x.wires c (completed x.histories c) y i one) o.1) ∙ d in
           absurd (not_there i (channel_width P.channels c) z (cases (x.wires.ack c)
           (λ (a : x.wires.ack c ≡ true).
-          r.good.wide (of_channel c) i one (sym (ap (λ b. if b then x.wires.rail (of_channel c) i one else brings (channel_width P.channels c) (slice_get o.0 (completed x.histories c)) i one && (not (x.wires.rail (of_channel c) i true) && not (x.wires.rail (of_channel c) i false))) a) ∙ e))
-          (λ (a : x.wires.ack c ≡ false). brings_below (channel_width P.channels c) (slice_get o.0 (completed x.histories c)) i one (drives_up (channel_width P.channels c) x.wires c (slice_get o.0 (completed x.histories c)) i one a e).0))))
+          r.good.wide (of_channel c) i one (sym (ap (λ b. if b then x.wires.rail (of_channel c) i one else brings (channel_width P.channels c)
+          (slice_get o.0 (completed x.histories c)) i one && (not (x.wires.rail (of_channel c) i true) && not (x.wires.rail (of_channel c) i false))) a)
+          ∙ e))
+          (λ (a : x.wires.ack c ≡ false). brings_below (channel_width P.channels c) (slice_get o.0 (completed x.histories c)) i one
+          (drives_up (channel_width P.channels c) x.wires c (slice_get o.0 (completed x.histories c)) i one a e).0))))
           (λ (d : driven P script x.wires x.histories (of_channel c) i one ≡ false). d)
 
   no_bit : (v i : ℕ) (one : Bool) → nat_lt i (var_width P.vars v) ≡ false → fires (bit_rule (x.wires.rail (of_var v)) (x.wires.bit v) i one) ≡ false
   no_bit v i one h =
-      ap (λ b. if b then x.wires.rail (of_var v) i (not one) else x.wires.rail (of_var v) i one && not (x.wires.bit v i (not one))) (cases (x.wires.bit v i one) (λ (e : x.wires.bit v i one ≡ true). absurd (not_there i (var_width P.vars v) h (r.good.no_bit v i one e))) (λ (e : x.wires.bit v i one ≡ false). e))
+      ap (λ b. if b then x.wires.rail (of_var v) i (not one) else x.wires.rail (of_var v) i one && not (x.wires.bit v i (not one)))
+      (cases (x.wires.bit v i one) (λ (e : x.wires.bit v i one ≡ true). absurd (not_there i (var_width P.vars v) h (r.good.no_bit v i one e)))
+      (λ (e : x.wires.bit v i one ≡ false). e))
       ∙ ap (λ b. b && not (x.wires.bit v i (not one))) (low_rail P script r v i one (not_there i (var_width P.vars v) h))
 
   no_wrote : (v i : ℕ) → nat_lt i (var_width P.vars v) ≡ false → fires (wrote_rule (x.wires.rail (of_var v)) (x.wires.bit v) (x.wires.wrote v) i) ≡ false
   no_wrote v i h =
-      ap (λ b. if b then not (x.wires.rail (of_var v) i true) && not (x.wires.rail (of_var v) i false) else (x.wires.rail (of_var v) i true && x.wires.bit v i true) || (x.wires.rail (of_var v) i false && x.wires.bit v i false)) (cases (x.wires.wrote v i) (λ (e : x.wires.wrote v i ≡ true). absurd (not_there i (var_width P.vars v) h (r.good.no_wrote v i e))) (λ (e : x.wires.wrote v i ≡ false). e))
-      ∙ (ap (λ b. (b && x.wires.bit v i true) || (x.wires.rail (of_var v) i false && x.wires.bit v i false)) (low_rail P script r v i true (not_there i (var_width P.vars v) h))
+      ap (λ b. if b then not (x.wires.rail (of_var v) i true) && not (x.wires.rail (of_var v) i false) else
+      (x.wires.rail (of_var v) i true && x.wires.bit v i true) || (x.wires.rail (of_var v) i false && x.wires.bit v i false))
+      (cases (x.wires.wrote v i) (λ (e : x.wires.wrote v i ≡ true). absurd (not_there i (var_width P.vars v) h (r.good.no_wrote v i e)))
+      (λ (e : x.wires.wrote v i ≡ false). e))
+      ∙ (ap (λ b. (b && x.wires.bit v i true) || (x.wires.rail (of_var v) i false && x.wires.bit v i false))
+      (low_rail P script r v i true (not_there i (var_width P.vars v) h))
       ∙ ap (λ b. b && x.wires.bit v i false) (low_rail P script r v i false (not_there i (var_width P.vars v) h)))
 
   no_ack : (k : ℕ) → nat_lt k (length P.channels) ≡ false → enabled P script x (ack_node k) ≡ false
   no_ack k h =
       let out : length script ≤ k = let e = fitted.same in grind (arith, nat_tests) in
-      enabled_is P script r (ack_node k) ∙ (ap (λ b. b || answers (channel_width P.channels k) x.wires k (completed x.histories k) (offer_at script k)) (here (is_heard (kind_at P.channels k)) refl)
+      enabled_is P script r (ack_node k) ∙ (ap (λ b. b || answers (channel_width P.channels k) x.wires k (completed x.histories k) (offer_at script k))
+      (here (is_heard (kind_at P.channels k)) refl)
       ∙ ap (answers (channel_width P.channels k) x.wires k (completed x.histories k)) (get_or-eq_default script nothing out))
     where
       deaf : (guarded_shown r.place).listen k ≡ true → ⊥
@@ -408,9 +450,11 @@ module _ (P : TypedProgram) (script : List OfferValue) (fitted : Fitted P script
       low_ack u = cases (x.wires.ack k) (λ (a : x.wires.ack k ≡ true). absurd (deaf (r.good.listen k u a))) (λ (a : x.wires.ack k ≡ false). a)
 
       no_take : (guarded_shown r.place).take k ≡ false
-      no_take = cases ((guarded_shown r.place).take k) (λ (a : (guarded_shown r.place).take k ≡ true). absurd (deaf (guarded_takes_listens r.place k a))) (λ (a : (guarded_shown r.place).take k ≡ false). a)
+      no_take = cases ((guarded_shown r.place).take k) (λ (a : (guarded_shown r.place).take k ≡ true). absurd (deaf (guarded_takes_listens r.place k a)))
+          (λ (a : (guarded_shown r.place).take k ≡ false). a)
 
-      here : (b : Bool) → is_heard (kind_at P.channels k) ≡ b → (b && turns (x.wires.ack k) ((guarded_shown r.place).take k) (not ((guarded_shown r.place).take k))) ≡ false
+      here : (b : Bool) → is_heard (kind_at P.channels k) ≡ b → (b && turns (x.wires.ack k) ((guarded_shown r.place).take k)
+          (not ((guarded_shown r.place).take k))) ≡ false
       here false u = refl
       here true u = ap (λ a. turns a ((guarded_shown r.place).take k) (not ((guarded_shown r.place).take k))) (low_ack u) ∙ no_take
 
@@ -421,12 +465,14 @@ module _ (P : TypedProgram) (script : List OfferValue) (fitted : Fitted P script
   absent (ack_node k) h = no_ack k h
   absent (bit_node v i one) h = or_false (fires (rule_in P x (bit_node v i one))) ∙ no_bit v i one h
   absent (wrote_node v i) h = or_false (fires (rule_in P x (wrote_node v i))) ∙ no_wrote v i h
-  absent (joint_node v k) h = or_false (fires (rule_in P x (joint_node v k))) ∙ joint_absent (var_width P.vars v) (x.wires.wrote v) (x.wires.joint v) k (let g : joint_count (var_width P.vars v) ≤ k = grind (arith, nat_tests) in g)
+  absent (joint_node v k) h = or_false (fires (rule_in P x (joint_node v k)))
+      ∙ joint_absent (var_width P.vars v) (x.wires.wrote v) (x.wires.joint v) k (let g : joint_count (var_width P.vars v) ≤ k = grind (arith, nat_tests) in g)
 
   all_rest : ((n : Node P.body) → is_node P n ≡ true → enabled P script x n ≡ false) → (n : Node P.body) → can P script r.place x.wires x.histories n ≡ false
   all_rest none n = sym (enabled_is P script r n) ∙ cases (is_node P n) (λ (h : is_node P n ≡ true). none n h) (λ (h : is_node P n ≡ false). absent n h)
 
-carried : (P : TypedProgram) (script : List OfferValue) → Fitted P script → {moves : ℕ} (x : Whole P.body) → Reached P script moves x → IsCarried P script moves x
+carried : (P : TypedProgram) (script : List OfferValue) → Fitted P script → {moves : ℕ} (x : Whole P.body) → Reached P script moves x
+    → IsCarried P script moves x
 carried P script fitted x r = record {
   safe = safe P script fitted x r;
   to = r.followed.to;
@@ -445,8 +491,9 @@ carried P script fitted x r = record {
 
 pub circuits_carry : TreesSettle → ExpressionsHold → CircuitsCarry
 circuits_carry law hold P typed covered script s moves x run =
-    let fitted = fits P script typed covered s in
-    carried P script fitted x (reach law P script fitted (meets law hold P (var_bits P.vars typed.each_var) P.body unshared typed.body_is covered.body) moves x run)
+    let there = meets law hold P (var_bits P.vars typed.each_var) P.body unshared typed.body_is covered.body in
+    let fitted = fits P script typed covered there s in
+    carried P script fitted x (reach law P script fitted there moves x run)
   where
     unshared : (a b : Occurrence) → Parallel P.body a b → ¬ Clash a.deed b.deed
     unshared a b h (inl c) = covered.sharing.sends a b h c

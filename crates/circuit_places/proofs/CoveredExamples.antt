@@ -1,7 +1,6 @@
 -- Programs that are covered, by a test that decides it for programs without parallel composition.
-use Rattle.std.proofs.Common.{◌≡◌, ◌≢◌, ℕ, Bool, true, false, List, [], ◌∷◌, refl, inl, inr}
-use Rattle.std.specs.Prelude.{not, ◌&&◌, All}
-use Rattle.std.proofs.lemmas.List.Elements.{All-nil, All-cons}
+use Rattle.std.proofs.Common.{◌≡◌, ℕ, suc, Bool, true, false, List, [], ◌∷◌, refl, inl, inr}
+use Rattle.std.specs.Prelude.{not, ◌&&◌, ◌||◌}
 use Rattle.chp_base.specs.declared.span.Span.{Span}
 use Rattle.chp_base.specs.declared.channel.Channel.{Channel}
 use Rattle.chp_base.specs.declared.channel.Kind.{Kind}
@@ -10,17 +9,17 @@ use Rattle.chp_syntax.specs.declared.tree.Op.TheVariants.{Add, Lt}
 use Rattle.width_check.specs.Processes.{constant, reading, chained, compared, no_operations, and_operation, Process, skipping, assigning, sending, receiving, in_turn, side_by_side, choosing, repeating, Processes, no_members, and_member, TypedProgram}
 use Rattle.width_check.specs.Reads.{reads}
 use Rattle.width_check.specs.Sharing.{Occurrence, Parallel, ParallelInside}
-use Rattle.circuit_places.specs.Covered.{IsCovered, AreCovered, Covered}
+use Rattle.circuit_places.specs.Covered.{IsCovered, AreCovered, talks_on, InternalUnused, Covered}
 use Rattle.circuit_places.proofs.RailLemmas.{fst_true, snd_true}
 
--- at the other end of each channel is the environment
+-- at the other end of each channel that is used is the environment
 abbrev is_open : Kind → Bool
 is_open Chan = false
 is_open _ = true
 
-abbrev all_open : List Channel → Bool
-all_open [] = true
-all_open (c ∷ cs) = is_open c.kind && all_open cs
+abbrev all_open : ℕ → List Channel → Process → Bool
+all_open n [] p = true
+all_open n (c ∷ cs) p = (is_open c.kind || not (talks_on n p)) && all_open (suc n) cs p
 
 -- one process alone, of covered statements
 abbrev mutual
@@ -37,18 +36,20 @@ abbrev mutual
   are_alone no_members = true
   are_alone (and_member p more) = is_alone p && are_alone more
 
-open_kind : (k : Kind) → is_open k ≡ true → k ≢ Chan
-open_kind Chan h e = cc h
-open_kind In h e = cc e
-open_kind Out h e = cc e
-
-opens : (cs : List Channel) → all_open cs ≡ true → All (λ (c : Channel). c.kind ≢ Chan) cs
-opens [] h = All-nil (λ (c : Channel). c.kind ≢ Chan)
-opens (c ∷ cs) h = All-cons (λ (c : Channel). c.kind ≢ Chan) c cs (open_kind c.kind (fst_true (is_open c.kind) (all_open cs) h)) (opens cs (snd_true (is_open c.kind) (all_open cs) h))
-
 plain : (b : Bool) → not b ≡ true → b ≡ false
 plain true h = absurd (cc h)
 plain false h = refl
+
+open_kind : (k : Kind) (used : Bool) → (is_open k || not used) ≡ true → k ≡ Chan → used ≡ false
+open_kind Chan used h e = plain used h
+open_kind In used h e = absurd (cc e)
+open_kind Out used h e = absurd (cc e)
+
+opens : (n : ℕ) (cs : List Channel) (p : Process) → all_open n cs p ≡ true → InternalUnused n cs p
+opens n [] p h = tt
+opens n (c ∷ cs) p h =
+    let here = is_open c.kind || not (talks_on n p) in
+    (open_kind c.kind (talks_on n p) (fst_true here (all_open (suc n) cs p) h), opens (suc n) cs p (snd_true here (all_open (suc n) cs p) h))
 
 mutual
   covers : (p : Process) → is_alone p ≡ true → IsCovered p
@@ -81,11 +82,11 @@ mutual
   all_alone (and_member p more) h a b (inl x) = alone p (fst_true (is_alone p) (are_alone more) h) a b x
   all_alone (and_member p more) h a b (inr x) = all_alone more (snd_true (is_alone p) (are_alone more) h) a b x
 
-pub decided : (P : TypedProgram) → (all_open P.channels && is_alone P.body) ≡ true → Covered P
+pub decided : (P : TypedProgram) → (all_open 0 P.channels P.body && is_alone P.body) ≡ true → Covered P
 decided P h =
-    let single = snd_true (all_open P.channels) (is_alone P.body) h in
+    let single = snd_true (all_open 0 P.channels P.body) (is_alone P.body) h in
     record {
-      channels = opens P.channels (fst_true (all_open P.channels) (is_alone P.body) h);
+      channels = opens 0 P.channels P.body (fst_true (all_open 0 P.channels P.body) (is_alone P.body) h);
       body = covers P.body single;
       sharing = record {
         variables = λ a b x c. alone P.body single a b x;
@@ -113,7 +114,8 @@ abbrev wraps : TypedProgram
 wraps = record {
   channels = record { name = []; kind = Out; width = 64 } ∷ record { name = []; kind = Out; width = 1 } ∷ [];
   vars = record { name = []; width = 64; first = 18446744073709551615 } ∷ [];
-  body = in_turn (and_member (sending 0 at (chained (reading 0 63 0 at) (and_operation Add (constant 64 1) no_operations))) (and_member (sending 1 at (compared Lt (reading 0 63 0 at) (constant 64 1))) no_members));
+  body = in_turn (and_member (sending 0 at (chained (reading 0 63 0 at) (and_operation Add (constant 64 1) no_operations)))
+      (and_member (sending 1 at (compared Lt (reading 0 63 0 at) (constant 64 1))) no_members));
 }
 
 wraps_covered : Covered wraps
@@ -140,3 +142,14 @@ tells = record {
 
 tells_covered : Covered tells
 tells_covered = decided tells refl
+
+-- in L : 4; chan M : 2; out R : 4; var x : 4; var y : 8 = 3; begin R!5 end
+abbrev unused : TypedProgram
+unused = record {
+  channels = record { name = []; kind = In; width = 4 } ∷ record { name = []; kind = Chan; width = 2 } ∷ record { name = []; kind = Out; width = 4 } ∷ [];
+  vars = record { name = []; width = 4; first = 0 } ∷ record { name = []; width = 8; first = 3 } ∷ [];
+  body = sending 2 at (constant 4 5);
+}
+
+unused_covered : Covered unused
+unused_covered = decided unused refl

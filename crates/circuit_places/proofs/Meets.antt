@@ -1,6 +1,5 @@
 -- What a covered program that is typed keeps at each statement.
-use Rattle.std.proofs.Common.{◌≡◌, ◌≢◌, ℕ, zero, suc, ◌<◌, ◌≤◌, List, [], ◌∷◌, ◌++◌, length, refl, sym, ap, ◌∙◌, subst, ◌⊎◌, Bool, true, false, Contains, inl, inr, arith}
-use Rattle.std.proofs.lemmas.Bool.Decides.{nat_tests}
+use Rattle.std.proofs.Common.{◌≡◌, ◌≢◌, ℕ, suc, ◌<◌, ◌≤◌, List, [], ◌∷◌, ◌++◌, length, refl, sym, ap, ◌∙◌, subst, ◌⊎◌, Bool, true, false, Contains, inl, inr, arith}
 use Rattle.std.proofs.lemmas.List.Elements.{Contains-append_left, Contains-append_right}
 use Rattle.std.specs.Prelude.{◌==◌, ◌||◌, ◌&&◌, if◌then◌else◌}
 use Rattle.chp_base.specs.declared.span.Span.{Span}
@@ -20,7 +19,7 @@ use Rattle.circuit_places.specs.Lines.{Line, of_channel, of_var, same_line, site
 use Rattle.circuit_places.specs.Whole.{is_sent, is_heard, is_merged}
 use Rattle.circuit_places.proofs.LineNames.{same_number, same_line_is}
 use Rattle.std.proofs.lemmas.Bool.{cases_lt}
-use Rattle.circuit_places.specs.Covered.{IsCovered, AreCovered}
+use Rattle.circuit_places.specs.Covered.{IsCovered, AreCovered, talks_on, one_talks_on}
 use Rattle.circuit_places.proofs.Trees.{TreeOver, TreesSettle, tree_over}
 
 -- the program has the line
@@ -145,7 +144,8 @@ send_meets hold P c e h = record {
   known = hold e h.sent.formed;
 }
 
-assign_meets : ExpressionsHold → (P : TypedProgram) (x : ℕ) (e : Formula) → (x < length P.vars) × IsOfWidth P.vars (var_width P.vars x) e → reads x e ≡ false → SiteMeets P (of_var x) e
+assign_meets : ExpressionsHold → (P : TypedProgram) (x : ℕ) (e : Formula) → (x < length P.vars) × IsOfWidth P.vars (var_width P.vars x) e → reads x e ≡ false
+    → SiteMeets P (of_var x) e
 assign_meets hold P x e h plain = record {
   within = h.0;
   merged = refl;
@@ -162,7 +162,8 @@ heard_kind Out ne = absurd (ne refl)
 heard_kind Chan ne = refl
 
 port_meets : (P : TypedProgram) → ((x : ℕ) → x < length P.vars → 1 ≤ var_width P.vars x) → (c x : ℕ) → IsReceive P.channels P.vars c x → PortMeets P c x
-port_meets P some c x h = record { within = h.within; heard = heard_kind (kind_at P.channels c) h.direction; into = h.target; some = some x h.target; widths = h.widths }
+port_meets P some c x h =
+    record { within = h.within; heard = heard_kind (kind_at P.channels c) h.direction; into = h.target; some = some x h.target; widths = h.widths }
 
 -- what an expression reads is declared
 pub read_declared : (P : TypedProgram) (e : Formula) → ReadsFrom P.vars e → (v : ℕ) → reads v e ≡ true → v < length P.vars
@@ -198,34 +199,59 @@ found_behind o xs d f = found_right (o ∷ []) xs d f
 mutual
   found_read : (e : Formula) (v : ℕ) → reads v e ≡ true → Found (reads_of e) (reads_var v)
   found_read (constant w k) v h = absurd (cc h)
-  found_read (reading x high low at) v h = record { o = record { deed = reads_var x; at = at }; among = (0, omega arith, refl); is = ap (λ n. reads_var n) (same_number x v h) }
+  found_read (reading x high low at) v h = record {
+    o = record { deed = reads_var x; at = at };
+    among = (0, omega arith, refl);
+    is = ap (λ n. reads_var n)
+        (same_number x v h);
+  }
   found_read (joined parts) v h = found_read_parts parts v h
   found_read (inverted e) v h = found_read e v h
-  found_read (chained e more) v h = found_either (reads_of e) (reads_of_operations more) (reads_var v) (reads v e) (reads_in_operations v more) h (λ z. found_read e v z) (λ z. found_read_operations more v z)
-  found_read (compared op e f) v h = found_either (reads_of e) (reads_of f) (reads_var v) (reads v e) (reads v f) h (λ z. found_read e v z) (λ z. found_read f v z)
+  found_read (chained e more) v h = found_either (reads_of e) (reads_of_operations more) (reads_var v) (reads v e) (reads_in_operations v more) h
+      (λ z. found_read e v z) (λ z. found_read_operations more v z)
+  found_read (compared op e f) v h = found_either (reads_of e) (reads_of f) (reads_var v) (reads v e) (reads v f) h (λ z. found_read e v z)
+      (λ z. found_read f v z)
 
   found_read_parts : (parts : Formulas) (v : ℕ) → reads_in_parts v parts ≡ true → Found (reads_of_parts parts) (reads_var v)
   found_read_parts no_parts v h = absurd (cc h)
-  found_read_parts (and_part e more) v h = found_either (reads_of e) (reads_of_parts more) (reads_var v) (reads v e) (reads_in_parts v more) h (λ z. found_read e v z) (λ z. found_read_parts more v z)
+  found_read_parts (and_part e more) v h = found_either (reads_of e) (reads_of_parts more) (reads_var v) (reads v e) (reads_in_parts v more) h
+      (λ z. found_read e v z) (λ z. found_read_parts more v z)
 
   found_read_operations : (more : Operations) (v : ℕ) → reads_in_operations v more ≡ true → Found (reads_of_operations more) (reads_var v)
   found_read_operations no_operations v h = absurd (cc h)
-  found_read_operations (and_operation op e more) v h = found_either (reads_of e) (reads_of_operations more) (reads_var v) (reads v e) (reads_in_operations v more) h (λ z. found_read e v z) (λ z. found_read_operations more v z)
+  found_read_operations (and_operation op e more) v h = found_either (reads_of e) (reads_of_operations more) (reads_var v) (reads v e)
+      (reads_in_operations v more) h (λ z. found_read e v z) (λ z. found_read_operations more v z)
 
 mutual
   found : (p : Process) (k : Line) → sends p k ≡ true → Found (occurrences p) (deed_of k)
-  found (assigning x at e) k h = record { o = record { deed = writes_var x; at = at }; among = (0, omega arith, refl); is = ap deed_of (same_line_is (of_var x) k h) }
-  found (sending c at e) k h = record { o = record { deed = sends_on c; at = at }; among = (0, omega arith, refl); is = ap deed_of (same_line_is (of_channel c) k h) }
+  found (assigning x at e) k h = record {
+    o = record { deed = writes_var x; at = at };
+    among = (0, omega arith, refl);
+    is = ap deed_of
+        (same_line_is (of_var x) k h);
+  }
+  found (sending c at e) k h = record {
+    o = record { deed = sends_on c; at = at };
+    among = (0, omega arith, refl);
+    is = ap deed_of
+        (same_line_is (of_channel c) k h);
+  }
   found (in_turn members) k h = found_each members k h
   found (side_by_side members) k h = found_each members k h
   found (repeating p) k h = found p k h
   found skipping k h = absurd (cc h)
-  found (receiving c at x to) k h = record { o = record { deed = writes_var x; at = to }; among = (1, omega arith, refl); is = ap deed_of (same_line_is (of_var x) k h) }
+  found (receiving c at x to) k h = record {
+    o = record { deed = writes_var x; at = to };
+    among = (1, omega arith, refl);
+    is = ap deed_of
+        (same_line_is (of_var x) k h);
+  }
   found (choosing again choices) k h = absurd (cc h)
 
   found_each : (members : Processes) (k : Line) → turn_sends members k ≡ true → Found (occurrences_of_each members) (deed_of k)
   found_each no_members k h = absurd (cc h)
-  found_each (and_member p more) k h = found_either (occurrences p) (occurrences_of_each more) (deed_of k) (sends p k) (turn_sends more k) h (λ e. found p k e) (λ e. found_each more k e)
+  found_each (and_member p more) k h = found_either (occurrences p) (occurrences_of_each more) (deed_of k) (sends p k) (turn_sends more k) h (λ e. found p k e)
+      (λ e. found_each more k e)
 
 -- and where it reads one
 mutual
@@ -241,12 +267,18 @@ mutual
 
   found_use_each : (members : Processes) (v : ℕ) → each_uses members v ≡ true → Found (occurrences_of_each members) (reads_var v)
   found_use_each no_members v h = absurd (cc h)
-  found_use_each (and_member p more) v h = found_either (occurrences p) (occurrences_of_each more) (reads_var v) (uses p v) (each_uses more v) h (λ e. found_use p v e) (λ e. found_use_each more v e)
+  found_use_each (and_member p more) v h = found_either (occurrences p) (occurrences_of_each more) (reads_var v) (uses p v) (each_uses more v) h
+      (λ e. found_use p v e) (λ e. found_use_each more v e)
 
 -- and where it receives
 mutual
   found_receive : (p : Process) (c : ℕ) → receives p c ≡ true → Found (occurrences p) (receives_on c)
-  found_receive (receiving k at x to) c h = record { o = record { deed = receives_on k; at = at }; among = (0, omega arith, refl); is = ap (λ n. receives_on n) (same_number k c h) }
+  found_receive (receiving k at x to) c h = record {
+    o = record { deed = receives_on k; at = at };
+    among = (0, omega arith, refl);
+    is = ap (λ n. receives_on n)
+        (same_number k c h);
+  }
   found_receive (in_turn members) c h = found_receive_each members c h
   found_receive (side_by_side members) c h = found_receive_each members c h
   found_receive (repeating p) c h = found_receive p c h
@@ -257,7 +289,8 @@ mutual
 
   found_receive_each : (members : Processes) (c : ℕ) → each_receives members c ≡ true → Found (occurrences_of_each members) (receives_on c)
   found_receive_each no_members c h = absurd (cc h)
-  found_receive_each (and_member p more) c h = found_either (occurrences p) (occurrences_of_each more) (receives_on c) (receives p c) (each_receives more c) h (λ e. found_receive p c e) (λ e. found_receive_each more c e)
+  found_receive_each (and_member p more) c h = found_either (occurrences p) (occurrences_of_each more) (receives_on c) (receives p c) (each_receives more c) h
+      (λ e. found_receive p c e) (λ e. found_receive_each more c e)
 
 -- two deeds that the sharing rule keeps apart
 abbrev pub Clash : Deed → Deed → Type 0
@@ -279,25 +312,41 @@ fair_of p more apart = record {
     none d g clash x false f = refl
     none d g clash x true f =
         let y = f refl in
-        absurd (apart x.o y.o (inl (inl (x.among, y.among))) (subst (λ (c : Deed). Clash c y.o.deed) (sym x.is) (subst (λ (c : Deed). Clash d c) (sym y.is) clash)))
+        absurd (apart x.o y.o (inl (inl (x.among, y.among))) (subst (λ (c : Deed). Clash c y.o.deed) (sym x.is)
+        (subst (λ (c : Deed). Clash d c) (sym y.is) clash)))
 
 mutual
-  pub meets : TreesSettle → ExpressionsHold → (P : TypedProgram) → ((x : ℕ) → x < length P.vars → 1 ≤ var_width P.vars x) → (p : Process) → ((a b : Occurrence) → Parallel p a b → ¬ Clash a.deed b.deed) → IsProcess P.channels P.vars p → IsCovered p → Meets P p
+  pub meets : TreesSettle → ExpressionsHold → (P : TypedProgram) → ((x : ℕ) → x < length P.vars → 1 ≤ var_width P.vars x) → (p : Process)
+      → ((a b : Occurrence) → Parallel p a b → ¬ Clash a.deed b.deed) → IsProcess P.channels P.vars p → IsCovered p → Meets P p
   meets law hold P some_bit skipping apart h k = tt
   meets law hold P some_bit (sending c at e) apart h k = send_meets hold P c e h
-  meets law hold P some_bit (in_turn members) apart h k = turn_meets law hold P some_bit members apart (let e : 2 ≤ member_count members = h.0 in let g : 1 ≤ member_count members = omega (arith, e) in g) h.1 k
+  meets law hold P some_bit (in_turn members) apart h k = turn_meets law hold P some_bit members apart
+      (let e : 2 ≤ member_count members = h.0 in let g : 1 ≤ member_count members = omega (arith, e) in g) h.1 k
   meets law hold P some_bit (repeating p) apart h k = meets law hold P some_bit p apart h k
   meets law hold P some_bit (assigning x at e) apart h k = assign_meets hold P x e h k
   meets law hold P some_bit (receiving c at x to) apart h k = port_meets P some_bit c x h
-  meets law hold P some_bit (side_by_side members) apart h k = (h.0, tree_over (member_count members) law (let e : 2 ≤ member_count members = h.0 in let g : 1 ≤ member_count members = omega (arith, e) in g), each_meets law hold P some_bit members apart h.1 k)
+  meets law hold P some_bit (side_by_side members) apart h k = (
+    h.0,
+    tree_over (member_count members) law
+        (let e : 2 ≤ member_count members = h.0 in let g : 1 ≤ member_count members = omega (arith, e) in g),
+    each_meets law hold P some_bit members apart h.1 k,
+  )
   meets law hold P some_bit (choosing again _) apart h k = k
 
-  pub turn_meets : TreesSettle → ExpressionsHold → (P : TypedProgram) → ((x : ℕ) → x < length P.vars → 1 ≤ var_width P.vars x) → (members : Processes) → ((a b : Occurrence) → ParallelInside members a b → ¬ Clash a.deed b.deed) → 1 ≤ member_count members → AreProcesses P.channels P.vars members → AreCovered members → TurnMeets P members
+  pub turn_meets : TreesSettle → ExpressionsHold → (P : TypedProgram) → ((x : ℕ) → x < length P.vars → 1 ≤ var_width P.vars x) → (members : Processes)
+      → ((a b : Occurrence) → ParallelInside members a b → ¬ Clash a.deed b.deed) → 1 ≤ member_count members → AreProcesses P.channels P.vars members
+      → AreCovered members → TurnMeets P members
   turn_meets law hold P some_bit no_members apart some h k = let g : ⊥ = omega (arith, some) in g
   turn_meets law hold P some_bit (and_member p no_members) apart some h k = meets law hold P some_bit p (λ a b h. apart a b (inl h)) h.0 k.0
-  turn_meets law hold P some_bit (and_member p (and_member q more)) apart some h k = (meets law hold P some_bit p (λ a b h. apart a b (inl h)) h.0 k.0, turn_meets law hold P some_bit (and_member q more) (λ a b h. apart a b (inr h)) (let g : 1 ≤ suc (member_count more) = omega arith in g) h.1 k.1)
+  turn_meets law hold P some_bit (and_member p (and_member q more)) apart some h k = (
+    meets law hold P some_bit p (λ a b h. apart a b (inl h)) h.0 k.0,
+    turn_meets law hold P some_bit (and_member q more) (λ a b h. apart a b (inr h))
+        (let g : 1 ≤ suc (member_count more) = omega arith in g) h.1 k.1,
+  )
 
-  pub each_meets : TreesSettle → ExpressionsHold → (P : TypedProgram) → ((x : ℕ) → x < length P.vars → 1 ≤ var_width P.vars x) → (members : Processes) → ((a b : Occurrence) → Parallel (side_by_side members) a b → ¬ Clash a.deed b.deed) → AreProcesses P.channels P.vars members → AreCovered members → EachMeets P members
+  pub each_meets : TreesSettle → ExpressionsHold → (P : TypedProgram) → ((x : ℕ) → x < length P.vars → 1 ≤ var_width P.vars x) → (members : Processes)
+      → ((a b : Occurrence) → Parallel (side_by_side members) a b → ¬ Clash a.deed b.deed) → AreProcesses P.channels P.vars members → AreCovered members
+      → EachMeets P members
   each_meets law hold P some_bit no_members apart h k = tt
   each_meets law hold P some_bit (and_member p more) apart h k = (
     meets law hold P some_bit p (λ a b g. apart a b (inl (inl g))) h.0 k.0,
@@ -318,7 +367,8 @@ mutual
   opened_on P (repeating p) h = refl
   opened_on P (assigning x at e) h = refl
   opened_on P (receiving c at x to) h = refl
-  opened_on P (side_by_side members) h = ap (λ b. is_finished (if b then finished else in_parallel (opened_each members))) (each_opened_on P members (let e : 2 ≤ member_count members = h.0 in let g : 1 ≤ member_count members = omega (arith, e) in g) h.2)
+  opened_on P (side_by_side members) h = ap (λ b. is_finished (if b then finished else in_parallel (opened_each members)))
+      (each_opened_on P members (let e : 2 ≤ member_count members = h.0 in let g : 1 ≤ member_count members = omega (arith, e) in g) h.2)
   opened_on P (choosing again _) h = refl
 
   pub turn_opened_on : (P : TypedProgram) (members : Processes) → TurnMeets P members → is_finished (opened_turn members) ≡ false
@@ -358,11 +408,13 @@ mutual
   turn_sends_merged : (P : TypedProgram) (members : Processes) → TurnMeets P members → (k : Line) → turn_sends members k ≡ true → is_merged P k ≡ true
   turn_sends_merged P no_members h k e = absurd (cc e)
   turn_sends_merged P (and_member p no_members) h k e = one_of (sends p k) false e (λ z. sends_merged P p h k z) (λ z. absurd (cc z))
-  turn_sends_merged P (and_member p (and_member q more)) h k e = one_of (sends p k) (turn_sends (and_member q more) k) e (λ z. sends_merged P p h.0 k z) (λ z. turn_sends_merged P (and_member q more) h.1 k z)
+  turn_sends_merged P (and_member p (and_member q more)) h k e = one_of (sends p k) (turn_sends (and_member q more) k) e (λ z. sends_merged P p h.0 k z)
+      (λ z. turn_sends_merged P (and_member q more) h.1 k z)
 
   each_sends_merged : (P : TypedProgram) (members : Processes) → EachMeets P members → (k : Line) → turn_sends members k ≡ true → is_merged P k ≡ true
   each_sends_merged P no_members h k e = absurd (cc e)
-  each_sends_merged P (and_member p more) h k e = one_of (sends p k) (turn_sends more k) e (λ z. sends_merged P p h.0 k z) (λ z. each_sends_merged P more h.2 k z)
+  each_sends_merged P (and_member p more) h k e = one_of (sends p k) (turn_sends more k) e (λ z. sends_merged P p h.0 k z)
+      (λ z. each_sends_merged P more h.2 k z)
 
 -- and a channel on which it receives is one whose acknowledge it moves
 mutual
@@ -376,14 +428,18 @@ mutual
   receives_heard P (sending k at f) h c e = absurd (cc e)
   receives_heard P (choosing again choices) h c e = absurd (cc e)
 
-  turn_receives_heard : (P : TypedProgram) (members : Processes) → TurnMeets P members → (c : ℕ) → each_receives members c ≡ true → is_heard (kind_at P.channels c) ≡ true
+  turn_receives_heard : (P : TypedProgram) (members : Processes) → TurnMeets P members → (c : ℕ) → each_receives members c ≡ true
+      → is_heard (kind_at P.channels c) ≡ true
   turn_receives_heard P no_members h c e = absurd (cc e)
   turn_receives_heard P (and_member p no_members) h c e = one_of (receives p c) false e (λ z. receives_heard P p h c z) (λ z. absurd (cc z))
-  turn_receives_heard P (and_member p (and_member q more)) h c e = one_of (receives p c) (each_receives (and_member q more) c) e (λ z. receives_heard P p h.0 c z) (λ z. turn_receives_heard P (and_member q more) h.1 c z)
+  turn_receives_heard P (and_member p (and_member q more)) h c e = one_of (receives p c) (each_receives (and_member q more) c) e
+      (λ z. receives_heard P p h.0 c z) (λ z. turn_receives_heard P (and_member q more) h.1 c z)
 
-  each_receives_heard : (P : TypedProgram) (members : Processes) → EachMeets P members → (c : ℕ) → each_receives members c ≡ true → is_heard (kind_at P.channels c) ≡ true
+  each_receives_heard : (P : TypedProgram) (members : Processes) → EachMeets P members → (c : ℕ) → each_receives members c ≡ true
+      → is_heard (kind_at P.channels c) ≡ true
   each_receives_heard P no_members h c e = absurd (cc e)
-  each_receives_heard P (and_member p more) h c e = one_of (receives p c) (each_receives more c) e (λ z. receives_heard P p h.0 c z) (λ z. each_receives_heard P more h.2 c z)
+  each_receives_heard P (and_member p more) h c e = one_of (receives p c) (each_receives more c) e (λ z. receives_heard P p h.0 c z)
+      (λ z. each_receives_heard P more h.2 c z)
 
 -- and one that is declared
 mutual
@@ -400,8 +456,47 @@ mutual
   turn_receives_within : (P : TypedProgram) (members : Processes) → TurnMeets P members → (c : ℕ) → each_receives members c ≡ true → c < length P.channels
   turn_receives_within P no_members h c e = absurd (cc e)
   turn_receives_within P (and_member p no_members) h c e = one_of (receives p c) false e (λ z. receives_within P p h c z) (λ z. absurd (cc z))
-  turn_receives_within P (and_member p (and_member q more)) h c e = one_of (receives p c) (each_receives (and_member q more) c) e (λ z. receives_within P p h.0 c z) (λ z. turn_receives_within P (and_member q more) h.1 c z)
+  turn_receives_within P (and_member p (and_member q more)) h c e = one_of (receives p c) (each_receives (and_member q more) c) e
+      (λ z. receives_within P p h.0 c z) (λ z. turn_receives_within P (and_member q more) h.1 c z)
 
   each_receives_within : (P : TypedProgram) (members : Processes) → EachMeets P members → (c : ℕ) → each_receives members c ≡ true → c < length P.channels
   each_receives_within P no_members h c e = absurd (cc e)
-  each_receives_within P (and_member p more) h c e = one_of (receives p c) (each_receives more c) e (λ z. receives_within P p h.0 c z) (λ z. each_receives_within P more h.2 c z)
+  each_receives_within P (and_member p more) h c e = one_of (receives p c) (each_receives more c) e (λ z. receives_within P p h.0 c z)
+      (λ z. each_receives_within P more h.2 c z)
+
+either_talks : (a b c d : Bool) → (a ≡ true → c ≡ true) → (b ≡ true → d ≡ true) → (a || b) ≡ true → (c || d) ≡ true
+either_talks true b c d f g h = ap (λ z. z || d) (f refl)
+either_talks false b true d f g h = refl
+either_talks false b false d f g h = g h
+
+-- what sends or receives on a channel talks on it
+mutual
+  pub sends_talks : (p : Process) (c : ℕ) → sends p (of_channel c) ≡ true → talks_on c p ≡ true
+  sends_talks (sending k at f) c e = e
+  sends_talks (in_turn members) c e = each_sends_talks members c e
+  sends_talks (side_by_side members) c e = each_sends_talks members c e
+  sends_talks (repeating p) c e = sends_talks p c e
+  sends_talks skipping c e = absurd (cc e)
+  sends_talks (assigning x at f) c e = absurd (cc e)
+  sends_talks (receiving k at x to) c e = absurd (cc e)
+  sends_talks (choosing again choices) c e = absurd (cc e)
+
+  each_sends_talks : (members : Processes) (c : ℕ) → turn_sends members (of_channel c) ≡ true → one_talks_on c members ≡ true
+  each_sends_talks no_members c e = absurd (cc e)
+  each_sends_talks (and_member p more) c e = either_talks (sends p (of_channel c)) (turn_sends more (of_channel c)) (talks_on c p) (one_talks_on c more)
+      (sends_talks p c) (each_sends_talks more c) e
+
+  pub receives_talks : (p : Process) (c : ℕ) → receives p c ≡ true → talks_on c p ≡ true
+  receives_talks (receiving k at x to) c e = e
+  receives_talks (in_turn members) c e = each_receives_talks members c e
+  receives_talks (side_by_side members) c e = each_receives_talks members c e
+  receives_talks (repeating p) c e = receives_talks p c e
+  receives_talks skipping c e = absurd (cc e)
+  receives_talks (assigning x at f) c e = absurd (cc e)
+  receives_talks (sending k at f) c e = absurd (cc e)
+  receives_talks (choosing again choices) c e = absurd (cc e)
+
+  each_receives_talks : (members : Processes) (c : ℕ) → each_receives members c ≡ true → one_talks_on c members ≡ true
+  each_receives_talks no_members c e = absurd (cc e)
+  each_receives_talks (and_member p more) c e = either_talks (receives p c) (each_receives more c) (talks_on c p) (one_talks_on c more) (receives_talks p c)
+      (each_receives_talks more c) e

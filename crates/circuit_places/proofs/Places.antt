@@ -6,7 +6,7 @@ use Rattle.std.proofs.Math.Path.{fun_ext}
 use Rattle.chp_base.specs.declared.span.Span.{Span}
 use Rattle.width_check.specs.Processes.{Formula, Process, skipping, assigning, sending, receiving, in_turn, side_by_side, choosing, repeating, Processes, no_members, and_member, member_count}
 use Rattle.cell_parallel.specs.Trees.{tree_top}
-use Rattle.circuit_places.specs.Lines.{Line, of_channel, of_var, same_line, site_statement, line_width, Rails, Seen}
+use Rattle.circuit_places.specs.Lines.{Line, of_channel, of_var, same_line, Rails, Seen}
 use Rattle.prs_core.specs.Deciding.{implies}
 use Rattle.circuit_places.specs.Whole.{value_on, neutral_on}
 use Rattle.circuit_places.specs.Circuit.{Port, PortSpot, low_port, port_rule, heard, stored, taking, of_receive, Guarded, Site, Pairs, SiteSpot, site_rule, low_site, Cells, TurnCells, Bits, BranchCells, low_bits, bit_at, joint_count, low_guarded, low, low_turn, low_branches, branch_ends, tree_answer, tree_rule, gate_count, answer, turn_answer, GuardedSpot, Spot, TurnSpot, BranchSpot, child, latch, next, inner, of_skip, done, gate, of_assign, of_send, in_members, of_branch, joint, in_this, in_others, of_loop, ask, in_body, in_last, in_member, in_later, fires, same_bit, gate_rule, guarded_rule, rule, turn_rule, branch_rule}
@@ -114,7 +114,8 @@ mutual
     at_send : {c : ℕ} {at : Span} {e : Formula} (m : Mode) (u : Pairs (gate_count e)) → SiteMay e m u → At (sending c at e) m
     at_receive : {c x : ℕ} {at to : Span} (m : Mode) (k : Bool) (q : Rails) → port_may m k ≡ true → At (receiving c at x to) m
     at_turn : {members : Processes} {m : Mode} → TurnAt members m → At (in_turn members) m
-    at_side : {members : Processes} {ks : List Mode} (m : Mode) (t : Bits (joint_count (member_count members))) → BranchesAt members ks → SideMay (member_count members) m ks t → At (side_by_side members) m
+    at_side : {members : Processes} {ks : List Mode} (m : Mode) (t : Bits (joint_count (member_count members))) → BranchesAt members ks
+        → SideMay (member_count members) m ks t → At (side_by_side members) m
     at_body : {p : Process} {m : Mode} → At p m → At (repeating p) running
 
   -- where branches are, each so far
@@ -127,7 +128,8 @@ mutual
     turn_rests : {members : Processes} → TurnAt members idle
     at_last : {p : Process} {m : Mode} → At p m → TurnAt (and_member p no_members) m
     at_member : {p q : Process} {more : Processes} → GuardedAt p running → TurnAt (and_member p (and_member q more)) running
-    at_later : {p q : Process} {more : Processes} {k n m : Mode} → GuardedAt p k → TurnAt (and_member q more) n → link m k n ≡ true → TurnAt (and_member p (and_member q more)) m
+    at_later : {p q : Process} {more : Processes} {k n m : Mode} → GuardedAt p k → TurnAt (and_member q more) n → link m k n ≡ true
+        → TurnAt (and_member p (and_member q more)) m
 
 abbrev pub guarded_of : {A : Type 0} → (child latch next : Bool) → A → Guarded A
 guarded_of c u b x = record { child = c; latch = u; next = b; inner = x }
@@ -200,7 +202,14 @@ both_shown x y = record {
 }
 
 abbrev pub site_shown : Line → (e : Formula) → Pairs (gate_count e) → Shown
-site_shown k e u = record { talk = λ j. same_line k j; says = λ j. same_line k j; offer = λ j i one. same_line k j && out_rail e u i one; listen = λ j. false; take = λ j. false; read = λ x. reads x e }
+site_shown k e u = record {
+  talk = λ j. same_line k j;
+  says = λ j. same_line k j;
+  offer = λ j i one. same_line k j && out_rail e u i one;
+  listen = λ j. false;
+  take = λ j. false;
+  read = λ x. reads x e;
+}
 
 abbrev pub port_shown : (c x : ℕ) → (kept : Bool) → Rails → Shown
 port_shown c x k q = record {
@@ -286,7 +295,8 @@ port_ends returning k a v f n = implies k a && (implies v k && (implies (not v) 
 
 -- Until it has stored it takes no other rail than is there, and from then on it has all that are there.
 pub record PortFits (c x : ℕ) (m : Mode) (k : Bool) (q : Rails) (env : Seen) : Type 0 where
-  pub ends : port_ends m k (env.ack (of_channel c)) (env.ack (of_var x)) (is_some (value_on (env.width (of_var x)) q)) (neutral_on (env.width (of_var x)) q) ≡ true
+  pub ends : port_ends m k (env.ack (of_channel c)) (env.ack (of_var x)) (is_some (value_on (env.width (of_var x)) q))
+      (neutral_on (env.width (of_var x)) q) ≡ true
   pub before : k ≡ false → (i : ℕ) (one : Bool) → q i one ≡ true → env.rail (of_channel c) i one ≡ true
   pub behind : k ≡ true → (i : ℕ) (one : Bool) → env.rail (of_channel c) i one ≡ true → q i one ≡ true
   pub within : (i : ℕ) (one : Bool) → q i one ≡ true → i < env.width (of_var x)
@@ -367,7 +377,8 @@ low_end (and_member p more) (suc i) = low_end more i
 low_sides_answer : (members : Processes) → answer (side_by_side members) (low (side_by_side members)) ≡ false
 low_sides_answer members =
     let n = member_count members in
-    all_low_value n (branch_ends members (low_branches members)) (bit_at (joint_count n) (low_bits (joint_count n))) (low_end members) (low_bit (joint_count n)) (tree_top (range_with_len 0 n) n)
+    all_low_value n (branch_ends members (low_branches members)) (bit_at (joint_count n) (low_bits (joint_count n))) (low_end members) (low_bit (joint_count n))
+    (tree_top (range_with_len 0 n) n)
 
 mutual
   pub low_answer : (p : Process) → answer p (low p) ≡ false
@@ -439,7 +450,8 @@ mutual
   answer_is (at_send m u h) = refl
   answer_is (at_receive m k q h) = refl
   answer_is (at_turn t) = turn_answer_is t
-  answer_is (at_side {members = members} m t b h) = ap (λ (f : ℕ → Bool). tree_answer (member_count members) f (bit_at (joint_count (member_count members)) t)) (ends_are b) ∙ h.top
+  answer_is (at_side {members = members} m t b h) = ap (λ (f : ℕ → Bool). tree_answer (member_count members) f (bit_at (joint_count (member_count members)) t))
+      (ends_are b) ∙ h.top
   answer_is (at_body a) = refl
 
   pub turn_answer_is : {members : Processes} {m : Mode} (t : TurnAt members m) → turn_answer members (turn_cells t) ≡ acks m
@@ -477,7 +489,8 @@ mutual
   low_quiet (side_by_side members) env (of_branch s) = low_branch_quiet members env s
   low_quiet (side_by_side members) env (joint k) =
       let n = member_count members in
-      joint_quiet n (branch_ends members (low_branches members)) (bit_at (joint_count n) (low_bits (joint_count n))) (low_end members) (low_bit (joint_count n)) k
+      joint_quiet n (branch_ends members (low_branches members)) (bit_at (joint_count n) (low_bits (joint_count n))) (low_end members)
+      (low_bit (joint_count n)) k
   low_quiet (choosing again _) env s = refl
 
   pub low_branch_quiet : (members : Processes) (env : Seen) (s : BranchSpot members) → fires (branch_rule members env false (low_branches members) s) ≡ false
@@ -492,12 +505,14 @@ mutual
   low_turn_quiet (and_member p (and_member q more)) env (in_later s) = low_turn_quiet (and_member q more) env s
 
 -- the rules allow what a place says
-site_can_is : (env : Seen) (k : Line) (e : Formula) (m : Mode) (u : Pairs (gate_count e)) (s : SiteSpot e) → fires (site_rule e env.bit (env.ack k) (asks m) (site_of e (acks m) u) s) ≡ site_moves env k e m u s
+site_can_is : (env : Seen) (k : Line) (e : Formula) (m : Mode) (u : Pairs (gate_count e)) (s : SiteSpot e)
+    → fires (site_rule e env.bit (env.ack k) (asks m) (site_of e (acks m) u) s) ≡ site_moves env k e m u s
 site_can_is env k e m u done = refl
 site_can_is env k e m u (gate i one) = refl
 
 mutual
-  pub guarded_can_is : {p : Process} {m : Mode} (env : Seen) (g : GuardedAt p m) (s : GuardedSpot p) → fires (guarded_rule p env (asks m) (guarded_cells g) s) ≡ guarded_moves env g s
+  pub guarded_can_is : {p : Process} {m : Mode} (env : Seen) (g : GuardedAt p m) (s : GuardedSpot p)
+      → fires (guarded_rule p env (asks m) (guarded_cells g) s) ≡ guarded_moves env g s
   guarded_can_is {p = p} env g_rests s = low_guarded_quiet p env s
   guarded_can_is env (g_in {m = m} u a h) child = refl
   guarded_can_is env (g_in {m = m} u a h) latch = ap (λ d. if u then false else d) (answer_is a)
@@ -524,20 +539,27 @@ mutual
   can_is env (at_receive m k q h) (of_receive s) = refl
   can_is env (at_turn t) (in_members s) = turn_can_is env t s
   can_is env (at_side m t b h) (of_branch s) = branch_can_is env (asks m) b h.asked s
-  can_is env (at_side {members = members} m t b h) (joint k) = ap (λ (f : ℕ → Bool). fires (tree_rule (member_count members) f (bit_at (joint_count (member_count members)) t) k)) (ends_are b)
+  can_is env (at_side {members = members} m t b h) (joint k) = ap (λ (f : ℕ → Bool). fires
+      (tree_rule (member_count members) f (bit_at (joint_count (member_count members)) t) k)) (ends_are b)
   can_is env (at_body a) of_loop = refl
   can_is env (at_body {m = m} a) ask = ap (λ d. if asks m then d else not d) (answer_is a)
   can_is env (at_body a) (in_body s) = can_is env a s
 
-  pub branch_can_is : {members : Processes} {ks : List Mode} (env : Seen) (r : Bool) (b : BranchesAt members ks) → all_ask r ks ≡ true → (s : BranchSpot members) → fires (branch_rule members env r (branch_cells b) s) ≡ branch_moves env b s
+  pub branch_can_is : {members : Processes} {ks : List Mode} (env : Seen) (r : Bool) (b : BranchesAt members ks) → all_ask r ks ≡ true
+      → (s : BranchSpot members) → fires (branch_rule members env r (branch_cells b) s) ≡ branch_moves env b s
   branch_can_is env r no_more h s = refl
-  branch_can_is env r (and_at {p = p} {k = k} g b) h (in_this s) = ap (λ x. fires (guarded_rule p env x (guarded_cells g) s)) (sym (same_value (asks k) r (fst_true _ _ h))) ∙ guarded_can_is env g s
+  branch_can_is env r (and_at {p = p} {k = k} g b) h (in_this s) = ap (λ x. fires (guarded_rule p env x (guarded_cells g) s))
+      (sym (same_value (asks k) r (fst_true _ _ h))) ∙ guarded_can_is env g s
   branch_can_is env r (and_at g b) h (in_others s) = branch_can_is env r b (snd_true _ _ h) s
 
-  pub turn_can_is : {members : Processes} {m : Mode} (env : Seen) (t : TurnAt members m) (s : TurnSpot members) → fires (turn_rule members env (asks m) (turn_cells t) s) ≡ turn_moves env t s
+  pub turn_can_is : {members : Processes} {m : Mode} (env : Seen) (t : TurnAt members m) (s : TurnSpot members)
+      → fires (turn_rule members env (asks m) (turn_cells t) s) ≡ turn_moves env t s
   turn_can_is {members = members} env turn_rests s = low_turn_quiet members env s
   turn_can_is env (at_last a) (in_last s) = can_is env a s
   turn_can_is env (at_member g) (in_member s) = guarded_can_is env g s
-  turn_can_is env (at_member {q = q} {more = more} g) (in_later s) = ap (λ b. fires (turn_rule (and_member q more) env b (low_turn (and_member q more)) s)) (next_is g) ∙ low_turn_quiet (and_member q more) env s
-  turn_can_is env (at_later {p = p} {k = k} {n = n} {m = m} g t h) (in_member s) = ap (λ b. fires (guarded_rule p env b (guarded_cells g) s)) (sym (link_asks m k n h)) ∙ guarded_can_is env g s
-  turn_can_is env (at_later {q = q} {more = more} {k = k} {n = n} {m = m} g t h) (in_later s) = ap (λ b. fires (turn_rule (and_member q more) env b (turn_cells t) s)) (next_is g ∙ link_next m k n h) ∙ turn_can_is env t s
+  turn_can_is env (at_member {q = q} {more = more} g) (in_later s) = ap (λ b. fires (turn_rule (and_member q more) env b (low_turn (and_member q more)) s))
+      (next_is g) ∙ low_turn_quiet (and_member q more) env s
+  turn_can_is env (at_later {p = p} {k = k} {n = n} {m = m} g t h) (in_member s) = ap (λ b. fires (guarded_rule p env b (guarded_cells g) s))
+      (sym (link_asks m k n h)) ∙ guarded_can_is env g s
+  turn_can_is env (at_later {q = q} {more = more} {k = k} {n = n} {m = m} g t h) (in_later s) = ap
+      (λ b. fires (turn_rule (and_member q more) env b (turn_cells t) s)) (next_is g ∙ link_next m k n h) ∙ turn_can_is env t s

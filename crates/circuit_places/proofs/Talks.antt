@@ -16,7 +16,8 @@ either false b h f g = g h
 
 -- what is held is under way
 mutual
-  pub guarded_offers_talks : {p : Process} {m : Mode} (g : GuardedAt p m) (k : Line) (i : ℕ) (one : Bool) → (guarded_shown g).offer k i one ≡ true → (guarded_shown g).talk k ≡ true
+  pub guarded_offers_talks : {p : Process} {m : Mode} (g : GuardedAt p m) (k : Line) (i : ℕ) (one : Bool) → (guarded_shown g).offer k i one ≡ true
+      → (guarded_shown g).talk k ≡ true
   guarded_offers_talks (g_in u a h) k i one e = offers_talks a k i one e
   guarded_offers_talks _ k i one e = absurd (cc e)
 
@@ -30,14 +31,16 @@ mutual
   offers_talks rests k i one e = absurd (cc e)
   offers_talks (at_skip m h) k i one e = absurd (cc e)
 
-  pub branches_offers_talks : {members : Processes} {ks : List Mode} (b : BranchesAt members ks) (k : Line) (i : ℕ) (one : Bool) → (branches_shown b).offer k i one ≡ true → (branches_shown b).talk k ≡ true
+  pub branches_offers_talks : {members : Processes} {ks : List Mode} (b : BranchesAt members ks) (k : Line) (i : ℕ) (one : Bool)
+      → (branches_shown b).offer k i one ≡ true → (branches_shown b).talk k ≡ true
   branches_offers_talks no_more k i one e = absurd (cc e)
   branches_offers_talks (and_at g b) k i one e =
       either ((guarded_shown g).offer k i one) ((branches_shown b).offer k i one) e
       (λ z. or_left ((guarded_shown g).talk k) ((branches_shown b).talk k) (guarded_offers_talks g k i one z))
       (λ z. or_right ((guarded_shown g).talk k) ((branches_shown b).talk k) (branches_offers_talks b k i one z))
 
-  pub turn_offers_talks : {members : Processes} {m : Mode} (t : TurnAt members m) (k : Line) (i : ℕ) (one : Bool) → (turn_shown t).offer k i one ≡ true → (turn_shown t).talk k ≡ true
+  pub turn_offers_talks : {members : Processes} {m : Mode} (t : TurnAt members m) (k : Line) (i : ℕ) (one : Bool) → (turn_shown t).offer k i one ≡ true
+      → (turn_shown t).talk k ≡ true
   turn_offers_talks (at_last a) k i one e = offers_talks a k i one e
   turn_offers_talks (at_member g) k i one e = guarded_offers_talks g k i one e
   turn_offers_talks (at_later g t h) k i one e = turn_offers_talks t k i one e
@@ -59,7 +62,8 @@ mutual
   talks_sends rests k e = absurd (cc e)
   talks_sends (at_skip m h) k e = absurd (cc e)
 
-  pub branches_talk_sends : {members : Processes} {ks : List Mode} (b : BranchesAt members ks) (k : Line) → (branches_shown b).talk k ≡ true → turn_sends members k ≡ true
+  pub branches_talk_sends : {members : Processes} {ks : List Mode} (b : BranchesAt members ks) (k : Line) → (branches_shown b).talk k ≡ true
+      → turn_sends members k ≡ true
   branches_talk_sends no_more k e = absurd (cc e)
   branches_talk_sends (and_at {p = p} {more = more} g b) k e =
       either ((guarded_shown g).talk k) ((branches_shown b).talk k) e
@@ -88,7 +92,8 @@ mutual
   says_talks rests k e = absurd (cc e)
   says_talks (at_skip m h) k e = absurd (cc e)
 
-  pub branches_say_talk : {members : Processes} {ks : List Mode} (b : BranchesAt members ks) (k : Line) → (branches_shown b).says k ≡ true → (branches_shown b).talk k ≡ true
+  pub branches_say_talk : {members : Processes} {ks : List Mode} (b : BranchesAt members ks) (k : Line) → (branches_shown b).says k ≡ true
+      → (branches_shown b).talk k ≡ true
   branches_say_talk no_more k e = absurd (cc e)
   branches_say_talk (and_at g b) k e =
       either ((guarded_shown g).says k) ((branches_shown b).says k) e
@@ -119,9 +124,11 @@ mutual
   says_is rests c = refl
   says_is (at_skip m h) c = refl
 
-  branches_say_is : {members : Processes} {ks : List Mode} (b : BranchesAt members ks) (c : ℕ) → (branches_shown b).says (of_channel c) ≡ (branches_shown b).talk (of_channel c)
+  branches_say_is : {members : Processes} {ks : List Mode} (b : BranchesAt members ks) (c : ℕ)
+      → (branches_shown b).says (of_channel c) ≡ (branches_shown b).talk (of_channel c)
   branches_say_is no_more c = refl
-  branches_say_is (and_at g b) c = ap (λ z. z || (branches_shown b).says (of_channel c)) (guarded_says_is g c) ∙ ap (λ z. (guarded_shown g).talk (of_channel c) || z) (branches_say_is b c)
+  branches_say_is (and_at g b) c = ap (λ z. z || (branches_shown b).says (of_channel c)) (guarded_says_is g c)
+      ∙ ap (λ z. (guarded_shown g).talk (of_channel c) || z) (branches_say_is b c)
 
   turn_says_is : {members : Processes} {m : Mode} (t : TurnAt members m) (c : ℕ) → (turn_shown t).says (of_channel c) ≡ (turn_shown t).talk (of_channel c)
   turn_says_is (at_last a) c = says_is a c
@@ -147,7 +154,8 @@ mutual
   takes_listens rests c e = absurd (cc e)
   takes_listens (at_skip m h) c e = absurd (cc e)
 
-  branches_take_listen : {members : Processes} {ks : List Mode} (b : BranchesAt members ks) (c : ℕ) → (branches_shown b).take c ≡ true → (branches_shown b).listen c ≡ true
+  branches_take_listen : {members : Processes} {ks : List Mode} (b : BranchesAt members ks) (c : ℕ) → (branches_shown b).take c ≡ true
+      → (branches_shown b).listen c ≡ true
   branches_take_listen no_more c e = absurd (cc e)
   branches_take_listen (and_at g b) c e =
       either ((guarded_shown g).take c) ((branches_shown b).take c) e
@@ -178,7 +186,8 @@ mutual
   listens_receives rests c e = absurd (cc e)
   listens_receives (at_skip m h) c e = absurd (cc e)
 
-  pub branches_listen_receive : {members : Processes} {ks : List Mode} (b : BranchesAt members ks) (c : ℕ) → (branches_shown b).listen c ≡ true → each_receives members c ≡ true
+  pub branches_listen_receive : {members : Processes} {ks : List Mode} (b : BranchesAt members ks) (c : ℕ) → (branches_shown b).listen c ≡ true
+      → each_receives members c ≡ true
   branches_listen_receive no_more c e = absurd (cc e)
   branches_listen_receive (and_at {p = p} {more = more} g b) c e =
       either ((guarded_shown g).listen c) ((branches_shown b).listen c) e
@@ -187,8 +196,10 @@ mutual
 
   turn_listens_receives : {members : Processes} {m : Mode} (t : TurnAt members m) (c : ℕ) → (turn_shown t).listen c ≡ true → each_receives members c ≡ true
   turn_listens_receives (at_last {p = p} a) c e = or_left (receives p c) false (listens_receives a c e)
-  turn_listens_receives (at_member {p = p} {q = q} {more = more} g) c e = or_left (receives p c) (each_receives (and_member q more) c) (guarded_listens_receives g c e)
-  turn_listens_receives (at_later {p = p} {q = q} {more = more} g t h) c e = or_right (receives p c) (each_receives (and_member q more) c) (turn_listens_receives t c e)
+  turn_listens_receives (at_member {p = p} {q = q} {more = more} g) c e = or_left (receives p c) (each_receives (and_member q more) c)
+      (guarded_listens_receives g c e)
+  turn_listens_receives (at_later {p = p} {q = q} {more = more} g t h) c e = or_right (receives p c) (each_receives (and_member q more) c)
+      (turn_listens_receives t c e)
   turn_listens_receives turn_rests c e = absurd (cc e)
 
 -- a branch and those beside it
@@ -206,7 +217,8 @@ pub record Beside (p : Process) (more : Processes) (x y : Shown) : Type 0 where
   pub taken_mine : (c : ℕ) → x.take c ≡ true → x.listen c ≡ true
   pub taken_theirs : (c : ℕ) → y.take c ≡ true → y.listen c ≡ true
 
-pub beside : {p : Process} {more : Processes} {k : Mode} {ks : List Mode} → Fair p more → (g : GuardedAt p k) (b : BranchesAt more ks) → Beside p more (guarded_shown g) (branches_shown b)
+pub beside : {p : Process} {more : Processes} {k : Mode} {ks : List Mode} → Fair p more → (g : GuardedAt p k) (b : BranchesAt more ks)
+    → Beside p more (guarded_shown g) (branches_shown b)
 beside {p = p} {more = more} fair g b = record {
   mine = guarded_talks_sends g;
   theirs = branches_talk_sends b;

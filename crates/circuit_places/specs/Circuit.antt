@@ -1,5 +1,5 @@
--- The circuit of a process as a tree of cells: the values of its own nodes, and the rule of each. A node here has a spot
--- in the tree and no number.
+-- The circuit of a process as a tree of cells: the values of its own nodes, and the rule of each. A node here has a
+-- spot in the tree and no number.
 use Rattle.std.specs.Prelude.{ℕ, zero, suc, ◌-◌, ◌==◌, Bool, true, false, not, nat_lt, ◌&&◌, if◌then◌else◌, List, [], ◌∷◌, ◌++◌, length, slice_index_or}
 use Rattle.std.specs.List.{range_with_len}
 use Rattle.prs_core.specs.Nets.{NodeRules}
@@ -110,7 +110,8 @@ abbrev mutual
   low (sending chan at e) = low_site e
   low (receiving chan at x to) = low_port
   low (in_turn members) = low_turn members
-  low (side_by_side members) = record { branches = low_branches members; tree = low_bits (joint_count (member_count members)) }
+  low (side_by_side members) =
+      record { branches = low_branches members; tree = low_bits (joint_count (member_count members)) }
   low (repeating p) = record { answer = false; ask = false; inner = low p }
   low _ = tt
 
@@ -121,7 +122,8 @@ abbrev mutual
   pub low_turn : (members : Processes) → TurnCells members
   low_turn no_members = tt
   low_turn (and_member p no_members) = low p
-  low_turn (and_member p (and_member q more)) = record { member = low_guarded (low p); later = low_turn (and_member q more) }
+  low_turn (and_member p (and_member q more)) =
+      record { member = low_guarded (low p); later = low_turn (and_member q more) }
 
 -- the ends of branches, their Q-elements' next requests
 abbrev pub branch_ends : (members : Processes) → BranchCells members → ℕ → Bool
@@ -129,8 +131,8 @@ branch_ends no_members x i = false
 branch_ends (and_member p more) x zero = x.0.next
 branch_ends (and_member p more) x (suc i) = branch_ends more x.1 i
 
--- A completion tree over the nodes 0 .. n - 1, whose own nodes are numbered from n on: all values, the one of its top, and
--- the rules of its k-th node.
+-- A completion tree over the nodes 0 .. n - 1, whose own nodes are numbered from n on: all values, the one of its top,
+-- and the rules of its k-th node.
 abbrev pub tree_value : (n : ℕ) → (leaf node : ℕ → Bool) → ℕ → Bool
 tree_value n leaf node k = if nat_lt k n then leaf k else node (k - n)
 
@@ -148,7 +150,9 @@ abbrev mutual
   answer (sending chan at e) x = x.answer
   answer (receiving chan at y to) x = x.answer
   answer (in_turn members) x = turn_answer members x
-  answer (side_by_side members) x = tree_answer (member_count members) (branch_ends members x.branches) (bit_at (joint_count (member_count members)) x.tree)
+  answer (side_by_side members) x =
+      let n = member_count members in
+      tree_answer n (branch_ends members x.branches) (bit_at (joint_count n) x.tree)
   answer (repeating p) x = x.answer
   answer _ x = false
 
@@ -190,10 +194,11 @@ mutual
   pub data TurnSpot : Processes → Type 0 where
     in_last : {p : Process} → Spot p → TurnSpot (and_member p no_members)
     in_member : {p q : Process} {more : Processes} → GuardedSpot p → TurnSpot (and_member p (and_member q more))
-    in_later : {p q : Process} {more : Processes} → TurnSpot (and_member q more) → TurnSpot (and_member p (and_member q more))
+    in_later : {p q : Process} {more : Processes} → TurnSpot (and_member q more)
+        → TurnSpot (and_member p (and_member q more))
 
--- A gate's spot stands for a node where the expression has that gate, a rail's that is taken over where the channel has it,
--- and one in a tree where the tree has that node; each other spot does.
+-- A gate's spot stands for a node where the expression has that gate, a rail's that is taken over where the channel has
+-- it, and one in a tree where the tree has that node; each other spot does.
 abbrev pub site_stands : {e : Formula} → SiteSpot e → Bool
 site_stands done = true
 site_stands {e = e} (gate k one) = nat_lt k (gate_count e)
@@ -228,7 +233,9 @@ abbrev mutual
 
 -- a node of a completion tree
 abbrev pub tree_rule : (n : ℕ) → (leaf node : ℕ → Bool) → ℕ → Rule
-tree_rule n leaf node k = rule_of (node k) (guard_holds (tree_value n leaf node) (tree_node n k).up) (guard_holds (tree_value n leaf node) (tree_node n k).down)
+tree_rule n leaf node k =
+    let v = tree_value n leaf node in
+    rule_of (node k) (guard_holds v (tree_node n k).up) (guard_holds v (tree_node n k).down)
 
 abbrev pub site_rule : (e : Formula) → (bits : ℕ → Rails) → (ack r : Bool) → Site (gate_count e) → SiteSpot e → Rule
 site_rule e bits ack r x done = rule_of x.answer (r && ack) (not ack)
@@ -262,10 +269,13 @@ abbrev mutual
   rule skipping w r x of_skip = rule_of x r (not r)
   rule (assigning y at e) w r x (of_assign s) = site_rule e w.bit (w.ack (of_var y)) r x s
   rule (sending chan at e) w r x (of_send s) = site_rule e w.bit (w.ack (of_channel chan)) r x s
-  rule (receiving chan at y to) w r x (of_receive s) = port_rule (w.rail (of_channel chan)) (w.ack (of_channel chan)) (w.ack (of_var y)) r x s
+  rule (receiving chan at y to) w r x (of_receive s) =
+      port_rule (w.rail (of_channel chan)) (w.ack (of_channel chan)) (w.ack (of_var y)) r x s
   rule (in_turn members) w r x (in_members s) = turn_rule members w r x s
   rule (side_by_side members) w r x (of_branch s) = branch_rule members w r x.branches s
-  rule (side_by_side members) w r x (joint k) = tree_rule (member_count members) (branch_ends members x.branches) (bit_at (joint_count (member_count members)) x.tree) k
+  rule (side_by_side members) w r x (joint k) =
+      let n = member_count members in
+      tree_rule n (branch_ends members x.branches) (bit_at (joint_count n) x.tree) k
   rule (repeating p) w r x of_loop = no_rule x.answer
   rule (repeating p) w r x ask = rule_of x.ask (r && not (answer p x.inner)) (answer p x.inner)
   rule (repeating p) w r x (in_body s) = rule p w x.ask x.inner s
@@ -281,7 +291,8 @@ abbrev mutual
   turn_rule no_members w r x s = no_rule false
   turn_rule (and_member p no_members) w r x (in_last s) = rule p w r x s
   turn_rule (and_member p (and_member q more)) w r x (in_member s) = guarded_rule p w r x.member s
-  turn_rule (and_member p (and_member q more)) w r x (in_later s) = turn_rule (and_member q more) w x.member.next x.later s
+  turn_rule (and_member p (and_member q more)) w r x (in_later s) =
+      turn_rule (and_member q more) w x.member.next x.later s
 
 abbrev pub turned_site : (e : Formula) → Site (gate_count e) → SiteSpot e → Site (gate_count e)
 turned_site e x done = record x { answer = not x.answer }
@@ -311,7 +322,8 @@ abbrev mutual
   turned (receiving chan at y to) x (of_receive s) = turned_port x s
   turned (in_turn members) x (in_members s) = turned_turn members x s
   turned (side_by_side members) x (of_branch s) = record x { branches = turned_branches members x.branches s }
-  turned (side_by_side members) x (joint k) = record x { tree = turned_bits (joint_count (member_count members)) x.tree k }
+  turned (side_by_side members) x (joint k) =
+      record x { tree = turned_bits (joint_count (member_count members)) x.tree k }
   turned (repeating p) x of_loop = record x { answer = not x.answer }
   turned (repeating p) x ask = record x { ask = not x.ask }
   turned (repeating p) x (in_body s) = record x { inner = turned p x.inner s }
@@ -326,7 +338,8 @@ abbrev mutual
   turned_turn no_members x s = x
   turned_turn (and_member p no_members) x (in_last s) = turned p x s
   turned_turn (and_member p (and_member q more)) x (in_member s) = record x { member = turned_guarded p x.member s }
-  turned_turn (and_member p (and_member q more)) x (in_later s) = record x { later = turned_turn (and_member q more) x.later s }
+  turned_turn (and_member p (and_member q more)) x (in_later s) =
+      record x { later = turned_turn (and_member q more) x.later s }
 
 -- the rail of a site's value, if the site is the line's
 abbrev pub rails_of_site : (own : Bool) → (e : Formula) → Site (gate_count e) → (bit : ℕ) → Bool → List Bool
@@ -355,7 +368,8 @@ abbrev mutual
   pub turn_rails : (members : Processes) → TurnCells members → Line → (bit : ℕ) → Bool → List Bool
   turn_rails no_members x k i one = []
   turn_rails (and_member p no_members) x k i one = site_rails p x k i one
-  turn_rails (and_member p (and_member q more)) x k i one = site_rails p x.member.inner k i one ++ turn_rails (and_member q more) x.later k i one
+  turn_rails (and_member p (and_member q more)) x k i one =
+      site_rails p x.member.inner k i one ++ turn_rails (and_member q more) x.later k i one
 
 -- the nodes that say that a receive on the channel has stored, in the order of the text
 abbrev pub takers_of_port : (own : Bool) → Port → List Bool
@@ -377,4 +391,5 @@ abbrev mutual
   pub turn_takers : (members : Processes) → TurnCells members → (chan : ℕ) → List Bool
   turn_takers no_members x c = []
   turn_takers (and_member p no_members) x c = takers p x c
-  turn_takers (and_member p (and_member q more)) x c = takers p x.member.inner c ++ turn_takers (and_member q more) x.later c
+  turn_takers (and_member p (and_member q more)) x c =
+      takers p x.member.inner c ++ turn_takers (and_member q more) x.later c

@@ -4,7 +4,7 @@ use Rattle.std.specs.Prelude.{codes, decimal, flat_map}
 use Rattle.std.specs.List.{range_with_len}
 use Rattle.std.proofs.lemmas.List.{get_or_append_left, get_or-append-add, get_or-append_right, drop_more, drop_all}
 use Rattle.std.specs.List.{All}
-use Rattle.std.proofs.lemmas.List.Elements.{All-get_or}
+use Rattle.std.proofs.lemmas.List.Elements.{All-get_or, All-head, All-tail}
 use Rattle.std.proofs.lemmas.List.FromFn.{get_or-map-range_with_len, length-map-range_with_len}
 use Rattle.chp_base.specs.declared.channel.Channel.{Channel}
 use Rattle.prs_core.specs.Nets.{true_rail, false_rail, rail_names, ack_name}
@@ -239,3 +239,38 @@ some_width vs items i v same within is all =
     let inside : i < length vs = subst (λ (xs : List Var). i < length xs) same within in
     let at : v ≡ get_or vs i v = subst (λ (xs : List Var). v ≡ get_or xs i v) same is in
     subst (λ (x : Var). 1 ≤ x.width) (sym at) (All-get_or IsDeclaredVar vs i v inside all).some
+
+-- the nodes from the root's first one on are called by their numbers
+wires_all : (cs : List Channel) → length (wire_names cs) ≡ wires_before cs (length cs)
+wires_all [] = refl
+wires_all (c ∷ cs) = length-append (wires_named c) (wire_names cs) ∙ (ap (λ n. n + length (wire_names cs)) (wires_length c) ∙ ap (λ n. wires_size c.width + n) (wires_all cs))
+
+blocks_all : (vs : List Var) (from : ℕ) → All IsDeclaredVar vs → length (block_names vs from) ≡ blocks_before vs (length vs)
+blocks_all [] from declared = refl
+blocks_all (v ∷ vs) from declared =
+    let numbers = numbered_from (from + 5 * v.width) (v.width - 1) in
+    let rest = block_names vs (from + block_size v.width) in
+    let first : length (bits_named v ++ numbers) ≡ block_size v.width = block_length v from (All-head IsDeclaredVar v vs declared).some in
+    let behind : length rest ≡ blocks_before vs (length vs) = blocks_all vs (from + block_size v.width) (All-tail IsDeclaredVar v vs declared) in
+    ap length (sym (append_assoc (bits_named v) numbers rest))
+    ∙ (length-append (bits_named v ++ numbers) rest
+    ∙ (ap (λ n. n + length rest) first
+    ∙ ap (λ n. block_size v.width + n) behind))
+
+pub names_counted : (p : TypedProgram) → All IsDeclaredVar p.vars → length (node_names p) ≡ nodes_of p
+names_counted p declared =
+    let wires = wires_all p.channels in
+    let blocks = blocks_all p.vars (vars_from p) declared in
+    let last : length (last_names p) ≡ 2 + size_of p p.body = numbers_length (root_request p) (2 + size_of p p.body) in
+    let tail : length (block_names p.vars (vars_from p) ++ last_names p) ≡ length (block_names p.vars (vars_from p)) + length (last_names p) = length-append (block_names p.vars (vars_from p)) (last_names p) in
+    let whole : length (wire_names p.channels ++ (block_names p.vars (vars_from p) ++ last_names p)) ≡ length (wire_names p.channels) + length (block_names p.vars (vars_from p) ++ last_names p) = length-append (wire_names p.channels) (block_names p.vars (vars_from p) ++ last_names p) in
+    omega (arith, wires, blocks, last, tail, whole)
+
+pub inner_named : (p : TypedProgram) (node : ℕ) → All IsDeclaredVar p.vars → root_request p ≤ node → node < nodes_of p → name_of_node p node ≡ numbered node
+inner_named p node declared low high =
+    let blocks = block_names p.vars (vars_from p) in
+    let place : vars_from p - 2 ≡ wires_before p.channels (length p.channels) = omega arith in
+    first_named p node (omega (arith, low))
+    ∙ (behind_named (wire_names p.channels) (blocks ++ last_names p) (node - 2) (wires_before p.channels (length p.channels)) (wires_all p.channels) (omega (arith, low))
+    ∙ (behind_named blocks (last_names p) (node - 2 - wires_before p.channels (length p.channels)) (blocks_before p.vars (length p.vars)) (blocks_all p.vars (vars_from p) declared) (omega (arith, low))
+    ∙ number_named (root_request p) (2 + size_of p p.body) (node - 2 - wires_before p.channels (length p.channels) - blocks_before p.vars (length p.vars)) node (omega (arith, low, high)) (omega (arith, low))))

@@ -80,7 +80,7 @@ value_at f olds xs k old x same within here is at =
     ∙ (block_at f 0 k xs x (block_value old) within at
     ∙ ap (λ m. f m x) first)))
 
-values_count : {A : Type 0} (f : ℕ → A → BlockValue) (olds : List Block) (xs : List A) → map block_value olds ≡ blocks_from f 0 xs → length olds ≡ length xs
+pub values_count : {A : Type 0} (f : ℕ → A → BlockValue) (olds : List Block) (xs : List A) → map block_value olds ≡ blocks_from f 0 xs → length olds ≡ length xs
 values_count f olds xs same = sym (length-map olds block_value) ∙ (ap length same ∙ blocks_count f 0 xs)
 
 module _ (p : TypedProgram) (before : List SiteNode) (site : SiteNode) where

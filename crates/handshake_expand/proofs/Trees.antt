@@ -1,9 +1,10 @@
 -- The tree that a part is.
-use Rattle.std.proofs.Common.{◌≡◌, ℕ, List, [], ◌∷◌, ◌++◌, refl, sym, ap, ◌∙◌}
-use denote.Hole.Carrier.{roll, out}
+use Rattle.std.proofs.Common.{◌≡◌, ℕ, ◌+◌, ◌<◌, ◌≤◌, List, [], ◌∷◌, ◌++◌, length, get_or, drop, refl, sym, ap, ◌∙◌}
+use denote.Hole.Carrier.{out}
+use Rattle.std.proofs.lemmas.List.{drop_more, drop_all}
 use Rattle.std.specs.declared.alloc.Global.{Global}
 use Rattle.std.specs.declared.vec.Vec.{Vec}
-use Rattle.handshake_expand.specs.declared.parts.Part.{Part, Part', out-Part, Row_of-Part, end_of-Part, more_of-Part, items-the_row-Part, items_hidden-the_row-Part-0}
+use Rattle.handshake_expand.specs.declared.parts.Part.{Part, Part', out-Part, roll-out-Part, rolls-Part', Row_of-Part, end_of-Part, more_of-Part, items-the_row-Part, items_hidden-the_row-Part-0}
 use Rattle.handshake_expand.specs.declared.parts.Part.TheBlock.{hidden-the_row-Part-0}
 use Rattle.handshake_expand.specs.declared.parts.Part.TheViews.{roll-Part}
 use Rattle.handshake_expand.specs.declared.parts.PartKind.{PartKind}
@@ -19,9 +20,9 @@ trees_row (more_of-Part child rest) = ap (and_child (tree_of child)) (trees_row 
 -- of a part that is made
 pub made_tree : (kind : PartKind) (request answer from count : ℕ) (children : Vec Part Global)
     → tree_of (roll-Part (record { kind = kind; request = request; answer = answer; from = from; count = count; children = children })) ≡ part kind request answer from count (each_tree children.items)
-unfolding roll-Part roll
 made_tree kind request answer from count children =
-    ap (part kind request answer from count) (trees_row (hidden-the_row-Part-0 children) ∙ ap each_tree (items_hidden-the_row-Part-0 children))
+    ap tree_of (rolls-Part' (record { kind = kind; request = request; answer = answer; from = from; count = count; children = children }))
+    ∙ ap (part kind request answer from count) (trees_row (hidden-the_row-Part-0 children) ∙ ap each_tree (items_hidden-the_row-Part-0 children))
 
 -- what is read of a part
 abbrev pub tree_answer : PartTree → ℕ
@@ -29,6 +30,9 @@ tree_answer (part kind request answer from count _) = answer
 
 abbrev pub tree_count : PartTree → ℕ
 tree_count (part kind request answer from count _) = count
+
+abbrev pub tree_from : PartTree → ℕ
+tree_from (part kind request answer from count _) = from
 
 pub answer_read : (x : Part) → (out-Part x).answer ≡ tree_answer (tree_of x)
 unfolding out-Part out
@@ -84,6 +88,10 @@ expanded_count p (side_by_side _) request from = refl
 expanded_count p (choosing again _) request from = refl
 expanded_count p (repeating s) request from = refl
 
+pub from_read : (x : Part) → (out-Part x).from ≡ tree_from (tree_of x)
+unfolding out-Part out
+from_read (Part' kind request answer from count shape children) = refl
+
 pub child_count : (x : Part) (p : TypedProgram) (s : Process) (request from : ℕ) → tree_of x ≡ expanded p s request from → (out-Part x).count ≡ size_of p s
 child_count x p s request from is = count_read x ∙ (ap tree_count is ∙ expanded_count p s request from)
 
@@ -99,3 +107,15 @@ made_part kind k request answer a from count n children trees is answers counts 
     ∙ (ap (λ x. part k request x from count (each_tree children.items)) answers
     ∙ (ap (λ x. part k request a from x (each_tree children.items)) counts
     ∙ ap (part k request a from n) all)))
+
+-- a part that is opened
+pub opened_tree : (x : Part) → tree_of x ≡ part (out-Part x).kind (out-Part x).request (out-Part x).answer (out-Part x).from (out-Part x).count (each_tree (out-Part x).children.items)
+opened_tree x =
+    let o = out-Part x in
+    ap tree_of (sym (roll-out-Part x)) ∙ made_tree o.kind o.request o.answer o.from o.count o.children
+
+pub child_at : (xs : List Part) (i : ℕ) (x : Part) → i < length xs → x ≡ get_or xs i x → each_tree (drop i xs) ≡ and_child (tree_of x) (each_tree (drop (i + 1) xs))
+child_at xs i x within is = ap each_tree (drop_more xs i x within) ∙ ap (λ (y : Part). and_child (tree_of y) (each_tree (drop (i + 1) xs))) (sym is)
+
+pub no_child_left : (xs : List Part) (i : ℕ) → length xs ≤ i → each_tree (drop i xs) ≡ no_children
+no_child_left xs i all = ap each_tree (drop_all i xs all)

@@ -5,3 +5,4 @@ pub mod PartTree
 pub mod Sites
 pub mod Expansions
 pub mod PartText
+pub mod PartLaws

@@ -32,7 +32,7 @@ fn put_number(buffer: &mut [u8], at: usize, number: u32) -> usize
 }
 
 /// Writes the name of a node that is called by its number.
-fn numbered_name(node: u32, buffer: &mut [u8]) -> usize
+pub(crate) fn numbered_name(node: u32, buffer: &mut [u8]) -> usize
     requires { 32 ≤ length buffer.old }
     ensures name { take result buffer.new ≡ numbered node }
     ensures length { result ≡ length (numbered node) }

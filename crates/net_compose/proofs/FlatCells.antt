@@ -55,7 +55,8 @@ same_suc j i = ⊎_elim
     (cases_eq j i)
 
 -- one of them turned over
-pub rail_turned_at : (n : ℕ) (r : Rails) (i : ℕ) (one : Bool) → i < n → set (rail_bits n r) (rail_place i one) (not (get_or (rail_bits n r) (rail_place i one) false)) ≡ rail_bits n (rails_turned r i one)
+pub rail_turned_at : (n : ℕ) (r : Rails) (i : ℕ) (one : Bool) → i < n → set (rail_bits n r) (rail_place i one)
+    (not (get_or (rail_bits n r) (rail_place i one) false)) ≡ rail_bits n (rails_turned r i one)
 rail_turned_at zero r i one h = absurd (omega arith)
 rail_turned_at (suc n) r zero true h =
     ap (λ l. not (r zero true) ∷ r zero false ∷ l) (rail_bits_same n (λ k. r (suc k)) (λ k. rails_turned r zero true (suc k))
@@ -109,7 +110,13 @@ pub rail_of : (n k : ℕ) → k < 2 * n → Rail n k
 rail_of zero k h = absurd (omega arith)
 rail_of (suc n) zero h = record { bit = zero; one = true; below = omega arith; is = refl }
 rail_of (suc n) (suc zero) h = record { bit = zero; one = false; below = omega arith; is = refl }
-rail_of (suc n) (suc (suc k)) h = let r = rail_of n k (omega arith) in record { bit = suc r.bit; one = r.one; below = omega (arith, r.below); is = ap (λ m. suc (suc m)) r.is }
+rail_of (suc n) (suc (suc k)) h = let r = rail_of n k (omega arith) in record {
+  bit = suc r.bit;
+  one = r.one;
+  below = omega (arith, r.below);
+  is = ap
+      (λ m. suc (suc m)) r.is;
+}
 
 module _ (P : TypedProgram) where
   -- where a node is in the list
@@ -202,7 +209,12 @@ module _ (P : TypedProgram) where
     length-turn_bits no_members c x = refl
     length-turn_bits (and_member p no_members) c x = length-bits p c.0 x
     length-turn_bits (and_member p (and_member q more)) c x =
-        omega (arith, length-append (bits P p x.member.inner) (turn_bits P (and_member q more) x.later), length-bits p c.0 x.member.inner, length-turn_bits (and_member q more) c.1 x.later)
+        omega (
+          arith,
+          length-append (bits P p x.member.inner) (turn_bits P (and_member q more) x.later),
+          length-bits p c.0 x.member.inner,
+          length-turn_bits (and_member q more) c.1 x.later,
+        )
 
   mutual
     pub place_lt : (p : Process) → IsCovered p → (s : Spot p) → IsFine p s → place p s < size_of P p
@@ -222,7 +234,8 @@ module _ (P : TypedProgram) where
     place_lt (side_by_side members) c (joint k) f = omega (arith, f, joint_count_is (member_count members))
     place_lt (choosing again choices) c s f = absurd c
 
-    pub branch_place_lt : (members : Processes) → AreCovered members → (s : BranchSpot members) → IsFineBranch members s → branch_place members s < branches_size P members
+    pub branch_place_lt : (members : Processes) → AreCovered members → (s : BranchSpot members) → IsFineBranch members s
+        → branch_place members s < branches_size P members
     branch_place_lt no_members c s f = elim s [ ]
     branch_place_lt (and_member p more) c (in_this child) f = omega arith
     branch_place_lt (and_member p more) c (in_this latch) f = omega arith
@@ -240,7 +253,8 @@ module _ (P : TypedProgram) where
     turn_place_lt (and_member p (and_member q more)) c (in_later s) f = omega (arith, turn_place_lt (and_member q more) c.1 s f)
 
   -- a rail among pairs
-  pub rail_at_place : (n : ℕ) (x : Pairs n) (i : ℕ) (one : Bool) → i < n → (y : Bool) → set (pair_bits n x) (rail_place i one) (not (get_or (pair_bits n x) (rail_place i one) false)) ≡ pair_bits n (turned_pairs n x i one)
+  pub rail_at_place : (n : ℕ) (x : Pairs n) (i : ℕ) (one : Bool) → i < n → (y : Bool)
+      → set (pair_bits n x) (rail_place i one) (not (get_or (pair_bits n x) (rail_place i one) false)) ≡ pair_bits n (turned_pairs n x i one)
   rail_at_place zero x i one h y = absurd (omega arith)
   rail_at_place (suc n) x zero true h y = refl
   rail_at_place (suc n) x zero false h y = refl
@@ -260,7 +274,8 @@ module _ (P : TypedProgram) where
 
   -- a node turned over in the list is the node turned over in the tree
   mutual
-    pub turned_is : (p : Process) → IsCovered p → (x : Cells p) (s : Spot p) → IsFine p s → set (bits P p x) (place p s) (not (get_or (bits P p x) (place p s) false)) ≡ bits P p (turned p x s)
+    pub turned_is : (p : Process) → IsCovered p → (x : Cells p) (s : Spot p) → IsFine p s
+        → set (bits P p x) (place p s) (not (get_or (bits P p x) (place p s) false)) ≡ bits P p (turned p x s)
     turned_is skipping c x of_skip f = refl
     turned_is (sending chan at e) c x (of_send done) f = refl
     turned_is (sending chan at e) c x (of_send (gate i one)) f = ap (λ l. x.answer ∷ l) (rail_at_place (gate_count e) x.gates i one f true)
@@ -272,17 +287,22 @@ module _ (P : TypedProgram) where
     turned_is (assigning z at e) c x (of_assign (gate i one)) f = ap (λ l. x.answer ∷ l) (rail_at_place (gate_count e) x.gates i one f true)
     turned_is (receiving chan at z to) c x (of_receive heard) f = refl
     turned_is (receiving chan at z to) c x (of_receive stored) f = refl
-    turned_is (receiving chan at z to) c x (of_receive (taking i one)) f = ap (λ l. x.answer ∷ x.kept ∷ l) (rail_turned_at (channel_width P.channels chan) x.taken i one f)
+    turned_is (receiving chan at z to) c x (of_receive (taking i one)) f = ap (λ l. x.answer ∷ x.kept ∷ l)
+        (rail_turned_at (channel_width P.channels chan) x.taken i one f)
     turned_is (side_by_side members) c x (of_branch s) f =
         let b = tree_bits (joint_count (member_count members)) x.tree in
-        set_first (branch_bits P members x.branches) b (branch_place members s) (omega (arith, branch_place_lt members c s f, length-branch_bits members c x.branches)) ∙ ap (λ l. l ++ b) (turned_branch_is members c x.branches s f)
+        set_first (branch_bits P members x.branches) b (branch_place members s)
+        (omega (arith, branch_place_lt members c s f, length-branch_bits members c x.branches))
+        ∙ ap (λ l. l ++ b) (turned_branch_is members c x.branches s f)
     turned_is (side_by_side members) c x (joint k) f =
         let a = branch_bits P members x.branches in
-        set_second a (tree_bits (joint_count (member_count members)) x.tree) (branches_size P members) k (length-branch_bits members c x.branches) ∙ ap (λ l. a ++ l) (tree_turned (joint_count (member_count members)) x.tree k f)
+        set_second a (tree_bits (joint_count (member_count members)) x.tree) (branches_size P members) k (length-branch_bits members c x.branches)
+        ∙ ap (λ l. a ++ l) (tree_turned (joint_count (member_count members)) x.tree k f)
     turned_is (choosing again choices) c x s f = absurd c
 
     pub turned_branch_is : (members : Processes) → AreCovered members → (x : BranchCells members) (s : BranchSpot members) → IsFineBranch members s
-        → set (branch_bits P members x) (branch_place members s) (not (get_or (branch_bits P members x) (branch_place members s) false)) ≡ branch_bits P members (turned_branches members x s)
+        → set (branch_bits P members x) (branch_place members s) (not (get_or (branch_bits P members x) (branch_place members s) false)) ≡ branch_bits P members
+        (turned_branches members x s)
     turned_branch_is no_members c x s f = elim s [ ]
     turned_branch_is (and_member p more) c x (in_this child) f = refl
     turned_branch_is (and_member p more) c x (in_this latch) f = refl
@@ -299,7 +319,8 @@ module _ (P : TypedProgram) where
         (set_second a b (size_of P p) (branch_place more s) (length-bits p c.0 x.0.inner) ∙ ap (λ l. a ++ l) (turned_branch_is more c.1 x.1 s f))
 
     pub turned_turn_is : (members : Processes) → AreCovered members → (x : TurnCells members) (s : TurnSpot members) → IsFineTurn members s
-        → set (turn_bits P members x) (turn_place members s) (not (get_or (turn_bits P members x) (turn_place members s) false)) ≡ turn_bits P members (turned_turn members x s)
+        → set (turn_bits P members x) (turn_place members s) (not (get_or (turn_bits P members x) (turn_place members s) false)) ≡ turn_bits P members
+        (turned_turn members x s)
     turned_turn_is no_members c x s f = elim s [ ]
     turned_turn_is (and_member p no_members) c x (in_last s) f = turned_is p c.0 x s f
     turned_turn_is (and_member p (and_member q more)) c x (in_member child) f = refl
@@ -309,12 +330,14 @@ module _ (P : TypedProgram) where
         let a = bits P p x.member.inner in
         let b = turn_bits P (and_member q more) x.later in
         ap (λ l. x.member.child ∷ x.member.latch ∷ x.member.next ∷ l)
-        (set_first a b (place p s) (omega (arith, place_lt p c.0 s f, length-bits p c.0 x.member.inner)) ∙ ap (λ l. l ++ b) (turned_is p c.0 x.member.inner s f))
+        (set_first a b (place p s) (omega (arith, place_lt p c.0 s f, length-bits p c.0 x.member.inner))
+        ∙ ap (λ l. l ++ b) (turned_is p c.0 x.member.inner s f))
     turned_turn_is (and_member p (and_member q more)) c x (in_later s) f =
         let a = bits P p x.member.inner in
         let b = turn_bits P (and_member q more) x.later in
         ap (λ l. x.member.child ∷ x.member.latch ∷ x.member.next ∷ l)
-        (set_second a b (size_of P p) (turn_place (and_member q more) s) (length-bits p c.0 x.member.inner) ∙ ap (λ l. a ++ l) (turned_turn_is (and_member q more) c.1 x.later s f))
+        (set_second a b (size_of P p) (turn_place (and_member q more) s) (length-bits p c.0 x.member.inner)
+        ∙ ap (λ l. a ++ l) (turned_turn_is (and_member q more) c.1 x.later s f))
 
   -- each node of the list is a node of the tree
   pub record AtPlace (p : Process) (n : ℕ) : Type 0 where
@@ -342,14 +365,17 @@ module _ (P : TypedProgram) where
     spot_of (in_turn members) c n h = let r = turn_spot_of members c n h in record { spot = in_members r.spot; fine = r.fine; is = r.is }
     spot_of (repeating p) c zero h = record { spot = of_loop; fine = tt; is = refl }
     spot_of (repeating p) c (suc zero) h = record { spot = ask; fine = tt; is = refl }
-    spot_of (repeating p) c (suc (suc n)) h = let r = spot_of p c n (omega arith) in record { spot = in_body r.spot; fine = r.fine; is = ap (λ m. suc (suc m)) r.is }
+    spot_of (repeating p) c (suc (suc n)) h = let r = spot_of p c n (omega arith) in
+        record { spot = in_body r.spot; fine = r.fine; is = ap (λ m. suc (suc m)) r.is }
     spot_of (assigning z at e) c zero h = record { spot = of_assign done; fine = tt; is = refl }
     spot_of (assigning z at e) c (suc n) h =
-        let r = rail_of (gate_count e) n (omega (arith, h, count_doubled e, plain_size z e c)) in record { spot = of_assign (gate r.bit r.one); fine = r.below; is = ap suc r.is }
+        let r = rail_of (gate_count e) n (omega (arith, h, count_doubled e, plain_size z e c)) in
+        record { spot = of_assign (gate r.bit r.one); fine = r.below; is = ap suc r.is }
     spot_of (receiving chan at z to) c zero h = record { spot = of_receive heard; fine = tt; is = refl }
     spot_of (receiving chan at z to) c (suc zero) h = record { spot = of_receive stored; fine = tt; is = refl }
     spot_of (receiving chan at z to) c (suc (suc n)) h =
-        let r = rail_of (channel_width P.channels chan) n (omega (arith, h)) in record { spot = of_receive (taking r.bit r.one); fine = r.below; is = ap (λ m. suc (suc m)) r.is }
+        let r = rail_of (channel_width P.channels chan) n (omega (arith, h)) in
+        record { spot = of_receive (taking r.bit r.one); fine = r.below; is = ap (λ m. suc (suc m)) r.is }
     spot_of (side_by_side members) c n h =
         ⊎_elim
         (λ (lt : n < branches_size P members).
@@ -357,7 +383,12 @@ module _ (P : TypedProgram) where
         let here : AtPlace (side_by_side members) n = record { spot = of_branch r.spot; fine = r.fine; is = r.is } in
         here)
         (λ (le : branches_size P members ≤ n).
-        let here : AtPlace (side_by_side members) n = record { spot = joint (n - branches_size P members); fine = omega (arith, joint_count_is (member_count members)); is = omega arith } in
+        let here : AtPlace (side_by_side members) n = record {
+          spot = joint (n - branches_size P members);
+          fine = omega
+              (arith, joint_count_is (member_count members));
+          is = omega arith;
+        } in
         here)
         (cases_lt n (branches_size P members))
     spot_of (choosing again choices) c n h = absurd c
@@ -371,7 +402,8 @@ module _ (P : TypedProgram) where
         ⊎_elim
         (λ (lt : n < size_of P p).
         let r = spot_of p c.0 n lt in
-        let here : AtBranchPlace (and_member p more) (suc (suc (suc n))) = record { spot = in_this (inner r.spot); fine = r.fine; is = ap (λ m. suc (suc (suc m))) r.is } in
+        let here : AtBranchPlace (and_member p more) (suc (suc (suc n))) =
+        record { spot = in_this (inner r.spot); fine = r.fine; is = ap (λ m. suc (suc (suc m))) r.is } in
         here)
         (λ (le : size_of P p ≤ n).
         let r = branch_spot_of more c.1 (n - size_of P p) (omega arith) in
@@ -389,11 +421,13 @@ module _ (P : TypedProgram) where
         ⊎_elim
         (λ (lt : n < size_of P p).
         let r = spot_of p c.0 n lt in
-        let here : AtTurnPlace (and_member p (and_member q more)) (suc (suc (suc n))) = record { spot = in_member (inner r.spot); fine = r.fine; is = ap (λ m. suc (suc (suc m))) r.is } in
+        let here : AtTurnPlace (and_member p (and_member q more)) (suc (suc (suc n))) =
+        record { spot = in_member (inner r.spot); fine = r.fine; is = ap (λ m. suc (suc (suc m))) r.is } in
         here)
         (λ (le : size_of P p ≤ n).
         let r = turn_spot_of (and_member q more) c.1 (n - size_of P p) (omega arith) in
-        let here : AtTurnPlace (and_member p (and_member q more)) (suc (suc (suc n))) = record { spot = in_later r.spot; fine = r.fine; is = omega (arith, r.is) } in
+        let here : AtTurnPlace (and_member p (and_member q more)) (suc (suc (suc n))) =
+        record { spot = in_later r.spot; fine = r.fine; is = omega (arith, r.is) } in
         here)
         (cases_lt n (size_of P p))
 
@@ -422,9 +456,11 @@ module _ (P : TypedProgram) where
         ap (λ l. false ∷ false ∷ l) (low_rail_bits (channel_width P.channels chan)) ∙ ap (λ n. replicate n false) m
     low_bits (side_by_side members) c =
         let n = joint_count (member_count members) in
-        let m : branches_size P members + joint_count (member_count members) ≡ branches_size P members + (member_count members - 1) = omega (arith, joint_count_is (member_count members)) in
+        let m : branches_size P members + joint_count (member_count members) ≡ branches_size P members + (member_count members - 1) = omega
+        (arith, joint_count_is (member_count members)) in
         ap (λ l. l ++ tree_bits n (low_tree n)) (low_branch_bits members c)
-        ∙ (ap (λ l. replicate (branches_size P members) false ++ l) (tree_low n) ∙ (replicate-append-replicate (branches_size P members) n false ∙ ap (λ k. replicate k false) m))
+        ∙ (ap (λ l. replicate (branches_size P members) false ++ l) (tree_low n)
+        ∙ (replicate-append-replicate (branches_size P members) n false ∙ ap (λ k. replicate k false) m))
     low_bits (choosing again choices) c = absurd c
 
     pub low_branch_bits : (members : Processes) → AreCovered members → branch_bits P members (low_branches members) ≡ replicate (branches_size P members) false

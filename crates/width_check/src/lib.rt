@@ -1,11 +1,18 @@
 //! Programs whose names and widths are checked.
 #![tactic(auto)]
 
+mod causes;
 mod declared;
 mod evaluate;
+mod findings;
 mod fitting;
+pub mod laws;
+mod making;
+mod naming;
 mod operate;
 mod resolving;
+mod scope;
+mod survey;
 mod typed;
 mod width;
 
