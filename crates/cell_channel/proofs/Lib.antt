@@ -3,4 +3,5 @@ mod Port
 mod PortKeeps
 mod PortPlaces
 mod PortTable
+mod WrittenPorts
 mod WrongPorts

@@ -1,10 +1,10 @@
 -- The contracts of a channel's ends (Martin).
-use Rattle.std.specs.Prelude.{ℕ, ◌+◌, Bool, not, ◌&&◌, ◌||◌, List, [], ◌∷◌, map}
+use Rattle.std.specs.Prelude.{◌≡◌, ◌≢◌, ℕ, ◌+◌, Bool, not, ◌&&◌, ◌||◌, List, [], ◌∷◌, map, AllPairs}
 use Rattle.std.specs.List.{list_all, flat_map}
 use Rattle.prs_core.specs.Pairs.{Pair, pair_at, rails_of}
-use Rattle.prs_core.specs.Parts.{Part, Wire, wire, owned_at, is_valid, never_blocked, no_notes}
+use Rattle.prs_core.specs.Parts.{Part, Wire, wire, Keeps, owned_at, is_valid, never_blocked, no_notes}
 use Rattle.prs_core.specs.Sites.{site_part}
-use Rattle.cell_channel.specs.Ends.{end_owned, port_rules}
+use Rattle.cell_channel.specs.Ends.{end_owned, port_owned, port_rules}
 
 -- a bit at a receive port: its rails on the channel, and those by which the port takes them
 pub record PortBit : Type 0 where
@@ -72,6 +72,13 @@ port_nodes bits = flat_map (λ (b : PortBit). b.rail.t ∷ b.rail.f ∷ b.taken.
 abbrev pub port_bits : List Pair → (from : ℕ) → List PortBit
 port_bits [] from = []
 port_bits (x ∷ xs) from = port_bit x (pair_at from) ∷ port_bits xs (from + 2)
+
+-- The port that takes these rails keeps its contract, where its nodes are distinct: the one whose own nodes are numbered from
+-- one on, and whatever the channel's acknowledge is.
+abbrev pub PortKeeps : (request : ℕ) → (rails : List ℕ) → (from : ℕ) → Type 0
+PortKeeps request rails from =
+    (ack : ℕ) (pairs : List Pair) → rails_of pairs ≡ rails → AllPairs (λ (a b : ℕ). a ≢ b) (request ∷ ack ∷ port_nodes (port_bits pairs from))
+    → Keeps (port_part request ack (port_bits pairs from)) × ((port_part request ack (port_bits pairs from)).own ≡ port_owned request rails from)
 
 -- the answer of a send or a receive, at an end of the channel that it shares with the sites of these other requests
 abbrev pub end_part : (others : List ℕ) (request ack answer : ℕ) → Part

@@ -1,11 +1,12 @@
 -- A tree that grows level upon level.
-use Rattle.std.proofs.Common.{◌≡◌, ℕ, zero, suc, ◌+◌, ◌-◌, ◌/◌, ◌≤◌, ◌<◌, List, [], ◌∷◌, ◌++◌, length, All, refl, sym, ap, subst, ◌∙◌, arith}
-use Rattle.std.proofs.lemmas.List.Elements.{All-cons, All-tail}
+use Rattle.std.proofs.Common.{◌≡◌, ℕ, zero, suc, ◌+◌, ◌-◌, ◌/◌, ◌≤◌, ◌<◌, List, [], ◌∷◌, ◌++◌, length, All, Contains, refl, sym, ap, subst, ◌∙◌, arith}
+use Rattle.std.proofs.lemmas.List.Elements.{All-cons, All-tail, Contains-append_left, Contains-append_right}
 use Rattle.prs_core.specs.Nets.{RulesValue, NodeRules, IsAlone}
 use Rattle.prs_core.specs.Parts.{Owned, owned, owned_from, with_owned}
 use Rattle.cell_parallel.specs.Trees.{level_rules, next_level, levels_rules, tree_rules, tree_owned}
 use Rattle.cell_parallel.specs.Sizes.{level_length, next_length}
 use Rattle.prs_core.specs.Writing.{IsOther, alone_same, alone_on, with_append, other_left, other_right}
+use Rattle.prs_core.specs.Partly.{IsPartly, partly_none, partly_of, partly_on}
 use Rattle.cell_parallel.proofs.Levels.{short_rules}
 
 -- more levels than are needed are none
@@ -49,6 +50,8 @@ pub record Grown (leaves : List ℕ) (from : ℕ) (old : RulesValue) (level : Li
   pub count : length now.up ≡ length old.up
   pub others : (node : ℕ) → IsOther node (tree_owned leaves from) → IsAlone old now node
   pub rest : (node : ℕ) → IsOther node (tree_owned leaves from) → IsOther node (tree_owned level next)
+  pub partly : IsPartly (tree_owned leaves from) old now
+  pub among : (o : Owned) → Contains (tree_owned level next) o → Contains (tree_owned leaves from) o
 
 pub grown_begin : (leaves : List ℕ) (from : ℕ) (old : RulesValue) → 0 < length leaves → All (λ n. n < length old.up) leaves → Grown leaves from old leaves from old
 grown_begin leaves from old some within = record {
@@ -59,10 +62,20 @@ grown_begin leaves from old some within = record {
   count = refl;
   others = λ node o. alone_same old node;
   rest = λ node o. o;
+  partly = partly_none (tree_owned leaves from) old old refl;
+  among = λ o k. k;
 }
 
-pub grown_more : (leaves : List ℕ) (from : ℕ) (old : RulesValue) (level : List ℕ) (next : ℕ) (now : RulesValue) (above : List ℕ) (then : ℕ) (later : RulesValue) → Grown leaves from old level next now → from + length leaves ≤ length old.up + 1 → 1 < length level → above ≡ next_level level next → then ≡ next + length level / 2 → later ≡ with_owned (owned_from next (level_rules level)) now → length later.up ≡ length now.up → ((node : ℕ) → IsOther node (owned_from next (level_rules level)) → IsAlone now later node) → Grown leaves from old above then later
-grown_more leaves from old level next now above then later so_far fits long up at is same far =
+-- also where memory runs out in a level
+pub grown_partly : (leaves : List ℕ) (from : ℕ) (old : RulesValue) (level : List ℕ) (next : ℕ) (now later : RulesValue) → Grown leaves from old level next now → IsPartly (owned_from next (level_rules level)) now later → IsPartly (tree_owned leaves from) old later
+grown_partly leaves from old level next now later so_far some =
+    let os : List Owned = owned_from next (level_rules level) in
+    let us : List Owned = tree_owned (next_level level next) (next + length level / 2) in
+    partly_on (tree_owned leaves from) old now later so_far.partly
+    (partly_of os (tree_owned leaves from) now later (λ o k. so_far.among o (subst (λ l. Contains l o) (sym (tree_parts level next)) (Contains-append_left os us o k))) some)
+
+pub grown_more : (leaves : List ℕ) (from : ℕ) (old : RulesValue) (level : List ℕ) (next : ℕ) (now : RulesValue) (above : List ℕ) (then : ℕ) (later : RulesValue) → Grown leaves from old level next now → from + length leaves ≤ length old.up + 1 → 1 < length level → above ≡ next_level level next → then ≡ next + length level / 2 → later ≡ with_owned (owned_from next (level_rules level)) now → length later.up ≡ length now.up → ((node : ℕ) → IsOther node (owned_from next (level_rules level)) → IsAlone now later node) → IsPartly (owned_from next (level_rules level)) now later → Grown leaves from old above then later
+grown_more leaves from old level next now above then later so_far fits long up at is same far some =
     let size : length (next_level level next) ≡ length level - length level / 2 = next_length level next in
     let os : List Owned = owned_from next (level_rules level) in
     let us : List Owned = tree_owned (next_level level next) (next + length level / 2) in rw (up, at) record {
@@ -73,9 +86,11 @@ grown_more leaves from old level next now above then later so_far fits long up a
       count = same ∙ so_far.count;
       others = λ node o. alone_on old now later node (so_far.others node o) (far node (other_left node os us (subst (IsOther node) (tree_parts level next) (so_far.rest node o))));
       rest = λ node o. other_right node os us (subst (IsOther node) (tree_parts level next) (so_far.rest node o));
+      partly = grown_partly leaves from old level next now later so_far some;
+      among = λ o k. so_far.among o (subst (λ l. Contains l o) (sym (tree_parts level next)) (Contains-append_right os us o k));
     }
 
--- also where memory runs out in a level
+-- other nodes keep their guards where memory runs out in a level
 pub grown_alone : (leaves : List ℕ) (from : ℕ) (old : RulesValue) (level : List ℕ) (next : ℕ) (now later : RulesValue) → Grown leaves from old level next now → ((node : ℕ) → IsOther node (owned_from next (level_rules level)) → IsAlone now later node) → (node : ℕ) → IsOther node (tree_owned leaves from) → IsAlone old later node
 grown_alone leaves from old level next now later so_far far node o =
     let us : List Owned = tree_owned (next_level level next) (next + length level / 2) in

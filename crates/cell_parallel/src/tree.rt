@@ -1,10 +1,13 @@
 //! The rules of a completion tree.
 
-ghost use Rattle.std.specs.Prelude.{◌≡◌, ◌≢◌, ℕ, ◌+◌, ◌/◌, ◌<◌, ◌≤◌, length, All, OnOk, IfOk};
+ghost use Rattle.std.specs.Prelude.{◌≡◌, ◌≢◌, ℕ, ◌+◌, ◌/◌, ◌<◌, ◌≤◌, length, All, OnOk, OnErr, IfOk};
 ghost use Rattle.prs_core.specs.Nets.{with_rules, IsAlone};
-ghost use Rattle.prs_core.specs.Parts.{Owned, owned_from, with_owned};
+ghost use Rattle.prs_core.specs.Parts.{Owned, Keeps, owned_from, with_owned};
+ghost use Rattle.prs_core.specs.Partly.{IsPartly};
 ghost use Rattle.cell_parallel.specs.Trees.{c_element, level_rules, next_level, tree_owned};
+ghost use Rattle.cell_parallel.specs.TreeParts.{AreOutside, tree_part};
 
+use crate::laws::tree_keeps;
 use prs_core::{Rules, all_of, high, low};
 use std::alloc::{AllocError, Global};
 
@@ -20,6 +23,7 @@ fn emit_c_element(
     requires right { right < length rules.old.up }
     requires node { node < length rules.old.up }
     ensures made { OnOk result (rules.new ≡ with_rules node (c_element left right) rules.old) }
+    ensures kept { OnErr result (rules.new ≡ rules.old) }
     ensures nodes { length rules.new.up ≡ length rules.old.up }
     ensures others { (other : ℕ) → other ≢ node → IsAlone rules.old rules.new other }
 {
@@ -41,6 +45,7 @@ fn join_level(
     requires own { from + length nodes.now / 2 ≤ length rules.old.up }
     ensures above { IfOk result (λ above. above.items ≡ next_level nodes.now from) }
     ensures made { OnOk result (rules.new ≡ with_owned (owned_from from (level_rules nodes.now)) rules.old) }
+    ensures partly { IsPartly (owned_from from (level_rules nodes.now)) rules.old rules.new }
     ensures nodes { length rules.new.up ≡ length rules.old.up }
     ensures others { (node : ℕ) → All (λ (o : Owned). o.node ≢ node) (owned_from from (level_rules nodes.now)) → IsAlone rules.old rules.new node }
 {
@@ -61,7 +66,7 @@ fn join_level(
 /// Writes the guards of the C-elements of a completion tree (Martin) over at least one leaf, and no others. They are
 /// numbered from `from` on, one fewer than leaves, level upon level; the last one is the tree's top, which is high
 /// once all leaves are and low once none is. A leaf alone is the top itself, and nothing is written. Where memory
-/// runs out, some of the guards may have been written.
+/// runs out, some of the own nodes have their guards, and the others those that they had.
 pub fn emit_tree(
     alloc: Global,
     leaves: &[u32],
@@ -72,9 +77,12 @@ pub fn emit_tree(
     requires leaves { All (λ leaf. leaf < length rules.old.up) leaves.now }
     requires own { from + length leaves.now ≤ length rules.old.up + 1 }
     ensures made { OnOk result (rules.new ≡ with_owned (tree_owned leaves.now from) rules.old) }
+    ensures partly { IsPartly (tree_owned leaves.now from) rules.old rules.new }
     ensures nodes { length rules.new.up ≡ length rules.old.up }
     ensures others { (node : ℕ) → All (λ (o : Owned). o.node ≢ node) (tree_owned leaves.now from) → IsAlone rules.old rules.new node }
+    ensures keeps { AreOutside leaves.now from → Keeps (tree_part leaves.now from) }
 {
+    tree_keeps();
     // tells the proof that there are fewer than 2^32 nodes, so that the numbers from `from` on fit
     let _count = rules.nodes();
     let mut level = Vec::from_slice(alloc, leaves)?;

@@ -1,9 +1,9 @@
 -- What the loops over the branches have written so far.
-use Rattle.std.proofs.Common.{◌≡◌, ◌≢◌, ℕ, suc, ◌<◌, ◌*◌, ◌+◌, List, [], ◌∷◌, ◌++◌, All, length, map, take, drop, slice_index_or, arith, ap, sym, ◌∙◌, refl, subst}
+use Rattle.std.proofs.Common.{◌≡◌, ◌≢◌, ℕ, suc, ◌<◌, ◌*◌, ◌+◌, List, [], ◌∷◌, ◌++◌, All, Contains, length, map, take, drop, slice_index_or, arith, ap, sym, ◌∙◌, refl, subst}
 use Rattle.std.proofs.lemmas.List.{take_more}
 use Rattle.std.proofs.Math.Seq.{drop-cons}
 use Rattle.prs_core.specs.declared.rule.Literal.{Literal}
-use Rattle.std.proofs.lemmas.List.Elements.{All-nil, All-cons, All-head, All-tail}
+use Rattle.std.proofs.lemmas.List.Elements.{All-nil, All-cons, All-head, All-tail, Contains-append_left, Contains-append_right}
 use Rattle.prs_core.specs.Nets.{GuardValue, NodeRules, RulesValue, IsAlone, is_high, is_low, one_term, with_rules}
 use Rattle.prs_core.specs.Pairs.{Pair, rails_of, lows, or_of}
 use Rattle.prs_core.specs.Parts.{Owned, owned, owned_at, with_owned}
@@ -13,7 +13,8 @@ use Rattle.cell_select.specs.PortNodes.{pairs_of, branches_from, select_of, agai
 use Rattle.cell_select.specs.declared.emit.SelectPorts.{SelectPorts}
 use Rattle.cell_select.specs.declared.emit.AgainPorts.{AgainPorts}
 use Rattle.cell_select.proofs.PairLists.{pair_is, pair_in, rails_again, pairs_length}
-use Rattle.cell_select.proofs.GuardLemmas.{alone_then}
+use Rattle.cell_select.proofs.GuardLemmas.{alone_then, alone_still}
+use Rattle.prs_core.specs.Partly.{IsPartly, partly_none, partly_all, partly_of, partly_on}
 
 abbrev pub latch_of : (request : ℕ) → List Literal → NodeRules
 latch_of request wanted = record { up = one_term wanted; down = one_term (is_low request ∷ []) }
@@ -26,14 +27,33 @@ pub record LatchesSoFar (request : ℕ) (nodes : List ℕ) (hs : List Pair) (i :
   pub rest : with_owned (owned_at (drop i nodes) (latches_behind request (take i hs) (drop i hs))) now ≡ with_owned (owned_at nodes (latches request hs)) old
   pub count : length now.up ≡ length old.up
   pub others : (other : ℕ) → All (λ n. n ≢ other) nodes → IsAlone old now other
+  pub partly : IsPartly (owned_at nodes (latches request hs)) old now
+  pub among : (o : Owned) → Contains (owned_at (drop i nodes) (latches_behind request (take i hs) (drop i hs))) o → Contains (owned_at nodes (latches request hs)) o
+
+pub latches_begin : (request : ℕ) (nodes : List ℕ) (hs : List Pair) (old : RulesValue) → LatchesSoFar request nodes hs 0 old old
+latches_begin request nodes hs old = record {
+  rest = refl;
+  count = refl;
+  others = λ other h. alone_still old other;
+  partly = partly_none (owned_at nodes (latches request hs)) old old refl;
+  among = λ o k. k;
+}
 
 pub record StartsSoFar (nodes latched : List ℕ) (hs : List Pair) (i : ℕ) (old now : RulesValue) : Type 0 where
   pub rest : with_owned (owned_at (drop i nodes) (starts (drop i latched) hs)) now ≡ with_owned (owned_at nodes (starts latched hs)) old
   pub count : length now.up ≡ length old.up
   pub others : (other : ℕ) → All (λ n. n ≢ other) nodes → IsAlone old now other
+  pub partly : IsPartly (owned_at nodes (starts latched hs)) old now
+  pub among : (o : Owned) → Contains (owned_at (drop i nodes) (starts (drop i latched) hs)) o → Contains (owned_at nodes (starts latched hs)) o
 
-one_latch : (request n : ℕ) (ns : List ℕ) (before : List Pair) (h : Pair) (behind : List Pair) (now : RulesValue) → with_owned (owned_at (n ∷ ns) (latches_behind request before (h ∷ behind))) now ≡ with_owned (owned_at ns (latches_behind request (before ++ h ∷ []) behind)) (with_rules n (latch_of request (all_false before ++ is_high h.t ∷ all_false behind)) now)
-one_latch request n ns before h behind now = refl
+pub starts_begin : (nodes latched : List ℕ) (hs : List Pair) (old : RulesValue) → StartsSoFar nodes latched hs 0 old old
+starts_begin nodes latched hs old = record {
+  rest = refl;
+  count = refl;
+  others = λ other h. alone_still old other;
+  partly = partly_none (owned_at nodes (starts latched hs)) old old refl;
+  among = λ o k. k;
+}
 
 abbrev no_pair : Pair
 no_pair = record { t = 0; f = 0 }
@@ -43,30 +63,44 @@ dropped xs i d lt =
     let e : suc i ≡ i + 1 = omega arith in
     drop-cons xs i d lt ∙ ap (λ k. slice_index_or xs i d ∷ drop k xs) e
 
-latches_next : (request : ℕ) (nodes : List ℕ) (hs : List Pair) (i : ℕ) (h : Pair) → i < length nodes → i < length hs → slice_index_or hs i no_pair ≡ h → (now : RulesValue) → with_owned (owned_at (drop (i + 1) nodes) (latches_behind request (take (i + 1) hs) (drop (i + 1) hs))) (with_rules (slice_index_or nodes i 0) (latch_of request (all_false (take i hs) ++ is_high h.t ∷ all_false (drop (i + 1) hs))) now) ≡ with_owned (owned_at (drop i nodes) (latches_behind request (take i hs) (drop i hs))) now
-latches_next request nodes hs i h ln lh at now =
+-- the latches from one on are that one and those behind it
+latches_list : (request : ℕ) (nodes : List ℕ) (hs : List Pair) (i : ℕ) (h : Pair) → i < length nodes → i < length hs → slice_index_or hs i no_pair ≡ h → owned_at (drop i nodes) (latches_behind request (take i hs) (drop i hs)) ≡ owned (slice_index_or nodes i 0) (latch_of request (all_false (take i hs) ++ is_high h.t ∷ all_false (drop (i + 1) hs))) ∷ owned_at (drop (i + 1) nodes) (latches_behind request (take (i + 1) hs) (drop (i + 1) hs))
+latches_list request nodes hs i h ln lh at =
     let was : drop i hs ≡ h ∷ drop (i + 1) hs = dropped hs i no_pair lh ∙ ap (λ (x : Pair). x ∷ drop (i + 1) hs) at in
     let more : take (i + 1) hs ≡ take i hs ++ h ∷ [] = take_more hs i no_pair lh ∙ ap (λ (x : Pair). take i hs ++ x ∷ []) at in
-    ap (λ xs. with_owned (owned_at (drop (i + 1) nodes) (latches_behind request xs (drop (i + 1) hs))) (with_rules (slice_index_or nodes i 0) (latch_of request (all_false (take i hs) ++ is_high h.t ∷ all_false (drop (i + 1) hs))) now)) more
-    ∙ sym (one_latch request (slice_index_or nodes i 0) (drop (i + 1) nodes) (take i hs) h (drop (i + 1) hs) now)
-    ∙ ap (λ ns. with_owned (owned_at ns (latches_behind request (take i hs) (h ∷ drop (i + 1) hs))) now) (sym (dropped nodes i 0 ln))
-    ∙ ap (λ xs. with_owned (owned_at (drop i nodes) (latches_behind request (take i hs) xs)) now) (sym was)
+    ap (λ ns. owned_at ns (latches_behind request (take i hs) (drop i hs))) (dropped nodes i 0 ln)
+    ∙ ap (λ xs. owned_at (slice_index_or nodes i 0 ∷ drop (i + 1) nodes) (latches_behind request (take i hs) xs)) was
+    ∙ ap (λ xs. owned (slice_index_or nodes i 0) (latch_of request (all_false (take i hs) ++ is_high h.t ∷ all_false (drop (i + 1) hs))) ∷ owned_at (drop (i + 1) nodes) (latches_behind request xs (drop (i + 1) hs))) (sym more)
+
+latches_next : (request : ℕ) (nodes : List ℕ) (hs : List Pair) (i : ℕ) (h : Pair) → i < length nodes → i < length hs → slice_index_or hs i no_pair ≡ h → (now : RulesValue) → with_owned (owned_at (drop (i + 1) nodes) (latches_behind request (take (i + 1) hs) (drop (i + 1) hs))) (with_rules (slice_index_or nodes i 0) (latch_of request (all_false (take i hs) ++ is_high h.t ∷ all_false (drop (i + 1) hs))) now) ≡ with_owned (owned_at (drop i nodes) (latches_behind request (take i hs) (drop i hs))) now
+latches_next request nodes hs i h ln lh at now = sym (ap (λ os. with_owned os now) (latches_list request nodes hs i h ln lh at))
 
 pub latches_step : (request : ℕ) (nodes rails : List ℕ) (i : ℕ) (old now new : RulesValue) (up down : GuardValue) → length rails ≡ 2 * length nodes → i < length nodes → LatchesSoFar request nodes (pairs_of rails) i old now → up ≡ one_term (all_false (take i (pairs_of rails)) ++ is_high (slice_index_or rails (2 * i) 0) ∷ all_false (drop (i + 1) (pairs_of rails))) → down ≡ one_term (is_low request ∷ []) → new ≡ with_rules (slice_index_or nodes i 0) (record { up = up; down = down }) now → length new.up ≡ length now.up → ((other : ℕ) → other ≢ slice_index_or nodes i 0 → IsAlone now new other) → LatchesSoFar request nodes (pairs_of rails) (i + 1) old new
 latches_step request nodes rails i old now new up down even lt before ups downs made count others =
     let hs = pairs_of rails in
     let same : length hs ≡ length nodes = pairs_length (length nodes) rails even in
     let wrote : new ≡ with_rules (slice_index_or nodes i 0) (latch_of request (all_false (take i hs) ++ is_high (slice_index_or rails (2 * i) 0) ∷ all_false (drop (i + 1) hs))) now = made ∙ ap (λ (g : GuardValue). with_rules (slice_index_or nodes i 0) (record { up = g; down = down }) now) ups ∙ ap (λ (g : GuardValue). with_rules (slice_index_or nodes i 0) (record { up = one_term (all_false (take i hs) ++ is_high (slice_index_or rails (2 * i) 0) ∷ all_false (drop (i + 1) hs)); down = g }) now) downs in
+    let all : List Owned = owned_at nodes (latches request hs) in
+    let this : Owned = owned (slice_index_or nodes i 0) (latch_of request (all_false (take i hs) ++ is_high (slice_index_or rails (2 * i) 0) ∷ all_false (drop (i + 1) hs))) in
+    let left : List Owned = owned_at (drop (i + 1) nodes) (latches_behind request (take (i + 1) hs) (drop (i + 1) hs)) in
+    let list : owned_at (drop i nodes) (latches_behind request (take i hs) (drop i hs)) ≡ this ∷ left = latches_list request nodes hs i (pair_in rails i) lt (omega (arith, same, lt)) (pair_is (length nodes) rails i no_pair even lt) in
     record {
       rest = ap (λ r. with_owned (owned_at (drop (i + 1) nodes) (latches_behind request (take (i + 1) hs) (drop (i + 1) hs))) r) wrote ∙ latches_next request nodes hs i (pair_in rails i) lt (omega (arith, same, lt)) (pair_is (length nodes) rails i no_pair even lt) now ∙ before.rest;
       count = count ∙ before.count;
       others = λ other h. alone_then old now new other (before.others other h) (others other (λ e. h i 0 lt (sym e)));
+      partly =
+          partly_on all old now new before.partly
+          (partly_of (this ∷ []) all now new (λ o k. before.among o (subst (λ l. Contains l o) (sym list) (Contains-append_left (this ∷ []) left o k))) (partly_all (this ∷ []) now new wrote));
+      among = λ o k. before.among o (subst (λ l. Contains l o) (sym list) (Contains-append_right (this ∷ []) left o k));
     }
 
+starts_list : (nodes latched : List ℕ) (hs : List Pair) (i : ℕ) → i < length nodes → i < length latched → owned_at (drop i nodes) (starts (drop i latched) hs) ≡ owned (slice_index_or nodes i 0) (started (slice_index_or latched i 0) hs) ∷ owned_at (drop (i + 1) nodes) (starts (drop (i + 1) latched) hs)
+starts_list nodes latched hs i ln ll =
+    ap (λ ns. owned_at ns (starts (drop i latched) hs)) (dropped nodes i 0 ln)
+    ∙ ap (λ ls. owned_at (slice_index_or nodes i 0 ∷ drop (i + 1) nodes) (starts ls hs)) (dropped latched i 0 ll)
+
 starts_next : (nodes latched : List ℕ) (hs : List Pair) (i : ℕ) → i < length nodes → i < length latched → (now : RulesValue) → with_owned (owned_at (drop (i + 1) nodes) (starts (drop (i + 1) latched) hs)) (with_rules (slice_index_or nodes i 0) (started (slice_index_or latched i 0) hs) now) ≡ with_owned (owned_at (drop i nodes) (starts (drop i latched) hs)) now
-starts_next nodes latched hs i ln ll now =
-    ap (λ ns. with_owned (owned_at ns (starts (slice_index_or latched i 0 ∷ drop (i + 1) latched) hs)) now) (sym (dropped nodes i 0 ln))
-    ∙ ap (λ ls. with_owned (owned_at (drop i nodes) (starts ls hs)) now) (sym (dropped latched i 0 ll))
+starts_next nodes latched hs i ln ll now = sym (ap (λ os. with_owned os now) (starts_list nodes latched hs i ln ll))
 
 pub starts_step : (nodes latched rails : List ℕ) (i : ℕ) (old now new : RulesValue) (up down : GuardValue) → length rails ≡ 2 * length latched → length nodes ≡ length latched → i < length nodes → StartsSoFar nodes latched (pairs_of rails) i old now → up ≡ one_term (is_high (slice_index_or latched i 0) ∷ lows rails) → down ≡ one_term (is_low (slice_index_or latched i 0) ∷ []) → new ≡ with_rules (slice_index_or nodes i 0) (record { up = up; down = down }) now → length new.up ≡ length now.up → ((other : ℕ) → other ≢ slice_index_or nodes i 0 → IsAlone now new other) → StartsSoFar nodes latched (pairs_of rails) (i + 1) old new
 starts_step nodes latched rails i old now new up down even same lt before ups downs made count others =
@@ -74,10 +108,18 @@ starts_step nodes latched rails i old now new up down even same lt before ups do
     let again : rails_of hs ≡ rails = rails_again (length latched) rails even in
     let wanted : up ≡ (started (slice_index_or latched i 0) hs).up = ups ∙ ap (λ ns. one_term (is_high (slice_index_or latched i 0) ∷ lows ns)) (sym again) in
     let wrote : new ≡ with_rules (slice_index_or nodes i 0) (started (slice_index_or latched i 0) hs) now = made ∙ ap (λ (g : GuardValue). with_rules (slice_index_or nodes i 0) (record { up = g; down = down }) now) wanted ∙ ap (λ (g : GuardValue). with_rules (slice_index_or nodes i 0) (record { up = (started (slice_index_or latched i 0) hs).up; down = g }) now) downs in
+    let all : List Owned = owned_at nodes (starts latched hs) in
+    let this : Owned = owned (slice_index_or nodes i 0) (started (slice_index_or latched i 0) hs) in
+    let left : List Owned = owned_at (drop (i + 1) nodes) (starts (drop (i + 1) latched) hs) in
+    let list : owned_at (drop i nodes) (starts (drop i latched) hs) ≡ this ∷ left = starts_list nodes latched hs i lt (omega (arith, same, lt)) in
     record {
       rest = ap (λ r. with_owned (owned_at (drop (i + 1) nodes) (starts (drop (i + 1) latched) hs)) r) wrote ∙ starts_next nodes latched hs i lt (omega (arith, same, lt)) now ∙ before.rest;
       count = count ∙ before.count;
       others = λ other h. alone_then old now new other (before.others other h) (others other (λ e. h i 0 lt (sym e)));
+      partly =
+          partly_on all old now new before.partly
+          (partly_of (this ∷ []) all now new (λ o k. before.among o (subst (λ l. Contains l o) (sym list) (Contains-append_left (this ∷ []) left o k))) (partly_all (this ∷ []) now new wrote));
+      among = λ o k. before.among o (subst (λ l. Contains l o) (sym list) (Contains-append_right (this ∷ []) left o k));
     }
 
 pub record BranchLists (ls ss ans : List ℕ) (hs : List Pair) : Type 0 where
@@ -248,4 +290,64 @@ again_apart node p are h =
       any = λ e. whole 4 none (omega arith) (sym e);
       leave = λ e. whole 5 none (omega arith) (sym e);
       branches = branches_apart node p.loop_request p.latches.items p.starts.items hs same are.started (all_right P (again_six p hs) (owned_at (p.latches.items ++ p.starts.items) (latches p.loop_request hs ++ starts p.latches.items hs)) whole);
+    }
+
+-- which nodes are own
+branches_among : (request : ℕ) (ls ss : List ℕ) (hs : List Pair) → length hs ≡ length ls → owned_at (ls ++ ss) (latches request hs ++ starts ls hs) ≡ owned_at ls (latches request hs) ++ owned_at ss (starts ls hs)
+branches_among request ls ss hs same =
+    let count : length ls ≡ length (latches request hs) = sym same ∙ sym (wanted_length [] hs) ∙ sym (latches_length request (only_one_true [] hs)) in
+    owned_append ls ss (latches request hs) (starts ls hs) count
+
+pub record SelectOwns (p : SelectPorts) : Type 0 where
+  pub answer : Contains (select_owned (select_of p)) (owned p.answer (joined_answer p.any p.answers.items))
+  pub eval : Contains (select_owned (select_of p)) (owned p.eval (evaluation p.request p.any))
+  pub any : Contains (select_owned (select_of p)) (owned p.any (or_of p.latches.items))
+  pub latched : (o : Owned) → Contains (owned_at p.latches.items (latches p.request (pairs_of p.guard_rails.items))) o → Contains (select_owned (select_of p)) o
+  pub started : (o : Owned) → Contains (owned_at p.starts.items (starts p.latches.items (pairs_of p.guard_rails.items))) o → Contains (select_owned (select_of p)) o
+
+pub select_owns : (p : SelectPorts) → AreBranches p.latches.items p.starts.items p.answers.items p.guard_rails.items → SelectOwns p
+select_owns p are =
+    let hs = pairs_of p.guard_rails.items in
+    let same : length hs ≡ length p.latches.items = pairs_length (length p.latches.items) p.guard_rails.items are.railed in
+    let front : List Owned = select_first p.request p.answer p.eval p.any p.latches.items p.answers.items in
+    let ls : List Owned = owned_at p.latches.items (latches p.request hs) in
+    let ss : List Owned = owned_at p.starts.items (starts p.latches.items hs) in
+    let is : select_owned (select_of p) ≡ front ++ (ls ++ ss) = select_lists_are p are ∙ ap (λ os. front ++ os) (branches_among p.request p.latches.items p.starts.items hs same) in
+    let back : (o : Owned) → Contains (front ++ (ls ++ ss)) o → Contains (select_owned (select_of p)) o = λ o k. subst (λ os. Contains os o) (sym is) k in
+    record {
+      answer = back (owned p.answer (joined_answer p.any p.answers.items)) (0, omega arith, refl);
+      eval = back (owned p.eval (evaluation p.request p.any)) (1, omega arith, refl);
+      any = back (owned p.any (or_of p.latches.items)) (2, omega arith, refl);
+      latched = λ o k. back o (Contains-append_right front (ls ++ ss) o (Contains-append_left ls ss o k));
+      started = λ o k. back o (Contains-append_right front (ls ++ ss) o (Contains-append_right ls ss o k));
+    }
+
+pub record AgainOwns (p : AgainPorts) : Type 0 where
+  pub answer : Contains (again_owned (again_of p)) (owned p.answer (leave_answer p.leave p.any (pairs_of p.guard_rails.items)))
+  pub turn : Contains (again_owned (again_of p)) (owned p.loop_request (turn_request p.request p.joined))
+  pub joined : Contains (again_owned (again_of p)) (owned p.joined (joined_answer p.any p.answers.items))
+  pub eval : Contains (again_owned (again_of p)) (owned p.eval (evaluation p.loop_request p.any))
+  pub any : Contains (again_owned (again_of p)) (owned p.any (or_of (p.leave ∷ p.latches.items)))
+  pub leave : Contains (again_owned (again_of p)) (owned p.leave (leave_latch p.loop_request (pairs_of p.guard_rails.items)))
+  pub latched : (o : Owned) → Contains (owned_at p.latches.items (latches p.loop_request (pairs_of p.guard_rails.items))) o → Contains (again_owned (again_of p)) o
+  pub started : (o : Owned) → Contains (owned_at p.starts.items (starts p.latches.items (pairs_of p.guard_rails.items))) o → Contains (again_owned (again_of p)) o
+
+pub again_owns : (p : AgainPorts) → AreBranches p.latches.items p.starts.items p.answers.items p.guard_rails.items → AgainOwns p
+again_owns p are =
+    let hs = pairs_of p.guard_rails.items in
+    let same : length hs ≡ length p.latches.items = pairs_length (length p.latches.items) p.guard_rails.items are.railed in
+    let front : List Owned = again_six p hs in
+    let ls : List Owned = owned_at p.latches.items (latches p.loop_request hs) in
+    let ss : List Owned = owned_at p.starts.items (starts p.latches.items hs) in
+    let is : again_owned (again_of p) ≡ front ++ (ls ++ ss) = again_lists_are p are ∙ ap (λ os. front ++ os) (branches_among p.loop_request p.latches.items p.starts.items hs same) in
+    let back : (o : Owned) → Contains (front ++ (ls ++ ss)) o → Contains (again_owned (again_of p)) o = λ o k. subst (λ os. Contains os o) (sym is) k in
+    record {
+      answer = back (owned p.answer (leave_answer p.leave p.any hs)) (0, omega arith, refl);
+      turn = back (owned p.loop_request (turn_request p.request p.joined)) (1, omega arith, refl);
+      joined = back (owned p.joined (joined_answer p.any p.answers.items)) (2, omega arith, refl);
+      eval = back (owned p.eval (evaluation p.loop_request p.any)) (3, omega arith, refl);
+      any = back (owned p.any (or_of (p.leave ∷ p.latches.items))) (4, omega arith, refl);
+      leave = back (owned p.leave (leave_latch p.loop_request hs)) (5, omega arith, refl);
+      latched = λ o k. back o (Contains-append_right front (ls ++ ss) o (Contains-append_left ls ss o k));
+      started = λ o k. back o (Contains-append_right front (ls ++ ss) o (Contains-append_right ls ss o k));
     }

@@ -1,14 +1,16 @@
 //! The rules of the selection and of the guarded repetition.
 
-ghost use Rattle.std.specs.Prelude.{◌≡◌, ◌≢◌, ◌<◌, ◌*◌, ℕ, [], ◌∷◌, All, length, OnOk};
+ghost use Rattle.std.specs.Prelude.{◌≡◌, ◌≢◌, ◌<◌, ◌*◌, ℕ, [], ◌∷◌, All, length, OnOk, OnErr};
 ghost use Rattle.prs_core.specs.Nets.{with_rules, IsAlone};
 ghost use Rattle.prs_core.specs.Pairs.{or_of};
-ghost use Rattle.prs_core.specs.Parts.{Owned, owned_at, with_owned};
+ghost use Rattle.prs_core.specs.Parts.{Owned, Keeps, owned_at, with_owned};
+ghost use Rattle.prs_core.specs.Partly.{IsPartly};
 ghost use Rattle.cell_select.specs.Selections.{joined_answer, evaluation, turn_request, leave_latch, leave_answer, latches, starts};
-ghost use Rattle.cell_select.specs.Contract.{select_owned, again_owned};
+ghost use Rattle.cell_select.specs.Contract.{select_owned, select_part, again_owned, again_part};
 ghost use Rattle.cell_select.specs.PortNodes.{pairs_of, select_of, again_of, IsSelect, IsAgain};
 
 use crate::guards::{all_low, either, none_true, only_true, set_both, some_high, with_lows};
+use crate::laws::{again_keeps, select_keeps};
 use prs_core::{Rules, all_of, high, low};
 use std::alloc::{AllocError, Global};
 
@@ -60,6 +62,7 @@ fn emit_joined(
     requires any { any < length rules.old.up }
     requires answers { All (λ n. n < length rules.old.up) answers.now }
     ensures made { OnOk result (rules.new ≡ with_rules node (joined_answer any answers.now) rules.old) }
+    ensures kept { OnErr result (rules.new ≡ rules.old) }
     ensures nodes { length rules.new.up ≡ length rules.old.up }
     ensures others { (other : ℕ) → other ≢ node → IsAlone rules.old rules.new other }
 {
@@ -81,6 +84,7 @@ fn emit_evaluation(
     requires request { request < length rules.old.up }
     requires any { any < length rules.old.up }
     ensures made { OnOk result (rules.new ≡ with_rules node (evaluation request any) rules.old) }
+    ensures kept { OnErr result (rules.new ≡ rules.old) }
     ensures nodes { length rules.new.up ≡ length rules.old.up }
     ensures others { (other : ℕ) → other ≢ node → IsAlone rules.old rules.new other }
 {
@@ -97,6 +101,7 @@ fn emit_any(alloc: Global, node: u32, inputs: &[u32], rules: &mut Rules) -> Resu
     requires some { 0 < length inputs.now }
     requires inputs { All (λ n. n < length rules.old.up) inputs.now }
     ensures made { OnOk result (rules.new ≡ with_rules node (or_of inputs.now) rules.old) }
+    ensures kept { OnErr result (rules.new ≡ rules.old) }
     ensures nodes { length rules.new.up ≡ length rules.old.up }
     ensures others { (other : ℕ) → other ≢ node → IsAlone rules.old rules.new other }
 {
@@ -120,6 +125,7 @@ fn emit_latches(
     requires rails { All (λ n. n < length rules.old.up) rails.now }
     requires agree { length rails.now ≡ 2 * length nodes.now }
     ensures made { OnOk result (rules.new ≡ with_owned (owned_at nodes.now (latches request (pairs_of rails.now))) rules.old) }
+    ensures partly { IsPartly (owned_at nodes.now (latches request (pairs_of rails.now))) rules.old rules.new }
     ensures nodes { length rules.new.up ≡ length rules.old.up }
     ensures others { (other : ℕ) → All (λ n. n ≢ other) nodes.now → IsAlone rules.old rules.new other }
 {
@@ -146,6 +152,7 @@ fn emit_starts(
     requires agree { length nodes.now ≡ length latched.now }
     requires pairs { length rails.now ≡ 2 * length latched.now }
     ensures made { OnOk result (rules.new ≡ with_owned (owned_at nodes.now (starts latched.now (pairs_of rails.now))) rules.old) }
+    ensures partly { IsPartly (owned_at nodes.now (starts latched.now (pairs_of rails.now))) rules.old rules.new }
     ensures nodes { length rules.new.up ≡ length rules.old.up }
     ensures others { (other : ℕ) → All (λ n. n ≢ other) nodes.now → IsAlone rules.old rules.new other }
 {
@@ -169,6 +176,7 @@ fn emit_turn(
     requires request { request < length rules.old.up }
     requires joined { joined < length rules.old.up }
     ensures made { OnOk result (rules.new ≡ with_rules node (turn_request request joined) rules.old) }
+    ensures kept { OnErr result (rules.new ≡ rules.old) }
     ensures nodes { length rules.new.up ≡ length rules.old.up }
     ensures others { (other : ℕ) → other ≢ node → IsAlone rules.old rules.new other }
 {
@@ -192,6 +200,7 @@ fn emit_leave(
     requires rails { All (λ n. n < length rules.old.up) rails.now }
     requires pairs { (guards : ℕ) × (length rails.now ≡ 2 * guards) × (0 < guards) }
     ensures made { OnOk result (rules.new ≡ with_rules node (leave_latch turn (pairs_of rails.now)) rules.old) }
+    ensures kept { OnErr result (rules.new ≡ rules.old) }
     ensures nodes { length rules.new.up ≡ length rules.old.up }
     ensures others { (other : ℕ) → other ≢ node → IsAlone rules.old rules.new other }
 {
@@ -217,6 +226,7 @@ fn emit_end(
     requires rails { All (λ n. n < length rules.old.up) rails.now }
     requires pairs { (guards : ℕ) × (length rails.now ≡ 2 * guards) }
     ensures made { OnOk result (rules.new ≡ with_rules node (leave_answer leave any (pairs_of rails.now)) rules.old) }
+    ensures kept { OnErr result (rules.new ≡ rules.old) }
     ensures nodes { length rules.new.up ≡ length rules.old.up }
     ensures others { (other : ℕ) → other ≢ node → IsAlone rules.old rules.new other }
 {
@@ -227,13 +237,17 @@ fn emit_end(
 }
 
 /// Writes the guards of the selection's own nodes, and no others. There are 1 to 16 latches, as many starts and answers,
-/// and twice as many guard rails. Where memory runs out, some of the own nodes may have their guards.
+/// and twice as many guard rails. Where memory runs out, some of the own nodes have their guards, and the
+/// others those that they had.
 pub fn emit_select(alloc: Global, p: &SelectPorts, rules: &mut Rules) -> Result<(), AllocError>
     requires { IsSelect (length rules.old.up) p.now }
     ensures made { OnOk result (rules.new ≡ with_owned (select_owned (select_of p.now)) rules.old) }
+    ensures partly { IsPartly (select_owned (select_of p.now)) rules.old rules.new }
     ensures nodes { length rules.new.up ≡ length rules.old.up }
     ensures others { (node : ℕ) → All (λ (o : Owned). o.node ≢ node) (select_owned (select_of p.now)) → IsAlone rules.old rules.new node }
+    ensures keeps { Keeps (select_part (select_of p.now)) }
 {
+    select_keeps();
     emit_joined(alloc, p.answer, p.any, &p.answers, rules)?;
     emit_evaluation(alloc, p.eval, p.request, p.any, rules)?;
     emit_any(alloc, p.any, &p.latches, rules)?;
@@ -243,13 +257,17 @@ pub fn emit_select(alloc: Global, p: &SelectPorts, rules: &mut Rules) -> Result<
 }
 
 /// Writes the guards of the guarded repetition's own nodes, and no others. There are 1 to 16 latches, as many starts and
-/// answers, and twice as many guard rails. Where memory runs out, some of the own nodes may have their guards.
+/// answers, and twice as many guard rails. Where memory runs out, some of the own nodes have their guards, and the
+/// others those that they had.
 pub fn emit_again(alloc: Global, p: &AgainPorts, rules: &mut Rules) -> Result<(), AllocError>
     requires { IsAgain (length rules.old.up) p.now }
     ensures made { OnOk result (rules.new ≡ with_owned (again_owned (again_of p.now)) rules.old) }
+    ensures partly { IsPartly (again_owned (again_of p.now)) rules.old rules.new }
     ensures nodes { length rules.new.up ≡ length rules.old.up }
     ensures others { (node : ℕ) → All (λ (o : Owned). o.node ≢ node) (again_owned (again_of p.now)) → IsAlone rules.old rules.new node }
+    ensures keeps { Keeps (again_part (again_of p.now)) }
 {
+    again_keeps();
     let mut ends = Vec::new(alloc);
     ends.push(p.leave)?;
     ends.extend_from_slice(&p.latches)?;

@@ -1,10 +1,12 @@
 //! The rules of the Q-element, of skip and of the loop.
 
-ghost use Rattle.std.specs.Prelude.{◌≡◌, ◌≢◌, ℕ, ◌<◌, length, OnOk};
+ghost use Rattle.std.specs.Prelude.{◌≡◌, ◌≢◌, ℕ, ◌<◌, [], ◌∷◌, length, AllPairs, OnOk, OnErr};
 ghost use Rattle.prs_core.specs.Nets.{IsAlone};
-ghost use Rattle.prs_core.specs.Parts.{with_owned};
+ghost use Rattle.prs_core.specs.Parts.{Keeps, with_owned};
+ghost use Rattle.cell_sequence.specs.Handshakes.{q_nodes, q_part, skip_part, loop_part};
 ghost use Rattle.cell_sequence.specs.Sequence.{with_q, skip_owned, loop_owned, IsPorts};
 
+use crate::laws::q_keeps;
 use prs_core::{Rules, all_of, high, low};
 use std::alloc::{AllocError, Global};
 
@@ -20,31 +22,33 @@ pub struct QPorts {
     pub next: u32,
 }
 
-/// Writes the guards of the Q-element's own nodes, and no others. Where memory runs out, some of these may have been
-/// written.
+/// Writes the guards of the Q-element's own nodes, and no others. Where memory runs out, nothing is written.
 pub fn emit_q(alloc: Global, p: &QPorts, rules: &mut Rules) -> Result<(), AllocError>
     requires { IsPorts (length rules.old.up) p.now }
     ensures made { OnOk result (rules.new ≡ with_q p.now rules.old) }
+    ensures kept { OnErr result (rules.new ≡ rules.old) }
     ensures nodes { length rules.new.up ≡ length rules.old.up }
     ensures others { (node : ℕ) → node ≢ p.now.child_request → node ≢ p.now.latch → node ≢ p.now.next → IsAlone rules.old rules.new node }
+    ensures keeps { AllPairs (λ (a b : ℕ). a ≢ b) (q_nodes p.now) → Keeps (q_part p.now) }
 {
-    rules.set_up(
-        p.child_request,
-        all_of(alloc, &[high(p.request), low(p.latch)])?,
-    );
-    rules.set_down(p.child_request, all_of(alloc, &[high(p.latch)])?);
-    rules.set_up(p.latch, all_of(alloc, &[high(p.child_answer)])?);
-    rules.set_down(p.latch, all_of(alloc, &[low(p.request)])?);
-    rules.set_up(
-        p.next,
-        all_of(alloc, &[high(p.latch), low(p.child_answer)])?,
-    );
-    rules.set_down(p.next, all_of(alloc, &[low(p.latch)])?);
+    q_keeps();
+    let child_up = all_of(alloc, &[high(p.request), low(p.latch)])?;
+    let child_down = all_of(alloc, &[high(p.latch)])?;
+    let latch_up = all_of(alloc, &[high(p.child_answer)])?;
+    let latch_down = all_of(alloc, &[low(p.request)])?;
+    let next_up = all_of(alloc, &[high(p.latch), low(p.child_answer)])?;
+    let next_down = all_of(alloc, &[low(p.latch)])?;
+    rules.set_up(p.child_request, child_up);
+    rules.set_down(p.child_request, child_down);
+    rules.set_up(p.latch, latch_up);
+    rules.set_down(p.latch, latch_down);
+    rules.set_up(p.next, next_up);
+    rules.set_down(p.next, next_down);
     Ok(())
 }
 
-/// Writes the two guards of a skip's answer, which follow the request, and no others. Where memory runs out, one of
-/// these may have been written.
+/// Writes the two guards of a skip's answer, which follow the request, and no others. Where memory runs out, nothing is
+/// written.
 pub fn emit_skip(
     alloc: Global,
     request: u32,
@@ -55,17 +59,22 @@ pub fn emit_skip(
     requires answer { answer < length rules.old.up }
     requires distinct { request ≢ answer }
     ensures made { OnOk result (rules.new ≡ with_owned (skip_owned request answer) rules.old) }
+    ensures kept { OnErr result (rules.new ≡ rules.old) }
     ensures nodes { length rules.new.up ≡ length rules.old.up }
     ensures others { (node : ℕ) → node ≢ answer → IsAlone rules.old rules.new node }
+    ensures keeps { AllPairs (λ (a b : ℕ). a ≢ b) (request ∷ answer ∷ []) → Keeps (skip_part request answer) }
 {
-    rules.set_up(answer, all_of(alloc, &[high(request)])?);
-    rules.set_down(answer, all_of(alloc, &[low(request)])?);
+    q_keeps();
+    let up = all_of(alloc, &[high(request)])?;
+    let down = all_of(alloc, &[low(request)])?;
+    rules.set_up(answer, up);
+    rules.set_down(answer, down);
     Ok(())
 }
 
 /// Writes the two guards of the request by which a loop asks its body, and no others. Under the loop's own `request` the
 /// body is asked, and asked again once it has let go. The loop's own answer never rises, so it has no rules. Where memory
-/// runs out, one of the guards may have been written.
+/// runs out, nothing is written.
 pub fn emit_loop(
     alloc: Global,
     request: u32,
@@ -79,13 +88,15 @@ pub fn emit_loop(
     requires distinct_request { request ≢ body_request }
     requires distinct_answer { body_answer ≢ body_request }
     ensures made { OnOk result (rules.new ≡ with_owned (loop_owned request body_request body_answer) rules.old) }
+    ensures kept { OnErr result (rules.new ≡ rules.old) }
     ensures nodes { length rules.new.up ≡ length rules.old.up }
     ensures others { (node : ℕ) → node ≢ body_request → IsAlone rules.old rules.new node }
+    ensures keeps { (answer : ℕ) → AllPairs (λ (a b : ℕ). a ≢ b) (request ∷ answer ∷ body_request ∷ body_answer ∷ []) → Keeps (loop_part request answer body_request body_answer) }
 {
-    rules.set_up(
-        body_request,
-        all_of(alloc, &[high(request), low(body_answer)])?,
-    );
-    rules.set_down(body_request, all_of(alloc, &[high(body_answer)])?);
+    q_keeps();
+    let up = all_of(alloc, &[high(request), low(body_answer)])?;
+    let down = all_of(alloc, &[high(body_answer)])?;
+    rules.set_up(body_request, up);
+    rules.set_down(body_request, down);
     Ok(())
 }

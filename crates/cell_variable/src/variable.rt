@@ -1,10 +1,14 @@
 //! The rules of a variable and of its write sites.
 
-ghost use Rattle.std.specs.Prelude.{◌≡◌, ◌≢◌, ℕ, ◌+◌, ◌*◌, ◌<◌, ◌≤◌, [], ◌∷◌, length, All, OnOk, IfOk};
+ghost use Rattle.std.specs.Prelude.{◌≡◌, ◌≢◌, ℕ, ◌+◌, ◌*◌, ◌<◌, ◌≤◌, List, [], ◌∷◌, length, All, AllPairs, OnOk, OnErr, IfOk};
 ghost use Rattle.prs_core.specs.Nets.{with_rules, is_high, IsAlone};
-ghost use Rattle.prs_core.specs.Parts.{Owned, with_owned};
+ghost use Rattle.prs_core.specs.Parts.{Owned, Keeps, with_owned};
+ghost use Rattle.prs_core.specs.Partly.{IsPartly};
+ghost use Rattle.prs_core.specs.Sites.{site_part};
+ghost use Rattle.cell_variable.specs.VariableParts.{variable_part};
 ghost use Rattle.cell_variable.specs.Variables.{kept_rail, bit_at, bit_written, bit_owned, variable_owned, write_owned};
 
+use crate::laws::variable_keeps;
 use cell_parallel::emit_tree;
 use prs_core::{Guard, Rules, Term, all_of, high, low};
 use std::alloc::{AllocError, Global};
@@ -23,6 +27,7 @@ fn emit_rail(
     requires set { set < length rules.old.up }
     requires reset { reset < length rules.old.up }
     ensures made { OnOk result (rules.new ≡ with_rules node (kept_rail set other reset) rules.old) }
+    ensures kept { OnErr result (rules.new ≡ rules.old) }
     ensures nodes { length rules.new.up ≡ length rules.old.up }
     ensures others { (k : ℕ) → k ≢ node → IsAlone rules.old rules.new k }
 {
@@ -45,6 +50,7 @@ fn both_high(alloc: Global, first: u32, second: u32) -> Result<Term, AllocError>
 fn emit_written(alloc: Global, bit: u32, rules: &mut Rules) -> Result<(), AllocError>
     requires { bit + 5 ≤ length rules.old.up }
     ensures made { OnOk result (rules.new ≡ with_rules (bit + 4) (bit_written (bit_at bit)) rules.old) }
+    ensures kept { OnErr result (rules.new ≡ rules.old) }
     ensures nodes { length rules.new.up ≡ length rules.old.up }
     ensures others { (k : ℕ) → k ≢ bit + 4 → IsAlone rules.old rules.new k }
 {
@@ -63,6 +69,7 @@ fn emit_written(alloc: Global, bit: u32, rules: &mut Rules) -> Result<(), AllocE
 fn emit_bit(alloc: Global, bit: u32, rules: &mut Rules) -> Result<(), AllocError>
     requires { bit + 5 ≤ length rules.old.up }
     ensures made { OnOk result (rules.new ≡ with_owned (bit_owned (bit_at bit)) rules.old) }
+    ensures partly { IsPartly (bit_owned (bit_at bit)) rules.old rules.new }
     ensures nodes { length rules.new.up ≡ length rules.old.up }
     ensures others { (k : ℕ) → All (λ (o : Owned). o.node ≢ k) (bit_owned (bit_at bit)) → IsAlone rules.old rules.new k }
 {
@@ -76,7 +83,8 @@ fn emit_bit(alloc: Global, bit: u32, rules: &mut Rules) -> Result<(), AllocError
 /// Writes the guards of a variable's own nodes, and no others. The variable's block has from `from` on for each bit,
 /// from the lowest, the two rails of its value, the two rails by which it is written, and the node that says that it
 /// has been written, and then the completion tree over these. The rails by which it is written are merges, which have
-/// rules of their own. Where memory runs out, some of the guards may have been written.
+/// rules of their own. Where memory runs out, some of the own nodes have their guards, and the others those that they
+/// had.
 pub fn emit_variable(
     alloc: Global,
     from: u32,
@@ -87,9 +95,12 @@ pub fn emit_variable(
     requires most { width ≤ 64 }
     requires own { from + 6 * width ≤ length rules.old.up + 1 }
     ensures made { OnOk result (rules.new ≡ with_owned (variable_owned width from) rules.old) }
+    ensures partly { IsPartly (variable_owned width from) rules.old rules.new }
     ensures nodes { length rules.new.up ≡ length rules.old.up }
     ensures others { (node : ℕ) → All (λ (o : Owned). o.node ≢ node) (variable_owned width from) → IsAlone rules.old rules.new node }
+    ensures keeps { Keeps (variable_part width from) }
 {
+    variable_keeps();
     // tells the proof that there are fewer than 2^32 nodes, so that the numbers from `from` on fit
     let _count = rules.nodes();
     let mut leaves = Vec::new(alloc);
@@ -103,7 +114,7 @@ pub fn emit_variable(
 }
 
 /// Writes the guards of a write site's answer, which comes once all bits are written, and no others. Where memory
-/// runs out, one of these may have been written.
+/// runs out, nothing is written.
 pub fn emit_write_site(
     alloc: Global,
     request: u32,
@@ -116,9 +127,12 @@ pub fn emit_write_site(
     requires answer { answer < length rules.old.up }
     requires apart { All (λ node. node ≢ answer) (request ∷ all_written ∷ []) }
     ensures made { OnOk result (rules.new ≡ with_owned (write_owned request all_written answer) rules.old) }
+    ensures kept { OnErr result (rules.new ≡ rules.old) }
     ensures nodes { length rules.new.up ≡ length rules.old.up }
     ensures others { (node : ℕ) → node ≢ answer → IsAlone rules.old rules.new node }
+    ensures keeps { (others : List ℕ) → AllPairs (λ (a b : ℕ). a ≢ b) (request ∷ all_written ∷ answer ∷ others) → Keeps (site_part others request all_written answer) }
 {
+    variable_keeps();
     let up = all_of(alloc, &[high(request), high(all_written)])?;
     let down = all_of(alloc, &[low(all_written)])?;
     rules.set_up(answer, up);

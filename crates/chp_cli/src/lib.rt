@@ -1,11 +1,14 @@
 //! The top call: the words of a command, the files that it reads, and what it writes and says.
 #![tactic(auto)]
 
+mod answer;
+mod check;
 mod command;
 mod compile;
+mod files;
+pub mod laws;
 mod main_call;
 mod migrate;
-mod outcome;
 mod say;
 mod status;
 

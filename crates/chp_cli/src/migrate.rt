@@ -1,16 +1,19 @@
-//! From a rule file to one of version 2.
+//! `migrate FILE`: from a rule file to one of version 2.
 
-ghost use Rattle.std.specs.Prelude.{◌≡◌, ◌≤◌, Some, None, bytes_eq, codes, length, IfOk, IfErr};
-ghost use Rattle.prs_core.specs.Nets.{IsNet};
+ghost use Rattle.std.specs.Prelude.{◌≡◌, ◌≤◌, ◌∷◌, [], Some, None, bytes_eq, codes, length, IfOk, IfErr};
 ghost use Rattle.prs_file.specs.Spelling.{NetText};
 ghost use Rattle.reset_net.specs.Resets.{reset_of};
-ghost use Rattle.chp_cli.specs.Ends.{Migrated, StaysAsItIs};
-ghost use Rattle.chp_cli.specs.Migrations.{named_reset};
+ghost use Rattle.chp_cli.specs.Answers.{given_by};
+ghost use Rattle.chp_cli.specs.Migrating.{Migrates, MigratesNet, named_reset};
+ghost use Rattle.chp_cli.specs.Replies.{Halts, Stops, written};
+ghost use Rattle.chp_cli.specs.Steps.{FromNet, IsFileOf, most_of_net};
 
-use crate::outcome::Outcome;
+use crate::answer::{Ending, Output, Refusal, Stop};
+use crate::files::{MOST_OF_NET, net_of_text, text_of_file};
 use chp_base::Name;
+use chp_edge::Shelf;
 use prs_core::Net;
-use prs_file::{NetFault, NetReadError, print_net, read_net};
+use prs_file::{NetFault, print_net};
 use reset_net::with_reset;
 use std::alloc::{AllocError, Global};
 
@@ -37,25 +40,58 @@ fn reset_text(alloc: Global, net: Net) -> Result<Vec<u8>, AllocError>
     print_net(alloc, &net)
 }
 
-/// The rule file of version 2 that is to stand for this one: itself where it is of version 2, else that of its net
-/// with a reset node. Or how the command ends without one.
-pub fn migrated(alloc: Global, text: Vec<u8>) -> Result<Vec<u8>, Outcome>
-    requires { length text.items ≤ 268435456 }
-    ensures file { IfOk result (λ file. Migrated (Some text.items) (λ whole. whole ≡ file.items)) }
-    ensures none { IfErr result (StaysAsItIs text.items) }
+/// The rule file of version 2 that is to stand for this one, which is that of the net: itself where it is of version 2,
+/// else that of the net with a reset node.
+fn migrate_net<'a>(alloc: Global, text: Vec<u8>, net: Net) -> Result<Output, Stop<'a>>
+    requires { IsFileOf text.items net }
+    ensures answered { IfOk result (λ output. MigratesNet net (written output)) }
+    ensures stopped { IfErr result (Halts (MigratesNet net)) }
 {
-    let net = match read_net(alloc, &text) {
-        Ok(net) => net,
-        Err(NetReadError::Refused { fault, line }) => return Err(Outcome::BadFile { fault, line }),
-        Err(NetReadError::NoMemory(_)) => return Err(Outcome::NoMemory),
-    };
     if net.reset().is_some() {
-        return Ok(text);
+        return Ok(Output {
+            text,
+            end: Ending::Done,
+        });
     }
     if let Some(node) = reset_place(net.names()) {
         let fault = NetFault::DoubleName;
         let line = node as u32 + 2;
-        return Err(Outcome::BadFile { fault, line });
+        return Err(Stop::Refused(Refusal::BadNet { fault, line }));
     }
-    reset_text(alloc, net).map_err(|_| Outcome::NoMemory)
+    match reset_text(alloc, net) {
+        Ok(text) => Ok(Output {
+            text,
+            end: Ending::Done,
+        }),
+        Err(_) => Err(Stop::NoMemory),
+    }
+}
+
+fn migrate_text<'a>(alloc: Global, text: Vec<u8>) -> Result<Output, Stop<'a>>
+    requires { length text.items ≤ most_of_net }
+    ensures answered { IfOk result (λ output. FromNet text.items MigratesNet (written output)) }
+    ensures stopped { IfErr result (Halts (FromNet text.items MigratesNet)) }
+{
+    match net_of_text(alloc, &text) {
+        Ok(net) => migrate_net(alloc, text, net),
+        Err(stop) => Err(stop),
+    }
+}
+
+/// What `migrate` answers for the file of this name.
+pub fn migrate<'a, S: Shelf>(
+    alloc: Global,
+    shelf: &mut S,
+    file: &'a str,
+) -> Result<Output, Stop<'a>>
+    ensures answered { IfOk result (λ output. Migrates (given_by (S.tells shelf.old) (S.holds shelf.old)) file.entry.now (written output)) }
+    ensures stopped { IfErr result (Stops (Migrates (given_by (S.tells shelf.old) (S.holds shelf.old)) file.entry.now) (file.entry.now ∷ []) (given_by (S.tells shelf.old) (S.holds shelf.old)) (S.faults shelf.old) (S.faults shelf.new)) }
+    ensures same { S.tells shelf.new ≡ S.tells shelf.old }
+    ensures kept { S.holds shelf.new ≡ S.holds shelf.old }
+    ensures faults { S.faults shelf.old ≤ S.faults shelf.new }
+{
+    match text_of_file(alloc, shelf, file, MOST_OF_NET) {
+        Ok(text) => migrate_text(alloc, text),
+        Err(stop) => Err(stop),
+    }
 }

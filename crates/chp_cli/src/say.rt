@@ -5,9 +5,10 @@ ghost use Rattle.std.specs.Prelude.{◌≡◌, ◌≤◌, ◌++◌, true, OnOk, 
 ghost use Rattle.std.specs.List.{flat_map};
 ghost use Rattle.chp_base.specs.Faults.{number_of};
 ghost use Rattle.chp_edge.specs.Faults.{Rose};
-ghost use Rattle.chp_cli.specs.Outcomes.{line_of, refused_line, bad_file_line, too_long_line, fault_name, net_fault_name, has_two_places};
+ghost use Rattle.chp_cli.specs.Lines.{refused_line, bad_net_line, too_long_line, fault_name, net_fault_name, has_two_places};
+ghost use Rattle.chp_cli.specs.Replies.{refusal_line, stop_line, end_line};
 
-use crate::outcome::Outcome;
+use crate::answer::{End, Ending, Refusal, Stop};
 use chp_base::{Fault, FaultCode};
 use chp_edge::{Failed, Sink, write_all};
 use itoa::Buffer;
@@ -80,7 +81,7 @@ fn names_two_places(code: FaultCode) -> bool
 }
 
 /// Says the line of a refused text: the cause's number and name, and its places.
-fn say_refusal<W: Sink>(say: &mut W, fault: &Fault)
+fn say_refused_text<W: Sink>(say: &mut W, fault: &Fault)
     ensures faults { W.faults say.old ≤ W.faults say.new }
     ensures same { W.tells say.new ≡ W.tells say.old }
     ensures said { W.tells say.old ≡ true → ¬ Rose (W.faults say.old) (W.faults say.new) → W.written say.new ≡ W.written say.old ++ refused_line fault.now }
@@ -141,10 +142,10 @@ fn name_of_net_fault(fault: NetFault) -> &'static str
 }
 
 /// Says the line of a rule file that is refused.
-fn say_bad_file<W: Sink>(say: &mut W, fault: NetFault, line: u32)
+fn say_bad_net<W: Sink>(say: &mut W, fault: NetFault, line: u32)
     ensures faults { W.faults say.old ≤ W.faults say.new }
     ensures same { W.tells say.new ≡ W.tells say.old }
-    ensures said { W.tells say.old ≡ true → ¬ Rose (W.faults say.old) (W.faults say.new) → W.written say.new ≡ W.written say.old ++ bad_file_line fault line }
+    ensures said { W.tells say.old ≡ true → ¬ Rose (W.faults say.old) (W.faults say.new) → W.written say.new ≡ W.written say.old ++ bad_net_line fault line }
 {
     let mut number = Buffer::new();
     let mut place = Buffer::new();
@@ -168,21 +169,43 @@ fn say_too_long<W: Sink>(say: &mut W, name: &str, limit: usize)
     say_pieces(say, &["chp: 7 bytes ", name, " over ", most, "\n"]);
 }
 
-/// Says the line of the outcome of a command on the file of this name.
-pub fn tell<W: Sink>(say: &mut W, outcome: &Outcome, name: &str)
+/// Says the line of a refusal.
+fn say_refusal<W: Sink>(say: &mut W, refusal: &Refusal)
     ensures faults { W.faults say.old ≤ W.faults say.new }
     ensures same { W.tells say.new ≡ W.tells say.old }
-    ensures said { W.tells say.old ≡ true → ¬ Rose (W.faults say.old) (W.faults say.new) → W.written say.new ≡ W.written say.old ++ line_of outcome.now name.now }
+    ensures said { W.tells say.old ≡ true → ¬ Rose (W.faults say.old) (W.faults say.new) → W.written say.new ≡ W.written say.old ++ refusal_line refusal.now }
 {
-    match outcome {
-        Outcome::Done => {}
-        Outcome::RefusedText(fault) => say_refusal(say, fault),
-        Outcome::Usage => say_pieces(say, &["chp: 2 usage\n"]),
-        Outcome::Read => say_pieces(say, &["chp: 3 read ", name, "\n"]),
-        Outcome::Write => say_pieces(say, &["chp: 4 write\n"]),
-        Outcome::NoMemory => say_pieces(say, &["chp: 6 no memory\n"]),
-        Outcome::TooLong(limit) => say_too_long(say, name, *limit),
-        Outcome::BadFile { fault, line } => say_bad_file(say, *fault, *line),
-        Outcome::NotBuilt => say_pieces(say, &["chp: 19 not built\n"]),
+    match refusal {
+        Refusal::Text(fault) => say_refused_text(say, fault),
+        Refusal::TooLong { name, limit } => say_too_long(say, name, *limit),
+        Refusal::BadNet { fault, line } => say_bad_net(say, *fault, *line),
+        Refusal::NotBuilt => say_pieces(say, &["chp: 19 not built\n"]),
+    }
+}
+
+/// Says the line of a command that writes nothing.
+fn say_stop<W: Sink>(say: &mut W, stop: &Stop)
+    ensures faults { W.faults say.old ≤ W.faults say.new }
+    ensures same { W.tells say.new ≡ W.tells say.old }
+    ensures said { W.tells say.old ≡ true → ¬ Rose (W.faults say.old) (W.faults say.new) → W.written say.new ≡ W.written say.old ++ stop_line stop.now }
+{
+    match stop {
+        Stop::Refused(refusal) => say_refusal(say, refusal),
+        Stop::Unread(name) => say_pieces(say, &["chp: 3 read ", name, "\n"]),
+        Stop::NoMemory => say_pieces(say, &["chp: 6 no memory\n"]),
+    }
+}
+
+/// Says the line with which a call ends.
+pub fn tell<W: Sink>(say: &mut W, end: &End)
+    ensures faults { W.faults say.old ≤ W.faults say.new }
+    ensures same { W.tells say.new ≡ W.tells say.old }
+    ensures said { W.tells say.old ≡ true → ¬ Rose (W.faults say.old) (W.faults say.new) → W.written say.new ≡ W.written say.old ++ end_line end.now }
+{
+    match end {
+        End::Whole(Ending::Done) => {}
+        End::CutOff => say_pieces(say, &["chp: 4 write\n"]),
+        End::Usage => say_pieces(say, &["chp: 2 usage\n"]),
+        End::Stopped(stop) => say_stop(say, stop),
     }
 }

@@ -1,5 +1,9 @@
 -- Counts of faults, and what a failed call may be blamed on.
-use Rattle.std.specs.Prelude.{◌≡◌, ℕ, ◌<◌, ◌^◌, ◌-◌, List, Option, None, Bool, true, ◌⊎◌}
+use Rattle.std.specs.Prelude.{◌≡◌, ℕ, ◌<◌, ◌^◌, ◌+◌, ◌-◌, min, List, Option, None, Bool, true, ◌⊎◌}
+
+-- a count after one more: one higher, or still at its type's end
+abbrev pub one_higher : ℕ → ℕ
+one_higher count = min (count + 1) (2 ^ 64 - 1)
 
 -- a count rose in a call: it is greater after it, or stands at its last value
 abbrev pub Rose : ℕ → ℕ → Type 0

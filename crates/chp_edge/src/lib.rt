@@ -1,6 +1,7 @@
 //! Where bytes come from and where they go.
 #![tactic(auto)]
 
+mod count;
 mod memory;
 mod plan;
 mod real;

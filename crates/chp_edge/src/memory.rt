@@ -1,7 +1,7 @@
 //! Shelves and a sink in memory, which tell their bytes.
 
 ghost use Rattle.std.specs.Prelude.{◌≡◌, ℕ, ◌≤◌, ◌<◌, [], Some, None, length, take, drop, min, vec_len, vec_capacity, IfOk, IsOk, OnOk, IsErr, OnErr, Contains, ◌+◌, ◌-◌, ◌^◌, ◌++◌, ◌↔◌, ◌⊎◌, true, false, position, if◌then◌else◌};
-ghost use Rattle.chp_edge.specs.Faults.{Rose, IsReadFault};
+ghost use Rattle.chp_edge.specs.Faults.{Rose, IsReadFault, one_higher};
 ghost use Rattle.chp_edge.specs.Files.{held_by, left_at, is_named};
 
 use crate::plan::Plan;
@@ -90,12 +90,13 @@ impl Shelf for MemShelf {
         ensures faults { self.old.plan.faults ≤ self.new.plan.faults }
         ensures counted { self.new.plan.faults < 2 ^ 64 }
         ensures files { self.new.files ≡ self.old.files }
-        ensures calls { self.new.plan.calls ≡ min (self.old.plan.calls + 1) (2 ^ 64 - 1) }
+        ensures calls { self.new.plan.calls ≡ one_higher self.old.plan.calls }
         ensures failing { self.new.plan.failing ≡ self.old.plan.failing }
         ensures begun { OnOk result (held_by self.old.files.items name.now ≡ Some (left_at self.new.files.items self.new.begun self.new.done)) }
         ensures emptied { OnErr result (left_at self.new.files.items self.new.begun self.new.done ≡ []) }
         ensures fails { IsErr result ↔ (Contains self.old.plan.failing.items self.new.plan.calls ⊎ (held_by self.old.files.items name.now ≡ None)) }
         ensures failed { OnErr result (IsReadFault self.old.plan.faults self.new.plan.faults true (held_by self.old.files.items name.now)) }
+        ensures planned { Contains self.old.plan.failing.items self.new.plan.calls → self.new.plan.faults ≡ one_higher self.old.plan.faults }
         ensures unplanned { (Contains self.old.plan.failing.items self.new.plan.calls → ⊥) → self.new.plan.faults ≡ self.old.plan.faults }
     {
         self.begun = None;
@@ -115,7 +116,7 @@ impl Shelf for MemShelf {
         ensures faults { self.old.plan.faults ≤ self.new.plan.faults }
         ensures counted { self.new.plan.faults < 2 ^ 64 }
         ensures files { self.new.files ≡ self.old.files }
-        ensures calls { self.new.plan.calls ≡ min (self.old.plan.calls + 1) (2 ^ 64 - 1) }
+        ensures calls { self.new.plan.calls ≡ one_higher self.old.plan.calls }
         ensures failing { self.new.plan.failing ≡ self.old.plan.failing }
         ensures count { IfOk result (λ n. n ≡ min (length piece.old) (length (left_at self.old.files.items self.old.begun self.old.done))) }
         ensures bytes { IfOk result (λ n. left_at self.old.files.items self.old.begun self.old.done ≡ take n piece.new ++ left_at self.new.files.items self.new.begun self.new.done) }
@@ -123,6 +124,7 @@ impl Shelf for MemShelf {
         ensures end { IfOk result (λ n. (n ≡ 0) ↔ (left_at self.old.files.items self.old.begun self.old.done ≡ [])) }
         ensures fails { IsErr result ↔ Contains self.old.plan.failing.items self.new.plan.calls }
         ensures failed { OnErr result (Rose self.old.plan.faults self.new.plan.faults) }
+        ensures exact { OnErr result (self.new.plan.faults ≡ one_higher self.old.plan.faults) }
         ensures stays { OnErr result (left_at self.new.files.items self.new.begun self.new.done ≡ left_at self.old.files.items self.old.begun self.old.done) }
         ensures unplanned { IsOk result → self.new.plan.faults ≡ self.old.plan.faults }
     {
@@ -241,13 +243,14 @@ impl Sink for MemSink {
         ensures faults { self.old.plan.faults ≤ self.new.plan.faults }
         ensures counted { self.new.plan.faults < 2 ^ 64 }
         ensures limits { (self.new.most ≡ self.old.most) × (self.new.room ≡ self.old.room) }
-        ensures calls { self.new.plan.calls ≡ min (self.old.plan.calls + 1) (2 ^ 64 - 1) }
+        ensures calls { self.new.plan.calls ≡ one_higher self.old.plan.calls }
         ensures failing { self.new.plan.failing ≡ self.old.plan.failing }
         ensures count { IfOk result (λ n. n ≡ min (min self.old.most (self.old.room - vec_len self.old.written)) (length piece.now)) }
         ensures some { IfOk result (λ n. 0 < n) }
         ensures bytes { IfOk result (λ n. self.new.written.items ≡ self.old.written.items ++ take n piece.now) }
         ensures fails { IsErr result ↔ (Contains self.old.plan.failing.items self.new.plan.calls ⊎ (self.old.room ≤ vec_len self.old.written)) }
         ensures failed { OnErr result (Rose self.old.plan.faults self.new.plan.faults) }
+        ensures exact { OnErr result (self.new.plan.faults ≡ one_higher self.old.plan.faults) }
         ensures stays { OnErr result (self.new.written.items ≡ self.old.written.items) }
         ensures unplanned { IsOk result → self.new.plan.faults ≡ self.old.plan.faults }
     {
@@ -264,62 +267,5 @@ impl Sink for MemSink {
             Ok(()) => Ok(n),
             Err(AllocError) => unreachable!(),
         }
-    }
-}
-
-#[cfg(test)]
-mod tests {
-    use super::*;
-    use crate::whole::{ReadEnd, read_all, write_all};
-    use std::test::Fail;
-
-    fn shelf_of(alloc: Global, failing: u64) -> Result<MemShelf, Fail> {
-        let mut files = Vec::new(alloc);
-        files.push(("a".to_string(alloc)?, b"first".to_vec(alloc)?))?;
-        files.push(("a".to_string(alloc)?, b"second".to_vec(alloc)?))?;
-        Ok(MemShelf::new(files, vec![in alloc; failing]?))
-    }
-
-    // A whole read of the five bytes makes three calls: it begins, takes them, and meets the end.
-    #[test]
-    fn planned_calls_fail(rt: HostRuntime) -> Result<(), Fail> {
-        for (failing, fails) in [(0, false), (1, true), (2, true), (3, true), (4, false)] {
-            let mut shelf = shelf_of(rt.alloc(), failing)?;
-            match read_all(rt.alloc(), &mut shelf, "a", 10) {
-                Ok(read) => assert!(rt; !fails && read.as_slice() == b"first".as_slice()),
-                Err(end) => assert!(rt; fails && end == ReadEnd::Failed),
-            }
-            let other = read_all(rt.alloc(), &mut shelf, "b", 10);
-            assert_eq!(rt; other.err(), Some(ReadEnd::Failed));
-        }
-        Ok(())
-    }
-
-    #[test]
-    fn limits_are_met_to_the_byte(rt: HostRuntime) -> Result<(), Fail> {
-        for (limit, fits) in [(0, false), (4, false), (5, true), (6, true)] {
-            let mut shelf = SureShelf::new(b"whole".to_vec(rt.alloc())?);
-            match read_all(rt.alloc(), &mut shelf, "any", limit) {
-                Ok(read) => assert!(rt; fits && read.as_slice() == b"whole".as_slice()),
-                Err(end) => assert!(rt; !fits && end == ReadEnd::TooLong),
-            }
-        }
-        Ok(())
-    }
-
-    // Four bytes a call, room for ten, and the second or no call failing.
-    #[test]
-    fn sinks_take_what_they_have_room_for(rt: HostRuntime) -> Result<(), Fail> {
-        for (failing, want) in [(2, b"chp:".as_slice()), (9, b"chp: 4 wri".as_slice())] {
-            let failing = vec![in rt.alloc(); failing]?;
-            let mut sink = MemSink::new(rt.alloc(), 4, 10, failing)?;
-            assert_eq!(rt; write_all(&mut sink, b"chp: 4 write"), Err(Failed));
-            assert_eq!(rt; sink.written(), want);
-        }
-        let none = Vec::new(rt.alloc());
-        let mut sink = MemSink::new(rt.alloc(), 4, 12, none)?;
-        assert_eq!(rt; write_all(&mut sink, b"chp: 4 write"), Ok(()));
-        assert_eq!(rt; sink.written(), b"chp: 4 write".as_slice());
-        Ok(())
     }
 }

@@ -1,8 +1,10 @@
 //! Which calls of a device in memory fail.
 
-ghost use Rattle.std.specs.Prelude.{◌≡◌, ◌+◌, ◌-◌, ◌≤◌, ◌<◌, ◌^◌, ◌↔◌, IsTrue, Contains, min};
+ghost use Rattle.std.specs.Prelude.{◌≡◌, ◌≤◌, ◌<◌, ◌^◌, ◌↔◌, IsTrue, Contains};
 ghost use Rattle.std.specs.Bool.{OnTrue, OnFalse};
-ghost use Rattle.chp_edge.specs.Faults.{Rose};
+ghost use Rattle.chp_edge.specs.Faults.{Rose, one_higher};
+
+use crate::count::count_up;
 
 /// The numbers of the calls that fail, counted from 1, with how many calls and faults there were. Both counts stay
 /// at their last value once they are there.
@@ -28,27 +30,30 @@ impl Plan {
 
     /// Counts a fault.
     pub fn fault(&mut self)
+        ensures exact { self.new.faults ≡ one_higher self.old.faults }
         ensures rose { Rose self.old.faults self.new.faults }
         ensures faults { self.old.faults ≤ self.new.faults }
         ensures counted { self.new.faults < 2 ^ 64 }
         ensures calls { self.new.calls ≡ self.old.calls }
         ensures failing { self.new.failing ≡ self.old.failing }
     {
-        self.faults = self.faults.saturating_add(1);
+        let _count = self.faults;
+        count_up(&mut self.faults);
     }
 
     /// Counts a call, and says whether it is one of those that fail, which counts as a fault.
     pub fn fails(&mut self) -> bool
-        ensures calls { self.new.calls ≡ min (self.old.calls + 1) (2 ^ 64 - 1) }
+        ensures calls { self.new.calls ≡ one_higher self.old.calls }
         ensures failing { self.new.failing ≡ self.old.failing }
-        ensures exact { IsTrue result ↔ Contains self.old.failing.items self.new.calls }
+        ensures planned { IsTrue result ↔ Contains self.old.failing.items self.new.calls }
+        ensures exact { OnTrue result (self.new.faults ≡ one_higher self.old.faults) }
         ensures rose { OnTrue result (Rose self.old.faults self.new.faults) }
         ensures faults { self.old.faults ≤ self.new.faults }
         ensures counted { self.new.faults < 2 ^ 64 }
         ensures stays { OnFalse result (self.new.faults ≡ self.old.faults) }
     {
         let _count = self.faults;
-        self.calls = self.calls.saturating_add(1);
+        count_up(&mut self.calls);
         let failing = self.failing.contains(&self.calls);
         if failing {
             self.fault();

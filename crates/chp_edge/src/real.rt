@@ -1,9 +1,10 @@
 //! Files and the standard streams. None of these tells its bytes: what a real file or stream holds is trusted, and
 //! shown by tests alone.
 
-ghost use Rattle.std.specs.Prelude.{◌≡◌, ◌^◌, ◌<◌, ◌≤◌, [], None, false, length, IfOk, OnErr};
-ghost use Rattle.chp_edge.specs.Faults.{Rose};
+ghost use Rattle.std.specs.Prelude.{◌≡◌, ◌^◌, ◌<◌, ◌≤◌, [], None, false, length, IfOk, OnOk, OnErr};
+ghost use Rattle.chp_edge.specs.Faults.{Rose, one_higher};
 
+use crate::count::count_up;
 use crate::shelf::Shelf;
 use crate::sink::{Failed, Sink};
 use std::fs;
@@ -39,8 +40,14 @@ impl<'a, R: Files> Shelf for FileShelf<'a, R> {
 
     ghost rest = { λ _. [] };
 
-    fn begin(&mut self, name: &str) -> Result<(), Failed> {
-        let before = self.faults;
+    fn begin(&mut self, name: &str) -> Result<(), Failed>
+        ensures faults { self.old.faults ≤ self.new.faults }
+        ensures counted { self.new.faults < 2 ^ 64 }
+        ensures unfailed { OnOk result (self.new.faults ≡ self.old.faults) }
+        ensures failed { OnErr result (Rose self.old.faults self.new.faults) }
+        ensures exact { OnErr result (self.new.faults ≡ one_higher self.old.faults) }
+    {
+        let _count = self.faults;
         self.begun = None;
         match fs::open(self.rt, name) {
             Ok(file) => {
@@ -48,21 +55,29 @@ impl<'a, R: Files> Shelf for FileShelf<'a, R> {
                 Ok(())
             }
             Err(_) => {
-                self.faults = before.saturating_add(1);
+                count_up(&mut self.faults);
                 Err(Failed)
             }
         }
     }
 
-    fn next(&mut self, piece: &mut [u8]) -> Result<usize, Failed> {
-        let before = self.faults;
+    fn next(&mut self, piece: &mut [u8]) -> Result<usize, Failed>
+        requires { 0 < length piece.old }
+        ensures within { IfOk result (λ n. n ≤ length piece.new) }
+        ensures faults { self.old.faults ≤ self.new.faults }
+        ensures counted { self.new.faults < 2 ^ 64 }
+        ensures unfailed { OnOk result (self.new.faults ≡ self.old.faults) }
+        ensures failed { OnErr result (Rose self.old.faults self.new.faults) }
+        ensures exact { OnErr result (self.new.faults ≡ one_higher self.old.faults) }
+    {
+        let _count = self.faults;
         let Some(file) = &mut self.begun else {
             return Ok(0);
         };
         match file.read(piece) {
             Ok(n) => Ok(n),
             Err(_) => {
-                self.faults = before.saturating_add(1);
+                count_up(&mut self.faults);
                 Err(Failed)
             }
         }
@@ -76,13 +91,15 @@ fn put_some<W: Write>(writer: &mut W, faults: &mut u64, piece: &[u8]) -> Result<
     ensures counted { faults.new < 2 ^ 64 }
     ensures some { IfOk result (λ n. 0 < n) }
     ensures within { IfOk result (λ n. n ≤ length piece.now) }
+    ensures unfailed { OnOk result (faults.new ≡ faults.old) }
     ensures failed { OnErr result (Rose faults.old faults.new) }
+    ensures exact { OnErr result (faults.new ≡ one_higher faults.old) }
 {
-    let before = *faults;
+    let _count = *faults;
     match writer.write(piece) {
         Ok(n) if n > 0 => Ok(n),
         _ => {
-            *faults = before.saturating_add(1);
+            count_up(faults);
             Err(Failed)
         }
     }
@@ -110,7 +127,16 @@ impl<W: Write + Drop> Sink for OutSink<W> {
 
     ghost written = { λ _. [] };
 
-    fn put(&mut self, piece: &[u8]) -> Result<usize, Failed> {
+    fn put(&mut self, piece: &[u8]) -> Result<usize, Failed>
+        requires { 0 < length piece.now }
+        ensures some { IfOk result (λ n. 0 < n) }
+        ensures within { IfOk result (λ n. n ≤ length piece.now) }
+        ensures faults { self.old.faults ≤ self.new.faults }
+        ensures counted { self.new.faults < 2 ^ 64 }
+        ensures unfailed { OnOk result (self.new.faults ≡ self.old.faults) }
+        ensures failed { OnErr result (Rose self.old.faults self.new.faults) }
+        ensures exact { OnErr result (self.new.faults ≡ one_higher self.old.faults) }
+    {
         put_some(&mut self.writer, &mut self.faults, piece)
     }
 }
@@ -137,73 +163,16 @@ impl<W: Write + Drop> Sink for ErrSink<W> {
 
     ghost written = { λ _. [] };
 
-    fn put(&mut self, piece: &[u8]) -> Result<usize, Failed> {
+    fn put(&mut self, piece: &[u8]) -> Result<usize, Failed>
+        requires { 0 < length piece.now }
+        ensures some { IfOk result (λ n. 0 < n) }
+        ensures within { IfOk result (λ n. n ≤ length piece.now) }
+        ensures faults { self.old.faults ≤ self.new.faults }
+        ensures counted { self.new.faults < 2 ^ 64 }
+        ensures unfailed { OnOk result (self.new.faults ≡ self.old.faults) }
+        ensures failed { OnErr result (Rose self.old.faults self.new.faults) }
+        ensures exact { OnErr result (self.new.faults ≡ one_higher self.old.faults) }
+    {
         put_some(&mut self.writer, &mut self.faults, piece)
-    }
-}
-
-#[cfg(test)]
-mod tests {
-    use super::*;
-    use crate::whole::{ReadEnd, read_all, write_all};
-    use std::io;
-    use std::test::Fail;
-
-    // A writer that takes two bytes a call, three calls long, and then nothing.
-    #[derive(Drop)]
-    struct Narrow<'a> {
-        calls: u8,
-        taken: &'a mut Vec<u8>,
-    }
-
-    impl Write for Narrow<'_> {
-        fn write(&mut self, piece: &[u8]) -> io::Result<usize> {
-            if self.calls == 0 {
-                return Ok(0);
-            }
-            self.calls -= 1;
-            let n = piece.len().min(2);
-            self.taken.extend_from_slice(&piece[..n])?;
-            Ok(n)
-        }
-
-        fn flush(&mut self) -> io::Result<()> {
-            Ok(())
-        }
-    }
-
-    #[test]
-    fn real_files_are_read_whole(rt: HostRuntime) -> Result<(), Fail> {
-        let text = b"begin skip end\n";
-        fs::write(&rt, "program.chp", text)?;
-        let mut shelf = FileShelf::new(&rt);
-        let read = read_all(rt.alloc(), &mut shelf, "program.chp", 100)?;
-        assert_eq!(rt; read.as_slice(), text.as_slice());
-        let short = read_all(rt.alloc(), &mut shelf, "program.chp", 14);
-        assert_eq!(rt; short.err(), Some(ReadEnd::TooLong));
-        let missing = read_all(rt.alloc(), &mut shelf, "missing.chp", 100);
-        assert_eq!(rt; missing.err(), Some(ReadEnd::Failed));
-        Ok(())
-    }
-
-    #[test]
-    fn writers_are_written_to_piece_by_piece(rt: HostRuntime) -> Result<(), Fail> {
-        let mut taken = Vec::new(rt.alloc());
-        let mut out = OutSink::new(Narrow {
-            calls: 3,
-            taken: &mut taken,
-        });
-        assert_eq!(rt; write_all(&mut out, b"chp"), Ok(()));
-        assert_eq!(rt; write_all(&mut out, b"program"), Err(Failed));
-        drop(out);
-        assert_eq!(rt; taken.as_slice(), b"chppr".as_slice());
-        let mut said = Vec::new(rt.alloc());
-        let mut say = ErrSink::new(Narrow {
-            calls: 1,
-            taken: &mut said,
-        });
-        assert_eq!(rt; write_all(&mut say, b"no"), Ok(()));
-        assert_eq!(rt; write_all(&mut say, b"!"), Err(Failed));
-        Ok(())
     }
 }

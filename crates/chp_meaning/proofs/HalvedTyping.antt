@@ -36,7 +36,7 @@ neither : (a b : Bool) → a ≡ false → b ≡ false → (a || b) ≡ false
 neither a b e f = ap (λ x. x || b) e ∙ f
 
 mutual
-  unread : (vars : List Var) (n : ℕ) (e : Formula) → ReadsFrom vars e → length vars ≤ n → reads n e ≡ false
+  pub unread : (vars : List Var) (n : ℕ) (e : Formula) → ReadsFrom vars e → length vars ≤ n → reads n e ≡ false
   unread vars n (constant w v) f le = refl
   unread vars n (reading var high low at) f le = unequal var n (length vars) f.0 le
   unread vars n (joined parts) f le = parts_unread vars n parts f le

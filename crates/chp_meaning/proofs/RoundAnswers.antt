@@ -112,6 +112,10 @@ now_is body old i c d a = unchanged_same body c d a.unchanged ∙ a.so_far
 pub stopped : {X E : Type 0} (r : Result X E) (body : Process) (old : Configuration) (i n : ℕ) (c d : Config) → IsAt body old i c d → i ≤ n → OnErr r (IsWithin n old (configuration_of body d))
 stopped r body old i n c d a le = on_err r (IsWithin n old (configuration_of body d)) (i, le, now_is body old i c d a)
 
+-- the histories hold no more than they did
+pub still_few : {X E : Type 0} (r : Result X E) (count most : ℕ) (c d : Config) → IsUnchanged c d → count ≡ held (histories_of c) → count ≤ most → OnErr r (held (histories_of d) ≤ most)
+still_few r count most c d u is few = on_err r (held (histories_of d) ≤ most) (omega (arith, ap held u.histories, is, few))
+
 rest_there : (body : Process) (old : Configuration) (i : ℕ) (c d : Config) → Fits old.term → IsAt body old i c d → next_moves body c ≡ [] → ¬ CanStep (configuration_of body d)
 rest_there body old i c d f a none can =
     let e = unchanged_same body c d a.unchanged in

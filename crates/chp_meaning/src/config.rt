@@ -60,17 +60,13 @@ fn whole_offer(alloc: Global, offer: &Offer) -> Result<Rest, AllocError>
     }
 }
 
-/// All of a script of so many channels.
-fn whole_script(alloc: Global, channels: usize, script: &Script) -> Result<Vec<Rest>, AllocError>
-    requires { length script.now ≡ channels }
+/// All of a script.
+fn whole_script(alloc: Global, script: &Script) -> Result<Vec<Rest>, AllocError>
     ensures { IfOk result (λ rests. map rest_of rests.items ≡ script.now) }
 {
     let mut rests = Vec::new(alloc);
-    for place in 0..channels {
-        let Ok(chan) = u32::try_from(place) else {
-            return Err(AllocError);
-        };
-        rests.push(whole_offer(alloc, script.offer(chan))?)?;
+    for offer in script.offers() {
+        rests.push(whole_offer(alloc, offer)?)?;
     }
     Ok(rests)
 }
@@ -114,7 +110,7 @@ pub(crate) fn begun(
     Ok(Config {
         left: opened(alloc, body)?,
         store,
-        rests: whole_script(alloc, channels, script)?,
+        rests: whole_script(alloc, script)?,
         histories: no_values(alloc, channels)?,
         sends: no_sends(alloc, channels)?,
         receives: no_receives(alloc, channels)?,

@@ -158,6 +158,7 @@ pub(crate) fn run_of(
     ensures standing { IsStanding (process_of body.now) config.new }
     ensures end { Fits (configuration_of (process_of body.now) config.old).term → IfOk result (λ end. IsEnd n most (configuration_of (process_of body.now) config.old) (configuration_of (process_of body.now) config.new) end) }
     ensures err { Fits (configuration_of (process_of body.now) config.old).term → OnErr result (IsWithin n (configuration_of (process_of body.now) config.old) (configuration_of (process_of body.now) config.new)) }
+    ensures few { OnErr result (held (histories_of config.new) ≤ most) }
 {
     let mut count = held(&config.histories, most);
     for _made in 0..n {
@@ -176,7 +177,7 @@ pub(crate) fn run_of(
 }
 
 /// Makes `n` rounds, but none that would bring the values that have passed over `most` in all. Stops early where no step
-/// is left. Where memory runs out some of the rounds have been made.
+/// is left. Where memory runs out some of the rounds have been made, and no more than `most` values have passed.
 pub fn run_rounds(
     alloc: Global,
     config: &mut Config,
@@ -190,6 +191,7 @@ pub fn run_rounds(
     ensures of { IsOf program.now config.new }
     ensures end { IfOk result (λ end. IsEnd n most (seen program.now config.old) (seen program.now config.new) end) }
     ensures err { OnErr result (IsWithin n (seen program.now config.old) (seen program.now config.new)) }
+    ensures few { OnErr result (held_in (seen program.now config.new) ≤ most) }
     // Whatever order steps are taken in leads on to the rounds.
     ensures one_history { (script : List OfferValue) → OneHistory (program_of program.now) script }
     // Rounds are steps, and only append to the histories.

@@ -3,6 +3,7 @@ use Rattle.std.specs.Prelude.{ℕ, ◌==◌, Bool, false}
 use Rattle.chp_base.specs.declared.span.Span.{Span}
 use Rattle.width_check.specs.Processes.{Formula, Process, sending, assigning, TypedProgram}
 use Rattle.width_check.specs.Typing.{channel_width, var_width}
+pub use Rattle.function_blocks.specs.Rails.{Rails}
 
 -- the sending end of a channel, and a variable as it is written
 pub data Line : Type 0 where
@@ -22,10 +23,6 @@ site_statement (of_var x) at e = assigning x at e
 abbrev pub line_width : TypedProgram → Line → ℕ
 line_width P (of_channel c) = channel_width P.channels c
 line_width P (of_var x) = var_width P.vars x
-
--- two rails for each bit
-abbrev pub Rails : Type 0
-Rails = (bit : ℕ) → Bool → Bool
 
 -- The width of each line, its acknowledge and its rails; and the rails of the variables' values.
 pub record Seen : Type 0 where

@@ -3,6 +3,7 @@
 ghost use Rattle.circuit_places.specs.Carried.{CircuitsCarry};
 
 use cell_parallel::tree_settles;
+use function_blocks::laws::expressions_hold;
 
 /// Law: the circuit of each covered program that is typed carries it, under every script that fits and in whatever order
 /// the nodes switch. Each state that is reached is safe, the values that have passed there are those of a run of the
@@ -12,4 +13,5 @@ pub fn circuits_carry()
     ensures { CircuitsCarry }
 {
     tree_settles();
+    expressions_hold();
 }

@@ -52,7 +52,7 @@ impl Script {
     }
 
     /// The offers, one for each channel in order.
-    pub(crate) fn offers(&self) -> &[Offer]
+    pub fn offers(&self) -> &[Offer]
         ensures { map offered result.now ≡ self.now }
     {
         &self.offers

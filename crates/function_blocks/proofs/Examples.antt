@@ -43,10 +43,10 @@ is_number n (Some m) = m == n
 abbrev each_valid : List Bool → (bits from : ℕ) → Bool
 each_valid state bits from = is_some (rail_value_of (high state) (rails_of (pairs_from bits from)))
 
-abbrev rules_at : Op → (width : ℕ) → List NodeRules
+abbrev pub rules_at : Op → (width : ℕ) → List NodeRules
 rules_at op w = operator_rules op (pairs_from w 0) (pairs_from w (2 * w)) (4 * w)
 
-abbrev result_at : Op → (width : ℕ) → List Pair
+abbrev pub result_at : Op → (width : ℕ) → List Pair
 result_at op w = operator_result op (pairs_from w 0) (4 * w)
 
 -- on these two numbers one rail of each gate rises, and those of the result give the value
@@ -102,13 +102,13 @@ two_bits_sized = refl
 
 -- Two gates written out by hand: the rows of the table in ascending order, where the first input is the lowest bit.
 
-abbrev hi : ℕ → Literal
+abbrev pub hi : ℕ → Literal
 hi node = record { node = node; high = true }
 
-abbrev lo : ℕ → Literal
+abbrev pub lo : ℕ → Literal
 lo node = record { node = node; high = false }
 
-abbrev turns : (up : GuardValue) → (down : List Literal) → NodeRules
+abbrev pub turns : (up : GuardValue) → (down : List Literal) → NodeRules
 turns up down = record { up = up; down = down ∷ [] }
 
 -- whether a - b borrows; a is at the nodes 0 and 1, b at 2 and 3
@@ -120,8 +120,10 @@ borrow_of_two = refl
 
 -- the majority of three bits at the nodes 0 to 5
 carry_of_three : gate (pairs_from 3 0) carries ≡
-    turns ((hi 0 ∷ hi 2 ∷ hi 5 ∷ []) ∷ (hi 0 ∷ hi 3 ∷ hi 4 ∷ []) ∷ (hi 1 ∷ hi 2 ∷ hi 4 ∷ []) ∷ (hi 0 ∷ hi 2 ∷ hi 4 ∷ []) ∷ []) (lo 0 ∷ lo 1 ∷ lo 2 ∷ lo 3 ∷ lo 4 ∷ lo 5 ∷ [])
-    ∷ turns ((hi 1 ∷ hi 3 ∷ hi 5 ∷ []) ∷ (hi 0 ∷ hi 3 ∷ hi 5 ∷ []) ∷ (hi 1 ∷ hi 2 ∷ hi 5 ∷ []) ∷ (hi 1 ∷ hi 3 ∷ hi 4 ∷ []) ∷ []) (lo 0 ∷ lo 1 ∷ lo 2 ∷ lo 3 ∷ lo 4 ∷ lo 5 ∷ [])
+    turns ((hi 0 ∷ hi 2 ∷ hi 5 ∷ []) ∷ (hi 0 ∷ hi 3 ∷ hi 4 ∷ []) ∷ (hi 1 ∷ hi 2 ∷ hi 4 ∷ []) ∷ (hi 0 ∷ hi 2 ∷ hi 4 ∷ []) ∷ [])
+    (lo 0 ∷ lo 1 ∷ lo 2 ∷ lo 3 ∷ lo 4 ∷ lo 5 ∷ [])
+    ∷ turns ((hi 1 ∷ hi 3 ∷ hi 5 ∷ []) ∷ (hi 0 ∷ hi 3 ∷ hi 5 ∷ []) ∷ (hi 1 ∷ hi 2 ∷ hi 5 ∷ []) ∷ (hi 1 ∷ hi 3 ∷ hi 4 ∷ []) ∷ [])
+    (lo 0 ∷ lo 1 ∷ lo 2 ∷ lo 3 ∷ lo 4 ∷ lo 5 ∷ [])
     ∷ []
 carry_of_three = refl
 

@@ -4,6 +4,7 @@ pub mod Fans
 pub mod Moves
 pub mod Nets
 pub mod Pairs
+pub mod Partly
 pub mod Parts
 pub mod Keeping
 pub mod Sites

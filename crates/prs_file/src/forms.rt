@@ -30,6 +30,7 @@ fn append(to: &mut Vec<u8>, pieces: &[&[u8]]) -> Result<(), AllocError>
     ensures ok { OnOk result (to.new.items ≡ to.old.items ++ flat_map (λ piece. piece.now) pieces.now) }
     ensures err { OnErr result (to.new.items ≡ to.old.items) }
     ensures room { OnErr result (vec_capacity to.old < vec_len to.old + 64) }
+    ensures capacity { vec_capacity to.old ≤ vec_capacity to.new }
 {
     to.reserve(ROOM)?;
     for piece in pieces {
@@ -45,6 +46,7 @@ pub fn head_line(version: u8, to: &mut Vec<u8>) -> Result<(), AllocError>
     ensures ok { OnOk result (to.new.items ≡ to.old.items ++ head_spelling version) }
     ensures err { OnErr result (to.new.items ≡ to.old.items) }
     ensures room { OnErr result (vec_capacity to.old < vec_len to.old + 64) }
+    ensures capacity { vec_capacity to.old ≤ vec_capacity to.new }
 {
     let mut number = Buffer::new();
     append(to, &[b"prs ", number.format(version).as_bytes(), b"\n"])
@@ -56,6 +58,7 @@ pub fn node_line(name: &[u8], first: bool, to: &mut Vec<u8>) -> Result<(), Alloc
     ensures ok { OnOk result (to.new.items ≡ to.old.items ++ node_spelling name.now first) }
     ensures err { OnErr result (to.new.items ≡ to.old.items) }
     ensures room { OnErr result (vec_capacity to.old < vec_len to.old + 64) }
+    ensures capacity { vec_capacity to.old ≤ vec_capacity to.new }
 {
     if first {
         append(to, &[b"node ", name, b" 1\n"])
@@ -72,6 +75,7 @@ pub fn channel_line(channel: &Channel, to: &mut Vec<u8>) -> Result<(), AllocErro
     ensures ok { OnOk result (to.new.items ≡ to.old.items ++ channel_spelling channel.now) }
     ensures err { OnErr result (to.new.items ≡ to.old.items) }
     ensures room { OnErr result (vec_capacity to.old < vec_len to.old + 64) }
+    ensures capacity { vec_capacity to.old ≤ vec_capacity to.new }
 {
     let mut number = Buffer::new();
     let width = number.format(channel.width).as_bytes();
@@ -90,6 +94,7 @@ pub fn literal_text(lead: Lead, high: bool, name: &[u8], to: &mut Vec<u8>) -> Re
     ensures ok { OnOk result (to.new.items ≡ to.old.items ++ literal_behind lead high name.now) }
     ensures err { OnErr result (to.new.items ≡ to.old.items) }
     ensures room { OnErr result (vec_capacity to.old < vec_len to.old + 64) }
+    ensures capacity { vec_capacity to.old ≤ vec_capacity to.new }
 {
     let before: &[u8] = match (lead, high) {
         (Lead::Rule, true) => b"rule ",
@@ -108,6 +113,7 @@ pub fn rule_end(name: &[u8], up: bool, to: &mut Vec<u8>) -> Result<(), AllocErro
     ensures ok { OnOk result (to.new.items ≡ to.old.items ++ end_spelling name.now up) }
     ensures err { OnErr result (to.new.items ≡ to.old.items) }
     ensures room { OnErr result (vec_capacity to.old < vec_len to.old + 64) }
+    ensures capacity { vec_capacity to.old ≤ vec_capacity to.new }
 {
     if up {
         append(to, &[b" -> ", name, b"+\n"])

@@ -1,13 +1,16 @@
--- Which programs without procedures and calls are accepted, and their typed form.
+-- Which programs are accepted, and their typed form. Those with procedures or calls have no typed form yet, so none of them
+-- is accepted.
 use Rattle.std.specs.Prelude.{◌≡◌}
 use Rattle.chp_syntax.specs.Trees.{ProgramTree}
 use Rattle.width_check.specs.Processes.{TypedProgram}
+use Rattle.width_check.specs.Calls.{IsCallFree}
 use Rattle.width_check.specs.Faults.{naming_faults, HasNone}
 use Rattle.width_check.specs.Form.{typed_form}
 use Rattle.width_check.specs.Sharing.{MeetsSharing}
 
--- no name, kind or width is at fault, and the sharing rule holds
+-- there are no procedures and no calls, no name, kind or width is at fault, and the sharing rule holds
 pub record IsAccepted (p : ProgramTree) : Type 0 where
+  pub call_free : IsCallFree p
   pub named : HasNone p naming_faults
   pub sharing : MeetsSharing (typed_form p).body
 

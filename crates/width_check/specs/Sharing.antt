@@ -3,7 +3,7 @@ use Rattle.std.specs.Prelude.{◌≡◌, ℕ, ◌⊎◌, List, [], ◌∷◌, �
 use Rattle.chp_base.specs.declared.span.Span.{Span}
 use Rattle.chp_base.specs.declared.fault.FaultCode.{FaultCode}
 use Rattle.chp_base.specs.declared.fault.FaultCode.TheVariants as code
-use Rattle.width_check.specs.Order.{IsNoLater, IsEarlier}
+use Rattle.width_check.specs.Order.{IsNoLater}
 use Rattle.width_check.specs.Processes.{Formula, constant, reading, joined, inverted, chained, compared, Formulas, no_parts, and_part, Operations, no_operations, and_operation, Process, skipping, assigning, sending, receiving, in_turn, side_by_side, choosing, repeating, Processes, no_members, and_member, Choices, no_choices, and_choice}
 
 -- what a place does: it reads or writes a variable, or sends or receives on a channel
@@ -91,7 +91,7 @@ Clashes code.SharedSend (sends_on x) (sends_on y) = x ≡ y
 Clashes code.SharedReceive (receives_on x) (receives_on y) = x ≡ y
 Clashes _ _ _ = ⊥
 
--- two parallel occurrences that clash, the earlier place first
+-- two parallel occurrences that clash, the first place no later than the second
 pub record SharedAt (body : Process) (c : FaultCode) (first second : Span) : Type 0 where
   pub a : Occurrence
   pub b : Occurrence
@@ -99,7 +99,7 @@ pub record SharedAt (body : Process) (c : FaultCode) (first second : Span) : Typ
   pub clash : Clashes c a.deed b.deed
   pub at_first : first ≡ a.at
   pub at_second : second ≡ b.at
-  pub order : IsEarlier first second
+  pub order : IsNoLater first second
 
 -- nothing of the kind is shared
 abbrev pub IsUnshared : Process → FaultCode → Type 0
@@ -110,6 +110,15 @@ pub record IsFirstShared (body : Process) (c : FaultCode) (first second : Span) 
   pub shared : SharedAt body c first second
   pub least_second : (s t : Span) → SharedAt body c s t → IsNoLater second t
   pub least_first : (s : Span) → SharedAt body c s second → IsNoLater first s
+
+-- the causes in the order in which they are tested
+abbrev pub sharing_faults : List FaultCode
+sharing_faults = code.SharedVariable ∷ code.SharedSend ∷ code.SharedReceive ∷ []
+
+-- the first of the causes for which something is shared, at the pair of it that is reported
+abbrev pub IsFirstSharedFault : Process → List FaultCode → FaultCode → Span → Span → Type 0
+IsFirstSharedFault body [] c first second = ⊥
+IsFirstSharedFault body (d ∷ ds) c first second = ((c ≡ d) × IsFirstShared body d first second) ⊎ (IsUnshared body d × IsFirstSharedFault body ds c first second)
 
 -- the sharing rule
 pub record MeetsSharing (body : Process) : Type 0 where

@@ -13,8 +13,6 @@ mod operate;
 mod resolving;
 mod scope;
 mod survey;
-#[cfg(test)]
-mod tests;
 mod typed;
 mod width;
 

@@ -1,5 +1,5 @@
 use Rattle.std.proofs.lemmas.Result.{on_ok_weaker}
-use Rattle.cell_variable.proofs.Filled.{filled_begin, filled_more, filled_alone, filled_fits, filled_end}
+use Rattle.cell_variable.proofs.Filled.{filled_begin, filled_more, filled_alone, filled_partly, filled_fits, filled_end}
 use Rattle.cell_variable.proofs.variable.emit_variable.Goals as goal
 
 pub loop-place-init : goal.loop-place-init
@@ -28,3 +28,21 @@ returns-clause-made c = on_ok_weaker c.emit_tree.result ((filled_end c.args.widt
 
 pub returns-clause-others : goal.returns-clause-others
 returns-clause-others c = (filled_end c.args.width c.args.from c.args.rules.now _ _ _ c.deref.result.now _ c.loop-place.invariant c.loop-place-test.false c.requires.own c.requires.some c.deref.ensures.value).others c.emit_tree.new.rules c.emit_tree.ensures.others
+
+pub returns-in_err-emit_bit-clause-partly : goal.returns-in_err-emit_bit-clause-partly
+returns-in_err-emit_bit-clause-partly c = filled_partly c.args.width c.args.from c.args.rules.now _ _ _ _ _ c.loop-place.invariant c.loop-place-test.true c.emit_bit.ensures.partly
+
+pub returns-in_err-push-clause-partly : goal.returns-in_err-push-clause-partly
+returns-in_err-push-clause-partly c = filled_partly c.args.width c.args.from c.args.rules.now _ _ _ _ _ c.loop-place.invariant c.loop-place-test.true c.emit_bit.ensures.partly
+
+pub returns-clause-partly : goal.returns-clause-partly
+returns-clause-partly c = (filled_end c.args.width c.args.from c.args.rules.now _ _ _ c.deref.result.now _ c.loop-place.invariant c.loop-place-test.false c.requires.own c.requires.some c.deref.ensures.value).partly c.emit_tree.new.rules c.emit_tree.ensures.partly
+
+pub returns-in_err-emit_bit-clause-keeps : goal.returns-in_err-emit_bit-clause-keeps
+returns-in_err-emit_bit-clause-keeps c = c.variable_keeps.ensures.variable c.args.width c.args.from c.requires.some
+
+pub returns-in_err-push-clause-keeps : goal.returns-in_err-push-clause-keeps
+returns-in_err-push-clause-keeps c = c.variable_keeps.ensures.variable c.args.width c.args.from c.requires.some
+
+pub returns-clause-keeps : goal.returns-clause-keeps
+returns-clause-keeps c = c.variable_keeps.ensures.variable c.args.width c.args.from c.requires.some

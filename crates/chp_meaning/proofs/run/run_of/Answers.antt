@@ -5,7 +5,7 @@ use Rattle.chp_meaning.specs.Rounds.{rounds_from}
 use Rattle.chp_meaning.specs.Standing.{configuration_of}
 use Rattle.chp_meaning.specs.Ends.{IsEnd}
 use Rattle.chp_meaning.proofs.NextRound.{passing, planned_of, plan_within, within_after, settled_after, settled_stands, settled_held, unchanged_after}
-use Rattle.chp_meaning.proofs.RoundAnswers.{stopped, rested, overfull, ended, after_round, nothing_in}
+use Rattle.chp_meaning.proofs.RoundAnswers.{stopped, still_few, rested, overfull, ended, after_round, nothing_in}
 use Rattle.chp_meaning.proofs.run.run_of.Goals as goal
 
 pub returns-in_err-left-clause-err : goal.returns-in_err-left-clause-err
@@ -64,3 +64,13 @@ returns-clause-end c = λ fits.
     (record { standing = c.loop-made.invariant.standing; so_far = c.loop-made.invariant.so_far fits ∙ ap (rounds_from old) all; unchanged = c.in_ok-moves.ensures.unchanged })
     c.in_ok-moves.ensures.plan (omega (arith, c.loop-made.invariant.count, c.loop-made.invariant.most)) c.deref-2.result.now c.deref-2.ensures.value in
     subst (λ (x : RunEnd). IsEnd c.args.n c.args.most old (configuration_of p c.planned-2.new.config) x) (sym c.end_by.ensures) end
+
+pub returns-in_err-left-clause-few : goal.returns-in_err-left-clause-few
+returns-in_err-left-clause-few c = still_few _ c.loop-made.count c.args.most c.loop-made.config _ c.in_err-left.ensures.unchanged c.loop-made.invariant.count c.loop-made.invariant.most
+
+pub returns-in_err-settled-clause-few : goal.returns-in_err-settled-clause-few
+returns-in_err-settled-clause-few c =
+    still_few _ c.loop-made.count c.args.most c.loop-made.config _ (unchanged_after _ _ _ c.in_ok-left.ensures.unchanged c.in_err-settled.ensures.err) c.loop-made.invariant.count c.loop-made.invariant.most
+
+pub returns-in_err-moves-clause-few : goal.returns-in_err-moves-clause-few
+returns-in_err-moves-clause-few c = still_few _ c.loop-made.count c.args.most c.loop-made.config _ c.in_err-moves.ensures.unchanged c.loop-made.invariant.count c.loop-made.invariant.most

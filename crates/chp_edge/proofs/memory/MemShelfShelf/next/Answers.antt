@@ -1,4 +1,4 @@
-use Rattle.std.proofs.Common.{◌≡◌, take, ap, ◌∙◌}
+use Rattle.std.proofs.Common.{take, ap, ◌∙◌}
 use Rattle.chp_edge.proofs.Left.{left_on}
 use Rattle.chp_edge.proofs.memory.MemShelfShelf.next.Goals as goal
 

@@ -1,0 +1,19 @@
+use Rattle.chp_cli.proofs.main_call.answer.Goals as goal
+
+pub returns-in-Compile-clause-answered : goal.returns-in-Compile-clause-answered
+returns-in-Compile-clause-answered g c = rw c.in-Compile.is c.compile.ensures.answered
+
+pub returns-in-Compile-clause-stopped : goal.returns-in-Compile-clause-stopped
+returns-in-Compile-clause-stopped g c = rw c.in-Compile.is c.compile.ensures.stopped
+
+pub returns-in-Migrate-clause-answered : goal.returns-in-Migrate-clause-answered
+returns-in-Migrate-clause-answered g c = rw c.in-Migrate.is c.migrate.ensures.answered
+
+pub returns-in-Migrate-clause-stopped : goal.returns-in-Migrate-clause-stopped
+returns-in-Migrate-clause-stopped g c = rw c.in-Migrate.is c.migrate.ensures.stopped
+
+pub returns-in-Check-clause-answered : goal.returns-in-Check-clause-answered
+returns-in-Check-clause-answered g c = rw c.in-Check.is c.check.ensures.answered
+
+pub returns-in-Check-clause-stopped : goal.returns-in-Check-clause-stopped
+returns-in-Check-clause-stopped g c = rw c.in-Check.is c.check.ensures.stopped

@@ -1,0 +1,94 @@
+-- The lines that are said.
+use Rattle.std.specs.Prelude.{ℕ, Bool, true, false, List, [], ◌∷◌, ◌++◌, codes, decimal, if◌then◌else◌}
+use Rattle.std.specs.List.{concat}
+use Rattle.chp_base.specs.declared.span.Span.{Span}
+use Rattle.chp_base.specs.declared.fault.Fault.{Fault}
+use Rattle.chp_base.specs.declared.fault.FaultCode.{FaultCode}
+use Rattle.chp_base.specs.declared.fault.FaultCode.TheVariants as code
+use Rattle.chp_base.specs.Faults.{number_of}
+use Rattle.prs_file.specs.declared.fault.NetFault.{NetFault}
+use Rattle.prs_file.specs.declared.fault.NetFault.TheVariants as net
+use Rattle.prs_file.specs.Faults.{number_of as net_number}
+
+-- ---- of the call
+
+abbrev pub usage_line : List ℕ
+usage_line = codes "chp: 2 usage\n"
+
+-- a file couldn't be read
+abbrev pub read_line : (name : List ℕ) → List ℕ
+read_line name = concat (codes "chp: 3 read " ∷ name ∷ codes "\n" ∷ [])
+
+abbrev pub write_line : List ℕ
+write_line = codes "chp: 4 write\n"
+
+abbrev pub no_memory_line : List ℕ
+no_memory_line = codes "chp: 6 no memory\n"
+
+-- ---- of a refused program
+
+abbrev pub fault_name : FaultCode → List ℕ
+fault_name code.BadToken = codes "BadToken"
+fault_name code.Syntax = codes "Syntax"
+fault_name code.TooDeep = codes "TooDeep"
+fault_name code.Probe = codes "Probe"
+fault_name code.Arbiter = codes "Arbiter"
+fault_name code.TooManyGuards = codes "TooManyGuards"
+fault_name code.DoubleName = codes "DoubleName"
+fault_name code.Undeclared = codes "Undeclared"
+fault_name code.WrongKind = codes "WrongKind"
+fault_name code.Direction = codes "Direction"
+fault_name code.Width = codes "Width"
+fault_name code.ConstantTooWide = codes "ConstantTooWide"
+fault_name code.UnknownWidth = codes "UnknownWidth"
+fault_name code.BadSlice = codes "BadSlice"
+fault_name code.WidthRange = codes "WidthRange"
+fault_name code.SharedVariable = codes "SharedVariable"
+fault_name code.SharedSend = codes "SharedSend"
+fault_name code.SharedReceive = codes "SharedReceive"
+fault_name code.SharedProcedure = codes "SharedProcedure"
+fault_name code.DoubleProcedure = codes "DoubleProcedure"
+fault_name code.UnknownProcedure = codes "UnknownProcedure"
+fault_name code.UnusedProcedure = codes "UnusedProcedure"
+fault_name code.NestedCall = codes "NestedCall"
+
+-- the causes with two places
+abbrev pub has_two_places : FaultCode → Bool
+has_two_places code.SharedVariable = true
+has_two_places code.SharedSend = true
+has_two_places code.SharedReceive = true
+has_two_places code.SharedProcedure = true
+has_two_places _ = false
+
+abbrev pub span_text : Span → List ℕ
+span_text s = concat (decimal s.from ∷ codes ".." ∷ decimal s.to ∷ [])
+
+abbrev pub refused_line : Fault → List ℕ
+refused_line f = concat (
+    codes "chp: " ∷ decimal (number_of f.code) ∷ codes " " ∷ fault_name f.code ∷ codes " at " ∷ span_text f.at
+    ∷ (if has_two_places f.code then codes " and " ++ span_text f.other else []) ∷ codes "\n" ∷ [])
+
+-- the program is read, and the command doesn't serve it yet
+abbrev pub not_built_line : List ℕ
+not_built_line = codes "chp: 19 not built\n"
+
+-- ---- of a file that is too long, and of a refused rule file
+
+abbrev pub too_long_line : (name : List ℕ) → (most : ℕ) → List ℕ
+too_long_line name most = concat (codes "chp: 7 bytes " ∷ name ∷ codes " over " ∷ decimal most ∷ codes "\n" ∷ [])
+
+abbrev pub net_fault_name : NetFault → List ℕ
+net_fault_name net.BadLine = codes "BadLine"
+net_fault_name net.UnknownNode = codes "UnknownNode"
+net_fault_name net.DoubleRule = codes "DoubleRule"
+net_fault_name net.DrivenWire = codes "DrivenWire"
+net_fault_name net.TooMany = codes "TooMany"
+net_fault_name net.BadVersion = codes "BadVersion"
+net_fault_name net.OutOfOrder = codes "OutOfOrder"
+net_fault_name net.DoubleName = codes "DoubleName"
+net_fault_name net.BadFirst = codes "BadFirst"
+
+abbrev pub bad_net_line : NetFault → (line : ℕ) → List ℕ
+bad_net_line fault line = concat (
+    codes "chp: 8 " ∷ decimal (net_number fault) ∷ codes " " ∷ net_fault_name fault ∷ codes " at line " ∷ decimal line
+    ∷ codes "\n" ∷ [])

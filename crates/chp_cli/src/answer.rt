@@ -1,0 +1,104 @@
+//! What a command answers, and how a call ends with it.
+
+ghost use Rattle.std.specs.Prelude.{◌≡◌};
+ghost use Rattle.chp_cli.specs.Answers.{status_with};
+ghost use Rattle.chp_cli.specs.Replies.{refusal_status, stop_status, end_status};
+
+use crate::status::Status;
+use chp_base::Fault;
+use prs_file::NetFault;
+
+/// How a command ends whose whole output was written.
+#[derive(Clone, Copy, Debug)]
+pub enum Ending {
+    Done,
+}
+
+impl Ending {
+    pub fn status(&self) -> Status
+        ensures { result ≡ status_with self.now }
+    {
+        match self {
+            Ending::Done => Status::Done,
+        }
+    }
+}
+
+/// What a command is to write, and how it ends then.
+#[derive(Debug, Drop)]
+pub struct Output {
+    pub text: Vec<u8>,
+    pub end: Ending,
+}
+
+/// Why a command refuses, with what is told of it.
+#[derive(Clone, Copy, Debug)]
+pub enum Refusal<'a> {
+    /// A program text is refused.
+    Text(Fault),
+    /// The file of this name has more bytes than this limit.
+    TooLong { name: &'a str, limit: usize },
+    /// A rule file is refused at this line.
+    BadNet { fault: NetFault, line: u32 },
+    /// The program is read, and the command doesn't serve it yet.
+    NotBuilt,
+}
+
+impl Refusal<'_> {
+    pub fn status(&self) -> Status
+        ensures { result ≡ refusal_status self.now }
+    {
+        match self {
+            Refusal::Text(_) => Status::RefusedText,
+            Refusal::TooLong { .. } => Status::TooLarge,
+            Refusal::BadNet { .. } => Status::BadFile,
+            Refusal::NotBuilt => Status::NotBuilt,
+        }
+    }
+}
+
+/// Why a command writes nothing.
+#[derive(Clone, Copy, Debug)]
+pub enum Stop<'a> {
+    Refused(Refusal<'a>),
+    /// The file of this name couldn't be read.
+    Unread(&'a str),
+    NoMemory,
+}
+
+impl Stop<'_> {
+    pub fn status(&self) -> Status
+        ensures { result ≡ stop_status self.now }
+    {
+        match self {
+            Stop::Refused(refusal) => refusal.status(),
+            Stop::Unread(_) => Status::Read,
+            Stop::NoMemory => Status::NoMemory,
+        }
+    }
+}
+
+/// How a call ends.
+#[derive(Clone, Copy, Debug)]
+pub enum End<'a> {
+    /// The whole output was written.
+    Whole(Ending),
+    /// Only a front of the output could be written.
+    CutOff,
+    /// The words are no command.
+    Usage,
+    Stopped(Stop<'a>),
+}
+
+impl End<'_> {
+    pub fn status(&self) -> Status
+        ensures { result ≡ end_status self.now }
+    {
+        match self {
+            End::Whole(ending) => ending.status(),
+            End::CutOff => Status::Write,
+            End::Usage => Status::Usage,
+            End::Stopped(stop) => stop.status(),
+        }
+    }
+}

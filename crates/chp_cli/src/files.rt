@@ -1,0 +1,72 @@
+//! Steps of which commands are made: from a file to its text, and from there to what it says.
+
+ghost use Rattle.std.specs.Prelude.{◌≡◌, ◌-◌, ◌<◌, ◌≤◌, ◌^◌, ◌∷◌, [], length, IfOk, IfErr};
+ghost use Rattle.chp_syntax.specs.View.{program_of};
+ghost use Rattle.chp_cli.specs.Answers.{Gives, given_by};
+ghost use Rattle.chp_cli.specs.Replies.{Halts, Stops};
+ghost use Rattle.chp_cli.specs.Steps.{FromFile, FromNet, FromProgram, IsFileOf, IsTextOf, Never, most_of_net, most_of_text};
+
+use crate::answer::{Refusal, Stop};
+use chp_base::TextError;
+use chp_edge::{ReadEnd, Shelf, read_all};
+use chp_syntax::{Program, parse};
+use prs_core::Net;
+use prs_file::{NetReadError, read_net};
+use std::alloc::Global;
+
+/// The most bytes of a program text.
+pub const MOST_OF_TEXT: usize = 262_144;
+
+/// The most bytes of a rule file.
+pub const MOST_OF_NET: usize = 268_435_456;
+
+/// The text of the file of this name, which has at most so many bytes.
+pub fn text_of_file<'a, S: Shelf>(
+    alloc: Global,
+    shelf: &mut S,
+    name: &'a str,
+    most: usize,
+) -> Result<Vec<u8>, Stop<'a>>
+    requires { most < 2 ^ 64 - 1 }
+    ensures read { IfOk result (λ text. Gives (given_by (S.tells shelf.old) (S.holds shelf.old)) name.entry.now text.items) }
+    ensures short { IfOk result (λ text. length text.items ≤ most) }
+    ensures stopped { IfErr result (Stops (FromFile (given_by (S.tells shelf.old) (S.holds shelf.old)) name.entry.now most Never) (name.entry.now ∷ []) (given_by (S.tells shelf.old) (S.holds shelf.old)) (S.faults shelf.old) (S.faults shelf.new)) }
+    ensures same { S.tells shelf.new ≡ S.tells shelf.old }
+    ensures kept { S.holds shelf.new ≡ S.holds shelf.old }
+    ensures faults { S.faults shelf.old ≤ S.faults shelf.new }
+{
+    match read_all(alloc, shelf, name, most) {
+        Ok(text) => Ok(text),
+        Err(ReadEnd::Failed) => Err(Stop::Unread(name)),
+        Err(ReadEnd::TooLong) => Err(Stop::Refused(Refusal::TooLong { name, limit: most })),
+        Err(ReadEnd::NoMemory) => Err(Stop::NoMemory),
+    }
+}
+
+/// The program that the text reads as.
+pub fn program_of_text<'a>(alloc: Global, text: &[u8]) -> Result<Program, Stop<'a>>
+    requires { length text.now ≤ most_of_text }
+    ensures read { IfOk result (λ program. IsTextOf text.now (program_of program)) }
+    ensures stopped { IfErr result (Halts (FromProgram text.now Never)) }
+{
+    match parse(alloc, text) {
+        Ok(program) => Ok(program),
+        Err(TextError::Refused(fault)) => Err(Stop::Refused(Refusal::Text(fault))),
+        Err(TextError::NoMemory(_)) => Err(Stop::NoMemory),
+    }
+}
+
+/// The net of which the text is the rule file.
+pub fn net_of_text<'a>(alloc: Global, text: &[u8]) -> Result<Net, Stop<'a>>
+    requires { length text.now ≤ most_of_net }
+    ensures read { IfOk result (λ net. IsFileOf text.now net) }
+    ensures stopped { IfErr result (Halts (FromNet text.now Never)) }
+{
+    match read_net(alloc, text) {
+        Ok(net) => Ok(net),
+        Err(NetReadError::Refused { fault, line }) => {
+            Err(Stop::Refused(Refusal::BadNet { fault, line }))
+        }
+        Err(NetReadError::NoMemory(_)) => Err(Stop::NoMemory),
+    }
+}

@@ -1,0 +1,26 @@
+//! Laws of what commands answer.
+
+ghost use Rattle.std.specs.Prelude.{◌≡◌, ℕ, List, true};
+ghost use Rattle.chp_cli.specs.declared.status.Status.TheVariants.{Done};
+ghost use Rattle.chp_cli.specs.Answers.{Answer, Given, OneAnswer, status_of};
+ghost use Rattle.chp_cli.specs.Compiling.{Compiles, IsToCompile};
+ghost use Rattle.chp_cli.specs.Migrating.{Migrates, IsToMigrate};
+ghost use Rattle.chp_cli.specs.Commands.{Asked, IsAnswer};
+
+/// Law: to the same files, where the shelf tells them, a command has at most one answer.
+pub fn one_answer()
+    ensures { (command : Asked) (given : Given) → given.tells ≡ true → OneAnswer (IsAnswer command given) }
+{
+    chp_syntax::laws::one_fault();
+    prs_file::one_refusal();
+}
+
+/// Law: the only answer of `compile` to a file that holds what is to be compiled is to write.
+pub fn compiles_all()
+    ensures { (given : Given) (file : List ℕ) → given.tells ≡ true → IsToCompile given file → (answer : Answer) → Compiles given file answer → status_of answer ≡ Done }
+{}
+
+/// Law: the only answer of `migrate` to a file that holds what is to be migrated is to write.
+pub fn migrates_all()
+    ensures { (given : Given) (file : List ℕ) → given.tells ≡ true → IsToMigrate given file → (answer : Answer) → Migrates given file answer → status_of answer ≡ Done }
+{}

@@ -1,0 +1,221 @@
+//! What statements do that one cause of refusal speaks of, collected from the parts upwards.
+
+ghost use Rattle.std.specs.Prelude.{◌≡◌, [], ◌∷◌, IfOk, OnOk};
+ghost use Rattle.chp_base.specs.declared.fault.FaultCode.{FaultCode};
+ghost use Rattle.width_check.specs.Processes.{skipping, assigning, sending, receiving};
+ghost use Rattle.width_check.specs.Sharing.{reads_var, writes_var, sends_on, receives_on, done_at, reads_of, SharedAt};
+ghost use Rattle.width_check.specs.View.{formula_of, process_of};
+ghost use Rattle.sharing_check.specs.Leasts.{IsLeast, IsNoLaterPair};
+ghost use Rattle.sharing_check.specs.Tells.{Tells, Adds, Crosses, Merges};
+
+use crate::clash::{Clash, sooner};
+use crate::table::{Table, first_meeting, joined, note};
+use chp_base::{FaultCode, Span};
+use std::alloc::{AllocError, Global};
+use std::collections::HashMap;
+use width_check::{TExpr, TStmt};
+
+/// Of each variable or channel the first place of the deeds that clash with one another, which are writes, sends or
+/// receives, and of those that clash with these alone, which are reads; and the pair of places that is reported.
+#[derive(Debug, Drop)]
+struct Deeds {
+    exclusive: Table,
+    common: Table,
+    clash: Option<Clash>,
+}
+
+fn no_deeds(alloc: Global) -> Deeds
+    ensures { (cause : FaultCode) → Tells cause skipping result }
+{
+    Deeds {
+        exclusive: HashMap::new(alloc),
+        common: HashMap::new(alloc),
+        clash: None,
+    }
+}
+
+fn note_write(deeds: &mut Deeds, cause: FaultCode, var: u32, at: Span) -> Result<(), AllocError>
+    ensures { OnOk result (Adds cause (done_at (writes_var var) at ∷ []) deeds.old deeds.new) }
+{
+    match cause {
+        FaultCode::SharedVariable => note(&mut deeds.exclusive, var, at),
+        _ => Ok(()),
+    }
+}
+
+fn note_read(deeds: &mut Deeds, cause: FaultCode, var: u32, at: Span) -> Result<(), AllocError>
+    ensures { OnOk result (Adds cause (done_at (reads_var var) at ∷ []) deeds.old deeds.new) }
+{
+    match cause {
+        FaultCode::SharedVariable => note(&mut deeds.common, var, at),
+        _ => Ok(()),
+    }
+}
+
+fn note_send(deeds: &mut Deeds, cause: FaultCode, chan: u32, at: Span) -> Result<(), AllocError>
+    ensures { OnOk result (Adds cause (done_at (sends_on chan) at ∷ []) deeds.old deeds.new) }
+{
+    match cause {
+        FaultCode::SharedSend => note(&mut deeds.exclusive, chan, at),
+        _ => Ok(()),
+    }
+}
+
+fn note_receive(deeds: &mut Deeds, cause: FaultCode, chan: u32, at: Span) -> Result<(), AllocError>
+    ensures { OnOk result (Adds cause (done_at (receives_on chan) at ∷ []) deeds.old deeds.new) }
+{
+    match cause {
+        FaultCode::SharedReceive => note(&mut deeds.exclusive, chan, at),
+        _ => Ok(()),
+    }
+}
+
+fn note_reads(deeds: &mut Deeds, cause: FaultCode, e: &TExpr) -> Result<(), AllocError>
+    ensures { OnOk result (Adds cause (reads_of (formula_of e.now)) deeds.old deeds.new) }
+{
+    match e {
+        TExpr::Number { .. } => Ok(()),
+        TExpr::Read { var, at, .. } => note_read(deeds, cause, *var, *at),
+        TExpr::Join { parts } => {
+            for part in parts {
+                note_reads(deeds, cause, part)?;
+            }
+            Ok(())
+        }
+        TExpr::Not { inner } => note_reads(deeds, cause, inner),
+        TExpr::Chain { first, rest } => {
+            note_reads(deeds, cause, first)?;
+            for link in rest {
+                note_reads(deeds, cause, &link.right)?;
+            }
+            Ok(())
+        }
+        TExpr::Compare { left, right, .. } => {
+            note_reads(deeds, cause, left)?;
+            note_reads(deeds, cause, right)
+        }
+    }
+}
+
+fn assigned(
+    alloc: Global,
+    cause: FaultCode,
+    var: u32,
+    at: Span,
+    value: &TExpr,
+) -> Result<Deeds, AllocError>
+    ensures { IfOk result (Tells cause (assigning var at (formula_of value.now))) }
+{
+    let mut deeds = no_deeds(alloc);
+    note_write(&mut deeds, cause, var, at)?;
+    note_reads(&mut deeds, cause, value)?;
+    Ok(deeds)
+}
+
+fn sent(
+    alloc: Global,
+    cause: FaultCode,
+    chan: u32,
+    at: Span,
+    value: &TExpr,
+) -> Result<Deeds, AllocError>
+    ensures { IfOk result (Tells cause (sending chan at (formula_of value.now))) }
+{
+    let mut deeds = no_deeds(alloc);
+    note_send(&mut deeds, cause, chan, at)?;
+    note_reads(&mut deeds, cause, value)?;
+    Ok(deeds)
+}
+
+fn received(
+    alloc: Global,
+    cause: FaultCode,
+    chan: u32,
+    chan_at: Span,
+    var: u32,
+    var_at: Span,
+) -> Result<Deeds, AllocError>
+    ensures { IfOk result (Tells cause (receiving chan chan_at var var_at)) }
+{
+    let mut deeds = no_deeds(alloc);
+    note_receive(&mut deeds, cause, chan, chan_at)?;
+    note_write(&mut deeds, cause, var, var_at)?;
+    Ok(deeds)
+}
+
+fn first_crossing(one: &Deeds, other: &Deeds) -> Option<Clash>
+    ensures { IsLeast IsNoLaterPair (Crosses one.now other.now) result }
+{
+    let exclusive = first_meeting(&one.exclusive, &other.exclusive);
+    let left = first_meeting(&one.exclusive, &other.common);
+    let right = first_meeting(&one.common, &other.exclusive);
+    sooner(exclusive, sooner(left, right))
+}
+
+fn merged(one: Deeds, other: Deeds, across: Option<Clash>) -> Result<Deeds, AllocError>
+    ensures { IfOk result (Merges one other across) }
+{
+    let exclusive = joined(one.exclusive, other.exclusive)?;
+    let common = joined(one.common, other.common)?;
+    let clash = sooner(sooner(one.clash, other.clash), across);
+    Ok(Deeds {
+        exclusive,
+        common,
+        clash,
+    })
+}
+
+fn deeds_of(alloc: Global, cause: FaultCode, s: &TStmt) -> Result<Deeds, AllocError>
+    ensures { IfOk result (Tells cause (process_of s.now)) }
+{
+    match s {
+        TStmt::Skip => Ok(no_deeds(alloc)),
+        TStmt::Assign { var, at, value } => assigned(alloc, cause, *var, *at, value),
+        TStmt::Send { chan, at, value } => sent(alloc, cause, *chan, *at, value),
+        TStmt::Receive {
+            chan,
+            chan_at,
+            var,
+            var_at,
+        } => received(alloc, cause, *chan, *chan_at, *var, *var_at),
+        TStmt::Then { parts } => {
+            let mut all = no_deeds(alloc);
+            for part in parts {
+                let own = deeds_of(alloc, cause, part)?;
+                all = merged(all, own, None)?;
+            }
+            Ok(all)
+        }
+        TStmt::Beside { parts } => {
+            let mut all = no_deeds(alloc);
+            for branch in parts {
+                let own = deeds_of(alloc, cause, branch)?;
+                let across = first_crossing(&all, &own);
+                all = merged(all, own, across)?;
+            }
+            Ok(all)
+        }
+        TStmt::Select { arms, .. } => {
+            let mut all = no_deeds(alloc);
+            for arm in arms {
+                let mut own = deeds_of(alloc, cause, &arm.body)?;
+                note_reads(&mut own, cause, &arm.guard)?;
+                all = merged(all, own, None)?;
+            }
+            Ok(all)
+        }
+        TStmt::Repeat { body } => deeds_of(alloc, cause, body),
+    }
+}
+
+/// The pair of places that is reported for the cause, or None where nothing of the kind is shared.
+pub(crate) fn first_clash(
+    alloc: Global,
+    cause: FaultCode,
+    s: &TStmt,
+) -> Result<Option<Clash>, AllocError>
+    ensures { IfOk result (IsLeast IsNoLaterPair (λ c. SharedAt (process_of s.now) cause c.first c.second)) }
+{
+    let deeds = deeds_of(alloc, cause, s)?;
+    Ok(deeds.clash)
+}
