@@ -240,9 +240,10 @@ pairs_apart (n ∷ ns) apart =
 
 inserted : (xs ys : List (List ℕ)) (n : List ℕ) → AreApart (xs ++ ys) → ¬ Contains (xs ++ ys) n → AreApart (xs ++ n ∷ ys)
 inserted [] ys n apart none = (none, apart)
-inserted (x ∷ xs) ys n apart none =
-    (λ c. ⊎_elim (λ l. apart.0 (Contains-append_left xs ys x l)) (λ r. ⊎_elim (λ (e : n ≡ x). none (0, omega arith, sym e)) (λ k. apart.0 (Contains-append_right xs ys x k)) (front_or_rest n x ys r)) (Contains-append_cases xs (n ∷ ys) x c),
-      inserted xs ys n apart.1 (λ c. none (in_rest x n (xs ++ ys) c)))
+inserted (x ∷ xs) ys n apart none = (
+  λ c. ⊎_elim (λ l. apart.0 (Contains-append_left xs ys x l)) (λ r. ⊎_elim (λ (e : n ≡ x). none (0, omega arith, sym e)) (λ k. apart.0 (Contains-append_right xs ys x k)) (front_or_rest n x ys r)) (Contains-append_cases xs (n ∷ ys) x c),
+  inserted xs ys n apart.1 (λ c. none (in_rest x n (xs ++ ys) c)),
+)
 
 abbrev all_names : List Decl → List (List ℕ)
 all_names ds = names_of (channels_of ds) (vars_of ds)
