@@ -1,6 +1,7 @@
 //! Programs whose names and widths are checked.
 #![tactic(auto)]
 
+mod call_free;
 mod causes;
 mod declared;
 mod evaluate;
@@ -16,6 +17,7 @@ mod survey;
 mod typed;
 mod width;
 
+pub use call_free::is_call_free;
 pub use evaluate::value;
 pub use operate::operated;
 pub use resolving::resolve;

@@ -1,9 +1,5 @@
 use Rattle.width_check.specs.Faults.{naming_faults}
 use Rattle.width_check.proofs.OneCause.{one_cause, no_cause}
-use Rattle.width_check.proofs.Judging.{judged, unjudged}
-use Rattle.width_check.proofs.TypedForm.{program_typed}
-use Rattle.width_check.proofs.Doubles.{double_least}
-use Rattle.width_check.proofs.Reasons.{widthless_least}
 use Rattle.width_check.proofs.laws.one_fault.Goals as goal
 
 pub returns-clause-cause : goal.returns-clause-cause
