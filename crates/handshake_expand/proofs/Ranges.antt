@@ -210,7 +210,7 @@ module _ (p : TypedProgram) (sites : List SiteNode) where
       let next : 2 + (w + wires_size c.width) ≡ channel_from p k + wires_size c.width = omega (arith, first) in
       let end_same : 2 + (w + wires_before (c ∷ cs) (length (c ∷ cs))) ≡ 2 + (w + wires_size c.width + wires_before cs (length cs)) = omega arith in
       let tail : Follow (2 + (w + wires_size c.width)) (map block_range (blocks_from (channel_block p sites) (suc k) cs) ++ rest) end =
-          channels_follow cs (suc k) (w + wires_size c.width) end rest (λ m. let place : suc k + m ≡ k + suc m = omega arith in omega (arith, before (suc m), ap (wires_before p.channels) place)) (subst (λ n. Follow n rest end) end_same h) in
+      channels_follow cs (suc k) (w + wires_size c.width) end rest (λ m. let place : suc k + m ≡ k + suc m = omega arith in omega (arith, before (suc m), ap (wires_before p.channels) place)) (subst (λ n. Follow n rest end) end_same h) in
       (first, subst (λ n. Follow n (map block_range (blocks_from (channel_block p sites) (suc k) cs) ++ rest) end) next tail)
 
   vars_follow : (vs : List Var) (k w end : ℕ) (rest : List Range) → ((m : ℕ) → blocks_before p.vars (k + m) ≡ w + blocks_before vs m) → Follow (vars_from p + (w + blocks_before vs (length vs))) rest end
@@ -221,7 +221,7 @@ module _ (p : TypedProgram) (sites : List SiteNode) where
       let next : vars_from p + (w + block_size v.width) ≡ var_from p k + block_size v.width = omega (arith, first) in
       let end_same : vars_from p + (w + blocks_before (v ∷ vs) (length (v ∷ vs))) ≡ vars_from p + (w + block_size v.width + blocks_before vs (length vs)) = omega arith in
       let tail : Follow (vars_from p + (w + block_size v.width)) (map block_range (blocks_from (var_block p sites) (suc k) vs) ++ rest) end =
-          vars_follow vs (suc k) (w + block_size v.width) end rest (λ m. let place : suc k + m ≡ k + suc m = omega arith in omega (arith, before (suc m), ap (blocks_before p.vars) place)) (subst (λ n. Follow n rest end) end_same h) in
+      vars_follow vs (suc k) (w + block_size v.width) end rest (λ m. let place : suc k + m ≡ k + suc m = omega arith in omega (arith, before (suc m), ap (blocks_before p.vars) place)) (subst (λ n. Follow n rest end) end_same h) in
       (first, subst (λ n. Follow n (map block_range (blocks_from (var_block p sites) (suc k) vs) ++ rest) end) next tail)
 
 pub blocks_follow : (p : TypedProgram) → Follow 2 (outer_ranges (expansion p)) (nodes_of p)
@@ -230,11 +230,11 @@ blocks_follow p =
     let zero_more : (m : ℕ) → 0 + m ≡ m = λ m. omega arith in
     let root : Follow (root_request p) (range (root_request p) (2 + size_of p p.body) ∷ []) (nodes_of p) = (refl, omega arith) in
     let vars : Follow (vars_from p + 0) (map block_range (var_blocks p sites) ++ range (root_request p) (2 + size_of p p.body) ∷ []) (nodes_of p) =
-        vars_follow p sites p.vars 0 0 (nodes_of p) (range (root_request p) (2 + size_of p p.body) ∷ []) (λ m. ap (blocks_before p.vars) (zero_more m) ∙ sym (zero_more (blocks_before p.vars m)))
-          (subst (λ n. Follow n (range (root_request p) (2 + size_of p p.body) ∷ []) (nodes_of p)) (omega arith) root) in
+    vars_follow p sites p.vars 0 0 (nodes_of p) (range (root_request p) (2 + size_of p p.body) ∷ []) (λ m. ap (blocks_before p.vars) (zero_more m) ∙ sym (zero_more (blocks_before p.vars m)))
+    (subst (λ n. Follow n (range (root_request p) (2 + size_of p p.body) ∷ []) (nodes_of p)) (omega arith) root) in
     channels_follow p sites p.channels 0 0 (nodes_of p) (map block_range (var_blocks p sites) ++ range (root_request p) (2 + size_of p p.body) ∷ [])
-      (λ m. ap (wires_before p.channels) (zero_more m) ∙ sym (zero_more (wires_before p.channels m)))
-      (subst (λ n. Follow n (map block_range (var_blocks p sites) ++ range (root_request p) (2 + size_of p p.body) ∷ []) (nodes_of p)) (omega arith) vars)
+    (λ m. ap (wires_before p.channels) (zero_more m) ∙ sym (zero_more (wires_before p.channels m)))
+    (subst (λ n. Follow n (map block_range (var_blocks p sites) ++ range (root_request p) (2 + size_of p p.body) ∷ []) (nodes_of p)) (omega arith) vars)
 
 -- so no node is in two of them, and each from the first on is in one
 follow_behind : (from end : ℕ) (rs : List Range) (r : Range) → Follow from rs end → r.from + r.count ≤ from → All (LiesBefore r) rs

@@ -1,4 +1,4 @@
-use Rattle.std.proofs.Common.{◌≡◌, ◌+◌, ◌-◌, suc, ◌++◌, length, take, ap, sym, ◌∙◌, subst, rules, arith, length-append}
+use Rattle.std.proofs.Common.{◌≡◌, ◌-◌, suc, ◌++◌, length, take, ap, sym, ◌∙◌, subst, rules, arith, length-append}
 use Rattle.std.specs.Prelude.{codes}
 use Rattle.std.proofs.lemmas.List.{get_or_read, take-append-le, take_all}
 use Rattle.width_check.specs.Typed.{program_of}

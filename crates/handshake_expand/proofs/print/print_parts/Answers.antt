@@ -1,10 +1,8 @@
-use Rattle.std.proofs.Common.{◌≡◌, ◌++◌, [], length, map, ap, sym, ◌∙◌, subst}
+use Rattle.std.proofs.Common.{length, ap, sym, ◌∙◌, subst}
 use Rattle.width_check.specs.Typed.{program_of}
-use Rattle.handshake_expand.specs.declared.parts.Part.{out-Part}
-use Rattle.handshake_expand.specs.Expansions.{Expansion, block_value, channel_block, var_block, expansion_of}
+use Rattle.handshake_expand.specs.Expansions.{Expansion, channel_block, var_block}
 use Rattle.handshake_expand.specs.Layout.{nodes_of}
-use Rattle.handshake_expand.specs.PartText.{HasNodesBelow, channel_lines, var_lines, part_lines}
-use Rattle.handshake_expand.specs.PartTree.{tree_of}
+use Rattle.handshake_expand.specs.PartText.{HasNodesBelow}
 use Rattle.handshake_expand.specs.Sites.{in_body, own_sites}
 use Rattle.handshake_expand.proofs.Placing.{values_count}
 use Rattle.handshake_expand.proofs.Ranges.{root_below}
