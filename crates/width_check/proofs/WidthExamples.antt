@@ -132,14 +132,14 @@ a_typed_program = record {
   channels = record { name = l; kind = kind.In; width = 8 } ∷ record { name = r; kind = kind.Out; width = 4 } ∷ [];
   vars = record { name = x; width = 8; first = 5 } ∷ record { name = y; width = 3; first = 0 } ∷ record { name = z; width = 8; first = 0 } ∷ record { name = g; width = 1; first = 0 } ∷ [];
   body =
-    in_turn
-    (and_member (receiving 0 (span 6 7) 0 (span 8 9))
-    (and_member
-    (choosing false
-    (and_choice (compared Eq (reading 0 7 0 (span 12 13)) (constant 8 7)) (sending 1 (span 21 22) (joined (and_part (reading 3 0 0 (span 24 25)) (and_part (reading 1 2 0 (span 27 28)) no_parts))))
-    (and_choice (inverted (compared Eq (reading 0 3 1 (span 34 35)) (reading 1 2 0 (span 43 44)))) (assigning 2 (span 49 50) (chained (reading 0 7 0 (span 54 55)) (and_operation Add (constant 8 1) no_operations)))
-    no_choices)))
-    no_members));
+      in_turn
+      (and_member (receiving 0 (span 6 7) 0 (span 8 9))
+      (and_member
+      (choosing false
+      (and_choice (compared Eq (reading 0 7 0 (span 12 13)) (constant 8 7)) (sending 1 (span 21 22) (joined (and_part (reading 3 0 0 (span 24 25)) (and_part (reading 1 2 0 (span 27 28)) no_parts))))
+      (and_choice (inverted (compared Eq (reading 0 3 1 (span 34 35)) (reading 1 2 0 (span 43 44)))) (assigning 2 (span 49 50) (chained (reading 0 7 0 (span 54 55)) (and_operation Add (constant 8 1) no_operations)))
+      no_choices)))
+      no_members));
 }
 
 its_form : typed_form (does a_body) ≡ a_typed_program

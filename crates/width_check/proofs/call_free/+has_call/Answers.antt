@@ -27,4 +27,3 @@ returns-then-has_call-3 t c =
 pub returns-after-loop-arm : goal.returns-after-loop-arm
 returns-after-loop-arm t c =
     arms_free c.deref-arm-items.result.now c.loop-arm.arm-index (has_call (statement_of c.args.s.now)) c.loop-arm-test.false (c.loop-arm.invariant ∙ select_calls c.args.s.now c.in-Select.again c.in-Select.arms c.deref-arm-items.result.now c.in-Select.is c.deref-arm-items.ensures.value)
-
