@@ -13,7 +13,7 @@ use bench::Bench;
 use cases::obey;
 use std::{fs, io};
 
-const TOPICS: [&str; 4] = ["texts", "compile", "migrate", "edge"];
+const TOPICS: [&str; 5] = ["texts", "compile", "check", "migrate", "edge"];
 
 fn main(rt: HostRuntime) -> io::Result<()> {
     let mut page = String::new(rt.alloc());

@@ -17,6 +17,7 @@ use Rattle.width_check.specs.Processes.{joined, chained, Formulas, no_parts, and
 use Rattle.width_check.specs.Typing.{channel_width, var_width}
 use Rattle.width_check.specs.View.{formula_of, formulas_of, operations_of, process_of, processes_of, choices_of}
 use Rattle.handshake_expand.specs.Answers.{select_own, again_own}
+pub use Rattle.handshake_expand.specs.PartTree.{members_of, arms_of}
 use Rattle.handshake_expand.specs.Layout.{wires_size, block_size, wires_before, blocks_before, size_of, turn_size, branches_size, guards_size, bodies_size}
 
 abbrev pub parts_of : List TExpr → Formulas
@@ -26,14 +27,6 @@ parts_of (e ∷ es) = and_part (formula_of e) (parts_of es)
 abbrev pub links_of : List TLink → Operations
 links_of [] = no_operations
 links_of (l ∷ ls) = and_operation l.op (formula_of l.right) (links_of ls)
-
-abbrev pub members_of : List TStmt → Processes
-members_of [] = no_members
-members_of (s ∷ ss) = and_member (process_of s) (members_of ss)
-
-abbrev pub arms_of : List TArm → Choices
-arms_of [] = no_choices
-arms_of (a ∷ rest) = and_choice (formula_of a.guard) (process_of a.body) (arms_of rest)
 
 parts_row : {m : _} (row : Row_of-TExpr m) → formulas_of row ≡ parts_of (items-the_row-TExpr m row)
 parts_row end_of-TExpr = refl

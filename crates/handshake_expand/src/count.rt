@@ -6,10 +6,11 @@ ghost use Rattle.width_check.specs.Typing.{channel_width, var_width, IsProcess};
 ghost use Rattle.width_check.specs.Values.{IsWellFormed};
 ghost use Rattle.width_check.specs.View.{formula_of, process_of};
 ghost use Rattle.handshake_expand.specs.Answers.{select_own, again_own};
-ghost use Rattle.handshake_expand.specs.Layout.{block_size, assign_size, size_of, node_count, capped};
+ghost use Rattle.handshake_expand.specs.Layout.{block_size, assign_size, size_of, guards_size, node_count, capped};
+ghost use Rattle.handshake_expand.specs.PartTree.{arms_of, HasFormedGuards};
 
 use crate::expr::{expr_nodes, reads};
-use width_check::{TExpr, TStmt, Typed};
+use width_check::{TArm, TExpr, TStmt, Typed};
 
 /// The number of bits of a channel; a channel that the program hasn't counts 0.
 #[tactic(auto, using(crate::proofs::Rows::channel_found, crate::proofs::Rows::no_channel))]
@@ -24,7 +25,7 @@ fn channel_bits(program: &Typed, chan: u32) -> u8
 
 /// The number of bits of a variable; a variable that the program hasn't counts 0.
 #[tactic(auto, using(crate::proofs::Rows::var_found, crate::proofs::Rows::no_var))]
-fn var_bits(program: &Typed, var: u32) -> u8
+pub(crate) fn var_bits(program: &Typed, var: u32) -> u8
     ensures { result ≡ var_width program.now.vars var }
 {
     match program.vars().get(var as usize) {
@@ -34,7 +35,7 @@ fn var_bits(program: &Typed, var: u32) -> u8
 }
 
 /// How many nodes the block of a variable of the width has.
-fn block_nodes(width: u8) -> u64
+pub(crate) fn block_nodes(width: u8) -> u64
     ensures { result ≡ block_size width }
 {
     (6 * u64::from(width)).saturating_sub(1)
@@ -55,14 +56,15 @@ fn assign_nodes(program: &Typed, var: u32, value: &TExpr) -> u64
 }
 
 /// How many nodes a selection or a guarded repetition has beside the latch and the start of each guard.
-fn own_nodes(again: bool) -> u64
+pub(crate) fn own_nodes(again: bool) -> u64
     ensures { result ≡ if again then again_own else select_own }
 {
     if again { 6 } else { 3 }
 }
 
-/// How many nodes a statement of the program has; 2^64 - 1 stands for all numbers above it.
-fn statement_nodes(program: &Typed, s: &TStmt) -> u64
+/// How many nodes a statement of the program has, those of the statements in it among them; 2^64 - 1 stands for all
+/// numbers above it.
+pub fn statement_nodes(program: &Typed, s: &TStmt) -> u64
     requires { IsProcess program.now.channels program.now.vars (process_of s.now) }
     ensures { result ≡ capped (size_of (program_of program.now) (process_of s.now)) }
 {
@@ -102,6 +104,18 @@ fn statement_nodes(program: &Typed, s: &TStmt) -> u64
         }
         TStmt::Repeat { body } => statement_nodes(program, body).saturating_add(2),
     }
+}
+
+/// How many nodes the guards have together; 2^64 - 1 stands for all numbers above it.
+pub(crate) fn guard_nodes(arms: &[TArm]) -> u64
+    requires { HasFormedGuards (arms_of arms.now) }
+    ensures { result ≡ capped (guards_size (arms_of arms.now)) }
+{
+    let mut count: u64 = 0;
+    for arm in arms {
+        count = count.saturating_add(expr_nodes(&arm.guard));
+    }
+    count
 }
 
 /// How many nodes the circuit of a program has; 2^64 - 1 stands for all numbers above it.

@@ -19,7 +19,7 @@ use Rattle.chp_syntax.specs.declared.tree.DeclKind.TheVariants as declares
 use Rattle.chp_syntax.specs.Trees.{Procedure, Expression, number, whole, slice, bit, join, negation, chain, Statement, skips, assigns, sends, receives, follows, besides, selects, repeats, calls}
 use Rattle.width_check.specs.Values.{one_if}
 use Rattle.width_check.specs.Typing.{IsTyped, IsDeclaredChannel, IsDeclaredVar}
-use Rattle.width_check.specs.Form.{typed_form, process_form}
+use Rattle.width_check.specs.Form.{typed_form}
 use Rattle.width_check.specs.Places.{declaration, declared_width, is_var, sent_on, received_on, Use, Expected, expect}
 use Rattle.width_check.specs.Faults.{FaultAt, wants_var, IsBadPart, LacksWidth, IsMisfit}
 use Rattle.width_check.specs.Accepted.{IsAccepted}
@@ -254,7 +254,7 @@ bit_typed name at b is = record {
 
 pub bit_covered : (name : List ℕ) (at : Span) (b : Bool) → Covered (bit_program name at b)
 bit_covered name at b = record {
-  channels = All-cons (λ (c : Channel). c.kind ≡ kind.Out) (record { name = name; kind = kind.Out; width = 1 }) [] refl (All-nil (λ (c : Channel). c.kind ≡ kind.Out));
+  channels = (λ e. absurd (cc e), tt);
   body = tt;
   sharing = record { variables = λ a b apart. absurd apart; sends = λ a b apart. absurd apart; receives = λ a b apart. absurd apart };
 }
