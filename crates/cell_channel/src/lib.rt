@@ -3,8 +3,6 @@
 
 mod emit;
 mod laws;
-#[cfg(test)]
-mod tests;
 
 pub use emit::{emit_end, emit_receive_port};
 pub use laws::ends_keep;

@@ -2,8 +2,6 @@
 #![tactic(auto)]
 
 mod laws;
-#[cfg(test)]
-mod tests;
 mod tree;
 
 pub use laws::{tree_counted, tree_keeps, tree_settles};

@@ -17,5 +17,4 @@ pub mod AgainKeeps
 pub mod SelectOnce
 pub mod AgainOnce
 pub mod WrongBodies
-pub mod Worked
 pub mod Written

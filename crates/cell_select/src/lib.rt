@@ -4,8 +4,6 @@
 mod emit;
 mod guards;
 mod laws;
-#[cfg(test)]
-mod tests;
 
 pub use emit::{AgainPorts, SelectPorts, emit_again, emit_select};
 pub use laws::{again_keeps, select_keeps};

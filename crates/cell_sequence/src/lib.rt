@@ -3,8 +3,6 @@
 
 mod emit;
 mod laws;
-#[cfg(test)]
-mod tests;
 
 pub use emit::{QPorts, emit_loop, emit_q, emit_skip};
 pub use laws::q_keeps;

@@ -3,8 +3,6 @@
 
 mod laws;
 mod merge;
-#[cfg(test)]
-mod tests;
 mod variable;
 
 pub use laws::{variable_divided, variable_keeps};

@@ -7,8 +7,6 @@ mod fault;
 mod name;
 mod span;
 mod symbols;
-#[cfg(test)]
-mod tests;
 
 pub use bits::Bits;
 pub use channel::{Channel, Kind};

@@ -1,6 +1,5 @@
 -- What follows from the way in which a call ended.
 use Rattle.std.proofs.Common.{◌≡◌, ◌≢◌, ℕ, ◌≤◌, List, [], ◌++◌, length, take, Bool, true, false, Option, Some, None, ◌⊎◌, inl, inr, refl, sym, ap, subst}
-use Rattle.std.specs.Prelude.{Contains}
 use Rattle.chp_edge.specs.Faults.{Rose, IsReadFault}
 use Rattle.chp_cli.specs.declared.answer.Ending.{Ending}
 use Rattle.chp_cli.specs.declared.answer.Ending.TheVariants as ending
@@ -12,7 +11,7 @@ use Rattle.chp_cli.specs.declared.status.Status.{Status}
 use Rattle.chp_cli.specs.declared.status.Status.TheVariants.{Usage, Read, Write, NoMemory}
 use Rattle.chp_cli.specs.Answers.{Given, Answer, misses, OneAnswer, status_of, status_with}
 use Rattle.chp_cli.specs.Commands.{Asked, IsAnswer, files_of}
-use Rattle.chp_cli.specs.Ends.{Answers, IsFile, Ends, formless, whole, cut_off, refused, unread, no_memory}
+use Rattle.chp_cli.specs.Ends.{AnswersTo, IsFile, Ends, formless, whole, cut_off, refused, unread, no_memory}
 use Rattle.chp_cli.specs.Replies.{Stops, refusing, refusal_status, refusal_line, stop_status, stop_line}
 use Rattle.chp_cli.specs.Statuses.{is_whole, is_refusing}
 
@@ -32,8 +31,8 @@ own_status ending.Done = (λ e. cc, λ e. cc, λ e. cc)
 no_refusal : (s other : Status) → is_refusing s ≡ true → is_refusing other ≡ false → s ≢ other
 no_refusal s other is not same = cc (ap is_refusing same, is, not)
 
-pub answers_of : (asked : Option Asked) (given : Given) (command : Asked) (answer : Answer) → asked ≡ Some command → IsAnswer command given answer → Answers asked given answer
-answers_of asked given command answer named is = subst (λ o. Answers o given answer) (sym named) is
+pub answers_of : (asked : Option Asked) (given : Given) (command : Asked) (answer : Answer) → asked ≡ Some command → IsAnswer command given answer → AnswersTo asked given answer
+answers_of asked given command answer named is = subst (λ o. AnswersTo o given answer) (sym named) is
 
 module _ (asked : Option Asked) (given : Given) (rb ra pb pa : ℕ) where
   -- with every other status nothing was written
@@ -69,14 +68,14 @@ module _ (asked : Option Asked) (given : Given) (rb ra pb pa : ℕ) where
   write_of (unread name own fault missed) e = absurd (cc e)
   write_of no_memory e = absurd (cc e)
 
-  one : ((command : Asked) → OneAnswer (IsAnswer command given)) → (o : Option Asked) (a b : Answer) → Answers o given a → Answers o given b → a ≡ b
+  one : ((command : Asked) → OneAnswer (IsAnswer command given)) → (o : Option Asked) (a b : Answer) → AnswersTo o given a → AnswersTo o given b → a ≡ b
   one law None a b is are = absurd is
   one law (Some command) a b is are = law command a b is are
 
   -- where nothing fails, the status is that of the answer
   pub complete_of : ((command : Asked) → OneAnswer (IsAnswer command given)) → {s : Status} {appended line : List ℕ} → Ends asked given rb ra pb pa s appended line
-      → (answer : Answer) → Answers asked given answer → ¬ Rose rb ra → ¬ Rose pb pa → (s ≡ status_of answer) ⊎ (s ≡ NoMemory)
-  complete_of law (formless none) answer are calm quiet = absurd (subst (λ o. Answers o given answer) none are)
+      → (answer : Answer) → AnswersTo asked given answer → ¬ Rose rb ra → ¬ Rose pb pa → (s ≡ status_of answer) ⊎ (s ≡ NoMemory)
+  complete_of law (formless none) answer are calm quiet = absurd (subst (λ o. AnswersTo o given answer) none are)
   complete_of law (whole end text is) answer are calm quiet = inl (ap status_of (one law asked _ answer is are))
   complete_of law (cut_off end text k is rose) answer are calm quiet = absurd (quiet rose)
   complete_of law (refused status line r is) answer are calm quiet = inl (ap status_of (one law asked _ answer is are))
@@ -91,7 +90,7 @@ module _ (asked : Option Asked) (given : Given) (rb ra pb pa : ℕ) where
   stopped_ends command is (stopped.Unread name) s =
       unread name.now (subst (λ o. IsFile o name.now) (sym is) s.own) s.fault (missed s.missed)
     where
-      missed : Rose rb ra ⊎ IsAnswer command given (misses name.now) → Rose rb ra ⊎ Answers asked given (misses name.now)
+      missed : Rose rb ra ⊎ IsAnswer command given (misses name.now) → Rose rb ra ⊎ AnswersTo asked given (misses name.now)
       missed (inl rose) = inl rose
       missed (inr answer) = inr (answers_of asked given command (misses name.now) is answer)
   stopped_ends command is stopped.NoMemory s = no_memory

@@ -1,6 +1,6 @@
 -- Where no node is named reset.
 use Rattle.std.proofs.Common.{◌≡◌, ◌≢◌, ℕ, ◌<◌, ◌≤◌, Bool, true, false, cond, List, length, get_or, Option, None, Some, inl, inr, refl, ap, sym, subst, arith}
-use Rattle.std.specs.Prelude.{◌⊎◌, All, bytes_eq, codes, is_some, position}
+use Rattle.std.specs.Prelude.{◌⊎◌, All, bytes_eq, codes, is_some}
 use Rattle.std.specs.List.{position_or_len}
 use Rattle.std.specs.Cmp.Lexicographic.{bytes_decides}
 use Rattle.std.proofs.lemmas.Bool.{cases_lt, lt-ltb}

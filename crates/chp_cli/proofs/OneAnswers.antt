@@ -1,5 +1,5 @@
 -- Each step, and so each command, has at most one answer.
-use Rattle.std.proofs.Common.{◌≡◌, ◌∙◌, ℕ, ◌+◌, ◌<◌, ◌≤◌, List, length, Bool, true, false, Option, Some, None, refl, sym, ap, subst, arith}
+use Rattle.std.proofs.Common.{◌≡◌, ◌∙◌, ℕ, ◌+◌, ◌<◌, ◌≤◌, List, length, true, Option, Some, None, refl, sym, ap, subst, arith}
 use Rattle.chp_base.specs.declared.span.Span.{Span}
 use Rattle.chp_base.specs.declared.fault.Fault.{Fault}
 use Rattle.chp_base.specs.declared.fault.FaultCode.{FaultCode}
@@ -9,15 +9,20 @@ use Rattle.prs_core.specs.Nets.{NetValue}
 use Rattle.prs_file.specs.declared.fault.NetFault.{NetFault}
 use Rattle.prs_file.specs.declared.fault.NetFault.TheVariants.{DoubleName}
 use Rattle.prs_file.specs.Reading.{IsRefused}
+use Rattle.width_check.specs.Accepted.{IsAccepted}
+use Rattle.width_check.specs.Faults.{naming_faults, HasNone, IsFirstFault}
+use Rattle.width_check.specs.Form.{typed_form}
+use Rattle.width_check.specs.Processes.{Process}
+use Rattle.width_check.specs.Sharing.{MeetsSharing, IsFirstSharedFault, sharing_faults}
 use Rattle.chp_cli.specs.declared.answer.Ending.TheVariants.{Done}
 use Rattle.chp_cli.specs.declared.status.Status.TheVariants.{RefusedText, BadFile}
 use Rattle.chp_cli.specs.Answers.{Given, Answer, writes, refuses, OneAnswer}
-use Rattle.chp_cli.specs.Checking.{ChecksProgram, unchecked}
+use Rattle.chp_cli.specs.Checking.{AcceptedReport, ChecksProgram}
 use Rattle.chp_cli.specs.Commands.{Asked, compiles, migrates, checks, IsAnswer}
-use Rattle.chp_cli.specs.Compiling.{CompilesProgram, unbuilt, compiled}
+use Rattle.chp_cli.specs.Compiling.{CompilesAccepted, CompilesProgram, unbuilt, compiled}
 use Rattle.chp_cli.specs.Lines.{refused_line, bad_net_line}
 use Rattle.chp_cli.specs.Migrating.{MigratesNet, taken, migrated}
-use Rattle.chp_cli.specs.Steps.{FromFile, no_file, long_file, a_file, FromProgram, no_program, a_program, FromNet, no_net, a_net}
+use Rattle.chp_cli.specs.Steps.{FromFile, no_file, long_file, a_file, FromProgram, no_program, a_program, IsFaulty, of_names, of_sharing, FromChecks, has_calls, faulty, accepted, FromNet, no_net, a_net}
 
 pub same_text : {held : Option (List ℕ)} {a b : List ℕ} → held ≡ Some a → held ≡ Some b → a ≡ b
 same_text e f = cc (e, f)
@@ -66,16 +71,44 @@ module _ (text : List ℕ) (Next : NetValue → Answer → Type 0) (next : (net 
   net_once a b (a_net {net = p} is n) (no_net m) = absurd (m.never p is.kept is.spelled)
   net_once a b (a_net {net = p} is n) (a_net {net = q} are m) = next p a b n (subst (λ r. Next r b) (is.only q are.kept are.spelled) m)
 
+-- a program has at most one fault, and none where it is accepted
+module _ (named : (p : ProgramTree) (c d : FaultCode) (s t : Span) → IsFirstFault p naming_faults c s → IsFirstFault p naming_faults d t → c ≡ d)
+    (placed : (p : ProgramTree) (c d : FaultCode) (s t : Span) → IsFirstFault p naming_faults c s → IsFirstFault p naming_faults d t → s ≡ t)
+    (no_name : (p : ProgramTree) (c : FaultCode) (s : Span) → HasNone p naming_faults → ¬ IsFirstFault p naming_faults c s)
+    (shared : (body : Process) (c d : FaultCode) (s t u v : Span) → IsFirstSharedFault body sharing_faults c s t → IsFirstSharedFault body sharing_faults d u v → c ≡ d)
+    (first : (body : Process) (c d : FaultCode) (s t u v : Span) → IsFirstSharedFault body sharing_faults c s t → IsFirstSharedFault body sharing_faults d u v → s ≡ u)
+    (second : (body : Process) (c d : FaultCode) (s t u v : Span) → IsFirstSharedFault body sharing_faults c s t → IsFirstSharedFault body sharing_faults d u v → t ≡ v)
+    (unshared : (body : Process) (c : FaultCode) (s t : Span) → MeetsSharing body → ¬ IsFirstSharedFault body sharing_faults c s t) where
+  fault_once : (program : ProgramTree) (f g : Fault) → IsFaulty program f → IsFaulty program g → f ≡ g
+  fault_once p f g (of_names {c = c} {at = s} n) (of_names {c = d} {at = t} m) = let at = placed p c d s t n m in same_fault f g (named p c d s t n m) at at
+  fault_once p f g (of_names {c = c} {at = s} n) (of_sharing none m) = absurd (no_name p c s none n)
+  fault_once p f g (of_sharing none n) (of_names {c = c} {at = s} m) = absurd (no_name p c s none m)
+  fault_once p f g (of_sharing {c = c} {at = s} {other = t} none n) (of_sharing {c = d} {at = u} {other = v} also m) =
+      let body = (typed_form p).body in
+      same_fault f g (shared body c d s t u v n m) (first body c d s t u v n m) (second body c d s t u v n m)
+
+  pub no_fault : (program : ProgramTree) (f : Fault) → IsAccepted program → ¬ IsFaulty program f
+  no_fault p f is (of_names {c = c} {at = s} n) = no_name p c s is.named n
+  no_fault p f is (of_sharing {c = c} {at = s} {other = t} none n) = unshared (typed_form p).body c s t is.sharing n
+
+  pub checks_once : (program : ProgramTree) (Next : Answer → Type 0) → OneAnswer Next → (a b : Answer) → FromChecks program Next a → FromChecks program Next b → a ≡ b
+  checks_once p Next next a b (has_calls some) (has_calls any) = refl
+  checks_once p Next next a b (has_calls some) (faulty free f) = absurd (some free)
+  checks_once p Next next a b (has_calls some) (accepted is n) = absurd (some is.call_free)
+  checks_once p Next next a b (faulty free f) (has_calls some) = absurd (some free)
+  checks_once p Next next a b (faulty {fault = f} free n) (faulty {fault = g} also m) = ap (λ h. refuses RefusedText (refused_line h)) (fault_once p f g n m)
+  checks_once p Next next a b (faulty {fault = f} free n) (accepted is m) = absurd (no_fault p f is n)
+  checks_once p Next next a b (accepted is n) (has_calls some) = absurd (some is.call_free)
+  checks_once p Next next a b (accepted is n) (faulty {fault = f} free m) = absurd (no_fault p f is m)
+  checks_once p Next next a b (accepted is n) (accepted are m) = next a b n m
+
 -- ---- the commands
 
-compile_once : (program : ProgramTree) (a b : Answer) → CompilesProgram program a → CompilesProgram program b → a ≡ b
+compile_once : (program : ProgramTree) (a b : Answer) → CompilesAccepted program a → CompilesAccepted program b → a ≡ b
 compile_once program a b (unbuilt n) (unbuilt m) = refl
 compile_once program a b (unbuilt n) (compiled is c) = absurd (cc (n, is))
 compile_once program a b (compiled is c) (unbuilt m) = absurd (cc (m, is))
 compile_once program a b (compiled is c) (compiled are d) = ap (λ file. writes Done file) (c.spells ∙ sym d.spells)
-
-check_once : (program : ProgramTree) (a b : Answer) → ChecksProgram program a → ChecksProgram program b → a ≡ b
-check_once program a b unchecked unchecked = refl
 
 migrate_once : (net : NetValue) (a b : Answer) → MigratesNet net a → MigratesNet net b → a ≡ b
 migrate_once net a b (taken {node = k} plain is) (taken {node = l} same are) = let e : k ≡ l = cc (is, are) in ap (λ node. refuses BadFile (bad_net_line DoubleName (node + 2))) e
@@ -85,8 +118,11 @@ migrate_once net a b (migrated free spells) (migrated also reads) = ap (λ file.
 
 module _ (cause : (text : List ℕ) (k j : FaultCode) (s t : Span) → IsRefusedText text k s → IsRefusedText text j t → k ≡ j)
     (place : (text : List ℕ) (k j : FaultCode) (s t : Span) → IsRefusedText text k s → IsRefusedText text j t → s ≡ t)
-    (once : (text : List ℕ) (f g : NetFault) (l m : ℕ) → IsRefused text f l → IsRefused text g m → (f ≡ g) × (l ≡ m)) where
+    (once : (text : List ℕ) (f g : NetFault) (l m : ℕ) → IsRefused text f l → IsRefused text g m → (f ≡ g) × (l ≡ m))
+    (checked : (program : ProgramTree) (Next : Answer → Type 0) → OneAnswer Next → OneAnswer (FromChecks program Next)) where
   pub command_once : (command : Asked) (given : Given) → given.tells ≡ true → OneAnswer (IsAnswer command given)
-  command_once (compiles file) given told = file_once given file _ _ told (λ text. program_once text CompilesProgram compile_once (cause text) (place text))
+  command_once (compiles file) given told = file_once given file _ _ told
+      (λ text. program_once text CompilesProgram (λ program. checked program (CompilesAccepted program) (compile_once program)) (cause text) (place text))
   command_once (migrates file) given told = file_once given file _ _ told (λ text. net_once text MigratesNet migrate_once (once text))
-  command_once (checks file) given told = file_once given file _ _ told (λ text. program_once text ChecksProgram check_once (cause text) (place text))
+  command_once (checks file) given told = file_once given file _ _ told
+      (λ text. program_once text ChecksProgram (λ program. checked program (AcceptedReport program) (λ a b is are. is ∙ sym are)) (cause text) (place text))

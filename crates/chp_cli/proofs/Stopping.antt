@@ -5,6 +5,7 @@ use Rattle.chp_edge.specs.Faults.{Rose, IsReadFault}
 use Rattle.chp_edge.specs.Reading.{IsLeft}
 use Rattle.chp_syntax.specs.Trees.{ProgramTree}
 use Rattle.prs_core.specs.Nets.{NetValue}
+use Rattle.width_check.specs.Accepted.{IsAccepted}
 use Rattle.chp_cli.specs.declared.status.Status.TheVariants.{TooLarge}
 use Rattle.chp_cli.specs.declared.answer.Output.{Output}
 use Rattle.chp_cli.specs.declared.answer.Stop.{Stop}
@@ -12,7 +13,7 @@ use Rattle.chp_cli.specs.declared.answer.Stop.TheVariants.{Refused, Unread, NoMe
 use Rattle.chp_cli.specs.Answers.{Given, Gives, Answer, misses, refuses}
 use Rattle.chp_cli.specs.Lines.{too_long_line}
 use Rattle.chp_cli.specs.Replies.{Halts, IsUnread, Stops, written}
-use Rattle.chp_cli.specs.Steps.{FromFile, no_file, long_file, a_file, FromProgram, no_program, a_program, FromNet, no_net, a_net, IsTextOf, IsFileOf, Never}
+use Rattle.chp_cli.specs.Steps.{FromFile, no_file, long_file, a_file, FromProgram, no_program, a_program, FromChecks, has_calls, faulty, accepted, FromNet, no_net, a_net, IsTextOf, IsFileOf, Never}
 
 -- ---- a step by itself is the same step of a command
 
@@ -28,6 +29,11 @@ program_goes (a_program is never) = absurd never
 pub net_goes : {text : List ℕ} {Next : NetValue → Answer → Type 0} {a : Answer} → FromNet text Never a → FromNet text Next a
 net_goes (no_net none) = no_net none
 net_goes (a_net is never) = absurd never
+
+pub checks_go : {program : ProgramTree} {Next : Answer → Type 0} {a : Answer} → FromChecks program (Never program) a → FromChecks program Next a
+checks_go (has_calls some) = has_calls some
+checks_go (faulty free fault) = faulty free fault
+checks_go (accepted is never) = absurd never
 
 -- ---- where one of them stops, the command does
 
@@ -80,6 +86,13 @@ module _ (text : List ℕ) (program : ProgramTree) (Next : ProgramTree → Answe
 
   pub program_stops : IfErr r (Halts (Next program)) → IfErr r (Halts (FromProgram text Next))
   program_stops = err_in r (Halts (Next program)) (Halts (FromProgram text Next)) (halts_in (Next program) (FromProgram text Next) (λ answer is. a_program read is))
+
+module _ (program : ProgramTree) (Next : Answer → Type 0) (is_accepted : IsAccepted program) (r : Result Output Stop) where
+  pub checks_answer : IfOk r (λ output. Next (written output)) → IfOk r (λ output. FromChecks program Next (written output))
+  checks_answer = ok_in r (λ output. Next (written output)) (λ output. FromChecks program Next (written output)) (λ output is. accepted is_accepted is)
+
+  pub checks_stop : IfErr r (Halts Next) → IfErr r (Halts (FromChecks program Next))
+  checks_stop = err_in r (Halts Next) (Halts (FromChecks program Next)) (halts_in Next (FromChecks program Next) (λ answer is. accepted is_accepted is))
 
 module _ (text : List ℕ) (net : NetValue) (Next : NetValue → Answer → Type 0) (read : IsFileOf text net) (r : Result Output Stop) where
   pub net_answers : IfOk r (λ output. Next net (written output)) → IfOk r (λ output. FromNet text Next (written output))

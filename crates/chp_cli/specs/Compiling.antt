@@ -12,7 +12,7 @@ use Rattle.chp_cli.specs.declared.answer.Ending.TheVariants.{Done}
 use Rattle.chp_cli.specs.declared.status.Status.TheVariants.{NotBuilt}
 use Rattle.chp_cli.specs.Answers.{Given, Answer, writes, refuses}
 use Rattle.chp_cli.specs.Lines.{not_built_line}
-use Rattle.chp_cli.specs.Steps.{FromFile, FromProgram, most_of_text}
+use Rattle.chp_cli.specs.Steps.{FromFile, FromProgram, FromChecks, most_of_text}
 
 -- the program is accepted, its net carries it, and this is the one text of that net
 pub record IsCompiled (program : ProgramTree) (file : List ℕ) : Type 0 where
@@ -20,9 +20,13 @@ pub record IsCompiled (program : ProgramTree) (file : List ℕ) : Type 0 where
   pub carries : Carries (translation (typed_form program)) (typed_form program)
   pub spells : NetText file (translation (typed_form program))
 
-pub data CompilesProgram (program : ProgramTree) : Answer → Type 0 where
-  unbuilt : is_built program ≡ false → CompilesProgram program (refuses NotBuilt not_built_line)
-  compiled : {file : List ℕ} → is_built program ≡ true → IsCompiled program file → CompilesProgram program (writes Done file)
+-- what is accepted and isn't compiled yet isn't served
+pub data CompilesAccepted (program : ProgramTree) : Answer → Type 0 where
+  unbuilt : is_built program ≡ false → CompilesAccepted program (refuses NotBuilt not_built_line)
+  compiled : {file : List ℕ} → is_built program ≡ true → IsCompiled program file → CompilesAccepted program (writes Done file)
+
+abbrev pub CompilesProgram : ProgramTree → Answer → Type 0
+CompilesProgram program = FromChecks program (CompilesAccepted program)
 
 abbrev pub Compiles : Given → (file : List ℕ) → Answer → Type 0
 Compiles given file = FromFile given file most_of_text (λ text. FromProgram text CompilesProgram)
@@ -34,4 +38,5 @@ pub record IsToCompile (given : Given) (file : List ℕ) : Type 0 where
   pub held : given.files file ≡ Some text
   pub short : length text ≤ most_of_text
   pub reads : Reads text program
+  pub accepted : IsAccepted program
   pub built : is_built program ≡ true

@@ -10,9 +10,9 @@ use Rattle.chp_cli.specs.Lines.{usage_line, read_line, write_line, no_memory_lin
 use Rattle.chp_cli.specs.Statuses.{is_refusing}
 
 -- it is an answer of the command that is asked for
-abbrev pub Answers : Option Asked → Given → Answer → Type 0
-Answers None given answer = ⊥
-Answers (Some command) given answer = IsAnswer command given answer
+abbrev pub AnswersTo : Option Asked → Given → Answer → Type 0
+AnswersTo None given answer = ⊥
+AnswersTo (Some command) given answer = IsAnswer command given answer
 
 -- the name is that of a file of the command that is asked for
 abbrev pub IsFile : Option Asked → (name : List ℕ) → Type 0
@@ -25,16 +25,16 @@ pub data Ends (asked : Option Asked) (given : Given) (read_before read_after put
   -- the words are no form of a command
   formless : asked ≡ None → Ends asked given read_before read_after put_before put_after Usage [] usage_line
   -- the command writes, and all was written
-  whole : (end : Ending) (text : List ℕ) → Answers asked given (writes end text)
+  whole : (end : Ending) (text : List ℕ) → AnswersTo asked given (writes end text)
       → Ends asked given read_before read_after put_before put_after (status_with end) text (line_with end)
   -- it writes, and the output failed: a front was written
-  cut_off : (end : Ending) (text : List ℕ) (n : ℕ) → Answers asked given (writes end text) → Rose put_before put_after
+  cut_off : (end : Ending) (text : List ℕ) (n : ℕ) → AnswersTo asked given (writes end text) → Rose put_before put_after
       → Ends asked given read_before read_after put_before put_after Write (take n text) write_line
   -- it refuses
-  refused : (status : Status) (line : List ℕ) → is_refusing status ≡ true → Answers asked given (refuses status line)
+  refused : (status : Status) (line : List ℕ) → is_refusing status ≡ true → AnswersTo asked given (refuses status line)
       → Ends asked given read_before read_after put_before put_after status [] line
   -- a read fault of a file of the command: the shelf failed, or that the file isn't there is the command's answer
   unread : (name : List ℕ) → IsFile asked name → IsReadFault read_before read_after given.tells (given.files name)
-      → Rose read_before read_after ⊎ Answers asked given (misses name)
+      → Rose read_before read_after ⊎ AnswersTo asked given (misses name)
       → Ends asked given read_before read_after put_before put_after Read [] (read_line name)
   no_memory : Ends asked given read_before read_after put_before put_after NoMemory [] no_memory_line

@@ -2,6 +2,8 @@
 -- order of the steps is the order of the tests.
 use Rattle.std.specs.Prelude.{◌≡◌, ℕ, ◌<◌, ◌≤◌, true, List, length, Some}
 use Rattle.chp_base.specs.declared.fault.Fault.{Fault}
+use Rattle.chp_base.specs.declared.fault.FaultCode.{FaultCode}
+use Rattle.chp_base.specs.declared.span.Span.{Span}
 use Rattle.chp_syntax.specs.Trees.{ProgramTree}
 use Rattle.chp_syntax.specs.Reading.{Reads}
 use Rattle.chp_syntax.specs.Refusals.{RefusedText as IsRefusedText}
@@ -9,9 +11,14 @@ use Rattle.prs_core.specs.Nets.{NetValue, IsNet}
 use Rattle.prs_file.specs.declared.fault.NetFault.{NetFault}
 use Rattle.prs_file.specs.Reading.{IsRefused}
 use Rattle.prs_file.specs.Spelling.{NetText}
-use Rattle.chp_cli.specs.declared.status.Status.TheVariants.{RefusedText, TooLarge, BadFile}
+use Rattle.width_check.specs.Accepted.{IsAccepted}
+use Rattle.width_check.specs.Calls.{IsCallFree}
+use Rattle.width_check.specs.Faults.{naming_faults, HasNone, IsFirstFault}
+use Rattle.width_check.specs.Form.{typed_form}
+use Rattle.width_check.specs.Sharing.{sharing_faults, IsFirstSharedFault}
+use Rattle.chp_cli.specs.declared.status.Status.TheVariants.{RefusedText, TooLarge, BadFile, NotBuilt}
 use Rattle.chp_cli.specs.Answers.{Given, Gives, Lacks, Answer, refuses, misses}
-use Rattle.chp_cli.specs.Lines.{too_long_line, refused_line, bad_net_line}
+use Rattle.chp_cli.specs.Lines.{too_long_line, refused_line, bad_net_line, not_built_line}
 
 -- a command that never answers: what a step by itself goes on with
 abbrev pub Never : {X : Type 0} → X → Answer → Type 0
@@ -54,6 +61,20 @@ pub record IsNoProgram (text : List ℕ) (fault : Fault) : Type 0 where
 pub data FromProgram (text : List ℕ) (Next : ProgramTree → Answer → Type 0) : Answer → Type 0 where
   no_program : {fault : Fault} → IsNoProgram text fault → FromProgram text Next (refuses RefusedText (refused_line fault))
   a_program : {program : ProgramTree} {answer : Answer} → IsTextOf text program → Next program answer → FromProgram text Next answer
+
+-- ---- from a program to an accepted one
+
+-- the program is refused for this fault: the first one of names, kinds and widths, or else of sharing
+pub data IsFaulty (program : ProgramTree) : Fault → Type 0 where
+  of_names : {c : FaultCode} {at : Span} → IsFirstFault program naming_faults c at → IsFaulty program (record { code = c; at = at; other = at })
+  of_sharing : {c : FaultCode} {at other : Span} → HasNone program naming_faults → IsFirstSharedFault (typed_form program).body sharing_faults c at other
+      → IsFaulty program (record { code = c; at = at; other = other })
+
+-- it checks the program; one with procedures isn't served yet
+pub data FromChecks (program : ProgramTree) (Next : Answer → Type 0) : Answer → Type 0 where
+  has_calls : ¬ IsCallFree program → FromChecks program Next (refuses NotBuilt not_built_line)
+  faulty : {fault : Fault} → IsCallFree program → IsFaulty program fault → FromChecks program Next (refuses RefusedText (refused_line fault))
+  accepted : {answer : Answer} → IsAccepted program → Next answer → FromChecks program Next answer
 
 -- ---- from a text to a net
 

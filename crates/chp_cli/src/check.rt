@@ -1,24 +1,49 @@
 //! `check FILE`: whether a program is accepted.
 
 ghost use Rattle.std.specs.Prelude.{◌≡◌, ◌≤◌, ◌∷◌, [], length, IfOk, IfErr};
+ghost use Rattle.chp_syntax.specs.Shape.{IsShaped};
 ghost use Rattle.chp_syntax.specs.View.{program_of};
 ghost use Rattle.chp_cli.specs.Answers.{given_by};
-ghost use Rattle.chp_cli.specs.Checking.{Checks, ChecksProgram};
+ghost use Rattle.chp_cli.specs.Checking.{Checks, ChecksProgram, accepted_text};
 ghost use Rattle.chp_cli.specs.Replies.{Halts, Stops, written};
 ghost use Rattle.chp_cli.specs.Steps.{FromProgram, most_of_text};
 
-use crate::answer::{Output, Refusal, Stop};
-use crate::files::{MOST_OF_TEXT, program_of_text, text_of_file};
+use crate::answer::{Ending, Output, Stop};
+use crate::files::{MOST_OF_TEXT, checked_program, program_of_text, text_of_file};
 use chp_edge::Shelf;
 use chp_syntax::Program;
-use std::alloc::Global;
+use handshake_expand::count_nodes;
+use itoa::Buffer;
+use std::alloc::{AllocError, Global};
 
-/// Names, widths and sharing aren't checked yet.
-fn check_program<'a>(_program: &Program) -> Result<Output, Stop<'a>>
-    ensures answered { IfOk result (λ output. ChecksProgram (program_of _program.now) (written output)) }
-    ensures stopped { IfErr result (Halts (ChecksProgram (program_of _program.now))) }
+/// The report on an accepted program whose circuit has so many nodes.
+fn accepted_text(alloc: Global, nodes: u64) -> Result<Vec<u8>, AllocError>
+    ensures { IfOk result (λ text. text.items ≡ accepted_text nodes) }
 {
-    Err(Stop::Refused(Refusal::NotBuilt))
+    let mut number = Buffer::new();
+    let mut text = Vec::from_slice(alloc, b"accepted\nnodes ")?;
+    text.extend_from_slice(number.format(nodes).as_bytes())?;
+    text.extend_from_slice(b"\n")?;
+    Ok(text)
+}
+
+fn check_program<'a>(alloc: Global, program: &Program) -> Result<Output, Stop<'a>>
+    requires shaped { IsShaped (program_of program.now) }
+    requires few { program.now.procs.items ≡ [] → length program.now.decls.items ≤ most_of_text }
+    ensures answered { IfOk result (λ output. ChecksProgram (program_of program.now) (written output)) }
+    ensures stopped { IfErr result (Halts (ChecksProgram (program_of program.now))) }
+{
+    let disjoint = match checked_program(alloc, program) {
+        Ok(disjoint) => disjoint,
+        Err(stop) => return Err(stop),
+    };
+    match accepted_text(alloc, count_nodes(disjoint.typed())) {
+        Ok(text) => Ok(Output {
+            text,
+            end: Ending::Done,
+        }),
+        Err(_) => Err(Stop::NoMemory),
+    }
 }
 
 fn check_text<'a>(alloc: Global, text: &[u8]) -> Result<Output, Stop<'a>>
@@ -27,7 +52,7 @@ fn check_text<'a>(alloc: Global, text: &[u8]) -> Result<Output, Stop<'a>>
     ensures stopped { IfErr result (Halts (FromProgram text.now ChecksProgram)) }
 {
     match program_of_text(alloc, text) {
-        Ok(program) => check_program(&program),
+        Ok(program) => check_program(alloc, &program),
         Err(stop) => Err(stop),
     }
 }

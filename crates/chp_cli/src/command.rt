@@ -114,39 +114,3 @@ fn matches_in<'a>(
         Err(_) => Ok(None),
     }
 }
-
-#[cfg(test)]
-mod tests {
-    use super::{Command, command_in};
-    use std::test::Fail;
-
-    #[test]
-    fn words_and_commands(rt: HostRuntime) -> Result<(), Fail> {
-        let alloc = rt.alloc();
-        let rows = [
-            ("", None),
-            ("compile", None),
-            ("compile x", Some(Command::Compile { file: "x" })),
-            ("migrate a.prs", Some(Command::Migrate { net: "a.prs" })),
-            ("check a.chp", Some(Command::Check { file: "a.chp" })),
-            ("compile a b", None),
-            ("compile ", Some(Command::Compile { file: "" })),
-            ("compile -", Some(Command::Compile { file: "-" })),
-            ("compile -- -h", Some(Command::Compile { file: "-h" })),
-            ("compile x --", Some(Command::Compile { file: "x" })),
-            ("compile --", None),
-            ("compile -h", None),
-            ("migrate --help", None),
-            ("frob x", None),
-        ];
-        for (line, expected) in rows {
-            let mut words = Vec::new(alloc);
-            for word in line.split(' ') {
-                words.push(word.to_string(alloc)?)?;
-            }
-            let found = command_in(alloc, words.as_slice())?;
-            assert!(rt; found == expected, "at {line}");
-        }
-        Ok(())
-    }
-}

@@ -1,24 +1,32 @@
 //! `compile FILE`: from a program text to its rule file.
 
 ghost use Rattle.std.specs.Prelude.{◌≡◌, ◌≤◌, ◌∷◌, [], length, IfOk, IfErr};
+ghost use Rattle.chp_syntax.specs.Shape.{IsShaped};
 ghost use Rattle.chp_syntax.specs.View.{program_of};
+ghost use Rattle.width_check.specs.Accepted.{IsAccepted};
 ghost use Rattle.chp_cli.specs.Answers.{given_by};
-ghost use Rattle.chp_cli.specs.Compiling.{Compiles, CompilesProgram};
+ghost use Rattle.chp_cli.specs.Compiling.{Compiles, CompilesAccepted, CompilesProgram};
 ghost use Rattle.chp_cli.specs.Replies.{Halts, Stops, written};
 ghost use Rattle.chp_cli.specs.Steps.{FromProgram, most_of_text};
 
 use crate::answer::{Ending, Output, Refusal, Stop};
-use crate::files::{MOST_OF_TEXT, program_of_text, text_of_file};
+use crate::files::{MOST_OF_TEXT, checked_program, program_of_text, text_of_file};
 use chp_edge::Shelf;
 use chp_syntax::Program;
 use net_compose::{PlainNetError, translate_plain};
 use prs_file::print_net;
+use sharing_check::Disjoint;
 use std::alloc::Global;
 
-/// The rule file of the program.
-fn compile_program<'a>(alloc: Global, program: &Program) -> Result<Output, Stop<'a>>
-    ensures answered { IfOk result (λ output. CompilesProgram (program_of program.now) (written output)) }
-    ensures stopped { IfErr result (Halts (CompilesProgram (program_of program.now))) }
+/// The rule file of an accepted program.
+fn compile_accepted<'a>(
+    alloc: Global,
+    program: &Program,
+    _disjoint: &Disjoint,
+) -> Result<Output, Stop<'a>>
+    requires { IsAccepted (program_of program.now) }
+    ensures answered { IfOk result (λ output. CompilesAccepted (program_of program.now) (written output)) }
+    ensures stopped { IfErr result (Halts (CompilesAccepted (program_of program.now))) }
 {
     let net = match translate_plain(alloc, program) {
         Ok(net) => net,
@@ -31,6 +39,18 @@ fn compile_program<'a>(alloc: Global, program: &Program) -> Result<Output, Stop<
             end: Ending::Done,
         }),
         Err(_) => Err(Stop::NoMemory),
+    }
+}
+
+fn compile_program<'a>(alloc: Global, program: &Program) -> Result<Output, Stop<'a>>
+    requires shaped { IsShaped (program_of program.now) }
+    requires few { program.now.procs.items ≡ [] → length program.now.decls.items ≤ most_of_text }
+    ensures answered { IfOk result (λ output. CompilesProgram (program_of program.now) (written output)) }
+    ensures stopped { IfErr result (Halts (CompilesProgram (program_of program.now))) }
+{
+    match checked_program(alloc, program) {
+        Ok(disjoint) => compile_accepted(alloc, program, &disjoint),
+        Err(stop) => Err(stop),
     }
 }
 

@@ -1,18 +1,25 @@
 //! Steps of which commands are made: from a file to its text, and from there to what it says.
 
-ghost use Rattle.std.specs.Prelude.{◌≡◌, ◌-◌, ◌<◌, ◌≤◌, ◌^◌, ◌∷◌, [], length, IfOk, IfErr};
+ghost use Rattle.std.specs.Prelude.{◌≡◌, ◌-◌, ◌<◌, ◌≤◌, ◌^◌, ◌∷◌, [], length, IfOk, IfErr, OnOk};
+ghost use Rattle.chp_syntax.specs.Shape.{IsShaped};
 ghost use Rattle.chp_syntax.specs.View.{program_of};
+ghost use Rattle.width_check.specs.Accepted.{IsAccepted};
+ghost use Rattle.width_check.specs.Form.{typed_form};
+ghost use Rattle.width_check.specs.Typed.{program_of as typed_of};
 ghost use Rattle.chp_cli.specs.Answers.{Gives, given_by};
 ghost use Rattle.chp_cli.specs.Replies.{Halts, Stops};
-ghost use Rattle.chp_cli.specs.Steps.{FromFile, FromNet, FromProgram, IsFileOf, IsTextOf, Never, most_of_net, most_of_text};
+ghost use Rattle.chp_cli.specs.Steps.{FromChecks, FromFile, FromNet, FromProgram, IsFileOf, IsTextOf, Never, most_of_net, most_of_text};
 
 use crate::answer::{Refusal, Stop};
+use crate::calls::has_calls;
 use chp_base::TextError;
 use chp_edge::{ReadEnd, Shelf, read_all};
 use chp_syntax::{Program, parse};
 use prs_core::Net;
 use prs_file::{NetReadError, read_net};
+use sharing_check::{Disjoint, share};
 use std::alloc::Global;
+use width_check::resolve;
 
 /// The most bytes of a program text.
 pub const MOST_OF_TEXT: usize = 262_144;
@@ -47,10 +54,36 @@ pub fn text_of_file<'a, S: Shelf>(
 pub fn program_of_text<'a>(alloc: Global, text: &[u8]) -> Result<Program, Stop<'a>>
     requires { length text.now ≤ most_of_text }
     ensures read { IfOk result (λ program. IsTextOf text.now (program_of program)) }
+    ensures shaped { IfOk result (λ program. IsShaped (program_of program)) }
+    ensures few { IfOk result (λ program. program.procs.items ≡ [] → length program.decls.items ≤ most_of_text) }
     ensures stopped { IfErr result (Halts (FromProgram text.now Never)) }
 {
     match parse(alloc, text) {
         Ok(program) => Ok(program),
+        Err(TextError::Refused(fault)) => Err(Stop::Refused(Refusal::Text(fault))),
+        Err(TextError::NoMemory(_)) => Err(Stop::NoMemory),
+    }
+}
+
+/// The program with its names resolved. It is refused for the first fault of its names and widths, or else of sharing;
+/// one with procedures or calls isn't served yet.
+pub fn checked_program<'a>(alloc: Global, program: &Program) -> Result<Disjoint, Stop<'a>>
+    requires shaped { IsShaped (program_of program.now) }
+    requires few { program.now.procs.items ≡ [] → length program.now.decls.items ≤ most_of_text }
+    ensures accepted { OnOk result (IsAccepted (program_of program.now)) }
+    ensures form { IfOk result (λ disjoint. typed_of disjoint ≡ typed_form (program_of program.now)) }
+    ensures stopped { IfErr result (Halts (FromChecks (program_of program.now) (Never (program_of program.now)))) }
+{
+    if has_calls(program) {
+        return Err(Stop::Refused(Refusal::NotBuilt));
+    }
+    let typed = match resolve(alloc, program) {
+        Ok(typed) => typed,
+        Err(TextError::Refused(fault)) => return Err(Stop::Refused(Refusal::Text(fault))),
+        Err(TextError::NoMemory(_)) => return Err(Stop::NoMemory),
+    };
+    match share(alloc, typed) {
+        Ok(disjoint) => Ok(disjoint),
         Err(TextError::Refused(fault)) => Err(Stop::Refused(Refusal::Text(fault))),
         Err(TextError::NoMemory(_)) => Err(Stop::NoMemory),
     }

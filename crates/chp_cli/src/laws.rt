@@ -13,12 +13,17 @@ pub fn one_answer()
 {
     chp_syntax::laws::one_fault();
     prs_file::one_refusal();
+    width_check::laws::one_fault();
+    sharing_check::laws::one_shared_fault();
 }
 
 /// Law: the only answer of `compile` to a file that holds what is to be compiled is to write.
 pub fn compiles_all()
     ensures { (given : Given) (file : List ℕ) → given.tells ≡ true → IsToCompile given file → (answer : Answer) → Compiles given file answer → status_of answer ≡ Done }
-{}
+{
+    width_check::laws::one_fault();
+    sharing_check::laws::one_shared_fault();
+}
 
 /// Law: the only answer of `migrate` to a file that holds what is to be migrated is to write.
 pub fn migrates_all()

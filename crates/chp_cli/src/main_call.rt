@@ -4,7 +4,7 @@ ghost use Rattle.std.specs.Prelude.{◌≡◌, ◌≢◌, ◌≤◌, ◌++◌, �
 ghost use Rattle.chp_edge.specs.Faults.{Rose, IsReadFault};
 ghost use Rattle.chp_cli.specs.Answers.{Answer, given_by, status_of};
 ghost use Rattle.chp_cli.specs.Commands.{IsAnswer, asked, asked_by, files_of};
-ghost use Rattle.chp_cli.specs.Ends.{Answers, Ends, IsFile};
+ghost use Rattle.chp_cli.specs.Ends.{AnswersTo, Ends, IsFile};
 ghost use Rattle.chp_cli.specs.Replies.{Stops, end_line, end_status, written};
 ghost use Rattle.chp_cli.specs.Statuses.{is_whole};
 
@@ -87,7 +87,7 @@ pub fn chp_main<S: Shelf, K: Sink, W: Sink>(
         × Ends (asked_by words.now) (given_by (S.tells shelf.old) (S.holds shelf.old)) (S.faults shelf.old) (S.faults shelf.new) (K.faults out.old) (K.faults out.new) result appended line
         × (K.tells out.old ≡ true → K.written out.new ≡ K.written out.old ++ appended)
         × (W.tells say.old ≡ true → ¬ Rose (W.faults say.old) (W.faults say.new) → W.written say.new ≡ W.written say.old ++ line) }
-    ensures complete { (answer : Answer) → S.tells shelf.old ≡ true → Answers (asked_by words.now) (given_by (S.tells shelf.old) (S.holds shelf.old)) answer
+    ensures complete { (answer : Answer) → S.tells shelf.old ≡ true → AnswersTo (asked_by words.now) (given_by (S.tells shelf.old) (S.holds shelf.old)) answer
         → ¬ Rose (S.faults shelf.old) (S.faults shelf.new) → ¬ Rose (K.faults out.old) (K.faults out.new) → (result ≡ status_of answer) ⊎ (result ≡ Status.NoMemory) }
     ensures usage { result ≡ Status.Usage → asked_by words.now ≡ None }
     ensures read { result ≡ Status.Read → (name : List ℕ) × IsFile (asked_by words.now) name × IsReadFault (S.faults shelf.old) (S.faults shelf.new) (S.tells shelf.old) (S.holds shelf.old name) }

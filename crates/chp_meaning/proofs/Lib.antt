@@ -17,7 +17,6 @@ pub mod Clearing
 pub mod NextRound
 pub mod RoundAnswers
 pub mod Starting
-pub mod Stages
 pub mod Alike
 pub mod Halves
 pub mod HalvedPrograms

@@ -7,5 +7,4 @@ pub mod Remaining
 pub mod AtOnce
 pub mod Standing
 pub mod Ends
-pub mod Apart
 pub mod Halves

@@ -1,8 +1,6 @@
 //! The meaning of programs, in steps and in rounds.
 #![tactic(auto)]
 
-#[cfg(test)]
-mod by_hand;
 mod config;
 mod effect;
 mod laws;
@@ -10,8 +8,6 @@ mod left;
 mod plan;
 mod run;
 mod settle;
-#[cfg(test)]
-mod tests;
 
 pub use config::{Config, start};
 pub use laws::{

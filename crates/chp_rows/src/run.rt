@@ -1,54 +1,85 @@
-//! A command over devices in memory.
+//! A command, and what it left.
 
+use crate::bench::Bench;
+use case_text::{put_bytes, put_lines, words_of};
 use chp_cli::{Status, chp_main};
-use chp_edge::{MemShelf, MemSink};
+use chp_edge::{MemSink, Shelf, SureShelf};
 use std::alloc::{AllocError, Global};
+use std::fmt::Write;
 
 /// What a command left.
 #[derive(Drop)]
-pub struct Ran {
-    pub status: Status,
-    pub out: MemSink,
-    pub say: MemSink,
-}
-
-/// Room for all that a test writes.
-const ROOM: usize = 4096;
-
-/// A sink that takes all at once.
-pub fn wide(alloc: Global) -> Result<MemSink, AllocError> {
-    MemSink::new(alloc, ROOM, ROOM, Vec::new(alloc))
-}
-
-/// A shelf with one file of the name `f`, whose call of this number fails, counted from 1.
-pub fn shelf(alloc: Global, text: &[u8], failing: u64) -> Result<MemShelf, AllocError> {
-    let mut files = Vec::new(alloc);
-    files.push(("f".to_string(alloc)?, text.to_vec(alloc)?))?;
-    let mut plan = Vec::new(alloc);
-    plan.push(failing)?;
-    Ok(MemShelf::new(files, plan))
-}
-
-/// Runs the words, which are parted by spaces, on the file `f` with this text.
-pub fn run(
-    alloc: Global,
-    words: &str,
-    shelf: &mut MemShelf,
+struct Ran {
+    status: Status,
     out: MemSink,
     say: MemSink,
+}
+
+fn command<S: Shelf>(
+    alloc: Global,
+    bench: &Bench,
+    line: &str,
+    shelf: &mut S,
 ) -> Result<Ran, AllocError> {
-    let mut list = Vec::new(alloc);
-    for word in words.split_whitespace() {
-        list.push(word.to_string(alloc)?)?;
-    }
-    let mut out = out;
-    let mut say = say;
-    let status = chp_main(alloc, &list, shelf, &mut out, &mut say);
+    let words = words_of(alloc, line)?;
+    let mut out = bench.out.sink(alloc)?;
+    let mut say = bench.say.sink(alloc)?;
+    let status = chp_main(alloc, &words, shelf, &mut out, &mut say);
     Ok(Ran { status, out, say })
 }
 
-/// Compiles the text over devices that never fail.
-pub fn compile(alloc: Global, text: &[u8]) -> Result<Ran, AllocError> {
-    let mut shelf = shelf(alloc, text, 0)?;
-    run(alloc, "compile f", &mut shelf, wide(alloc)?, wide(alloc)?)
+/// The status, and what was said.
+fn put_end(page: &mut String, ran: &Ran) -> Result<(), AllocError> {
+    write!(page, "{}", ran.status.number())?;
+    if !ran.say.written().is_empty() {
+        page.push(' ')?;
+        put_bytes(page, ran.say.written())?;
+    }
+    page.push('\n')
+}
+
+fn put_all(page: &mut String, line: &str, ran: &Ran) -> Result<(), AllocError> {
+    writeln!(page, "> {line}")?;
+    put_end(page, ran)?;
+    put_lines(page, ran.out.written())
+}
+
+/// Runs the words over the files of the case.
+pub fn run(alloc: Global, bench: &Bench, line: &str, page: &mut String) -> Result<(), AllocError> {
+    let mut shelf = bench.shelf(alloc, usize::MAX)?;
+    let ran = command(alloc, bench, line, &mut shelf)?;
+    put_all(page, line, &ran)
+}
+
+/// Runs the words over a shelf that has the last file under every name, and never fails.
+pub fn run_surely(
+    alloc: Global,
+    bench: &Bench,
+    line: &str,
+    page: &mut String,
+) -> Result<(), AllocError> {
+    let mut shelf = SureShelf::new(Vec::from_slice(alloc, bench.last())?);
+    let ran = command(alloc, bench, line, &mut shelf)?;
+    put_all(page, line, &ran)
+}
+
+/// Runs the words for each length of the last file that is shorter than it: one line each, with the length, the status
+/// and what was said. What was written is printed only where the command didn't end well.
+pub fn run_cuts(
+    alloc: Global,
+    bench: &Bench,
+    line: &str,
+    page: &mut String,
+) -> Result<(), AllocError> {
+    writeln!(page, "> {line}")?;
+    for bytes in 0..bench.last().len() {
+        let mut shelf = bench.shelf(alloc, bytes)?;
+        let ran = command(alloc, bench, line, &mut shelf)?;
+        write!(page, "{bytes}: ")?;
+        put_end(page, &ran)?;
+        if ran.status != Status::Done {
+            put_lines(page, ran.out.written())?;
+        }
+    }
+    Ok(())
 }

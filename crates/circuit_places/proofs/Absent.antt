@@ -1,51 +1,94 @@
 -- A spot that stands for no node never moves.
-use Rattle.std.proofs.Common.{◌≡◌, ℕ, ◌≤◌, Bool, true, false, refl, arith}
+use Rattle.std.proofs.Common.{◌≡◌, ℕ, ◌<◌, ◌≤◌, Bool, true, false, List, refl, ◌∙◌, subst, arith}
+use Rattle.std.specs.Prelude.{nat_lt, ◌&&◌, not, if◌then◌else◌}
 use Rattle.std.proofs.lemmas.Bool.Decides.{nat_tests}
-use Rattle.std.specs.Prelude.{nat_lt}
-use Rattle.width_check.specs.Processes.{Formula, Process, skipping, assigning, sending, receiving, in_turn, side_by_side, choosing, repeating, Processes, no_members, and_member, member_count}
-use Rattle.circuit_places.specs.Lines.{Line, of_channel, of_var, same_line, site_statement, line_width, Rails, Seen}
-use Rattle.circuit_places.specs.Circuit.{Site, SiteSpot, site_stands, site_rule, Guarded, Cells, TurnCells, BranchCells, gate_count, bit_at, joint_count, branch_ends, GuardedSpot, Spot, TurnSpot, BranchSpot, child, latch, next, inner, of_skip, done, gate, of_assign, of_send, in_members, of_branch, joint, in_this, in_others, of_loop, ask, in_body, in_last, in_member, in_later, guarded_stands, stands, turn_stands, branch_stands, fires, gate_rule, guarded_rule, rule, turn_rule, branch_rule}
-use Rattle.circuit_places.proofs.RailLemmas.{gate_there}
+use Rattle.width_check.specs.Processes.{Formula, Process, Processes, member_count, TypedProgram}
+use Rattle.width_check.specs.Typing.{channel_width}
+use Rattle.circuit_places.specs.Lines.{Line, of_channel, of_var, Rails, Seen}
+use Rattle.circuit_places.specs.Circuit.{SiteSpot, PortSpot, site_stands, port_stands, Pairs, gate_count, gate_rule, fires, bit_at, joint_count, GuardedSpot, Spot, TurnSpot, BranchSpot, heard, stored, taking, child, latch, next, inner, of_skip, done, gate, of_assign, of_send, of_receive, in_members, of_branch, joint, in_this, in_others, of_loop, ask, in_body, in_last, in_member, in_later, guarded_stands, stands, turn_stands, branch_stands}
+use Rattle.circuit_places.proofs.RailLemmas.{gate_there, snd_true}
 use Rattle.circuit_places.proofs.Trees.{joint_absent}
+use Rattle.circuit_places.proofs.Meets.{PortMeets, Meets, TurnMeets, EachMeets}
+use Rattle.circuit_places.proofs.Flow.{Clean, cases}
+use Rattle.circuit_places.proofs.Places.{Mode, running, asks, not_running, GuardedAt, At, TurnAt, BranchesAt, g_rests, g_in, g_past, g_back, rests, at_skip, at_assign, at_send, at_receive, at_turn, at_side, at_body, no_more, and_at, turn_rests, at_last, at_member, at_later, ends, site_moves, port_moves, PortFits, GuardedFits, Fits, TurnFits, BranchesFit, guarded_moves, moves, turn_moves, branch_moves}
 
 not_below : (i n : ℕ) → nat_lt i n ≡ false → n ≤ i
 not_below i n h = grind (arith, nat_tests)
 
-absent_site : (e : Formula) (bits : ℕ → Rails) (ack r : Bool) (x : Site (gate_count e)) (s : SiteSpot e) → site_stands s ≡ false → fires (site_rule e bits ack r x s) ≡ false
-absent_site e bits ack r x done h = absurd (cc h)
-absent_site e bits ack r x (gate k one) h = here (fires (gate_rule e bits r x.gates k one)) refl
-  where
-    here : (b : Bool) → fires (gate_rule e bits r x.gates k one) ≡ b → b ≡ false
-    here true z = absurd (let g : ⊥ = omega (arith, gate_there e bits r x.gates k one z, not_below k (gate_count e) h) in g)
-    here false z = refl
+past : (i n : ℕ) → nat_lt i n ≡ false → i < n → ⊥
+past i n h less = let g = not_below i n h in let z : ⊥ = omega (arith, g, less) in z
 
-mutual
-  pub guarded_absent : (p : Process) (env : Seen) (r : Bool) (x : Guarded (Cells p)) (s : GuardedSpot p) → guarded_stands s ≡ false → fires (guarded_rule p env r x s) ≡ false
-  guarded_absent p env r x child h = absurd (cc h)
-  guarded_absent p env r x latch h = absurd (cc h)
-  guarded_absent p env r x next h = absurd (cc h)
-  guarded_absent p env r x (inner s) h = absent p env x.child x.inner s h
+absent_site : (env : Seen) (k : Line) (e : Formula) (m : Mode) (u : Pairs (gate_count e)) (s : SiteSpot e) → site_stands s ≡ false
+    → site_moves env k e m u s ≡ false
+absent_site env k e m u done h = absurd (cc h)
+absent_site env k e m u (gate i one) h = cases (fires (gate_rule e env.bit (asks m) u i one))
+    (λ (z : fires (gate_rule e env.bit (asks m) u i one) ≡ true). absurd (past i (gate_count e) h (gate_there e env.bit (asks m) u i one z)))
+    (λ (z : fires (gate_rule e env.bit (asks m) u i one) ≡ false). z)
 
-  pub absent : (p : Process) (env : Seen) (r : Bool) (x : Cells p) (s : Spot p) → stands s ≡ false → fires (rule p env r x s) ≡ false
-  absent skipping env r x of_skip h = absurd (cc h)
-  absent (assigning y at e) env r x (of_assign s) h = absent_site e env.bit (env.ack (of_var y)) r x s h
-  absent (sending c at e) env r x (of_send s) h = absent_site e env.bit (env.ack (of_channel c)) r x s h
-  absent (in_turn members) env r x (in_members s) h = turn_absent members env r x s h
-  absent (repeating p) env r x of_loop h = absurd (cc h)
-  absent (repeating p) env r x ask h = absurd (cc h)
-  absent (repeating p) env r x (in_body s) h = absent p env x.ask x.inner s h
-  absent (receiving c at z to) env r x s h = refl
-  absent (side_by_side members) env r x (of_branch s) h = branch_absent members env r x.branches s h
-  absent (side_by_side members) env r x (joint k) h = joint_absent (member_count members) (branch_ends members x.branches) (bit_at (joint_count (member_count members)) x.tree) k (not_below k (joint_count (member_count members)) h)
-  absent (choosing again _) env r x s h = refl
+module _ (P : TypedProgram) (env : Seen) (clean : Clean P env) where
+  absent_port : (c x : ℕ) (m : Mode) (k : Bool) (q : Rails) → PortMeets P c x → PortFits c x m k q env → (s : PortSpot)
+      → port_stands (channel_width P.channels c) s ≡ false → port_moves env c x m k q s ≡ false
+  absent_port c x m k q meets f heard h = absurd (cc h)
+  absent_port c x m k q meets f stored h = absurd (cc h)
+  absent_port c x m k q meets f (taking i one) h = here (q i one) refl
+    where
+      here : (b : Bool) → q i one ≡ b → (if b then not (asks m) && not (env.rail (of_channel c) i one) else asks m && env.rail (of_channel c) i one) ≡ false
+      here true e = absurd (past i (channel_width P.channels c) h (subst (λ (n : ℕ). i < n) (clean.wide (of_var x) ∙ meets.widths) (f.within i one e)))
+      here false e = cases (asks m && env.rail (of_channel c) i one)
+          (λ (z : (asks m && env.rail (of_channel c) i one) ≡ true). absurd
+          (past i (channel_width P.channels c) h (clean.below c i one (snd_true (asks m) (env.rail (of_channel c) i one) z))))
+          (λ (z : (asks m && env.rail (of_channel c) i one) ≡ false). z)
 
-  branch_absent : (members : Processes) (env : Seen) (r : Bool) (x : BranchCells members) (s : BranchSpot members) → branch_stands s ≡ false → fires (branch_rule members env r x s) ≡ false
-  branch_absent no_members env r x s h = refl
-  branch_absent (and_member p more) env r x (in_this s) h = guarded_absent p env r x.0 s h
-  branch_absent (and_member p more) env r x (in_others s) h = branch_absent more env r x.1 s h
+  -- a Q-element that isn't running doesn't move inside
+  past_absent : {p : Process} {k : Mode} (g : GuardedAt p k) → (k ≡ running → ⊥) → (s : GuardedSpot p) → guarded_stands P.channels s ≡ false
+      → guarded_moves env g s ≡ false
+  past_absent g_rests out s h = refl
+  past_absent g_past out s h = refl
+  past_absent (g_back u) out (inner s) h = refl
+  past_absent (g_back u) out child h = absurd (cc h)
+  past_absent (g_back u) out latch h = absurd (cc h)
+  past_absent (g_back u) out next h = absurd (cc h)
+  past_absent (g_in u a j) out s h = absurd (out refl)
 
-  pub turn_absent : (members : Processes) (env : Seen) (r : Bool) (x : TurnCells members) (s : TurnSpot members) → turn_stands s ≡ false → fires (turn_rule members env r x s) ≡ false
-  turn_absent no_members env r x s h = refl
-  turn_absent (and_member p no_members) env r x (in_last s) h = absent p env r x s h
-  turn_absent (and_member p (and_member q more)) env r x (in_member s) h = guarded_absent p env r x.member s h
-  turn_absent (and_member p (and_member q more)) env r x (in_later s) h = turn_absent (and_member q more) env x.member.next x.later s h
+  mutual
+    pub guarded_absent : {p : Process} {m : Mode} (g : GuardedAt p m) → Meets P p → GuardedFits g env → (s : GuardedSpot p)
+        → guarded_stands P.channels s ≡ false → guarded_moves env g s ≡ false
+    guarded_absent g_rests meets f s h = refl
+    guarded_absent (g_in u a i) meets f (inner s) h = absent a meets f s h
+    guarded_absent (g_in u a i) meets f child h = absurd (cc h)
+    guarded_absent (g_in u a i) meets f latch h = absurd (cc h)
+    guarded_absent (g_in u a i) meets f next h = absurd (cc h)
+    guarded_absent g_past meets f s h = refl
+    guarded_absent (g_back u) meets f (inner s) h = refl
+    guarded_absent (g_back u) meets f child h = absurd (cc h)
+    guarded_absent (g_back u) meets f latch h = absurd (cc h)
+    guarded_absent (g_back u) meets f next h = absurd (cc h)
+
+    absent : {p : Process} {m : Mode} (a : At p m) → Meets P p → Fits a env → (s : Spot p) → stands P.channels s ≡ false → moves env a s ≡ false
+    absent rests meets f s h = refl
+    absent (at_skip m i) meets f of_skip h = absurd (cc h)
+    absent (at_assign {x = x} {e = e} m u i) meets f (of_assign s) h = absent_site env (of_var x) e m u s h
+    absent (at_send {c = c} {e = e} m u i) meets f (of_send s) h = absent_site env (of_channel c) e m u s h
+    absent (at_receive {c = c} {x = x} m k q i) meets f (of_receive s) h = absent_port c x m k q meets f s h
+    absent (at_turn t) meets f (in_members s) h = turn_absent t meets f s h
+    absent (at_side m t b i) meets f (of_branch s) h = branches_absent b meets.2 f s h
+    absent (at_side {members = members} {ks = ks} m t b i) meets f (joint k) h =
+        joint_absent (member_count members) (ends ks) (bit_at (joint_count (member_count members)) t) k (not_below k (joint_count (member_count members)) h)
+    absent (at_body a) meets f (in_body s) h = absent a meets f s h
+    absent (at_body a) meets f of_loop h = absurd (cc h)
+    absent (at_body a) meets f ask h = absurd (cc h)
+
+    branches_absent : {members : Processes} {ks : List Mode} (b : BranchesAt members ks) → EachMeets P members → BranchesFit b env → (s : BranchSpot members)
+        → branch_stands P.channels s ≡ false → branch_moves env b s ≡ false
+    branches_absent no_more meets f s h = refl
+    branches_absent (and_at g b) meets f (in_this s) h = guarded_absent g meets.0 f.0 s h
+    branches_absent (and_at g b) meets f (in_others s) h = branches_absent b meets.2 f.1 s h
+
+    turn_absent : {members : Processes} {m : Mode} (t : TurnAt members m) → TurnMeets P members → TurnFits t env → (s : TurnSpot members)
+        → turn_stands P.channels s ≡ false → turn_moves env t s ≡ false
+    turn_absent turn_rests meets f s h = refl
+    turn_absent (at_last a) meets f (in_last s) h = absent a meets f s h
+    turn_absent (at_member g) meets f (in_member s) h = guarded_absent g meets.0 f s h
+    turn_absent (at_member g) meets f (in_later s) h = refl
+    turn_absent (at_later g t i) meets f (in_later s) h = turn_absent t meets.1 f s h
+    turn_absent (at_later {k = k} {n = n} {m = m} g t i) meets f (in_member s) h = past_absent g (not_running m k n i) s h

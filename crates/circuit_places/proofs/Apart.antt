@@ -2,11 +2,11 @@
 use Rattle.std.proofs.Common.{◌≡◌, ℕ, Bool, true, false, List, refl, sym, ◌∙◌, subst}
 use Rattle.std.specs.Prelude.{not, ◌&&◌}
 use Rattle.width_check.specs.Processes.{Formula, Process, skipping, assigning, sending, receiving, in_turn, side_by_side, choosing, repeating, Processes, no_members, and_member, member_count}
-use Rattle.circuit_places.specs.Lines.{Line, of_channel, of_var, same_line, site_statement, line_width, Rails, Seen}
-use Rattle.circuit_places.specs.Circuit.{Site, SiteSpot, site_rule, low_site, gate_count, low_guarded, low, low_turn, low_bits, bit_at, joint_count, low_branches, branch_ends, same_bit, answer, GuardedSpot, Spot, TurnSpot, BranchSpot, child, latch, next, inner, of_skip, done, gate, of_assign, of_send, in_members, of_branch, joint, in_this, in_others, of_loop, ask, in_body, in_last, in_member, in_later, is_apart, gate_rule, guarded_rule, rule, turn_rule, branch_rule}
+use Rattle.circuit_places.specs.Lines.{of_channel, of_var, Rails, Seen}
+use Rattle.circuit_places.specs.Circuit.{Port, PortSpot, low_port, port_rule, heard, stored, taking, of_receive, Site, SiteSpot, site_rule, low_site, gate_count, low_guarded, low, low_turn, low_bits, bit_at, joint_count, low_branches, branch_ends, same_bit, answer, GuardedSpot, Spot, TurnSpot, BranchSpot, child, latch, next, inner, of_skip, done, gate, of_assign, of_send, in_members, of_branch, joint, in_this, in_others, of_loop, ask, in_body, in_last, in_member, in_later, is_apart, guarded_rule, rule, turn_rule, branch_rule}
 use Rattle.circuit_places.proofs.RailLemmas.{gate_apart, fst_true, snd_true, same_value}
 use Rattle.circuit_places.proofs.Trees.{joint_apart}
-use Rattle.circuit_places.proofs.Places.{Mode, asks, acks, site_of, all_ask, GuardedAt, At, TurnAt, BranchesAt, g_rests, g_in, g_past, g_back, rests, at_skip, at_assign, at_send, at_turn, at_side, at_body, no_more, and_at, turn_rests, at_last, at_member, at_later, guarded_cells, cells, turn_cells, branch_cells, low_answer, next_is, link_asks, link_next}
+use Rattle.circuit_places.proofs.Places.{Mode, asks, acks, site_of, all_ask, GuardedAt, At, TurnAt, BranchesAt, g_rests, g_in, g_past, g_back, port_of, rests, at_skip, at_assign, at_send, at_receive, at_turn, at_side, at_body, no_more, and_at, turn_rests, at_last, at_member, at_later, guarded_cells, cells, turn_cells, branch_cells, low_answer, next_is, link_asks, link_next}
 
 both_of : (r u : Bool) → not ((r && not u) && u) ≡ true
 both_of true true = refl
@@ -40,6 +40,16 @@ site_apart : (e : Formula) (bits : ℕ → Rails) (ack r : Bool) (x : Site (gate
 site_apart e bits ack r x done = ack_apart r ack
 site_apart e bits ack r x (gate i one) = gate_apart e bits r x.gates i one
 
+take_apart : (r b : Bool) → not ((r && b) && (not r && not b)) ≡ true
+take_apart true true = refl
+take_apart true false = refl
+take_apart false b = refl
+
+port_apart : (rail : Rails) (ack va r : Bool) (x : Port) (s : PortSpot) → is_apart (port_rule rail ack va r x s) ≡ true
+port_apart rail ack va r x heard = ack_apart r ack
+port_apart rail ack va r x stored = ack_apart r va
+port_apart rail ack va r x (taking i one) = take_apart r (rail i one)
+
 mutual
   low_guarded_apart : (p : Process) (env : Seen) (s : GuardedSpot p) → is_apart (guarded_rule p env false (low_guarded (low p)) s) ≡ true
   low_guarded_apart p env child = refl
@@ -55,9 +65,10 @@ mutual
   low_apart (repeating p) env of_loop = refl
   low_apart (repeating p) env ask = refl
   low_apart (repeating p) env (in_body s) = low_apart p env s
-  low_apart (receiving c at x to) env s = refl
+  low_apart (receiving c at x to) env (of_receive s) = port_apart (env.rail (of_channel c)) (env.ack (of_channel c)) (env.ack (of_var x)) false low_port s
   low_apart (side_by_side members) env (of_branch s) = low_branch_apart members env s
-  low_apart (side_by_side members) env (joint k) = joint_apart (member_count members) (branch_ends members (low_branches members)) (bit_at (joint_count (member_count members)) (low_bits (joint_count (member_count members)))) k
+  low_apart (side_by_side members) env (joint k) = joint_apart (member_count members) (branch_ends members (low_branches members))
+      (bit_at (joint_count (member_count members)) (low_bits (joint_count (member_count members)))) k
   low_apart (choosing again _) env s = refl
 
   low_branch_apart : (members : Processes) (env : Seen) (s : BranchSpot members) → is_apart (branch_rule members env false (low_branches members) s) ≡ true
@@ -72,7 +83,8 @@ mutual
   low_turn_apart (and_member p (and_member q more)) env (in_later s) = low_turn_apart (and_member q more) env s
 
 mutual
-  pub guarded_apart : {p : Process} {m : Mode} (env : Seen) (g : GuardedAt p m) (s : GuardedSpot p) → is_apart (guarded_rule p env (asks m) (guarded_cells g) s) ≡ true
+  pub guarded_apart : {p : Process} {m : Mode} (env : Seen) (g : GuardedAt p m) (s : GuardedSpot p)
+      → is_apart (guarded_rule p env (asks m) (guarded_cells g) s) ≡ true
   guarded_apart {p = p} env g_rests s = low_guarded_apart p env s
   guarded_apart {p = p} env (g_in u a h) child = not_then u
   guarded_apart {p = p} env (g_in u a h) latch = latch_apart (answer p (cells a)) true (λ e. absurd (cc e))
@@ -92,22 +104,32 @@ mutual
   own_apart env (at_skip m h) of_skip = either_way (asks m)
   own_apart env (at_assign {x = x} {e = e} m u h) (of_assign s) = site_apart e env.bit (env.ack (of_var x)) (asks m) (site_of e (acks m) u) s
   own_apart env (at_send {c = c} {e = e} m u h) (of_send s) = site_apart e env.bit (env.ack (of_channel c)) (asks m) (site_of e (acks m) u) s
+  own_apart env (at_receive {c = c} {x = x} m k q h) (of_receive s) = port_apart (env.rail (of_channel c)) (env.ack (of_channel c)) (env.ack (of_var x))
+      (asks m) (port_of (acks m) k q) s
   own_apart env (at_turn t) (in_members s) = turn_apart env t s
   own_apart env (at_side m t b h) (of_branch s) = branch_apart env (asks m) b h.asked s
-  own_apart env (at_side {members = members} m t b h) (joint k) = joint_apart (member_count members) (branch_ends members (branch_cells b)) (bit_at (joint_count (member_count members)) t) k
+  own_apart env (at_side {members = members} m t b h) (joint k) = joint_apart (member_count members) (branch_ends members (branch_cells b))
+      (bit_at (joint_count (member_count members)) t) k
   own_apart env (at_body a) of_loop = refl
   own_apart env (at_body {p = p} a) ask = not_then (answer p (cells a))
   own_apart env (at_body a) (in_body s) = own_apart env a s
 
-  branch_apart : {members : Processes} {ks : List Mode} (env : Seen) (r : Bool) (b : BranchesAt members ks) → all_ask r ks ≡ true → (s : BranchSpot members) → is_apart (branch_rule members env r (branch_cells b) s) ≡ true
+  branch_apart : {members : Processes} {ks : List Mode} (env : Seen) (r : Bool) (b : BranchesAt members ks) → all_ask r ks ≡ true → (s : BranchSpot members)
+      → is_apart (branch_rule members env r (branch_cells b) s) ≡ true
   branch_apart env r no_more h s = refl
-  branch_apart env r (and_at {p = p} {k = k} {ks = ks} g b) h (in_this s) = subst (λ (x : Bool). is_apart (guarded_rule p env x (guarded_cells g) s) ≡ true) (same_value (asks k) r (fst_true (same_bit (asks k) r) (all_ask r ks) h)) (guarded_apart env g s)
+  branch_apart env r (and_at {p = p} {k = k} {ks = ks} g b) h (in_this s) = subst (λ (x : Bool). is_apart (guarded_rule p env x (guarded_cells g) s) ≡ true)
+      (same_value (asks k) r (fst_true (same_bit (asks k) r) (all_ask r ks) h)) (guarded_apart env g s)
   branch_apart env r (and_at {k = k} {ks = ks} g b) h (in_others s) = branch_apart env r b (snd_true (same_bit (asks k) r) (all_ask r ks) h) s
 
-  pub turn_apart : {members : Processes} {m : Mode} (env : Seen) (t : TurnAt members m) (s : TurnSpot members) → is_apart (turn_rule members env (asks m) (turn_cells t) s) ≡ true
+  pub turn_apart : {members : Processes} {m : Mode} (env : Seen) (t : TurnAt members m) (s : TurnSpot members)
+      → is_apart (turn_rule members env (asks m) (turn_cells t) s) ≡ true
   turn_apart {members = members} env turn_rests s = low_turn_apart members env s
   turn_apart env (at_last a) (in_last s) = own_apart env a s
   turn_apart env (at_member g) (in_member s) = guarded_apart env g s
-  turn_apart env (at_member {q = q} {more = more} g) (in_later s) = subst (λ (b : Bool). is_apart (turn_rule (and_member q more) env b (low_turn (and_member q more)) s) ≡ true) (sym (next_is g)) (low_turn_apart (and_member q more) env s)
-  turn_apart env (at_later {p = p} {k = k} {n = n} {m = m} g t h) (in_member s) = subst (λ (b : Bool). is_apart (guarded_rule p env b (guarded_cells g) s) ≡ true) (link_asks m k n h) (guarded_apart env g s)
-  turn_apart env (at_later {q = q} {more = more} {k = k} {n = n} {m = m} g t h) (in_later s) = subst (λ (b : Bool). is_apart (turn_rule (and_member q more) env b (turn_cells t) s) ≡ true) (sym (next_is g ∙ link_next m k n h)) (turn_apart env t s)
+  turn_apart env (at_member {q = q} {more = more} g) (in_later s) = subst
+      (λ (b : Bool). is_apart (turn_rule (and_member q more) env b (low_turn (and_member q more)) s) ≡ true) (sym (next_is g))
+      (low_turn_apart (and_member q more) env s)
+  turn_apart env (at_later {p = p} {k = k} {n = n} {m = m} g t h) (in_member s) = subst
+      (λ (b : Bool). is_apart (guarded_rule p env b (guarded_cells g) s) ≡ true) (link_asks m k n h) (guarded_apart env g s)
+  turn_apart env (at_later {q = q} {more = more} {k = k} {n = n} {m = m} g t h) (in_later s) = subst
+      (λ (b : Bool). is_apart (turn_rule (and_member q more) env b (turn_cells t) s) ≡ true) (sym (next_is g ∙ link_next m k n h)) (turn_apart env t s)

@@ -1,20 +1,21 @@
 -- A statement at rest and answered; what begins where its request rises, and goes on where it falls.
 use Rattle.std.proofs.Common.{◌≡◌, ℕ, zero, suc, ◌==◌, ◌<◌, Bool, true, false, List, [], ◌∷◌, length, refl, sym, ap, ◌∙◌, subst, arith}
-use Rattle.std.specs.Prelude.{not, ◌&&◌}
+use Rattle.std.specs.Prelude.{not, ◌&&◌, if◌then◌else◌, is_some}
 use Rattle.std.proofs.Math.Path.{fun_ext}
 use Rattle.chp_base.specs.declared.span.Span.{Span}
 use Rattle.width_check.specs.Processes.{Formula, Process, skipping, assigning, sending, receiving, in_turn, side_by_side, choosing, repeating, Processes, no_members, and_member, member_count, TypedProgram}
 use Rattle.chp_meaning.specs.Terms.{Terms, active, opened, opened_turn, opened_each, and_branch, together}
-use Rattle.circuit_places.specs.Lines.{Line, of_channel, of_var, same_line, site_statement, line_width, Rails, Seen}
-use Rattle.circuit_places.specs.Circuit.{Pairs, low_pairs, gate_count, Bits, low_guarded, low, low_site, SiteSpot, low_turn, low_branches, low_bits, bit_at, joint_count, GuardedSpot, Spot, TurnSpot, BranchSpot, of_skip, done, gate, of_assign, of_send, in_members, of_branch, joint, in_this, in_others, in_last, in_member, in_later}
-use Rattle.function_blocks.specs.Waves.{good, out_rail, full, empty, Waves}
+use Rattle.circuit_places.specs.Lines.{Line, of_channel, of_var, same_line, Rails, Seen}
+use Rattle.circuit_places.specs.Whole.{value_on, neutral_on}
+use Rattle.circuit_places.specs.Circuit.{Pairs, low_pairs, gate_count, Bits, low_guarded, low, SiteSpot, low_turn, low_branches, low_bits, bit_at, joint_count, GuardedSpot, Spot, TurnSpot, BranchSpot, of_skip, done, gate, of_assign, of_send, of_receive, PortSpot, heard, stored, taking, in_members, of_branch, joint, in_this, in_others, in_last, in_member, in_later}
+use Rattle.function_blocks.specs.Waves.{full, empty, Waves}
 use Rattle.circuit_places.proofs.RailLemmas.{fst_true, snd_true, never_and, low_out}
 use Rattle.circuit_places.proofs.Trees.{Settled, settled_low, top_low, top_of, flat_stands}
-use Rattle.circuit_places.proofs.Places.{Mode, idle, running, answered, returning, asks, wave_may, SiteMay, all_ask, all_ack, all_idle, ends, SideMay, GuardedAt, At, TurnAt, BranchesAt, g_rests, g_in, g_past, g_back, rests, at_skip, at_assign, at_send, at_turn, at_side, at_body, no_more, and_at, turn_rests, at_last, at_member, at_later, guarded_of, sides_of, guarded_cells, cells, turn_cells, branch_cells, Shown, none_shown, both_shown, guarded_shown, shown, turn_shown, branches_shown, site_of, site_shown, site_moves, send_fits, SiteFits, Fits, TurnFits, BranchesFit, guarded_moves, moves, turn_moves, branch_moves}
-use Rattle.circuit_places.proofs.Meets.{Meets, TurnMeets, opened_then, sends}
+use Rattle.circuit_places.proofs.Places.{Mode, idle, running, answered, returning, wave_may, SiteMay, all_ask, all_ack, all_idle, ends, SideMay, GuardedAt, At, TurnAt, BranchesAt, g_rests, g_in, g_past, g_back, rests, at_skip, at_assign, at_send, at_receive, at_turn, at_side, at_body, no_more, and_at, turn_rests, at_last, at_member, at_later, guarded_of, sides_of, guarded_cells, cells, turn_cells, branch_cells, Shown, none_shown, both_shown, guarded_shown, shown, turn_shown, branches_shown, site_shown, site_moves, send_fits, SiteFits, port_ends, PortFits, port_moves, Fits, TurnFits, BranchesFit, guarded_moves, moves, turn_moves, branch_moves}
+use Rattle.circuit_places.proofs.Meets.{PortMeets, Meets, TurnMeets, opened_then, sends, receives}
 use Rattle.circuit_places.proofs.Left.{waits, left, turn_left, branches_left}
-use Rattle.circuit_places.proofs.Flow.{Flow, Clean, Quiet, or_left}
-use Rattle.circuit_places.proofs.LineNames.{self_number, same_number, self_line, same_line_is}
+use Rattle.circuit_places.proofs.Flow.{Flow, Clean, Quiet, or_left, cases}
+use Rattle.circuit_places.proofs.LineNames.{self_number, self_line}
 
 -- a statement that rests
 mutual
@@ -23,6 +24,7 @@ mutual
   idle_is (at_skip _ h) = absurd (cc h)
   idle_is (at_assign _ u h) = absurd (cc h.may)
   idle_is (at_send _ u h) = absurd (cc h.may)
+  idle_is (at_receive _ k q h) = absurd (cc h)
   idle_is (at_turn t) = turn_idle_is t
   idle_is (at_side _ t b h) = absurd (cc h.awake)
 
@@ -40,6 +42,7 @@ mutual
   idle_moves env (at_skip _ h) s = absurd (cc h)
   idle_moves env (at_assign _ u h) s = absurd (cc h.may)
   idle_moves env (at_send _ u h) s = absurd (cc h.may)
+  idle_moves env (at_receive _ k q h) s = absurd (cc h)
   idle_moves env (at_turn t) (in_members s) = turn_idle_moves env t s
   idle_moves env (at_side _ t b h) s = absurd (cc h.awake)
 
@@ -62,15 +65,30 @@ pub answered_all : (b : Bool) → wave_may answered b ≡ true → b ≡ true
 answered_all true h = refl
 answered_all false h = absurd (cc h)
 
+-- what a receive that answers says of the acknowledges
+pub answered_kept : (k a v f n : Bool) → port_ends answered k a v f n ≡ true → k ≡ true
+answered_kept k a v f n h = fst_true k _ h
+
+pub answered_ack : (k a v f n : Bool) → port_ends answered k a v f n ≡ true → a ≡ true
+answered_ack k a v f n h = fst_true a _ (snd_true k _ h)
+
+pub answered_full : (k a v f n : Bool) → port_ends answered k a v f n ≡ true → f ≡ true
+answered_full k a v f n h = snd_true v f (snd_true a (v && f) (snd_true k (a && (v && f)) h))
+
+pub answered_va : (k a v f n : Bool) → port_ends answered k a v f n ≡ true → v ≡ true
+answered_va k a v f n h = fst_true v _ (snd_true a _ (snd_true k _ h))
+
 -- branches that all rest
-pub branches_idle : {members : Processes} {ks : List Mode} (b : BranchesAt members ks) → all_idle ks ≡ true → (branch_cells b ≡ low_branches members) × (branches_shown b ≡ none_shown)
+pub branches_idle : {members : Processes} {ks : List Mode} (b : BranchesAt members ks) → all_idle ks ≡ true
+    → (branch_cells b ≡ low_branches members) × (branches_shown b ≡ none_shown)
 branches_idle no_more h = (refl, refl)
 branches_idle (and_at {p = p} {k = idle} g_rests b) h = let r = branches_idle b h in (ap (λ x. (low_guarded (low p), x)) r.0, ap (both_shown none_shown) r.1)
 branches_idle (and_at {k = running} g b) h = absurd (cc h)
 branches_idle (and_at {k = answered} g b) h = absurd (cc h)
 branches_idle (and_at {k = returning} g b) h = absurd (cc h)
 
-pub branches_idle_moves : {members : Processes} {ks : List Mode} (env : Seen) (b : BranchesAt members ks) → all_idle ks ≡ true → (s : BranchSpot members) → branch_moves env b s ≡ false
+pub branches_idle_moves : {members : Processes} {ks : List Mode} (env : Seen) (b : BranchesAt members ks) → all_idle ks ≡ true → (s : BranchSpot members)
+    → branch_moves env b s ≡ false
 branches_idle_moves env no_more h s = refl
 branches_idle_moves env (and_at {k = idle} g b) h (in_this s) = guarded_idle_moves env g s
 branches_idle_moves env (and_at {k = idle} g b) h (in_others s) = branches_idle_moves env b h s
@@ -91,7 +109,8 @@ end_high (k ∷ ks) h (suc i) less = end_high ks (snd_true _ _ h) i (omega arith
 pub ends_high : {members : Processes} {ks : List Mode} → BranchesAt members ks → all_ack ks ≡ true → (i : ℕ) → i < member_count members → ends ks i ≡ true
 ends_high {members = members} {ks = ks} b h i less = end_high ks h i (subst (λ (n : ℕ). i < n) (sym (as_many b)) less)
 
-branches_past_moves : {members : Processes} {ks : List Mode} (env : Seen) (b : BranchesAt members ks) → all_ask true ks ≡ true → all_ack ks ≡ true → (s : BranchSpot members) → branch_moves env b s ≡ false
+branches_past_moves : {members : Processes} {ks : List Mode} (env : Seen) (b : BranchesAt members ks) → all_ask true ks ≡ true → all_ack ks ≡ true
+    → (s : BranchSpot members) → branch_moves env b s ≡ false
 branches_past_moves env no_more h k s = refl
 branches_past_moves env (and_at {k = answered} g b) h k (in_this s) = guarded_past_moves env g s
 branches_past_moves env (and_at {k = idle} g b) h k s = absurd (cc h)
@@ -99,25 +118,54 @@ branches_past_moves env (and_at {k = running} g b) h k s = absurd (cc k)
 branches_past_moves env (and_at {k = returning} g b) h k s = absurd (cc h)
 branches_past_moves env (and_at {k = answered} g b) h k (in_others s) = branches_past_moves env b h k s
 
-pub site_answered_moves : (env : Seen) → Clean env → (k : Line) (e : Formula) (u : Pairs (gate_count e)) → SiteMay e answered u → SiteFits k e answered u env → (s : SiteSpot e) → site_moves env k e answered u s ≡ false
-site_answered_moves env clean k e u h f done = ap not f.0
-site_answered_moves env clean k e u h f (gate i one) = h.known.quiet_full env.bit u clean.single f.1 (answered_all (full e u) h.may) i one
+pub site_answered_moves : (P : TypedProgram) (env : Seen) → Clean P env → (k : Line) (e : Formula) (u : Pairs (gate_count e)) → SiteMay e answered u
+    → SiteFits k e answered u env → (s : SiteSpot e) → site_moves env k e answered u s ≡ false
+site_answered_moves P env clean k e u h f done = ap not f.0
+site_answered_moves P env clean k e u h f (gate i one) = h.known.quiet_full env.bit u clean.single f.1 (answered_all (full e u) h.may) i one
+
+-- a receive that answers has all the rails that are there
+pub port_answered_moves : (env : Seen) (c x : ℕ) (k : Bool) (q : Rails) → PortFits c x answered k q env → (s : PortSpot)
+    → port_moves env c x answered k q s ≡ false
+port_answered_moves env c x k q f heard = ap not (answered_ack k (env.ack (of_channel c)) (env.ack (of_var x)) (is_some (value_on (env.width (of_var x)) q))
+    (neutral_on (env.width (of_var x)) q) f.ends)
+port_answered_moves env c x k q f stored = by k (answered_kept k (env.ack (of_channel c)) (env.ack (of_var x)) (is_some (value_on (env.width (of_var x)) q))
+    (neutral_on (env.width (of_var x)) q) f.ends) (answered_va k (env.ack (of_channel c)) (env.ack (of_var x)) (is_some (value_on (env.width (of_var x)) q))
+    (neutral_on (env.width (of_var x)) q) f.ends)
+  where
+    by : (k : Bool) → k ≡ true → env.ack (of_var x) ≡ true → (if k then not (env.ack (of_var x)) else true && env.ack (of_var x)) ≡ false
+    by true e v = ap not v
+    by false e v = absurd (cc e)
+port_answered_moves env c x k q f (taking i one) = by (q i one) refl
+  where
+    by : (b : Bool) → q i one ≡ b → (if b then not true && not (env.rail (of_channel c) i one) else true && env.rail (of_channel c) i one) ≡ false
+    by true e = refl
+    by false e = cases (env.rail (of_channel c) i one)
+        (λ (z : env.rail (of_channel c) i one ≡ true). absurd (cc (
+          f.behind
+              (answered_kept k (env.ack (of_channel c)) (env.ack (of_var x)) (is_some (value_on (env.width (of_var x)) q))
+              (neutral_on (env.width (of_var x)) q) f.ends) i one z,
+          e,
+        )))
+        (λ (z : env.rail (of_channel c) i one ≡ false). z)
 
 mutual
-  pub answered_moves : {p : Process} (env : Seen) → Clean env → (a : At p answered) → Fits a env → (s : Spot p) → moves env a s ≡ false
-  answered_moves env clean (at_skip _ h) f of_skip = refl
-  answered_moves env clean (at_assign {x = x} {e = e} _ u h) f (of_assign s) = site_answered_moves env clean (of_var x) e u h f s
-  answered_moves env clean (at_send {c = c} {e = e} _ u h) f (of_send s) = site_answered_moves env clean (of_channel c) e u h f s
-  answered_moves env clean (at_turn t) f (in_members s) = turn_answered_moves env clean t f s
-  answered_moves env clean (at_side _ t b h) f (of_branch s) = branches_past_moves env b h.asked (h.all refl) s
-  answered_moves env clean (at_side {members = members} {ks = ks} _ t b h) f (joint k) =
-      flat_stands (member_count members) h.known h.some (ends ks) (bit_at (joint_count (member_count members)) t) true h.settles h.top (ends_high b (h.all refl)) k
+  pub answered_moves : (P : TypedProgram) {p : Process} (env : Seen) → Clean P env → (a : At p answered) → Fits a env → (s : Spot p) → moves env a s ≡ false
+  answered_moves P env clean (at_skip _ h) f of_skip = refl
+  answered_moves P env clean (at_assign {x = x} {e = e} _ u h) f (of_assign s) = site_answered_moves P env clean (of_var x) e u h f s
+  answered_moves P env clean (at_send {c = c} {e = e} _ u h) f (of_send s) = site_answered_moves P env clean (of_channel c) e u h f s
+  answered_moves P env clean (at_receive {c = c} {x = x} _ k q h) f (of_receive s) = port_answered_moves env c x k q f s
+  answered_moves P env clean (at_turn t) f (in_members s) = turn_answered_moves P env clean t f s
+  answered_moves P env clean (at_side _ t b h) f (of_branch s) = branches_past_moves env b h.asked (h.all refl) s
+  answered_moves P env clean (at_side {members = members} {ks = ks} _ t b h) f (joint k) =
+      flat_stands (member_count members) h.known h.some (ends ks) (bit_at (joint_count (member_count members)) t) true h.settles h.top
+      (ends_high b (h.all refl)) k
 
-  pub turn_answered_moves : {members : Processes} (env : Seen) → Clean env → (t : TurnAt members answered) → TurnFits t env → (s : TurnSpot members) → turn_moves env t s ≡ false
-  turn_answered_moves env clean (at_last a) f (in_last s) = answered_moves env clean a f s
-  turn_answered_moves env clean (at_later {k = answered} {n = answered} g t h) f (in_member s) = guarded_past_moves env g s
-  turn_answered_moves env clean (at_later {k = answered} {n = answered} g t h) f (in_later s) = turn_answered_moves env clean t f s
-  turn_answered_moves env clean (at_later {k = k} {n = n} g t h) f s = absurd (cc h)
+  pub turn_answered_moves : (P : TypedProgram) {members : Processes} (env : Seen) → Clean P env → (t : TurnAt members answered) → TurnFits t env
+      → (s : TurnSpot members) → turn_moves env t s ≡ false
+  turn_answered_moves P env clean (at_last a) f (in_last s) = answered_moves P env clean a f s
+  turn_answered_moves P env clean (at_later {k = answered} {n = answered} g t h) f (in_member s) = guarded_past_moves env g s
+  turn_answered_moves P env clean (at_later {k = answered} {n = answered} g t h) f (in_later s) = turn_answered_moves P env clean t f s
+  turn_answered_moves P env clean (at_later {k = k} {n = n} g t h) f s = absurd (cc h)
 
 -- what begins where a request rises
 pub record Begun (p : Process) (env : Seen) : Type 0 where
@@ -171,6 +219,27 @@ send_begun c at e env known low = record {
   offer = site_offers_none (of_channel c) e;
   take = λ k. refl;
   term = ap (λ b. waits running b (active (sending c at e))) low;
+}
+
+-- a receive has taken nothing at first
+receive_begun : (P : TypedProgram) (c x : ℕ) (at to : Span) (env : Seen) → PortMeets P c x → env.ack (of_channel c) ≡ false → env.ack (of_var x) ≡ false
+    → Begun (receiving c at x to) env
+receive_begun P c x at to env meets low idle_va = record {
+  place = at_receive running false (λ i one. false) refl;
+  same = refl;
+  fits = record {
+    ends = ap (λ a. port_ends running false a (env.ack (of_var x)) (is_some (value_on (env.width (of_var x)) (λ i one. false)))
+        (neutral_on (env.width (of_var x)) (λ i one. false))) low
+        ∙ ap (λ v. port_ends running false false v (is_some (value_on (env.width (of_var x)) (λ i one. false)))
+        (neutral_on (env.width (of_var x)) (λ i one. false))) idle_va;
+    before = λ e i one h. absurd (cc h);
+    behind = λ e i one h. absurd (cc e);
+    within = λ i one h. absurd (cc h);
+    single = λ i h z. absurd (cc h);
+  };
+  offer = λ k i one. never_and (same_line (of_var x) k);
+  take = λ d. never_and (c == d);
+  term = ap (λ b. waits running b (active (receiving c at x to))) low;
 }
 
 -- branches under a request that rose
@@ -233,17 +302,17 @@ mutual
   begun P (assigning x at e) env h n = assign_begun x at e env h.known (n.send (of_var x) (self_line (of_var x)))
   begun P (sending c at e) env h n = send_begun c at e env h.known (n.send (of_channel c) (self_line (of_channel c)))
   begun P (in_turn members) env h n =
-      let b = turn_begun P members env h record { send = n.send } in
+      let b = turn_begun P members env h record { send = n.send; receive = n.receive } in
       record { place = at_turn b.place; same = b.same; fits = b.fits; offer = b.offer; take = b.take; term = b.term }
   begun P (repeating p) env h n = record { place = at_body rests; same = refl; fits = tt; offer = λ k i one. refl; take = λ k. refl; term = refl }
-  begun P (receiving c at x to) env h n = absurd h
+  begun P (receiving c at x to) env h n = receive_begun P c x at to env h (n.receive c (self_number c)) (n.send (of_var x) (self_line (of_var x)))
   begun P (side_by_side members) env h n = sides_begun P members env h
   begun P (choosing again _) env h n = absurd h
 
   pub turn_begun : (P : TypedProgram) (members : Processes) (env : Seen) → TurnMeets P members → Quiet (in_turn members) env → TurnBegun members env
   turn_begun P no_members env h n = absurd h
   turn_begun P (and_member p no_members) env h n =
-      let b = begun P p env h record { send = λ k e. n.send k (or_left (sends p k) false e) } in
+      let b = begun P p env h record { send = λ k e. n.send k (or_left (sends p k) false e); receive = λ c e. n.receive c (or_left (receives p c) false e) } in
       record { place = at_last b.place; same = b.same; fits = b.fits; offer = b.offer; take = b.take; term = b.term }
   turn_begun P (and_member p (and_member q more)) env h n = record {
     place = at_member (g_in false rests refl);
@@ -281,7 +350,8 @@ record BranchesLowered (members : Processes) (ks : List Mode) (env : Seen) (b : 
   pub asked : all_ask false modes ≡ true
   pub ends_stay : (i : ℕ) → ends modes i ≡ ends ks i
 
-branches_lowered : {members : Processes} {ks : List Mode} (env : Seen) (b : BranchesAt members ks) → all_ask true ks ≡ true → all_ack ks ≡ true → BranchesLowered members ks env b
+branches_lowered : {members : Processes} {ks : List Mode} (env : Seen) (b : BranchesAt members ks) → all_ask true ks ≡ true → all_ack ks ≡ true
+    → BranchesLowered members ks env b
 branches_lowered env no_more h k = record { modes = []; place = no_more; same = refl; fits = tt; shows = refl; asked = refl; ends_stay = λ i. refl }
 branches_lowered env (and_at {k = idle} g b) h k = absurd (cc h)
 branches_lowered env (and_at {k = running} g b) h k = absurd (cc k)
@@ -302,7 +372,8 @@ branches_lowered env (and_at {p = p} {k = answered} {ks = ks} g_past b) h k =
     shifted ls ks f zero = refl
     shifted ls ks f (suc i) = f i
 
-sides_lowered : {members : Processes} {ks : List Mode} (env : Seen) (t : Bits (joint_count (member_count members))) (b : BranchesAt members ks) (h : SideMay (member_count members) answered ks t) → BranchesFit b env → Lowered (side_by_side members) (at_side answered t b h) env
+sides_lowered : {members : Processes} {ks : List Mode} (env : Seen) (t : Bits (joint_count (member_count members))) (b : BranchesAt members ks)
+    (h : SideMay (member_count members) answered ks t) → BranchesFit b env → Lowered (side_by_side members) (at_side answered t b h) env
 sides_lowered {members = members} {ks = ks} env t b h f =
     let n = member_count members in
     let r = branches_lowered env b h.asked (h.all refl) in
@@ -322,24 +393,62 @@ sides_lowered {members = members} {ks = ks} env t b h f =
       shows = r.shows;
     }
 
-site_lowered : (env : Seen) → Clean env → (k : Line) (e : Formula) (u : Pairs (gate_count e)) → SiteMay e answered u → SiteFits k e answered u env → SiteFits k e returning u env
-site_lowered env clean k e u h f = (still_fits (full e u) (empty e u) (env.ack k) f.0, h.known.ease env.bit u clean.single f.1 (answered_all (full e u) h.may))
+site_lowered : (P : TypedProgram) (env : Seen) → Clean P env → (k : Line) (e : Formula) (u : Pairs (gate_count e)) → SiteMay e answered u
+    → SiteFits k e answered u env → SiteFits k e returning u env
+site_lowered P env clean k e u h f = (
+  still_fits (full e u) (empty e u) (env.ack k) f.0,
+  h.known.ease env.bit u clean.single f.1 (answered_all (full e u) h.may),
+)
+
+-- a receive that answers has stored, and lets go
+port_eased : (k a v f n : Bool) → port_ends answered k a v f n ≡ true → port_ends returning k a v f n ≡ true
+port_eased true true true true n h = refl
+port_eased true true true false n h = absurd (cc h)
+port_eased true true false f n h = absurd (cc h)
+port_eased true false v f n h = absurd (cc h)
+port_eased false a v f n h = absurd (cc h)
+
+port_lowered : (env : Seen) (c x : ℕ) (k : Bool) (q : Rails) → PortFits c x answered k q env → PortFits c x returning k q env
+port_lowered env c x k q f = record {
+  ends = port_eased k (env.ack (of_channel c)) (env.ack (of_var x)) (is_some (value_on (env.width (of_var x)) q)) (neutral_on (env.width (of_var x)) q) f.ends;
+  before = f.before;
+  behind = f.behind;
+  within = f.within;
+  single = f.single;
+}
 
 mutual
-  pub lowered : {p : Process} (env : Seen) → Clean env → (a : At p answered) → Fits a env → Lowered p a env
-  lowered env clean (at_skip _ h) f = record { place = at_skip returning refl; same = refl; fits = tt; shows = refl }
-  lowered env clean (at_assign {x = x} {e = e} _ u h) f = record { place = at_assign returning u (record { known = h.known; may = refl }); same = refl; fits = site_lowered env clean (of_var x) e u h f; shows = refl }
-  lowered env clean (at_send {c = c} {e = e} _ u h) f = record { place = at_send returning u (record { known = h.known; may = refl }); same = refl; fits = site_lowered env clean (of_channel c) e u h f; shows = refl }
-  lowered env clean (at_side _ t b h) f = sides_lowered env t b h f
-  lowered env clean (at_turn t) f = let b = turn_lowered env clean t f in record { place = at_turn b.place; same = b.same; fits = b.fits; shows = b.shows }
+  pub lowered : (P : TypedProgram) {p : Process} (env : Seen) → Clean P env → (a : At p answered) → Fits a env → Lowered p a env
+  lowered P env clean (at_skip _ h) f = record { place = at_skip returning refl; same = refl; fits = tt; shows = refl }
+  lowered P env clean (at_assign {x = x} {e = e} _ u h) f = record {
+    place = at_assign returning u
+        (record { known = h.known; may = refl });
+    same = refl;
+    fits = site_lowered P env clean (of_var x) e u h f;
+    shows = refl;
+  }
+  lowered P env clean (at_send {c = c} {e = e} _ u h) f = record {
+    place = at_send returning u
+        (record { known = h.known; may = refl });
+    same = refl;
+    fits = site_lowered P env clean (of_channel c) e u h f;
+    shows = refl;
+  }
+  lowered P env clean (at_receive {c = c} {x = x} _ k q h) f =
+      record { place = at_receive returning k q refl; same = refl; fits = port_lowered env c x k q f; shows = refl }
+  lowered P env clean (at_side _ t b h) f = sides_lowered env t b h f
+  lowered P env clean (at_turn t) f = let b = turn_lowered P env clean t f in record { place = at_turn b.place; same = b.same; fits = b.fits; shows = b.shows }
 
-  pub turn_lowered : {members : Processes} (env : Seen) → Clean env → (t : TurnAt members answered) → TurnFits t env → TurnLowered members t env
-  turn_lowered env clean (at_last a) f = let b = lowered env clean a f in record { place = at_last b.place; same = b.same; fits = b.fits; shows = b.shows }
-  turn_lowered env clean (at_later {k = answered} {n = answered} g_past t h) f = record { place = at_later (g_back true) t refl; same = refl; fits = f; shows = refl }
-  turn_lowered env clean (at_later {k = k} {n = n} g t h) f = absurd (cc h)
+  pub turn_lowered : (P : TypedProgram) {members : Processes} (env : Seen) → Clean P env → (t : TurnAt members answered) → TurnFits t env
+      → TurnLowered members t env
+  turn_lowered P env clean (at_last a) f = let b = lowered P env clean a f in record { place = at_last b.place; same = b.same; fits = b.fits; shows = b.shows }
+  turn_lowered P env clean (at_later {k = answered} {n = answered} g_past t h) f =
+      record { place = at_later (g_back true) t refl; same = refl; fits = f; shows = refl }
+  turn_lowered P env clean (at_later {k = k} {n = n} g t h) f = absurd (cc h)
 
 -- from what is shown at rest to what is shown where a handshake begins
-pub flow_begun : (env : Seen) (x y : Shown) → x ≡ none_shown → ((k : Line) (i : ℕ) (one : Bool) → y.offer k i one ≡ false) → ((c : ℕ) → y.take c ≡ false) → Flow env x y
+pub flow_begun : (env : Seen) (x y : Shown) → x ≡ none_shown → ((k : Line) (i : ℕ) (one : Bool) → y.offer k i one ≡ false) → ((c : ℕ) → y.take c ≡ false)
+    → Flow env x y
 flow_begun env x y z offer take = record {
   talk = λ k e h. absurd (cc (ap (λ (x : Shown). x.talk k) z, h));
   rises = λ k i one e h. absurd (cc (ap (λ (x : Shown). x.offer k i one) z, h));
@@ -352,7 +461,8 @@ flow_begun env x y z offer take = record {
 }
 
 -- what is shown at last is nothing, and then a handshake begins
-pub flow_then : (env : Seen) (a x y : Shown) → x ≡ none_shown → ((k : Line) (i : ℕ) (one : Bool) → y.offer k i one ≡ false) → ((c : ℕ) → y.take c ≡ false) → Flow env a x → Flow env a y
+pub flow_then : (env : Seen) (a x y : Shown) → x ≡ none_shown → ((k : Line) (i : ℕ) (one : Bool) → y.offer k i one ≡ false) → ((c : ℕ) → y.take c ≡ false)
+    → Flow env a x → Flow env a y
 flow_then env a x y e offer take f = record {
   talk = λ k g h. absurd (cc (f.talk k g h, ap (λ (z : Shown). z.talk k) e));
   rises = λ k i one g h. absurd (cc (f.rises k i one g h, ap (λ (z : Shown). z.offer k i one) e));

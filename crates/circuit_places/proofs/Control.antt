@@ -3,14 +3,15 @@ use Rattle.std.proofs.Common.{◌≡◌, ◌≢◌, ℕ, Bool, true, false, List
 use Rattle.std.specs.Prelude.{not, ◌&&◌, if◌then◌else◌}
 use Rattle.width_check.specs.Processes.{Process, in_turn, repeating, side_by_side, Processes, no_members, and_member, TypedProgram}
 use Rattle.chp_meaning.specs.Terms.{Term, finished, opened, followed}
-use Rattle.circuit_places.specs.Lines.{Line, of_channel, of_var, same_line, site_statement, line_width, Rails, Seen}
-use Rattle.circuit_places.specs.Circuit.{low_guarded, low, low_turn, GuardedSpot, Spot, TurnSpot, BranchSpot, child, latch, next, inner, of_assign, of_send, in_members, of_branch, joint, in_this, in_others, of_loop, ask, in_body, in_last, in_member, in_later, turned_guarded, turned_turn}
-use Rattle.circuit_places.proofs.Places.{Mode, idle, running, answered, returning, asks, acks, inner_may, link, GuardedAt, At, TurnAt, BranchesAt, g_rests, g_in, g_past, g_back, rests, at_skip, at_assign, at_send, at_turn, at_side, at_body, no_more, and_at, turn_rests, at_last, at_member, at_later, guarded_of, ring_of, turn_of, guarded_cells, cells, turn_cells, Shown, none_shown, guarded_shown, shown, turn_shown, branches_shown, GuardedFits, Fits, TurnFits, BranchesFit, writing, guarded_writing, turn_writing, guarded_moves, moves, turn_moves, branch_moves}
-use Rattle.circuit_places.proofs.Meets.{Meets, TurnMeets, EachMeets, sends, turn_sends}
+use Rattle.circuit_places.specs.Lines.{of_channel, Seen}
+use Rattle.circuit_places.specs.Circuit.{low_guarded, low, low_turn, GuardedSpot, Spot, TurnSpot, BranchSpot, child, latch, next, inner, of_assign, of_send, of_receive, in_members, of_branch, joint, in_this, in_others, of_loop, ask, in_body, in_last, in_member, in_later, turned_guarded, turned_turn}
+use Rattle.circuit_places.proofs.Places.{Mode, idle, running, answered, returning, asks, acks, inner_may, link, GuardedAt, At, TurnAt, BranchesAt, g_rests, g_in, g_past, g_back, rests, at_skip, at_assign, at_send, at_receive, at_turn, at_side, at_body, no_more, and_at, turn_rests, at_last, at_member, at_later, guarded_of, ring_of, turn_of, guarded_cells, cells, turn_cells, Shown, none_shown, guarded_shown, shown, turn_shown, branches_shown, GuardedFits, Fits, TurnFits, BranchesFit, guarded_writing, turn_writing, guarded_moves, moves, turn_moves, branch_moves}
+use Rattle.circuit_places.proofs.Meets.{Meets, TurnMeets, EachMeets, sends, turn_sends, receives, each_receives}
 use Rattle.circuit_places.proofs.Left.{inner_left, again, guarded_left, left, turn_left, Follows, followed_follows, loop_follows, left_done, turn_left_done, guarded_left_past, writing_done, turn_writing_done, guarded_writing_done}
 use Rattle.circuit_places.proofs.Flow.{goes, goes_asks, Flow, flow_same, flow_by, Clean, Backed, Quiet, low_of, quiet_of, After, GuardedAfter, TurnAfter, BranchAfter, or_left, or_right}
 use Rattle.circuit_places.proofs.Begin.{idle_is, turn_idle_is, guarded_idle_is, idle_moves, turn_idle_moves, guarded_idle_moves, guarded_past_is, answered_moves, turn_answered_moves, begun, turn_begun, lowered, turn_lowered, flow_begun, flow_then}
 use Rattle.circuit_places.proofs.Leaves.{skip_after, send_after, assign_after}
+use Rattle.circuit_places.proofs.PortLeaf.{receive_after}
 use Rattle.circuit_places.proofs.Talks.{beside, or_false_left, or_false_right}
 use Rattle.circuit_places.proofs.Sides.{this_after, others_after, side_after, joint_after}
 
@@ -35,7 +36,8 @@ no_next true answered n h g e = cc e
 no_next true returning n h g e = cc e
 no_next false m n h g e = cc e
 
-inner_follows : (u : Bool) (m n : Mode) (s x y : Term) → inner_may u m ≡ true → goes m n ≡ true → ((n ≡ running → ⊥) → y ≡ finished) → Follows x y → Follows (inner_left u m s x) (inner_left u n s y)
+inner_follows : (u : Bool) (m n : Mode) (s x y : Term) → inner_may u m ≡ true → goes m n ≡ true → ((n ≡ running → ⊥) → y ≡ finished) → Follows x y
+    → Follows (inner_left u m s x) (inner_left u n s y)
 inner_follows false running running s x y h g over r = r
 inner_follows false running answered s x y h g over r = subst (λ (z : Term). Follows x z) (over (λ e. cc e)) r
 inner_follows true returning returning s x y h g over r = inl refl
@@ -44,7 +46,8 @@ inner_follows _ _ _ s x y h g over r = absurd (cc (h, g))
 
 -- a move inside a Q-element
 module _ {p : Process} {m : Mode} (env : Seen) (u : Bool) (a : At p m) (h : inner_may u m ≡ true) (s : Spot p) (r : After p m env a s) where
-  inner_keeps : (q : GuardedSpot p) → q ≢ inner s → guarded_moves env (g_in u a h) q ≡ true → guarded_moves env (g_in u r.to (inner_goes u m r.mode h r.way)) q ≡ true
+  inner_keeps : (q : GuardedSpot p) → q ≢ inner s → guarded_moves env (g_in u a h) q ≡ true
+      → guarded_moves env (g_in u r.to (inner_goes u m r.mode h r.way)) q ≡ true
   inner_keeps child ne e = ap (λ b. if b then u else not u) (goes_asks m r.mode r.way) ∙ e
   inner_keeps latch ne e = absurd (no_latch u m r.mode h r.way e)
   inner_keeps next ne e = absurd (no_next u m r.mode h r.way e)
@@ -64,7 +67,7 @@ module _ {p : Process} {m : Mode} (env : Seen) (u : Bool) (a : At p m) (h : inne
   }
 
 -- a Q-element's own moves
-module _ (P : TypedProgram) {p : Process} (env : Seen) (clean : Clean env) (meets : Meets P p) where
+module _ (P : TypedProgram) {p : Process} (env : Seen) (clean : Clean P env) (meets : Meets P p) where
   child_up : (a : At p idle) (h : inner_may false idle ≡ true) → Backed p (shown a) env → GuardedAfter p running env (g_in false a h) child
   child_up a h back =
       let b = begun P p env meets (quiet_of env (shown a) (idle_is a).1 back) in
@@ -88,7 +91,7 @@ module _ (P : TypedProgram) {p : Process} (env : Seen) (clean : Clean env) (meet
 
   child_down : (a : At p answered) (h : inner_may true answered ≡ true) → Fits a env → GuardedAfter p running env (g_in true a h) child
   child_down a h f =
-      let b = lowered env clean a f in
+      let b = lowered P env clean a f in
       record {
         mode = running;
         to = g_in true b.place refl;
@@ -105,10 +108,21 @@ module _ (P : TypedProgram) {p : Process} (env : Seen) (clean : Clean env) (meet
       keeps b child ne z = absurd (ne refl)
       keeps b latch ne z = absurd (cc z)
       keeps b next ne z = absurd (cc z)
-      keeps b (inner q) ne z = absurd (cc (answered_moves env clean a f q, z))
+      keeps b (inner q) ne z = absurd (cc (answered_moves P env clean a f q, z))
 
   latch_up : (a : At p answered) (h : inner_may false answered ≡ true) → Fits a env → GuardedAfter p running env (g_in false a h) latch
-  latch_up a h f = record { mode = running; to = g_in true a refl; same = refl; way = refl; fits = f; flow = flow_same env (shown a); term = inl refl; frees = λ x i. i; keeps = keeps }
+  latch_up a h f = record {
+    mode = running;
+    to = g_in true a refl;
+    same = refl;
+    way = refl;
+    fits = f;
+    flow = flow_same env
+        (shown a);
+    term = inl refl;
+    frees = λ x i. i;
+    keeps = keeps;
+  }
     where
       keeps : (q : GuardedSpot p) → q ≢ latch → guarded_moves env (g_in false a h) q ≡ true → guarded_moves env (g_in true a refl) q ≡ true
       keeps child ne z = absurd (cc z)
@@ -136,7 +150,17 @@ module _ (P : TypedProgram) {p : Process} (env : Seen) (clean : Clean env) (meet
       keeps (inner q) ne z = absurd (cc (idle_moves env a q, z))
 
   latch_down : GuardedAfter p returning env (g_back true) latch
-  latch_down = record { mode = returning; to = g_back false; same = refl; way = refl; fits = tt; flow = flow_same env none_shown; term = inl refl; frees = λ x i. refl; keeps = keeps }
+  latch_down = record {
+    mode = returning;
+    to = g_back false;
+    same = refl;
+    way = refl;
+    fits = tt;
+    flow = flow_same env none_shown;
+    term = inl refl;
+    frees = λ x i. refl;
+    keeps = keeps;
+  }
     where
       keeps : (q : GuardedSpot p) → q ≢ latch → guarded_moves env (g_back {p = p} true) q ≡ true → guarded_moves env (g_back {p = p} false) q ≡ true
       keeps child ne z = absurd (cc z)
@@ -145,7 +169,17 @@ module _ (P : TypedProgram) {p : Process} (env : Seen) (clean : Clean env) (meet
       keeps (inner q) ne z = absurd (cc z)
 
   next_down : GuardedAfter p returning env (g_back false) next
-  next_down = record { mode = idle; to = g_rests; same = refl; way = refl; fits = tt; flow = flow_same env none_shown; term = inl refl; frees = λ x i. refl; keeps = keeps }
+  next_down = record {
+    mode = idle;
+    to = g_rests;
+    same = refl;
+    way = refl;
+    fits = tt;
+    flow = flow_same env none_shown;
+    term = inl refl;
+    frees = λ x i. refl;
+    keeps = keeps;
+  }
     where
       keeps : (q : GuardedSpot p) → q ≢ next → guarded_moves env (g_back {p = p} false) q ≡ true → guarded_moves env (g_rests {p = p}) q ≡ true
       keeps child ne z = absurd (cc z)
@@ -153,9 +187,10 @@ module _ (P : TypedProgram) {p : Process} (env : Seen) (clean : Clean env) (meet
       keeps next ne z = absurd (ne refl)
       keeps (inner q) ne z = absurd (cc z)
 
-  guarded_own : {m : Mode} (g : GuardedAt p m) (s : GuardedSpot p) → ((x : Spot p) → s ≢ inner x) → GuardedFits g env → Backed p (guarded_shown g) env → guarded_moves env g s ≡ true → GuardedAfter p m env g s
+  guarded_own : {m : Mode} (g : GuardedAt p m) (s : GuardedSpot p) → ((x : Spot p) → s ≢ inner x) → GuardedFits g env → Backed p (guarded_shown g) env
+      → guarded_moves env g s ≡ true → GuardedAfter p m env g s
   guarded_own g (inner x) out f back e = absurd (out x refl)
-  guarded_own (g_in {m = idle} false a h) child out f back e = child_up a h record { send = back.send }
+  guarded_own (g_in {m = idle} false a h) child out f back e = child_up a h record { send = back.send; receive = back.receive }
   guarded_own (g_in {m = answered} true a h) child out f back e = child_down a h f
   guarded_own (g_in {m = answered} false a h) latch out f back e = latch_up a h f
   guarded_own (g_in {m = idle} true a h) next out f back e = next_up a h
@@ -167,18 +202,25 @@ module _ (P : TypedProgram) {p : Process} (env : Seen) (clean : Clean env) (meet
 
 -- a move in a member, seen from the sequence from it on
 module _ (P : TypedProgram) {p q : Process} {more : Processes} (env : Seen) where
-  member_after : TurnMeets P (and_member q more) → (g : GuardedAt p running) (s : GuardedSpot p) → Backed (in_turn (and_member p (and_member q more))) (guarded_shown g) env → GuardedAfter p running env g s → TurnAfter (and_member p (and_member q more)) running env (at_member {q = q} {more = more} g) (in_member s)
+  member_after : TurnMeets P (and_member q more) → (g : GuardedAt p running) (s : GuardedSpot p)
+      → Backed (in_turn (and_member p (and_member q more))) (guarded_shown g) env → GuardedAfter p running env g s
+      → TurnAfter (and_member p (and_member q more)) running env (at_member {q = q} {more = more} g) (in_member s)
   member_after meets g s back r = by_mode r.mode r.to r.same r.way r.fits r.flow r.term r.frees r.keeps
     where
-      stays : (to : GuardedAt p running) → ((x : GuardedSpot p) → x ≢ s → guarded_moves env g x ≡ true → guarded_moves env to x ≡ true) → (x : TurnSpot (and_member p (and_member q more))) → x ≢ in_member s → turn_moves env (at_member {q = q} {more = more} g) x ≡ true → turn_moves env (at_member {q = q} {more = more} to) x ≡ true
+      stays : (to : GuardedAt p running) → ((x : GuardedSpot p) → x ≢ s → guarded_moves env g x ≡ true → guarded_moves env to x ≡ true)
+          → (x : TurnSpot (and_member p (and_member q more))) → x ≢ in_member s → turn_moves env (at_member {q = q} {more = more} g) x ≡ true
+          → turn_moves env (at_member {q = q} {more = more} to) x ≡ true
       stays to keeps (in_member x) ne z = keeps x (λ (e : x ≡ s). ne (ap (λ y. in_member y) e)) z
       stays to keeps (in_later x) ne z = absurd (cc z)
 
-      hands_on : (to : GuardedAt p answered) (b : TurnAt (and_member q more) running) → ((x : GuardedSpot p) → x ≢ s → guarded_moves env g x ≡ true → guarded_moves env to x ≡ true) → (x : TurnSpot (and_member p (and_member q more))) → x ≢ in_member s → turn_moves env (at_member {q = q} {more = more} g) x ≡ true → turn_moves env (at_later {m = running} to b refl) x ≡ true
+      hands_on : (to : GuardedAt p answered) (b : TurnAt (and_member q more) running)
+          → ((x : GuardedSpot p) → x ≢ s → guarded_moves env g x ≡ true → guarded_moves env to x ≡ true) → (x : TurnSpot (and_member p (and_member q more)))
+          → x ≢ in_member s → turn_moves env (at_member {q = q} {more = more} g) x ≡ true → turn_moves env (at_later {m = running} to b refl) x ≡ true
       hands_on to b keeps (in_member x) ne z = keeps x (λ (e : x ≡ s). ne (ap (λ y. in_member y) e)) z
       hands_on to b keeps (in_later x) ne z = absurd (cc z)
 
-      by_mode : (m : Mode) (to : GuardedAt p m) → guarded_cells to ≡ turned_guarded p (guarded_cells g) s → goes running m ≡ true → GuardedFits to env → Flow env (guarded_shown g) (guarded_shown to) → Follows (guarded_left env.ack g) (guarded_left env.ack to)
+      by_mode : (m : Mode) (to : GuardedAt p m) → guarded_cells to ≡ turned_guarded p (guarded_cells g) s → goes running m ≡ true → GuardedFits to env
+          → Flow env (guarded_shown g) (guarded_shown to) → Follows (guarded_left env.ack g) (guarded_left env.ack to)
           → ((x : ℕ) → guarded_writing env.ack to x ≡ false → guarded_writing env.ack g x ≡ false)
           → ((x : GuardedSpot p) → x ≢ s → guarded_moves env g x ≡ true → guarded_moves env to x ≡ true)
           → TurnAfter (and_member p (and_member q more)) running env (at_member {q = q} {more = more} g) (in_member s)
@@ -196,7 +238,10 @@ module _ (P : TypedProgram) {p q : Process} {more : Processes} (env : Seen) wher
       by_mode answered to same way fits flow term frees keeps =
           let gone = (guarded_past_is to).1 in
           let quiet : Quiet (in_turn (and_member q more)) env = record {
-            send = λ k h. low_of (env.ack k) (λ (e : env.ack k ≡ true). flow.talk k e (back.send k (or_right (sends p k) (turn_sends (and_member q more) k) h) e)) (ap (λ (z : Shown). z.talk k) gone);
+            send = λ k h. low_of (env.ack k) (λ (e : env.ack k ≡ true). flow.talk k e
+                (back.send k (or_right (sends p k) (turn_sends (and_member q more) k) h) e)) (ap (λ (z : Shown). z.talk k) gone);
+            receive = λ c h. low_of (env.ack (of_channel c)) (λ (e : env.ack (of_channel c) ≡ true). flow.listen c e
+                (back.receive c (or_right (receives p c) (each_receives (and_member q more) c) h) e)) (ap (λ (z : Shown). z.listen c) gone);
           } in
           let b = turn_begun P (and_member q more) env meets quiet in
           record {
@@ -208,7 +253,8 @@ module _ (P : TypedProgram) {p q : Process} {more : Processes} (env : Seen) wher
             flow = flow_then env (guarded_shown g) (guarded_shown to) (turn_shown b.place) gone b.offer b.take flow;
             frees = λ x i. frees x (guarded_writing_done env.ack to (λ e. cc e) x);
             term = subst (λ (z : Term). Follows (followed (guarded_left env.ack g) (and_member q more)) z) (sym b.term)
-                (subst (λ (z : Term). Follows (followed (guarded_left env.ack g) (and_member q more)) (followed z (and_member q more))) (guarded_left_past env.ack to)
+                (subst (λ (z : Term). Follows (followed (guarded_left env.ack g) (and_member q more)) (followed z (and_member q more)))
+                (guarded_left_past env.ack to)
                 (followed_follows (and_member q more) (guarded_left env.ack g) (guarded_left env.ack to) term));
             keeps = hands_on to b.place keeps;
           }
@@ -236,8 +282,10 @@ linked returning returning answered d h g = absurd (cc g)
 linked _ _ _ _ h g = absurd (cc h)
 
 -- a move behind a member
-later_after : {p q : Process} {more : Processes} {k n m : Mode} (env : Seen) (g : GuardedAt p k) (t : TurnAt (and_member q more) n) (h : link m k n ≡ true) (s : TurnSpot (and_member q more))
-    → (d : Mode) (to : TurnAt (and_member q more) d) → turn_cells to ≡ turned_turn (and_member q more) (turn_cells t) s → Linked m k n d → TurnFits to env → Flow env (turn_shown t) (turn_shown to) → Follows (turn_left env.ack t) (turn_left env.ack to)
+later_after : {p q : Process} {more : Processes} {k n m : Mode} (env : Seen) (g : GuardedAt p k) (t : TurnAt (and_member q more) n) (h : link m k n ≡ true)
+    (s : TurnSpot (and_member q more))
+    → (d : Mode) (to : TurnAt (and_member q more) d) → turn_cells to ≡ turned_turn (and_member q more) (turn_cells t) s → Linked m k n d → TurnFits to env
+    → Flow env (turn_shown t) (turn_shown to) → Follows (turn_left env.ack t) (turn_left env.ack to)
     → ((x : ℕ) → turn_writing env.ack to x ≡ false → turn_writing env.ack t x ≡ false)
     → ((x : TurnSpot (and_member q more)) → x ≢ s → turn_moves env t x ≡ true → turn_moves env to x ≡ true)
     → TurnAfter (and_member p (and_member q more)) m env (at_later g t h) (in_later s)
@@ -253,7 +301,8 @@ later_after {p = p} {q = q} {more = more} env g t h s running to same runs fits 
   keeps = here;
 }
   where
-    here : (x : TurnSpot (and_member p (and_member q more))) → x ≢ in_later s → turn_moves env (at_later {m = running} g t h) x ≡ true → turn_moves env (at_later {m = running} g to refl) x ≡ true
+    here : (x : TurnSpot (and_member p (and_member q more))) → x ≢ in_later s → turn_moves env (at_later {m = running} g t h) x ≡ true
+        → turn_moves env (at_later {m = running} g to refl) x ≡ true
     here (in_member x) ne z = z
     here (in_later x) ne z = keeps x (λ (e : x ≡ s). ne (ap (λ y. in_later y) e)) z
 later_after {p = p} {q = q} {more = more} env g t h s answered to same ends fits flow term frees keeps = record {
@@ -268,7 +317,8 @@ later_after {p = p} {q = q} {more = more} env g t h s answered to same ends fits
   keeps = here;
 }
   where
-    here : (x : TurnSpot (and_member p (and_member q more))) → x ≢ in_later s → turn_moves env (at_later {m = running} g t h) x ≡ true → turn_moves env (at_later {m = answered} g to refl) x ≡ true
+    here : (x : TurnSpot (and_member p (and_member q more))) → x ≢ in_later s → turn_moves env (at_later {m = running} g t h) x ≡ true
+        → turn_moves env (at_later {m = answered} g to refl) x ≡ true
     here (in_member x) ne z = z
     here (in_later x) ne z = keeps x (λ (e : x ≡ s). ne (ap (λ y. in_later y) e)) z
 later_after {p = p} {q = q} {more = more} env g t h s returning to same falls_back fits flow term frees keeps = record {
@@ -283,13 +333,15 @@ later_after {p = p} {q = q} {more = more} env g t h s returning to same falls_ba
   keeps = here;
 }
   where
-    here : (x : TurnSpot (and_member p (and_member q more))) → x ≢ in_later s → turn_moves env (at_later {m = returning} g t h) x ≡ true → turn_moves env (at_later {m = returning} g to refl) x ≡ true
+    here : (x : TurnSpot (and_member p (and_member q more))) → x ≢ in_later s → turn_moves env (at_later {m = returning} g t h) x ≡ true
+        → turn_moves env (at_later {m = returning} g to refl) x ≡ true
     here (in_member x) ne z = z
     here (in_later x) ne z = keeps x (λ (e : x ≡ s). ne (ap (λ y. in_later y) e)) z
 later_after {p = p} {q = q} {more = more} env g t h s idle to same comes_home fits flow term frees keeps = record {
   mode = idle;
   to = turn_rests;
-  same = ap (λ x. turn_of p q more x (low_turn (and_member q more))) (sym (guarded_idle_is g)) ∙ (ap (λ x. turn_of p q more (guarded_cells g) x) (sym (turn_idle_is to).0) ∙ ap (λ x. turn_of p q more (guarded_cells g) x) same);
+  same = ap (λ x. turn_of p q more x (low_turn (and_member q more))) (sym (guarded_idle_is g))
+      ∙ (ap (λ x. turn_of p q more (guarded_cells g) x) (sym (turn_idle_is to).0) ∙ ap (λ x. turn_of p q more (guarded_cells g) x) same);
   way = refl;
   fits = tt;
   flow = flow_by env (turn_shown t) (turn_shown to) none_shown (turn_idle_is to).1 flow;
@@ -298,7 +350,8 @@ later_after {p = p} {q = q} {more = more} env g t h s idle to same comes_home fi
   keeps = here;
 }
   where
-    here : (x : TurnSpot (and_member p (and_member q more))) → x ≢ in_later s → turn_moves env (at_later {m = returning} g t h) x ≡ true → turn_moves env (turn_rests {members = and_member p (and_member q more)}) x ≡ true
+    here : (x : TurnSpot (and_member p (and_member q more))) → x ≢ in_later s → turn_moves env (at_later {m = returning} g t h) x ≡ true
+        → turn_moves env (turn_rests {members = and_member p (and_member q more)}) x ≡ true
     here (in_member x) ne z = absurd (cc (guarded_idle_moves env g x, z))
     here (in_later x) ne z = absurd (cc (turn_idle_moves env to x, keeps x (λ (e : x ≡ s). ne (ap (λ y. in_later y) e)) z))
 
@@ -313,8 +366,10 @@ no_link running n h = cc h
 no_link answered n h = cc h
 no_link returning n h = cc h
 
-behind_after : {p q : Process} {more : Processes} {k n m : Mode} (env : Seen) → Clean env → (g : GuardedAt p k) (t : TurnAt (and_member q more) n) (h : link m k n ≡ true) (s : GuardedSpot p) → TurnFits t env → guarded_moves env g s ≡ true → TurnAfter (and_member p (and_member q more)) m env (at_later g t h) (in_member s)
-behind_after {p = p} {q = q} {more = more} {n = answered} {m = returning} env clean (g_back true) t h latch f e = record {
+behind_after : (P : TypedProgram) {p q : Process} {more : Processes} {k n m : Mode} (env : Seen) → Clean P env
+    → (g : GuardedAt p k) (t : TurnAt (and_member q more) n) (h : link m k n ≡ true) (s : GuardedSpot p) → TurnFits t env → guarded_moves env g s ≡ true
+    → TurnAfter (and_member p (and_member q more)) m env (at_later g t h) (in_member s)
+behind_after P {p = p} {q = q} {more = more} {n = answered} {m = returning} env clean (g_back true) t h latch f e = record {
   mode = returning;
   to = at_later (g_back false) t refl;
   same = refl;
@@ -326,14 +381,16 @@ behind_after {p = p} {q = q} {more = more} {n = answered} {m = returning} env cl
   keeps = here t;
 }
   where
-    here : (t : TurnAt (and_member q more) answered) (x : TurnSpot (and_member p (and_member q more))) → x ≢ in_member latch → turn_moves env (at_later {m = returning} (g_back {p = p} true) t refl) x ≡ true → turn_moves env (at_later {m = returning} (g_back {p = p} false) t refl) x ≡ true
+    here : (t : TurnAt (and_member q more) answered) (x : TurnSpot (and_member p (and_member q more))) → x ≢ in_member latch
+        → turn_moves env (at_later {m = returning} (g_back {p = p} true) t refl) x ≡ true
+        → turn_moves env (at_later {m = returning} (g_back {p = p} false) t refl) x ≡ true
     here t (in_member child) ne z = absurd (cc z)
     here t (in_member latch) ne z = absurd (ne refl)
     here t (in_member next) ne z = absurd (cc z)
     here t (in_member (inner x)) ne z = absurd (cc z)
     here t (in_later x) ne z = z
-behind_after {p = p} {q = q} {more = more} {n = answered} {m = returning} env clean (g_back false) t h next f e =
-    let b = turn_lowered env clean t f in
+behind_after P {p = p} {q = q} {more = more} {n = answered} {m = returning} env clean (g_back false) t h next f e =
+    let b = turn_lowered P env clean t f in
     record {
       mode = returning;
       to = at_later g_rests b.place refl;
@@ -346,21 +403,24 @@ behind_after {p = p} {q = q} {more = more} {n = answered} {m = returning} env cl
       keeps = here t f b.place;
     }
   where
-    here : (t : TurnAt (and_member q more) answered) → TurnFits t env → (b : TurnAt (and_member q more) returning) (x : TurnSpot (and_member p (and_member q more))) → x ≢ in_member next → turn_moves env (at_later {m = returning} (g_back {p = p} false) t refl) x ≡ true → turn_moves env (at_later {m = returning} (g_rests {p = p}) b refl) x ≡ true
+    here : (t : TurnAt (and_member q more) answered) → TurnFits t env → (b : TurnAt (and_member q more) returning)
+        (x : TurnSpot (and_member p (and_member q more))) → x ≢ in_member next
+        → turn_moves env (at_later {m = returning} (g_back {p = p} false) t refl) x ≡ true
+        → turn_moves env (at_later {m = returning} (g_rests {p = p}) b refl) x ≡ true
     here t f b (in_member child) ne z = absurd (cc z)
     here t f b (in_member latch) ne z = absurd (cc z)
     here t f b (in_member next) ne z = absurd (ne refl)
     here t f b (in_member (inner x)) ne z = absurd (cc z)
-    here t f b (in_later x) ne z = absurd (cc (turn_answered_moves env clean t f x, z))
-behind_after env clean (g_back true) t h child f e = absurd (cc e)
-behind_after env clean (g_back true) t h next f e = absurd (cc e)
-behind_after env clean (g_back true) t h (inner x) f e = absurd (cc e)
-behind_after env clean (g_back false) t h child f e = absurd (cc e)
-behind_after env clean (g_back false) t h latch f e = absurd (cc e)
-behind_after env clean (g_back false) t h (inner x) f e = absurd (cc e)
-behind_after {n = n} {m = m} env clean (g_back u) t h s f e = absurd (cc ((link_back m n h).0, (link_back m n h).1))
-behind_after {n = n} {m = m} env clean (g_in u a i) t h s f e = absurd (no_link m n h)
-behind_after env clean _ t h s f e = absurd (cc e)
+    here t f b (in_later x) ne z = absurd (cc (turn_answered_moves P env clean t f x, z))
+behind_after P env clean (g_back true) t h child f e = absurd (cc e)
+behind_after P env clean (g_back true) t h next f e = absurd (cc e)
+behind_after P env clean (g_back true) t h (inner x) f e = absurd (cc e)
+behind_after P env clean (g_back false) t h child f e = absurd (cc e)
+behind_after P env clean (g_back false) t h latch f e = absurd (cc e)
+behind_after P env clean (g_back false) t h (inner x) f e = absurd (cc e)
+behind_after P {n = n} {m = m} env clean (g_back u) t h s f e = absurd (cc ((link_back m n h).0, (link_back m n h).1))
+behind_after P {n = n} {m = m} env clean (g_in u a i) t h s f e = absurd (no_link m n h)
+behind_after P env clean _ t h s f e = absurd (cc e)
 
 -- a move in the body of a loop
 no_ask : (m n : Mode) → goes m n ≡ true → (if asks m then acks m else not (acks m)) ≡ true → ⊥
@@ -388,7 +448,8 @@ body_after {p = p} {m = m} env a s r = record {
     here (in_body x) ne z = r.keeps x (λ (e : x ≡ s). ne (ap (λ y. in_body y) e)) z
 
 -- a loop calls for its body, and lets it go
-ask_after : (P : TypedProgram) {p : Process} {m : Mode} (env : Seen) → Clean env → Meets P p → (a : At p m) → Fits a env → Backed p (shown a) env → moves env (at_body a) ask ≡ true → After (repeating p) running env (at_body a) ask
+ask_after : (P : TypedProgram) {p : Process} {m : Mode} (env : Seen) → Clean P env → Meets P p → (a : At p m) → Fits a env → Backed p (shown a) env
+    → moves env (at_body a) ask ≡ true → After (repeating p) running env (at_body a) ask
 ask_after P {p = p} {m = idle} env clean meets a f back e =
     let b = begun P p env meets (quiet_of env (shown a) (idle_is a).1 back) in
     record {
@@ -408,7 +469,7 @@ ask_after P {p = p} {m = idle} env clean meets a f back e =
     here a b ask ne z = absurd (ne refl)
     here a b (in_body x) ne z = absurd (cc (idle_moves env a x, z))
 ask_after P {p = p} {m = answered} env clean meets a f back e =
-    let b = lowered env clean a f in
+    let b = lowered P env clean a f in
     record {
       mode = running;
       to = at_body b.place;
@@ -421,61 +482,104 @@ ask_after P {p = p} {m = answered} env clean meets a f back e =
       keeps = here a f b.place;
     }
   where
-    here : (a : At p answered) → Fits a env → (b : At p returning) (x : Spot (repeating p)) → x ≢ ask → moves env (at_body a) x ≡ true → moves env (at_body b) x ≡ true
+    here : (a : At p answered) → Fits a env → (b : At p returning) (x : Spot (repeating p)) → x ≢ ask → moves env (at_body a) x ≡ true
+        → moves env (at_body b) x ≡ true
     here a f b of_loop ne z = absurd (cc z)
     here a f b ask ne z = absurd (ne refl)
-    here a f b (in_body x) ne z = absurd (cc (answered_moves env clean a f x, z))
+    here a f b (in_body x) ne z = absurd (cc (answered_moves P env clean a f x, z))
 ask_after P {m = running} env clean meets a f back e = absurd (cc e)
 ask_after P {m = returning} env clean meets a f back e = absurd (cc e)
 
 -- a sequence as a statement, and its last member as a sequence
-turn_after : {members : Processes} {m : Mode} (env : Seen) (t : TurnAt members m) (s : TurnSpot members) → TurnAfter members m env t s → After (in_turn members) m env (at_turn t) (in_members s)
-turn_after {members = members} env t s r = record { mode = r.mode; to = at_turn r.to; same = r.same; way = r.way; fits = r.fits; flow = r.flow; term = r.term; frees = r.frees; keeps = here }
+turn_after : {members : Processes} {m : Mode} (env : Seen) (t : TurnAt members m) (s : TurnSpot members) → TurnAfter members m env t s
+    → After (in_turn members) m env (at_turn t) (in_members s)
+turn_after {members = members} env t s r =
+    record { mode = r.mode; to = at_turn r.to; same = r.same; way = r.way; fits = r.fits; flow = r.flow; term = r.term; frees = r.frees; keeps = here }
   where
     here : (x : Spot (in_turn members)) → x ≢ in_members s → moves env (at_turn t) x ≡ true → moves env (at_turn r.to) x ≡ true
     here (in_members x) ne z = r.keeps x (λ (e : x ≡ s). ne (ap (λ y. in_members y) e)) z
 
-last_after : {p : Process} {m : Mode} (env : Seen) (a : At p m) (s : Spot p) → After p m env a s → TurnAfter (and_member p no_members) m env (at_last a) (in_last s)
-last_after {p = p} env a s r = record { mode = r.mode; to = at_last r.to; same = r.same; way = r.way; fits = r.fits; flow = r.flow; term = r.term; frees = r.frees; keeps = here }
+last_after : {p : Process} {m : Mode} (env : Seen) (a : At p m) (s : Spot p) → After p m env a s
+    → TurnAfter (and_member p no_members) m env (at_last a) (in_last s)
+last_after {p = p} env a s r =
+    record { mode = r.mode; to = at_last r.to; same = r.same; way = r.way; fits = r.fits; flow = r.flow; term = r.term; frees = r.frees; keeps = here }
   where
     here : (x : TurnSpot (and_member p no_members)) → x ≢ in_last s → turn_moves env (at_last a) x ≡ true → turn_moves env (at_last r.to) x ≡ true
     here (in_last x) ne z = r.keeps x (λ (e : x ≡ s). ne (ap (λ y. in_last y) e)) z
 
 -- each own move leads to a place again, whatever moved before
 mutual
-  pub guarded_advance : (P : TypedProgram) {p : Process} {m : Mode} (env : Seen) → Clean env → Meets P p → (g : GuardedAt p m) (s : GuardedSpot p) → GuardedFits g env → Backed p (guarded_shown g) env → guarded_moves env g s ≡ true → GuardedAfter p m env g s
-  guarded_advance P env clean meets (g_in u a h) (inner s) f back e = inner_after env u a h s (advance P env clean meets a s f record { send = back.send } e)
+  pub guarded_advance : (P : TypedProgram) {p : Process} {m : Mode} (env : Seen) → Clean P env → Meets P p → (g : GuardedAt p m) (s : GuardedSpot p)
+      → GuardedFits g env → Backed p (guarded_shown g) env → guarded_moves env g s ≡ true → GuardedAfter p m env g s
+  guarded_advance P env clean meets (g_in u a h) (inner s) f back e = inner_after env u a h s
+      (advance P env clean meets a s f record { send = back.send; receive = back.receive } e)
   guarded_advance P env clean meets g child f back e = guarded_own P env clean meets g child (λ x z. cc z) f back e
   guarded_advance P env clean meets g latch f back e = guarded_own P env clean meets g latch (λ x z. cc z) f back e
   guarded_advance P env clean meets g next f back e = guarded_own P env clean meets g next (λ x z. cc z) f back e
   guarded_advance P env clean meets _ (inner s) f back e = absurd (cc e)
 
-  pub advance : (P : TypedProgram) {p : Process} {m : Mode} (env : Seen) → Clean env → Meets P p → (a : At p m) (s : Spot p) → Fits a env → Backed p (shown a) env → moves env a s ≡ true → After p m env a s
+  pub advance : (P : TypedProgram) {p : Process} {m : Mode} (env : Seen) → Clean P env → Meets P p → (a : At p m) (s : Spot p) → Fits a env
+      → Backed p (shown a) env → moves env a s ≡ true → After p m env a s
   advance P env clean meets rests s f back e = absurd (cc e)
   advance P env clean meets (at_skip m h) s f back e = skip_after env m h s e
-  advance P env clean meets (at_assign {x = x} {at = at} {e = d} m u h) (of_assign s) f back e = assign_after x at d env clean m u h s f e
-  advance P env clean meets (at_send {c = c} {at = at} {e = d} m u h) (of_send s) f back e = send_after c at d env clean m u h s f e
-  advance P env clean meets (at_turn t) (in_members s) f back e = turn_after env t s (turn_advance P env clean meets t s f record { send = back.send } e)
-  advance P env clean meets (at_side m t b h) (of_branch s) f back e = side_after env m t b h s (branch_advance P env clean meets.2 b s f record { send = back.send } e)
+  advance P env clean meets (at_assign {x = x} {at = at} {e = d} m u h) (of_assign s) f back e = assign_after P x at d env clean m u h s f e
+  advance P env clean meets (at_send {c = c} {at = at} {e = d} m u h) (of_send s) f back e = send_after P c at d env clean m u h s f e
+  advance P env clean meets (at_receive {c = c} {x = x} {at = at} {to = to} m k q h)
+      (of_receive s) f back e = receive_after P c x at to env clean m k q h s meets f e
+  advance P env clean meets (at_turn t) (in_members s) f back e = turn_after env t s
+      (turn_advance P env clean meets t s f record { send = back.send; receive = back.receive } e)
+  advance P env clean meets (at_side m t b h) (of_branch s) f back e = side_after env m t b h s
+      (branch_advance P env clean meets.2 b s f record { send = back.send; receive = back.receive } e)
   advance P env clean meets (at_side m t b h) (joint k) f back e = joint_after env t b k m h f e
-  advance P env clean meets (at_body a) (in_body s) f back e = body_after env a s (advance P env clean meets a s f record { send = back.send } e)
-  advance P env clean meets (at_body a) ask f back e = ask_after P env clean meets a f record { send = back.send } e
+  advance P env clean meets (at_body a) (in_body s) f back e = body_after env a s
+      (advance P env clean meets a s f record { send = back.send; receive = back.receive } e)
+  advance P env clean meets (at_body a) ask f back e = ask_after P env clean meets a f record { send = back.send; receive = back.receive } e
   advance P env clean meets (at_body a) of_loop f back e = absurd (cc e)
 
-  pub branch_advance : (P : TypedProgram) {members : Processes} {ks : List Mode} (env : Seen) → Clean env → EachMeets P members → (b : BranchesAt members ks) (s : BranchSpot members) → BranchesFit b env → Backed (side_by_side members) (branches_shown b) env → branch_moves env b s ≡ true → BranchAfter members ks env b s
+  pub branch_advance : (P : TypedProgram) {members : Processes} {ks : List Mode} (env : Seen) → Clean P env → EachMeets P members
+      → (b : BranchesAt members ks) (s : BranchSpot members) → BranchesFit b env → Backed (side_by_side members) (branches_shown b) env
+      → branch_moves env b s ≡ true → BranchAfter members ks env b s
   branch_advance P env clean meets no_more s f back e = absurd (cc e)
   branch_advance P env clean meets (and_at {p = p} {more = more} g b) (in_this s) f back e =
-      this_after env g b s f.1 (guarded_advance P env clean meets.0 g s f.0 record { send = λ k h z. sym (or_false_right ((guarded_shown g).talk k) ((branches_shown b).talk k) ((beside meets.1 g b).not_theirs k h)) ∙ back.send k (or_left (sends p k) (turn_sends more k) h) z } e)
+      this_after env g b s f.1 (guarded_advance P env clean meets.0 g s f.0 record {
+        send = λ k h z. sym (or_false_right ((guarded_shown g).talk k) ((branches_shown b).talk k) ((beside meets.1 g b).not_theirs k h))
+            ∙ back.send k (or_left (sends p k) (turn_sends more k) h) z;
+        receive = λ c h z. sym (or_false_right ((guarded_shown g).listen c) ((branches_shown b).listen c) ((beside meets.1 g b).deaf_theirs c h))
+            ∙ back.receive c (or_left (receives p c) (each_receives more c) h) z;
+      } e)
   branch_advance P env clean meets (and_at {p = p} {more = more} g b) (in_others s) f back e =
-      others_after env g b s f.0 (branch_advance P env clean meets.2 b s f.1 record { send = λ k h z. sym (or_false_left ((guarded_shown g).talk k) ((branches_shown b).talk k) ((beside meets.1 g b).not_mine k h)) ∙ back.send k (or_right (sends p k) (turn_sends more k) h) z } e)
+      others_after env g b s f.0 (branch_advance P env clean meets.2 b s f.1 record {
+        send = λ k h z. sym (or_false_left ((guarded_shown g).talk k) ((branches_shown b).talk k) ((beside meets.1 g b).not_mine k h))
+            ∙ back.send k (or_right (sends p k) (turn_sends more k) h) z;
+        receive = λ c h z. sym (or_false_left ((guarded_shown g).listen c) ((branches_shown b).listen c) ((beside meets.1 g b).deaf_mine c h))
+            ∙ back.receive c (or_right (receives p c) (each_receives more c) h) z;
+      } e)
 
-  pub turn_advance : (P : TypedProgram) {members : Processes} {m : Mode} (env : Seen) → Clean env → TurnMeets P members → (t : TurnAt members m) (s : TurnSpot members) → TurnFits t env → Backed (in_turn members) (turn_shown t) env → turn_moves env t s ≡ true → TurnAfter members m env t s
+  pub turn_advance : (P : TypedProgram) {members : Processes} {m : Mode} (env : Seen) → Clean P env → TurnMeets P members
+      → (t : TurnAt members m) (s : TurnSpot members) → TurnFits t env → Backed (in_turn members) (turn_shown t) env → turn_moves env t s ≡ true
+      → TurnAfter members m env t s
   turn_advance P env clean meets turn_rests s f back e = absurd (cc e)
-  turn_advance P env clean meets (at_last {p = p} a) (in_last s) f back e = last_after env a s (advance P env clean meets a s f record { send = λ k h. back.send k (or_left (sends p k) false h) } e)
+  turn_advance P env clean meets (at_last {p = p} a) (in_last s) f back e = last_after env a s
+      (advance P env clean meets a s f record {
+        send = λ k h. back.send k (or_left (sends p k) false h);
+        receive = λ c h. back.receive c
+            (or_left (receives p c) false h);
+      } e)
   turn_advance P env clean meets (at_member {p = p} {q = q} {more = more} g) (in_member s) f back e =
-      member_after P env meets.1 g s record { send = back.send } (guarded_advance P env clean meets.0 g s f record { send = λ k h. back.send k (or_left (sends p k) (turn_sends (and_member q more) k) h) } e)
+      member_after P env meets.1 g s record { send = back.send; receive = back.receive }
+      (guarded_advance P env clean meets.0 g s f record {
+        send = λ k h. back.send k
+            (or_left (sends p k) (turn_sends (and_member q more) k) h);
+        receive = λ c h. back.receive c
+            (or_left (receives p c) (each_receives (and_member q more) c) h);
+      } e)
   turn_advance P env clean meets (at_member g) (in_later s) f back e = absurd (cc e)
   turn_advance P env clean meets (at_later {p = p} {q = q} {more = more} {k = k} {n = n} {m = m} g t h) (in_later s) f back e =
-      let r = turn_advance P env clean meets.1 t s f record { send = λ k h. back.send k (or_right (sends p k) (turn_sends (and_member q more) k) h) } e in
+      let r = turn_advance P env clean meets.1 t s f record {
+        send = λ k h. back.send k
+            (or_right (sends p k) (turn_sends (and_member q more) k) h);
+        receive = λ c h. back.receive c
+            (or_right (receives p c) (each_receives (and_member q more) c) h);
+      } e in
       later_after env g t h s r.mode r.to r.same (linked m k n r.mode h r.way) r.fits r.flow r.term r.frees r.keeps
-  turn_advance P env clean meets (at_later g t h) (in_member s) f back e = behind_after env clean g t h s f e
+  turn_advance P env clean meets (at_later g t h) (in_member s) f back e = behind_after P env clean g t h s f e

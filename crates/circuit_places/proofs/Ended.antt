@@ -1,69 +1,91 @@
 -- Where nothing moves in the whole circuit, the program has no step.
-use Rattle.std.proofs.Common.{◌≡◌, ◌≢◌, ℕ, ◌<◌, ◌≤◌, Bool, true, false, List, refl, sym, ap, ◌∙◌, subst, arith}
-use Rattle.std.specs.Prelude.{not, ◌&&◌, ◌||◌, if◌then◌else◌, Some, is_some}
+use Rattle.std.proofs.Common.{◌≡◌, ◌≢◌, ℕ, ◌<◌, ◌≤◌, Bool, true, false, List, [], ◌∷◌, refl, sym, ap, ◌∙◌, subst, arith}
+use Rattle.std.specs.Prelude.{not, ◌&&◌, ◌||◌, if◌then◌else◌, slice_get, Option, Some, None, is_some}
 use Rattle.chp_base.specs.declared.span.Span.{Span}
 use Rattle.env_script.specs.declared.script.Count.{Count}
-use Rattle.env_script.specs.Scripts.{OfferValue, takes, nothing, offer_at, is_over}
+use Rattle.env_script.specs.Scripts.{OfferValue, gives, takes, nothing, offer_at, is_over}
 use Rattle.env_script.specs.Runs.{completed}
-use Rattle.width_check.specs.Processes.{Formula, Process, sending, TypedProgram}
-use Rattle.width_check.specs.Typing.{channel_width, var_width}
+use Rattle.width_check.specs.Processes.{Formula, Process, sending, receiving, TypedProgram}
+use Rattle.width_check.specs.Typing.{kind_at, channel_width, var_width}
 use Rattle.chp_meaning.specs.Terms.{Term, finished, Place, statement_at}
 use Rattle.chp_meaning.specs.Steps.{Configuration, Step, a_skip, an_assignment, a_selection, a_turn, an_end, a_repetition, a_communication, a_delivery, an_arrival}
 use Rattle.circuit_places.specs.Lines.{Line, of_channel, of_var, Rails}
 use Rattle.circuit_places.specs.Circuit.{turns}
-use Rattle.circuit_places.specs.Whole.{Wires, seen, line_ack, is_merged, value_on, neutral_on, Node, go_node, own_node, rail_node, ack_node, bit_node, wrote_node, joint_node, answers}
+use Rattle.circuit_places.specs.Whole.{Wires, seen, line_ack, is_heard, is_merged, number_rail, brings, drives, offers, value_on, neutral_on, Node, go_node, own_node, rail_node, ack_node, bit_node, wrote_node, joint_node, answers}
 use Rattle.circuit_places.proofs.RailLemmas.{lows_neutral, value_same, each_bit}
-use Rattle.circuit_places.proofs.Flow.{or_left, or_right}
+use Rattle.circuit_places.proofs.Flow.{low_of, cases, or_left, or_right, neither_left, neither_right}
+use Rattle.circuit_places.proofs.Talks.{either, guarded_talks_sends, guarded_listens_receives}
+use Rattle.circuit_places.proofs.Arriving.{number_some}
 use Rattle.circuit_places.proofs.BitTable.{Now, may, write_t, write_f, some_bit}
 use Rattle.circuit_places.proofs.Blocks.{now_at, block_waits}
 use Rattle.circuit_places.proofs.Places.{Mode, running, returning, GuardedAt, g_rests, g_in, g_past, g_back, guarded_cells, guarded_shown}
 use Rattle.circuit_places.proofs.Left.{guarded_left}
-use Rattle.circuit_places.proofs.Rest.{Full, Valid, Blocked, Waiting, Hanging, let_go, unstored, Rest, settled, waiting, hanging, guarded_rest}
+use Rattle.circuit_places.proofs.Rest.{Listening, Releasing, Valid, Blocked, a_send, a_receive, Waiting, Hanging, let_go, unstored, holding, Rest, settled, waiting, hanging, guarded_rest}
 use Rattle.circuit_places.proofs.Fires.{guarded_site}
-use Rattle.circuit_places.proofs.System.{Good, can, root_left, Fitted}
-use Rattle.circuit_places.proofs.Follow.{fewer, left_over, Followed, over_before}
+use Rattle.circuit_places.proofs.System.{Good, clean_of, can, driven, sent_turns, heard_turns, root_left, Fitted}
+use Rattle.circuit_places.proofs.Follow.{fewer, left_over, behind_none, Followed, over_before}
 
--- a send that no acceptance is left for
-pub record Refused (c : Configuration) (s : Process) : Type 0 where
-  pub channel : ℕ
-  pub span : Span
-  pub expression : Formula
-  pub count : Count
-  pub is : s ≡ sending channel span expression
-  pub offered : offer_at c.rests channel ≡ takes count
-  pub over : is_over count 0 ≡ false
+-- a send that no acceptance is left for, and a receive that no value is left for
+pub data Refused (c : Configuration) (s : Process) : Type 0 where
+  no_taker : (channel : ℕ) (at : Span) (e : Formula) (count : Count) → s ≡ sending channel at e → offer_at c.rests channel ≡ takes count
+      → is_over count 0 ≡ false → Refused c s
+  no_value : (channel x : ℕ) (at to : Span) → s ≡ receiving channel at x to → offer_at c.rests channel ≡ gives [] → Refused c s
 
--- a configuration in which there are only such sends has no step
-pub no_step : (c : Configuration) → ((at : Place) (s : Process) → statement_at c.term at ≡ Some s → Refused c s) → (at : Place) (d : Configuration) → ¬ Step c at d
-no_step c all at d (a_skip e) = absurd (cc (all at _ e).is)
-no_step c all at d (an_assignment e) = absurd (cc (all at _ e).is)
-no_step c all at d (a_selection e g) = absurd (cc (all at _ e).is)
-no_step c all at d (a_turn e g) = absurd (cc (all at _ e).is)
-no_step c all at d (an_end e g) = absurd (cc (all at _ e).is)
-no_step c all at d (a_repetition e) = absurd (cc (all at _ e).is)
+-- each is a send or a receive
+abbrev is_talk : Process → Bool
+is_talk (sending c at e) = true
+is_talk (receiving c at x to) = true
+is_talk _ = false
+
+refused_talks : (c : Configuration) (s : Process) → Refused c s → is_talk s ≡ true
+refused_talks c s (no_taker k at e count is o z) = ap is_talk is
+refused_talks c s (no_value k x at to is o) = ap is_talk is
+
+-- a configuration in which there are only such statements has no step
+pub no_step : (c : Configuration) → ((at : Place) (s : Process) → statement_at c.term at ≡ Some s → Refused c s) → (at : Place) (d : Configuration)
+    → ¬ Step c at d
+no_step c all at d (a_skip e) = absurd (cc (refused_talks c _ (all at _ e)))
+no_step c all at d (an_assignment e) = absurd (cc (refused_talks c _ (all at _ e)))
+no_step c all at d (a_selection e g) = absurd (cc (refused_talks c _ (all at _ e)))
+no_step c all at d (a_turn e g) = absurd (cc (refused_talks c _ (all at _ e)))
+no_step c all at d (an_end e g) = absurd (cc (refused_talks c _ (all at _ e)))
+no_step c all at d (a_repetition e) = absurd (cc (refused_talks c _ (all at _ e)))
 no_step c all at d (a_communication other e f offered) = absurd (here (all at _ e) offered)
   where
     here : {k : ℕ} {s : Span} {x : Formula} → Refused c (sending k s x) → offer_at c.rests k ≡ nothing → ⊥
-    here {k = k} r offered = let same : k ≡ r.channel = cc r.is in cc (ap (offer_at c.rests) same, offered, r.offered)
+    here {k = k} (no_taker channel at e count is o z) offered = let same : k ≡ channel = cc is in cc (ap (offer_at c.rests) same, offered, o)
+    here (no_value channel x at to is o) offered = cc is
 no_step c all at d (a_delivery e offered more) = absurd (here (all at _ e) offered more)
   where
     here : {k : ℕ} {s : Span} {x : Formula} {count : Count} → Refused c (sending k s x) → offer_at c.rests k ≡ takes count → is_over count 0 ≡ true → ⊥
-    here {k = k} {count = count} r offered more =
-        let same : k ≡ r.channel = cc r.is in
-        let both : takes count ≡ takes r.count = sym offered ∙ (ap (offer_at c.rests) same ∙ r.offered) in
-        let counts : count ≡ r.count = cc both in
-        cc (ap (λ i. is_over i 0) counts, more, r.over)
-no_step c all at d (an_arrival e offered) = absurd (cc (all at _ e).is)
+    here {k = k} {count = count} (no_taker channel at e most is o z) offered more =
+        let same : k ≡ channel = cc is in
+        let both : takes count ≡ takes most = sym offered ∙ (ap (offer_at c.rests) same ∙ o) in
+        let counts : count ≡ most = cc both in
+        cc (ap (λ i. is_over i 0) counts, more, z)
+    here (no_value channel x at to is o) offered more = cc is
+no_step c all at d (an_arrival e offered) = absurd (here (all at _ e) offered)
+  where
+    here : {k x v : ℕ} {s t : Span} {more : List ℕ} → Refused c (receiving k s x t) → offer_at c.rests k ≡ gives (v ∷ more) → ⊥
+    here (no_taker channel at e count is o z) offered = cc is
+    here {k = k} {v = v} {more = more} (no_value channel x at to is o) offered =
+        let same : k ≡ channel = cc is in
+        let both : gives (v ∷ more) ≡ gives [] = sym offered ∙ (ap (offer_at c.rests) same ∙ o) in
+        let lists : v ∷ more ≡ [] = cc both in
+        cc lists
 
 pub record AtEnd {p : Process} {m : Mode} (g : GuardedAt p m) (c : Configuration) : Type 0 where
   pub still : (at : Place) (d : Configuration) → ¬ Step c at d
   pub ended : (guarded_cells g).next ≡ true → c.term ≡ finished
   pub going : (guarded_cells g).next ≡ false → c.term ≢ finished
 
-module _ (P : TypedProgram) {script : List OfferValue} (fitted : Fitted P script) (w : Wires) (hs : List (List ℕ)) {m : Mode} (g : GuardedAt P.body m) (good : Good P m g w) (none : (n : Node P.body) → can P script g w hs n ≡ false) where
+module _ (P : TypedProgram) {script : List OfferValue} (fitted : Fitted P script) (w : Wires) (hs : List (List ℕ)) {m : Mode} (g : GuardedAt P.body m)
+    (good : Good P m g w) (none : (n : Node P.body) → can P script g w hs n ≡ false) where
   -- the rails are as they are offered
   rails_are : (k : Line) (i : ℕ) (one : Bool) → is_merged P k ≡ true → w.rail k i one ≡ (guarded_shown g).offer k i one
-  rails_are k i one n = here (w.rail k i one) ((guarded_shown g).offer k i one) (sym (ap (λ b. b && turns (w.rail k i one) ((guarded_shown g).offer k i one) (not ((guarded_shown g).offer k i one))) n) ∙ none (rail_node k i one))
+  rails_are k i one n = here (w.rail k i one) ((guarded_shown g).offer k i one)
+      (sym (ap (λ b. b && turns (w.rail k i one) ((guarded_shown g).offer k i one) (not ((guarded_shown g).offer k i one))) n)
+      ∙ neither_left (sent_turns P w k i one ((guarded_shown g).offer k i one)) (driven P script w hs k i one) (none (rail_node k i one)))
     where
       here : (v o : Bool) → turns v o (not o) ≡ false → v ≡ o
       here true true e = refl
@@ -72,11 +94,19 @@ module _ (P : TypedProgram) {script : List OfferValue} (fitted : Fitted P script
       here false true e = absurd (cc e)
 
   -- a variable's block waits for a rail by which it is written
-  block_rest : (x : ℕ) → 1 ≤ var_width P.vars x → (i : ℕ) × (i < var_width P.vars x) × ((may write_t (now_at (w.bit x) (w.rail (of_var x)) (w.wrote x) (line_ack P w (of_var x)) i) || may write_f (now_at (w.bit x) (w.rail (of_var x)) (w.wrote x) (line_ack P w (of_var x)) i)) ≡ true)
-  block_rest x some = block_waits (var_width P.vars x) (w.bit x) (w.rail (of_var x)) (w.wrote x) (w.joint x) (good.block x some) (λ i one. none (bit_node x i one)) (λ i. none (wrote_node x i)) (λ k. none (joint_node x k))
+  block_rest : (x : ℕ) → 1 ≤ var_width P.vars x → (i : ℕ) × (i < var_width P.vars x) ×
+      ((may write_t (now_at (w.bit x) (w.rail (of_var x)) (w.wrote x) (line_ack P w (of_var x)) i) || may write_f
+      (now_at (w.bit x) (w.rail (of_var x)) (w.wrote x) (line_ack P w (of_var x)) i)) ≡ true)
+  block_rest x some = block_waits (var_width P.vars x) (w.bit x) (w.rail (of_var x)) (w.wrote x) (w.joint x) (good.block x some)
+      (λ i one. none (bit_node x i one)) (λ i. none (wrote_node x i)) (λ k. none (joint_node x k))
 
   high_waits : (n : Now) → n.va ≡ true → n.wt ≡ false → n.wf ≡ false → (may write_t n || may write_f n) ≡ true → ⊥
-  high_waits n a t f e = cc (ap (λ b. (if b then n.va else not n.va && not n.wf) || (if n.wf then n.va else not n.va && not b)) t, ap (λ b. (if false then n.va else not n.va && not b) || (if b then n.va else not n.va && not false)) f, ap (λ b. (if false then b else not b && not false) || (if false then b else not b && not false)) a, e)
+  high_waits n a t f e = cc (
+    ap (λ b. (if b then n.va else not n.va && not n.wf) || (if n.wf then n.va else not n.va && not b)) t,
+    ap (λ b. (if false then n.va else not n.va && not b) || (if b then n.va else not n.va && not false)) f,
+    ap (λ b. (if false then b else not b && not false) || (if false then b else not b && not false)) a,
+    e,
+  )
 
   low_waits : (n : Now) → n.va ≡ false → (n.wt || n.wf) ≡ true → (may write_t n || may write_f n) ≡ true → ⊥
   low_waits n a o e = here n.wt n.wf n.va a o e
@@ -90,57 +120,135 @@ module _ (P : TypedProgram) {script : List OfferValue} (fitted : Fitted P script
       here true false true a o e = cc a
       here false true true a o e = cc a
 
+  -- the environment moves no acknowledge, and no rail, and the program no acknowledge
+  not_answered : (c : ℕ) → answers (channel_width P.channels c) w c (completed hs c) (offer_at script c) ≡ false
+  not_answered c = neither_right (heard_turns P w c ((guarded_shown g).take c)) (answers (channel_width P.channels c) w c (completed hs c) (offer_at script c))
+      (none (ack_node c))
+
+  not_driven : (c : ℕ) (values : List ℕ) → offer_at script c ≡ gives values → (i : ℕ) (one : Bool)
+      → drives (channel_width P.channels c) w c (slice_get values (completed hs c)) i one ≡ false
+  not_driven c values is i one =
+      sym (ap (λ o. offers (channel_width P.channels c) w c (completed hs c) o i one) is)
+      ∙ neither_right (sent_turns P w (of_channel c) i one ((guarded_shown g).offer (of_channel c) i one)) (driven P script w hs (of_channel c) i one)
+      (none (rail_node (of_channel c) i one))
+
+  not_turned : (c : ℕ) → is_heard (kind_at P.channels c) ≡ true → turns (w.ack c) ((guarded_shown g).take c) (not ((guarded_shown g).take c)) ≡ false
+  not_turned c heard =
+      sym (ap (λ b. b && turns (w.ack c) ((guarded_shown g).take c) (not ((guarded_shown g).take c))) heard)
+      ∙ neither_left (heard_turns P w c ((guarded_shown g).take c)) (answers (channel_width P.channels c) w c (completed hs c) (offer_at script c))
+      (none (ack_node c))
+
+  some_side : (n : Rails) (i : ℕ) → (one : Bool) × (n i one ≡ true) → (n i true || n i false) ≡ true
+  some_side n i (true, h) = or_left (n i true) (n i false) h
+  some_side n i (false, h) = or_right (n i true) (n i false) h
+
+  -- a receive that has let go doesn't hang
+  not_held : (c v : ℕ) → Releasing P c v (seen P w) (guarded_shown g) → ⊥
+  not_held c v r = cases (line_ack P w (of_var v))
+      (λ (h : line_ack P w (of_var v) ≡ true).
+      let (i, less, e) = block_rest v r.meets.some in
+      high_waits (now_at (w.bit v) (w.rail (of_var v)) (w.wrote v) (line_ack P w (of_var v)) i) h (rails_are (of_var v) i true refl ∙ gone i true)
+      (rails_are (of_var v) i false refl ∙ gone i false) e)
+      (λ (h : line_ack P w (of_var v) ≡ false).
+      let free : (guarded_shown g).take c ≡ false = low_of ((guarded_shown g).take c) r.has h in
+      cc (not_turned c r.meets.heard, ap (λ b. turns b ((guarded_shown g).take c) (not ((guarded_shown g).take c))) r.high, ap not free))
+    where
+      quiet : (i : ℕ) (one : Bool) → w.rail (of_channel c) i one ≡ false
+      quiet i one =
+          let o = fitted.hears c r.meets.within (guarded_listens_receives g c r.hears) in
+          sym (ap (λ b. if b then w.rail (of_channel c) i one else brings (channel_width P.channels c) (slice_get o.0 (completed hs c)) i one &&
+          (not (w.rail (of_channel c) i true) && not (w.rail (of_channel c) i false))) r.high)
+          ∙ not_driven c o.0 o.1 i one
+
+      gone : (i : ℕ) (one : Bool) → (guarded_shown g).offer (of_var v) i one ≡ false
+      gone i one = low_of ((guarded_shown g).offer (of_var v) i one) (r.all i one) (quiet i one)
+
   no_hanging : Hanging P (seen P w) (guarded_shown g) → ⊥
   no_hanging (let_go (of_channel c) high talks gone) =
-      let x = guarded_site P (seen P w) g good.meets good.fits (of_channel c) talks in
-      let o = fitted.out c x.within in
-      let neutral : neutral_on (channel_width P.channels c) (w.rail (of_channel c)) ≡ true = lows_neutral (channel_width P.channels c) (w.rail (of_channel c)) (λ i one. rails_are (of_channel c) i one x.merged ∙ gone i one) in
+      let x = guarded_site P (seen P w) (clean_of good) g good.meets good.fits (of_channel c) talks in
+      let o = fitted.sends c x.within (guarded_talks_sends g (of_channel c) talks) in
+      let neutral : neutral_on (channel_width P.channels c) (w.rail (of_channel c)) ≡ true = lows_neutral (channel_width P.channels c) (w.rail (of_channel c))
+      (λ i one. rails_are (of_channel c) i one x.merged ∙ gone i one) in
       let may : answers (channel_width P.channels c) w c (completed hs c) (offer_at script c) ≡ true =
       ap (answers (channel_width P.channels c) w c (completed hs c)) o.1
-      ∙ (ap (λ b. if b then neutral_on (channel_width P.channels c) (w.rail (of_channel c)) else is_some (value_on (channel_width P.channels c) (w.rail (of_channel c))) && is_over o.0 (completed hs c)) high ∙ neutral) in
-      cc (may, none (ack_node c))
+      ∙ (ap (λ b. if b then neutral_on (channel_width P.channels c) (w.rail (of_channel c)) else is_some
+      (value_on (channel_width P.channels c) (w.rail (of_channel c))) && is_over o.0 (completed hs c)) high ∙ neutral) in
+      cc (may, not_answered c)
   no_hanging (let_go (of_var v) high talks gone) =
-      let x = guarded_site P (seen P w) g good.meets good.fits (of_var v) talks in
+      let x = guarded_site P (seen P w) (clean_of good) g good.meets good.fits (of_var v) talks in
       let (i, less, e) = block_rest v x.some in
-      high_waits (now_at (w.bit v) (w.rail (of_var v)) (w.wrote v) (line_ack P w (of_var v)) i) high (rails_are (of_var v) i true refl ∙ gone i true) (rails_are (of_var v) i false refl ∙ gone i false) e
+      high_waits (now_at (w.bit v) (w.rail (of_var v)) (w.wrote v) (line_ack P w (of_var v)) i) high (rails_are (of_var v) i true refl ∙ gone i true)
+      (rails_are (of_var v) i false refl ∙ gone i false) e
   no_hanging (unstored v f) =
       let (i, less, e) = block_rest v f.some in
       low_waits (now_at (w.bit v) (w.rail (of_var v)) (w.wrote v) (line_ack P w (of_var v)) i) f.low
-      (ap (λ b. b || w.rail (of_var v) i false) (rails_are (of_var v) i true refl) ∙ (ap (λ b. (guarded_shown g).offer (of_var v) i true || b) (rails_are (of_var v) i false refl)
-      ∙ some_side i (each_bit (var_width P.vars v) ((guarded_shown g).offer (of_var v)) f.whole i less)))
+      (ap (λ b. b || w.rail (of_var v) i false) (rails_are (of_var v) i true refl)
+      ∙ (ap (λ b. (guarded_shown g).offer (of_var v) i true || b) (rails_are (of_var v) i false refl)
+      ∙ some_side ((guarded_shown g).offer (of_var v)) i (each_bit (var_width P.vars v) ((guarded_shown g).offer (of_var v)) f.whole i less)))
       e
-    where
-      some_side : (i : ℕ) → (one : Bool) × ((guarded_shown g).offer (of_var v) i one ≡ true) → ((guarded_shown g).offer (of_var v) i true || (guarded_shown g).offer (of_var v) i false) ≡ true
-      some_side i (true, h) = or_left ((guarded_shown g).offer (of_var v) i true) ((guarded_shown g).offer (of_var v) i false) h
-      some_side i (false, h) = or_right ((guarded_shown g).offer (of_var v) i true) ((guarded_shown g).offer (of_var v) i false) h
+  no_hanging (holding c v r) = not_held c v r
 
   -- each bit of each variable has a value
   valid : Valid P (seen P w)
-  valid v i less = some_bit (now_at (w.bit v) (w.rail (of_var v)) (w.wrote v) (line_ack P w (of_var v)) i) ((good.block v (some_of less)).bits i less) (none (bit_node v i true)) (none (bit_node v i false))
+  valid v i less = some_bit (now_at (w.bit v) (w.rail (of_var v)) (w.wrote v) (line_ack P w (of_var v)) i) ((good.block v (some_of less)).bits i less)
+      (none (bit_node v i true)) (none (bit_node v i false))
     where
       some_of : {i n : ℕ} → i < n → 1 ≤ n
       some_of less = omega (arith, less)
 
-  -- a send that waits has no acceptance left
-  refused : {most : ℕ} {t : Term} {bits : ℕ → Rails} {busy : ℕ → Bool} (r : Followed P script most hs t bits busy) (s : Process) → Blocked P s (seen P w) (guarded_shown g) → Refused r.to s
-  refused r s b =
-      let c = b.channel in
-      let o = fitted.out c b.site.within in
+  -- a receive that waits has no value left
+  none_left : (c v : ℕ) → Listening P c v (seen P w) (guarded_shown g) → (values : List ℕ) → offer_at script c ≡ gives values → (o : Option ℕ)
+      → slice_get values (completed hs c) ≡ o → o ≡ None
+  none_left c v l values is None e = refl
+  none_left c v l values is (Some x) e = absurd (cases (line_ack P w (of_var v)) stored waits)
+    where
+      low_both : (i : ℕ) (one : Bool) → number_rail (channel_width P.channels c) x i one ≡ true
+          → (w.rail (of_channel c) i true || w.rail (of_channel c) i false) ≡ true
+      low_both i one h = by (w.rail (of_channel c) i true) (w.rail (of_channel c) i false)
+          (sym (ap (λ b. b && (not (w.rail (of_channel c) i true) && not (w.rail (of_channel c) i false))) h)
+          ∙ (sym (ap (λ o. brings (channel_width P.channels c) o i one && (not (w.rail (of_channel c) i true) && not (w.rail (of_channel c) i false))) e)
+          ∙ (sym (ap (λ b. if b then w.rail (of_channel c) i one else brings (channel_width P.channels c) (slice_get values (completed hs c)) i one &&
+          (not (w.rail (of_channel c) i true) && not (w.rail (of_channel c) i false))) l.low) ∙ not_driven c values is i one)))
+        where
+          by : (t f : Bool) → (not t && not f) ≡ false → (t || f) ≡ true
+          by true f z = refl
+          by false true z = refl
+          by false false z = absurd (cc z)
+
+      brought : (i : ℕ) → i < channel_width P.channels c → (w.rail (of_channel c) i true || w.rail (of_channel c) i false) ≡ true
+      brought i less = let (one, h) = number_some (channel_width P.channels c) x i less in low_both i one h
+
+      taken : (i : ℕ) → i < var_width P.vars v → (w.rail (of_var v) i true || w.rail (of_var v) i false) ≡ true
+      taken i less = either (w.rail (of_channel c) i true) (w.rail (of_channel c) i false) (brought i (subst (λ (n : ℕ). i < n) l.meets.widths less))
+          (λ z. or_left (w.rail (of_var v) i true) (w.rail (of_var v) i false) (rails_are (of_var v) i true refl ∙ l.all i true z))
+          (λ z. or_right (w.rail (of_var v) i true) (w.rail (of_var v) i false) (rails_are (of_var v) i false refl ∙ l.all i false z))
+
+      stored : line_ack P w (of_var v) ≡ true → ⊥
+      stored h = cc (not_turned c l.meets.heard, ap (λ b. turns b ((guarded_shown g).take c) (not ((guarded_shown g).take c))) l.low, l.has h)
+
+      waits : line_ack P w (of_var v) ≡ false → ⊥
+      waits h =
+          let (i, less, e) = block_rest v l.meets.some in
+          low_waits (now_at (w.bit v) (w.rail (of_var v)) (w.wrote v) (line_ack P w (of_var v)) i) h (taken i less) e
+
+  -- what waits has no acceptance left, or no value
+  refused : {most : ℕ} {t : Term} {bits : ℕ → Rails} {busy : ℕ → Bool} (r : Followed P script most hs t bits busy) (s : Process)
+      → Blocked P s (seen P w) (guarded_shown g) → Refused r.to s
+  refused r s (a_receive c v at to l is) =
+      let o = fitted.hears c l.meets.within (guarded_listens_receives g c l.hears) in
+      no_value c v at to is (r.rests c ∙ (ap (λ x. left_over x (completed hs c)) o.1
+      ∙ ap (λ x. gives x) (behind_none o.0 (completed hs c) (none_left c v l o.0 o.1 (slice_get o.0 (completed hs c)) refl))))
+  refused r s (a_send c at x b is) =
+      let o = fitted.sends c b.within (guarded_talks_sends g (of_channel c) b.talks) in
       let some : is_some (value_on (channel_width P.channels c) (w.rail (of_channel c))) ≡ true =
-      ap is_some (value_same (channel_width P.channels c) (w.rail (of_channel c)) ((guarded_shown g).offer (of_channel c)) (λ i one. rails_are (of_channel c) i one b.site.merged)) ∙ b.site.whole in
+      ap is_some (value_same (channel_width P.channels c) (w.rail (of_channel c)) ((guarded_shown g).offer (of_channel c))
+      (λ i one. rails_are (of_channel c) i one b.merged)) ∙ b.whole in
       let over : is_over o.0 (completed hs c) ≡ false =
       no_more (is_some (value_on (channel_width P.channels c) (w.rail (of_channel c)))) (is_over o.0 (completed hs c)) some
-      (sym (ap (λ b. if b then neutral_on (channel_width P.channels c) (w.rail (of_channel c)) else is_some (value_on (channel_width P.channels c) (w.rail (of_channel c))) && is_over o.0 (completed hs c)) b.site.low)
-      ∙ (sym (ap (answers (channel_width P.channels c) w c (completed hs c)) o.1) ∙ none (ack_node c))) in
-      record {
-        channel = c;
-        span = b.span;
-        expression = b.expression;
-        count = fewer o.0 (completed hs c);
-        is = b.is;
-        offered = r.rests c ∙ ap (λ x. left_over x (completed hs c)) o.1;
-        over = not_over o.0 (completed hs c) over;
-      }
+      (sym (ap (λ b. if b then neutral_on (channel_width P.channels c) (w.rail (of_channel c)) else is_some
+      (value_on (channel_width P.channels c) (w.rail (of_channel c))) && is_over o.0 (completed hs c)) b.low)
+      ∙ (sym (ap (answers (channel_width P.channels c) w c (completed hs c)) o.1) ∙ not_answered c)) in
+      no_taker c at x (fewer o.0 (completed hs c)) is (r.rests c ∙ ap (λ x. left_over x (completed hs c)) o.1) (not_over o.0 (completed hs c) over)
     where
       no_more : (s m : Bool) → s ≡ true → (s && m) ≡ false → m ≡ false
       no_more true m e f = f
@@ -153,7 +261,9 @@ module _ (P : TypedProgram) {script : List OfferValue} (fitted : Fitted P script
           here true f = absurd (cc (over_before count n f, e))
           here false f = refl
 
-waits : (P : TypedProgram) {script : List OfferValue} (fitted : Fitted P script) (w : Wires) (hs : List (List ℕ)) (g : GuardedAt P.body running) → (guarded_cells g).next ≡ false → Good P running g w → ((n : Node P.body) → can P script g w hs n ≡ false) → {most : ℕ} {bits : ℕ → Rails} {busy : ℕ → Bool} (r : Followed P script most hs (guarded_left (line_ack P w) g) bits busy)
+waits : (P : TypedProgram) {script : List OfferValue} (fitted : Fitted P script) (w : Wires) (hs : List (List ℕ)) (g : GuardedAt P.body running)
+    → (guarded_cells g).next ≡ false → Good P running g w → ((n : Node P.body) → can P script g w hs n ≡ false)
+    → {most : ℕ} {bits : ℕ → Rails} {busy : ℕ → Bool} (r : Followed P script most hs (guarded_left (line_ack P w) g) bits busy)
     → Waiting P (guarded_left (line_ack P w) g) (seen P w) (guarded_shown g) → AtEnd g r.to
 waits P fitted w hs g low good none r x = record {
   still = no_step r.to (λ at s e. refused P fitted w hs g good none r s (x.blocked at s (sym (ap (λ x. statement_at x at) r.term) ∙ e)));
@@ -161,9 +271,12 @@ waits P fitted w hs g low good none r x = record {
   going = λ e z. x.going (sym r.term ∙ z);
 }
 
-pub at_end : (P : TypedProgram) {script : List OfferValue} (fitted : Fitted P script) (w : Wires) (hs : List (List ℕ)) {m : Mode} (g : GuardedAt P.body m) → m ≢ returning → Good P m g w → ((n : Node P.body) → can P script g w hs n ≡ false) → {most : ℕ} {bits : ℕ → Rails} {busy : ℕ → Bool} (r : Followed P script most hs (root_left (line_ack P w) g) bits busy) → AtEnd g r.to
+pub at_end : (P : TypedProgram) {script : List OfferValue} (fitted : Fitted P script) (w : Wires) (hs : List (List ℕ)) {m : Mode} (g : GuardedAt P.body m)
+    → m ≢ returning → Good P m g w → ((n : Node P.body) → can P script g w hs n ≡ false)
+    → {most : ℕ} {bits : ℕ → Rails} {busy : ℕ → Bool} (r : Followed P script most hs (root_left (line_ack P w) g) bits busy) → AtEnd g r.to
 at_end P fitted w hs g_rests ne good none r = absurd (cc (none go_node))
-at_end P {script = script} fitted w hs (g_in u a h) ne good none r = here (guarded_rest P (seen P w) (valid P fitted w hs (g_in u a h) good none) (g_in u a h) good.meets good.fits (λ s. none (own_node s)))
+at_end P {script = script} fitted w hs (g_in u a h) ne good none r = here
+    (guarded_rest P (seen P w) (valid P fitted w hs (g_in u a h) good none) (g_in u a h) good.meets good.fits (λ s. none (own_node s)))
   where
     here : Rest P running (guarded_left (line_ack P w) (g_in u a h)) (seen P w) (guarded_shown (g_in u a h)) → AtEnd (g_in u a h) r.to
     here (settled e) = absurd (cc e)

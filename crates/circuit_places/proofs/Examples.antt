@@ -1,14 +1,14 @@
--- The circuit of a small program, run to its end by computing.
-use Rattle.std.proofs.Common.{◌≡◌, ℕ, zero, suc, true, false, List, [], ◌∷◌, refl}
+-- The circuits of small programs, run to their ends by computing.
+use Rattle.std.proofs.Common.{◌≡◌, ℕ, zero, suc, Bool, true, false, List, [], ◌∷◌, refl}
 use Rattle.std.specs.Prelude.{if◌then◌else◌, Some}
 use Rattle.std.specs.List.{list_any}
 use Rattle.chp_base.specs.declared.span.Span.{Span}
-use Rattle.chp_base.specs.declared.channel.Kind.TheVariants.{Out}
+use Rattle.chp_base.specs.declared.channel.Kind.TheVariants.{In, Out}
 use Rattle.env_script.specs.declared.script.Count.TheVariants.{All, Times}
-use Rattle.env_script.specs.Scripts.{OfferValue, takes}
-use Rattle.width_check.specs.Processes.{constant, skipping, assigning, sending, in_turn, side_by_side, no_members, and_member, TypedProgram}
+use Rattle.env_script.specs.Scripts.{OfferValue, gives, takes}
+use Rattle.width_check.specs.Processes.{constant, reading, skipping, assigning, sending, receiving, in_turn, side_by_side, no_members, and_member, TypedProgram}
 use Rattle.circuit_places.specs.Lines.{of_channel, of_var}
-use Rattle.circuit_places.specs.Circuit.{Spot, BranchSpot, child, latch, next, inner, of_skip, done, gate, of_assign, of_send, in_members, of_branch, joint, in_this, in_others, in_last, in_member, in_later}
+use Rattle.circuit_places.specs.Circuit.{Spot, child, latch, next, inner, of_skip, done, gate, heard, stored, taking, of_assign, of_send, of_receive, in_members, of_branch, joint, in_this, in_others, in_last, in_member, in_later}
 use Rattle.circuit_places.specs.Whole.{Whole, Node, go_node, own_node, rail_node, ack_node, bit_node, wrote_node, joint_node, value_on, enabled, moved, first_of}
 
 abbrev at : Span
@@ -16,7 +16,12 @@ at = record { from = 0; to = 1 }
 
 -- out X : 2; begin X!2; X!1 end
 abbrev twice : TypedProgram
-twice = record { channels = record { name = []; kind = Out; width = 2 } ∷ []; vars = []; body = in_turn (and_member (sending 0 at (constant 2 2)) (and_member (sending 0 at (constant 2 1)) no_members)) }
+twice = record {
+  channels = record { name = []; kind = Out; width = 2 } ∷ [];
+  vars = [];
+  body = in_turn
+      (and_member (sending 0 at (constant 2 2)) (and_member (sending 0 at (constant 2 1)) no_members));
+}
 
 -- the first of the nodes that may move does, so many times
 abbrev first_moved : (P : TypedProgram) → List OfferValue → Whole P.body → List (Node P.body) → Whole P.body
@@ -85,13 +90,17 @@ abbrev three_nodes : List (Node three.body)
 three_nodes =
     go_node ∷ own_node child ∷ own_node latch ∷ own_node next
     ∷ of_body (of_branch (in_this child)) ∷ of_body (of_branch (in_this latch)) ∷ of_body (of_branch (in_this next))
-    ∷ of_body (of_branch (in_this (inner (of_send done)))) ∷ of_body (of_branch (in_this (inner (of_send (gate 0 true))))) ∷ of_body (of_branch (in_this (inner (of_send (gate 0 false)))))
+    ∷ of_body (of_branch (in_this (inner (of_send done)))) ∷ of_body (of_branch (in_this (inner (of_send (gate 0 true))))) ∷ of_body
+    (of_branch (in_this (inner (of_send (gate 0 false)))))
     ∷ of_body (of_branch (in_others (in_this child))) ∷ of_body (of_branch (in_others (in_this latch))) ∷ of_body (of_branch (in_others (in_this next)))
-    ∷ of_body (of_branch (in_others (in_this (inner (of_send done))))) ∷ of_body (of_branch (in_others (in_this (inner (of_send (gate 0 true)))))) ∷ of_body (of_branch (in_others (in_this (inner (of_send (gate 0 false))))))
-    ∷ of_body (of_branch (in_others (in_others (in_this child)))) ∷ of_body (of_branch (in_others (in_others (in_this latch)))) ∷ of_body (of_branch (in_others (in_others (in_this next))))
+    ∷ of_body (of_branch (in_others (in_this (inner (of_send done))))) ∷ of_body (of_branch (in_others (in_this (inner (of_send (gate 0 true)))))) ∷ of_body
+    (of_branch (in_others (in_this (inner (of_send (gate 0 false))))))
+    ∷ of_body (of_branch (in_others (in_others (in_this child)))) ∷ of_body (of_branch (in_others (in_others (in_this latch)))) ∷ of_body
+    (of_branch (in_others (in_others (in_this next))))
     ∷ of_body (of_branch (in_others (in_others (in_this (inner of_skip)))))
     ∷ of_body (joint 0) ∷ of_body (joint 1)
-    ∷ rail_node (of_channel 0) 0 true ∷ rail_node (of_channel 0) 0 false ∷ ack_node 0 ∷ rail_node (of_channel 1) 0 true ∷ rail_node (of_channel 1) 0 false ∷ ack_node 1 ∷ []
+    ∷ rail_node (of_channel 0) 0 true ∷ rail_node (of_channel 0) 0 false ∷ ack_node 0 ∷ rail_node (of_channel 1) 0 true ∷ rail_node
+    (of_channel 1) 0 false ∷ ack_node 1 ∷ []
 
 abbrev beside_at_last : Whole three.body
 beside_at_last = driven three (takes All ∷ takes All ∷ []) three_nodes 64 (first_of three)
@@ -120,7 +129,8 @@ abbrev writes : TypedProgram
 writes = record {
   channels = record { name = []; kind = Out; width = 1 } ∷ [];
   vars = record { name = []; width = 2; first = 3 } ∷ [];
-  body = in_turn (and_member (assigning 0 at (constant 2 2)) (and_member (sending 0 at (constant 1 1)) (and_member (assigning 0 at (constant 2 1)) no_members)));
+  body = in_turn (and_member (assigning 0 at (constant 2 2)) (and_member (sending 0 at (constant 1 1))
+      (and_member (assigning 0 at (constant 2 1)) no_members)));
 }
 
 abbrev of_writes : Spot writes.body → Node writes.body
@@ -130,10 +140,14 @@ abbrev writes_nodes : List (Node writes.body)
 writes_nodes =
     go_node ∷ own_node child ∷ own_node latch ∷ own_node next
     ∷ of_writes (in_members (in_member child)) ∷ of_writes (in_members (in_member latch)) ∷ of_writes (in_members (in_member next))
-    ∷ of_writes (in_members (in_member (inner (of_assign done)))) ∷ of_writes (in_members (in_member (inner (of_assign (gate 0 false))))) ∷ of_writes (in_members (in_member (inner (of_assign (gate 1 true)))))
-    ∷ of_writes (in_members (in_later (in_member child))) ∷ of_writes (in_members (in_later (in_member latch))) ∷ of_writes (in_members (in_later (in_member next)))
+    ∷ of_writes (in_members (in_member (inner (of_assign done)))) ∷ of_writes (in_members (in_member (inner (of_assign (gate 0 false))))) ∷ of_writes
+    (in_members (in_member (inner (of_assign (gate 1 true)))))
+    ∷ of_writes (in_members (in_later (in_member child))) ∷ of_writes (in_members (in_later (in_member latch))) ∷ of_writes
+    (in_members (in_later (in_member next)))
     ∷ of_writes (in_members (in_later (in_member (inner (of_send done))))) ∷ of_writes (in_members (in_later (in_member (inner (of_send (gate 0 true))))))
-    ∷ of_writes (in_members (in_later (in_later (in_last (of_assign done))))) ∷ of_writes (in_members (in_later (in_later (in_last (of_assign (gate 0 true)))))) ∷ of_writes (in_members (in_later (in_later (in_last (of_assign (gate 1 false))))))
+    ∷ of_writes (in_members (in_later (in_later (in_last (of_assign done))))) ∷ of_writes
+    (in_members (in_later (in_later (in_last (of_assign (gate 0 true)))))) ∷ of_writes
+    (in_members (in_later (in_later (in_last (of_assign (gate 1 false))))))
     ∷ rail_node (of_channel 0) 0 true ∷ rail_node (of_channel 0) 0 false ∷ ack_node 0
     ∷ rail_node (of_var 0) 0 true ∷ rail_node (of_var 0) 0 false ∷ rail_node (of_var 0) 1 true ∷ rail_node (of_var 0) 1 false
     ∷ bit_node 0 0 true ∷ bit_node 0 0 false ∷ bit_node 0 1 true ∷ bit_node 0 1 false ∷ wrote_node 0 0 ∷ wrote_node 0 1 ∷ joint_node 0 0 ∷ []
@@ -162,3 +176,49 @@ written_held = driven writes (takes (Times 0) ∷ []) writes_nodes 96 (first_of 
 
 stores_first : value_on 2 (written_held.wires.bit 0) ≡ Some 2
 stores_first = refl
+
+-- in L : 2; out R : 2; var x : 2; begin L?x; R!x end
+abbrev relay : TypedProgram
+relay = record {
+  channels = record { name = []; kind = In; width = 2 } ∷ record { name = []; kind = Out; width = 2 } ∷ [];
+  vars = record { name = []; width = 2; first = 0 } ∷ [];
+  body = in_turn (and_member (receiving 0 at 0 at) (and_member (sending 1 at (reading 0 1 0 at)) no_members));
+}
+
+abbrev both_rails : List (Node relay.body) → (ℕ → Bool → Node relay.body) → List (Node relay.body)
+both_rails more f = f 0 true ∷ f 0 false ∷ f 1 true ∷ f 1 false ∷ more
+
+abbrev relay_nodes : List (Node relay.body)
+relay_nodes =
+    both_rails (both_rails (both_rails (both_rails (both_rails (both_rails (
+    go_node ∷ own_node child ∷ own_node latch ∷ own_node next
+    ∷ own_node (inner (in_members (in_member child))) ∷ own_node (inner (in_members (in_member latch))) ∷ own_node (inner (in_members (in_member next)))
+    ∷ own_node (inner (in_members (in_member (inner (of_receive heard))))) ∷ own_node (inner (in_members (in_member (inner (of_receive stored)))))
+    ∷ own_node (inner (in_members (in_later (in_last (of_send done)))))
+    ∷ ack_node 0 ∷ ack_node 1 ∷ wrote_node 0 0 ∷ wrote_node 0 1 ∷ joint_node 0 0 ∷ [])
+    (rail_node (of_channel 0))) (rail_node (of_channel 1))) (rail_node (of_var 0))) (bit_node 0))
+    (λ i one. own_node (inner (in_members (in_member (inner (of_receive (taking i one))))))))
+    (λ i one. own_node (inner (in_members (in_later (in_last (of_send (gate i one)))))))
+
+abbrev relayed : Whole relay.body
+relayed = driven relay (gives (2 ∷ []) ∷ takes All ∷ []) relay_nodes 90 (first_of relay)
+
+-- the number passes on both channels, done rises, and nothing is left to move
+it_passes_on : relayed.histories ≡ (2 ∷ []) ∷ (2 ∷ []) ∷ []
+it_passes_on = refl
+
+it_is_done : relayed.root.next ≡ true
+it_is_done = refl
+
+relay_rests : list_any (enabled relay (gives (2 ∷ []) ∷ takes All ∷ []) relayed) relay_nodes ≡ false
+relay_rests = refl
+
+-- where no number comes, nothing passes, and done stays low
+abbrev waiting : Whole relay.body
+waiting = driven relay (gives [] ∷ takes All ∷ []) relay_nodes 90 (first_of relay)
+
+none_passes : waiting.histories ≡ [] ∷ [] ∷ []
+none_passes = refl
+
+it_waits : waiting.root.next ≡ false
+it_waits = refl

@@ -1,8 +1,8 @@
 -- A trial for channels inside of a program: what a rising acknowledge does to a term whose branches may hold both ends.
-use Rattle.std.proofs.Common.{◌≡◌, ℕ, zero, suc, Bool, true, false, List, refl, sym, ap, ◌∙◌, subst}
+use Rattle.std.proofs.Common.{◌≡◌, ℕ, zero, suc, Bool, true, false, refl, sym, ap, ◌∙◌, subst}
 use Rattle.std.specs.Prelude.{◌||◌, if◌then◌else◌, Some}
 use Rattle.width_check.specs.Processes.{Process, Processes}
-use Rattle.chp_meaning.specs.Terms.{Term, Terms, no_branches, and_branch, finished, active, in_sequence, in_parallel, is_finished, all_finished, together, followed, Place, in_first, in_branch, statement_at, branch_at, with_left, with_branch}
+use Rattle.chp_meaning.specs.Terms.{Term, Terms, and_branch, finished, in_sequence, in_parallel, together, followed, Place, in_first, in_branch, statement_at, branch_at, with_left, with_branch}
 use Rattle.circuit_places.proofs.Meets.{followed_on}
 use Rattle.circuit_places.proofs.Left.{Act, followed_act, ActInside, this_act, other_act, together_act, some_stands, inside_stands}
 
@@ -42,17 +42,62 @@ followed_exchange more x p q y a =
     })
 
 pub this_exchange : (ts : Terms) (x : Term) (p q : Process) (y : Term) → Exchange x p q y → ExchangeInside (and_branch x ts) p q (and_branch y ts)
-this_exchange ts x p q y a = record { index = zero; at = a.at; second = zero; other = a.other; gives = a.gives; takes = a.takes; still = a.still; then_is = ap (λ t. and_branch t ts) a.then_is }
+this_exchange ts x p q y a = record {
+  index = zero;
+  at = a.at;
+  second = zero;
+  other = a.other;
+  gives = a.gives;
+  takes = a.takes;
+  still = a.still;
+  then_is = ap
+      (λ t. and_branch t ts) a.then_is;
+}
 
 pub other_exchange : (x : Term) (ts : Terms) (p q : Process) (us : Terms) → ExchangeInside ts p q us → ExchangeInside (and_branch x ts) p q (and_branch x us)
-other_exchange x ts p q us a = record { index = suc a.index; at = a.at; second = suc a.second; other = a.other; gives = a.gives; takes = a.takes; still = a.still; then_is = ap (λ t. and_branch x t) a.then_is }
+other_exchange x ts p q us a =
+    record {
+      index = suc a.index;
+      at = a.at;
+      second = suc a.second;
+      other = a.other;
+      gives = a.gives;
+      takes = a.takes;
+      still = a.still;
+      then_is = ap
+          (λ t. and_branch x t) a.then_is;
+    }
 
 -- one end in a branch, the other one in those behind it
-pub gives_first : (x : Term) (ts : Terms) (p q : Process) (y : Term) (us : Terms) → Act x p finished y → ActInside ts q finished us → ExchangeInside (and_branch x ts) p q (and_branch y us)
-gives_first x ts p q y us a b = record { index = zero; at = a.at; second = suc b.index; other = b.at; gives = a.stands; takes = b.stands; still = b.stands; then_is = ap (λ t. and_branch t us) a.then_is ∙ ap (λ t. and_branch (with_left x a.at finished) t) b.then_is }
+pub gives_first : (x : Term) (ts : Terms) (p q : Process) (y : Term) (us : Terms) → Act x p finished y → ActInside ts q finished us
+    → ExchangeInside (and_branch x ts) p q (and_branch y us)
+gives_first x ts p q y us a b =
+    record {
+      index = zero;
+      at = a.at;
+      second = suc b.index;
+      other = b.at;
+      gives = a.stands;
+      takes = b.stands;
+      still = b.stands;
+      then_is = ap
+          (λ t. and_branch t us) a.then_is ∙ ap (λ t. and_branch (with_left x a.at finished) t) b.then_is;
+    }
 
-pub takes_first : (x : Term) (ts : Terms) (p q : Process) (y : Term) (us : Terms) → Act x q finished y → ActInside ts p finished us → ExchangeInside (and_branch x ts) p q (and_branch y us)
-takes_first x ts p q y us a b = record { index = suc b.index; at = b.at; second = zero; other = a.at; gives = b.stands; takes = a.stands; still = a.stands; then_is = ap (λ t. and_branch t us) a.then_is ∙ ap (λ t. and_branch (with_left x a.at finished) t) b.then_is }
+pub takes_first : (x : Term) (ts : Terms) (p q : Process) (y : Term) (us : Terms) → Act x q finished y → ActInside ts p finished us
+    → ExchangeInside (and_branch x ts) p q (and_branch y us)
+takes_first x ts p q y us a b =
+    record {
+      index = suc b.index;
+      at = b.at;
+      second = zero;
+      other = a.at;
+      gives = b.stands;
+      takes = a.stands;
+      still = a.stands;
+      then_is = ap
+          (λ t. and_branch t us) a.then_is ∙ ap (λ t. and_branch (with_left x a.at finished) t) b.then_is;
+    }
 
 on_beside : (ts : Terms) (k : ℕ) (at : Place) (p : Process) → branch_at ts k at ≡ Some p → together ts ≡ in_parallel ts
 on_beside ts k at p e = ap (λ b. if b then finished else in_parallel ts) (inside_stands ts k at p e)
@@ -121,20 +166,25 @@ module _ (G T : Process → Type 0) where
   fired_together true true ts us f = record { p = f.p; q = f.q; is = f.is; other = f.other; act = together_exchange ts f.p f.q us f.act }
 
   this_one : (E : Process → Type 0) (x y : Term) (ts us : Terms) → us ≡ ts → One E x y → OneInside E (and_branch x ts) (and_branch y us)
-  this_one E x y ts us e f = subst (λ (z : Terms). OneInside E (and_branch x ts) (and_branch y z)) (sym e) (record { p = f.p; is = f.is; act = this_act ts x f.p finished y f.act })
+  this_one E x y ts us e f = subst (λ (z : Terms). OneInside E (and_branch x ts) (and_branch y z)) (sym e)
+      (record { p = f.p; is = f.is; act = this_act ts x f.p finished y f.act })
 
   other_one : (E : Process → Type 0) (x y : Term) (ts us : Terms) → y ≡ x → OneInside E ts us → OneInside E (and_branch x ts) (and_branch y us)
-  other_one E x y ts us e f = subst (λ (z : Term). OneInside E (and_branch x ts) (and_branch z us)) (sym e) (record { p = f.p; is = f.is; act = other_act x ts f.p finished us f.act })
+  other_one E x y ts us e f = subst (λ (z : Term). OneInside E (and_branch x ts) (and_branch z us)) (sym e)
+      (record { p = f.p; is = f.is; act = other_act x ts f.p finished us f.act })
 
   -- a branch and those behind it: at most one of the two sends, and one receives
-  pub fired_both : (a b c d : Bool) (x y : Term) (ts us : Terms) → (a ≡ true → c ≡ false) → (b ≡ true → d ≡ false) → Fired a b x y → FiredInside c d ts us → FiredInside (a || c) (b || d) (and_branch x ts) (and_branch y us)
+  pub fired_both : (a b c d : Bool) (x y : Term) (ts us : Terms) → (a ≡ true → c ≡ false) → (b ≡ true → d ≡ false) → Fired a b x y → FiredInside c d ts us
+      → FiredInside (a || c) (b || d) (and_branch x ts) (and_branch y us)
   fired_both false false false false x y ts us s r f g = ap (λ t. and_branch t us) f ∙ ap (λ t. and_branch x t) g
   fired_both true false false false x y ts us s r f g = this_one G x y ts us g f
   fired_both false true false false x y ts us s r f g = this_one T x y ts us g f
-  fired_both true true false false x y ts us s r f g = subst (λ (z : Terms). TwoInside (and_branch x ts) (and_branch y z)) (sym g) (record { p = f.p; q = f.q; is = f.is; other = f.other; act = this_exchange ts x f.p f.q y f.act })
+  fired_both true true false false x y ts us s r f g = subst (λ (z : Terms). TwoInside (and_branch x ts) (and_branch y z)) (sym g)
+      (record { p = f.p; q = f.q; is = f.is; other = f.other; act = this_exchange ts x f.p f.q y f.act })
   fired_both false false true false x y ts us s r f g = other_one G x y ts us f g
   fired_both false false false true x y ts us s r f g = other_one T x y ts us f g
-  fired_both false false true true x y ts us s r f g = subst (λ (z : Term). TwoInside (and_branch x ts) (and_branch z us)) (sym f) (record { p = g.p; q = g.q; is = g.is; other = g.other; act = other_exchange x ts g.p g.q us g.act })
+  fired_both false false true true x y ts us s r f g = subst (λ (z : Term). TwoInside (and_branch x ts) (and_branch z us)) (sym f)
+      (record { p = g.p; q = g.q; is = g.is; other = g.other; act = other_exchange x ts g.p g.q us g.act })
   fired_both true false false true x y ts us s r f g = record { p = f.p; q = g.p; is = f.is; other = g.is; act = gives_first x ts f.p g.p y us f.act g.act }
   fired_both false true true false x y ts us s r f g = record { p = g.p; q = f.p; is = g.is; other = f.is; act = takes_first x ts g.p f.p y us f.act g.act }
   fired_both true b true d x y ts us s r f g = absurd (cc (s refl))

@@ -1,11 +1,12 @@
 -- What a move of a statement may do to the wires that others read, and what it comes to.
-use Rattle.std.proofs.Common.{◌≡◌, ◌≢◌, ℕ, ◌==◌, Bool, true, false, List, ◌∷◌, refl, sym, ap, ◌∙◌, subst}
+use Rattle.std.proofs.Common.{◌≡◌, ◌≢◌, ℕ, ◌<◌, Bool, true, false, List, ◌∷◌, refl, sym, ap, ◌∙◌, subst}
 use Rattle.std.specs.Prelude.{◌||◌, is_some}
-use Rattle.width_check.specs.Processes.{Process, Processes}
-use Rattle.circuit_places.specs.Lines.{Line, of_channel, of_var, same_line, site_statement, line_width, Rails, Seen}
+use Rattle.width_check.specs.Processes.{Process, Processes, TypedProgram}
+use Rattle.width_check.specs.Typing.{channel_width}
+use Rattle.circuit_places.specs.Lines.{Line, of_channel, line_width, Seen}
 use Rattle.circuit_places.specs.Circuit.{GuardedSpot, Spot, TurnSpot, BranchSpot, turned_guarded, turned, turned_turn, turned_branches}
 use Rattle.circuit_places.proofs.Places.{Mode, idle, running, answered, returning, asks, GuardedAt, At, TurnAt, BranchesAt, guarded_cells, cells, turn_cells, branch_cells, Shown, none_shown, both_shown, guarded_shown, shown, turn_shown, branches_shown, GuardedFits, Fits, TurnFits, BranchesFit, writing, guarded_writing, turn_writing, branches_writing, guarded_moves, moves, turn_moves, branch_moves}
-use Rattle.circuit_places.proofs.Meets.{sends}
+use Rattle.circuit_places.proofs.Meets.{sends, receives}
 use Rattle.function_blocks.specs.Rails.{Single}
 use Rattle.circuit_places.specs.Whole.{value_on, neutral_on}
 use Rattle.circuit_places.proofs.Left.{guarded_left, left, turn_left, branches_left, Follows, FollowsInside}
@@ -92,24 +93,33 @@ flow_both env a c x y f g = record {
   left = λ k e h. or_turns (c.take k) (y.take k) (a.take k) (x.take k) (λ i j. f.left k j i) (λ i j. g.left k j i) h e;
 }
 
--- of no bit of a variable both rails are high
-pub record Clean (env : Seen) : Type 0 where
+-- of no bit of a variable, nor of a channel, both rails are high; and a rail that is high is one of the channel's
+pub record Clean (P : TypedProgram) (env : Seen) : Type 0 where
   pub single : Single env.bit
+  pub wide : (k : Line) → env.width k ≡ line_width P k
+  pub rails : (c i : ℕ) → env.rail (of_channel c) i true ≡ true → env.rail (of_channel c) i false ≡ true → ⊥
+  pub below : (c i : ℕ) (one : Bool) → env.rail (of_channel c) i one ≡ true → i < channel_width P.channels c
 
--- where the acknowledge of a line is high of which a statement has sites, one of them is under way
+-- where the acknowledge of a line is high of which a statement has sites, one of them is under way, and where that of a
+-- channel is on which it receives, a receive is
 pub record Backed (p : Process) (x : Shown) (env : Seen) : Type 0 where
   pub send : (k : Line) → sends p k ≡ true → env.ack k ≡ true → x.talk k ≡ true
+  pub receive : (c : ℕ) → receives p c ≡ true → env.ack (of_channel c) ≡ true → x.listen c ≡ true
 
--- the acknowledges of those lines are low
+-- the acknowledges of those are low
 pub record Quiet (p : Process) (env : Seen) : Type 0 where
   pub send : (k : Line) → sends p k ≡ true → env.ack k ≡ false
+  pub receive : (c : ℕ) → receives p c ≡ true → env.ack (of_channel c) ≡ false
 
 pub low_of : {t : Bool} (a : Bool) → (a ≡ true → t ≡ true) → t ≡ false → a ≡ false
 low_of true f e = absurd (cc (f refl, e))
 low_of false f e = refl
 
 pub quiet_of : {p : Process} (env : Seen) (x : Shown) → x ≡ none_shown → Backed p x env → Quiet p env
-quiet_of env x e b = record { send = λ k h. low_of (env.ack k) (b.send k h) (ap (λ (z : Shown). z.talk k) e) }
+quiet_of env x e b = record {
+  send = λ k h. low_of (env.ack k) (b.send k h) (ap (λ (z : Shown). z.talk k) e);
+  receive = λ c h. low_of (env.ack (of_channel c)) (b.receive c h) (ap (λ (z : Shown). z.listen c) e);
+}
 
 -- what a move of an own node comes to: a place whose values are those with the node turned over, and where no other
 -- node's move is lost
@@ -168,6 +178,14 @@ or_left a b h = ap (λ z. z || b) h
 pub or_right : (a b : Bool) → b ≡ true → (a || b) ≡ true
 or_right true b h = refl
 or_right false b h = h
+
+pub neither_left : (a b : Bool) → (a || b) ≡ false → a ≡ false
+neither_left true b h = absurd (cc h)
+neither_left false b h = refl
+
+pub neither_right : (a b : Bool) → (a || b) ≡ false → b ≡ false
+neither_right true b h = absurd (cc h)
+neither_right false b h = h
 
 pub cases : {A : Type 0} (b : Bool) → (b ≡ true → A) → (b ≡ false → A) → A
 cases true f g = f refl

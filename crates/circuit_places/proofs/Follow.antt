@@ -2,35 +2,57 @@
 use Rattle.std.proofs.Common.{◌≡◌, ℕ, zero, suc, ◌-◌, ◌≤◌, ◌<◌, ◌==◌, Bool, true, false, List, [], ◌∷◌, ◌++◌, length, refl, sym, ap, ◌∙◌, subst, inl, inr, ◌⊎◌, arith, set, replicate}
 use Rattle.std.proofs.lemmas.List.{get_or-set_other, get_or-set_same, length-set}
 use Rattle.std.proofs.lemmas.Bool.Decides.{nat_tests}
-use Rattle.std.specs.Prelude.{slice_index, map, Option, Some, if◌then◌else◌}
+use Rattle.std.specs.Prelude.{slice_index, slice_get, map, Option, Some, None, if◌then◌else◌}
 use Rattle.env_script.specs.declared.script.Count.{Count}
 use Rattle.env_script.specs.declared.script.Count.TheVariants.{All, Times}
 use Rattle.env_script.specs.Scripts.{OfferValue, gives, takes, nothing, offer_at, is_over}
 use Rattle.env_script.specs.Runs.{history_at, completed}
 use Rattle.width_check.specs.Processes.{Process, skipping, repeating, TypedProgram}
-use Rattle.width_check.specs.Typing.{channel_width, var_width}
+use Rattle.width_check.specs.Typing.{kind_at, channel_width, var_width}
 use Rattle.width_check.specs.declared.typed.Var.{Var}
 use Rattle.circuit_places.proofs.Writing.{number_told}
 use Rattle.chp_meaning.specs.Terms.{Term, finished, opened, Place, statement_at, with_left}
-use Rattle.chp_meaning.specs.Steps.{Configuration, one_fewer, leaving, value_in, storing, an_assignment, passing, offering, Step, a_skip, a_repetition, a_delivery, Leads, no_step, one_step, start_of}
+use Rattle.chp_meaning.specs.Steps.{Configuration, one_fewer, leaving, value_in, storing, an_assignment, passing, offering, Step, a_skip, a_repetition, a_delivery, an_arrival, Leads, no_step, one_step, start_of}
 use Rattle.function_blocks.specs.Rails.{number_on}
 use Rattle.circuit_places.specs.Lines.{of_channel, of_var, Rails}
-use Rattle.circuit_places.specs.Whole.{seen, line_ack, first_bits, wires_after, ack_turned, rail_turned, bit_turned, Wires, wrote_turned, joint_turned, value_on, Node, go_node, own_node, rail_node, ack_node, bit_node, wrote_node, joint_node, answers, passed, passed_after}
+use Rattle.circuit_places.specs.Whole.{seen, line_ack, is_heard, first_bits, wires_after, rail_turned, bit_turned, Wires, wrote_turned, joint_turned, value_on, Node, go_node, own_node, rail_node, ack_node, bit_node, wrote_node, joint_node, answers, passed, passed_after}
 use Rattle.circuit_places.proofs.Left.{Act, skips, goes_on, Follows}
 use Rattle.circuit_places.proofs.Flow.{cases}
-use Rattle.circuit_places.proofs.LineNames.{self_number, same_number, self_line, same_line_is}
+use Rattle.circuit_places.proofs.LineNames.{self_number, same_number}
 use Rattle.circuit_places.proofs.Fires.{Passes}
-use Rattle.circuit_places.proofs.System.{Passing, Others, Freed, Rises, Stored, no_store, cleared, stores, Moves, Fitted, takes_of, may_low}
+use Rattle.circuit_places.proofs.System.{Passing, Others, Arrival, Arrives, Acks, taken_out, taken_in, let_go_in, Freed, Rises, Stored, no_store, cleared, stores, takes_in, Moves, Fitted, takes_of, may_low}
+use Rattle.circuit_places.proofs.Arriving.{Arriving, next_value}
 
 -- what is left of an offer when so many values have passed
 abbrev pub fewer : Count → ℕ → Count
 fewer All n = All
 fewer (Times m) n = Times (m - n)
 
+abbrev pub behind : List ℕ → ℕ → List ℕ
+behind values zero = values
+behind [] (suc n) = []
+behind (v ∷ vs) (suc n) = behind vs n
+
 abbrev pub left_over : OfferValue → ℕ → OfferValue
 left_over (takes count) n = takes (fewer count n)
-left_over (gives values) n = gives values
+left_over (gives values) n = gives (behind values n)
 left_over nothing n = nothing
+
+-- the next value comes first
+pub behind_some : (values : List ℕ) (n v : ℕ) → slice_get values n ≡ Some v → behind values n ≡ v ∷ behind values (suc n)
+behind_some [] zero v e = absurd (cc e)
+behind_some [] (suc n) v e = absurd (cc e)
+behind_some (x ∷ xs) zero v e = ap (λ y. y ∷ xs) (same e)
+  where
+    same : Some x ≡ Some v → x ≡ v
+    same e = cc e
+behind_some (x ∷ xs) (suc n) v e = behind_some xs n v e
+
+pub behind_none : (values : List ℕ) (n : ℕ) → slice_get values n ≡ None → behind values n ≡ []
+behind_none [] zero e = refl
+behind_none [] (suc n) e = refl
+behind_none (x ∷ xs) zero e = absurd (cc e)
+behind_none (x ∷ xs) (suc n) e = behind_none xs n e
 
 pub record Followed (P : TypedProgram) (script : List OfferValue) (most : ℕ) (hs : List (List ℕ)) (t : Term) (bits : ℕ → Rails) (busy : ℕ → Bool) : Type 0 where
   pub to : Configuration
@@ -58,10 +80,11 @@ none_yet (suc n) (suc k) = none_yet n k
 whole_yet : (offer : OfferValue) (n : ℕ) → n ≡ 0 → offer ≡ left_over offer n
 whole_yet (takes All) n e = refl
 whole_yet (takes (Times m)) n e = ap (λ k. takes (Times k)) (let g : m ≡ m - n = omega (arith, e) in g)
-whole_yet (gives values) n e = refl
+whole_yet (gives values) n e = ap (λ k. gives (behind values k)) (sym e)
 whole_yet nothing n e = refl
 
-pub started : (P : TypedProgram) (script : List OfferValue) → Fitted P script → Followed P script 0 (replicate (length P.channels) []) (opened P.body) (first_bits P.vars) (λ x. false)
+pub started : (P : TypedProgram) (script : List OfferValue) → Fitted P script
+    → Followed P script 0 (replicate (length P.channels) []) (opened P.body) (first_bits P.vars) (λ x. false)
 started P script fitted = record {
   to = start_of P script;
   steps = 0;
@@ -84,7 +107,9 @@ started P script fitted = record {
     long zero = refl
     long (suc n) = ap (λ k. suc k) (long n)
 
-module _ {P : TypedProgram} {script : List OfferValue} {most : ℕ} {hs : List (List ℕ)} {t : Term} {bits : ℕ → Rails} {busy : ℕ → Bool} (r : Followed P script most hs t bits busy) (now : ℕ → Rails) (after : ℕ → Bool) (free : (x : ℕ) → after x ≡ false → (now x ≡ bits x) × (busy x ≡ false)) where
+module _ {P : TypedProgram} {script : List OfferValue} {most : ℕ} {hs : List (List ℕ)} {t : Term} {bits : ℕ → Rails} {busy : ℕ → Bool}
+    (r : Followed P script most hs t bits busy) (now : ℕ → Rails) (after : ℕ → Bool)
+    (free : (x : ℕ) → after x ≡ false → (now x ≡ bits x) × (busy x ≡ false)) where
   kept_so : (x : ℕ) → x < length P.vars → after x ≡ false → number_on (var_width P.vars x) (now x) ≡ slice_index r.to.store x
   kept_so x less e = ap (number_on (var_width P.vars x)) (free x e).0 ∙ r.stored x less (free x e).1
 
@@ -145,9 +170,12 @@ one_longer : (xs : List ℕ) (v : ℕ) → length (xs ++ v ∷ []) ≡ suc (leng
 one_longer [] v = refl
 one_longer (x ∷ xs) v = ap (λ k. suc k) (one_longer xs v)
 
-module _ {P : TypedProgram} {script : List OfferValue} {most : ℕ} {hs : List (List ℕ)} {t : Term} (w : Wires) {busy : ℕ → Bool} (fitted : Fitted P script) (r : Followed P script most hs t w.bit busy) (now : ℕ → Rails) (after : ℕ → Bool) (free : (x : ℕ) → after x ≡ false → (now x ≡ w.bit x) × (busy x ≡ false)) (k : ℕ) where
+module _ {P : TypedProgram} {script : List OfferValue} {most : ℕ} {hs : List (List ℕ)} {t : Term} (w : Wires) {busy : ℕ → Bool} (fitted : Fitted P script)
+    (r : Followed P script most hs t w.bit busy) (now : ℕ → Rails) (after : ℕ → Bool) (free : (x : ℕ) → after x ≡ false → (now x ≡ w.bit x) × (busy x ≡ false))
+    (k : ℕ) where
   -- a value passes
-  module _ (y : Term) (count : Count) (offered : offer_at script k ≡ takes count) (more : is_over count (completed hs k) ≡ true) (pass : Passes P (seen P w) busy (of_channel k) t y) where
+  module _ (y : Term) (count : Count) (offered : offer_at script k ≡ takes count) (more : is_over count (completed hs k) ≡ true)
+      (pass : Passes P (seen P w) busy (of_channel k) t y) where
     read : value_on (channel_width P.channels k) (w.rail (of_channel k)) ≡ Some (value_in r.to pass.expression)
     read = pass.read (slice_index r.to.store) (λ v less calm. r.stored v less calm)
 
@@ -161,25 +189,29 @@ module _ {P : TypedProgram} {script : List OfferValue} {most : ℕ} {hs : List (
     rest_at = r.rests k ∙ ap (λ o. left_over o (completed hs k)) offered
 
     below : k < length P.channels
-    below = fitted.within k count offered
+    below = fitted.within k (λ z. cc (offered, z))
 
-    step : Step r.to pass.act.at (passing (offering (leaving r.to pass.act.at finished) k (takes (one_fewer (fewer count (completed hs k))))) k (value_in r.to pass.expression))
+    step : Step r.to pass.act.at (passing (offering (leaving r.to pass.act.at finished) k (takes (one_fewer (fewer count (completed hs k))))) k
+        (value_in r.to pass.expression))
     step = a_delivery (ap (λ x. statement_at x pass.act.at) r.term ∙ pass.act.stands) rest_at (still_over count (completed hs k) more)
 
     long : completed now_histories k ≡ suc (completed hs k)
-    long = ap length (get_or-set_same hs k (history_at hs k ++ value_in r.to pass.expression ∷ []) [] (let g : k < length hs = subst (λ (n : ℕ). k < n) (sym r.as_long) below in g)) ∙ one_longer (history_at hs k) (value_in r.to pass.expression)
+    long = ap length (get_or-set_same hs k (history_at hs k ++ value_in r.to pass.expression ∷ []) []
+        (let g : k < length hs = subst (λ (n : ℕ). k < n) (sym r.as_long) below in g)) ∙ one_longer (history_at hs k) (value_in r.to pass.expression)
 
     now_rest : (c : ℕ) → offer_at now_rests c ≡ left_over (offer_at script c) (completed now_histories c)
     now_rest c = cases (c == k)
         (λ (e : (c == k) ≡ true).
         let same : c ≡ k = same_number c k e in
         subst (λ (i : ℕ). offer_at now_rests i ≡ left_over (offer_at script i) (completed now_histories i)) (sym same)
-        (get_or-set_same r.to.rests k (takes (one_fewer (fewer count (completed hs k)))) nothing (let g : k < length r.to.rests = subst (λ (n : ℕ). k < n) (sym r.as_many) below in g)
+        (get_or-set_same r.to.rests k (takes (one_fewer (fewer count (completed hs k)))) nothing
+        (let g : k < length r.to.rests = subst (λ (n : ℕ). k < n) (sym r.as_many) below in g)
         ∙ (one_more count (completed hs k) (completed now_histories k) long ∙ sym (ap (λ o. left_over o (completed now_histories k)) offered))))
         (λ (e : (c == k) ≡ false).
         let ne : c ≡ k → ⊥ = λ (same : c ≡ k). absurd (cc (e, ap (λ x. x == k) same, self_number k)) in
         get_or-set_other r.to.rests k c (takes (one_fewer (fewer count (completed hs k)))) nothing ne
-        ∙ (r.rests c ∙ sym (ap (λ h. left_over (offer_at script c) (length h)) (get_or-set_other hs k c (history_at hs k ++ value_in r.to pass.expression ∷ []) [] ne))))
+        ∙ (r.rests c ∙ sym (ap (λ h. left_over (offer_at script c) (length h))
+        (get_or-set_other hs k c (history_at hs k ++ value_in r.to pass.expression ∷ []) [] ne))))
 
     passes_on : Followed P script (suc most) (passed hs k (value_on (channel_width P.channels k) (w.rail (of_channel k)))) y now after
     passes_on = subst (λ (o : Option ℕ). Followed P script (suc most) (passed hs k o) y now after) (sym read) (record {
@@ -196,23 +228,88 @@ module _ {P : TypedProgram} {script : List OfferValue} {most : ℕ} {hs : List (
       stored = kept_so r now after free;
     })
 
-  acknowledged : (y : Term) → answers (channel_width P.channels k) w k (completed hs k) (offer_at script k) ≡ true → (b : Bool) → w.ack k ≡ b → Passing P (seen P w) busy (of_channel k) b t y
+  acknowledged : (y : Term) → answers (channel_width P.channels k) w k (completed hs k) (offer_at script k) ≡ true → (b : Bool) → w.ack k ≡ b
+      → Passing P (seen P w) busy (of_channel k) b t y
       → Followed P script (suc most) (if b then hs else passed hs k (value_on (channel_width P.channels k) (w.rail (of_channel k)))) y now after
   acknowledged y e true h move = stays r now after free y move
   acknowledged y e false h move =
       let o = takes_of (channel_width P.channels k) w k (completed hs k) (offer_at script k) e in
       passes_on y o.count o.is (may_low (channel_width P.channels k) w k (is_over o.count (completed hs k)) h o.may).1 move
 
+module _ {P : TypedProgram} {script : List OfferValue} {most : ℕ} {hs : List (List ℕ)} {t : Term} (w : Wires) {busy : ℕ → Bool} (fitted : Fitted P script)
+    (r : Followed P script most hs t w.bit busy) (now : ℕ → Rails) (after : ℕ → Bool) (k : ℕ) where
+  -- a value arrives
+  module _ (y : Term) (values : List ℕ) (offered : offer_at script k ≡ gives values) (a : Arrives P busy after k w t y) (v : ℕ)
+      (next : slice_get values (completed hs k) ≡ Some v) (told : value_on (channel_width P.channels k) (w.rail (of_channel k)) ≡ Some v)
+      (bits : (x : ℕ) → after x ≡ false → now x ≡ w.bit x) where
+    abbrev here_rests : List OfferValue
+    here_rests = set r.to.rests k (gives (behind values (suc (completed hs k))))
+
+    abbrev here_histories : List (List ℕ)
+    here_histories = set hs k (history_at hs k ++ v ∷ [])
+
+    here_rest : offer_at r.to.rests k ≡ gives (v ∷ behind values (suc (completed hs k)))
+    here_rest = r.rests k ∙ (ap (λ o. left_over o (completed hs k)) offered ∙ ap (λ x. gives x) (behind_some values (completed hs k) v next))
+
+    arrival : Step r.to a.act.at (passing (storing (offering (leaving r.to a.act.at finished) k (gives (behind values (suc (completed hs k))))) a.var v) k v)
+    arrival = an_arrival (ap (λ x. statement_at x a.act.at) r.term ∙ a.act.stands) here_rest
+
+    here_long : completed here_histories k ≡ suc (completed hs k)
+    here_long = ap length (get_or-set_same hs k (history_at hs k ++ v ∷ []) [] (let g : k < length hs = subst (λ (n : ℕ). k < n) (sym r.as_long) a.within in g))
+        ∙ one_longer (history_at hs k) v
+
+    rest_here : (c : ℕ) → offer_at here_rests c ≡ left_over (offer_at script c) (completed here_histories c)
+    rest_here c = cases (c == k)
+        (λ (e : (c == k) ≡ true).
+        let same : c ≡ k = same_number c k e in
+        subst (λ (i : ℕ). offer_at here_rests i ≡ left_over (offer_at script i) (completed here_histories i)) (sym same)
+        (get_or-set_same r.to.rests k (gives (behind values (suc (completed hs k)))) nothing
+        (let g : k < length r.to.rests = subst (λ (n : ℕ). k < n) (sym r.as_many) a.within in g)
+        ∙ (ap (λ n. gives (behind values n)) (sym here_long) ∙ sym (ap (λ o. left_over o (completed here_histories k)) offered))))
+        (λ (e : (c == k) ≡ false).
+        let ne : c ≡ k → ⊥ = λ (same : c ≡ k). absurd (cc (e, ap (λ x. x == k) same, self_number k)) in
+        get_or-set_other r.to.rests k c (gives (behind values (suc (completed hs k)))) nothing ne
+        ∙ (r.rests c ∙ sym (ap (λ h. left_over (offer_at script c) (length h)) (get_or-set_other hs k c (history_at hs k ++ v ∷ []) [] ne))))
+
+    here_stored : (z : ℕ) → z < length P.vars → after z ≡ false → number_on (var_width P.vars z) (now z) ≡ slice_index (set r.to.store a.var v) z
+    here_stored z less f = ap (number_on (var_width P.vars z)) (bits z f) ∙ cases (z == a.var)
+        (λ (h : (z == a.var) ≡ true). let e = same_number z a.var h in
+        ap (λ x. number_on (var_width P.vars x) (w.bit x)) e
+        ∙ (number_told (var_width P.vars a.var) (w.bit a.var) v (ap (λ n. value_on n (w.bit a.var)) a.widths ∙ (a.told ∙ told))
+        ∙ sym (ap (slice_index (set r.to.store a.var v)) e ∙ get_or-set_same r.to.store a.var v 0
+        (let g : a.var < length r.to.store = subst (λ (n : ℕ). a.var < n) (sym r.as_stored) a.into in g))))
+        (λ (h : (z == a.var) ≡ false).
+        let ne : z ≡ a.var → ⊥ = λ (e : z ≡ a.var). absurd (cc (h, ap (λ x. x == a.var) e, self_number a.var)) in
+        r.stored z less (a.frees z ne f) ∙ sym (get_or-set_other r.to.store a.var z v 0 ne))
+
+    arrives_on : Followed P script (suc most) (passed hs k (value_on (channel_width P.channels k) (w.rail (of_channel k)))) y now after
+    arrives_on = subst (λ (o : Option ℕ). Followed P script (suc most) (passed hs k o) y now after) (sym told) (record {
+      to = passing (storing (offering (leaving r.to a.act.at finished) k (gives (behind values (suc (completed hs k))))) a.var v) k v;
+      steps = suc r.steps;
+      within = omega (arith, r.within);
+      leads = leads_on r.leads arrival;
+      term = ap (λ x. with_left x a.act.at finished) r.term ∙ sym a.act.then_is;
+      passed = ap (λ h. set h k (history_at h k ++ v ∷ [])) r.passed;
+      rests = rest_here;
+      as_many = length-set r.to.rests k (gives (behind values (suc (completed hs k)))) ∙ r.as_many;
+      as_long = length-set hs k (history_at hs k ++ v ∷ []) ∙ r.as_long;
+      as_stored = length-set r.to.store a.var v ∙ r.as_stored;
+      stored = here_stored;
+    })
+
 -- where no variable's acknowledge rises
-calm : {P : TypedProgram} (w now : Wires) (before after : ℕ → Bool) → ((x : ℕ) → line_ack P now (of_var x) ≡ line_ack P w (of_var x)) → ((x : ℕ) → Freed P w now (before x) (after x) x) → (x : ℕ) → after x ≡ false → (now.bit x ≡ w.bit x) × (before x ≡ false)
+calm : {P : TypedProgram} (w now : Wires) (before after : ℕ → Bool) → ((x : ℕ) → line_ack P now (of_var x) ≡ line_ack P w (of_var x))
+    → ((x : ℕ) → Freed P w now (before x) (after x) x ⊥) → (x : ℕ) → after x ≡ false → (now.bit x ≡ w.bit x) × (before x ≡ false)
 calm {P = P} w now before after same frees x e = ((frees x e).0, here (frees x e).1)
   where
-    here : (before x ≡ false) ⊎ Rises P w now x → before x ≡ false
+    here : (before x ≡ false) ⊎ (Rises P w now x ⊎ ⊥) → before x ≡ false
     here (inl b) = b
-    here (inr r) = absurd (cc (same x, r.low, r.high))
+    here (inr (inl r)) = absurd (cc (same x, r.low, r.high))
+    here (inr (inr z)) = absurd z
 
 -- a variable's acknowledge turns over, or it stays: where it rises the value is stored
-module _ {P : TypedProgram} {script : List OfferValue} {most : ℕ} {hs : List (List ℕ)} {t : Term} (x : ℕ) (w now : Wires) (busy after : ℕ → Bool) (r : Followed P script most hs t w.bit busy) (others : Others P x w now) (frees : (y : ℕ) → Freed P w now (busy y) (after y) y) where
+module _ {P : TypedProgram} {script : List OfferValue} {most : ℕ} {hs : List (List ℕ)} {t : Term} (x : ℕ) (w now : Wires) (busy after : ℕ → Bool)
+    (r : Followed P script most hs t w.bit busy) (others : Others P x w now) (frees : (y : ℕ) → Freed P w now (busy y) (after y) y ⊥) where
   all_same : line_ack P now (of_var x) ≡ line_ack P w (of_var x) → (y : ℕ) → line_ack P now (of_var y) ≡ line_ack P w (of_var y)
   all_same e y = cases (y == x)
       (λ (h : (y == x) ≡ true). ap (λ v. line_ack P now (of_var v)) (same_number y x h) ∙ (e ∙ ap (λ v. line_ack P w (of_var v)) (sym (same_number y x h))))
@@ -226,13 +323,25 @@ module _ {P : TypedProgram} {script : List OfferValue} {most : ℕ} {hs : List (
   free_of : ((y : ℕ) → Rises P w now y → ⊥) → (y : ℕ) → after y ≡ false → (now.bit y ≡ w.bit y) × (busy y ≡ false)
   free_of none y e = ((frees y e).0, here (frees y e).1)
     where
-      here : (busy y ≡ false) ⊎ Rises P w now y → busy y ≡ false
+      here : (busy y ≡ false) ⊎ (Rises P w now y ⊎ ⊥) → busy y ≡ false
       here (inl b) = b
-      here (inr z) = absurd (none y z)
+      here (inr (inl z)) = absurd (none y z)
+      here (inr (inr z)) = absurd z
 
-  kept : (y : Term) → Stored P busy x w now t y → Followed P script (suc most) hs y now.bit after
+  kept : (y : Term) → Stored P busy after x w now t y → Followed P script (suc most) hs y now.bit after
   kept y (no_store e s) = stays r now.bit after (calm w now busy after (all_same e) frees) y s
   kept y (cleared e h s) = stays r now.bit after (free_of (never_rises h)) y s
+  kept y (takes_in e h under s) = stays r now.bit after free y s
+    where
+      free : (z : ℕ) → after z ≡ false → (now.bit z ≡ w.bit z) × (busy z ≡ false)
+      free z f = ((frees z f).0, here (frees z f).1)
+        where
+          here : (busy z ≡ false) ⊎ (Rises P w now z ⊎ ⊥) → busy z ≡ false
+          here (inl b) = b
+          here (inr (inr q)) = absurd q
+          here (inr (inl q)) = cases (z == x)
+              (λ (e : (z == x) ≡ true). absurd (cc (ap after (same_number z x e), under, f)))
+              (λ (e : (z == x) ≡ false). absurd (cc (others z e, q.low, q.high)))
   kept y (stores e h same pass) = record {
     to = storing (leaving r.to pass.act.at finished) x (value_in r.to pass.expression);
     steps = suc r.steps;
@@ -247,28 +356,57 @@ module _ {P : TypedProgram} {script : List OfferValue} {most : ℕ} {hs : List (
     stored = here;
   }
     where
-      here : (z : ℕ) → z < length P.vars → after z ≡ false → number_on (var_width P.vars z) (now.bit z) ≡ slice_index (set r.to.store x (value_in r.to pass.expression)) z
+      here : (z : ℕ) → z < length P.vars → after z ≡ false → number_on (var_width P.vars z) (now.bit z) ≡ slice_index
+          (set r.to.store x (value_in r.to pass.expression)) z
       here z less f = ap (number_on (var_width P.vars z)) (frees z f).0 ∙ cases (z == x)
           (λ (h : (z == x) ≡ true). let e = same_number z x h in
           ap (λ v. number_on (var_width P.vars v) (w.bit v)) e
-          ∙ (number_told (var_width P.vars x) (w.bit x) (value_in r.to pass.expression) (same ∙ pass.read (slice_index r.to.store) (λ v below calm. r.stored v below calm))
-          ∙ sym (ap (slice_index (set r.to.store x (value_in r.to pass.expression))) e ∙ get_or-set_same r.to.store x (value_in r.to pass.expression) 0 (let g : x < length r.to.store = subst (λ (n : ℕ). x < n) (sym r.as_stored) (subst (λ (v : ℕ). v < length P.vars) e less) in g))))
+          ∙ (number_told (var_width P.vars x) (w.bit x) (value_in r.to pass.expression)
+          (same ∙ pass.read (slice_index r.to.store) (λ v below calm. r.stored v below calm))
+          ∙ sym (ap (slice_index (set r.to.store x (value_in r.to pass.expression))) e
+          ∙ get_or-set_same r.to.store x (value_in r.to pass.expression) 0
+          (let g : x < length r.to.store = subst (λ (n : ℕ). x < n) (sym r.as_stored) (subst (λ (v : ℕ). v < length P.vars) e less) in g))))
           (λ (h : (z == x) ≡ false).
           r.stored z less (still h (frees z f).1)
           ∙ sym (get_or-set_other r.to.store x z (value_in r.to pass.expression) 0 (λ (e : z ≡ x). absurd (cc (h, ap (λ v. v == x) e, self_number x)))))
         where
-          still : (z == x) ≡ false → (busy z ≡ false) ⊎ Rises P w now z → busy z ≡ false
+          still : (z == x) ≡ false → (busy z ≡ false) ⊎ (Rises P w now z ⊎ ⊥) → busy z ≡ false
           still h (inl b) = b
-          still h (inr q) = absurd (cc (others z h, q.low, q.high))
+          still h (inr (inl q)) = absurd (cc (others z h, q.low, q.high))
+          still h (inr (inr q)) = absurd q
+
+-- an acknowledge moves
+acks : {P : TypedProgram} {script : List OfferValue} {most : ℕ} {hs : List (List ℕ)} {t : Term} (w : Wires) (busy after : ℕ → Bool) (fitted : Fitted P script)
+    (r : Followed P script most hs t w.bit busy) (y : Term) (k : ℕ)
+    → (is_heard (kind_at P.channels k) ≡ false → answers (channel_width P.channels k) w k (completed hs k) (offer_at script k) ≡ true) → Arriving P script hs w
+    → Acks P busy after k w t y
+    → Followed P script (suc most) (if w.ack k then hs else passed hs k (value_on (channel_width P.channels k) (w.rail (of_channel k)))) y w.bit after
+acks w busy after fitted r y k e brought (taken_out out move free) = acknowledged w fitted r w.bit after (λ x f. (refl, free x f)) k y (e out)
+    (w.ack k) refl move
+acks {P = P} {script = script} {most = most} {hs = hs} w busy after fitted r y k e brought (let_go_in heard high same free) =
+    subst (λ (b : Bool). Followed P script (suc most) (if b then hs else passed hs k
+    (value_on (channel_width P.channels k) (w.rail (of_channel k)))) y w.bit after) (sym high) (stays r w.bit after (λ x f. (refl, free x f)) y same)
+acks {P = P} {script = script} {most = most} {hs = hs} w busy after fitted r y k e brought (taken_in heard a) =
+    let o = fitted.hears k a.within a.used in
+    let v = next_value (channel_width P.channels k) (completed hs k) (w.rail (of_channel k)) o.0 (fitted.wide k a.within) (fitted.bounded k o.0 o.1)
+    (brought k o.0 o.1 a.low) a.some in
+    subst (λ (b : Bool). Followed P script (suc most) (if b then hs else passed hs k
+    (value_on (channel_width P.channels k) (w.rail (of_channel k)))) y w.bit after) (sym a.low)
+    (arrives_on w fitted r w.bit after k y o.0 o.1 a v.next v.is v.told (λ x f. refl))
 
 -- each move of the circuit is a step of the program or none
-pub follows : {P : TypedProgram} {script : List OfferValue} {most : ℕ} {hs : List (List ℕ)} {t : Term} (w : Wires) (busy after : ℕ → Bool) → Fitted P script → Followed P script most hs t w.bit busy → (y : Term) (n : Node P.body)
-    → ((k : ℕ) → n ≡ ack_node k → answers (channel_width P.channels k) w k (completed hs k) (offer_at script k) ≡ true)
-    → ((x : ℕ) → Freed P w (wires_after w n) (busy x) (after x) x) → Moves P w busy t y n → Followed P script (suc most) (passed_after P.channels w hs n) y (wires_after w n).bit after
-follows w busy after fitted r y go_node e frees move = silent r w.bit after (calm w w busy after (λ x. refl) frees) y move
-follows w busy after fitted r y (own_node s) e frees move = silent r w.bit after (calm w w busy after (λ x. refl) frees) y move
-follows w busy after fitted r y (rail_node k i one) e frees move = silent r w.bit after (calm w (rail_turned w k i one) busy after (λ x. refl) frees) y move
-follows w busy after fitted r y (ack_node k) e frees move = acknowledged w fitted r w.bit after (calm w (ack_turned w k) busy after (λ x. refl) frees) k y (e k refl) (w.ack k) refl move
-follows w busy after fitted r y (bit_node x i one) e frees move = silent r (bit_turned w x i one).bit after (calm w (bit_turned w x i one) busy after (λ x. refl) frees) y move
-follows w busy after fitted r y (wrote_node x i) e frees move = kept x w (wrote_turned w x i) busy after r move.0 frees y move.1
-follows w busy after fitted r y (joint_node x k) e frees move = kept x w (joint_turned w x k) busy after r move.0 frees y move.1
+pub follows : {P : TypedProgram} {script : List OfferValue} {most : ℕ} {hs : List (List ℕ)} {t : Term} (w : Wires) (busy after : ℕ → Bool) → Fitted P script
+    → Followed P script most hs t w.bit busy → Arriving P script hs w → (y : Term) (n : Node P.body)
+    → ((k : ℕ) → n ≡ ack_node k → is_heard (kind_at P.channels k) ≡ false
+    → answers (channel_width P.channels k) w k (completed hs k) (offer_at script k) ≡ true)
+    → ((x : ℕ) → Freed P w (wires_after w n) (busy x) (after x) x (Arrival P w n)) → Moves P w busy after t y n
+    → Followed P script (suc most) (passed_after P.channels w hs n) y (wires_after w n).bit after
+follows w busy after fitted r brought y go_node e frees move = silent r w.bit after (calm w w busy after (λ x. refl) frees) y move
+follows w busy after fitted r brought y (own_node s) e frees move = silent r w.bit after (calm w w busy after (λ x. refl) frees) y move
+follows w busy after fitted r brought y (rail_node k i one) e frees move = silent r w.bit after
+    (calm w (rail_turned w k i one) busy after (λ x. refl) frees) y move
+follows w busy after fitted r brought y (ack_node k) e frees move = acks w busy after fitted r y k (e k refl) brought move
+follows w busy after fitted r brought y (bit_node x i one) e frees move = silent r (bit_turned w x i one).bit after
+    (calm w (bit_turned w x i one) busy after (λ x. refl) frees) y move
+follows w busy after fitted r brought y (wrote_node x i) e frees move = kept x w (wrote_turned w x i) busy after r move.0 frees y move.1
+follows w busy after fitted r brought y (joint_node x k) e frees move = kept x w (joint_turned w x k) busy after r move.0 frees y move.1

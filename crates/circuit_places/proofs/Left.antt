@@ -1,11 +1,11 @@
 -- What is left of the program at a place, and its steps.
 use Rattle.std.proofs.Common.{◌≡◌, ℕ, zero, suc, Bool, true, false, List, [], ◌∷◌, refl, sym, ap, ◌∙◌, subst, inl, inr, ◌⊎◌}
 use Rattle.std.specs.Prelude.{Some, ◌&&◌, ◌||◌, if◌then◌else◌}
-use Rattle.width_check.specs.Processes.{constant, Process, skipping, assigning, sending, repeating, Processes, no_members, and_member, member_count}
+use Rattle.width_check.specs.Processes.{Process, skipping, assigning, sending, receiving, repeating, Processes, no_members, and_member, member_count}
 use Rattle.chp_meaning.specs.Terms.{Term, Terms, no_branches, and_branch, finished, active, in_sequence, in_parallel, is_finished, all_finished, together, opened, followed, Place, here, in_first, in_branch, statement_at, branch_at, with_left, with_branch}
-use Rattle.circuit_places.specs.Lines.{Line, of_channel, of_var, same_line, site_statement, line_width, Rails, Seen}
+use Rattle.circuit_places.specs.Lines.{Line, of_channel, of_var}
 use Rattle.circuit_places.specs.Circuit.{Bits, joint_count}
-use Rattle.circuit_places.proofs.Places.{Mode, idle, running, answered, returning, link, all_ask, all_ack, SideMay, GuardedAt, At, TurnAt, BranchesAt, g_rests, g_in, g_past, g_back, rests, at_skip, at_assign, at_send, at_turn, at_side, at_body, no_more, and_at, turn_rests, at_last, at_member, at_later, under_way, writing, guarded_writing, turn_writing, branches_writing}
+use Rattle.circuit_places.proofs.Places.{Mode, idle, running, answered, returning, link, all_ask, all_ack, SideMay, GuardedAt, At, TurnAt, BranchesAt, g_rests, g_in, g_past, g_back, rests, at_skip, at_assign, at_send, at_receive, at_turn, at_side, at_body, no_more, and_at, turn_rests, at_last, at_member, at_later, under_way, writing, guarded_writing, turn_writing, branches_writing}
 
 -- a statement is left until it is done
 abbrev pub waits : Mode → (over : Bool) → Term → Term
@@ -31,6 +31,7 @@ abbrev mutual
   left ack (at_skip m h) = waits m false (active skipping)
   left ack (at_assign {x = x} {at = at} {e = e} m u h) = waits m (ack (of_var x)) (active (assigning x at e))
   left ack (at_send {c = c} {at = at} {e = e} m u h) = waits m (ack (of_channel c)) (active (sending c at e))
+  left ack (at_receive {c = c} {x = x} {at = at} {to = to} m k q h) = waits m (ack (of_channel c)) (active (receiving c at x to))
   left ack (at_turn t) = turn_left ack t
   left ack (at_side m t b h) = together (branches_left ack b)
   left ack (at_body {p = p} a) = followed (left ack a) (again p)
@@ -176,7 +177,8 @@ side_done n running ks t h o = absurd (o refl)
 side_done n answered ks t h o = none_open ks (h.all refl)
 side_done n returning ks t h o = none_asked ks h.asked
 
-pub branches_left_done : {members : Processes} {ks : List Mode} (ack : Line → Bool) (b : BranchesAt members ks) → NoneRuns ks → together (branches_left ack b) ≡ finished
+pub branches_left_done : {members : Processes} {ks : List Mode} (ack : Line → Bool) (b : BranchesAt members ks) → NoneRuns ks
+    → together (branches_left ack b) ≡ finished
 branches_left_done ack b o = ap (λ z. if z then finished else in_parallel (branches_left ack b)) (here b o)
   where
     here : {members : Processes} {ks : List Mode} (b : BranchesAt members ks) → NoneRuns ks → all_finished (branches_left ack b) ≡ true
@@ -198,6 +200,7 @@ mutual
   left_done ack (at_skip returning h) o = refl
   left_done ack (at_assign m u h) o = waits_done m _ _ o
   left_done ack (at_send m u h) o = waits_done m _ _ o
+  left_done ack (at_receive m k q h) o = waits_done m _ _ o
   left_done ack (at_turn t) o = turn_left_done ack t o
   left_done ack (at_side {members = members} {ks = ks} m t b h) o = branches_left_done ack b (side_done (member_count members) m ks t h o)
   left_done ack (at_body a) o = absurd (o refl)
@@ -218,7 +221,8 @@ guarded_writing_done ack (g_in u a h) o x = absurd (o refl)
 guarded_writing_done ack g_past o x = refl
 guarded_writing_done ack (g_back u) o x = refl
 
-pub branches_writing_done : {members : Processes} {ks : List Mode} (ack : Line → Bool) (b : BranchesAt members ks) → NoneRuns ks → (x : ℕ) → branches_writing ack b x ≡ false
+pub branches_writing_done : {members : Processes} {ks : List Mode} (ack : Line → Bool) (b : BranchesAt members ks) → NoneRuns ks → (x : ℕ)
+    → branches_writing ack b x ≡ false
 branches_writing_done ack no_more o x = refl
 branches_writing_done ack (and_at g b) o x = ap (λ z. z || branches_writing ack b x) (guarded_writing_done ack g o.0 x) ∙ branches_writing_done ack b o.1 x
 
@@ -234,11 +238,13 @@ mutual
   writing_done ack (at_skip m h) o x = refl
   writing_done ack (at_assign m u h) o x = under_way_done m _ _ o
   writing_done ack (at_send m u h) o x = refl
+  writing_done ack (at_receive m k q h) o x = under_way_done m _ _ o
   writing_done ack (at_turn t) o x = turn_writing_done ack t o x
   writing_done ack (at_side {members = members} {ks = ks} m t b h) o x = branches_writing_done ack b (side_done (member_count members) m ks t h o) x
   writing_done ack (at_body a) o x = absurd (o refl)
 
-  pub turn_writing_done : {members : Processes} {m : Mode} (ack : Line → Bool) (t : TurnAt members m) → (m ≡ running → ⊥) → (x : ℕ) → turn_writing ack t x ≡ false
+  pub turn_writing_done : {members : Processes} {m : Mode} (ack : Line → Bool) (t : TurnAt members m) → (m ≡ running → ⊥) → (x : ℕ)
+      → turn_writing ack t x ≡ false
   turn_writing_done ack turn_rests o x = refl
   turn_writing_done ack (at_last a) o x = writing_done ack a o x
   turn_writing_done ack (at_member g) o x = absurd (o refl)

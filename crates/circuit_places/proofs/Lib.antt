@@ -1,4 +1,5 @@
 pub mod Examples
+pub mod CoveredExamples
 pub mod RailLemmas
 pub mod Trees
 pub mod Places
@@ -10,17 +11,21 @@ pub mod Begin
 pub mod Talks
 pub mod Sides
 pub mod Leaves
+pub mod PortLeaf
 pub mod Control
 pub mod Change
 pub mod Sites
 pub mod Exchange
 pub mod Fires
+pub mod Hears
 pub mod Rest
 pub mod Writing
 pub mod BitTable
 pub mod Blocks
 pub mod System
 pub mod LineMoves
+pub mod AckMoves
+pub mod Arriving
 pub mod BlockMoves
 pub mod Apart
 pub mod Follow

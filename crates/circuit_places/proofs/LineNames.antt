@@ -1,8 +1,6 @@
 -- Lines are told apart by their kinds and numbers.
-use Rattle.std.proofs.Common.{◌≡◌, ℕ, ◌==◌, Bool, true, false, refl, ap, arith}
+use Rattle.std.proofs.Common.{◌≡◌, ℕ, ◌==◌, true, ap, arith}
 use Rattle.std.proofs.lemmas.Bool.Decides.{nat_tests}
-use Rattle.chp_base.specs.declared.span.Span.{Span}
-use Rattle.width_check.specs.Processes.{Formula}
 use Rattle.circuit_places.specs.Lines.{Line, of_channel, of_var, same_line}
 
 pub self_number : (c : ℕ) → (c == c) ≡ true

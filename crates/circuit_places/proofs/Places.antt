@@ -1,13 +1,15 @@
 -- Where the control of a process is, what its nodes' values are there, and which of them may move.
-use Rattle.std.proofs.Common.{◌≡◌, ℕ, zero, suc, ◌==◌, Bool, true, false, List, [], ◌∷◌, ◌≤◌, refl, sym, ap, ◌∙◌}
-use Rattle.std.specs.Prelude.{not, ◌&&◌, ◌||◌, if◌then◌else◌}
+use Rattle.std.proofs.Common.{◌≡◌, ℕ, zero, suc, ◌==◌, Bool, true, false, List, [], ◌∷◌, ◌≤◌, ◌<◌, refl, sym, ap, ◌∙◌}
+use Rattle.std.specs.Prelude.{not, ◌&&◌, ◌||◌, if◌then◌else◌, is_some}
 use Rattle.std.specs.List.{range_with_len}
 use Rattle.std.proofs.Math.Path.{fun_ext}
 use Rattle.chp_base.specs.declared.span.Span.{Span}
 use Rattle.width_check.specs.Processes.{Formula, Process, skipping, assigning, sending, receiving, in_turn, side_by_side, choosing, repeating, Processes, no_members, and_member, member_count}
 use Rattle.cell_parallel.specs.Trees.{tree_top}
-use Rattle.circuit_places.specs.Lines.{Line, of_channel, of_var, same_line, site_statement, line_width, Rails, Seen}
-use Rattle.circuit_places.specs.Circuit.{Guarded, Site, Pairs, SiteSpot, site_rule, low_site, Cells, TurnCells, Bits, BranchCells, low_bits, bit_at, joint_count, low_guarded, low, low_turn, low_branches, branch_ends, tree_answer, tree_rule, gate_count, answer, turn_answer, GuardedSpot, Spot, TurnSpot, BranchSpot, child, latch, next, inner, of_skip, done, gate, of_assign, of_send, in_members, of_branch, joint, in_this, in_others, of_loop, ask, in_body, in_last, in_member, in_later, fires, same_bit, gate_rule, guarded_rule, rule, turn_rule, branch_rule}
+use Rattle.circuit_places.specs.Lines.{Line, of_channel, of_var, same_line, Rails, Seen}
+use Rattle.prs_core.specs.Deciding.{implies}
+use Rattle.circuit_places.specs.Whole.{value_on, neutral_on}
+use Rattle.circuit_places.specs.Circuit.{Port, PortSpot, low_port, port_rule, heard, stored, taking, of_receive, Guarded, Site, Pairs, SiteSpot, site_rule, low_site, Cells, TurnCells, Bits, BranchCells, low_bits, bit_at, joint_count, low_guarded, low, low_turn, low_branches, branch_ends, tree_answer, tree_rule, gate_count, answer, turn_answer, GuardedSpot, Spot, TurnSpot, BranchSpot, child, latch, next, inner, of_skip, done, gate, of_assign, of_send, in_members, of_branch, joint, in_this, in_others, of_loop, ask, in_body, in_last, in_member, in_later, fires, same_bit, gate_rule, guarded_rule, rule, turn_rule, branch_rule}
 use Rattle.width_check.specs.Reads.{reads}
 use Rattle.function_blocks.specs.Waves.{good, out_rail, full, empty, Waves}
 use Rattle.circuit_places.proofs.RailLemmas.{fst_true, snd_true, same_value, low_gate_quiet}
@@ -60,6 +62,13 @@ pub record SiteMay (e : Formula) (m : Mode) (u : Pairs (gate_count e)) : Type 0 
   pub known : Waves e
   pub may : wave_may m (full e u) ≡ true
 
+-- a receive that answers has stored
+abbrev pub port_may : Mode → (kept : Bool) → Bool
+port_may idle k = false
+port_may running k = true
+port_may answered k = k
+port_may returning k = true
+
 -- branches that are so far are all under this request, and have all ended; their ends
 abbrev pub all_ask : Bool → List Mode → Bool
 all_ask r [] = true
@@ -103,8 +112,10 @@ mutual
     at_skip : (m : Mode) → is_idle m ≡ false → At skipping m
     at_assign : {x : ℕ} {at : Span} {e : Formula} (m : Mode) (u : Pairs (gate_count e)) → SiteMay e m u → At (assigning x at e) m
     at_send : {c : ℕ} {at : Span} {e : Formula} (m : Mode) (u : Pairs (gate_count e)) → SiteMay e m u → At (sending c at e) m
+    at_receive : {c x : ℕ} {at to : Span} (m : Mode) (k : Bool) (q : Rails) → port_may m k ≡ true → At (receiving c at x to) m
     at_turn : {members : Processes} {m : Mode} → TurnAt members m → At (in_turn members) m
-    at_side : {members : Processes} {ks : List Mode} (m : Mode) (t : Bits (joint_count (member_count members))) → BranchesAt members ks → SideMay (member_count members) m ks t → At (side_by_side members) m
+    at_side : {members : Processes} {ks : List Mode} (m : Mode) (t : Bits (joint_count (member_count members))) → BranchesAt members ks
+        → SideMay (member_count members) m ks t → At (side_by_side members) m
     at_body : {p : Process} {m : Mode} → At p m → At (repeating p) running
 
   -- where branches are, each so far
@@ -117,13 +128,17 @@ mutual
     turn_rests : {members : Processes} → TurnAt members idle
     at_last : {p : Process} {m : Mode} → At p m → TurnAt (and_member p no_members) m
     at_member : {p q : Process} {more : Processes} → GuardedAt p running → TurnAt (and_member p (and_member q more)) running
-    at_later : {p q : Process} {more : Processes} {k n m : Mode} → GuardedAt p k → TurnAt (and_member q more) n → link m k n ≡ true → TurnAt (and_member p (and_member q more)) m
+    at_later : {p q : Process} {more : Processes} {k n m : Mode} → GuardedAt p k → TurnAt (and_member q more) n → link m k n ≡ true
+        → TurnAt (and_member p (and_member q more)) m
 
 abbrev pub guarded_of : {A : Type 0} → (child latch next : Bool) → A → Guarded A
 guarded_of c u b x = record { child = c; latch = u; next = b; inner = x }
 
 abbrev pub site_of : (e : Formula) → Bool → Pairs (gate_count e) → Site (gate_count e)
 site_of e a u = record { answer = a; gates = u }
+
+abbrev pub port_of : (answer kept : Bool) → Rails → Port
+port_of a k q = record { answer = a; kept = k; taken = q }
 
 abbrev pub ring_of : (p : Process) → Bool → Cells p → Cells (repeating p)
 ring_of p b x = record { answer = false; ask = b; inner = x }
@@ -147,6 +162,7 @@ abbrev mutual
   cells (at_skip m h) = acks m
   cells (at_assign {e = e} m u h) = site_of e (acks m) u
   cells (at_send {e = e} m u h) = site_of e (acks m) u
+  cells (at_receive m k q h) = port_of (acks m) k q
   cells (at_turn t) = turn_cells t
   cells (at_side {members = members} m t b h) = sides_of members (branch_cells b) t
   cells (at_body {p = p} {m = m} a) = ring_of p (asks m) (cells a)
@@ -162,8 +178,8 @@ abbrev mutual
   turn_cells (at_later {p = p} {q = q} {more = more} g t h) = turn_of p q more (guarded_cells g) (turn_cells t)
 
 -- What a place shows to what stands apart: whether a site of the line is under way, and whether its acknowledge's rise is
--- then its step; whether a site's rail is high; whether a receive is under way, and has taken a value; which variables
--- are read. No statement receives yet.
+-- then its step (of a receive, which is a site of its variable, it isn't); whether a site's rail is high; whether a receive
+-- on the channel is under way, and has stored a value; which variables are read.
 pub record Shown : Type 0 where
   pub talk : Line → Bool
   pub says : Line → Bool
@@ -186,7 +202,24 @@ both_shown x y = record {
 }
 
 abbrev pub site_shown : Line → (e : Formula) → Pairs (gate_count e) → Shown
-site_shown k e u = record { talk = λ j. same_line k j; says = λ j. same_line k j; offer = λ j i one. same_line k j && out_rail e u i one; listen = λ j. false; take = λ j. false; read = λ x. reads x e }
+site_shown k e u = record {
+  talk = λ j. same_line k j;
+  says = λ j. same_line k j;
+  offer = λ j i one. same_line k j && out_rail e u i one;
+  listen = λ j. false;
+  take = λ j. false;
+  read = λ x. reads x e;
+}
+
+abbrev pub port_shown : (c x : ℕ) → (kept : Bool) → Rails → Shown
+port_shown c x k q = record {
+  talk = λ j. same_line (of_var x) j;
+  says = λ j. false;
+  offer = λ j i one. same_line (of_var x) j && q i one;
+  listen = λ d. c == d;
+  take = λ d. (c == d) && k;
+  read = λ v. false;
+}
 
 abbrev mutual
   pub guarded_shown : {p : Process} {m : Mode} → GuardedAt p m → Shown
@@ -196,6 +229,7 @@ abbrev mutual
   pub shown : {p : Process} {m : Mode} → At p m → Shown
   shown (at_assign {x = x} {e = e} m u h) = site_shown (of_var x) e u
   shown (at_send {c = c} {e = e} m u h) = site_shown (of_channel c) e u
+  shown (at_receive {c = c} {x = x} m k q h) = port_shown c x k q
   shown (at_turn t) = turn_shown t
   shown (at_side m t b h) = branches_shown b
   shown (at_body a) = shown a
@@ -211,7 +245,8 @@ abbrev mutual
   turn_shown (at_later g t h) = turn_shown t
   turn_shown turn_rests = none_shown
 
--- the variable is being written: an assignment to it runs under a low acknowledge
+-- the variable is being written: an assignment to it runs under its low acknowledge, or a receive into it under the
+-- channel's
 abbrev pub under_way : Mode → (over : Bool) → Bool
 under_way running over = not over
 under_way _ over = false
@@ -223,6 +258,7 @@ abbrev mutual
 
   pub writing : {p : Process} {m : Mode} → (Line → Bool) → At p m → ℕ → Bool
   writing ack (at_assign {x = y} m u h) x = (y == x) && under_way m (ack (of_var y))
+  writing ack (at_receive {c = c} {x = y} m k q h) x = (y == x) && under_way m (ack (of_channel c))
   writing ack (at_turn t) x = turn_writing ack t x
   writing ack (at_side m t b h) x = branches_writing ack b x
   writing ack (at_body a) x = writing ack a x
@@ -249,6 +285,23 @@ send_fits _ _ _ _ = true
 abbrev pub SiteFits : Line → (e : Formula) → Mode → Pairs (gate_count e) → Seen → Type 0
 SiteFits k e m u env = (send_fits m (full e u) (empty e u) (env.ack k) ≡ true) × (good (asks m) env.bit e u ≡ true)
 
+-- So far has a receive come, by its node k, the acknowledges of the channel and of the variable, and whether all rails are
+-- taken, or none.
+abbrev pub port_ends : Mode → (kept ack va full none : Bool) → Bool
+port_ends idle k a v f n = false
+port_ends running k a v f n = implies a k && (implies k v && implies v f)
+port_ends answered k a v f n = k && (a && (v && f))
+port_ends returning k a v f n = implies k a && (implies v k && (implies (not v) n && implies (not k) n))
+
+-- Until it has stored it takes no other rail than is there, and from then on it has all that are there.
+pub record PortFits (c x : ℕ) (m : Mode) (k : Bool) (q : Rails) (env : Seen) : Type 0 where
+  pub ends : port_ends m k (env.ack (of_channel c)) (env.ack (of_var x)) (is_some (value_on (env.width (of_var x)) q))
+      (neutral_on (env.width (of_var x)) q) ≡ true
+  pub before : k ≡ false → (i : ℕ) (one : Bool) → q i one ≡ true → env.rail (of_channel c) i one ≡ true
+  pub behind : k ≡ true → (i : ℕ) (one : Bool) → env.rail (of_channel c) i one ≡ true → q i one ≡ true
+  pub within : (i : ℕ) (one : Bool) → q i one ≡ true → i < env.width (of_var x)
+  pub single : (i : ℕ) → q i true ≡ true → q i false ≡ true → ⊥
+
 abbrev mutual
   pub GuardedFits : {p : Process} {m : Mode} → GuardedAt p m → Seen → Type 0
   GuardedFits (g_in u a h) env = Fits a env
@@ -257,6 +310,7 @@ abbrev mutual
   pub Fits : {p : Process} {m : Mode} → At p m → Seen → Type 0
   Fits (at_assign {x = x} {e = e} m u h) env = SiteFits (of_var x) e m u env
   Fits (at_send {c = c} {e = e} m u h) env = SiteFits (of_channel c) e m u env
+  Fits (at_receive {c = c} {x = x} m k q h) env = PortFits c x m k q env
   Fits (at_turn t) env = TurnFits t env
   Fits (at_side m t b h) env = BranchesFit b env
   Fits (at_body a) env = Fits a env
@@ -277,6 +331,9 @@ abbrev pub site_moves : Seen → Line → (e : Formula) → (m : Mode) → Pairs
 site_moves env k e m u done = if acks m then not (env.ack k) else asks m && env.ack k
 site_moves env k e m u (gate i one) = fires (gate_rule e env.bit (asks m) u i one)
 
+abbrev pub port_moves : Seen → (c x : ℕ) → (m : Mode) → (kept : Bool) → Rails → PortSpot → Bool
+port_moves env c x m k q s = fires (port_rule (env.rail (of_channel c)) (env.ack (of_channel c)) (env.ack (of_var x)) (asks m) (port_of (acks m) k q) s)
+
 abbrev mutual
   pub guarded_moves : {p : Process} {m : Mode} → Seen → GuardedAt p m → GuardedSpot p → Bool
   guarded_moves env (g_in {m = m} u a h) child = if asks m then u else not u
@@ -291,6 +348,7 @@ abbrev mutual
   moves env (at_skip m h) of_skip = if acks m then not (asks m) else asks m
   moves env (at_assign {x = x} {e = e} m u h) (of_assign s) = site_moves env (of_var x) e m u s
   moves env (at_send {c = c} {e = e} m u h) (of_send s) = site_moves env (of_channel c) e m u s
+  moves env (at_receive {c = c} {x = x} m k q h) (of_receive s) = port_moves env c x m k q s
   moves env (at_turn t) (in_members s) = turn_moves env t s
   moves env (at_side m t b h) (of_branch s) = branch_moves env b s
   moves env (at_side {members = members} {ks = ks} m t b h) (joint k) = joint_moves (member_count members) (ends ks) t k
@@ -319,7 +377,8 @@ low_end (and_member p more) (suc i) = low_end more i
 low_sides_answer : (members : Processes) → answer (side_by_side members) (low (side_by_side members)) ≡ false
 low_sides_answer members =
     let n = member_count members in
-    all_low_value n (branch_ends members (low_branches members)) (bit_at (joint_count n) (low_bits (joint_count n))) (low_end members) (low_bit (joint_count n)) (tree_top (range_with_len 0 n) n)
+    all_low_value n (branch_ends members (low_branches members)) (bit_at (joint_count n) (low_bits (joint_count n))) (low_end members) (low_bit (joint_count n))
+    (tree_top (range_with_len 0 n) n)
 
 mutual
   pub low_answer : (p : Process) → answer p (low p) ≡ false
@@ -389,8 +448,10 @@ mutual
   answer_is (at_skip m h) = refl
   answer_is (at_assign m u h) = refl
   answer_is (at_send m u h) = refl
+  answer_is (at_receive m k q h) = refl
   answer_is (at_turn t) = turn_answer_is t
-  answer_is (at_side {members = members} m t b h) = ap (λ (f : ℕ → Bool). tree_answer (member_count members) f (bit_at (joint_count (member_count members)) t)) (ends_are b) ∙ h.top
+  answer_is (at_side {members = members} m t b h) = ap (λ (f : ℕ → Bool). tree_answer (member_count members) f (bit_at (joint_count (member_count members)) t))
+      (ends_are b) ∙ h.top
   answer_is (at_body a) = refl
 
   pub turn_answer_is : {members : Processes} {m : Mode} (t : TurnAt members m) → turn_answer members (turn_cells t) ≡ acks m
@@ -403,6 +464,11 @@ mutual
 low_site_quiet : (e : Formula) (bits : ℕ → Rails) (ack : Bool) (s : SiteSpot e) → fires (site_rule e bits ack false (low_site e) s) ≡ false
 low_site_quiet e bits ack done = refl
 low_site_quiet e bits ack (gate i one) = low_gate_quiet e bits i one
+
+low_port_quiet : (rail : Rails) (ack va : Bool) (s : PortSpot) → fires (port_rule rail ack va false low_port s) ≡ false
+low_port_quiet rail ack va heard = refl
+low_port_quiet rail ack va stored = refl
+low_port_quiet rail ack va (taking i one) = refl
 
 mutual
   pub low_guarded_quiet : (p : Process) (env : Seen) (s : GuardedSpot p) → fires (guarded_rule p env false (low_guarded (low p)) s) ≡ false
@@ -419,11 +485,12 @@ mutual
   low_quiet (repeating p) env of_loop = refl
   low_quiet (repeating p) env ask = refl
   low_quiet (repeating p) env (in_body s) = low_quiet p env s
-  low_quiet (receiving c at x to) env s = refl
+  low_quiet (receiving c at x to) env (of_receive s) = low_port_quiet (env.rail (of_channel c)) (env.ack (of_channel c)) (env.ack (of_var x)) s
   low_quiet (side_by_side members) env (of_branch s) = low_branch_quiet members env s
   low_quiet (side_by_side members) env (joint k) =
       let n = member_count members in
-      joint_quiet n (branch_ends members (low_branches members)) (bit_at (joint_count n) (low_bits (joint_count n))) (low_end members) (low_bit (joint_count n)) k
+      joint_quiet n (branch_ends members (low_branches members)) (bit_at (joint_count n) (low_bits (joint_count n))) (low_end members)
+      (low_bit (joint_count n)) k
   low_quiet (choosing again _) env s = refl
 
   pub low_branch_quiet : (members : Processes) (env : Seen) (s : BranchSpot members) → fires (branch_rule members env false (low_branches members) s) ≡ false
@@ -438,12 +505,14 @@ mutual
   low_turn_quiet (and_member p (and_member q more)) env (in_later s) = low_turn_quiet (and_member q more) env s
 
 -- the rules allow what a place says
-site_can_is : (env : Seen) (k : Line) (e : Formula) (m : Mode) (u : Pairs (gate_count e)) (s : SiteSpot e) → fires (site_rule e env.bit (env.ack k) (asks m) (site_of e (acks m) u) s) ≡ site_moves env k e m u s
+site_can_is : (env : Seen) (k : Line) (e : Formula) (m : Mode) (u : Pairs (gate_count e)) (s : SiteSpot e)
+    → fires (site_rule e env.bit (env.ack k) (asks m) (site_of e (acks m) u) s) ≡ site_moves env k e m u s
 site_can_is env k e m u done = refl
 site_can_is env k e m u (gate i one) = refl
 
 mutual
-  pub guarded_can_is : {p : Process} {m : Mode} (env : Seen) (g : GuardedAt p m) (s : GuardedSpot p) → fires (guarded_rule p env (asks m) (guarded_cells g) s) ≡ guarded_moves env g s
+  pub guarded_can_is : {p : Process} {m : Mode} (env : Seen) (g : GuardedAt p m) (s : GuardedSpot p)
+      → fires (guarded_rule p env (asks m) (guarded_cells g) s) ≡ guarded_moves env g s
   guarded_can_is {p = p} env g_rests s = low_guarded_quiet p env s
   guarded_can_is env (g_in {m = m} u a h) child = refl
   guarded_can_is env (g_in {m = m} u a h) latch = ap (λ d. if u then false else d) (answer_is a)
@@ -467,22 +536,30 @@ mutual
   can_is env (at_skip m h) of_skip = refl
   can_is env (at_assign {x = x} {e = e} m u h) (of_assign s) = site_can_is env (of_var x) e m u s
   can_is env (at_send {c = c} {e = e} m u h) (of_send s) = site_can_is env (of_channel c) e m u s
+  can_is env (at_receive m k q h) (of_receive s) = refl
   can_is env (at_turn t) (in_members s) = turn_can_is env t s
   can_is env (at_side m t b h) (of_branch s) = branch_can_is env (asks m) b h.asked s
-  can_is env (at_side {members = members} m t b h) (joint k) = ap (λ (f : ℕ → Bool). fires (tree_rule (member_count members) f (bit_at (joint_count (member_count members)) t) k)) (ends_are b)
+  can_is env (at_side {members = members} m t b h) (joint k) = ap (λ (f : ℕ → Bool). fires
+      (tree_rule (member_count members) f (bit_at (joint_count (member_count members)) t) k)) (ends_are b)
   can_is env (at_body a) of_loop = refl
   can_is env (at_body {m = m} a) ask = ap (λ d. if asks m then d else not d) (answer_is a)
   can_is env (at_body a) (in_body s) = can_is env a s
 
-  pub branch_can_is : {members : Processes} {ks : List Mode} (env : Seen) (r : Bool) (b : BranchesAt members ks) → all_ask r ks ≡ true → (s : BranchSpot members) → fires (branch_rule members env r (branch_cells b) s) ≡ branch_moves env b s
+  pub branch_can_is : {members : Processes} {ks : List Mode} (env : Seen) (r : Bool) (b : BranchesAt members ks) → all_ask r ks ≡ true
+      → (s : BranchSpot members) → fires (branch_rule members env r (branch_cells b) s) ≡ branch_moves env b s
   branch_can_is env r no_more h s = refl
-  branch_can_is env r (and_at {p = p} {k = k} g b) h (in_this s) = ap (λ x. fires (guarded_rule p env x (guarded_cells g) s)) (sym (same_value (asks k) r (fst_true _ _ h))) ∙ guarded_can_is env g s
+  branch_can_is env r (and_at {p = p} {k = k} g b) h (in_this s) = ap (λ x. fires (guarded_rule p env x (guarded_cells g) s))
+      (sym (same_value (asks k) r (fst_true _ _ h))) ∙ guarded_can_is env g s
   branch_can_is env r (and_at g b) h (in_others s) = branch_can_is env r b (snd_true _ _ h) s
 
-  pub turn_can_is : {members : Processes} {m : Mode} (env : Seen) (t : TurnAt members m) (s : TurnSpot members) → fires (turn_rule members env (asks m) (turn_cells t) s) ≡ turn_moves env t s
+  pub turn_can_is : {members : Processes} {m : Mode} (env : Seen) (t : TurnAt members m) (s : TurnSpot members)
+      → fires (turn_rule members env (asks m) (turn_cells t) s) ≡ turn_moves env t s
   turn_can_is {members = members} env turn_rests s = low_turn_quiet members env s
   turn_can_is env (at_last a) (in_last s) = can_is env a s
   turn_can_is env (at_member g) (in_member s) = guarded_can_is env g s
-  turn_can_is env (at_member {q = q} {more = more} g) (in_later s) = ap (λ b. fires (turn_rule (and_member q more) env b (low_turn (and_member q more)) s)) (next_is g) ∙ low_turn_quiet (and_member q more) env s
-  turn_can_is env (at_later {p = p} {k = k} {n = n} {m = m} g t h) (in_member s) = ap (λ b. fires (guarded_rule p env b (guarded_cells g) s)) (sym (link_asks m k n h)) ∙ guarded_can_is env g s
-  turn_can_is env (at_later {q = q} {more = more} {k = k} {n = n} {m = m} g t h) (in_later s) = ap (λ b. fires (turn_rule (and_member q more) env b (turn_cells t) s)) (next_is g ∙ link_next m k n h) ∙ turn_can_is env t s
+  turn_can_is env (at_member {q = q} {more = more} g) (in_later s) = ap (λ b. fires (turn_rule (and_member q more) env b (low_turn (and_member q more)) s))
+      (next_is g) ∙ low_turn_quiet (and_member q more) env s
+  turn_can_is env (at_later {p = p} {k = k} {n = n} {m = m} g t h) (in_member s) = ap (λ b. fires (guarded_rule p env b (guarded_cells g) s))
+      (sym (link_asks m k n h)) ∙ guarded_can_is env g s
+  turn_can_is env (at_later {q = q} {more = more} {k = k} {n = n} {m = m} g t h) (in_later s) = ap
+      (λ b. fires (turn_rule (and_member q more) env b (turn_cells t) s)) (next_is g ∙ link_next m k n h) ∙ turn_can_is env t s

@@ -1,13 +1,13 @@
 -- Facts of truth values, of rails alone, and of an expression's gates at rest.
-use Rattle.std.proofs.Common.{◌≡◌, ℕ, zero, suc, ◌<◌, ◌≤◌, Bool, true, false, List, [], ◌∷◌, refl, sym, ap, ◌∙◌, arith}
-use Rattle.std.specs.Prelude.{not, ◌&&◌, ◌||◌, Option, Some, None, is_some}
+use Rattle.std.proofs.Common.{◌≡◌, ℕ, zero, suc, ◌<◌, ◌≤◌, Bool, true, false, List, [], ◌∷◌, refl, ap, ◌∙◌, arith}
+use Rattle.std.specs.Prelude.{not, ◌&&◌, Option, Some, None, is_some}
 use Rattle.std.specs.List.{list_all}
 use Rattle.prs_core.specs.Moves.{bit_value, with_bit}
 use Rattle.width_check.specs.Processes.{Formula}
 use Rattle.width_check.specs.Values.{width_of}
-use Rattle.function_blocks.specs.Rails.{Pair, pair_of, side_of, cross, neutral, Pairs, low_pairs, pair_in, rule_of, fires, is_apart, same_bit, Rails, value_on, neutral_on}
+use Rattle.function_blocks.specs.Rails.{Pair, pair_of, side_of, cross, neutral, Pairs, low_pairs, pair_in, fires, is_apart, same_bit, Rails, value_on, neutral_on}
 use Rattle.function_blocks.specs.Parts.{Input, Part, fixed, read_bit, made, gate_count, outs_of, parts_of}
-use Rattle.function_blocks.specs.Waves.{taken, holds, rows_of, part_rule, rule_among, gate_rule, rails_at, out_rail, full, empty, Waves}
+use Rattle.function_blocks.specs.Waves.{taken, holds, rows_of, part_rule, rule_among, gate_rule, rails_at, out_rail, empty, Waves}
 use Rattle.function_blocks.specs.RailFacts.{lows_in, told_high}
 use Rattle.function_blocks.proofs.Guards.{holds_none}
 use Rattle.function_blocks.proofs.GateLists.{low_in, quiet_in, there_in}
@@ -41,7 +41,8 @@ same_value false false h = refl
 -- rails that are all low
 pub lows_neutral : (n : ℕ) (rail : Rails) → ((i : ℕ) (one : Bool) → rail i one ≡ false) → neutral_on n rail ≡ true
 lows_neutral zero rail low = refl
-lows_neutral (suc n) rail low = both_true _ _ (both_true _ _ (ap not (low zero true)) (ap not (low zero false))) (lows_neutral n (λ i. rail (suc i)) (λ i. low (suc i)))
+lows_neutral (suc n) rail low = both_true _ _ (both_true _ _ (ap not (low zero true)) (ap not (low zero false)))
+    (lows_neutral n (λ i. rail (suc i)) (λ i. low (suc i)))
 
 pub neutral_low : (n : ℕ) (rail : Rails) → neutral_on n rail ≡ true → (i : ℕ) (one : Bool) → i < n → rail i one ≡ false
 neutral_low n rail low i one below = lows_in n rail low i one below
@@ -62,14 +63,17 @@ some_both None rest h = absurd (cc h)
 
 pub each_bit : (n : ℕ) (rail : Rails) → is_some (value_on n rail) ≡ true → (i : ℕ) → i < n → (side : Bool) × (rail i side ≡ true)
 each_bit zero rail valid i below = absurd (let g : ⊥ = omega (arith, below) in g)
-each_bit (suc n) rail valid zero below = here (rail zero true) (rail zero false) refl refl (some_both (bit_value (rail zero true) (rail zero false)) (value_on n (λ i. rail (suc i))) valid).0
+each_bit (suc n) rail valid zero below = here (rail zero true) (rail zero false) refl refl
+    (some_both (bit_value (rail zero true) (rail zero false)) (value_on n (λ i. rail (suc i))) valid).0
   where
-    here : (t f : Bool) → rail zero true ≡ t → rail zero false ≡ f → is_some (bit_value (rail zero true) (rail zero false)) ≡ true → (side : Bool) × (rail zero side ≡ true)
+    here : (t f : Bool) → rail zero true ≡ t → rail zero false ≡ f → is_some (bit_value (rail zero true) (rail zero false)) ≡ true
+        → (side : Bool) × (rail zero side ≡ true)
     here true f ht hf s = (true, ht)
     here false true ht hf s = (false, hf)
     here false false ht hf s = absurd (cc (s, ht, hf))
 each_bit (suc n) rail valid (suc i) below =
-    each_bit n (λ i. rail (suc i)) (some_both (bit_value (rail zero true) (rail zero false)) (value_on n (λ i. rail (suc i))) valid).1 i (let g : i < n = omega (arith, below) in g)
+    each_bit n (λ i. rail (suc i)) (some_both (bit_value (rail zero true) (rail zero false)) (value_on n (λ i. rail (suc i))) valid).1 i
+    (let g : i < n = omega (arith, below) in g)
 
 -- a number of at least one bit isn't told by low rails
 pub told_not_low : (n : ℕ) (rail : Rails) → 1 ≤ n → is_some (value_on n rail) ≡ true → neutral_on n rail ≡ false
@@ -102,7 +106,8 @@ pub low_out : (e : Formula) (i : ℕ) (one : Bool) → out_rail e (low_pairs (ga
 low_out e i one = low_rails (gate_count e) (outs_of e 0) i one
 
 -- no gate beyond the last one moves
-pub gate_there : (e : Formula) (bits : ℕ → Rails) (r : Bool) (u : Pairs (gate_count e)) (k : ℕ) (one : Bool) → fires (gate_rule e bits r u k one) ≡ true → k < gate_count e
+pub gate_there : (e : Formula) (bits : ℕ → Rails) (r : Bool) (u : Pairs (gate_count e)) (k : ℕ) (one : Bool) → fires (gate_rule e bits r u k one) ≡ true
+    → k < gate_count e
 gate_there e bits r u k one h = there_in r (pair_in (gate_count e) u) bits (parts_of e 0) (gate_count e) u k one h
 
 -- and none is pulled both ways
@@ -128,7 +133,8 @@ part_apart r look bits (made f i more) p one =
     made_apart (holds (rows_of one f) (taken look (i ∷ more))) (list_all neutral (taken look (i ∷ more)))
     (λ h. holds_none (rows_of one f) (cross i.crossed (look i.at)) (taken look more) h)
 
-among_apart : (r : Bool) (look : ℕ → Pair) (bits : ℕ → Rails) (gs : List Part) (n : ℕ) (u : Pairs n) (k : ℕ) (one : Bool) → is_apart (rule_among r look bits gs n u k one) ≡ true
+among_apart : (r : Bool) (look : ℕ → Pair) (bits : ℕ → Rails) (gs : List Part) (n : ℕ) (u : Pairs n) (k : ℕ) (one : Bool)
+    → is_apart (rule_among r look bits gs n u k one) ≡ true
 among_apart r look bits [] n u k one = refl
 among_apart r look bits (g ∷ gs) zero u k one = refl
 among_apart r look bits (g ∷ gs) (suc n) u zero one = part_apart r look bits g u.0 one

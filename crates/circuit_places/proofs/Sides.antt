@@ -5,7 +5,7 @@ use Rattle.std.proofs.Math.Path.{fun_ext}
 use Rattle.width_check.specs.Processes.{Process, side_by_side, Processes, and_member, member_count}
 use Rattle.prs_core.specs.Parts.{turned as turned_value}
 use Rattle.prs_core.specs.Turning.{turned_apart}
-use Rattle.circuit_places.specs.Lines.{Line, of_channel, of_var, same_line, site_statement, line_width, Rails, Seen}
+use Rattle.circuit_places.specs.Lines.{Seen}
 use Rattle.circuit_places.specs.Circuit.{Bits, bit_at, joint_count, low_branches, turned_bits, GuardedSpot, Spot, BranchSpot, of_branch, joint, in_this, in_others, same_bit}
 use Rattle.circuit_places.proofs.RailLemmas.{fst_true, snd_true, same_value}
 use Rattle.circuit_places.proofs.Trees.{Settled, top_of, joint_moves, turned_next, bits_low, leaf_turns, joint_moved, JointMoved, Topped, not_top, at_top, flat_nodes, flat_stands}
@@ -15,7 +15,8 @@ use Rattle.circuit_places.proofs.Flow.{goes, goes_asks, or_free, flow_same, flow
 use Rattle.circuit_places.proofs.Begin.{as_many, ends_high, branches_idle, branches_idle_moves}
 
 -- a move in one of the branches, seen from it and those behind it
-pub this_after : {p : Process} {more : Processes} {k : Mode} {ks : List Mode} (env : Seen) (g : GuardedAt p k) (b : BranchesAt more ks) (s : GuardedSpot p) → BranchesFit b env → GuardedAfter p k env g s → BranchAfter (and_member p more) (k ∷ ks) env (and_at g b) (in_this s)
+pub this_after : {p : Process} {more : Processes} {k : Mode} {ks : List Mode} (env : Seen) (g : GuardedAt p k) (b : BranchesAt more ks) (s : GuardedSpot p)
+    → BranchesFit b env → GuardedAfter p k env g s → BranchAfter (and_member p more) (k ∷ ks) env (and_at g b) (in_this s)
 this_after {p = p} {more = more} {ks = ks} env g b s f r = record {
   modes = r.mode ∷ ks;
   to = and_at r.to b;
@@ -24,7 +25,8 @@ this_after {p = p} {more = more} {ks = ks} env g b s f r = record {
   fits = (r.fits, f);
   flow = flow_both env (guarded_shown g) (guarded_shown r.to) (branches_shown b) (branches_shown b) r.flow (flow_same env (branches_shown b));
   term = this_follows (branches_left env.ack b) (guarded_left env.ack g) (guarded_left env.ack r.to) r.term;
-  frees = λ x e. or_free (guarded_writing env.ack g x) (branches_writing env.ack b x) (guarded_writing env.ack r.to x) (branches_writing env.ack b x) (r.frees x) (λ i. i) e;
+  frees = λ x e. or_free (guarded_writing env.ack g x) (branches_writing env.ack b x) (guarded_writing env.ack r.to x) (branches_writing env.ack b x)
+      (r.frees x) (λ i. i) e;
   keeps = here;
 }
   where
@@ -32,7 +34,8 @@ this_after {p = p} {more = more} {ks = ks} env g b s f r = record {
     here (in_this q) ne z = r.keeps q (λ (e : q ≡ s). ne (ap (λ y. in_this y) e)) z
     here (in_others q) ne z = z
 
-pub others_after : {p : Process} {more : Processes} {k : Mode} {ks : List Mode} (env : Seen) (g : GuardedAt p k) (b : BranchesAt more ks) (s : BranchSpot more) → GuardedFits g env → BranchAfter more ks env b s → BranchAfter (and_member p more) (k ∷ ks) env (and_at g b) (in_others s)
+pub others_after : {p : Process} {more : Processes} {k : Mode} {ks : List Mode} (env : Seen) (g : GuardedAt p k) (b : BranchesAt more ks) (s : BranchSpot more)
+    → GuardedFits g env → BranchAfter more ks env b s → BranchAfter (and_member p more) (k ∷ ks) env (and_at g b) (in_others s)
 others_after {p = p} {more = more} {k = k} env g b s f r = record {
   modes = k ∷ r.modes;
   to = and_at g r.to;
@@ -41,7 +44,8 @@ others_after {p = p} {more = more} {k = k} env g b s f r = record {
   fits = (f, r.fits);
   flow = flow_both env (guarded_shown g) (guarded_shown g) (branches_shown b) (branches_shown r.to) (flow_same env (guarded_shown g)) r.flow;
   term = other_follows (guarded_left env.ack g) (branches_left env.ack b) (branches_left env.ack r.to) r.term;
-  frees = λ x e. or_free (guarded_writing env.ack g x) (branches_writing env.ack b x) (guarded_writing env.ack g x) (branches_writing env.ack r.to x) (λ i. i) (r.frees x) e;
+  frees = λ x e. or_free (guarded_writing env.ack g x) (branches_writing env.ack b x) (guarded_writing env.ack g x) (branches_writing env.ack r.to x) (λ i. i)
+      (r.frees x) e;
   keeps = here;
 }
   where
@@ -56,7 +60,8 @@ pub data EndMoved (r : Bool) (ks ls : List Mode) : Type 0 where
 
 asked_on : (r : Bool) {ks ls : List Mode} → all_ask r ks ≡ true → OneGoes ks ls → all_ask r ls ≡ true
 asked_on r {ks = k ∷ ks} h (this_goes {l = l} g) = ap (λ b. same_bit b r && all_ask r ks) (goes_asks k l g) ∙ h
-asked_on r h (other_goes {k = k} {ks = ks} {ls = ls} w) = ap (λ b. b && all_ask r ls) (fst_true (same_bit (asks k) r) (all_ask r ks) h) ∙ asked_on r (snd_true (same_bit (asks k) r) (all_ask r ks) h) w
+asked_on r h (other_goes {k = k} {ks = ks} {ls = ls} w) = ap (λ b. b && all_ask r ls) (fst_true (same_bit (asks k) r) (all_ask r ks) h)
+    ∙ asked_on r (snd_true (same_bit (asks k) r) (all_ask r ks) h) w
 
 first_same : (k l : Mode) (ks : List Mode) → acks l ≡ acks k → (j : ℕ) → ends (l ∷ ks) j ≡ ends (k ∷ ks) j
 first_same k l ks e zero = e
@@ -116,8 +121,10 @@ side_goes answered h w = absurd (none_goes h.asked (h.all refl) w)
 side_goes returning h w = refl
 
 -- a branch moves
-module _ {members : Processes} {ks : List Mode} (env : Seen) (m : Mode) (t : Bits (joint_count (member_count members))) (b : BranchesAt members ks) (h : SideMay (member_count members) m ks t) (s : BranchSpot members) (r : BranchAfter members ks env b s) where
-  abbrev moved_on : SideMay (member_count members) m r.modes t → ((k : ℕ) → joint_moves (member_count members) (ends ks) t k ≡ true → joint_moves (member_count members) (ends r.modes) t k ≡ true) → After (side_by_side members) m env (at_side m t b h) (of_branch s)
+module _ {members : Processes} {ks : List Mode} (env : Seen) (m : Mode) (t : Bits (joint_count (member_count members))) (b : BranchesAt members ks)
+    (h : SideMay (member_count members) m ks t) (s : BranchSpot members) (r : BranchAfter members ks env b s) where
+  abbrev moved_on : SideMay (member_count members) m r.modes t → ((k : ℕ) → joint_moves (member_count members) (ends ks) t k ≡ true
+      → joint_moves (member_count members) (ends r.modes) t k ≡ true) → After (side_by_side members) m env (at_side m t b h) (of_branch s)
   moved_on may stay = record {
     mode = m;
     to = at_side m t r.to may;
@@ -137,7 +144,8 @@ module _ {members : Processes} {ks : List Mode} (env : Seen) (m : Mode) (t : Bit
   pub side_after : After (side_by_side members) m env (at_side m t b h) (of_branch s)
   side_after = here (end_moved (asks m) h.asked r.way)
     where
-      may : Settled (member_count members) (ends r.modes) t → top_of (member_count members) (ends r.modes) t ≡ acks m → SideMay (member_count members) m r.modes t
+      may : Settled (member_count members) (ends r.modes) t → top_of (member_count members) (ends r.modes) t ≡ acks m
+          → SideMay (member_count members) m r.modes t
       may settles top = record {
         some = h.some;
         known = h.known;
@@ -152,13 +160,16 @@ module _ {members : Processes} {ks : List Mode} (env : Seen) (m : Mode) (t : Bit
       here (same_ends f) =
           let same : ends r.modes ≡ ends ks = fun_ext f in
           moved_on
-          (may (subst (λ (x : ℕ → Bool). Settled (member_count members) x t) (sym same) h.settles) (ap (λ (x : ℕ → Bool). top_of (member_count members) x t) same ∙ h.top))
+          (may (subst (λ (x : ℕ → Bool). Settled (member_count members) x t) (sym same) h.settles)
+          (ap (λ (x : ℕ → Bool). top_of (member_count members) x t) same ∙ h.top))
           (λ k z. ap (λ (x : ℕ → Bool). joint_moves (member_count members) x t k) same ∙ z)
       here (one_end i less f e) =
           let same : ends r.modes ≡ turned_value (ends ks) i = fun_ext f in
-          let y = leaf_turns (member_count members) h.known h.some (ends ks) (bit_at (joint_count (member_count members)) t) i (subst (λ (x : ℕ). i < x) (as_many b) less) h.settles (e ∙ (away m (side_goes m h r.way) ∙ sym h.top)) in
+          let y = leaf_turns (member_count members) h.known h.some (ends ks) (bit_at (joint_count (member_count members)) t) i
+          (subst (λ (x : ℕ). i < x) (as_many b) less) h.settles (e ∙ (away m (side_goes m h r.way) ∙ sym h.top)) in
           moved_on
-          (may (subst (λ (x : ℕ → Bool). Settled (member_count members) x t) (sym same) y.settled) (ap (λ (x : ℕ → Bool). top_of (member_count members) x t) same ∙ (y.top ∙ h.top)))
+          (may (subst (λ (x : ℕ → Bool). Settled (member_count members) x t) (sym same) y.settled)
+          (ap (λ (x : ℕ → Bool). top_of (member_count members) x t) same ∙ (y.top ∙ h.top)))
           (λ k z. ap (λ (x : ℕ → Bool). joint_moves (member_count members) x t k) same ∙ y.keeps k z)
 
 -- a node of the completion tree moves
@@ -181,7 +192,8 @@ module _ {members : Processes} {ks : List Mode} (env : Seen) (t : Bits (joint_co
   within P f i less = f i (subst (λ (n : ℕ). i < n) (as_many b) less)
 
   -- below the top
-  module _ (m : Mode) (g : goes m m ≡ true) (h : SideMay (member_count members) m ks t) (r : JointMoved (member_count members) h.known (ends ks) t k) (stays : top_of (member_count members) (ends ks) (turned_bits (joint_count (member_count members)) t k) ≡ top_of (member_count members) (ends ks) t) where
+  module _ (m : Mode) (g : goes m m ≡ true) (h : SideMay (member_count members) m ks t) (r : JointMoved (member_count members) h.known (ends ks) t k)
+      (stays : top_of (member_count members) (ends ks) (turned_bits (joint_count (member_count members)) t k) ≡ top_of (member_count members) (ends ks) t) where
     abbrev inside_may : SideMay (member_count members) m ks (turned_bits (joint_count (member_count members)) t k)
     inside_may = record { some = h.some; known = h.known; awake = h.awake; asked = h.asked; settles = r.settled; top = stays ∙ h.top; all = h.all }
 
@@ -198,12 +210,15 @@ module _ {members : Processes} {ks : List Mode} (env : Seen) (t : Bits (joint_co
       keeps = here;
     }
       where
-        here : (q : Spot (side_by_side members)) → q ≢ joint k → moves env (at_side m t b h) q ≡ true → moves env (at_side m (turned_bits (joint_count (member_count members)) t k) b inside_may) q ≡ true
+        here : (q : Spot (side_by_side members)) → q ≢ joint k → moves env (at_side m t b h) q ≡ true
+            → moves env (at_side m (turned_bits (joint_count (member_count members)) t k) b inside_may) q ≡ true
         here (of_branch q) ne z = z
         here (joint j) ne z = r.keeps j (λ (e : j ≡ k). ne (ap (λ y. joint y) e)) z
 
   -- the top rises, and falls
-  top_rises : (h : SideMay (member_count members) running ks t) → JointMoved (member_count members) h.known (ends ks) t k → top_of (member_count members) (ends ks) (turned_bits (joint_count (member_count members)) t k) ≡ true → ((i : ℕ) → i < member_count members → ends ks i ≡ true) → BranchesFit b env
+  top_rises : (h : SideMay (member_count members) running ks t) → JointMoved (member_count members) h.known (ends ks) t k
+      → top_of (member_count members) (ends ks) (turned_bits (joint_count (member_count members)) t k) ≡ true
+      → ((i : ℕ) → i < member_count members → ends ks i ≡ true) → BranchesFit b env
       → After (side_by_side members) running env (at_side running t b h) (joint k)
   top_rises h r top all f =
       let may : SideMay (member_count members) answered ks (turned_bits (joint_count (member_count members)) t k) = record {
@@ -227,11 +242,15 @@ module _ {members : Processes} {ks : List Mode} (env : Seen) (t : Bits (joint_co
         keeps = here may;
       }
     where
-      here : (may : SideMay (member_count members) answered ks (turned_bits (joint_count (member_count members)) t k)) (q : Spot (side_by_side members)) → q ≢ joint k → moves env (at_side running t b h) q ≡ true → moves env (at_side answered (turned_bits (joint_count (member_count members)) t k) b may) q ≡ true
+      here : (may : SideMay (member_count members) answered ks (turned_bits (joint_count (member_count members)) t k)) (q : Spot (side_by_side members))
+          → q ≢ joint k → moves env (at_side running t b h) q ≡ true → moves env
+          (at_side answered (turned_bits (joint_count (member_count members)) t k) b may) q ≡ true
       here may (of_branch q) ne z = z
       here may (joint j) ne z = r.keeps j (λ (e : j ≡ k). ne (ap (λ y. joint y) e)) z
 
-  top_falls : (h : SideMay (member_count members) returning ks t) → JointMoved (member_count members) h.known (ends ks) t k → top_of (member_count members) (ends ks) (turned_bits (joint_count (member_count members)) t k) ≡ false → ((i : ℕ) → i < member_count members → ends ks i ≡ false)
+  top_falls : (h : SideMay (member_count members) returning ks t) → JointMoved (member_count members) h.known (ends ks) t k
+      → top_of (member_count members) (ends ks) (turned_bits (joint_count (member_count members)) t k) ≡ false
+      → ((i : ℕ) → i < member_count members → ends ks i ≡ false)
       → After (side_by_side members) returning env (at_side returning t b h) (joint k)
   top_falls h r top all =
       let idles : all_idle ks ≡ true = end_low ks h.asked (within (λ i. ends ks i ≡ false) all) in
@@ -239,7 +258,9 @@ module _ {members : Processes} {ks : List Mode} (env : Seen) (t : Bits (joint_co
         mode = idle;
         to = rests;
         same = sym (ap (λ x. sides_of members x (turned_bits (joint_count (member_count members)) t k)) (branches_idle b idles).0
-            ∙ ap (λ x. sides_of members (low_branches members) x) (bits_low (joint_count (member_count members)) (turned_bits (joint_count (member_count members)) t k) (flat_nodes (member_count members) h.known (ends ks) (bit_at (joint_count (member_count members)) (turned_bits (joint_count (member_count members)) t k)) false r.settled top all)));
+            ∙ ap (λ x. sides_of members (low_branches members) x) (bits_low (joint_count (member_count members))
+            (turned_bits (joint_count (member_count members)) t k) (flat_nodes (member_count members) h.known (ends ks)
+            (bit_at (joint_count (member_count members)) (turned_bits (joint_count (member_count members)) t k)) false r.settled top all)));
         way = refl;
         fits = tt;
         flow = flow_by env (branches_shown b) (branches_shown b) none_shown (branches_idle b idles).1 (flow_same env (branches_shown b));
@@ -248,17 +269,28 @@ module _ {members : Processes} {ks : List Mode} (env : Seen) (t : Bits (joint_co
         keeps = here idles;
       }
     where
-      here : all_idle ks ≡ true → (q : Spot (side_by_side members)) → q ≢ joint k → moves env (at_side returning t b h) q ≡ true → moves env (rests {p = side_by_side members}) q ≡ true
+      here : all_idle ks ≡ true → (q : Spot (side_by_side members)) → q ≢ joint k → moves env (at_side returning t b h) q ≡ true
+          → moves env (rests {p = side_by_side members}) q ≡ true
       here idles (of_branch q) ne z = absurd (cc (branches_idle_moves env b idles q, z))
       here idles (joint j) ne z =
-          absurd (cc (flat_stands (member_count members) h.known h.some (ends ks) (bit_at (joint_count (member_count members)) (turned_bits (joint_count (member_count members)) t k)) false r.settled top all j, r.keeps j (λ (e : j ≡ k). ne (ap (λ y. joint y) e)) z))
+          absurd (cc (
+            flat_stands (member_count members) h.known h.some (ends ks)
+                (bit_at (joint_count (member_count members)) (turned_bits (joint_count (member_count members)) t k)) false r.settled top all j,
+            r.keeps j (λ (e : j ≡ k). ne (ap (λ y. joint y) e)) z,
+          ))
 
-  pub joint_after : (m : Mode) (h : SideMay (member_count members) m ks t) → BranchesFit b env → joint_moves (member_count members) (ends ks) t k ≡ true → After (side_by_side members) m env (at_side m t b h) (joint k)
+  pub joint_after : (m : Mode) (h : SideMay (member_count members) m ks t) → BranchesFit b env → joint_moves (member_count members) (ends ks) t k ≡ true
+      → After (side_by_side members) m env (at_side m t b h) (joint k)
   joint_after m h f e = here m h (joint_moved (member_count members) h.known (ends ks) t k h.settles e) f e
     where
-      here : (m : Mode) (h : SideMay (member_count members) m ks t) → JointMoved (member_count members) h.known (ends ks) t k → BranchesFit b env → joint_moves (member_count members) (ends ks) t k ≡ true → After (side_by_side members) m env (at_side m t b h) (joint k)
+      here : (m : Mode) (h : SideMay (member_count members) m ks t) → JointMoved (member_count members) h.known (ends ks) t k → BranchesFit b env
+          → joint_moves (member_count members) (ends ks) t k ≡ true → After (side_by_side members) m env (at_side m t b h) (joint k)
       here idle h r f e = absurd (cc h.awake)
-      here answered h r f e = absurd (cc (flat_stands (member_count members) h.known h.some (ends ks) (bit_at (joint_count (member_count members)) t) true h.settles h.top (ends_high b (h.all refl)) k, e))
+      here answered h r f e = absurd (cc (
+        flat_stands (member_count members) h.known h.some (ends ks)
+            (bit_at (joint_count (member_count members)) t) true h.settles h.top (ends_high b (h.all refl)) k,
+        e,
+      ))
       here running h r f e = by r.top
         where
           by : Topped (member_count members) h.known (ends ks) t k → After (side_by_side members) running env (at_side running t b h) (joint k)

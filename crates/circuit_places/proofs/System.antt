@@ -1,27 +1,27 @@
 -- The whole circuit: what holds of each state that is reached, and that each move keeps it and takes no other away.
-use Rattle.std.proofs.Common.{◌≡◌, ◌≢◌, ℕ, ◌<◌, ◌≤◌, ◌==◌, ◌⊎◌, inl, arith, Bool, true, false, List, [], ◌∷◌, ◌++◌, refl, sym, ap, ◌∙◌}
+use Rattle.std.proofs.Common.{◌≡◌, ◌≢◌, ℕ, ◌<◌, ◌≤◌, ◌==◌, ◌⊎◌, inl, arith, ◌^◌, Bool, true, false, List, [], ◌∷◌, ◌++◌, refl, sym, ap, ◌∙◌}
 use Rattle.std.proofs.lemmas.List.{get_or-set_other}
-use Rattle.std.specs.Prelude.{slice_index, map, not, ◌&&◌, if◌then◌else◌, length, Option, Some, None, is_some}
-use Rattle.chp_base.specs.declared.channel.Channel.{Channel}
+use Rattle.std.specs.Prelude.{slice_index, map, not, ◌&&◌, ◌||◌, if◌then◌else◌, length, slice_get, Option, Some, None, is_some}
+use Rattle.chp_base.specs.declared.span.Span.{Span}
 use Rattle.env_script.specs.declared.script.Count.{Count}
 use Rattle.env_script.specs.Scripts.{OfferValue, gives, takes, nothing, offer_at, is_over}
 use Rattle.env_script.specs.Runs.{history_at, completed}
-use Rattle.width_check.specs.Processes.{Process, TypedProgram}
-use Rattle.width_check.specs.Typing.{channel_width, var_width}
+use Rattle.width_check.specs.Processes.{Process, receiving, TypedProgram}
+use Rattle.width_check.specs.Typing.{kind_at, channel_width, var_width}
 use Rattle.width_check.specs.declared.typed.Var.{Var}
 use Rattle.function_blocks.specs.Rails.{number_on}
-use Rattle.circuit_places.specs.Lines.{Line, of_channel, of_var, line_width, Rails, Seen}
-use Rattle.chp_meaning.specs.Terms.{Term, opened}
-use Rattle.circuit_places.specs.Circuit.{low, GuardedSpot, turns, fires, site_rails}
-use Rattle.circuit_places.specs.Whole.{first_bits, Wires, seen, line_ack, is_merged, bit_rule, wrote_rule, value_on, neutral_on, Node, go_node, own_node, rail_node, ack_node, bit_node, wrote_node, joint_node, wrote_turned, joint_turned, receives, answers, passed, passed_after, wires_after, go_after, root_after}
+use Rattle.circuit_places.specs.Lines.{Line, of_channel, of_var, line_width, Seen}
+use Rattle.chp_meaning.specs.Terms.{Term, finished, opened}
+use Rattle.circuit_places.specs.Circuit.{low, GuardedSpot, turns, fires, site_rails, takers}
+use Rattle.circuit_places.specs.Whole.{first_bits, Wires, seen, line_ack, is_heard, is_merged, bit_rule, wrote_rule, value_on, neutral_on, Node, go_node, own_node, rail_node, ack_node, bit_node, wrote_node, joint_node, wrote_turned, joint_turned, receives, answers, offers, passed, passed_after, wires_after, go_after, root_after}
 use Rattle.circuit_places.proofs.RailLemmas.{fst_true, snd_true, both_true}
 use Rattle.circuit_places.proofs.Trees.{node_moves}
 use Rattle.circuit_places.proofs.Blocks.{Block, now_at}
 use Rattle.circuit_places.proofs.BitTable.{single_bit}
 use Rattle.circuit_places.proofs.Places.{Mode, idle, running, answered, returning, asks, is_idle, GuardedAt, guarded_cells, guarded_shown, guarded_writing, GuardedFits, guarded_moves}
-use Rattle.circuit_places.proofs.Meets.{Meets}
-use Rattle.circuit_places.proofs.Left.{guarded_left, Follows}
-use Rattle.circuit_places.proofs.Flow.{goes, goes_asks, Clean, GuardedAfter, cases}
+use Rattle.circuit_places.proofs.Meets.{Meets, sends as sends_line, receives as receives_on}
+use Rattle.circuit_places.proofs.Left.{guarded_left, Act, Follows}
+use Rattle.circuit_places.proofs.Flow.{goes, goes_asks, or_map, Clean, GuardedAfter, cases}
 use Rattle.circuit_places.proofs.Begin.{guarded_idle_moves}
 use Rattle.circuit_places.proofs.Sites.{is_nil}
 use Rattle.circuit_places.proofs.Fires.{Passes}
@@ -29,6 +29,8 @@ use Rattle.circuit_places.proofs.Fires.{Passes}
 -- Where the whole is: the root's place fits what is seen, a high acknowledge has its site under way, a rail of a line that
 -- is high over a low acknowledge is held by a site, one that is held over a high acknowledge is high, and a rail that is
 -- high is one of the line's width, and has sites; each variable's block keeps what it does, and no more is high of it.
+-- Of no bit of a channel both rails are high. A high acknowledge on which the program receives has its receive under way, and
+-- has receives; what has stored has a value before its acknowledge, and what lets go none.
 pub record Good (P : TypedProgram) (m : Mode) (g : GuardedAt P.body m) (w : Wires) : Type 0 where
   pub meets : Meets P P.body
   pub fits : GuardedFits g (seen P w)
@@ -36,28 +38,55 @@ pub record Good (P : TypedProgram) (m : Mode) (g : GuardedAt P.body m) (w : Wire
   pub rising : (k : Line) (i : ℕ) (one : Bool) → is_merged P k ≡ true → line_ack P w k ≡ false → w.rail k i one ≡ true → (guarded_shown g).offer k i one ≡ true
   pub falling : (k : Line) (i : ℕ) (one : Bool) → line_ack P w k ≡ true → (guarded_shown g).offer k i one ≡ true → w.rail k i one ≡ true
   pub wide : (k : Line) (i : ℕ) (one : Bool) → w.rail k i one ≡ true → i < line_width P k
-  pub sited : (k : Line) (i : ℕ) (one : Bool) → w.rail k i one ≡ true → is_nil (site_rails P.body (low P.body) k i one) ≡ false
+  pub sited : (k : Line) (i : ℕ) (one : Bool) → is_merged P k ≡ true → w.rail k i one ≡ true → is_nil (site_rails P.body (low P.body) k i one) ≡ false
   pub block : (x : ℕ) → 1 ≤ var_width P.vars x → Block (var_width P.vars x) (w.bit x) (w.rail (of_var x)) (w.wrote x) (w.joint x)
   pub no_bit : (x i : ℕ) (one : Bool) → w.bit x i one ≡ true → i < var_width P.vars x
   pub no_wrote : (x i : ℕ) → w.wrote x i ≡ true → i < var_width P.vars x
+  pub single : (c i : ℕ) → w.rail (of_channel c) i true ≡ true → w.rail (of_channel c) i false ≡ true → ⊥
+  pub listen : (c : ℕ) → is_heard (kind_at P.channels c) ≡ true → w.ack c ≡ true → (guarded_shown g).listen c ≡ true
+  pub valid : (c : ℕ) → is_heard (kind_at P.channels c) ≡ true → w.ack c ≡ false → (guarded_shown g).take c ≡ true
+      → is_some (value_on (channel_width P.channels c) (w.rail (of_channel c))) ≡ true
+  pub neutral : (c : ℕ) → is_heard (kind_at P.channels c) ≡ true → w.ack c ≡ true → (guarded_shown g).take c ≡ false
+      → neutral_on (channel_width P.channels c) (w.rail (of_channel c)) ≡ true
+  pub heard_sited : (c : ℕ) → w.ack c ≡ true → is_heard (kind_at P.channels c) ≡ true → is_nil (takers P.body (low P.body) c) ≡ false
 
 -- so no bit of a variable has both rails high
-pub clean_of : {P : TypedProgram} {m : Mode} {g : GuardedAt P.body m} {w : Wires} → Good P m g w → Clean (seen P w)
-clean_of {P = P} {w = w} good = record { single = λ x i. here x i (w.bit x i true) (w.bit x i false) refl refl }
+pub clean_of : {P : TypedProgram} {m : Mode} {g : GuardedAt P.body m} {w : Wires} → Good P m g w → Clean P (seen P w)
+clean_of {P = P} {w = w} good = record {
+  single = λ x i. here x i (w.bit x i true)
+      (w.bit x i false) refl refl;
+  wide = λ k. refl;
+  rails = good.single;
+  below = λ c i one h. good.wide (of_channel c) i one h;
+}
   where
     here : (x i : ℕ) (t f : Bool) → w.bit x i true ≡ t → w.bit x i false ≡ f → not (w.bit x i true && w.bit x i false) ≡ true
     here x i false f ht hf = ap (λ b. not (b && w.bit x i false)) ht
     here x i true false ht hf = ap (λ b. not (b && w.bit x i false)) ht ∙ ap not hf
     here x i true true ht hf =
         let less = good.no_bit x i true ht in
-        single_bit (now_at (w.bit x) (w.rail (of_var x)) (w.wrote x) (line_ack P w (of_var x)) i) ((good.block x (let g : 1 ≤ var_width P.vars x = omega (arith, less) in g)).bits i less)
+        single_bit (now_at (w.bit x) (w.rail (of_var x)) (w.wrote x) (line_ack P w (of_var x)) i)
+        ((good.block x (let g : 1 ≤ var_width P.vars x = omega (arith, less) in g)).bits i less)
+
+-- the environment moves a rail of an `in` channel
+abbrev pub driven : TypedProgram → List OfferValue → Wires → List (List ℕ) → Line → ℕ → Bool → Bool
+driven P script w hs (of_channel c) i one = offers (channel_width P.channels c) w c (completed hs c) (offer_at script c) i one
+driven P script w hs (of_var x) i one = false
+
+-- the program moves the acknowledge of a channel on which it receives
+abbrev pub heard_turns : TypedProgram → Wires → (chan : ℕ) → (take : Bool) → Bool
+heard_turns P w c take = is_heard (kind_at P.channels c) && turns (w.ack c) take (not take)
+
+-- and a rail of a line of which it has sites
+abbrev pub sent_turns : TypedProgram → Wires → Line → ℕ → Bool → (offer : Bool) → Bool
+sent_turns P w k i one offer = is_merged P k && turns (w.rail k i one) offer (not offer)
 
 -- which moves are enabled there
 abbrev pub can : (P : TypedProgram) → List OfferValue → {m : Mode} → GuardedAt P.body m → Wires → List (List ℕ) → Node P.body → Bool
 can P script {m = m} g w hs go_node = is_idle m
 can P script g w hs (own_node s) = guarded_moves (seen P w) g s
-can P script g w hs (rail_node k i one) = is_merged P k && turns (w.rail k i one) ((guarded_shown g).offer k i one) (not ((guarded_shown g).offer k i one))
-can P script g w hs (ack_node k) = answers (channel_width P.channels k) w k (completed hs k) (offer_at script k)
+can P script g w hs (rail_node k i one) = sent_turns P w k i one ((guarded_shown g).offer k i one) || driven P script w hs k i one
+can P script g w hs (ack_node k) = heard_turns P w k ((guarded_shown g).take k) || answers (channel_width P.channels k) w k (completed hs k) (offer_at script k)
 can P script g w hs (bit_node x i one) = fires (bit_rule (w.rail (of_var x)) (w.bit x) i one)
 can P script g w hs (wrote_node x i) = fires (wrote_rule (w.rail (of_var x)) (w.bit x) (w.wrote x) i)
 can P script g w hs (joint_node x k) = node_moves (var_width P.vars x) (w.wrote x) (w.joint x) k
@@ -71,40 +100,75 @@ abbrev pub Passing : TypedProgram → Seen → (ℕ → Bool) → Line → Bool 
 Passing P env busy k true x y = y ≡ x
 Passing P env busy k false x y = Passes P env busy k x y
 
--- what a move does to the term: an acknowledge that rises is a step of its line, any other move is a silent step or none
-pub data Stored (P : TypedProgram) (busy : ℕ → Bool) (x : ℕ) (w now : Wires) (t y : Term) : Type 0 where
-  no_store : line_ack P now (of_var x) ≡ line_ack P w (of_var x) → y ≡ t → Stored P busy x w now t y
-  cleared : line_ack P w (of_var x) ≡ true → line_ack P now (of_var x) ≡ false → y ≡ t → Stored P busy x w now t y
-  stores : line_ack P w (of_var x) ≡ false → line_ack P now (of_var x) ≡ true → value_on (var_width P.vars x) (w.bit x) ≡ value_on (var_width P.vars x) (w.rail (of_var x)) → Passes P (seen P w) busy (of_var x) t y → Stored P busy x w now t y
+-- What a move does to the term: an acknowledge that rises is a step of its line, or under a receive none yet; any other
+-- move is a silent step or none.
+pub data Stored (P : TypedProgram) (busy after : ℕ → Bool) (x : ℕ) (w now : Wires) (t y : Term) : Type 0 where
+  no_store : line_ack P now (of_var x) ≡ line_ack P w (of_var x) → y ≡ t → Stored P busy after x w now t y
+  cleared : line_ack P w (of_var x) ≡ true → line_ack P now (of_var x) ≡ false → y ≡ t → Stored P busy after x w now t y
+  stores : line_ack P w (of_var x) ≡ false → line_ack P now (of_var x) ≡ true
+      → value_on (var_width P.vars x) (w.bit x) ≡ value_on (var_width P.vars x) (w.rail (of_var x)) → Passes P (seen P w) busy (of_var x) t y
+      → Stored P busy after x w now t y
+  -- under a receive, whose variable is written until the channel's acknowledge rises
+  takes_in : line_ack P w (of_var x) ≡ false → line_ack P now (of_var x) ≡ true → after x ≡ true → y ≡ t → Stored P busy after x w now t y
 
 -- the acknowledges of other variables stay
 abbrev pub Others : TypedProgram → ℕ → Wires → Wires → Type 0
 Others P x w now = (y : ℕ) → (y == x) ≡ false → line_ack P now (of_var y) ≡ line_ack P w (of_var y)
 
-abbrev pub Moves : (P : TypedProgram) → Wires → (busy : ℕ → Bool) → Term → Term → Node P.body → Type 0
-Moves P w busy t y (ack_node k) = Passing P (seen P w) busy (of_channel k) (w.ack k) t y
-Moves P w busy t y (wrote_node x i) = Others P x w (wrote_turned w x i) × Stored P busy x w (wrote_turned w x i) t y
-Moves P w busy t y (joint_node x k) = Others P x w (joint_turned w x k) × Stored P busy x w (joint_turned w x k) t y
-Moves P w busy t y _ = Follows t y
+-- An acknowledge on which the program receives: a value arrives in a variable whose bits have it.
+pub record Arrives (P : TypedProgram) (busy after : ℕ → Bool) (c : ℕ) (w : Wires) (t y : Term) : Type 0 where
+  pub at : Span
+  pub var : ℕ
+  pub to : Span
+  pub act : Act t (receiving c at var to) finished y
+  pub within : c < length P.channels
+  pub used : receives_on P.body c ≡ true
+  pub into : var < length P.vars
+  pub widths : var_width P.vars var ≡ channel_width P.channels c
+  pub told : value_on (channel_width P.channels c) (w.bit var) ≡ value_on (channel_width P.channels c) (w.rail (of_channel c))
+  pub low : w.ack c ≡ false
+  pub some : is_some (value_on (channel_width P.channels c) (w.rail (of_channel c))) ≡ true
+  pub frees : (z : ℕ) → (z ≡ var → ⊥) → after z ≡ false → busy z ≡ false
+
+-- the environment acknowledges, or the program does
+pub data Acks (P : TypedProgram) (busy after : ℕ → Bool) (k : ℕ) (w : Wires) (t y : Term) : Type 0 where
+  taken_out : is_heard (kind_at P.channels k) ≡ false → Passing P (seen P w) busy (of_channel k) (w.ack k) t y → ((z : ℕ) → after z ≡ false → busy z ≡ false)
+      → Acks P busy after k w t y
+  taken_in : is_heard (kind_at P.channels k) ≡ true → Arrives P busy after k w t y → Acks P busy after k w t y
+  let_go_in : is_heard (kind_at P.channels k) ≡ true → w.ack k ≡ true → y ≡ t → ((z : ℕ) → after z ≡ false → busy z ≡ false) → Acks P busy after k w t y
+
+abbrev pub Moves : (P : TypedProgram) → Wires → (busy after : ℕ → Bool) → Term → Term → Node P.body → Type 0
+Moves P w busy after t y (ack_node k) = Acks P busy after k w t y
+Moves P w busy after t y (wrote_node x i) = Others P x w (wrote_turned w x i) × Stored P busy after x w (wrote_turned w x i) t y
+Moves P w busy after t y (joint_node x k) = Others P x w (joint_turned w x k) × Stored P busy after x w (joint_turned w x k) t y
+Moves P w busy after t y _ = Follows t y
 
 -- a variable's acknowledge rises
 pub record Rises (P : TypedProgram) (w now : Wires) (x : ℕ) : Type 0 where
   pub low : line_ack P w (of_var x) ≡ false
   pub high : line_ack P now (of_var x) ≡ true
 
--- what isn't being written afterwards has the value that it had, and wasn't before, but where its acknowledge rises
-abbrev pub Freed : (P : TypedProgram) → Wires → Wires → (before after : Bool) → ℕ → Type 0
-Freed P w now before after x = after ≡ false → (now.bit x ≡ w.bit x) × ((before ≡ false) ⊎ Rises P w now x)
+-- the acknowledge of a channel rises on which the program receives
+abbrev pub Arrival : {p : Process} → (P : TypedProgram) → Wires → Node p → Type 0
+Arrival P w (ack_node k) = (is_heard (kind_at P.channels k) ≡ true) × (w.ack k ≡ false)
+Arrival P w _ = ⊥
 
-pub record Next (P : TypedProgram) (script : List OfferValue) (m : Mode) (g : GuardedAt P.body m) (w : Wires) (hs : List (List ℕ)) (n : Node P.body) : Type 0 where
+-- What isn't being written afterwards has the value that it had, and wasn't before, but where its acknowledge rises, or a
+-- value arrives.
+abbrev pub Freed : (P : TypedProgram) → Wires → Wires → (before after : Bool) → ℕ → Type 0 → Type 0
+Freed P w now before after x arrival = after ≡ false → (now.bit x ≡ w.bit x) × ((before ≡ false) ⊎ (Rises P w now x ⊎ arrival))
+
+pub record Next (P : TypedProgram) (script : List OfferValue) (m : Mode) (g : GuardedAt P.body m) (w : Wires) (hs : List (List ℕ))
+    (n : Node P.body) : Type 0 where
   pub mode : Mode
   pub to : GuardedAt P.body mode
   pub same : guarded_cells to ≡ root_after P.body (guarded_cells g) n
   pub go : asks mode ≡ go_after (asks m) n
   pub way : m ≢ returning → mode ≢ returning
   pub good : Good P mode to (wires_after w n)
-  pub term : m ≢ returning → Moves P w (guarded_writing (line_ack P w) g) (root_left (line_ack P w) g) (root_left (line_ack P (wires_after w n)) to) n
-  pub frees : (x : ℕ) → Freed P w (wires_after w n) (guarded_writing (line_ack P w) g x) (guarded_writing (line_ack P (wires_after w n)) to x) x
+  pub term : m ≢ returning → Moves P w (guarded_writing (line_ack P w) g) (guarded_writing (line_ack P (wires_after w n)) to) (root_left (line_ack P w) g)
+      (root_left (line_ack P (wires_after w n)) to) n
+  pub frees : (x : ℕ) → Freed P w (wires_after w n) (guarded_writing (line_ack P w) g x) (guarded_writing (line_ack P (wires_after w n)) to x) x (Arrival P w n)
   pub keeps : (k : Node P.body) → k ≢ n → can P script g w hs k ≡ true → can P script to (wires_after w n) (passed_after P.channels w hs n) k ≡ true
 
 -- an acknowledge that may move is one that the environment has
@@ -118,20 +182,28 @@ takes_of width env k done (gives values) e = absurd (cc e)
 takes_of width env k done (takes count) e = record { count = count; is = refl; may = e }
 takes_of width env k done nothing e = absurd (cc e)
 
-pub may_low : (n : ℕ) (env : Wires) (k : ℕ) (more : Bool) → env.ack k ≡ false → receives n env k more ≡ true → (is_some (value_on n (env.rail (of_channel k))) ≡ true) × (more ≡ true)
+pub may_low : (n : ℕ) (env : Wires) (k : ℕ) (more : Bool) → env.ack k ≡ false → receives n env k more ≡ true
+    → (is_some (value_on n (env.rail (of_channel k))) ≡ true) × (more ≡ true)
 may_low n env k more low e =
-    let both : (is_some (value_on n (env.rail (of_channel k))) && more) ≡ true = sym (ap (λ b. if b then neutral_on n (env.rail (of_channel k)) else is_some (value_on n (env.rail (of_channel k))) && more) low) ∙ e in
+    let both : (is_some (value_on n (env.rail (of_channel k))) && more) ≡ true = sym
+    (ap (λ b. if b then neutral_on n (env.rail (of_channel k)) else is_some (value_on n (env.rail (of_channel k))) && more) low) ∙ e in
     (fst_true (is_some (value_on n (env.rail (of_channel k)))) more both, snd_true (is_some (value_on n (env.rail (of_channel k)))) more both)
 
 pub may_high : (n : ℕ) (env : Wires) (k : ℕ) (more : Bool) → env.ack k ≡ true → receives n env k more ≡ true → neutral_on n (env.rail (of_channel k)) ≡ true
-may_high n env k more high e = sym (ap (λ b. if b then neutral_on n (env.rail (of_channel k)) else is_some (value_on n (env.rail (of_channel k))) && more) high) ∙ e
+may_high n env k more high e = sym (ap (λ b. if b then neutral_on n (env.rail (of_channel k)) else is_some (value_on n (env.rail (of_channel k))) && more) high)
+    ∙ e
 
--- The script fits the channels, all of which are `out`.
+-- The script fits the channels, each of which is `in` or `out`, or isn't used.
 pub record Fitted (P : TypedProgram) (script : List OfferValue) : Type 0 where
-  pub within : (k : ℕ) (count : Count) → offer_at script k ≡ takes count → k < length P.channels
+  pub within : (k : ℕ) → offer_at script k ≢ nothing → k < length P.channels
   pub wide : (k : ℕ) → k < length P.channels → 1 ≤ channel_width P.channels k
-  pub merged : (k : ℕ) → k < length P.channels → is_merged P (of_channel k) ≡ true
-  pub out : (k : ℕ) → k < length P.channels → (count : Count) × (offer_at script k ≡ takes count)
+  pub sent_alone : (k : ℕ) → k < length P.channels → sends_line P.body (of_channel k) ≡ true → is_heard (kind_at P.channels k) ≡ true → ⊥
+  pub heard_alone : (k : ℕ) → k < length P.channels → receives_on P.body k ≡ true → is_merged P (of_channel k) ≡ true → ⊥
+  pub sends : (k : ℕ) → k < length P.channels → sends_line P.body (of_channel k) ≡ true → (count : Count) × (offer_at script k ≡ takes count)
+  pub hears : (k : ℕ) → k < length P.channels → receives_on P.body k ≡ true → (values : List ℕ) × (offer_at script k ≡ gives values)
+  pub out : (k : ℕ) (count : Count) → offer_at script k ≡ takes count → (is_merged P (of_channel k) ≡ true) × (is_heard (kind_at P.channels k) ≡ false)
+  pub brought : (k : ℕ) (values : List ℕ) → offer_at script k ≡ gives values → (is_merged P (of_channel k) ≡ false) × (is_heard (kind_at P.channels k) ≡ true)
+  pub bounded : (k : ℕ) (values : List ℕ) → offer_at script k ≡ gives values → (n v : ℕ) → slice_get values n ≡ Some v → v < 2 ^ channel_width P.channels k
   pub same : length script ≡ length P.channels
   pub firsts : (x : ℕ) → x < length P.vars → number_on (var_width P.vars x) (first_bits P.vars x) ≡ slice_index (map (λ (v : Var). v.first) P.vars) x
 
@@ -144,8 +216,10 @@ module _ (P : TypedProgram) (script : List OfferValue) {m : Mode} {g : GuardedAt
   pub up_low : (k : Line) (i : ℕ) (one : Bool) → w.rail k i one ≡ false → (guarded_shown g).offer k i one ≡ true → line_ack P w k ≡ false
   up_low k i one r o = cases (line_ack P w k) (λ (h : line_ack P w k ≡ true). absurd (cc (good.falling k i one h o, r))) (λ (h : line_ack P w k ≡ false). h)
 
-  pub down_high : (k : Line) (i : ℕ) (one : Bool) → is_merged P k ≡ true → w.rail k i one ≡ true → (guarded_shown g).offer k i one ≡ false → line_ack P w k ≡ true
-  down_high k i one n r o = cases (line_ack P w k) (λ (h : line_ack P w k ≡ true). h) (λ (h : line_ack P w k ≡ false). absurd (cc (good.rising k i one n h r, o)))
+  pub down_high : (k : Line) (i : ℕ) (one : Bool) → is_merged P k ≡ true → w.rail k i one ≡ true → (guarded_shown g).offer k i one ≡ false
+      → line_ack P w k ≡ true
+  down_high k i one n r o = cases (line_ack P w k) (λ (h : line_ack P w k ≡ true). h)
+      (λ (h : line_ack P w k ≡ false). absurd (cc (good.rising k i one n h r, o)))
 
   -- a move of the root or the body
   module _ (s : GuardedSpot P.body) (e : guarded_moves (seen P w) g s ≡ true) (r : GuardedAfter P.body m (seen P w) g s) where
@@ -159,15 +233,35 @@ module _ (P : TypedProgram) (script : List OfferValue) {m : Mode} {g : GuardedAt
         here returning g e z = cc z
     own_keeps (own_node q) ne z = r.keeps q (λ (i : q ≡ s). ne (ap (λ y. own_node y) i)) z
     own_keeps (rail_node k i one) ne z =
-        both_true (is_merged P k) _ (fst_true _ _ z) (here (w.rail k i one) ((guarded_shown g).offer k i one) ((guarded_shown r.to).offer k i one) refl refl refl (snd_true (is_merged P k) _ z))
+        or_map (sent_turns P w k i one ((guarded_shown g).offer k i one)) (driven P script w hs k i one)
+        (sent_turns P w k i one ((guarded_shown r.to).offer k i one)) (driven P script w hs k i one)
+        (λ z. both_true (is_merged P k) (turns (w.rail k i one) ((guarded_shown r.to).offer k i one) (not ((guarded_shown r.to).offer k i one)))
+        (fst_true (is_merged P k) _ z) (here (fst_true (is_merged P k) _ z) (w.rail k i one) ((guarded_shown g).offer k i one)
+        ((guarded_shown r.to).offer k i one) refl refl refl (snd_true (is_merged P k) _ z)))
+        (λ z. z) z
       where
-        here : (v o n : Bool) → w.rail k i one ≡ v → (guarded_shown g).offer k i one ≡ o → (guarded_shown r.to).offer k i one ≡ n → turns v o (not o) ≡ true → turns v n (not n) ≡ true
+        here : is_merged P k ≡ true → (v o n : Bool) → w.rail k i one ≡ v → (guarded_shown g).offer k i one ≡ o → (guarded_shown r.to).offer k i one ≡ n
+            → turns v o (not o) ≡ true → turns v n (not n) ≡ true
+        here u true true n hv ho hn z = absurd (cc z)
+        here u true false true hv ho hn y = absurd (cc (r.flow.falls k i one (down_high k i one u hv ho) hn, ho))
+        here u true false false hv ho hn z = refl
+        here u false true n hv ho hn z = cc (r.flow.rises k i one (up_low k i one hv ho) ho, hn)
+        here u false false n hv ho hn z = absurd (cc z)
+    own_keeps (ack_node k) ne z =
+        or_map (heard_turns P w k ((guarded_shown g).take k)) (answers (channel_width P.channels k) w k (completed hs k) (offer_at script k))
+        (heard_turns P w k ((guarded_shown r.to).take k)) (answers (channel_width P.channels k) w k (completed hs k) (offer_at script k))
+        (λ z. both_true (is_heard (kind_at P.channels k)) (turns (w.ack k) ((guarded_shown r.to).take k) (not ((guarded_shown r.to).take k)))
+        (fst_true (is_heard (kind_at P.channels k)) _ z) (here (w.ack k) ((guarded_shown g).take k) ((guarded_shown r.to).take k) refl refl refl
+        (snd_true (is_heard (kind_at P.channels k)) _ z)))
+        (λ z. z) z
+      where
+        here : (v o n : Bool) → w.ack k ≡ v → (guarded_shown g).take k ≡ o → (guarded_shown r.to).take k ≡ n → turns v o (not o) ≡ true
+            → turns v n (not n) ≡ true
         here true true n hv ho hn z = absurd (cc z)
-        here true false true hv ho hn y = absurd (cc (r.flow.falls k i one (down_high k i one (fst_true _ _ z) hv ho) hn, ho))
+        here true false true hv ho hn y = absurd (cc (r.flow.drops k hv hn, ho))
         here true false false hv ho hn z = refl
-        here false true n hv ho hn z = cc (r.flow.rises k i one (up_low k i one hv ho) ho, hn)
+        here false true n hv ho hn z = sym hn ∙ r.flow.holds k hv ho
         here false false n hv ho hn z = absurd (cc z)
-    own_keeps (ack_node k) ne z = z
     own_keeps (bit_node x i one) ne z = z
     own_keeps (wrote_node x i) ne z = z
     own_keeps (joint_node x k) ne z = z
@@ -184,7 +278,8 @@ module _ (P : TypedProgram) (script : List OfferValue) {m : Mode} {g : GuardedAt
     own_term : m ≢ returning → Follows (root_left (line_ack P w) g) (root_left (line_ack P w) r.to)
     own_term ne = here m r.mode g r.to r.way ne r.term
       where
-        here : (m n : Mode) (a : GuardedAt P.body m) (b : GuardedAt P.body n) → goes m n ≡ true → m ≢ returning → Follows (guarded_left (line_ack P w) a) (guarded_left (line_ack P w) b) → Follows (root_left (line_ack P w) a) (root_left (line_ack P w) b)
+        here : (m n : Mode) (a : GuardedAt P.body m) (b : GuardedAt P.body n) → goes m n ≡ true → m ≢ returning
+            → Follows (guarded_left (line_ack P w) a) (guarded_left (line_ack P w) b) → Follows (root_left (line_ack P w) a) (root_left (line_ack P w) b)
         here running running a b h ne f = f
         here running answered a b h ne f = f
         here running idle a b h ne f = absurd (cc h)
@@ -211,6 +306,13 @@ module _ (P : TypedProgram) (script : List OfferValue) {m : Mode} {g : GuardedAt
         block = good.block;
         no_bit = good.no_bit;
         no_wrote = good.no_wrote;
+        single = good.single;
+        listen = λ c u h. r.flow.listen c h (good.listen c u h);
+        valid = λ c u h z. cases ((guarded_shown g).take c) (λ (o : (guarded_shown g).take c ≡ true). good.valid c u h o)
+            (λ (o : (guarded_shown g).take c ≡ false). r.flow.taken c o z);
+        neutral = λ c u h z. cases ((guarded_shown g).take c) (λ (o : (guarded_shown g).take c ≡ true). r.flow.left c o z)
+            (λ (o : (guarded_shown g).take c ≡ false). good.neutral c u h o);
+        heard_sited = good.heard_sited;
       };
       term = own_term;
       frees = λ x e. (refl, inl (r.frees x e));

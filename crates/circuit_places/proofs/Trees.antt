@@ -40,7 +40,8 @@ level_joints (p ∷ q ∷ ls) = (is_joint p q refl, level_joints ls)
 
 levels_joints : (n : ℕ) (ls : List ℕ) (from : ℕ) → AreJoints (levels_rules n ls from)
 levels_joints zero ls from = tt
-levels_joints (suc n) ls from = joints_append (level_rules ls) (levels_rules n (next_level ls from) _) (level_joints ls) (levels_joints n (next_level ls from) _)
+levels_joints (suc n) ls from = joints_append (level_rules ls) (levels_rules n (next_level ls from) _) (level_joints ls)
+    (levels_joints n (next_level ls from) _)
 
 joint_of : (rs : List NodeRules) → AreJoints rs → (k : ℕ) → IsJoint (get_or rs k no_guards)
 joint_of [] h k = is_none refl
@@ -59,7 +60,8 @@ pub joint_apart : (n : ℕ) (leaf node : ℕ → Bool) (k : ℕ) → is_apart (t
 joint_apart n leaf node k = here (node_is n k)
   where
     here : IsJoint (tree_node n k) → is_apart (tree_rule n leaf node k) ≡ true
-    here (is_joint p q e) = ap (λ (r : NodeRules). not (guard_holds (tree_value n leaf node) r.up && guard_holds (tree_value n leaf node) r.down)) e ∙ never_both (tree_value n leaf node p) (tree_value n leaf node q)
+    here (is_joint p q e) = ap (λ (r : NodeRules). not (guard_holds (tree_value n leaf node) r.up && guard_holds (tree_value n leaf node) r.down)) e
+        ∙ never_both (tree_value n leaf node p) (tree_value n leaf node q)
     here (is_none e) = ap (λ (r : NodeRules). not (guard_holds (tree_value n leaf node) r.up && guard_holds (tree_value n leaf node) r.down)) e
 
 -- where all is low no node moves
@@ -71,10 +73,12 @@ all_low_value n leaf node l b k = here (nat_lt k n)
     here false = b (k - n)
 
 pub joint_quiet : (n : ℕ) (leaf node : ℕ → Bool) → ((i : ℕ) → leaf i ≡ false) → ((i : ℕ) → node i ≡ false) → (k : ℕ) → fires (tree_rule n leaf node k) ≡ false
-joint_quiet n leaf node l b k = ap (λ z. if z then guard_holds (tree_value n leaf node) (tree_node n k).down else guard_holds (tree_value n leaf node) (tree_node n k).up) (b k) ∙ here (node_is n k)
+joint_quiet n leaf node l b k = ap (λ z. if z then guard_holds (tree_value n leaf node) (tree_node n k).down else guard_holds (tree_value n leaf node)
+    (tree_node n k).up) (b k) ∙ here (node_is n k)
   where
     here : IsJoint (tree_node n k) → guard_holds (tree_value n leaf node) (tree_node n k).up ≡ false
-    here (is_joint p q e) = ap (λ (r : NodeRules). guard_holds (tree_value n leaf node) r.up) e ∙ ap (λ z. z && (tree_value n leaf node q && true) || false) (all_low_value n leaf node l b p)
+    here (is_joint p q e) = ap (λ (r : NodeRules). guard_holds (tree_value n leaf node) r.up) e
+        ∙ ap (λ z. z && (tree_value n leaf node q && true) || false) (all_low_value n leaf node l b p)
     here (is_none e) = ap (λ (r : NodeRules). guard_holds (tree_value n leaf node) r.up) e
 
 -- behind the tree's nodes none moves
@@ -132,7 +136,8 @@ leaf_turned n leaf node i less = fun_ext (λ k. by k (cases_lt k n))
   where
     by : (k : ℕ) → (k < n) ⊎ (n ≤ k) → turned (tree_value n leaf node) i k ≡ tree_value n (turned leaf i) node k
     by k (inl h) = ap (λ b. if k == i then not b else b) (value_leaf n leaf node k h) ∙ sym (value_leaf n (turned leaf i) node k h)
-    by k (inr h) = turned_apart (tree_value n leaf node) i k (λ e. omega (arith, less, h, e)) ∙ (ap (λ b. if b then leaf k else node (k - n)) off ∙ sym (ap (λ b. if b then turned leaf i k else node (k - n)) off))
+    by k (inr h) = turned_apart (tree_value n leaf node) i k (λ e. omega (arith, less, h, e))
+        ∙ (ap (λ b. if b then leaf k else node (k - n)) off ∙ sym (ap (λ b. if b then turned leaf i k else node (k - n)) off))
       where
         off : nat_lt k n ≡ false
         off = grind (arith, nat_tests)
@@ -153,16 +158,20 @@ node_turned n leaf node i = fun_ext (λ k. by k (cases_lt k n))
         ∙ (ap (λ b. if b then not (node j) else node j) (same j) ∙ sym (value_node n leaf (turned node i) j))
 
     by : (k : ℕ) → (k < n) ⊎ (n ≤ k) → turned (tree_value n leaf node) (n + i) k ≡ tree_value n leaf (turned node i) k
-    by k (inl h) = turned_apart (tree_value n leaf node) (n + i) k (λ e. omega (arith, h, e)) ∙ (value_leaf n leaf node k h ∙ sym (value_leaf n leaf (turned node i) k h))
-    by k (inr h) = subst (λ (x : ℕ). turned (tree_value n leaf node) (n + i) x ≡ tree_value n leaf (turned node i) x) (let e : n + (k - n) ≡ k = omega (arith, h) in e) (behind (k - n))
+    by k (inl h) = turned_apart (tree_value n leaf node) (n + i) k (λ e. omega (arith, h, e))
+        ∙ (value_leaf n leaf node k h ∙ sym (value_leaf n leaf (turned node i) k h))
+    by k (inr h) = subst (λ (x : ℕ). turned (tree_value n leaf node) (n + i) x ≡ tree_value n leaf (turned node i) x)
+        (let e : n + (k - n) ≡ k = omega (arith, h) in e) (behind (k - n))
 
 -- the numbered nodes of a list of rules
 contains_at : (from : ℕ) (rs : List NodeRules) (k : ℕ) → k < length rs → Contains (owned_from from rs) (owned (from + k) (get_or rs k no_guards))
 contains_at from [] k less = absurd (omega arith)
-contains_at from (r ∷ rs) zero less = subst (λ (i : ℕ). Contains (owned_from from (r ∷ rs)) (owned i r)) (let e : from ≡ from + 0 = omega arith in e) (0, omega arith, refl)
+contains_at from (r ∷ rs) zero less = subst (λ (i : ℕ). Contains (owned_from from (r ∷ rs)) (owned i r)) (let e : from ≡ from + 0 = omega arith in e)
+    (0, omega arith, refl)
 contains_at from (r ∷ rs) (suc k) less =
     subst (λ (i : ℕ). Contains (owned_from from (r ∷ rs)) (owned i (get_or rs k no_guards))) (let e : from + 1 + k ≡ from + suc k = omega arith in e)
-    (Contains-append_right (owned from r ∷ []) (owned_from (from + 1) rs) (owned (from + 1 + k) (get_or rs k no_guards)) (contains_at (from + 1) rs k (omega arith)))
+    (Contains-append_right (owned from r ∷ []) (owned_from (from + 1) rs) (owned (from + 1 + k) (get_or rs k no_guards))
+    (contains_at (from + 1) rs k (omega arith)))
 
 pub record Numbered (from : ℕ) (rs : List NodeRules) (o : Owned) : Type 0 where
   pub at : ℕ
@@ -173,11 +182,17 @@ numbered : (from : ℕ) (rs : List NodeRules) (o : Owned) → Contains (owned_fr
 numbered from [] o among = absurd (none_among o among)
 numbered from (r ∷ rs) o among = by (among_cases (owned from r) (owned_from (from + 1) rs) o among) (numbered (from + 1) rs o)
   where
-    by : (owned from r ≡ o) ⊎ Contains (owned_from (from + 1) rs) o → (Contains (owned_from (from + 1) rs) o → Numbered (from + 1) rs o) → Numbered from (r ∷ rs) o
+    by : (owned from r ≡ o) ⊎ Contains (owned_from (from + 1) rs) o → (Contains (owned_from (from + 1) rs) o → Numbered (from + 1) rs o)
+        → Numbered from (r ∷ rs) o
     by (inl e) f = record { at = 0; less = omega arith; is = ap (λ i. owned i r) (let z : from + 0 ≡ from = omega arith in z) ∙ e }
     by (inr h) f =
         let y = f h in
-        record { at = suc y.at; less = (let z = y.less in omega (arith, z)); is = ap (λ i. owned i (get_or rs y.at no_guards)) (let z : from + suc y.at ≡ from + 1 + y.at = omega arith in z) ∙ y.is }
+        record {
+          at = suc y.at;
+          less = (let z = y.less in omega (arith, z));
+          is = ap (λ i. owned i (get_or rs y.at no_guards))
+              (let z : from + suc y.at ≡ from + 1 + y.at = omega arith in z) ∙ y.is;
+        }
 
 -- what is known of the tree over so many leaves
 abbrev pub TreeOver : ℕ → Type 0
@@ -212,7 +227,8 @@ module _ (n : ℕ) where
   own_is o among = numbered n (tree_rules leaves n) o among
 
   own_fires : (leaf : ℕ → Bool) (node : ℕ → Bool) (k : ℕ) → parts.fires (values leaf node) (node_of k) ≡ node_moves n leaf node k
-  own_fires leaf node k = ap (λ b. if b then guard_holds (values leaf node) (tree_node n k).down else guard_holds (values leaf node) (tree_node n k).up) (value_node n leaf node k)
+  own_fires leaf node k = ap (λ b. if b then guard_holds (values leaf node) (tree_node n k).down else guard_holds (values leaf node) (tree_node n k).up)
+      (value_node n leaf node k)
 
   outside : (i : ℕ) → i < n → IsOutside leaves n i
   outside i less j d within e =
@@ -262,7 +278,8 @@ module _ (n : ℕ) where
       pub top : tree_answer n (turned leaf i) node ≡ tree_answer n leaf node
       pub keeps : (k : ℕ) → node_moves n leaf node k ≡ true → node_moves n (turned leaf i) node k ≡ true
 
-    pub leaf_turns : 2 ≤ n → (leaf : ℕ → Bool) (node : ℕ → Bool) (i : ℕ) → i < n → Settling n leaf node → leaf i ≡ tree_answer n leaf node → LeafTurned leaf node i
+    pub leaf_turns : 2 ≤ n → (leaf : ℕ → Bool) (node : ℕ → Bool) (i : ℕ) → i < n → Settling n leaf node → leaf i ≡ tree_answer n leaf node
+        → LeafTurned leaf node i
     leaf_turns some leaf node i less s e =
         let move : TreeMove leaves n (values leaf node) i = of_leaf (outside i less) (value_leaf n leaf node i less ∙ e) in
         let same = leaf_turned n leaf node i less in
@@ -272,13 +289,15 @@ module _ (n : ℕ) where
           keeps = λ k f.
               let below = joint_below n leaf node k f in
               sym (own_fires (turned leaf i) node k)
-              ∙ subst (λ (v : ℕ → Bool). parts.fires v (node_of k) ≡ true) same (known.firm (values leaf node) (node_of k) i s.is (own k below) (own_fires leaf node k ∙ f) move (λ (x : i ≡ n + k). omega (arith, less, x)));
+              ∙ subst (λ (v : ℕ → Bool). parts.fires v (node_of k) ≡ true) same
+              (known.firm (values leaf node) (node_of k) i s.is (own k below) (own_fires leaf node k ∙ f) move (λ (x : i ≡ n + k). omega (arith, less, x)));
         }
 
     -- a node of its own moves
     pub data TopTurned (leaf : ℕ → Bool) (node : ℕ → Bool) (k : ℕ) : Type 0 where
       stays_top : tree_answer n leaf (turned node k) ≡ tree_answer n leaf node → TopTurned leaf node k
-      turns_top : tree_answer n leaf (turned node k) ≡ not (tree_answer n leaf node) → ((i : ℕ) → i < n → leaf i ≡ not (tree_answer n leaf node)) → TopTurned leaf node k
+      turns_top : tree_answer n leaf (turned node k) ≡ not (tree_answer n leaf node) → ((i : ℕ) → i < n → leaf i ≡ not (tree_answer n leaf node))
+          → TopTurned leaf node k
 
     pub record NodeTurned (leaf : ℕ → Bool) (node : ℕ → Bool) (k : ℕ) : Type 0 where
       pub settled : Settling n leaf (turned node k)
@@ -291,7 +310,9 @@ module _ (n : ℕ) where
       top = by (cases_eq (n + k) (tree_top leaves n));
       keeps = λ j ne g.
           sym (own_fires leaf (turned node k) j)
-          ∙ subst (λ (v : ℕ → Bool). parts.fires v (node_of j) ≡ true) same (known.firm (values leaf node) (node_of j) (n + k) s.is (own j (joint_below n leaf node j g)) (own_fires leaf node j ∙ g) move (λ (x : n + k ≡ n + j). ne (omega (arith, x))));
+          ∙ subst (λ (v : ℕ → Bool). parts.fires v (node_of j) ≡ true) same
+          (known.firm (values leaf node) (node_of j) (n + k) s.is (own j (joint_below n leaf node j g)) (own_fires leaf node j ∙ g) move
+          (λ (x : n + k ≡ n + j). ne (omega (arith, x))));
     }
       where
         less : k < joint_count n
@@ -312,20 +333,25 @@ module _ (n : ℕ) where
         by : (n + k ≡ tree_top leaves n) ⊎ (n + k ≢ tree_top leaves n) → TopTurned leaf node k
         by (inr ne) = stays_top (at (tree_top leaves n) ∙ turned_apart (values leaf node) (n + k) (tree_top leaves n) (λ e. ne (sym e)))
         by (inl e) = turns_top
-            (at (tree_top leaves n) ∙ (ap (turned (values leaf node) (n + k)) (sym e) ∙ (turned_here (values leaf node) (n + k) ∙ ap (λ x. not (values leaf node x)) e)))
-            (λ i below. sym (value_leaf n leaf node i below) ∙ All-contains (λ x. values leaf node x ≡ not (values leaf node (tree_top leaves n))) leaves i (known.turns (values leaf node) (node_of k) s.is (own k less) enabled e) (leaf_there i below))
+            (at (tree_top leaves n) ∙ (ap (turned (values leaf node) (n + k)) (sym e)
+            ∙ (turned_here (values leaf node) (n + k) ∙ ap (λ x. not (values leaf node x)) e)))
+            (λ i below. sym (value_leaf n leaf node i below) ∙ All-contains (λ x. values leaf node x ≡ not (values leaf node (tree_top leaves n))) leaves i
+            (known.turns (values leaf node) (node_of k) s.is (own k less) enabled e) (leaf_there i below))
 
     -- where all leaves have the top's value, all nodes have it, and none moves
-    pub flat_nodes : (leaf : ℕ → Bool) (node : ℕ → Bool) (b : Bool) → Settling n leaf node → tree_answer n leaf node ≡ b → ((i : ℕ) → i < n → leaf i ≡ b) → (k : ℕ) → k < joint_count n → node k ≡ b
+    pub flat_nodes : (leaf : ℕ → Bool) (node : ℕ → Bool) (b : Bool) → Settling n leaf node → tree_answer n leaf node ≡ b → ((i : ℕ) → i < n → leaf i ≡ b)
+        → (k : ℕ) → k < joint_count n → node k ≡ b
     flat_nodes leaf node b s at all k less =
         sym (value_node n leaf node k)
-        ∙ (known.flat (values leaf node) s.is (all_leaves (λ i. values leaf node i ≡ values leaf node (tree_top leaves n)) (λ i below. value_leaf n leaf node i below ∙ (all i below ∙ sym at))) (node_of k) (own k less) ∙ at)
+        ∙ (known.flat (values leaf node) s.is (all_leaves (λ i. values leaf node i ≡ values leaf node (tree_top leaves n))
+        (λ i below. value_leaf n leaf node i below ∙ (all i below ∙ sym at))) (node_of k) (own k less) ∙ at)
 
     differ : (b : Bool) → b ≡ not b → ⊥
     differ true e = cc e
     differ false e = cc e
 
-    pub flat_stands : 2 ≤ n → (leaf : ℕ → Bool) (node : ℕ → Bool) (b : Bool) → Settling n leaf node → tree_answer n leaf node ≡ b → ((i : ℕ) → i < n → leaf i ≡ b) → (k : ℕ) → node_moves n leaf node k ≡ false
+    pub flat_stands : 2 ≤ n → (leaf : ℕ → Bool) (node : ℕ → Bool) (b : Bool) → Settling n leaf node → tree_answer n leaf node ≡ b
+        → ((i : ℕ) → i < n → leaf i ≡ b) → (k : ℕ) → node_moves n leaf node k ≡ false
     flat_stands some leaf node b s at all k = by (node_moves n leaf node k) refl
       where
         no : node_moves n leaf node k ≡ true → ⊥
@@ -349,7 +375,8 @@ module _ (n : ℕ) where
         by false e = refl
 
     -- where none of its nodes moves, some leaf has the top's value
-    pub waits_on : (leaf : ℕ → Bool) (node : ℕ → Bool) → Settling n leaf node → ((k : ℕ) → node_moves n leaf node k ≡ false) → (i : ℕ) × (i < n) × (leaf i ≡ tree_answer n leaf node)
+    pub waits_on : (leaf : ℕ → Bool) (node : ℕ → Bool) → Settling n leaf node → ((k : ℕ) → node_moves n leaf node k ≡ false)
+        → (i : ℕ) × (i < n) × (leaf i ≡ tree_answer n leaf node)
     waits_on leaf node s still =
         let (i, among, e) = known.waits (values leaf node) s.is (λ o here.
         let y = own_is o here in

@@ -1,9 +1,10 @@
--- Which variables are being written: where a site offers a rail of one under a low acknowledge it is, under a high one it
--- isn't, and other acknowledges don't matter; what is being written isn't read. What the rails of its value say as a number.
-use Rattle.std.proofs.Common.{◌≡◌, ℕ, zero, suc, ◌+◌, ◌*◌, ◌/◌, ◌%◌, ◌^◌, ◌<◌, ◌==◌, Bool, true, false, List, [], ◌∷◌, length, map, refl, sym, ap, ◌∙◌, arith, All}
+-- Which variables are being written: where a site offers a rail of one under a low acknowledge it is; where an acknowledge
+-- falls nothing ceases to be, and other acknowledges don't matter; what is being written isn't read. What the rails of its
+-- value say as a number.
+use Rattle.std.proofs.Common.{◌≡◌, ℕ, zero, suc, ◌+◌, ◌*◌, ◌/◌, ◌%◌, ◌^◌, ◌<◌, ◌==◌, Bool, true, false, List, [], ◌∷◌, length, map, refl, sym, ap, ◌∙◌, arith, All, ◌⊎◌, inl, inr}
 use Rattle.std.proofs.lemmas.Bool.{eqb-true}
 use Rattle.std.proofs.lemmas.List.Elements.{All-head, All-tail}
-use Rattle.std.specs.Prelude.{◌&&◌, ◌||◌, Option, Some, None, slice_index}
+use Rattle.std.specs.Prelude.{not, ◌&&◌, ◌||◌, Option, Some, None, slice_index, is_some}
 use Rattle.prs_core.specs.Moves.{bit_value, with_bit}
 use Rattle.env_script.specs.Environment.{is_odd}
 use Rattle.width_check.specs.declared.typed.Var.{Var}
@@ -13,15 +14,17 @@ use Rattle.chp_meaning.specs.Halves.{IsSizedVar}
 use Rattle.width_check.specs.Values.{one_if}
 use Rattle.circuit_places.specs.Lines.{Line, of_channel, of_var, same_line, Rails, Seen}
 use Rattle.circuit_places.specs.Circuit.{Pairs, gate_count, same_bit}
-use Rattle.circuit_places.specs.Whole.{value_on, first_bit, first_bits}
-use Rattle.circuit_places.proofs.LineNames.{same_number}
+use Rattle.circuit_places.specs.Whole.{value_on, neutral_on, number_rail, first_bits}
+use Rattle.circuit_places.proofs.LineNames.{same_number, same_line_is}
 use Rattle.width_check.specs.Reads.{reads}
 use Rattle.function_blocks.specs.Rails.{number_on}
 use Rattle.function_blocks.specs.Waves.{out_rail, full, empty}
 use Rattle.circuit_places.proofs.Meets.{sends, turn_sends, uses, each_uses, Meets, TurnMeets, EachMeets}
 use Rattle.circuit_places.proofs.RailLemmas.{fst_true, snd_true, both_true, never_and, empty_low}
-use Rattle.circuit_places.proofs.Places.{Mode, idle, running, answered, returning, wave_may, SiteMay, SiteFits, send_fits, under_way, GuardedAt, At, TurnAt, BranchesAt, g_rests, g_in, g_past, g_back, rests, at_skip, at_assign, at_send, at_turn, at_side, at_body, no_more, and_at, turn_rests, at_last, at_member, at_later, guarded_shown, shown, turn_shown, branches_shown, GuardedFits, Fits, TurnFits, BranchesFit, writing, guarded_writing, turn_writing, branches_writing}
-use Rattle.circuit_places.proofs.Flow.{low_of, or_left, or_right, cases}
+use Rattle.circuit_places.proofs.Places.{Mode, idle, running, answered, returning, wave_may, SiteMay, SiteFits, port_may, PortFits, send_fits, under_way, GuardedAt, At, TurnAt, BranchesAt, g_rests, g_in, g_past, g_back, rests, at_skip, at_assign, at_send, at_receive, at_turn, at_side, at_body, no_more, and_at, turn_rests, at_last, at_member, at_later, guarded_shown, shown, turn_shown, branches_shown, GuardedFits, Fits, TurnFits, BranchesFit, writing, guarded_writing, turn_writing, branches_writing}
+use Rattle.circuit_places.proofs.Flow.{neither_left, neither_right, low_of, or_left, or_right, or_free, cases}
+use Rattle.circuit_places.proofs.Begin.{answered_va}
+use Rattle.circuit_places.proofs.PortLeaf.{runs_kept, runs_va, back_none, low_by, port_none}
 use Rattle.circuit_places.proofs.Talks.{either, or_false_left, or_false_right}
 
 -- a site that holds a rail under a low acknowledge runs
@@ -32,38 +35,70 @@ held_runs answered f n a h k e l = absurd (cc (k, l))
 held_runs returning f true a h k e l = absurd (cc e)
 held_runs returning f false a h k e l = absurd (cc (k, l))
 
-site_there : (env : Seen) (y : ℕ) (e : Formula) (m : Mode) (u : Pairs (gate_count e)) → SiteMay e m u → SiteFits (of_var y) e m u env → (x i : ℕ) (one : Bool) → env.ack (of_var x) ≡ false → ((y == x) && out_rail e u i one) ≡ true → ((y == x) && under_way m (env.ack (of_var y))) ≡ true
+site_there : (env : Seen) (y : ℕ) (e : Formula) (m : Mode) (u : Pairs (gate_count e)) → SiteMay e m u → SiteFits (of_var y) e m u env → (x i : ℕ) (one : Bool)
+    → env.ack (of_var x) ≡ false → ((y == x) && out_rail e u i one) ≡ true → ((y == x) && under_way m (env.ack (of_var y))) ≡ true
 site_there env y e m u h f x i one low z =
     let same = fst_true (y == x) (out_rail e u i one) z in
     let some : empty e u ≡ false = cases (empty e u)
     (λ (n : empty e u ≡ true). absurd (cc (empty_low e h.known u n i one, snd_true (y == x) (out_rail e u i one) z)))
     (λ (n : empty e u ≡ false). n) in
-    both_true (y == x) (under_way m (env.ack (of_var y))) same (held_runs m (full e u) (empty e u) (env.ack (of_var y)) h.may f.0 some (ap (λ v. env.ack (of_var v)) (same_number y x same) ∙ low))
+    both_true (y == x) (under_way m (env.ack (of_var y))) same (held_runs m (full e u) (empty e u) (env.ack (of_var y)) h.may f.0 some
+    (ap (λ v. env.ack (of_var v)) (same_number y x same) ∙ low))
+
+port_there : (env : Seen) (c y : ℕ) (m : Mode) (k : Bool) (q : Rails) → port_may m k ≡ true → PortFits c y m k q env → (x i : ℕ) (one : Bool)
+    → env.ack (of_var x) ≡ false → ((y == x) && q i one) ≡ true → ((y == x) && under_way m (env.ack (of_channel c))) ≡ true
+port_there env c y m k q h f x i one low z =
+    let same = fst_true (y == x) (q i one) z in
+    both_true (y == x) (under_way m (env.ack (of_channel c))) same (by m h f (ap (λ v. env.ack (of_var v)) (same_number y x same) ∙ low)
+    (snd_true (y == x) (q i one) z))
+  where
+    by : (m : Mode) → port_may m k ≡ true → PortFits c y m k q env → env.ack (of_var y) ≡ false → q i one ≡ true → under_way m (env.ack (of_channel c)) ≡ true
+    by idle h f v o = absurd (cc h)
+    by answered h f v o = absurd (cc (
+      answered_va k (env.ack (of_channel c)) (env.ack (of_var y)) (is_some (value_on (env.width (of_var y)) q))
+          (neutral_on (env.width (of_var y)) q) f.ends,
+      v,
+    ))
+    by returning h f v o = absurd (cc (
+      port_none c y returning k q env f (back_none k (env.ack (of_channel c)) (env.ack (of_var y))
+          (is_some (value_on (env.width (of_var y)) q)) (neutral_on (env.width (of_var y)) q) f.ends v) i one,
+      o,
+    ))
+    by running h f v o =
+        let gone = low_by k (env.ack (of_var y)) (runs_va k (env.ack (of_channel c)) (env.ack (of_var y)) (is_some (value_on (env.width (of_var y)) q))
+        (neutral_on (env.width (of_var y)) q) f.ends) v in
+        ap not (low_by (env.ack (of_channel c)) k (runs_kept k (env.ack (of_channel c)) (env.ack (of_var y)) (is_some (value_on (env.width (of_var y)) q))
+        (neutral_on (env.width (of_var y)) q) f.ends) gone)
 
 mutual
-  pub guarded_writing_there : {p : Process} {m : Mode} (env : Seen) (g : GuardedAt p m) → GuardedFits g env → (x i : ℕ) (one : Bool) → env.ack (of_var x) ≡ false → (guarded_shown g).offer (of_var x) i one ≡ true → guarded_writing env.ack g x ≡ true
+  pub guarded_writing_there : {p : Process} {m : Mode} (env : Seen) (g : GuardedAt p m) → GuardedFits g env → (x i : ℕ) (one : Bool)
+      → env.ack (of_var x) ≡ false → (guarded_shown g).offer (of_var x) i one ≡ true → guarded_writing env.ack g x ≡ true
   guarded_writing_there env (g_in u a h) f x i one l e = writing_there env a f x i one l e
   guarded_writing_there env g_rests f x i one l e = absurd (cc e)
   guarded_writing_there env g_past f x i one l e = absurd (cc e)
   guarded_writing_there env (g_back u) f x i one l e = absurd (cc e)
 
-  writing_there : {p : Process} {m : Mode} (env : Seen) (a : At p m) → Fits a env → (x i : ℕ) (one : Bool) → env.ack (of_var x) ≡ false → (shown a).offer (of_var x) i one ≡ true → writing env.ack a x ≡ true
+  writing_there : {p : Process} {m : Mode} (env : Seen) (a : At p m) → Fits a env → (x i : ℕ) (one : Bool) → env.ack (of_var x) ≡ false
+      → (shown a).offer (of_var x) i one ≡ true → writing env.ack a x ≡ true
   writing_there env (at_assign {x = y} {e = d} m u h) f x i one l e = site_there env y d m u h f x i one l e
   writing_there env (at_send m u h) f x i one l e = absurd (cc e)
+  writing_there env (at_receive {c = c} {x = y} m k q h) f x i one l e = port_there env c y m k q h f x i one l e
   writing_there env (at_turn t) f x i one l e = turn_writing_there env t f x i one l e
   writing_there env (at_side m t b h) f x i one l e = branches_writing_there env b f x i one l e
   writing_there env (at_body a) f x i one l e = writing_there env a f x i one l e
   writing_there env rests f x i one l e = absurd (cc e)
   writing_there env (at_skip m h) f x i one l e = absurd (cc e)
 
-  branches_writing_there : {members : Processes} {ks : List Mode} (env : Seen) (b : BranchesAt members ks) → BranchesFit b env → (x i : ℕ) (one : Bool) → env.ack (of_var x) ≡ false → (branches_shown b).offer (of_var x) i one ≡ true → branches_writing env.ack b x ≡ true
+  branches_writing_there : {members : Processes} {ks : List Mode} (env : Seen) (b : BranchesAt members ks) → BranchesFit b env → (x i : ℕ) (one : Bool)
+      → env.ack (of_var x) ≡ false → (branches_shown b).offer (of_var x) i one ≡ true → branches_writing env.ack b x ≡ true
   branches_writing_there env no_more f x i one l e = absurd (cc e)
   branches_writing_there env (and_at g b) f x i one l e =
       either ((guarded_shown g).offer (of_var x) i one) ((branches_shown b).offer (of_var x) i one) e
       (λ z. or_left (guarded_writing env.ack g x) (branches_writing env.ack b x) (guarded_writing_there env g f.0 x i one l z))
       (λ z. or_right (guarded_writing env.ack g x) (branches_writing env.ack b x) (branches_writing_there env b f.1 x i one l z))
 
-  turn_writing_there : {members : Processes} {m : Mode} (env : Seen) (t : TurnAt members m) → TurnFits t env → (x i : ℕ) (one : Bool) → env.ack (of_var x) ≡ false → (turn_shown t).offer (of_var x) i one ≡ true → turn_writing env.ack t x ≡ true
+  turn_writing_there : {members : Processes} {m : Mode} (env : Seen) (t : TurnAt members m) → TurnFits t env → (x i : ℕ) (one : Bool)
+      → env.ack (of_var x) ≡ false → (turn_shown t).offer (of_var x) i one ≡ true → turn_writing env.ack t x ≡ true
   turn_writing_there env (at_last a) f x i one l e = writing_there env a f x i one l e
   turn_writing_there env (at_member g) f x i one l e = guarded_writing_there env g f x i one l e
   turn_writing_there env (at_later g t h) f x i one l e = turn_writing_there env t f x i one l e
@@ -76,72 +111,138 @@ under_high running = refl
 under_high answered = refl
 under_high returning = refl
 
-site_low : (ack : Line → Bool) (y x : ℕ) (m : Mode) → ack (of_var x) ≡ true → ((y == x) && under_way m (ack (of_var y))) ≡ false
-site_low ack y x m e = cases (y == x)
-    (λ (h : (y == x) ≡ true). ap (λ b. (y == x) && under_way m b) (ap (λ z. ack (of_var z)) (same_number y x h) ∙ e) ∙ (ap (λ b. (y == x) && b) (under_high m) ∙ never_and (y == x)))
-    (λ (h : (y == x) ≡ false). ap (λ b. b && under_way m (ack (of_var y))) h)
+-- one acknowledge turns over at most
+pub record OneTurned (ack now : Line → Bool) (k : Line) : Type 0 where
+  pub far : (l : Line) → same_line l k ≡ false → now l ≡ ack l
+
+-- where it falls, what isn't being written afterwards wasn't before
+site_falls : (ack now : Line → Bool) (k l : Line) (b : Bool) (m : Mode) → OneTurned ack now k → ack k ≡ true → (b && under_way m (now l)) ≡ false
+    → (b && under_way m (ack l)) ≡ false
+site_falls ack now k l b m t high h = cases (same_line l k)
+    (λ (e : same_line l k ≡ true). ap (λ z. b && under_way m z) (ap ack (same_line_is l k e) ∙ high) ∙ (ap (λ z. b && z) (under_high m) ∙ never_and b))
+    (λ (e : same_line l k ≡ false). ap (λ z. b && under_way m z) (sym (t.far l e)) ∙ h)
 
 mutual
-  pub guarded_writing_low : {p : Process} {m : Mode} (ack : Line → Bool) (g : GuardedAt p m) (x : ℕ) → ack (of_var x) ≡ true → guarded_writing ack g x ≡ false
-  guarded_writing_low ack (g_in u a h) x e = writing_low ack a x e
-  guarded_writing_low ack g_rests x e = refl
-  guarded_writing_low ack g_past x e = refl
-  guarded_writing_low ack (g_back u) x e = refl
+  pub guarded_writing_falls : {p : Process} {m : Mode} (ack now : Line → Bool) (k : Line) → OneTurned ack now k → ack k ≡ true → (g : GuardedAt p m) (x : ℕ)
+      → guarded_writing now g x ≡ false → guarded_writing ack g x ≡ false
+  guarded_writing_falls ack now k t high (g_in u a h) x e = writing_falls ack now k t high a x e
+  guarded_writing_falls ack now k t high g_rests x e = refl
+  guarded_writing_falls ack now k t high g_past x e = refl
+  guarded_writing_falls ack now k t high (g_back u) x e = refl
 
-  writing_low : {p : Process} {m : Mode} (ack : Line → Bool) (a : At p m) (x : ℕ) → ack (of_var x) ≡ true → writing ack a x ≡ false
-  writing_low ack (at_assign {x = y} m u h) x e = site_low ack y x m e
-  writing_low ack (at_send m u h) x e = refl
-  writing_low ack (at_turn t) x e = turn_writing_low ack t x e
-  writing_low ack (at_side m t b h) x e = branches_writing_low ack b x e
-  writing_low ack (at_body a) x e = writing_low ack a x e
-  writing_low ack rests x e = refl
-  writing_low ack (at_skip m h) x e = refl
+  writing_falls : {p : Process} {m : Mode} (ack now : Line → Bool) (k : Line) → OneTurned ack now k → ack k ≡ true → (a : At p m) (x : ℕ)
+      → writing now a x ≡ false → writing ack a x ≡ false
+  writing_falls ack now k t high (at_assign {x = y} m u h) x e = site_falls ack now k (of_var y) (y == x) m t high e
+  writing_falls ack now k t high (at_send m u h) x e = refl
+  writing_falls ack now k t high (at_receive {c = c} {x = y} m l q h) x e = site_falls ack now k (of_channel c) (y == x) m t high e
+  writing_falls ack now k t high (at_turn z) x e = turn_writing_falls ack now k t high z x e
+  writing_falls ack now k t high (at_side m z b h) x e = branches_writing_falls ack now k t high b x e
+  writing_falls ack now k t high (at_body a) x e = writing_falls ack now k t high a x e
+  writing_falls ack now k t high rests x e = refl
+  writing_falls ack now k t high (at_skip m h) x e = refl
 
-  branches_writing_low : {members : Processes} {ks : List Mode} (ack : Line → Bool) (b : BranchesAt members ks) (x : ℕ) → ack (of_var x) ≡ true → branches_writing ack b x ≡ false
-  branches_writing_low ack no_more x e = refl
-  branches_writing_low ack (and_at g b) x e = ap (λ z. z || branches_writing ack b x) (guarded_writing_low ack g x e) ∙ branches_writing_low ack b x e
+  branches_writing_falls : {members : Processes} {ks : List Mode} (ack now : Line → Bool) (k : Line) → OneTurned ack now k → ack k ≡ true
+      → (b : BranchesAt members ks) (x : ℕ) → branches_writing now b x ≡ false → branches_writing ack b x ≡ false
+  branches_writing_falls ack now k t high no_more x e = refl
+  branches_writing_falls ack now k t high (and_at g b) x e =
+      or_free (guarded_writing ack g x) (branches_writing ack b x) (guarded_writing now g x) (branches_writing now b x)
+      (guarded_writing_falls ack now k t high g x) (branches_writing_falls ack now k t high b x) e
 
-  turn_writing_low : {members : Processes} {m : Mode} (ack : Line → Bool) (t : TurnAt members m) (x : ℕ) → ack (of_var x) ≡ true → turn_writing ack t x ≡ false
-  turn_writing_low ack (at_last a) x e = writing_low ack a x e
-  turn_writing_low ack (at_member g) x e = guarded_writing_low ack g x e
-  turn_writing_low ack (at_later g t h) x e = turn_writing_low ack t x e
-  turn_writing_low ack turn_rests x e = refl
+  turn_writing_falls : {members : Processes} {m : Mode} (ack now : Line → Bool) (k : Line) → OneTurned ack now k → ack k ≡ true → (z : TurnAt members m) (x : ℕ)
+      → turn_writing now z x ≡ false → turn_writing ack z x ≡ false
+  turn_writing_falls ack now k t high (at_last a) x e = writing_falls ack now k t high a x e
+  turn_writing_falls ack now k t high (at_member g) x e = guarded_writing_falls ack now k t high g x e
+  turn_writing_falls ack now k t high (at_later g z h) x e = turn_writing_falls ack now k t high z x e
+  turn_writing_falls ack now k t high turn_rests x e = refl
 
--- only the variable's own acknowledge matters
-site_same : (ack now : Line → Bool) (y x : ℕ) (m : Mode) → now (of_var x) ≡ ack (of_var x) → ((y == x) && under_way m (now (of_var y))) ≡ ((y == x) && under_way m (ack (of_var y)))
-site_same ack now y x m e = cases (y == x)
-    (λ (h : (y == x) ≡ true). ap (λ b. (y == x) && under_way m b) (ap (λ z. now (of_var z)) (same_number y x h) ∙ (e ∙ ap (λ z. ack (of_var z)) (sym (same_number y x h)))))
-    (λ (h : (y == x) ≡ false). ap (λ b. b && under_way m (now (of_var y))) h ∙ sym (ap (λ b. b && under_way m (ack (of_var y))) h))
-
+-- where a variable's acknowledge turns over, only what is assigned to it notices
 mutual
-  pub guarded_writing_same : {p : Process} {m : Mode} (ack now : Line → Bool) (g : GuardedAt p m) (x : ℕ) → now (of_var x) ≡ ack (of_var x) → guarded_writing now g x ≡ guarded_writing ack g x
-  guarded_writing_same ack now (g_in u a h) x e = writing_same ack now a x e
-  guarded_writing_same ack now g_rests x e = refl
-  guarded_writing_same ack now g_past x e = refl
-  guarded_writing_same ack now (g_back u) x e = refl
+  pub guarded_writing_other : {p : Process} {m : Mode} (ack now : Line → Bool) (v : ℕ) → OneTurned ack now (of_var v) → (g : GuardedAt p m) (x : ℕ)
+      → (x == v) ≡ false ⊎ ((guarded_shown g).says (of_var x) ≡ false) → guarded_writing now g x ≡ guarded_writing ack g x
+  guarded_writing_other ack now v t (g_in u a h) x e = writing_other ack now v t a x e
+  guarded_writing_other ack now v t g_rests x e = refl
+  guarded_writing_other ack now v t g_past x e = refl
+  guarded_writing_other ack now v t (g_back u) x e = refl
 
-  writing_same : {p : Process} {m : Mode} (ack now : Line → Bool) (a : At p m) (x : ℕ) → now (of_var x) ≡ ack (of_var x) → writing now a x ≡ writing ack a x
-  writing_same ack now (at_assign {x = y} m u h) x e = site_same ack now y x m e
-  writing_same ack now (at_send m u h) x e = refl
-  writing_same ack now (at_turn t) x e = turn_writing_same ack now t x e
-  writing_same ack now (at_side m t b h) x e = branches_writing_same ack now b x e
-  writing_same ack now (at_body a) x e = writing_same ack now a x e
-  writing_same ack now rests x e = refl
-  writing_same ack now (at_skip m h) x e = refl
+  writing_other : {p : Process} {m : Mode} (ack now : Line → Bool) (v : ℕ) → OneTurned ack now (of_var v) → (a : At p m) (x : ℕ)
+      → (x == v) ≡ false ⊎ ((shown a).says (of_var x) ≡ false) → writing now a x ≡ writing ack a x
+  writing_other ack now v t (at_assign {x = y} m u h) x (inr e) = ap (λ b. b && under_way m (now (of_var y))) e
+      ∙ sym (ap (λ b. b && under_way m (ack (of_var y))) e)
+  writing_other ack now v t (at_assign {x = y} m u h) x (inl e) = cases (y == x)
+      (λ (z : (y == x) ≡ true). ap (λ b. (y == x) && under_way m b) (t.far (of_var y) (ap (λ n. n == v) (same_number y x z) ∙ e)))
+      (λ (z : (y == x) ≡ false). ap (λ b. b && under_way m (now (of_var y))) z ∙ sym (ap (λ b. b && under_way m (ack (of_var y))) z))
+  writing_other ack now v t (at_send m u h) x e = refl
+  writing_other ack now v t (at_receive {c = c} {x = y} m l q h) x e = ap (λ b. (y == x) && under_way m b) (t.far (of_channel c) refl)
+  writing_other ack now v t (at_turn z) x e = turn_writing_other ack now v t z x e
+  writing_other ack now v t (at_side m z b h) x e = branches_writing_other ack now v t b x e
+  writing_other ack now v t (at_body a) x e = writing_other ack now v t a x e
+  writing_other ack now v t rests x e = refl
+  writing_other ack now v t (at_skip m h) x e = refl
 
-  branches_writing_same : {members : Processes} {ks : List Mode} (ack now : Line → Bool) (b : BranchesAt members ks) (x : ℕ) → now (of_var x) ≡ ack (of_var x) → branches_writing now b x ≡ branches_writing ack b x
-  branches_writing_same ack now no_more x e = refl
-  branches_writing_same ack now (and_at g b) x e = ap (λ z. z || branches_writing now b x) (guarded_writing_same ack now g x e) ∙ ap (λ z. guarded_writing ack g x || z) (branches_writing_same ack now b x e)
+  branches_writing_other : {members : Processes} {ks : List Mode} (ack now : Line → Bool) (v : ℕ) → OneTurned ack now (of_var v)
+      → (b : BranchesAt members ks) (x : ℕ) → (x == v) ≡ false ⊎ ((branches_shown b).says (of_var x) ≡ false)
+      → branches_writing now b x ≡ branches_writing ack b x
+  branches_writing_other ack now v t no_more x e = refl
+  branches_writing_other ack now v t (and_at g b) x e =
+      ap (λ z. z || branches_writing now b x) (guarded_writing_other ack now v t g x (first e))
+      ∙ ap (λ z. guarded_writing ack g x || z) (branches_writing_other ack now v t b x (second e))
+    where
+      first : (x == v) ≡ false ⊎ (((guarded_shown g).says (of_var x) || (branches_shown b).says (of_var x)) ≡ false)
+          → (x == v) ≡ false ⊎ ((guarded_shown g).says (of_var x) ≡ false)
+      first (inl e) = inl e
+      first (inr e) = inr (neither_left ((guarded_shown g).says (of_var x)) ((branches_shown b).says (of_var x)) e)
 
-  turn_writing_same : {members : Processes} {m : Mode} (ack now : Line → Bool) (t : TurnAt members m) (x : ℕ) → now (of_var x) ≡ ack (of_var x) → turn_writing now t x ≡ turn_writing ack t x
-  turn_writing_same ack now (at_last a) x e = writing_same ack now a x e
-  turn_writing_same ack now (at_member g) x e = guarded_writing_same ack now g x e
-  turn_writing_same ack now (at_later g t h) x e = turn_writing_same ack now t x e
-  turn_writing_same ack now turn_rests x e = refl
+      second : (x == v) ≡ false ⊎ (((guarded_shown g).says (of_var x) || (branches_shown b).says (of_var x)) ≡ false)
+          → (x == v) ≡ false ⊎ ((branches_shown b).says (of_var x) ≡ false)
+      second (inl e) = inl e
+      second (inr e) = inr (neither_right ((guarded_shown g).says (of_var x)) ((branches_shown b).says (of_var x)) e)
+
+  turn_writing_other : {members : Processes} {m : Mode} (ack now : Line → Bool) (v : ℕ) → OneTurned ack now (of_var v) → (z : TurnAt members m) (x : ℕ)
+      → (x == v) ≡ false ⊎ ((turn_shown z).says (of_var x) ≡ false) → turn_writing now z x ≡ turn_writing ack z x
+  turn_writing_other ack now v t (at_last a) x e = writing_other ack now v t a x e
+  turn_writing_other ack now v t (at_member g) x e = guarded_writing_other ack now v t g x e
+  turn_writing_other ack now v t (at_later g z h) x e = turn_writing_other ack now v t z x e
+  turn_writing_other ack now v t turn_rests x e = refl
+
+-- who doesn't listen on a channel doesn't notice its acknowledge
+mutual
+  pub guarded_writing_deaf : {p : Process} {m : Mode} (ack now : Line → Bool) (c : ℕ) → OneTurned ack now (of_channel c) → (g : GuardedAt p m)
+      → (guarded_shown g).listen c ≡ false → (x : ℕ) → guarded_writing now g x ≡ guarded_writing ack g x
+  guarded_writing_deaf ack now c t (g_in u a h) e x = writing_deaf ack now c t a e x
+  guarded_writing_deaf ack now c t g_rests e x = refl
+  guarded_writing_deaf ack now c t g_past e x = refl
+  guarded_writing_deaf ack now c t (g_back u) e x = refl
+
+  writing_deaf : {p : Process} {m : Mode} (ack now : Line → Bool) (c : ℕ) → OneTurned ack now (of_channel c) → (a : At p m) → (shown a).listen c ≡ false
+      → (x : ℕ) → writing now a x ≡ writing ack a x
+  writing_deaf ack now c t (at_assign {x = y} m u h) e x = ap (λ b. (y == x) && under_way m b) (t.far (of_var y) refl)
+  writing_deaf ack now c t (at_send m u h) e x = refl
+  writing_deaf ack now c t (at_receive {c = d} {x = y} m l q h) e x = ap (λ b. (y == x) && under_way m b) (t.far (of_channel d) e)
+  writing_deaf ack now c t (at_turn z) e x = turn_writing_deaf ack now c t z e x
+  writing_deaf ack now c t (at_side m z b h) e x = branches_writing_deaf ack now c t b e x
+  writing_deaf ack now c t (at_body a) e x = writing_deaf ack now c t a e x
+  writing_deaf ack now c t rests e x = refl
+  writing_deaf ack now c t (at_skip m h) e x = refl
+
+  branches_writing_deaf : {members : Processes} {ks : List Mode} (ack now : Line → Bool) (c : ℕ) → OneTurned ack now (of_channel c)
+      → (b : BranchesAt members ks) → (branches_shown b).listen c ≡ false → (x : ℕ) → branches_writing now b x ≡ branches_writing ack b x
+  branches_writing_deaf ack now c t no_more e x = refl
+  branches_writing_deaf ack now c t (and_at g b) e x =
+      ap (λ z. z || branches_writing now b x) (guarded_writing_deaf ack now c t g (neither_left ((guarded_shown g).listen c) ((branches_shown b).listen c) e) x)
+      ∙ ap (λ z. guarded_writing ack g x || z) (branches_writing_deaf ack now c t b
+      (neither_right ((guarded_shown g).listen c) ((branches_shown b).listen c) e) x)
+
+  turn_writing_deaf : {members : Processes} {m : Mode} (ack now : Line → Bool) (c : ℕ) → OneTurned ack now (of_channel c) → (z : TurnAt members m)
+      → (turn_shown z).listen c ≡ false → (x : ℕ) → turn_writing now z x ≡ turn_writing ack z x
+  turn_writing_deaf ack now c t (at_last a) e x = writing_deaf ack now c t a e x
+  turn_writing_deaf ack now c t (at_member g) e x = guarded_writing_deaf ack now c t g e x
+  turn_writing_deaf ack now c t (at_later g z h) e x = turn_writing_deaf ack now c t z e x
+  turn_writing_deaf ack now c t turn_rests e x = refl
 
 -- what is being written stands in the statement, and so does what is read
 mutual
-  pub guarded_writing_sends : {p : Process} {m : Mode} (ack : Line → Bool) (g : GuardedAt p m) (x : ℕ) → guarded_writing ack g x ≡ true → sends p (of_var x) ≡ true
+  pub guarded_writing_sends : {p : Process} {m : Mode} (ack : Line → Bool) (g : GuardedAt p m) (x : ℕ) → guarded_writing ack g x ≡ true
+      → sends p (of_var x) ≡ true
   guarded_writing_sends ack (g_in u a h) x e = writing_sends ack a x e
   guarded_writing_sends ack g_rests x e = absurd (cc e)
   guarded_writing_sends ack g_past x e = absurd (cc e)
@@ -150,23 +251,28 @@ mutual
   writing_sends : {p : Process} {m : Mode} (ack : Line → Bool) (a : At p m) (x : ℕ) → writing ack a x ≡ true → sends p (of_var x) ≡ true
   writing_sends ack (at_assign {x = y} m u h) x e = fst_true (y == x) (under_way m (ack (of_var y))) e
   writing_sends ack (at_send m u h) x e = absurd (cc e)
+  writing_sends ack (at_receive {c = c} {x = y} m l q h) x e = fst_true (y == x) (under_way m (ack (of_channel c))) e
   writing_sends ack (at_turn t) x e = turn_writing_sends ack t x e
   writing_sends ack (at_side m t b h) x e = branches_writing_sends ack b x e
   writing_sends ack (at_body a) x e = writing_sends ack a x e
   writing_sends ack rests x e = absurd (cc e)
   writing_sends ack (at_skip m h) x e = absurd (cc e)
 
-  branches_writing_sends : {members : Processes} {ks : List Mode} (ack : Line → Bool) (b : BranchesAt members ks) (x : ℕ) → branches_writing ack b x ≡ true → turn_sends members (of_var x) ≡ true
+  branches_writing_sends : {members : Processes} {ks : List Mode} (ack : Line → Bool) (b : BranchesAt members ks) (x : ℕ) → branches_writing ack b x ≡ true
+      → turn_sends members (of_var x) ≡ true
   branches_writing_sends ack no_more x e = absurd (cc e)
   branches_writing_sends ack (and_at {p = p} {more = more} g b) x e =
       either (guarded_writing ack g x) (branches_writing ack b x) e
       (λ z. or_left (sends p (of_var x)) (turn_sends more (of_var x)) (guarded_writing_sends ack g x z))
       (λ z. or_right (sends p (of_var x)) (turn_sends more (of_var x)) (branches_writing_sends ack b x z))
 
-  turn_writing_sends : {members : Processes} {m : Mode} (ack : Line → Bool) (t : TurnAt members m) (x : ℕ) → turn_writing ack t x ≡ true → turn_sends members (of_var x) ≡ true
+  turn_writing_sends : {members : Processes} {m : Mode} (ack : Line → Bool) (t : TurnAt members m) (x : ℕ) → turn_writing ack t x ≡ true
+      → turn_sends members (of_var x) ≡ true
   turn_writing_sends ack (at_last {p = p} a) x e = or_left (sends p (of_var x)) false (writing_sends ack a x e)
-  turn_writing_sends ack (at_member {p = p} {q = q} {more = more} g) x e = or_left (sends p (of_var x)) (turn_sends (and_member q more) (of_var x)) (guarded_writing_sends ack g x e)
-  turn_writing_sends ack (at_later {p = p} {q = q} {more = more} g t h) x e = or_right (sends p (of_var x)) (turn_sends (and_member q more) (of_var x)) (turn_writing_sends ack t x e)
+  turn_writing_sends ack (at_member {p = p} {q = q} {more = more} g) x e = or_left (sends p (of_var x)) (turn_sends (and_member q more) (of_var x))
+      (guarded_writing_sends ack g x e)
+  turn_writing_sends ack (at_later {p = p} {q = q} {more = more} g t h) x e = or_right (sends p (of_var x)) (turn_sends (and_member q more) (of_var x))
+      (turn_writing_sends ack t x e)
   turn_writing_sends ack turn_rests x e = absurd (cc e)
 
 mutual
@@ -179,13 +285,15 @@ mutual
   reads_uses : {p : Process} {m : Mode} (a : At p m) (x : ℕ) → (shown a).read x ≡ true → uses p x ≡ true
   reads_uses (at_assign m u h) x e = e
   reads_uses (at_send m u h) x e = e
+  reads_uses (at_receive m l q h) x e = absurd (cc e)
   reads_uses (at_turn t) x e = turn_reads_uses t x e
   reads_uses (at_side m t b h) x e = branches_read_uses b x e
   reads_uses (at_body a) x e = reads_uses a x e
   reads_uses rests x e = absurd (cc e)
   reads_uses (at_skip m h) x e = absurd (cc e)
 
-  branches_read_uses : {members : Processes} {ks : List Mode} (b : BranchesAt members ks) (x : ℕ) → (branches_shown b).read x ≡ true → each_uses members x ≡ true
+  branches_read_uses : {members : Processes} {ks : List Mode} (b : BranchesAt members ks) (x : ℕ) → (branches_shown b).read x ≡ true
+      → each_uses members x ≡ true
   branches_read_uses no_more x e = absurd (cc e)
   branches_read_uses (and_at {p = p} {more = more} g b) x e =
       either ((guarded_shown g).read x) ((branches_shown b).read x) e
@@ -200,22 +308,27 @@ mutual
 
 -- what is being written isn't read
 mutual
-  pub guarded_writing_unread : (P : TypedProgram) {p : Process} {m : Mode} (ack : Line → Bool) (g : GuardedAt p m) → Meets P p → (x : ℕ) → guarded_writing ack g x ≡ true → (guarded_shown g).read x ≡ false
+  pub guarded_writing_unread : (P : TypedProgram) {p : Process} {m : Mode} (ack : Line → Bool) (g : GuardedAt p m) → Meets P p → (x : ℕ)
+      → guarded_writing ack g x ≡ true → (guarded_shown g).read x ≡ false
   guarded_writing_unread P ack (g_in u a h) meets x e = writing_unread P ack a meets x e
   guarded_writing_unread P ack g_rests meets x e = refl
   guarded_writing_unread P ack g_past meets x e = refl
   guarded_writing_unread P ack (g_back u) meets x e = refl
 
-  writing_unread : (P : TypedProgram) {p : Process} {m : Mode} (ack : Line → Bool) (a : At p m) → Meets P p → (x : ℕ) → writing ack a x ≡ true → (shown a).read x ≡ false
-  writing_unread P ack (at_assign {x = y} {e = d} m u h) meets x e = ap (λ n. reads n d) (sym (same_number y x (fst_true (y == x) (under_way m (ack (of_var y))) e))) ∙ meets.plain
+  writing_unread : (P : TypedProgram) {p : Process} {m : Mode} (ack : Line → Bool) (a : At p m) → Meets P p → (x : ℕ) → writing ack a x ≡ true
+      → (shown a).read x ≡ false
+  writing_unread P ack (at_assign {x = y} {e = d} m u h) meets x e = ap (λ n. reads n d)
+      (sym (same_number y x (fst_true (y == x) (under_way m (ack (of_var y))) e))) ∙ meets.plain
   writing_unread P ack (at_send m u h) meets x e = absurd (cc e)
+  writing_unread P ack (at_receive m l q h) meets x e = refl
   writing_unread P ack (at_turn t) meets x e = turn_writing_unread P ack t meets x e
   writing_unread P ack (at_side m t b h) meets x e = branches_writing_unread P ack b meets.2 x e
   writing_unread P ack (at_body a) meets x e = writing_unread P ack a meets x e
   writing_unread P ack rests meets x e = refl
   writing_unread P ack (at_skip m h) meets x e = refl
 
-  branches_writing_unread : (P : TypedProgram) {members : Processes} {ks : List Mode} (ack : Line → Bool) (b : BranchesAt members ks) → EachMeets P members → (x : ℕ) → branches_writing ack b x ≡ true → (branches_shown b).read x ≡ false
+  branches_writing_unread : (P : TypedProgram) {members : Processes} {ks : List Mode} (ack : Line → Bool) (b : BranchesAt members ks) → EachMeets P members
+      → (x : ℕ) → branches_writing ack b x ≡ true → (branches_shown b).read x ≡ false
   branches_writing_unread P ack no_more meets x e = refl
   branches_writing_unread P ack (and_at {p = p} {more = more} g b) meets x e =
       either (guarded_writing ack g x) (branches_writing ack b x) e
@@ -228,7 +341,8 @@ mutual
       no_use true f h = absurd (cc (f refl, h))
       no_use false f h = refl
 
-  turn_writing_unread : (P : TypedProgram) {members : Processes} {m : Mode} (ack : Line → Bool) (t : TurnAt members m) → TurnMeets P members → (x : ℕ) → turn_writing ack t x ≡ true → (turn_shown t).read x ≡ false
+  turn_writing_unread : (P : TypedProgram) {members : Processes} {m : Mode} (ack : Line → Bool) (t : TurnAt members m) → TurnMeets P members → (x : ℕ)
+      → turn_writing ack t x ≡ true → (turn_shown t).read x ≡ false
   turn_writing_unread P ack (at_last a) meets x e = writing_unread P ack a meets x e
   turn_writing_unread P ack (at_member g) meets x e = guarded_writing_unread P ack g meets.0 x e
   turn_writing_unread P ack (at_later g t h) meets x e = turn_writing_unread P ack t meets.1 x e
@@ -239,7 +353,8 @@ pub number_told : (n : ℕ) (rail : Rails) (v : ℕ) → value_on n rail ≡ Som
 number_told zero rail v e = cc e
 number_told (suc n) rail v e = by (rail zero true) (rail zero false) (value_on n (λ i. rail (suc i))) (λ k h. number_told n (λ i. rail (suc i)) k h) refl e
   where
-    by : (t f : Bool) (r : Option ℕ) → ((k : ℕ) → value_on n (λ i. rail (suc i)) ≡ Some k → number_on n (λ i. rail (suc i)) ≡ k) → value_on n (λ i. rail (suc i)) ≡ r → with_bit (bit_value t f) r ≡ Some v → one_if t + 2 * number_on n (λ i. rail (suc i)) ≡ v
+    by : (t f : Bool) (r : Option ℕ) → ((k : ℕ) → value_on n (λ i. rail (suc i)) ≡ Some k → number_on n (λ i. rail (suc i)) ≡ k)
+        → value_on n (λ i. rail (suc i)) ≡ r → with_bit (bit_value t f) r ≡ Some v → one_if t + 2 * number_on n (λ i. rail (suc i)) ≡ v
     by true false (Some k) g h e = ap (λ z. 1 + 2 * z) (g k h) ∙ some_is e
       where
         some_is : Some (1 + 2 * k) ≡ Some v → 1 + 2 * k ≡ v
@@ -267,11 +382,12 @@ halves v false h = even_is h
     even_is : (v % 2 == 1) ≡ false → 0 + 2 * (v / 2) ≡ v
     even_is e = grind arith
 
-first_number : (n v : ℕ) → v < 2 ^ n → number_on n (first_bit n v) ≡ v
+pub first_number : (n v : ℕ) → v < 2 ^ n → number_on n (number_rail n v) ≡ v
 first_number zero v h = omega (arith, h)
 first_number (suc n) v h = ap (λ z. one_if (same_bit (is_odd v) true) + 2 * z) (first_number n (v / 2) (half_below v n h)) ∙ halves v (is_odd v) refl
 
-pub first_numbers : (vars : List Var) → All IsSizedVar vars → (x : ℕ) → x < length vars → number_on (var_width vars x) (first_bits vars x) ≡ slice_index (map (λ (v : Var). v.first) vars) x
+pub first_numbers : (vars : List Var) → All IsSizedVar vars → (x : ℕ) → x < length vars
+    → number_on (var_width vars x) (first_bits vars x) ≡ slice_index (map (λ (v : Var). v.first) vars) x
 first_numbers [] each x less = absurd (let g : ⊥ = omega (arith, less) in g)
 first_numbers (v ∷ vs) each zero less = first_number v.width v.first (All-head IsSizedVar v vs each).first
 first_numbers (v ∷ vs) each (suc x) less = first_numbers vs (All-tail IsSizedVar v vs each) x (let g : x < length vs = omega (arith, less) in g)

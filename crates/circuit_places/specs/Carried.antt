@@ -13,12 +13,18 @@ use Rattle.circuit_places.specs.Covered.{Covered}
 
 -- no move takes away another that is enabled, no node is pulled both ways, and each channel keeps its phases
 pub record IsSafe (P : TypedProgram) (script : List OfferValue) (x : Whole P.body) : Type 0 where
-  pub stable : (n m : Node P.body) → n ≢ m → enabled P script x n ≡ true → enabled P script x m ≡ true → enabled P script (moved P x m) n ≡ true
+  pub stable : (n m : Node P.body) → n ≢ m → enabled P script x n ≡ true → enabled P script x m ≡ true
+      → enabled P script (moved P x m) n ≡ true
   pub apart : (n : Node P.body) → is_apart (rule_in P x n) ≡ true
-  pub rail_up : (k i : ℕ) (one : Bool) → x.wires.rail (of_channel k) i one ≡ false → enabled P script x (rail_node (of_channel k) i one) ≡ true → (x.wires.ack k ≡ false) × (x.wires.rail (of_channel k) i (not one) ≡ false)
-  pub rail_down : (k i : ℕ) (one : Bool) → x.wires.rail (of_channel k) i one ≡ true → enabled P script x (rail_node (of_channel k) i one) ≡ true → x.wires.ack k ≡ true
-  pub ack_up : (k : ℕ) → x.wires.ack k ≡ false → enabled P script x (ack_node k) ≡ true → is_some (value_on (channel_width P.channels k) (x.wires.rail (of_channel k))) ≡ true
-  pub ack_down : (k : ℕ) → x.wires.ack k ≡ true → enabled P script x (ack_node k) ≡ true → neutral_on (channel_width P.channels k) (x.wires.rail (of_channel k)) ≡ true
+  pub rail_up : (k i : ℕ) (one : Bool) → x.wires.rail (of_channel k) i one ≡ false
+      → enabled P script x (rail_node (of_channel k) i one) ≡ true
+      → (x.wires.ack k ≡ false) × (x.wires.rail (of_channel k) i (not one) ≡ false)
+  pub rail_down : (k i : ℕ) (one : Bool) → x.wires.rail (of_channel k) i one ≡ true
+      → enabled P script x (rail_node (of_channel k) i one) ≡ true → x.wires.ack k ≡ true
+  pub ack_up : (k : ℕ) → x.wires.ack k ≡ false → enabled P script x (ack_node k) ≡ true
+      → is_some (value_on (channel_width P.channels k) (x.wires.rail (of_channel k))) ≡ true
+  pub ack_down : (k : ℕ) → x.wires.ack k ≡ true → enabled P script x (ack_node k) ≡ true
+      → neutral_on (channel_width P.channels k) (x.wires.rail (of_channel k)) ≡ true
 
 -- no node's move is enabled
 abbrev pub IsAtRest : (P : TypedProgram) → List OfferValue → Whole P.body → Type 0
@@ -41,7 +47,8 @@ pub record IsCarried (P : TypedProgram) (script : List OfferValue) (moves : ℕ)
   pub rest : IsAtRest P script x → IsSettled P x to
 
 abbrev pub Carries : TypedProgram → Type 0
-Carries P = (script : List OfferValue) → IsScript P.channels script → (moves : ℕ) (x : Whole P.body) → Reaches P script moves x → IsCarried P script moves x
+Carries P = (script : List OfferValue) → IsScript P.channels script → (moves : ℕ) (x : Whole P.body)
+    → Reaches P script moves x → IsCarried P script moves x
 
 -- each covered program's circuit carries it
 abbrev pub CircuitsCarry : Type 0

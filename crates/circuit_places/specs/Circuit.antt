@@ -1,6 +1,6 @@
--- The circuit of a process as a tree of cells: the values of its own nodes, and the rule of each. A node here has a spot
--- in the tree and no number.
-use Rattle.std.specs.Prelude.{ℕ, zero, suc, ◌-◌, Bool, true, false, not, nat_lt, ◌&&◌, if◌then◌else◌, List, [], ◌∷◌, ◌++◌, length, slice_index_or}
+-- The circuit of a process as a tree of cells: the values of its own nodes, and the rule of each. A node here has a
+-- spot in the tree and no number.
+use Rattle.std.specs.Prelude.{ℕ, zero, suc, ◌-◌, ◌==◌, Bool, true, false, not, nat_lt, ◌&&◌, if◌then◌else◌, List, [], ◌∷◌, ◌++◌, length, slice_index_or}
 use Rattle.std.specs.List.{range_with_len}
 use Rattle.prs_core.specs.Nets.{NodeRules}
 use Rattle.prs_core.specs.Moves.{guard_holds}
@@ -10,7 +10,9 @@ pub use Rattle.function_blocks.specs.Rails.{Pair, side_of, Pairs, low_pairs, tur
 pub use Rattle.function_blocks.specs.Parts.{gate_count}
 pub use Rattle.function_blocks.specs.Waves.{gate_rule, out_rail}
 use Rattle.circuit_places.specs.Lines.{Line, of_channel, of_var, same_line, Rails, Seen}
-use Rattle.width_check.specs.Processes.{Formula, Process, skipping, assigning, sending, in_turn, side_by_side, repeating, Processes, no_members, and_member, member_count}
+use Rattle.chp_base.specs.declared.channel.Channel.{Channel}
+use Rattle.width_check.specs.Typing.{channel_width}
+use Rattle.width_check.specs.Processes.{Formula, Process, skipping, assigning, sending, receiving, in_turn, side_by_side, repeating, Processes, no_members, and_member, member_count}
 
 -- A Q-element's child request, latch and next request, round its child.
 pub record Guarded (A : Type 0) : Type 0 where
@@ -23,6 +25,12 @@ pub record Guarded (A : Type 0) : Type 0 where
 pub record Site (n : ℕ) : Type 0 where
   pub answer : Bool
   pub gates : Pairs n
+
+-- a receive's answer, the node that says that it has stored, and the rails that it has taken over
+pub record Port : Type 0 where
+  pub answer : Bool
+  pub kept : Bool
+  pub taken : Rails
 
 -- a loop's answer and its body's request, round its body
 pub record Ring (A : Type 0) : Type 0 where
@@ -56,6 +64,7 @@ abbrev mutual
   Cells skipping = Bool
   Cells (assigning x at e) = Site (gate_count e)
   Cells (sending chan at e) = Site (gate_count e)
+  Cells (receiving chan at x to) = Port
   Cells (in_turn members) = TurnCells members
   Cells (side_by_side members) = Sides (BranchCells members) (joint_count (member_count members))
   Cells (repeating p) = Ring (Cells p)
@@ -90,14 +99,19 @@ low_guarded x = record { child = false; latch = false; next = false; inner = x }
 abbrev pub low_site : (e : Formula) → Site (gate_count e)
 low_site e = record { answer = false; gates = low_pairs (gate_count e) }
 
+abbrev pub low_port : Port
+low_port = record { answer = false; kept = false; taken = λ i one. false }
+
 -- all of them low
 abbrev mutual
   pub low : (p : Process) → Cells p
   low skipping = false
   low (assigning x at e) = low_site e
   low (sending chan at e) = low_site e
+  low (receiving chan at x to) = low_port
   low (in_turn members) = low_turn members
-  low (side_by_side members) = record { branches = low_branches members; tree = low_bits (joint_count (member_count members)) }
+  low (side_by_side members) =
+      record { branches = low_branches members; tree = low_bits (joint_count (member_count members)) }
   low (repeating p) = record { answer = false; ask = false; inner = low p }
   low _ = tt
 
@@ -108,7 +122,8 @@ abbrev mutual
   pub low_turn : (members : Processes) → TurnCells members
   low_turn no_members = tt
   low_turn (and_member p no_members) = low p
-  low_turn (and_member p (and_member q more)) = record { member = low_guarded (low p); later = low_turn (and_member q more) }
+  low_turn (and_member p (and_member q more)) =
+      record { member = low_guarded (low p); later = low_turn (and_member q more) }
 
 -- the ends of branches, their Q-elements' next requests
 abbrev pub branch_ends : (members : Processes) → BranchCells members → ℕ → Bool
@@ -116,8 +131,8 @@ branch_ends no_members x i = false
 branch_ends (and_member p more) x zero = x.0.next
 branch_ends (and_member p more) x (suc i) = branch_ends more x.1 i
 
--- A completion tree over the nodes 0 .. n - 1, whose own nodes are numbered from n on: all values, the one of its top, and
--- the rules of its k-th node.
+-- A completion tree over the nodes 0 .. n - 1, whose own nodes are numbered from n on: all values, the one of its top,
+-- and the rules of its k-th node.
 abbrev pub tree_value : (n : ℕ) → (leaf node : ℕ → Bool) → ℕ → Bool
 tree_value n leaf node k = if nat_lt k n then leaf k else node (k - n)
 
@@ -133,8 +148,11 @@ abbrev mutual
   answer skipping x = x
   answer (assigning y at e) x = x.answer
   answer (sending chan at e) x = x.answer
+  answer (receiving chan at y to) x = x.answer
   answer (in_turn members) x = turn_answer members x
-  answer (side_by_side members) x = tree_answer (member_count members) (branch_ends members x.branches) (bit_at (joint_count (member_count members)) x.tree)
+  answer (side_by_side members) x =
+      let n = member_count members in
+      tree_answer n (branch_ends members x.branches) (bit_at (joint_count n) x.tree)
   answer (repeating p) x = x.answer
   answer _ x = false
 
@@ -148,6 +166,11 @@ pub data SiteSpot (e : Formula) : Type 0 where
   done : SiteSpot e
   gate : (k : ℕ) (one : Bool) → SiteSpot e
 
+-- and those of a receive its answer, the node that says that it has stored, and the rails that it takes over
+pub data PortSpot : Type 0 where
+  heard stored : PortSpot
+  taking : (bit : ℕ) (one : Bool) → PortSpot
+
 mutual
   pub data GuardedSpot : Process → Type 0 where
     child latch next : {p : Process} → GuardedSpot p
@@ -157,6 +180,7 @@ mutual
     of_skip : Spot skipping
     of_assign : {x : ℕ} {at : Span} {e : Formula} → SiteSpot e → Spot (assigning x at e)
     of_send : {chan : ℕ} {at : Span} {e : Formula} → SiteSpot e → Spot (sending chan at e)
+    of_receive : {chan x : ℕ} {at to : Span} → PortSpot → Spot (receiving chan at x to)
     in_members : {members : Processes} → TurnSpot members → Spot (in_turn members)
     of_branch : {members : Processes} → BranchSpot members → Spot (side_by_side members)
     joint : {members : Processes} (k : ℕ) → Spot (side_by_side members)
@@ -170,44 +194,58 @@ mutual
   pub data TurnSpot : Processes → Type 0 where
     in_last : {p : Process} → Spot p → TurnSpot (and_member p no_members)
     in_member : {p q : Process} {more : Processes} → GuardedSpot p → TurnSpot (and_member p (and_member q more))
-    in_later : {p q : Process} {more : Processes} → TurnSpot (and_member q more) → TurnSpot (and_member p (and_member q more))
+    in_later : {p q : Process} {more : Processes} → TurnSpot (and_member q more)
+        → TurnSpot (and_member p (and_member q more))
 
--- A gate's spot stands for a node where the expression has that gate, and one in a tree where the tree has that node; each
--- other spot does.
+-- A gate's spot stands for a node where the expression has that gate, a rail's that is taken over where the channel has
+-- it, and one in a tree where the tree has that node; each other spot does.
 abbrev pub site_stands : {e : Formula} → SiteSpot e → Bool
 site_stands done = true
 site_stands {e = e} (gate k one) = nat_lt k (gate_count e)
 
+abbrev pub port_stands : (width : ℕ) → PortSpot → Bool
+port_stands width (taking i one) = nat_lt i width
+port_stands width _ = true
+
 abbrev mutual
-  pub guarded_stands : {p : Process} → GuardedSpot p → Bool
-  guarded_stands (inner s) = stands s
-  guarded_stands _ = true
+  pub guarded_stands : {p : Process} → List Channel → GuardedSpot p → Bool
+  guarded_stands cs (inner s) = stands cs s
+  guarded_stands cs _ = true
 
-  pub stands : {p : Process} → Spot p → Bool
-  stands (of_assign s) = site_stands s
-  stands (of_send s) = site_stands s
-  stands (in_members s) = turn_stands s
-  stands (of_branch s) = branch_stands s
-  stands (joint {members = members} k) = nat_lt k (joint_count (member_count members))
-  stands (in_body s) = stands s
-  stands _ = true
+  pub stands : {p : Process} → List Channel → Spot p → Bool
+  stands cs (of_assign s) = site_stands s
+  stands cs (of_send s) = site_stands s
+  stands cs (of_receive {chan = c} s) = port_stands (channel_width cs c) s
+  stands cs (in_members s) = turn_stands cs s
+  stands cs (of_branch s) = branch_stands cs s
+  stands cs (joint {members = members} k) = nat_lt k (joint_count (member_count members))
+  stands cs (in_body s) = stands cs s
+  stands cs _ = true
 
-  pub branch_stands : {members : Processes} → BranchSpot members → Bool
-  branch_stands (in_this s) = guarded_stands s
-  branch_stands (in_others s) = branch_stands s
+  pub branch_stands : {members : Processes} → List Channel → BranchSpot members → Bool
+  branch_stands cs (in_this s) = guarded_stands cs s
+  branch_stands cs (in_others s) = branch_stands cs s
 
-  pub turn_stands : {members : Processes} → TurnSpot members → Bool
-  turn_stands (in_last s) = stands s
-  turn_stands (in_member s) = guarded_stands s
-  turn_stands (in_later s) = turn_stands s
+  pub turn_stands : {members : Processes} → List Channel → TurnSpot members → Bool
+  turn_stands cs (in_last s) = stands cs s
+  turn_stands cs (in_member s) = guarded_stands cs s
+  turn_stands cs (in_later s) = turn_stands cs s
 
 -- a node of a completion tree
 abbrev pub tree_rule : (n : ℕ) → (leaf node : ℕ → Bool) → ℕ → Rule
-tree_rule n leaf node k = rule_of (node k) (guard_holds (tree_value n leaf node) (tree_node n k).up) (guard_holds (tree_value n leaf node) (tree_node n k).down)
+tree_rule n leaf node k =
+    let v = tree_value n leaf node in
+    rule_of (node k) (guard_holds v (tree_node n k).up) (guard_holds v (tree_node n k).down)
 
 abbrev pub site_rule : (e : Formula) → (bits : ℕ → Rails) → (ack r : Bool) → Site (gate_count e) → SiteSpot e → Rule
 site_rule e bits ack r x done = rule_of x.answer (r && ack) (not ack)
 site_rule e bits ack r x (gate k one) = gate_rule e bits r x.gates k one
+
+-- of a receive on X into x
+abbrev pub port_rule : (rail : Rails) → (ack va r : Bool) → Port → PortSpot → Rule
+port_rule rail ack va r x heard = rule_of x.answer (r && ack) (not ack)
+port_rule rail ack va r x stored = rule_of x.kept (r && va) (not va)
+port_rule rail ack va r x (taking i one) = rule_of (x.taken i one) (r && rail i one) (not r && not (rail i one))
 
 -- The rules of the own nodes (Martin; Burns and Martin), under the request's value r:
 --   Q-element, child answer d   d -> u+          ~r -> u-
@@ -215,6 +253,9 @@ site_rule e bits ack r x (gate k one) = gate_rule e bits r x.gates k one
 --                               u & ~d -> b+     ~u -> b-
 --   skip                        r -> a+          ~r -> a-
 --   site of a line L            r & L.a -> a+    ~L.a -> a-
+--   receive on X into x         r & X.a -> a+    ~X.a -> a-
+--     stored                    r & va -> k+     ~va -> k-
+--     each rail X.t             r & X.t -> q+    ~r & ~X.t -> q-
 --   branches side by side       each Q-element under r; the tree over their next requests
 --   loop, body answer la        r & ~la -> lr+   la -> lr-     and none for its answer
 abbrev mutual
@@ -228,9 +269,13 @@ abbrev mutual
   rule skipping w r x of_skip = rule_of x r (not r)
   rule (assigning y at e) w r x (of_assign s) = site_rule e w.bit (w.ack (of_var y)) r x s
   rule (sending chan at e) w r x (of_send s) = site_rule e w.bit (w.ack (of_channel chan)) r x s
+  rule (receiving chan at y to) w r x (of_receive s) =
+      port_rule (w.rail (of_channel chan)) (w.ack (of_channel chan)) (w.ack (of_var y)) r x s
   rule (in_turn members) w r x (in_members s) = turn_rule members w r x s
   rule (side_by_side members) w r x (of_branch s) = branch_rule members w r x.branches s
-  rule (side_by_side members) w r x (joint k) = tree_rule (member_count members) (branch_ends members x.branches) (bit_at (joint_count (member_count members)) x.tree) k
+  rule (side_by_side members) w r x (joint k) =
+      let n = member_count members in
+      tree_rule n (branch_ends members x.branches) (bit_at (joint_count n) x.tree) k
   rule (repeating p) w r x of_loop = no_rule x.answer
   rule (repeating p) w r x ask = rule_of x.ask (r && not (answer p x.inner)) (answer p x.inner)
   rule (repeating p) w r x (in_body s) = rule p w x.ask x.inner s
@@ -246,11 +291,21 @@ abbrev mutual
   turn_rule no_members w r x s = no_rule false
   turn_rule (and_member p no_members) w r x (in_last s) = rule p w r x s
   turn_rule (and_member p (and_member q more)) w r x (in_member s) = guarded_rule p w r x.member s
-  turn_rule (and_member p (and_member q more)) w r x (in_later s) = turn_rule (and_member q more) w x.member.next x.later s
+  turn_rule (and_member p (and_member q more)) w r x (in_later s) =
+      turn_rule (and_member q more) w x.member.next x.later s
 
 abbrev pub turned_site : (e : Formula) → Site (gate_count e) → SiteSpot e → Site (gate_count e)
 turned_site e x done = record x { answer = not x.answer }
 turned_site e x (gate k one) = record x { gates = turned_pairs (gate_count e) x.gates k one }
+
+-- rails with this one turned over
+abbrev pub rails_turned : Rails → ℕ → Bool → Rails
+rails_turned rail i one j side = if (j == i) && same_bit side one then not (rail i one) else rail j side
+
+abbrev pub turned_port : Port → PortSpot → Port
+turned_port x heard = record x { answer = not x.answer }
+turned_port x stored = record x { kept = not x.kept }
+turned_port x (taking i one) = record x { taken = rails_turned x.taken i one }
 
 -- the cells with one node turned over
 abbrev mutual
@@ -264,9 +319,11 @@ abbrev mutual
   turned skipping x of_skip = not x
   turned (assigning y at e) x (of_assign s) = turned_site e x s
   turned (sending chan at e) x (of_send s) = turned_site e x s
+  turned (receiving chan at y to) x (of_receive s) = turned_port x s
   turned (in_turn members) x (in_members s) = turned_turn members x s
   turned (side_by_side members) x (of_branch s) = record x { branches = turned_branches members x.branches s }
-  turned (side_by_side members) x (joint k) = record x { tree = turned_bits (joint_count (member_count members)) x.tree k }
+  turned (side_by_side members) x (joint k) =
+      record x { tree = turned_bits (joint_count (member_count members)) x.tree k }
   turned (repeating p) x of_loop = record x { answer = not x.answer }
   turned (repeating p) x ask = record x { ask = not x.ask }
   turned (repeating p) x (in_body s) = record x { inner = turned p x.inner s }
@@ -281,18 +338,24 @@ abbrev mutual
   turned_turn no_members x s = x
   turned_turn (and_member p no_members) x (in_last s) = turned p x s
   turned_turn (and_member p (and_member q more)) x (in_member s) = record x { member = turned_guarded p x.member s }
-  turned_turn (and_member p (and_member q more)) x (in_later s) = record x { later = turned_turn (and_member q more) x.later s }
+  turned_turn (and_member p (and_member q more)) x (in_later s) =
+      record x { later = turned_turn (and_member q more) x.later s }
 
 -- the rail of a site's value, if the site is the line's
 abbrev pub rails_of_site : (own : Bool) → (e : Formula) → Site (gate_count e) → (bit : ℕ) → Bool → List Bool
 rails_of_site true e x i one = out_rail e x.gates i one ∷ []
 rails_of_site false e x i one = []
 
--- this rail of each of the line's sites, in the order of the text
+abbrev pub rails_of_port : (own : Bool) → Port → (bit : ℕ) → Bool → List Bool
+rails_of_port true x i one = x.taken i one ∷ []
+rails_of_port false x i one = []
+
+-- this rail of each of the line's sites, in the order of the text; a receive is a site of its variable
 abbrev mutual
   pub site_rails : (p : Process) → Cells p → Line → (bit : ℕ) → Bool → List Bool
   site_rails (assigning y at e) x k i one = rails_of_site (same_line (of_var y) k) e x i one
   site_rails (sending chan at e) x k i one = rails_of_site (same_line (of_channel chan) k) e x i one
+  site_rails (receiving chan at y to) x k i one = rails_of_port (same_line (of_var y) k) x i one
   site_rails (in_turn members) x k i one = turn_rails members x k i one
   site_rails (side_by_side members) x k i one = branch_rails members x.branches k i one
   site_rails (repeating p) x k i one = site_rails p x.inner k i one
@@ -305,4 +368,28 @@ abbrev mutual
   pub turn_rails : (members : Processes) → TurnCells members → Line → (bit : ℕ) → Bool → List Bool
   turn_rails no_members x k i one = []
   turn_rails (and_member p no_members) x k i one = site_rails p x k i one
-  turn_rails (and_member p (and_member q more)) x k i one = site_rails p x.member.inner k i one ++ turn_rails (and_member q more) x.later k i one
+  turn_rails (and_member p (and_member q more)) x k i one =
+      site_rails p x.member.inner k i one ++ turn_rails (and_member q more) x.later k i one
+
+-- the nodes that say that a receive on the channel has stored, in the order of the text
+abbrev pub takers_of_port : (own : Bool) → Port → List Bool
+takers_of_port true x = x.kept ∷ []
+takers_of_port false x = []
+
+abbrev mutual
+  pub takers : (p : Process) → Cells p → (chan : ℕ) → List Bool
+  takers (receiving chan at y to) x c = takers_of_port (chan == c) x
+  takers (in_turn members) x c = turn_takers members x c
+  takers (side_by_side members) x c = branch_takers members x.branches c
+  takers (repeating p) x c = takers p x.inner c
+  takers _ x c = []
+
+  pub branch_takers : (members : Processes) → BranchCells members → (chan : ℕ) → List Bool
+  branch_takers no_members x c = []
+  branch_takers (and_member p more) x c = takers p x.0.inner c ++ branch_takers more x.1 c
+
+  pub turn_takers : (members : Processes) → TurnCells members → (chan : ℕ) → List Bool
+  turn_takers no_members x c = []
+  turn_takers (and_member p no_members) x c = takers p x c
+  turn_takers (and_member p (and_member q more)) x c =
+      takers p x.member.inner c ++ turn_takers (and_member q more) x.later c

@@ -11,8 +11,6 @@ mod phases;
 mod reader;
 mod script;
 mod step;
-#[cfg(test)]
-mod tests;
 mod words;
 
 pub use environment::env_enabled;

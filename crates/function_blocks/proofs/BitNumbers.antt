@@ -58,12 +58,16 @@ bit_first x n = bit_at_lowest (one_if x + 2 * n) ∙ low_bit x n
 bit_next : (x : Bool) (n i : ℕ) → bit_at (one_if x + 2 * n) (suc i) ≡ bit_at n i
 bit_next x n i = bit_at-suc (one_if x + 2 * n) i ∙ ap (λ z. bit_at z i) (high_bits x n)
 
-zipped_bits : (f : List Bool → Bool) (g : ℕ → ℕ → ℕ) → ((x y : Bool) → one_if (f (x ∷ y ∷ [])) ≡ g (one_if x) (one_if y)) → g 0 0 ≡ 0 → (xs ys : List Bool) → length ys ≡ length xs → (i : ℕ) → bit_at (number_of (zipped f xs ys)) i ≡ g (bit_at (number_of xs) i) (bit_at (number_of ys) i)
+zipped_bits : (f : List Bool → Bool) (g : ℕ → ℕ → ℕ) → ((x y : Bool) → one_if (f (x ∷ y ∷ [])) ≡ g (one_if x) (one_if y)) → g 0 0 ≡ 0 → (xs ys : List Bool)
+    → length ys ≡ length xs → (i : ℕ) → bit_at (number_of (zipped f xs ys)) i ≡ g (bit_at (number_of xs) i) (bit_at (number_of ys) i)
 zipped_bits f g h z [] [] e i = bit_at-zero i ∙ (sym z ∙ (ap (λ k. g k 0) (sym (bit_at-zero i)) ∙ ap (g (bit_at 0 i)) (sym (bit_at-zero i))))
 zipped_bits f g h z [] (y ∷ ys) e i = absurd (omega (arith, e))
 zipped_bits f g h z (x ∷ xs) [] e i = absurd (omega (arith, e))
-zipped_bits f g h z (x ∷ xs) (y ∷ ys) e zero = bit_first (f (x ∷ y ∷ [])) (number_of (zipped f xs ys)) ∙ (h x y ∙ (ap (λ k. g k (one_if y)) (sym (bit_first x (number_of xs))) ∙ ap (g (bit_at (number_of (x ∷ xs)) 0)) (sym (bit_first y (number_of ys)))))
-zipped_bits f g h z (x ∷ xs) (y ∷ ys) e (suc i) = bit_next (f (x ∷ y ∷ [])) (number_of (zipped f xs ys)) i ∙ (zipped_bits f g h z xs ys (omega (arith, e)) i ∙ (ap (λ k. g k (bit_at (number_of ys) i)) (sym (bit_next x (number_of xs) i)) ∙ ap (g (bit_at (number_of (x ∷ xs)) (suc i))) (sym (bit_next y (number_of ys) i))))
+zipped_bits f g h z (x ∷ xs) (y ∷ ys) e zero = bit_first (f (x ∷ y ∷ [])) (number_of (zipped f xs ys))
+    ∙ (h x y ∙ (ap (λ k. g k (one_if y)) (sym (bit_first x (number_of xs))) ∙ ap (g (bit_at (number_of (x ∷ xs)) 0)) (sym (bit_first y (number_of ys)))))
+zipped_bits f g h z (x ∷ xs) (y ∷ ys) e (suc i) = bit_next (f (x ∷ y ∷ [])) (number_of (zipped f xs ys)) i
+    ∙ (zipped_bits f g h z xs ys (omega (arith, e)) i ∙ (ap (λ k. g k (bit_at (number_of ys) i)) (sym (bit_next x (number_of xs) i))
+    ∙ ap (g (bit_at (number_of (x ∷ xs)) (suc i))) (sym (bit_next y (number_of ys) i))))
 
 pub and_number : (xs ys : List Bool) → length ys ≡ length xs → number_of (zipped all_one xs ys) ≡ bit_and (number_of xs) (number_of ys)
 and_number xs ys e = same_from_bits _ _ (λ i. zipped_bits all_one min table refl xs ys e i ∙ sym (bit_at_and (number_of xs) (number_of ys) i))
@@ -127,10 +131,12 @@ borrow_first true false = refl
 borrow_first false true = refl
 borrow_first false false = refl
 
-ripple_first : (k : List Bool → Bool) → ((x y : Bool) → k (x ∷ y ∷ []) ≡ k (x ∷ y ∷ false ∷ [])) → (xs ys : List Bool) → ripple_bits k xs ys [] ≡ ripple_bits k xs ys (false ∷ [])
+ripple_first : (k : List Bool → Bool) → ((x y : Bool) → k (x ∷ y ∷ []) ≡ k (x ∷ y ∷ false ∷ [])) → (xs ys : List Bool)
+    → ripple_bits k xs ys [] ≡ ripple_bits k xs ys (false ∷ [])
 ripple_first k f [] ys = refl
 ripple_first k f (x ∷ xs) [] = refl
-ripple_first k f (x ∷ xs) (y ∷ ys) = ap (λ b. b ∷ ripple_bits k xs ys (k (x ∷ y ∷ []) ∷ [])) (odd_first x y) ∙ ap (λ b. odd_ones (x ∷ y ∷ false ∷ []) ∷ ripple_bits k xs ys (b ∷ [])) (f x y)
+ripple_first k f (x ∷ xs) (y ∷ ys) =
+    ap (λ b. b ∷ ripple_bits k xs ys (k (x ∷ y ∷ []) ∷ [])) (odd_first x y) ∙ ap (λ b. odd_ones (x ∷ y ∷ false ∷ []) ∷ ripple_bits k xs ys (b ∷ [])) (f x y)
 
 one_sum : (x y c : Bool) → one_if (odd_ones (x ∷ y ∷ c ∷ [])) + 2 * one_if (carries (x ∷ y ∷ c ∷ [])) ≡ one_if x + one_if y + one_if c
 one_sum true true true = refl
@@ -152,7 +158,8 @@ one_difference false true false = refl
 one_difference false false true = refl
 one_difference false false false = refl
 
-sum_is : (c : Bool) (xs ys : List Bool) → length ys ≡ length xs → number_of (ripple_bits carries xs ys (c ∷ [])) + 2 ^ length xs * one_if (last_of carries c xs ys) ≡ number_of xs + number_of ys + one_if c
+sum_is : (c : Bool) (xs ys : List Bool) → length ys ≡ length xs → number_of (ripple_bits carries xs ys (c ∷ [])) + 2 ^ length xs * one_if
+    (last_of carries c xs ys) ≡ number_of xs + number_of ys + one_if c
 sum_is c [] [] e = omega arith
 sum_is c [] (y ∷ ys) e = absurd (omega arith)
 sum_is c (x ∷ xs) [] e = absurd (omega arith)
@@ -160,7 +167,8 @@ sum_is c (x ∷ xs) (y ∷ ys) e =
     let k = carries (x ∷ y ∷ c ∷ []) in
     omega (arith, sum_is k xs ys (omega arith), one_sum x y c, doubled (length xs) (one_if (last_of carries k xs ys)))
 
-difference_is : (c : Bool) (xs ys : List Bool) → length ys ≡ length xs → number_of (ripple_bits borrows xs ys (c ∷ [])) + number_of ys + one_if c ≡ number_of xs + 2 ^ length xs * one_if (last_of borrows c xs ys)
+difference_is : (c : Bool) (xs ys : List Bool) → length ys ≡ length xs
+    → number_of (ripple_bits borrows xs ys (c ∷ [])) + number_of ys + one_if c ≡ number_of xs + 2 ^ length xs * one_if (last_of borrows c xs ys)
 difference_is c [] [] e = omega arith
 difference_is c [] (y ∷ ys) e = absurd (omega arith)
 difference_is c (x ∷ xs) [] e = absurd (omega arith)
@@ -176,18 +184,21 @@ pub sum_number : (xs ys : List Bool) → length ys ≡ length xs → number_of (
 sum_number xs ys e =
     let v = ripple_bits carries xs ys (false ∷ []) in
     let lt : number_of v < 2 ^ length xs = rw (← ripple_length carries xs ys (false ∷ []) e) (number_below v) in
-    ap number_of (ripple_first carries carry_first xs ys) ∙ rest_is (number_of v) (2 ^ length xs) (one_if (last_of carries false xs ys)) (number_of xs + number_of ys) lt (omega (arith, sum_is false xs ys e))
+    ap number_of (ripple_first carries carry_first xs ys) ∙ rest_is (number_of v) (2 ^ length xs) (one_if (last_of carries false xs ys))
+    (number_of xs + number_of ys) lt (omega (arith, sum_is false xs ys e))
 
 wraps : (v x y n : ℕ) (b : Bool) → v < n → y < n → v + y ≡ x + n * one_if b → v ≡ (x + (n - y)) % n
 wraps v x y n true lt low e = rest_is v n 0 (x + (n - y)) lt (omega arith)
 wraps v x y n false lt low e = rest_is v n 1 (x + (n - y)) lt (omega arith)
 
-pub difference_number : (xs ys : List Bool) → length ys ≡ length xs → number_of (ripple_bits borrows xs ys []) ≡ (number_of xs + (2 ^ length xs - number_of ys)) % 2 ^ length xs
+pub difference_number : (xs ys : List Bool) → length ys ≡ length xs
+    → number_of (ripple_bits borrows xs ys []) ≡ (number_of xs + (2 ^ length xs - number_of ys)) % 2 ^ length xs
 difference_number xs ys e =
     let v = ripple_bits borrows xs ys (false ∷ []) in
     let lt : number_of v < 2 ^ length xs = rw (← ripple_length borrows xs ys (false ∷ []) e) (number_below v) in
     let low : number_of ys < 2 ^ length xs = rw (← e) (number_below ys) in
-    ap number_of (ripple_first borrows borrow_first xs ys) ∙ wraps (number_of v) (number_of xs) (number_of ys) (2 ^ length xs) (last_of borrows false xs ys) lt low (omega (arith, difference_is false xs ys e))
+    ap number_of (ripple_first borrows borrow_first xs ys) ∙ wraps (number_of v) (number_of xs) (number_of ys) (2 ^ length xs) (last_of borrows false xs ys) lt
+    low (omega (arith, difference_is false xs ys e))
 
 -- comparison by the last borrow
 less_true : (xs ys : List Bool) → length ys ≡ length xs → last_of borrows false xs ys ≡ true → number_of xs < number_of ys
@@ -290,7 +301,8 @@ read_later rail i (suc n) = ap (λ (bs : List Bool). rail (suc i) true ∷ bs) (
 
 mod_suc : (b : Bool) (m n : ℕ) → (one_if b + 2 * m) % 2 ^ suc n ≡ one_if b + 2 * (m % 2 ^ n)
 mod_suc b m n =
-    let all : (one_if b + 2 * m) % 2 ^ (n + 1) ≡ ((one_if b + 2 * m) / 2 ^ 1 % 2 ^ n) * 2 ^ 1 + (one_if b + 2 * m) % 2 ^ 1 = mod-pow-add (one_if b + 2 * m) n 1 in
+    let all : (one_if b + 2 * m) % 2 ^ (n + 1) ≡ ((one_if b + 2 * m) / 2 ^ 1 % 2 ^ n) * 2 ^ 1 + (one_if b + 2 * m) % 2 ^ 1 =
+    mod-pow-add (one_if b + 2 * m) n 1 in
     let high : (one_if b + 2 * m) / 2 ^ 1 ≡ m = high_bits b m in
     let low : (one_if b + 2 * m) % 2 ^ 1 ≡ one_if b = low_bit b m in
     let one : suc n ≡ n + 1 = omega arith in
@@ -308,7 +320,8 @@ front_number (suc w) (suc n) rail h =
     ap (λ k. one_if (rail 0 true) + 2 * k) more ∙ sym (mod_suc (rail 0 true) (number_on w (λ k. rail (suc k))) n)
 
 pub read_number : (w l n : ℕ) (rail : Rails) → l + n ≤ w → number_of (read_list rail l n) ≡ number_on w rail / 2 ^ l % 2 ^ n
-read_number w zero n rail h = front_number w n rail (omega (arith, h)) ∙ ap (λ k. k % 2 ^ n) (let e : number_on w rail ≡ number_on w rail / 2 ^ 0 = omega arith in e)
+read_number w zero n rail h =
+    front_number w n rail (omega (arith, h)) ∙ ap (λ k. k % 2 ^ n) (let e : number_on w rail ≡ number_on w rail / 2 ^ 0 = omega arith in e)
 read_number zero (suc l) n rail h = absurd (omega (arith, h))
 read_number (suc w) (suc l) n rail h =
     ap number_of (read_later rail l n)

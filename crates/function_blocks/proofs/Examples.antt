@@ -120,8 +120,10 @@ borrow_of_two = refl
 
 -- the majority of three bits at the nodes 0 to 5
 carry_of_three : gate (pairs_from 3 0) carries ≡
-    turns ((hi 0 ∷ hi 2 ∷ hi 5 ∷ []) ∷ (hi 0 ∷ hi 3 ∷ hi 4 ∷ []) ∷ (hi 1 ∷ hi 2 ∷ hi 4 ∷ []) ∷ (hi 0 ∷ hi 2 ∷ hi 4 ∷ []) ∷ []) (lo 0 ∷ lo 1 ∷ lo 2 ∷ lo 3 ∷ lo 4 ∷ lo 5 ∷ [])
-    ∷ turns ((hi 1 ∷ hi 3 ∷ hi 5 ∷ []) ∷ (hi 0 ∷ hi 3 ∷ hi 5 ∷ []) ∷ (hi 1 ∷ hi 2 ∷ hi 5 ∷ []) ∷ (hi 1 ∷ hi 3 ∷ hi 4 ∷ []) ∷ []) (lo 0 ∷ lo 1 ∷ lo 2 ∷ lo 3 ∷ lo 4 ∷ lo 5 ∷ [])
+    turns ((hi 0 ∷ hi 2 ∷ hi 5 ∷ []) ∷ (hi 0 ∷ hi 3 ∷ hi 4 ∷ []) ∷ (hi 1 ∷ hi 2 ∷ hi 4 ∷ []) ∷ (hi 0 ∷ hi 2 ∷ hi 4 ∷ []) ∷ [])
+    (lo 0 ∷ lo 1 ∷ lo 2 ∷ lo 3 ∷ lo 4 ∷ lo 5 ∷ [])
+    ∷ turns ((hi 1 ∷ hi 3 ∷ hi 5 ∷ []) ∷ (hi 0 ∷ hi 3 ∷ hi 5 ∷ []) ∷ (hi 1 ∷ hi 2 ∷ hi 5 ∷ []) ∷ (hi 1 ∷ hi 3 ∷ hi 4 ∷ []) ∷ [])
+    (lo 0 ∷ lo 1 ∷ lo 2 ∷ lo 3 ∷ lo 4 ∷ lo 5 ∷ [])
     ∷ []
 carry_of_three = refl
 

@@ -39,9 +39,13 @@ one_low : (v : ℕ → Bool) (n : ℕ) → guard_holds v (one_term (is_low n ∷
 one_low v n = elim (v n) as (λ b. ((not b && true) || false) ≡ not b) [ true ↦ refl | false ↦ refl ]
 
 both_high : (v : ℕ → Bool) (n m : ℕ) → guard_holds v (one_term (is_high n ∷ is_high m ∷ [])) ≡ (v n && v m)
-both_high v n m = elim (v n) as (λ b. ((b && (v m && true)) || false) ≡ (b && v m)) [ true ↦ elim (v m) as (λ c. ((c && true) || false) ≡ c) [ true ↦ refl | false ↦ refl ] | false ↦ refl ]
+both_high v n m = elim (v n) as (λ b. ((b && (v m && true)) || false) ≡ (b && v m)) [
+  | true ↦ elim (v m) as (λ c. ((c && true) || false) ≡ c) [ true ↦ refl | false ↦ refl ]
+  | false ↦ refl
+]
 
-module _ (bits : ℕ → List nodes.Pair) (request base : ℕ) (v : ℕ → Bool) (r : Bool) (now : ℕ → Rails) (n : ℕ) (look : ℕ → Pair) (asked : v request ≡ r) (gates : (k : ℕ) (one : Bool) → k < n → v (base + rail_place k one) ≡ side_of (look k) one) where
+module _ (bits : ℕ → List nodes.Pair) (request base : ℕ) (v : ℕ → Bool) (r : Bool) (now : ℕ → Rails) (n : ℕ) (look : ℕ → Pair) (asked : v request ≡ r)
+    (gates : (k : ℕ) (one : Bool) → k < n → v (base + rail_place k one) ≡ side_of (look k) one) where
   -- the two guards
   abbrev Guards : NodeRules → Rule → Type 0
   Guards rules c = (guard_holds v rules.up ≡ c.up) × (guard_holds v rules.down ≡ c.down)
@@ -75,12 +79,14 @@ module _ (bits : ℕ → List nodes.Pair) (request base : ℕ) (v : ℕ → Bool
   side_told i true l = ap (λ (p : Pair). p.t) (input_told i l)
   side_told i false l = ap (λ (p : Pair). p.f) (input_told i l)
 
-  pub outs_told : (us : List Input) → below n us ≡ true → (i : ℕ) (one : Bool) → i < length us → v (node_of (nodes.pair_of (map (placed base) us) i) one) ≡ rails_at us look i one
+  pub outs_told : (us : List Input) → below n us ≡ true → (i : ℕ) (one : Bool) → i < length us
+      → v (node_of (nodes.pair_of (map (placed base) us) i) one) ≡ rails_at us look i one
   outs_told [] h i one l = absurd (omega (arith, l))
   outs_told (j ∷ us) h zero one l = side_told j one (is_lt _ _ (left_of _ _ h))
   outs_told (j ∷ us) h (suc i) one l = outs_told us (right_of (nat_lt j.at n) _ h) i one (omega (arith, l))
 
-  part_told : (g : Part) (p : Pair) (one : Bool) (m : ℕ) → m ≤ n → ordered_one m g ≡ true → Only Shows (g ∷ []) → Guards (get_or (part_rules bits request base g) (rail_place zero one) nodes.no_rules) (part_rule r look now g p one)
+  part_told : (g : Part) (p : Pair) (one : Bool) (m : ℕ) → m ≤ n → ordered_one m g ≡ true → Only Shows (g ∷ [])
+      → Guards (get_or (part_rules bits request base g) (rail_place zero one) nodes.no_rules) (part_rule r look now g p one)
   part_told (fixed true) p true m l o s = (one_high v request ∙ asked, one_low v request ∙ ap not asked)
   part_told (fixed true) p false m l o s = (refl, refl)
   part_told (fixed false) p true m l o s = (refl, refl)
@@ -102,7 +108,8 @@ module _ (bits : ℕ → List nodes.Pair) (request base : ℕ) (v : ℕ → Bool
     down_told v (map (placed base) (i ∷ more)) (λ row. not (f row)) ∙ ap (λ (ps : List Pair). list_all neutral ps) (taken_told m l (i ∷ more) o),
   )
 
-  first_place : (g : Part) (rs : List NodeRules) (one : Bool) → get_or (part_rules bits request base g ++ rs) (rail_place zero one) nodes.no_rules ≡ get_or (part_rules bits request base g) (rail_place zero one) nodes.no_rules
+  first_place : (g : Part) (rs : List NodeRules) (one : Bool) → get_or (part_rules bits request base g ++ rs) (rail_place zero one) nodes.no_rules ≡ get_or
+      (part_rules bits request base g) (rail_place zero one) nodes.no_rules
   first_place (fixed true) rs true = refl
   first_place (fixed true) rs false = refl
   first_place (fixed false) rs true = refl
@@ -112,7 +119,8 @@ module _ (bits : ℕ → List nodes.Pair) (request base : ℕ) (v : ℕ → Bool
   first_place (made f i more) rs true = refl
   first_place (made f i more) rs false = refl
 
-  later_place : (g : Part) (rs : List NodeRules) (j : ℕ) → get_or (part_rules bits request base g ++ rs) (suc (suc j)) nodes.no_rules ≡ get_or rs j nodes.no_rules
+  later_place : (g : Part) (rs : List NodeRules) (j : ℕ) → get_or (part_rules bits request base g ++ rs) (suc (suc j)) nodes.no_rules ≡ get_or rs j
+      nodes.no_rules
   later_place (fixed true) rs j = refl
   later_place (fixed false) rs j = refl
   later_place (read_bit x i) rs j = refl
@@ -131,14 +139,18 @@ module _ (bits : ℕ → List nodes.Pair) (request base : ℕ) (v : ℕ → Bool
   only_rest (read_bit x i) gs s = s.1
   only_rest (made f i more) gs s = s
 
-  gates_told : (gs : List Part) (m : ℕ) (u : Pairs m) (from : ℕ) → length gs ≡ m → from + m ≤ n → ordered from gs ≡ true → Only Shows gs → (k : ℕ) (one : Bool) → Guards (get_or (rules_listed bits request base gs) (rail_place k one) nodes.no_rules) (rule_among r look now gs m u k one)
+  gates_told : (gs : List Part) (m : ℕ) (u : Pairs m) (from : ℕ) → length gs ≡ m → from + m ≤ n → ordered from gs ≡ true → Only Shows gs → (k : ℕ) (one : Bool)
+      → Guards (get_or (rules_listed bits request base gs) (rail_place k one) nodes.no_rules) (rule_among r look now gs m u k one)
   gates_told [] m u from e l o s k one = (refl, refl)
   gates_told (g ∷ gs) zero u from e l o s k one = absurd (omega (arith, e))
-  gates_told (g ∷ gs) (suc m) u from e l o s zero one = told_by _ _ (part_rule r look now g u.0 one) (first_place g (rules_listed bits request base gs) one) (part_told g u.0 one from (omega (arith, l)) (left_of _ _ o) (only_first g gs s))
+  gates_told (g ∷ gs) (suc m) u from e l o s zero one = told_by _ _ (part_rule r look now g u.0 one) (first_place g (rules_listed bits request base gs) one)
+      (part_told g u.0 one from (omega (arith, l)) (left_of _ _ o) (only_first g gs s))
   gates_told (g ∷ gs) (suc m) u from e l o s (suc k) one =
-      told_by _ _ (rule_among r look now gs m u.1 k one) (later_place g (rules_listed bits request base gs) (rail_place k one)) (gates_told gs m u.1 (suc from) (omega (arith, e)) (omega (arith, l)) (right_of (ordered_one from g) _ o) (only_rest g gs s) k one)
+      told_by _ _ (rule_among r look now gs m u.1 k one) (later_place g (rules_listed bits request base gs) (rail_place k one))
+      (gates_told gs m u.1 (suc from) (omega (arith, e)) (omega (arith, l)) (right_of (ordered_one from g) _ o) (only_rest g gs s) k one)
 
-value_now : (r : Bool) (look : ℕ → Pair) (now : ℕ → Rails) (gs : List Part) (n : ℕ) (u : Pairs n) → length gs ≡ n → (k : ℕ) (one : Bool) → k < n → (rule_among r look now gs n u k one).now ≡ side_of (pair_in n u k) one
+value_now : (r : Bool) (look : ℕ → Pair) (now : ℕ → Rails) (gs : List Part) (n : ℕ) (u : Pairs n) → length gs ≡ n → (k : ℕ) (one : Bool) → k < n
+    → (rule_among r look now gs n u k one).now ≡ side_of (pair_in n u k) one
 value_now r look now [] zero u e k one l = absurd (omega (arith, l))
 value_now r look now [] (suc n) u e k one l = absurd (omega (arith, e))
 value_now r look now (g ∷ gs) zero u e k one l = absurd (omega (arith, e))
@@ -156,12 +168,15 @@ listed vars e w reads_from = record {
       let n = gate_count e in
       let z : 0 + n ≡ n = omega arith in
       ap (λ (ps : List nodes.Pair). v (node_of (nodes.pair_of ps i) one)) (result_put from e 0 from (omega arith) w)
-      ∙ outs_told bits request from v r now n (pair_in n u) s.asked s.gates (outs_of e 0) (ap (λ k. below k (outs_of e 0)) (sym z) ∙ outs_below e 0 w) i one (let k = outs_length e 0 w in omega (arith, k, l));
+      ∙ outs_told bits request from v r now n (pair_in n u) s.asked s.gates (outs_of e 0) (ap (λ k. below k (outs_of e 0)) (sym z) ∙ outs_below e 0 w) i one
+      (let k = outs_length e 0 w in omega (arith, k, l));
   told = λ bits has request from v r now u s k one l.
       let n = gate_count e in
       let seen = only_more _ _ (λ x i both. both.0 both.1) (parts_of e 0)
-      (only_both _ _ (parts_of e 0) (parts_only (λ x i. i < var_width vars x → (one : Bool) → v (node_of (nodes.pair_of (bits x) i) one) ≡ now x i one) e 0 (λ x i h l one. s.read x i one h l)) (parts_within vars e 0 w reads_from)) in
-      let t = gates_told bits request from v r now n (pair_in n u) s.asked s.gates (parts_of e 0) n u 0 (parts_length e 0 w) (omega arith) (parts_ordered e 0 w) seen k one in
+      (only_both _ _ (parts_of e 0) (parts_only (λ x i. i < var_width vars x → (one : Bool) → v (node_of (nodes.pair_of (bits x) i) one) ≡ now x i one) e 0
+      (λ x i h l one. s.read x i one h l)) (parts_within vars e 0 w reads_from)) in
+      let t = gates_told bits request from v r now n (pair_in n u) s.asked s.gates (parts_of e 0) n u 0 (parts_length e 0 w) (omega arith) (parts_ordered e 0 w)
+      seen k one in
       let is = formula_list vars bits has request from e 0 from (omega arith) w reads_from in
       record {
         now = s.gates k one l ∙ sym (value_now r (pair_in n u) now (parts_of e 0) n u (parts_length e 0 w) k one l);

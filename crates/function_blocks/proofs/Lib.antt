@@ -19,7 +19,12 @@ pub mod Minterms
 pub mod ListedHolds
 pub mod GatesTold
 pub mod NodePairs
+pub mod ReadBits
 pub mod ExpressionKeeps
-pub mod SiteTrial
 pub mod WaveExamples
-pub mod GuardTrial
+pub mod Emitted
+pub mod Emission
+pub mod Within
+pub mod Giving
+pub mod Callers
+pub mod WrongExpressions

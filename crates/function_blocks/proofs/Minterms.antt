@@ -14,11 +14,14 @@ abbrev pub value_at : (ℕ → Bool) → nodes.Pair → Pair
 value_at v p = pair_of (v p.t) (v p.f)
 
 module _ (v : ℕ → Bool) where
-  any_filter : (f : List Bool → Bool) (ps : List nodes.Pair) (ys : List (List Bool)) → guard_holds v (map (minterm ps) (filter f ys)) ≡ list_any (λ y. f y && term_holds v (minterm ps y)) ys
+  any_filter : (f : List Bool → Bool) (ps : List nodes.Pair) (ys : List (List Bool))
+      → guard_holds v (map (minterm ps) (filter f ys)) ≡ list_any (λ y. f y && term_holds v (minterm ps y)) ys
   any_filter f ps [] = refl
   any_filter f ps (y ∷ ys) = one (f y) refl (any_filter f ps ys)
     where
-      one : (b : Bool) → f y ≡ b → guard_holds v (map (minterm ps) (filter f ys)) ≡ list_any (λ y. f y && term_holds v (minterm ps y)) ys → guard_holds v (map (minterm ps) (if b then y ∷ filter f ys else filter f ys)) ≡ ((b && term_holds v (minterm ps y)) || list_any (λ y. f y && term_holds v (minterm ps y)) ys)
+      one : (b : Bool) → f y ≡ b → guard_holds v (map (minterm ps) (filter f ys)) ≡ list_any (λ y. f y && term_holds v (minterm ps y)) ys
+          → guard_holds v (map (minterm ps) (if b then y ∷ filter f ys else filter f ys)) ≡ ((b && term_holds v (minterm ps y)) || list_any
+          (λ y. f y && term_holds v (minterm ps y)) ys)
       one true h e = ap (λ r. term_holds v (minterm ps y) || r) e
       one false h e = e
 
@@ -28,9 +31,11 @@ module _ (v : ℕ → Bool) where
   regroup false true false y = refl
   regroup false false x y = refl
 
-  any_doubled : (g : List Bool → Bool) (ys : List (List Bool)) → list_any g (flat_map (λ y. (false ∷ y) ∷ (true ∷ y) ∷ []) ys) ≡ (list_any (λ y. g (false ∷ y)) ys || list_any (λ y. g (true ∷ y)) ys)
+  any_doubled : (g : List Bool → Bool) (ys : List (List Bool)) → list_any g
+      (flat_map (λ y. (false ∷ y) ∷ (true ∷ y) ∷ []) ys) ≡ (list_any (λ y. g (false ∷ y)) ys || list_any (λ y. g (true ∷ y)) ys)
   any_doubled g [] = refl
-  any_doubled g (y ∷ ys) = ap (λ r. g (false ∷ y) || (g (true ∷ y) || r)) (any_doubled g ys) ∙ regroup (g (false ∷ y)) (g (true ∷ y)) (list_any (λ y. g (false ∷ y)) ys) (list_any (λ y. g (true ∷ y)) ys)
+  any_doubled g (y ∷ ys) = ap (λ r. g (false ∷ y) || (g (true ∷ y) || r)) (any_doubled g ys)
+      ∙ regroup (g (false ∷ y)) (g (true ∷ y)) (list_any (λ y. g (false ∷ y)) ys) (list_any (λ y. g (true ∷ y)) ys)
 
   taken_out : (r : Bool) (h m : List Bool → Bool) (ys : List (List Bool)) → list_any (λ y. h y && (r && m y)) ys ≡ (r && list_any (λ y. h y && m y) ys)
   taken_out true h m ys = refl
@@ -47,7 +52,8 @@ module _ (v : ℕ → Bool) where
   swapped false true = refl
   swapped false false = refl
 
-  any_met : (f : List Bool → Bool) (ps : List nodes.Pair) → list_any (λ y. f y && term_holds v (minterm ps y)) (table (length ps)) ≡ holds f (map (value_at v) ps)
+  any_met : (f : List Bool → Bool) (ps : List nodes.Pair) → list_any (λ y. f y && term_holds v (minterm ps y)) (table (length ps)) ≡ holds f
+      (map (value_at v) ps)
   any_met f [] = one (f [])
     where
       one : (b : Bool) → ((b && true) || false) ≡ b
@@ -55,8 +61,11 @@ module _ (v : ℕ → Bool) where
       one false = refl
   any_met f (p ∷ ps) =
       any_doubled (λ y. f y && term_holds v (minterm (p ∷ ps) y)) (table (length ps))
-      ∙ (ap (λ r. r || list_any (λ y. f (true ∷ y) && (v p.t && term_holds v (minterm ps y))) (table (length ps))) (taken_out (v p.f) (λ y. f (false ∷ y)) (λ y. term_holds v (minterm ps y)) (table (length ps)) ∙ ap (λ r. v p.f && r) (any_met (λ y. f (false ∷ y)) ps))
-      ∙ (ap (λ r. (v p.f && holds (λ y. f (false ∷ y)) (map (value_at v) ps)) || r) (taken_out (v p.t) (λ y. f (true ∷ y)) (λ y. term_holds v (minterm ps y)) (table (length ps)) ∙ ap (λ r. v p.t && r) (any_met (λ y. f (true ∷ y)) ps))
+      ∙ (ap (λ r. r || list_any (λ y. f (true ∷ y) && (v p.t && term_holds v (minterm ps y))) (table (length ps)))
+      (taken_out (v p.f) (λ y. f (false ∷ y)) (λ y. term_holds v (minterm ps y)) (table (length ps))
+      ∙ ap (λ r. v p.f && r) (any_met (λ y. f (false ∷ y)) ps))
+      ∙ (ap (λ r. (v p.f && holds (λ y. f (false ∷ y)) (map (value_at v) ps)) || r)
+      (taken_out (v p.t) (λ y. f (true ∷ y)) (λ y. term_holds v (minterm ps y)) (table (length ps)) ∙ ap (λ r. v p.t && r) (any_met (λ y. f (true ∷ y)) ps))
       ∙ swapped (v p.f && holds (λ y. f (false ∷ y)) (map (value_at v) ps)) (v p.t && holds (λ y. f (true ∷ y)) (map (value_at v) ps))))
 
   pub up_told : (ps : List nodes.Pair) (f : List Bool → Bool) → guard_holds v (gate_rail ps f).up ≡ holds f (map (value_at v) ps)

@@ -37,9 +37,11 @@ ordered_at n m gs e h = ap (λ k. ordered k gs) (sym e) ∙ h
 
 ordered_append : (from : ℕ) (gs hs : List Part) → ordered from gs ≡ true → ordered (from + length gs) hs ≡ true → ordered from (gs ++ hs) ≡ true
 ordered_append from [] hs h k = ordered_at (from + 0) from hs (omega arith) k
-ordered_append from (g ∷ gs) hs h k = both_of _ _ (left_of _ _ h) (ordered_append (suc from) gs hs (right_of (ordered_one from g) _ h) (ordered_at (from + suc (length gs)) (suc from + length gs) hs (omega arith) k))
+ordered_append from (g ∷ gs) hs h k = both_of _ _ (left_of _ _ h)
+    (ordered_append (suc from) gs hs (right_of (ordered_one from g) _ h) (ordered_at (from + suc (length gs)) (suc from + length gs) hs (omega arith) k))
 
-bitwise_ordered : (f : List Bool → Bool) (from n : ℕ) (us vs : List Input) → n ≤ from → below n us ≡ true → below n vs ≡ true → ordered from (bitwise_parts f us vs) ≡ true
+bitwise_ordered : (f : List Bool → Bool) (from n : ℕ) (us vs : List Input) → n ≤ from → below n us ≡ true → below n vs ≡ true
+    → ordered from (bitwise_parts f us vs) ≡ true
 bitwise_ordered f from n [] vs l h k = refl
 bitwise_ordered f from n (a ∷ us) [] l h k = refl
 bitwise_ordered f from n (a ∷ us) (b ∷ vs) l h k =
@@ -49,23 +51,29 @@ bitwise_ordered f from n (a ∷ us) (b ∷ vs) l h k =
 next_below : (from : ℕ) → below (suc from) (input from ∷ []) ≡ true
 next_below from = both_of _ _ (lt_is from (suc from) (omega arith)) refl
 
-ripple_ordered : (k : List Bool → Bool) (c : List Input) (from n : ℕ) (us vs : List Input) → n ≤ from → below from c ≡ true → below n us ≡ true → below n vs ≡ true → ordered from (ripple_parts k us vs c from) ≡ true
+ripple_ordered : (k : List Bool → Bool) (c : List Input) (from n : ℕ) (us vs : List Input) → n ≤ from → below from c ≡ true → below n us ≡ true
+    → below n vs ≡ true → ordered from (ripple_parts k us vs c from) ≡ true
 ripple_ordered k c from n [] vs l i h j = refl
 ripple_ordered k c from n (a ∷ us) [] l i h j = refl
-ripple_ordered k c from n (a ∷ []) (b ∷ vs) l i h j = both_of _ _ (both_of _ _ (lt_more a.at n from l (left_of _ _ h)) (both_of _ _ (lt_more b.at n from l (left_of _ _ j)) i)) refl
+ripple_ordered k c from n (a ∷ []) (b ∷ vs) l i h j =
+    both_of _ _ (both_of _ _ (lt_more a.at n from l (left_of _ _ h)) (both_of _ _ (lt_more b.at n from l (left_of _ _ j)) i)) refl
 ripple_ordered k c from n (a ∷ d ∷ us) (b ∷ vs) l i h j =
     both_of _ _ (both_of _ _ (lt_more a.at n from l (left_of _ _ h)) (both_of _ _ (lt_more b.at n from l (left_of _ _ j)) i))
-    (both_of _ _ (both_of _ _ (lt_more a.at n (suc from) (omega arith) (left_of _ _ h)) (both_of _ _ (lt_more b.at n (suc from) (omega arith) (left_of _ _ j)) (below_more from (suc from) c (omega arith) i)))
-    (ripple_ordered k (input (suc from) ∷ []) (suc (suc from)) n (d ∷ us) vs (omega arith) (next_below (suc from)) (right_of (nat_lt a.at n) _ h) (right_of (nat_lt b.at n) _ j)))
+    (both_of _ _ (both_of _ _ (lt_more a.at n (suc from) (omega arith) (left_of _ _ h))
+    (both_of _ _ (lt_more b.at n (suc from) (omega arith) (left_of _ _ j)) (below_more from (suc from) c (omega arith) i)))
+    (ripple_ordered k (input (suc from) ∷ []) (suc (suc from)) n (d ∷ us) vs (omega arith) (next_below (suc from)) (right_of (nat_lt a.at n) _ h)
+    (right_of (nat_lt b.at n) _ j)))
 
-borrow_ordered : (c : List Input) (from n : ℕ) (us vs : List Input) → n ≤ from → below from c ≡ true → below n us ≡ true → below n vs ≡ true → ordered from (borrow_parts us vs c from) ≡ true
+borrow_ordered : (c : List Input) (from n : ℕ) (us vs : List Input) → n ≤ from → below from c ≡ true → below n us ≡ true → below n vs ≡ true
+    → ordered from (borrow_parts us vs c from) ≡ true
 borrow_ordered c from n [] vs l i h j = refl
 borrow_ordered c from n (a ∷ us) [] l i h j = refl
 borrow_ordered c from n (a ∷ us) (b ∷ vs) l i h j =
     both_of _ _ (both_of _ _ (lt_more a.at n from l (left_of _ _ h)) (both_of _ _ (lt_more b.at n from l (left_of _ _ j)) i))
     (borrow_ordered (input from ∷ []) (suc from) n us vs (omega arith) (next_below from) (right_of (nat_lt a.at n) _ h) (right_of (nat_lt b.at n) _ j))
 
-conjunction_ordered : (c : Input) (from n : ℕ) (us : List Input) → n ≤ from → nat_lt c.at from ≡ true → below n us ≡ true → ordered from (conjunction_parts c us from) ≡ true
+conjunction_ordered : (c : Input) (from n : ℕ) (us : List Input) → n ≤ from → nat_lt c.at from ≡ true → below n us ≡ true
+    → ordered from (conjunction_parts c us from) ≡ true
 conjunction_ordered c from n [] l i h = refl
 conjunction_ordered c from n (a ∷ us) l i h =
     both_of _ _ (both_of _ _ i (both_of _ _ (lt_more a.at n from l (left_of _ _ h)) refl))
@@ -75,17 +83,21 @@ results_below : (from n : ℕ) (us : List Input) → from + length us ≤ n → 
 results_below from n [] l = refl
 results_below from n (a ∷ us) l = both_of _ _ (lt_is from n (omega arith)) (results_below (suc from) n us (omega arith))
 
-equality_ordered : (from : ℕ) (us vs : List Input) → length vs ≡ length us → below from us ≡ true → below from vs ≡ true → ordered from (equality_parts us vs from) ≡ true
+equality_ordered : (from : ℕ) (us vs : List Input) → length vs ≡ length us → below from us ≡ true → below from vs ≡ true
+    → ordered from (equality_parts us vs from) ≡ true
 equality_ordered from [] vs e h j = refl
 equality_ordered from (a ∷ us) [] e h j = absurd (omega arith)
 equality_ordered from (a ∷ us) (b ∷ vs) e h j =
     let n = bitwise_length alike (a ∷ us) (b ∷ vs) e in
     ordered_append from (bitwise_parts alike (a ∷ us) (b ∷ vs)) (conjunction_parts (input from) (result_inputs us (suc from)) (from + length (a ∷ us)))
     (bitwise_ordered alike from from (a ∷ us) (b ∷ vs) (omega arith) h j)
-    (ordered_at (from + length (a ∷ us)) (from + length (bitwise_parts alike (a ∷ us) (b ∷ vs))) (conjunction_parts (input from) (result_inputs us (suc from)) (from + length (a ∷ us))) (omega (arith, n))
-    (conjunction_ordered (input from) (from + length (a ∷ us)) (from + length (a ∷ us)) (result_inputs us (suc from)) (omega arith) (lt_is from (from + length (a ∷ us)) (omega arith)) (results_below (suc from) (from + length (a ∷ us)) us (omega arith))))
+    (ordered_at (from + length (a ∷ us)) (from + length (bitwise_parts alike (a ∷ us) (b ∷ vs)))
+    (conjunction_parts (input from) (result_inputs us (suc from)) (from + length (a ∷ us))) (omega (arith, n))
+    (conjunction_ordered (input from) (from + length (a ∷ us)) (from + length (a ∷ us)) (result_inputs us (suc from)) (omega arith)
+    (lt_is from (from + length (a ∷ us)) (omega arith)) (results_below (suc from) (from + length (a ∷ us)) us (omega arith))))
 
-operator_ordered : (op : Op) (from : ℕ) (us vs : List Input) → length vs ≡ length us → below from us ≡ true → below from vs ≡ true → ordered from (operator_parts op us vs from) ≡ true
+operator_ordered : (op : Op) (from : ℕ) (us vs : List Input) → length vs ≡ length us → below from us ≡ true → below from vs ≡ true
+    → ordered from (operator_parts op us vs from) ≡ true
 operator_ordered And from us vs e h j = bitwise_ordered all_one from from us vs (omega arith) h j
 operator_ordered Or from us vs e h j = bitwise_ordered some_one from from us vs (omega arith) h j
 operator_ordered Xor from us vs e h j = bitwise_ordered odd_ones from from us vs (omega arith) h j
@@ -115,7 +127,8 @@ less_below : (from : ℕ) (us : List Input) → 1 ≤ length us → nat_lt (less
 less_below from us p = lt_is _ _ (last_below (input from) (suc from) (from + length us) (rest_of us) (omega arith) (omega (arith, rest_length us p)))
 
 equal_below : (from : ℕ) (us : List Input) → 1 ≤ length us → nat_lt (equal_input us from).at (from + (2 * length us - 1)) ≡ true
-equal_below from us p = lt_is _ _ (last_below (input from) (from + length us) (from + (2 * length us - 1)) (rest_of us) (omega arith) (omega (arith, rest_length us p)))
+equal_below from us p =
+    lt_is _ _ (last_below (input from) (from + length us) (from + (2 * length us - 1)) (rest_of us) (omega arith) (omega (arith, rest_length us p)))
 
 operator_below : (op : Op) (from : ℕ) (us : List Input) → 1 ≤ length us → below (from + operator_gates op (length us)) (operator_inputs op us from) ≡ true
 operator_below And from us p = results_below from _ us (omega arith)
@@ -132,7 +145,8 @@ operator_below Le from us p = both_of _ _ (less_below from us p) refl
 
 inputs_below : (from n : ℕ) → below (from + n) (inputs_from n from) ≡ true
 inputs_below from zero = refl
-inputs_below from (suc n) = both_of _ _ (lt_is from (from + suc n) (omega arith)) (below_more (suc from + n) (from + suc n) (inputs_from n (suc from)) (omega arith) (inputs_below (suc from) n))
+inputs_below from (suc n) = both_of _ _ (lt_is from (from + suc n) (omega arith))
+    (below_more (suc from + n) (from + suc n) (inputs_from n (suc from)) (omega arith) (inputs_below (suc from) n))
 
 below_append : (n : ℕ) (us vs : List Input) → below n us ≡ true → below n vs ≡ true → below n (us ++ vs) ≡ true
 below_append n [] vs h k = k
@@ -165,20 +179,25 @@ mutual
       let next = from + gate_count e + gate_count f in
       let is = outs_length e from h.2 in
       let some = some_width e h.2 in
-      below_more (next + operator_gates op (length us)) _ (operator_inputs op us next) (let g = ap (operator_gates op) is in omega (arith, g)) (operator_below op next us (omega (arith, is, some)))
+      below_more (next + operator_gates op (length us)) _ (operator_inputs op us next) (let g = ap (operator_gates op) is in omega (arith, g))
+      (operator_below op next us (omega (arith, is, some)))
 
   joined_below : (parts : Formulas) (from : ℕ) → AreWellFormed parts → below (from + joined_gates parts) (joined_outs parts from) ≡ true
   joined_below no_parts from h = refl
   joined_below (and_part e more) from h =
       below_append _ (joined_outs more (from + gate_count e)) (outs_of e from)
-      (below_more (from + gate_count e + joined_gates more) _ (joined_outs more (from + gate_count e)) (omega arith) (joined_below more (from + gate_count e) h.1))
+      (below_more (from + gate_count e + joined_gates more) _ (joined_outs more (from + gate_count e)) (omega arith)
+      (joined_below more (from + gate_count e) h.1))
       (below_more (from + gate_count e) _ (outs_of e from) (omega arith) (outs_below e from h.0))
 
-  chained_below : (width : ℕ) (left : List Input) (more : Operations) (from : ℕ) → 1 ≤ width → length left ≡ width → AreOperations width more → below from left ≡ true → below (from + chained_gates width more) (chained_outs width left more from) ≡ true
+  chained_below : (width : ℕ) (left : List Input) (more : Operations) (from : ℕ) → 1 ≤ width → length left ≡ width → AreOperations width more
+      → below from left ≡ true → below (from + chained_gates width more) (chained_outs width left more from) ≡ true
   chained_below width left no_operations from some is h l = below_more from _ left (omega arith) l
   chained_below width left (and_operation op e more) from some is h l =
       let next = from + gate_count e in
-      let own : below (next + operator_gates op width) (operator_inputs op left next) ≡ true = below_more (next + operator_gates op (length left)) _ (operator_inputs op left next) (let g = ap (operator_gates op) is in omega (arith, g)) (operator_below op next left (omega (arith, is, some))) in
+      let own : below (next + operator_gates op width) (operator_inputs op left next) ≡ true =
+      below_more (next + operator_gates op (length left)) _ (operator_inputs op left next) (let g = ap (operator_gates op) is in omega (arith, g))
+      (operator_below op next left (omega (arith, is, some))) in
       below_more _ _ (chained_outs width (operator_inputs op left next) more (next + operator_gates op width)) (omega arith)
       (chained_below width (operator_inputs op left next) more (next + operator_gates op width) some (each_output op left next h.0 ∙ is) h.3 own)
 
@@ -210,9 +229,11 @@ mutual
   joined_ordered no_parts from h = refl
   joined_ordered (and_part e more) from h =
       ordered_append from (parts_of e from) (joined_parts more (from + gate_count e)) (parts_ordered e from h.0)
-      (ordered_at (from + gate_count e) _ (joined_parts more (from + gate_count e)) (ap (λ k. from + k) (sym (parts_length e from h.0))) (joined_ordered more (from + gate_count e) h.1))
+      (ordered_at (from + gate_count e) _ (joined_parts more (from + gate_count e)) (ap (λ k. from + k) (sym (parts_length e from h.0)))
+      (joined_ordered more (from + gate_count e) h.1))
 
-  chained_ordered : (width : ℕ) (left : List Input) (more : Operations) (from : ℕ) → 1 ≤ width → length left ≡ width → AreOperations width more → below from left ≡ true → ordered from (chained_parts width left more from) ≡ true
+  chained_ordered : (width : ℕ) (left : List Input) (more : Operations) (from : ℕ) → 1 ≤ width → length left ≡ width → AreOperations width more
+      → below from left ≡ true → ordered from (chained_parts width left more from) ≡ true
   chained_ordered width left no_operations from some is h l = refl
   chained_ordered width left (and_operation op e more) from some is h l =
       let vs = outs_of e from in
@@ -222,7 +243,9 @@ mutual
       let rest = chained_parts width (operator_inputs op left next) more after in
       let same : length vs ≡ length left = outs_length e from h.2 ∙ (h.1 ∙ sym is) in
       let gates : length own ≡ operator_gates op width = operator_length op left vs next same ∙ ap (operator_gates op) is in
-      let outs : below after (operator_inputs op left next) ≡ true = below_more (next + operator_gates op (length left)) _ (operator_inputs op left next) (let g = ap (operator_gates op) is in omega (arith, g)) (operator_below op next left (omega (arith, is, some))) in
+      let outs : below after (operator_inputs op left next) ≡ true =
+      below_more (next + operator_gates op (length left)) _ (operator_inputs op left next) (let g = ap (operator_gates op) is in omega (arith, g))
+      (operator_below op next left (omega (arith, is, some))) in
       ordered_append from (parts_of e from) (own ++ rest) (parts_ordered e from h.2)
       (ordered_at next _ (own ++ rest) (ap (λ k. from + k) (sym (parts_length e from h.2)))
       (ordered_append next own rest (operator_ordered op next left vs same (below_more from next left (omega arith) l) (outs_below e from h.2))

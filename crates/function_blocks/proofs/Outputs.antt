@@ -39,7 +39,8 @@ module _ (look : ℕ → Pair) where
       let both = some_bit (cross i.crossed (look i.at)).t (cross i.crossed (look i.at)).f (value_on (length us) (rails_at us look)) h in
       both_of _ _ both.0 (full_arrived us both.1)
 
-  bit_told : (c t f : Bool) (rest : Option ℕ) (n : ℕ) → single (pair_of t f) ≡ true → some (cross c (pair_of t f)) ≡ true → rest ≡ Some n → with_bit (bit_value (cross c (pair_of t f)).t (cross c (pair_of t f)).f) rest ≡ Some (one_if (same_bit (not c) t) + 2 * n)
+  bit_told : (c t f : Bool) (rest : Option ℕ) (n : ℕ) → single (pair_of t f) ≡ true → some (cross c (pair_of t f)) ≡ true → rest ≡ Some n
+      → with_bit (bit_value (cross c (pair_of t f)).t (cross c (pair_of t f)).f) rest ≡ Some (one_if (same_bit (not c) t) + 2 * n)
   bit_told c true true rest n s a e = absurd (cc s)
   bit_told true false false rest n s a e = absurd (cc a)
   bit_told false false false rest n s a e = absurd (cc a)
@@ -48,10 +49,12 @@ module _ (look : ℕ → Pair) where
   bit_told false true false rest n s a e = ap (with_bit (Some 1)) e
   bit_told false false true rest n s a e = ap (with_bit (Some 0)) e
 
-  pub number_told : ((k : ℕ) → single (look k) ≡ true) → (us : List Input) → list_all (arrived true) (taken look us) ≡ true → value_on (length us) (rails_at us look) ≡ Some (number_of (bits_in (λ k. (look k).t) us))
+  pub number_told : ((k : ℕ) → single (look k) ≡ true) → (us : List Input) → list_all (arrived true) (taken look us) ≡ true
+      → value_on (length us) (rails_at us look) ≡ Some (number_of (bits_in (λ k. (look k).t) us))
   number_told s [] h = refl
   number_told s (i ∷ us) h =
-      bit_told i.crossed (look i.at).t (look i.at).f (value_on (length us) (rails_at us look)) (number_of (bits_in (λ k. (look k).t) us)) (s i.at) (left_of _ _ h)
+      bit_told i.crossed (look i.at).t (look i.at).f (value_on (length us) (rails_at us look)) (number_of (bits_in (λ k. (look k).t) us)) (s i.at)
+      (left_of _ _ h)
       (number_told s us (right_of (some (cross i.crossed (look i.at))) _ h))
 
   -- one rail of a bit at most
@@ -73,7 +76,9 @@ above_side : (p q : Pair) (one : Bool) → above p q ≡ true → side_of p one 
 above_side p q true h k = implies_at p.t q.t (left_of _ _ h) k
 above_side p q false h k = implies_at p.f q.f (right_of (implies p.t q.t) _ h) k
 
-pub rails_up : (look see : ℕ → Pair) → ((k : ℕ) → above (look k) (see k) ≡ true) → (us : List Input) (i : ℕ) (one : Bool) → rails_at us look i one ≡ true → rails_at us see i one ≡ true
+pub rails_up : (look see : ℕ → Pair) → ((k : ℕ) → above (look k) (see k) ≡ true) → (us : List Input) (i : ℕ) (one : Bool) → rails_at us look i one ≡ true
+    → rails_at us see i one ≡ true
 rails_up look see h [] i one m = m
-rails_up look see h (j ∷ us) zero one m = above_side (cross j.crossed (look j.at)) (cross j.crossed (see j.at)) one (above_cross j.crossed (look j.at) (see j.at) (h j.at)) m
+rails_up look see h (j ∷ us) zero one m =
+    above_side (cross j.crossed (look j.at)) (cross j.crossed (see j.at)) one (above_cross j.crossed (look j.at) (see j.at) (h j.at)) m
 rails_up look see h (j ∷ us) (suc i) one m = rails_up look see h us i one m

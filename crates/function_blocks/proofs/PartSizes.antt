@@ -94,12 +94,19 @@ mutual
   pub joined_outs_length : (parts : Formulas) (from : ℕ) → AreWellFormed parts → length (joined_outs parts from) ≡ widths_of parts
   joined_outs_length no_parts from h = refl
   joined_outs_length (and_part e more) from h =
-      omega (arith, length-append (joined_outs more (from + gate_count e)) (outs_of e from), outs_length e from h.0, joined_outs_length more (from + gate_count e) h.1)
+      omega (
+        arith,
+        length-append (joined_outs more (from + gate_count e)) (outs_of e from),
+        outs_length e from h.0,
+        joined_outs_length more (from + gate_count e) h.1,
+      )
 
-  chained_outs_length : (width : ℕ) (left : List Input) (more : Operations) (from : ℕ) → length left ≡ width → AreOperations width more → length (chained_outs width left more from) ≡ width
+  chained_outs_length : (width : ℕ) (left : List Input) (more : Operations) (from : ℕ) → length left ≡ width → AreOperations width more
+      → length (chained_outs width left more from) ≡ width
   chained_outs_length width left no_operations from is h = is
   chained_outs_length width left (and_operation op e more) from is h =
-      chained_outs_length width (operator_inputs op left (from + gate_count e)) more (from + gate_count e + operator_gates op width) (each_output op left (from + gate_count e) h.0 ∙ is) h.3
+      chained_outs_length width (operator_inputs op left (from + gate_count e)) more (from + gate_count e + operator_gates op width)
+      (each_output op left (from + gate_count e) h.0 ∙ is) h.3
 
 -- an expression has a bit
 mutual
@@ -150,7 +157,13 @@ all_length (a ∷ us) from = omega (arith, conjunction_length a us from)
 
 equality_length : (us vs : List Input) (from : ℕ) → length vs ≡ length us → length (equality_parts us vs from) ≡ 2 * length us - 1
 equality_length us vs from e =
-    omega (arith, length-append (bitwise_parts alike us vs) (all_parts (result_inputs us from) (from + length us)), bitwise_length alike us vs e, all_length (result_inputs us from) (from + length us), results_length us from)
+    omega (
+      arith,
+      length-append (bitwise_parts alike us vs) (all_parts (result_inputs us from) (from + length us)),
+      bitwise_length alike us vs e,
+      all_length (result_inputs us from) (from + length us),
+      results_length us from,
+    )
 
 pub operator_length : (op : Op) (us vs : List Input) (from : ℕ) → length vs ≡ length us → length (operator_parts op us vs from) ≡ operator_gates op (length us)
 operator_length And us vs from e = bitwise_length all_one us vs e
@@ -172,26 +185,53 @@ mutual
   parts_length (joined parts) from h = joined_parts_length parts from h.2
   parts_length (inverted e) from h = parts_length e from h
   parts_length (chained e more) from h =
-      omega (arith, length-append (parts_of e from) (chained_parts (width_of e) (outs_of e from) more (from + gate_count e)), parts_length e from h.0, chained_parts_length (width_of e) (outs_of e from) more (from + gate_count e) (outs_length e from h.0) h.2)
+      omega (
+        arith,
+        length-append (parts_of e from) (chained_parts (width_of e) (outs_of e from) more (from + gate_count e)),
+        parts_length e from h.0,
+        chained_parts_length (width_of e) (outs_of e from) more (from + gate_count e) (outs_length e from h.0) h.2,
+      )
   parts_length (compared op e f) from h =
       let us = outs_of e from in
       let vs = outs_of f (from + gate_count e) in
       let own = operator_parts op us vs (from + gate_count e + gate_count f) in
       let same : length vs ≡ length us = outs_length f (from + gate_count e) h.3 ∙ (h.1 ∙ sym (outs_length e from h.2)) in
-      let gates : length own ≡ operator_gates op (width_of e) = operator_length op us vs (from + gate_count e + gate_count f) same ∙ ap (operator_gates op) (outs_length e from h.2) in
-      omega (arith, length-append (parts_of e from) (parts_of f (from + gate_count e) ++ own), length-append (parts_of f (from + gate_count e)) own, parts_length e from h.2, parts_length f (from + gate_count e) h.3, gates)
+      let gates : length own ≡ operator_gates op (width_of e) =
+      operator_length op us vs (from + gate_count e + gate_count f) same ∙ ap (operator_gates op) (outs_length e from h.2) in
+      omega (
+        arith,
+        length-append (parts_of e from) (parts_of f (from + gate_count e) ++ own),
+        length-append (parts_of f (from + gate_count e)) own,
+        parts_length e from h.2,
+        parts_length f (from + gate_count e) h.3,
+        gates,
+      )
 
   joined_parts_length : (parts : Formulas) (from : ℕ) → AreWellFormed parts → length (joined_parts parts from) ≡ joined_gates parts
   joined_parts_length no_parts from h = refl
   joined_parts_length (and_part e more) from h =
-      omega (arith, length-append (parts_of e from) (joined_parts more (from + gate_count e)), parts_length e from h.0, joined_parts_length more (from + gate_count e) h.1)
+      omega (
+        arith,
+        length-append (parts_of e from) (joined_parts more (from + gate_count e)),
+        parts_length e from h.0,
+        joined_parts_length more (from + gate_count e) h.1,
+      )
 
-  pub chained_parts_length : (width : ℕ) (left : List Input) (more : Operations) (from : ℕ) → length left ≡ width → AreOperations width more → length (chained_parts width left more from) ≡ chained_gates width more
+  pub chained_parts_length : (width : ℕ) (left : List Input) (more : Operations) (from : ℕ) → length left ≡ width → AreOperations width more
+      → length (chained_parts width left more from) ≡ chained_gates width more
   chained_parts_length width left no_operations from is h = refl
   chained_parts_length width left (and_operation op e more) from is h =
       let vs = outs_of e from in
       let next = from + gate_count e in
       let own = operator_parts op left vs next in
       let rest = chained_parts width (operator_inputs op left next) more (next + operator_gates op width) in
-      let gates : length own ≡ operator_gates op width = operator_length op left vs next (outs_length e from h.2 ∙ (h.1 ∙ sym is)) ∙ ap (operator_gates op) is in
-      omega (arith, length-append (parts_of e from) (own ++ rest), length-append own rest, parts_length e from h.2, gates, chained_parts_length width (operator_inputs op left next) more (next + operator_gates op width) (each_output op left next h.0 ∙ is) h.3)
+      let gates : length own ≡ operator_gates op width =
+      operator_length op left vs next (outs_length e from h.2 ∙ (h.1 ∙ sym is)) ∙ ap (operator_gates op) is in
+      omega (
+        arith,
+        length-append (parts_of e from) (own ++ rest),
+        length-append own rest,
+        parts_length e from h.2,
+        gates,
+        chained_parts_length width (operator_inputs op left next) more (next + operator_gates op width) (each_output op left next h.0 ∙ is) h.3,
+      )

@@ -58,12 +58,14 @@ module _ (v : ℕ → Bool) (bits : ℕ → Rails) where
   bits_turned (a ∷ us) = cons_is _ _ _ _ (turned_bit a) (bits_turned us)
 
   -- gates bit by bit
-  bitwise_is : (f : List Bool → Bool) (us vs : List Input) (from : ℕ) → length vs ≡ length us → Agrees v bits from (bitwise_parts f us vs) → bits_in v (result_inputs us from) ≡ zipped f (bits_in v us) (bits_in v vs)
+  bitwise_is : (f : List Bool → Bool) (us vs : List Input) (from : ℕ) → length vs ≡ length us → Agrees v bits from (bitwise_parts f us vs)
+      → bits_in v (result_inputs us from) ≡ zipped f (bits_in v us) (bits_in v vs)
   bitwise_is f [] vs from e h = refl
   bitwise_is f (a ∷ us) [] from e h = absurd (omega arith)
   bitwise_is f (a ∷ us) (b ∷ vs) from e h = cons_is _ _ _ _ h.0 (bitwise_is f us vs (suc from) (omega arith) h.1)
 
-  ripple_is : (k : List Bool → Bool) (us vs c : List Input) (from : ℕ) → length vs ≡ length us → Agrees v bits from (ripple_parts k us vs c from) → bits_in v (ripple_inputs us from) ≡ ripple_bits k (bits_in v us) (bits_in v vs) (bits_in v c)
+  ripple_is : (k : List Bool → Bool) (us vs c : List Input) (from : ℕ) → length vs ≡ length us → Agrees v bits from (ripple_parts k us vs c from)
+      → bits_in v (ripple_inputs us from) ≡ ripple_bits k (bits_in v us) (bits_in v vs) (bits_in v c)
   ripple_is k [] vs c from e h = refl
   ripple_is k (a ∷ us) [] c from e h = absurd (omega arith)
   ripple_is k (a ∷ []) (b ∷ vs) c from e h = cons_is _ _ _ _ h.0 refl
@@ -71,21 +73,26 @@ module _ (v : ℕ → Bool) (bits : ℕ → Rails) where
       cons_is _ _ _ _ h.0 (ripple_is k (d ∷ us) vs (input (suc from) ∷ []) (suc (suc from)) (omega arith) h.1.1
       ∙ ap (λ z. ripple_bits k (bits_in v (d ∷ us)) (bits_in v vs) (z ∷ [])) h.1.0)
 
-  borrow_is : (c : Input) (us vs : List Input) (from : ℕ) → length vs ≡ length us → Agrees v bits from (borrow_parts us vs (c ∷ []) from) → bit_in v (last_from c from us) ≡ last_of borrows (bit_in v c) (bits_in v us) (bits_in v vs)
+  borrow_is : (c : Input) (us vs : List Input) (from : ℕ) → length vs ≡ length us → Agrees v bits from (borrow_parts us vs (c ∷ []) from)
+      → bit_in v (last_from c from us) ≡ last_of borrows (bit_in v c) (bits_in v us) (bits_in v vs)
   borrow_is c [] vs from e h = refl
   borrow_is c (a ∷ us) [] from e h = absurd (omega arith)
-  borrow_is c (a ∷ us) (b ∷ vs) from e h = borrow_is (input from) us vs (suc from) (omega arith) h.1 ∙ ap (λ z. last_of borrows z (bits_in v us) (bits_in v vs)) h.0
+  borrow_is c (a ∷ us) (b ∷ vs) from e h =
+      borrow_is (input from) us vs (suc from) (omega arith) h.1 ∙ ap (λ z. last_of borrows z (bits_in v us) (bits_in v vs)) h.0
 
-  less_is : (us vs : List Input) (from : ℕ) → length vs ≡ length us → 1 ≤ length us → Agrees v bits from (borrow_parts us vs [] from) → bit_in v (less_input us from) ≡ last_of borrows false (bits_in v us) (bits_in v vs)
+  less_is : (us vs : List Input) (from : ℕ) → length vs ≡ length us → 1 ≤ length us → Agrees v bits from (borrow_parts us vs [] from)
+      → bit_in v (less_input us from) ≡ last_of borrows false (bits_in v us) (bits_in v vs)
   less_is [] vs from e p h = absurd (omega arith)
   less_is (a ∷ us) [] from e p h = absurd (omega arith)
-  less_is (a ∷ us) (b ∷ vs) from e p h = borrow_is (input from) us vs (suc from) (omega arith) h.1 ∙ ap (λ z. last_of borrows z (bits_in v us) (bits_in v vs)) (h.0 ∙ borrow_first (bit_in v a) (bit_in v b))
+  less_is (a ∷ us) (b ∷ vs) from e p h = borrow_is (input from) us vs (suc from) (omega arith) h.1
+      ∙ ap (λ z. last_of borrows z (bits_in v us) (bits_in v vs)) (h.0 ∙ borrow_first (bit_in v a) (bit_in v b))
 
   abbrev all_of : Bool → List Bool → Bool
   all_of b [] = b
   all_of b (x ∷ xs) = all_of (all_one (b ∷ x ∷ [])) xs
 
-  conjunction_is : (c : Input) (us : List Input) (from : ℕ) → Agrees v bits from (conjunction_parts c us from) → bit_in v (last_from c from us) ≡ all_of (bit_in v c) (bits_in v us)
+  conjunction_is : (c : Input) (us : List Input) (from : ℕ) → Agrees v bits from (conjunction_parts c us from)
+      → bit_in v (last_from c from us) ≡ all_of (bit_in v c) (bits_in v us)
   conjunction_is c [] from h = refl
   conjunction_is c (a ∷ us) from h = conjunction_is (input from) us (suc from) h.1 ∙ ap (λ z. all_of z (bits_in v us)) h.0
 
@@ -111,7 +118,8 @@ module _ (v : ℕ → Bool) (bits : ℕ → Rails) where
   last_results c n k [] = refl
   last_results c n k (a ∷ us) = last_results (input n) (suc n) (suc k) us
 
-  equal_is : (us vs : List Input) (from : ℕ) → length vs ≡ length us → 1 ≤ length us → Agrees v bits from (equality_parts us vs from) → bit_in v (equal_input us from) ≡ all_alike (bits_in v us) (bits_in v vs)
+  equal_is : (us vs : List Input) (from : ℕ) → length vs ≡ length us → 1 ≤ length us → Agrees v bits from (equality_parts us vs from)
+      → bit_in v (equal_input us from) ≡ all_alike (bits_in v us) (bits_in v vs)
   equal_is [] vs from e p h = absurd (omega arith)
   equal_is (a ∷ us) [] from e p h = absurd (omega arith)
   equal_is (a ∷ us) (b ∷ vs) from e p h =
@@ -138,7 +146,8 @@ module _ (v : ℕ → Bool) (bits : ℕ → Rails) where
   not_told i b h = told (turned_over i) (not b) (turned_bit i ∙ ap not h)
 
   -- operators
-  operator_is : (op : Op) (us vs : List Input) (from : ℕ) → length vs ≡ length us → 1 ≤ length us → Agrees v bits from (operator_parts op us vs from) → number_of (bits_in v (operator_inputs op us from)) ≡ operated op (length us) (number_of (bits_in v us)) (number_of (bits_in v vs))
+  operator_is : (op : Op) (us vs : List Input) (from : ℕ) → length vs ≡ length us → 1 ≤ length us → Agrees v bits from (operator_parts op us vs from)
+      → number_of (bits_in v (operator_inputs op us from)) ≡ operated op (length us) (number_of (bits_in v us)) (number_of (bits_in v vs))
   operator_is And us vs from e p h = ap number_of (bitwise_is all_one us vs from e h) ∙ and_number (bits_in v us) (bits_in v vs) (bits_same us vs e)
   operator_is Or us vs from e p h = ap number_of (bitwise_is some_one us vs from e h) ∙ or_number (bits_in v us) (bits_in v vs) (bits_same us vs e)
   operator_is Xor us vs from e p h = ap number_of (bitwise_is odd_ones us vs from e h) ∙ xor_number (bits_in v us) (bits_in v vs) (bits_same us vs e)
@@ -149,13 +158,17 @@ module _ (v : ℕ → Bool) (bits : ℕ → Rails) where
       ap number_of (ripple_is borrows us vs [] from e h) ∙ (difference_number (bits_in v us) (bits_in v vs) (bits_same us vs e)
       ∙ ap (λ n. (number_of (bits_in v us) + (2 ^ n - number_of (bits_in v vs))) % 2 ^ n) (bits_length us))
   operator_is Eq us vs from e p h = told (equal_input us from) _ (equal_is us vs from e p h ∙ equal_number (bits_in v us) (bits_in v vs) (bits_same us vs e))
-  operator_is Ne us vs from e p h = not_told (equal_input us from) _ (equal_is us vs from e p h ∙ equal_number (bits_in v us) (bits_in v vs) (bits_same us vs e))
+  operator_is Ne us vs from e p h =
+      not_told (equal_input us from) _ (equal_is us vs from e p h ∙ equal_number (bits_in v us) (bits_in v vs) (bits_same us vs e))
   operator_is Lt us vs from e p h = told (less_input us from) _ (less_is us vs from e p h ∙ less_number (bits_in v us) (bits_in v vs) (bits_same us vs e))
-  operator_is Ge us vs from e p h = not_told (less_input us from) _ (less_is us vs from e p h) ∙ ap one_if (at_least_number (bits_in v us) (bits_in v vs) (bits_same us vs e))
+  operator_is Ge us vs from e p h =
+      not_told (less_input us from) _ (less_is us vs from e p h) ∙ ap one_if (at_least_number (bits_in v us) (bits_in v vs) (bits_same us vs e))
   operator_is Gt us vs from e p h =
-      told (less_input us from) _ (ap (bit_in v) (less_same us vs from e) ∙ (less_is vs us from (sym e) (omega arith) h ∙ less_number (bits_in v vs) (bits_in v us) (bits_same vs us (sym e))))
+      told (less_input us from) _ (ap (bit_in v) (less_same us vs from e)
+      ∙ (less_is vs us from (sym e) (omega arith) h ∙ less_number (bits_in v vs) (bits_in v us) (bits_same vs us (sym e))))
   operator_is Le us vs from e p h =
-      not_told (less_input us from) _ (ap (bit_in v) (less_same us vs from e) ∙ less_is vs us from (sym e) (omega arith) h) ∙ ap one_if (at_least_number (bits_in v vs) (bits_in v us) (bits_same vs us (sym e)))
+      not_told (less_input us from) _ (ap (bit_in v) (less_same us vs from e) ∙ less_is vs us from (sym e) (omega arith) h)
+      ∙ ap one_if (at_least_number (bits_in v vs) (bits_in v us) (bits_same vs us (sym e)))
 
   -- numbers and variables
   fixed_is : (w n from : ℕ) → Agrees v bits from (fixed_parts w n) → bits_in v (inputs_from w from) ≡ constant_list w n
@@ -174,7 +187,8 @@ module _ (v : ℕ → Bool) (bits : ℕ → Rails) (vars : List Var) where
   complement n m k h = omega arith
 
   mutual
-    pub value_at : (e : Formula) (from : ℕ) → IsWellFormed e → ReadsFrom vars e → Agrees v bits from (parts_of e from) → number_of (bits_in v (outs_of e from)) ≡ value store e
+    pub value_at : (e : Formula) (from : ℕ) → IsWellFormed e → ReadsFrom vars e → Agrees v bits from (parts_of e from)
+        → number_of (bits_in v (outs_of e from)) ≡ value store e
     value_at (constant w n) from h r a = ap number_of (fixed_is v bits w n from a) ∙ constant_number w n h.2
     value_at (reading x high low at) from h r a =
         ap number_of (read_is v bits x low (high + 1 - low) from a) ∙ read_number (var_width vars x) low (high + 1 - low) (bits x) (omega (arith, h.0, r.1))
@@ -182,11 +196,13 @@ module _ (v : ℕ → Bool) (bits : ℕ → Rails) (vars : List Var) where
     value_at (inverted e) from h r a =
         let is = value_at e from h r a in
         let wide = ap (λ n. 2 ^ n) (bits_length v bits (outs_of e from) ∙ outs_length e from h) in
-        ap number_of (bits_turned v bits (outs_of e from)) ∙ (complement _ (number_of (bits_in v (outs_of e from))) _ (number_not (bits_in v (outs_of e from)) ∙ wide) ∙ ap (λ n. 2 ^ width_of e - 1 - n) is)
+        ap number_of (bits_turned v bits (outs_of e from)) ∙ (complement _ (number_of (bits_in v (outs_of e from))) _
+        (number_not (bits_in v (outs_of e from)) ∙ wide) ∙ ap (λ n. 2 ^ width_of e - 1 - n) is)
     value_at (chained e more) from h r a =
         let us = outs_of e from in
         let rest = chained_parts (width_of e) us more (from + gate_count e) in
-        chained_at (width_of e) us more (from + gate_count e) (some_width e h.0) (outs_length e from h.0) h.2 r.1 (agrees_right v bits from (gate_count e) (parts_of e from) rest (parts_length e from h.0) a)
+        chained_at (width_of e) us more (from + gate_count e) (some_width e h.0) (outs_length e from h.0) h.2 r.1
+        (agrees_right v bits from (gate_count e) (parts_of e from) rest (parts_length e from h.0) a)
         ∙ ap (λ n. chained_value store (width_of e) n more) (value_at e from h.0 r.0 (agrees_left v bits from (parts_of e from) rest a))
     value_at (compared op e f) from h r a =
         let us = outs_of e from in
@@ -200,10 +216,12 @@ module _ (v : ℕ → Bool) (bits : ℕ → Rails) (vars : List Var) where
         let right = agrees_right v bits from (gate_count e) (parts_of e from) (parts_of f fb ++ own) (parts_length e from h.2) a in
         operator_is v bits op us vs fo same (omega (arith, is, some)) (agrees_right v bits fb (gate_count f) (parts_of f fb) own (parts_length f fb h.3) right)
         ∙ (ap (λ n. operated op n (number_of (bits_in v us)) (number_of (bits_in v vs))) is
-        ∙ (ap (λ n. operated op (width_of e) n (number_of (bits_in v vs))) (value_at e from h.2 r.0 (agrees_left v bits from (parts_of e from) (parts_of f fb ++ own) a))
+        ∙ (ap (λ n. operated op (width_of e) n (number_of (bits_in v vs)))
+        (value_at e from h.2 r.0 (agrees_left v bits from (parts_of e from) (parts_of f fb ++ own) a))
         ∙ ap (operated op (width_of e) (value store e)) (value_at f fb h.3 r.1 (agrees_left v bits fb (parts_of f fb) own right))))
 
-    joined_at : (parts : Formulas) (from : ℕ) → AreWellFormed parts → EachReadsFrom vars parts → Agrees v bits from (joined_parts parts from) → number_of (bits_in v (joined_outs parts from)) ≡ joined_value store parts
+    joined_at : (parts : Formulas) (from : ℕ) → AreWellFormed parts → EachReadsFrom vars parts → Agrees v bits from (joined_parts parts from)
+        → number_of (bits_in v (joined_outs parts from)) ≡ joined_value store parts
     joined_at no_parts from h r a = refl
     joined_at (and_part e more) from h r a =
         let us = outs_of e from in
@@ -223,7 +241,9 @@ module _ (v : ℕ → Bool) (bits : ℕ → Rails) (vars : List Var) where
         turned : (a b c : ℕ) → a + b * c ≡ c * b + a
         turned a b c = grind arith
 
-    chained_at : (width : ℕ) (left : List Input) (more : Operations) (from : ℕ) → 1 ≤ width → length left ≡ width → AreOperations width more → AllReadFrom vars more → Agrees v bits from (chained_parts width left more from) → number_of (bits_in v (chained_outs width left more from)) ≡ chained_value store width (number_of (bits_in v left)) more
+    chained_at : (width : ℕ) (left : List Input) (more : Operations) (from : ℕ) → 1 ≤ width → length left ≡ width → AreOperations width more
+        → AllReadFrom vars more → Agrees v bits from (chained_parts width left more from)
+        → number_of (bits_in v (chained_outs width left more from)) ≡ chained_value store width (number_of (bits_in v left)) more
     chained_at width left no_operations from some is h r a = refl
     chained_at width left (and_operation op e more) from some is h r a =
         let vs = outs_of e from in
@@ -237,7 +257,8 @@ module _ (v : ℕ → Bool) (bits : ℕ → Rails) (vars : List Var) where
         let right = agrees_right v bits from (gate_count e) (parts_of e from) (own ++ rest) (parts_length e from h.2) a in
         let told = operator_is v bits op left vs next same (omega (arith, is, some)) (agrees_left v bits next own rest right) in
         let one = value_at e from h.2 r.0 (agrees_left v bits from (parts_of e from) (own ++ rest) a) in
-        chained_at width result more after some (each_output op left next h.0 ∙ is) h.3 r.1 (agrees_right v bits next (operator_gates op width) own rest gates right)
+        chained_at width result more after some (each_output op left next h.0 ∙ is) h.3 r.1
+        (agrees_right v bits next (operator_gates op width) own rest gates right)
         ∙ ap (λ n. chained_value store width n more) (told
         ∙ (ap (λ n. operated op n (number_of (bits_in v left)) (number_of (bits_in v vs))) is
         ∙ ap (operated op width (number_of (bits_in v left))) one))

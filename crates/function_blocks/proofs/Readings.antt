@@ -1,5 +1,5 @@
 -- The bits of variables that the gates of an expression read.
-use Rattle.std.proofs.Common.{◌≡◌, ℕ, zero, suc, ◌+◌, ◌-◌, ◌/◌, ◌<◌, Bool, true, List, [], ◌∷◌, ◌++◌, length, arith}
+use Rattle.std.proofs.Common.{◌≡◌, ℕ, zero, suc, ◌+◌, ◌-◌, ◌/◌, ◌<◌, ◌≤◌, Bool, true, List, [], ◌∷◌, ◌++◌, length, arith}
 use Rattle.chp_syntax.specs.declared.tree.Op.{Op}
 use Rattle.chp_syntax.specs.declared.tree.Op.TheVariants.{And, Or, Xor, Add, Sub, Eq, Ne, Lt, Le, Gt, Ge}
 use Rattle.width_check.specs.declared.typed.Var.{Var}
@@ -9,6 +9,7 @@ use Rattle.width_check.specs.Typing.{var_width, ReadsFrom, EachReadsFrom, AllRea
 use Rattle.width_check.specs.Reads.{reads, reads_in_parts, reads_in_operations}
 use Rattle.function_blocks.specs.Gates.{all_one, some_one, odd_ones, carries, alike, borrows}
 use Rattle.function_blocks.specs.Parts.{Input, input, fixed_parts, read_parts, bitwise_parts, result_inputs, ripple_parts, borrow_parts, conjunction_parts, all_parts, equality_parts, operator_parts, operator_inputs, operator_gates, gate_count, outs_of, parts_of, joined_parts, chained_parts}
+use Rattle.function_blocks.specs.BitsRead.{EachRead, EachPart, EachOperation}
 use Rattle.function_blocks.proofs.Tables.{or_left, or_right}
 use Rattle.function_blocks.proofs.GateRest.{Only, only_append}
 use Rattle.function_blocks.proofs.Ordered.{eq_self}
@@ -40,7 +41,8 @@ module _ (P : ℕ → ℕ → Type 0) where
   all_only (a ∷ us) from = conjunction_only a us from
 
   equality_only : (us vs : List Input) (from : ℕ) → Only P (equality_parts us vs from)
-  equality_only us vs from = only_append P (bitwise_parts alike us vs) (all_parts (result_inputs us from) (from + length us)) (bitwise_only alike us vs) (all_only (result_inputs us from) (from + length us))
+  equality_only us vs from = only_append P (bitwise_parts alike us vs) (all_parts (result_inputs us from) (from + length us)) (bitwise_only alike us vs)
+      (all_only (result_inputs us from) (from + length us))
 
   operator_only : (op : Op) (us vs : List Input) (from : ℕ) → Only P (operator_parts op us vs from)
   operator_only And us vs from = bitwise_only all_one us vs
@@ -72,13 +74,15 @@ mutual
   parts_only P (inverted e) from f = parts_only P e from f
   parts_only P (chained e more) from f =
       only_append P (parts_of e from) (chained_parts (width_of e) (outs_of e from) more (from + gate_count e))
-      (parts_only P e from (λ x i h. f x i (or_left _ _ h))) (chained_only P (width_of e) (outs_of e from) more (from + gate_count e) (λ x i h. f x i (or_right (reads x e) _ h)))
+      (parts_only P e from (λ x i h. f x i (or_left _ _ h))) (chained_only P (width_of e) (outs_of e from) more (from + gate_count e)
+      (λ x i h. f x i (or_right (reads x e) _ h)))
   parts_only P (compared op e g) from f =
       let fb = from + gate_count e in
       let fo = fb + gate_count g in
       let own = operator_parts op (outs_of e from) (outs_of g fb) fo in
       only_append P (parts_of e from) (parts_of g fb ++ own) (parts_only P e from (λ x i h. f x i (or_left _ _ h)))
-      (only_append P (parts_of g fb) own (parts_only P g fb (λ x i h. f x i (or_right (reads x e) _ h))) (operator_only P op (outs_of e from) (outs_of g fb) fo))
+      (only_append P (parts_of g fb) own (parts_only P g fb (λ x i h. f x i (or_right (reads x e) _ h)))
+      (operator_only P op (outs_of e from) (outs_of g fb) fo))
 
   joined_only : (P : ℕ → ℕ → Type 0) (parts : Formulas) (from : ℕ) → ((x i : ℕ) → reads_in_parts x parts ≡ true → P x i) → Only P (joined_parts parts from)
   joined_only P no_parts from f = tt
@@ -86,7 +90,8 @@ mutual
       only_append P (parts_of e from) (joined_parts more (from + gate_count e))
       (parts_only P e from (λ x i h. f x i (or_left _ _ h))) (joined_only P more (from + gate_count e) (λ x i h. f x i (or_right (reads x e) _ h)))
 
-  chained_only : (P : ℕ → ℕ → Type 0) (width : ℕ) (left : List Input) (more : Operations) (from : ℕ) → ((x i : ℕ) → reads_in_operations x more ≡ true → P x i) → Only P (chained_parts width left more from)
+  chained_only : (P : ℕ → ℕ → Type 0) (width : ℕ) (left : List Input) (more : Operations) (from : ℕ) → ((x i : ℕ) → reads_in_operations x more ≡ true → P x i)
+      → Only P (chained_parts width left more from)
   chained_only P width left no_operations from f = tt
   chained_only P width left (and_operation op e more) from f =
       let next = from + gate_count e in
@@ -119,9 +124,11 @@ mutual
   joined_within : (vars : List Var) (parts : Formulas) (from : ℕ) → AreWellFormed parts → EachReadsFrom vars parts → Only (Has vars) (joined_parts parts from)
   joined_within vars no_parts from h r = tt
   joined_within vars (and_part e more) from h r =
-      only_append (Has vars) (parts_of e from) (joined_parts more (from + gate_count e)) (parts_within vars e from h.0 r.0) (joined_within vars more (from + gate_count e) h.1 r.1)
+      only_append (Has vars) (parts_of e from) (joined_parts more (from + gate_count e)) (parts_within vars e from h.0 r.0)
+      (joined_within vars more (from + gate_count e) h.1 r.1)
 
-  chained_within : (vars : List Var) (width : ℕ) (left : List Input) (more : Operations) (from : ℕ) → AreOperations width more → AllReadFrom vars more → Only (Has vars) (chained_parts width left more from)
+  chained_within : (vars : List Var) (width : ℕ) (left : List Input) (more : Operations) (from : ℕ) → AreOperations width more → AllReadFrom vars more
+      → Only (Has vars) (chained_parts width left more from)
   chained_within vars width left no_operations from h r = tt
   chained_within vars width left (and_operation op e more) from h r =
       let next = from + gate_count e in
@@ -130,3 +137,41 @@ mutual
       only_append (Has vars) (parts_of e from) (own ++ rest) (parts_within vars e from h.2 r.0)
       (only_append (Has vars) own rest (operator_only (Has vars) op left (outs_of e from) next)
       (chained_within vars width (operator_inputs op left next) more (next + operator_gates op width) h.3 r.1))
+
+-- the bits that the gates read are those that the expression reads
+
+read_between : (P : ℕ → ℕ → Type 0) (x i n : ℕ) → ((j : ℕ) → i ≤ j → j < i + n → P x j) → Only P (read_parts x i n)
+read_between P x i zero f = tt
+read_between P x i (suc n) f = (f i (omega arith) (omega arith), read_between P x (suc i) n (λ j l m. f j (omega (arith, l)) (omega (arith, m))))
+
+mutual
+  pub parts_read : (P : ℕ → ℕ → Type 0) (e : Formula) (from : ℕ) → EachRead P e → Only P (parts_of e from)
+  parts_read P (constant w v) from r = fixed_only P w v
+  parts_read P (reading x high low at) from r = read_between P x low (high + 1 - low) (λ j l m. r j l (omega (arith, l, m)))
+  parts_read P (joined parts) from r = joined_read P parts from r
+  parts_read P (inverted e) from r = parts_read P e from r
+  parts_read P (chained e more) from r =
+      only_append P (parts_of e from) (chained_parts (width_of e) (outs_of e from) more (from + gate_count e))
+      (parts_read P e from r.0) (chained_read P (width_of e) (outs_of e from) more (from + gate_count e) r.1)
+  parts_read P (compared op e g) from r =
+      let fb = from + gate_count e in
+      let fo = fb + gate_count g in
+      let own = operator_parts op (outs_of e from) (outs_of g fb) fo in
+      only_append P (parts_of e from) (parts_of g fb ++ own) (parts_read P e from r.0)
+      (only_append P (parts_of g fb) own (parts_read P g fb r.1) (operator_only P op (outs_of e from) (outs_of g fb) fo))
+
+  joined_read : (P : ℕ → ℕ → Type 0) (parts : Formulas) (from : ℕ) → EachPart P parts → Only P (joined_parts parts from)
+  joined_read P no_parts from r = tt
+  joined_read P (and_part e more) from r =
+      only_append P (parts_of e from) (joined_parts more (from + gate_count e)) (parts_read P e from r.0) (joined_read P more (from + gate_count e) r.1)
+
+  chained_read : (P : ℕ → ℕ → Type 0) (width : ℕ) (left : List Input) (more : Operations) (from : ℕ) → EachOperation P more
+      → Only P (chained_parts width left more from)
+  chained_read P width left no_operations from r = tt
+  chained_read P width left (and_operation op e more) from r =
+      let next = from + gate_count e in
+      let own = operator_parts op left (outs_of e from) next in
+      let rest = chained_parts width (operator_inputs op left next) more (next + operator_gates op width) in
+      only_append P (parts_of e from) (own ++ rest) (parts_read P e from r.0)
+      (only_append P own rest (operator_only P op left (outs_of e from) next)
+      (chained_read P width (operator_inputs op left next) more (next + operator_gates op width) r.1))

@@ -37,22 +37,26 @@ borrows_length : (xs ys borrowed : List Pair) (from : ℕ) → length ys ≡ len
 borrows_length [] ys borrowed from h = refl
 borrows_length (x ∷ xs) [] borrowed from h = absurd (omega (arith, h))
 borrows_length (x ∷ xs) (y ∷ ys) borrowed from h =
-    let e : length (borrow_gates xs ys (pair_at from ∷ []) (from + 2)) ≡ 2 * length xs = borrows_length xs ys (pair_at from ∷ []) (from + 2) (omega (arith, h)) in
+    let e : length (borrow_gates xs ys (pair_at from ∷ []) (from + 2)) ≡ 2 * length xs =
+    borrows_length xs ys (pair_at from ∷ []) (from + 2) (omega (arith, h)) in
     omega arith
 
-ripple_length : (carry : List Bool → Bool) (xs ys carried : List Pair) (from : ℕ) → length ys ≡ length xs → 1 ≤ length xs → length (ripple carry xs ys carried from) ≡ 4 * length xs - 2
+ripple_length : (carry : List Bool → Bool) (xs ys carried : List Pair) (from : ℕ) → length ys ≡ length xs → 1 ≤ length xs
+    → length (ripple carry xs ys carried from) ≡ 4 * length xs - 2
 ripple_length carry [] ys carried from h some = absurd (omega (arith, some))
 ripple_length carry (x ∷ xs) [] carried from h some = absurd (omega (arith, h))
 ripple_length carry (x ∷ []) (y ∷ []) carried from h some = refl
 ripple_length carry (x ∷ []) (y ∷ z ∷ ys) carried from h some = absurd (omega (arith, h))
 ripple_length carry (x ∷ w ∷ xs) (y ∷ []) carried from h some = absurd (omega (arith, h))
 ripple_length carry (x ∷ w ∷ xs) (y ∷ z ∷ ys) carried from h some =
-    let e : length (ripple carry (w ∷ xs) (z ∷ ys) (pair_at (from + 2) ∷ []) (from + 4)) ≡ 4 * length (w ∷ xs) - 2 = ripple_length carry (w ∷ xs) (z ∷ ys) (pair_at (from + 2) ∷ []) (from + 4) (omega (arith, h)) (omega arith) in
+    let e : length (ripple carry (w ∷ xs) (z ∷ ys) (pair_at (from + 2) ∷ []) (from + 4)) ≡ 4 * length (w ∷ xs) - 2 =
+    ripple_length carry (w ∷ xs) (z ∷ ys) (pair_at (from + 2) ∷ []) (from + 4) (omega (arith, h)) (omega arith) in
     omega arith
 
 conjunctions_length : (p : Pair) (qs : List Pair) (from : ℕ) → length (conjunctions p qs from) ≡ 2 * length qs
 conjunctions_length p [] from = refl
-conjunctions_length p (q ∷ qs) from = let e : length (conjunctions (pair_at from) qs (from + 2)) ≡ 2 * length qs = conjunctions_length (pair_at from) qs (from + 2) in omega arith
+conjunctions_length p (q ∷ qs) from = let e : length (conjunctions (pair_at from) qs (from + 2)) ≡ 2 * length qs =
+    conjunctions_length (pair_at from) qs (from + 2) in omega arith
 
 all_length : (ps : List Pair) (from : ℕ) → length (all_of_bits ps from) ≡ 2 * (length ps - 1)
 all_length [] from = refl
@@ -60,13 +64,15 @@ all_length (p ∷ ps) from = let e = conjunctions_length p ps from in omega (ari
 
 equality_length : (xs ys : List Pair) (from : ℕ) → length ys ≡ length xs → length (equality xs ys from) ≡ 4 * length xs - 2
 equality_length xs ys from h =
-    let parts : length (equality xs ys from) ≡ length (bitwise alike xs ys) + length (all_of_bits (result_pairs xs from) (from + 2 * length xs)) = length-append _ _ in
+    let parts : length (equality xs ys from) ≡ length (bitwise alike xs ys) + length (all_of_bits (result_pairs xs from) (from + 2 * length xs)) =
+    length-append _ _ in
     let bits = bitwise_length alike xs ys h in
     let all = all_length (result_pairs xs from) (from + 2 * length xs) in
     let pairs = results_length xs from in
     omega (arith, parts, bits, all, pairs)
 
-pub operator_length : (op : Op) (xs ys : List Pair) (from : ℕ) → length ys ≡ length xs → 1 ≤ length xs → length (operator_rules op xs ys from) ≡ operator_size op (length xs)
+pub operator_length : (op : Op) (xs ys : List Pair) (from : ℕ) → length ys ≡ length xs → 1 ≤ length xs
+    → length (operator_rules op xs ys from) ≡ operator_size op (length xs)
 operator_length And xs ys from h some = bitwise_length all_one xs ys h
 operator_length Or xs ys from h some = bitwise_length some_one xs ys h
 operator_length Xor xs ys from h some = bitwise_length odd_ones xs ys h
@@ -92,7 +98,7 @@ one_bit Le xs from h = refl
 one_bit Gt xs from h = refl
 one_bit Ge xs from h = refl
 
-each_bit : (op : Op) (xs : List Pair) (from : ℕ) → is_comparison op ≡ false → length (operator_result op xs from) ≡ length xs
+pub each_bit : (op : Op) (xs : List Pair) (from : ℕ) → is_comparison op ≡ false → length (operator_result op xs from) ≡ length xs
 each_bit And xs from h = results_length xs from
 each_bit Or xs from h = results_length xs from
 each_bit Xor xs from h = results_length xs from
@@ -132,15 +138,18 @@ mutual
   joined_length : (parts : Formulas) (from : ℕ) → AreWellFormed parts → length (joined_result parts from) ≡ widths_of parts
   joined_length no_parts from h = refl
   joined_length (and_part e more) from h =
-      let both : length (joined_result (and_part e more) from) ≡ length (joined_result more (from + formula_size e)) + length (formula_result e from) = length-append _ _ in
+      let both : length (joined_result (and_part e more) from) ≡ length (joined_result more (from + formula_size e)) + length (formula_result e from) =
+      length-append _ _ in
       let one = result_length e from h.0 in
       let rest = joined_length more (from + formula_size e) h.1 in
       omega (arith, both, one, rest)
 
-  chained_length : (width : ℕ) (left : List Pair) (more : Operations) (from : ℕ) → length left ≡ width → AreOperations width more → length (chained_result width left more from) ≡ width
+  chained_length : (width : ℕ) (left : List Pair) (more : Operations) (from : ℕ) → length left ≡ width → AreOperations width more
+      → length (chained_result width left more from) ≡ width
   chained_length width left no_operations from is h = is
   chained_length width left (and_operation op e more) from is h =
-      chained_length width (operator_result op left (from + formula_size e)) more (from + formula_size e + operator_size op width) (each_bit op left (from + formula_size e) h.0 ∙ is) h.3
+      chained_length width (operator_result op left (from + formula_size e)) more (from + formula_size e + operator_size op width)
+      (each_bit op left (from + formula_size e) h.0 ∙ is) h.3
 
 -- the rules of an expression
 
@@ -153,7 +162,8 @@ constants_length request zero value = refl
 constants_length request (suc n) value =
     let bit = constant_length request (value % 2 == 1) in
     let rest = constants_length request n (value / 2) in
-    let both : length (constant_bits request (suc n) value) ≡ length (constant_bit request (value % 2 == 1)) + length (constant_bits request n (value / 2)) = length-append _ _ in
+    let both : length (constant_bits request (suc n) value) ≡ length (constant_bit request (value % 2 == 1)) + length (constant_bits request n (value / 2)) =
+    length-append _ _ in
     omega (arith, bit, rest, both)
 
 reads_length : (request : ℕ) (xs : List Pair) → length (read_bits request xs) ≡ 2 * length xs
@@ -167,7 +177,8 @@ between_length high low xs some within =
     omega (arith, front, back, some, within)
 
 mutual
-  pub rules_length : (vars : List Var) (bits : ℕ → List Pair) → HasBits vars bits → (e : Formula) (request from : ℕ) → IsWellFormed e → ReadsFrom vars e → length (formula_rules bits e request from) ≡ formula_size e
+  pub rules_length : (vars : List Var) (bits : ℕ → List Pair) → HasBits vars bits → (e : Formula) (request from : ℕ) → IsWellFormed e → ReadsFrom vars e
+      → length (formula_rules bits e request from) ≡ formula_size e
   rules_length vars bits has (constant w v) request from h r = constants_length request w v
   rules_length vars bits has (reading var high low at) request from h r =
       let all = has var r.0 in
@@ -177,9 +188,11 @@ mutual
   rules_length vars bits has (joined parts) request from h r = joined_rules_length vars bits has parts request from h.2 r
   rules_length vars bits has (inverted e) request from h r = rules_length vars bits has e request from h r
   rules_length vars bits has (chained e more) request from h r =
-      let both : length (formula_rules bits (chained e more) request from) ≡ length (formula_rules bits e request from) + length (chained_rules bits (width_of e) (formula_result e from) more request (from + formula_size e)) = length-append _ _ in
+      let both : length (formula_rules bits (chained e more) request from) ≡ length (formula_rules bits e request from) + length
+      (chained_rules bits (width_of e) (formula_result e from) more request (from + formula_size e)) = length-append _ _ in
       let one = rules_length vars bits has e request from h.0 r.0 in
-      let rest = chained_rules_length vars bits has (width_of e) (formula_result e from) more request (from + formula_size e) (some_width e h.0) (result_length e from h.0) h.2 r.1 in
+      let rest = chained_rules_length vars bits has (width_of e) (formula_result e from) more request (from + formula_size e) (some_width e h.0)
+      (result_length e from h.0) h.2 r.1 in
       omega (arith, both, one, rest)
   rules_length vars bits has (compared op e f) request from h r =
       let left = rules_length vars bits has e request from h.2 r.0 in
@@ -187,26 +200,44 @@ mutual
       let xs = result_length e from h.2 in
       let ys = result_length f (from + formula_size e) h.3 in
       let some = some_width e h.2 in
-      let gates = operator_length op (formula_result e from) (formula_result f (from + formula_size e)) (from + formula_size e + formula_size f) (ys ∙ h.1 ∙ sym xs) (omega (arith, xs, some)) ∙ ap (operator_size op) xs in
-      let both : length (formula_rules bits (compared op e f) request from) ≡ length (formula_rules bits e request from) + length (formula_rules bits f request (from + formula_size e) ++ operator_rules op (formula_result e from) (formula_result f (from + formula_size e)) (from + formula_size e + formula_size f)) = length-append _ _ in
-      let last : length (formula_rules bits f request (from + formula_size e) ++ operator_rules op (formula_result e from) (formula_result f (from + formula_size e)) (from + formula_size e + formula_size f)) ≡ length (formula_rules bits f request (from + formula_size e)) + length (operator_rules op (formula_result e from) (formula_result f (from + formula_size e)) (from + formula_size e + formula_size f)) = length-append _ _ in
+      let gates = operator_length op (formula_result e from) (formula_result f (from + formula_size e)) (from + formula_size e + formula_size f)
+      (ys ∙ h.1 ∙ sym xs) (omega (arith, xs, some)) ∙ ap (operator_size op) xs in
+      let both : length (formula_rules bits (compared op e f) request from) ≡ length (formula_rules bits e request from) + length
+      (formula_rules bits f request (from + formula_size e) ++ operator_rules op (formula_result e from) (formula_result f (from + formula_size e))
+      (from + formula_size e + formula_size f)) = length-append _ _ in
+      let last : length (formula_rules bits f request (from + formula_size e) ++ operator_rules op (formula_result e from)
+      (formula_result f (from + formula_size e)) (from + formula_size e + formula_size f)) ≡ length
+      (formula_rules bits f request (from + formula_size e)) + length
+      (operator_rules op (formula_result e from) (formula_result f (from + formula_size e)) (from + formula_size e + formula_size f)) = length-append _ _ in
       omega (arith, left, right, gates, both, last)
 
-  joined_rules_length : (vars : List Var) (bits : ℕ → List Pair) → HasBits vars bits → (parts : Formulas) (request from : ℕ) → AreWellFormed parts → EachReadsFrom vars parts → length (joined_rules bits parts request from) ≡ parts_size parts
+  joined_rules_length : (vars : List Var) (bits : ℕ → List Pair) → HasBits vars bits → (parts : Formulas) (request from : ℕ) → AreWellFormed parts
+      → EachReadsFrom vars parts → length (joined_rules bits parts request from) ≡ parts_size parts
   joined_rules_length vars bits has no_parts request from h r = refl
   joined_rules_length vars bits has (and_part e more) request from h r =
-      let both : length (joined_rules bits (and_part e more) request from) ≡ length (formula_rules bits e request from) + length (joined_rules bits more request (from + formula_size e)) = length-append _ _ in
+      let both : length (joined_rules bits (and_part e more) request from) ≡ length (formula_rules bits e request from) + length
+      (joined_rules bits more request (from + formula_size e)) = length-append _ _ in
       let one = rules_length vars bits has e request from h.0 r.0 in
       let rest = joined_rules_length vars bits has more request (from + formula_size e) h.1 r.1 in
       omega (arith, both, one, rest)
 
-  chained_rules_length : (vars : List Var) (bits : ℕ → List Pair) → HasBits vars bits → (width : ℕ) (left : List Pair) (more : Operations) (request from : ℕ) → 1 ≤ width → length left ≡ width → AreOperations width more → AllReadFrom vars more → length (chained_rules bits width left more request from) ≡ operations_size width more
+  chained_rules_length : (vars : List Var) (bits : ℕ → List Pair) → HasBits vars bits → (width : ℕ) (left : List Pair) (more : Operations) (request from : ℕ)
+      → 1 ≤ width → length left ≡ width → AreOperations width more → AllReadFrom vars more
+      → length (chained_rules bits width left more request from) ≡ operations_size width more
   chained_rules_length vars bits has width left no_operations request from some is h r = refl
   chained_rules_length vars bits has width left (and_operation op e more) request from some is h r =
       let one = rules_length vars bits has e request from h.2 r.0 in
       let ys = result_length e from h.2 in
-      let gates = operator_length op left (formula_result e from) (from + formula_size e) (ys ∙ h.1 ∙ sym is) (omega (arith, is, some)) ∙ ap (operator_size op) is in
-      let rest = chained_rules_length vars bits has width (operator_result op left (from + formula_size e)) more request (from + formula_size e + operator_size op width) some (each_bit op left (from + formula_size e) h.0 ∙ is) h.3 r.1 in
-      let both : length (chained_rules bits width left (and_operation op e more) request from) ≡ length (formula_rules bits e request from) + length (operator_rules op left (formula_result e from) (from + formula_size e) ++ chained_rules bits width (operator_result op left (from + formula_size e)) more request (from + formula_size e + operator_size op width)) = length-append _ _ in
-      let last : length (operator_rules op left (formula_result e from) (from + formula_size e) ++ chained_rules bits width (operator_result op left (from + formula_size e)) more request (from + formula_size e + operator_size op width)) ≡ length (operator_rules op left (formula_result e from) (from + formula_size e)) + length (chained_rules bits width (operator_result op left (from + formula_size e)) more request (from + formula_size e + operator_size op width)) = length-append _ _ in
+      let gates =
+      operator_length op left (formula_result e from) (from + formula_size e) (ys ∙ h.1 ∙ sym is) (omega (arith, is, some)) ∙ ap (operator_size op) is in
+      let rest = chained_rules_length vars bits has width (operator_result op left (from + formula_size e)) more request
+      (from + formula_size e + operator_size op width) some (each_bit op left (from + formula_size e) h.0 ∙ is) h.3 r.1 in
+      let both : length (chained_rules bits width left (and_operation op e more) request from) ≡ length (formula_rules bits e request from) + length
+      (operator_rules op left (formula_result e from) (from + formula_size e) ++ chained_rules bits width (operator_result op left (from + formula_size e))
+      more request (from + formula_size e + operator_size op width)) = length-append _ _ in
+      let last : length (operator_rules op left (formula_result e from) (from + formula_size e) ++ chained_rules bits width
+      (operator_result op left (from + formula_size e)) more request (from + formula_size e + operator_size op width)) ≡ length
+      (operator_rules op left (formula_result e from) (from + formula_size e)) + length
+      (chained_rules bits width (operator_result op left (from + formula_size e)) more request (from + formula_size e + operator_size op width)) =
+      length-append _ _ in
       omega (arith, one, gates, rest, both, last)

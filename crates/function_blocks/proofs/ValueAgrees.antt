@@ -27,7 +27,8 @@ module _ (f g : ℕ → ℕ) where
         ap (λ n. n * 2 ^ widths_of more + joined_value f more) (value_agrees e (λ x k. h x (or_left _ _ k)))
         ∙ ap (λ n. value g e * 2 ^ widths_of more + n) (joined_agrees more (λ x k. h x (or_right (reads x e) _ k)))
 
-    chained_agrees : (width n : ℕ) (more : Operations) → ((x : ℕ) → reads_in_operations x more ≡ true → f x ≡ g x) → chained_value f width n more ≡ chained_value g width n more
+    chained_agrees : (width n : ℕ) (more : Operations) → ((x : ℕ) → reads_in_operations x more ≡ true → f x ≡ g x)
+        → chained_value f width n more ≡ chained_value g width n more
     chained_agrees width n no_operations h = refl
     chained_agrees width n (and_operation op e more) h =
         ap (λ k. chained_value f width (operated op width n k) more) (value_agrees e (λ x k. h x (or_left _ _ k)))

@@ -1,68 +1,110 @@
 -- The contract of an expression's circuit alone.
-use Rattle.std.specs.Prelude.{◌≡◌, ◌≢◌, ℕ, zero, suc, ◌+◌, ◌/◌, ◌%◌, ◌^◌, ◌<◌, ◌==◌, Bool, true, false, not, nat_lt, ◌&&◌, if◌then◌else◌, List, [], ◌∷◌, ◌++◌, length, map}
+use Rattle.std.specs.Prelude.{◌≡◌, ◌≢◌, ℕ, suc, ◌+◌, ◌/◌, ◌%◌, ◌^◌, ◌<◌, ◌==◌, Bool, true, false, not, ◌&&◌, ◌⊎◌, List, [], ◌∷◌, length, map, All, Contains}
 use Rattle.std.specs.List.{list_all}
-use Rattle.prs_core.specs.Pairs as nodes
-use Rattle.prs_core.specs.Parts.{Owned, Part, Wire, owned_from, wire, all_low, is_valid, never_blocked, no_notes}
-use Rattle.width_check.specs.declared.typed.Var.{Var}
+use Rattle.prs_core.specs.Pairs.{Pair, pair_of, pairs_from, rails_of}
+use Rattle.prs_core.specs.Parts.{Owned, Part, Wire, Moment, Reached, owned_from, wire, may_move, all_low, is_valid, never_blocked, no_notes}
 use Rattle.width_check.specs.Processes.{Formula}
-use Rattle.width_check.specs.Values.{value}
-use Rattle.width_check.specs.Typing.{var_width}
+use Rattle.width_check.specs.Values.{IsWellFormed, value}
 use Rattle.handshake_expand.specs.Layout.{formula_size}
-use Rattle.width_check.specs.Reads.{reads}
 use Rattle.function_blocks.specs.Expressions.{formula_result, formula_rules}
-use Rattle.function_blocks.specs.Rails.{Rails, same_bit}
-use Rattle.function_blocks.specs.Waves.{store_of}
+use Rattle.function_blocks.specs.Blocks.{bits_in_blocks}
+use Rattle.function_blocks.specs.BitsRead.{EachRead, bits_read}
+use Rattle.function_blocks.specs.Rails.{same_bit, number_on}
+use Rattle.function_blocks.specs.Parts.{gate_count}
 use Rattle.function_blocks.specs.Listed.{node_of}
 
--- the rails of the variables that the expression reads; of others none is seen
-abbrev pub seen_rails : List Var → (ℕ → List nodes.Pair) → Formula → (ℕ → Bool) → ℕ → Rails
-seen_rails vars bits e v x i one = reads x e && (nat_lt i (var_width vars x) && v (node_of (nodes.pair_of (bits x) i) one))
+-- for each variable the number that the rails t of its bits say
+abbrev pub numbers_on : (ℕ → List Pair) → (ℕ → Bool) → ℕ → ℕ
+numbers_on bits v x = number_on (length (bits x)) (λ i one. v (node_of (pair_of (bits x) i) one))
 
--- the bits of those with a number below this
-abbrev pub read_below : (count : ℕ) → (ℕ → List nodes.Pair) → Formula → List nodes.Pair
-read_below zero bits e = []
-read_below (suc n) bits e = (if reads n e then bits n else []) ++ read_below n bits e
+-- the expression's value over the numbers on the variables' rails
+abbrev pub value_seen : (ℕ → List Pair) → Formula → (ℕ → Bool) → ℕ
+value_seen bits e v = value (numbers_on bits v) e
 
--- the value over the numbers on their rails
-abbrev pub value_seen : List Var → (ℕ → List nodes.Pair) → Formula → (ℕ → Bool) → ℕ
-value_seen vars bits e v = value (store_of vars (seen_rails vars bits e v)) e
-
--- A rail of the result is to rise under the request where it is that of the value's bit, and to fall without the request.
-abbrev pub rail_wire : (request : ℕ) → (number : (ℕ → Bool) → ℕ) → (bit : ℕ) → nodes.Pair → Bool → Wire
+-- A rail of the result is to rise under the request where it is that of the value's bit, and to fall without the
+-- request.
+abbrev pub rail_wire : (request : ℕ) → (number : (ℕ → Bool) → ℕ) → (bit : ℕ) → Pair → Bool → Wire
 rail_wire request number i p one =
-    wire (node_of p one) (λ m. m.value request && same_bit one (number m.value / 2 ^ i % 2 == 1)) (λ m. not (m.value request))
+    wire (node_of p one)
+    (λ m. m.value request && same_bit one (number m.value / 2 ^ i % 2 == 1))
+    (λ m. not (m.value request))
 
-abbrev pub rail_wires : (request : ℕ) → (number : (ℕ → Bool) → ℕ) → (bit : ℕ) → List nodes.Pair → List Wire
+abbrev pub rail_wires : (request : ℕ) → (number : (ℕ → Bool) → ℕ) → (bit : ℕ) → List Pair → List Wire
 rail_wires request number i [] = []
-rail_wires request number i (p ∷ ps) = rail_wire request number i p true ∷ rail_wire request number i p false ∷ rail_wires request number (suc i) ps
+rail_wires request number i (p ∷ ps) =
+    rail_wire request number i p true ∷ rail_wire request number i p false ∷ rail_wires request number (suc i) ps
 
--- A rail of a variable that is read moves while the request is low, and rises only where the other one of its bit is low.
-abbrev pub variable_wire : (request : ℕ) → nodes.Pair → Bool → Wire
-variable_wire request p one = wire (node_of p one) (λ m. not (m.value request) && not (m.value (node_of p (not one)))) (λ m. not (m.value request))
+-- A rail of a bit that is read moves while the request is low, and rises only where the bit's other rail is low.
+abbrev pub variable_wire : (request : ℕ) → Pair → Bool → Wire
+variable_wire request p one =
+    wire (node_of p one) (λ m. not (m.value request) && not (m.value (node_of p (not one))))
+    (λ m. not (m.value request))
 
-abbrev pub variable_wires : (request : ℕ) → List nodes.Pair → List Wire
+abbrev pub variable_wires : (request : ℕ) → List Pair → List Wire
 variable_wires request [] = []
-variable_wires request (p ∷ ps) = variable_wire request p true ∷ variable_wire request p false ∷ variable_wires request ps
+variable_wires request (p ∷ ps) =
+    variable_wire request p true ∷ variable_wire request p false ∷ variable_wires request ps
 
--- The request may rise where the rails of the result are low and the variables' bits are valid, and fall once the result is.
-abbrev pub expression_part : List Var → (ℕ → List nodes.Pair) → Formula → (request from : ℕ) → Part
-expression_part vars bits e request from =
+-- The request may rise where the rails of the result are low and each bit that is read is valid, and fall where each
+-- bit of the result is.
+abbrev pub request_wire : (request : ℕ) → (read result : List Pair) → Wire
+request_wire request read result =
+    wire request
+    (λ m. all_low m.value (rails_of result) && list_all (is_valid m.value) read)
+    (λ m. list_all (is_valid m.value) result)
+
+abbrev pub expression_part : (ℕ → List Pair) → Formula → (request from : ℕ) → Part
+expression_part bits e request from =
     let result = formula_result e from in
-    let read = read_below (length vars) bits e in
+    let read = bits_read bits e in
     let own = owned_from from (formula_rules bits e request from) in record {
       own = own;
-      promises = rail_wires request (value_seen vars bits e) 0 result;
-      allows = wire request (λ m. all_low m.value (nodes.rails_of result) && list_all (is_valid m.value) read) (λ m. list_all (is_valid m.value) result) ∷ variable_wires request read;
+      promises = rail_wires request (value_seen bits e) 0 result;
+      allows = request_wire request read result ∷ variable_wires request read;
       lows = map (λ (o : Owned). o.node) own;
       bits = [];
-      ports = request ∷ nodes.rails_of result;
+      ports = request ∷ rails_of result;
       blocked = never_blocked;
       notes = no_notes;
     }
 
--- the request and the rails of what is read are none of the expression's own nodes, nor one another's
-pub record StandsApart (vars : List Var) (bits : ℕ → List nodes.Pair) (e : Formula) (request from : ℕ) : Type 0 where
-  pub request_apart : (k : ℕ) → k < formula_size e → request ≢ from + k
-  pub rail_apart : (x i : ℕ) (one : Bool) → reads x e ≡ true → i < var_width vars x → (k : ℕ) → k < formula_size e → node_of (nodes.pair_of (bits x) i) one ≢ from + k
-  pub rail_asked : (x i : ℕ) (one : Bool) → reads x e ≡ true → i < var_width vars x → node_of (nodes.pair_of (bits x) i) one ≢ request
-  pub rails_apart : (x i : ℕ) (one : Bool) (y j : ℕ) (side : Bool) → reads x e ≡ true → i < var_width vars x → reads y e ≡ true → j < var_width vars y → node_of (nodes.pair_of (bits x) i) one ≡ node_of (nodes.pair_of (bits y) j) side → (x ≡ y) × (i ≡ j) × (one ≡ side)
+-- the bits of all its nodes: two nodes each
+abbrev pub inner_bits : Formula → (from : ℕ) → List Pair
+inner_bits e from = pairs_from (gate_count e) from
+
+-- the node is none of so many own ones
+abbrev pub IsOutside : (from size node : ℕ) → Type 0
+IsOutside from size node = (k : ℕ) → k < size → node ≢ from + k
+
+-- no node is a rail of two bits, or both rails of one
+abbrev pub AreDistinct : List Pair → Type 0
+AreDistinct read =
+    (p q : Pair) (one side : Bool) → Contains read p → Contains read q → node_of p one ≡ node_of q side → (p ≡ q)
+    × (one ≡ side)
+
+-- A well-formed expression whose request and whose variables' rails are nodes apart, and none of its own.
+pub record StandsApart (bits : ℕ → List Pair) (e : Formula) (request from : ℕ) : Type 0 where
+  pub formed : IsWellFormed e
+  pub there : EachRead (λ x bit. bit < length (bits x)) e
+  pub outside : All (IsOutside from (formula_size e)) (request ∷ rails_of (bits_read bits e))
+  pub unasked : All (λ rail. rail ≢ request) (rails_of (bits_read bits e))
+  pub distinct : AreDistinct (bits_read bits e)
+
+-- What it waits for at rest: for its request, or, while that is low, for a bit that is read and isn't valid.
+abbrev pub IsAtRest : (ℕ → List Pair) → Formula → (request from : ℕ) → Moment → Type 0
+IsAtRest bits e request from m =
+    (may_move m (request_wire request (bits_read bits e) (formula_result e from)) ≡ true)
+    ⊎ ((m.value request ≡ false) × (list_all (is_valid m.value) (bits_read bits e) ≡ false))
+
+-- in each moment that such a circuit reaches, whatever its neighbours do within the contract
+abbrev pub InEachMoment : ((ℕ → List Pair) → Formula → (request from : ℕ) → Moment → Type 0) → Type 0
+InEachMoment P =
+    (bits : ℕ → List Pair) (e : Formula) (request from : ℕ) → StandsApart bits e request from
+    → (m : Moment) → Reached (expression_part bits e request from) m → P bits e request from m
+
+-- The nodes with their rules, and the rails that are read, where the variables' blocks begin at these nodes.
+abbrev pub expression_owned : (firsts : List ℕ) → Formula → (request from : ℕ) → List Owned
+expression_owned firsts e request from = owned_from from (formula_rules (bits_in_blocks firsts) e request from)
+
+abbrev pub rails_read : (firsts : List ℕ) → Formula → List ℕ
+rails_read firsts e = rails_of (bits_read (bits_in_blocks firsts) e)

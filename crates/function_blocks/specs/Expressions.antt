@@ -25,7 +25,8 @@ constant_bits request (suc n) value = constant_bit request (value % 2 == 1) ++ c
 
 -- a rail is read under the request: e & x -> q+, ~e -> q-
 abbrev pub read_rail : (request rail : ℕ) → NodeRules
-read_rail request rail = record { up = one_term (is_high request ∷ is_high rail ∷ []); down = one_term (is_low request ∷ []) }
+read_rail request rail =
+    record { up = one_term (is_high request ∷ is_high rail ∷ []); down = one_term (is_low request ∷ []) }
 
 abbrev pub read_bits : (request : ℕ) → List Pair → List NodeRules
 read_bits request [] = []
@@ -42,8 +43,10 @@ abbrev mutual
   formula_result (reading var high low at) from = pairs_from (high + 1 - low) from
   formula_result (joined parts) from = joined_result parts from
   formula_result (inverted e) from = map exchanged (formula_result e from)
-  formula_result (chained e more) from = chained_result (width_of e) (formula_result e from) more (from + formula_size e)
-  formula_result (compared op e f) from = operator_result op (formula_result e from) (from + formula_size e + formula_size f)
+  formula_result (chained e more) from =
+      chained_result (width_of e) (formula_result e from) more (from + formula_size e)
+  formula_result (compared op e f) from =
+      operator_result op (formula_result e from) (from + formula_size e + formula_size f)
 
   -- the last part has the lowest bits
   pub joined_result : Formulas → (from : ℕ) → List Pair
@@ -54,7 +57,8 @@ abbrev mutual
   pub chained_result : (width : ℕ) → List Pair → Operations → (from : ℕ) → List Pair
   chained_result width left no_operations from = left
   chained_result width left (and_operation op e more) from =
-      chained_result width (operator_result op left (from + formula_size e)) more (from + formula_size e + operator_size op width)
+      chained_result width (operator_result op left (from + formula_size e)) more
+      (from + formula_size e + operator_size op width)
 
 -- the rules of its nodes in order, where the variables have these bits
 abbrev mutual
@@ -64,10 +68,12 @@ abbrev mutual
   formula_rules bits (joined parts) request from = joined_rules bits parts request from
   formula_rules bits (inverted e) request from = formula_rules bits e request from
   formula_rules bits (chained e more) request from =
-      formula_rules bits e request from ++ chained_rules bits (width_of e) (formula_result e from) more request (from + formula_size e)
+      formula_rules bits e request from ++ chained_rules bits (width_of e) (formula_result e from) more request
+      (from + formula_size e)
   formula_rules bits (compared op e f) request from =
       formula_rules bits e request from ++ (formula_rules bits f request (from + formula_size e)
-      ++ operator_rules op (formula_result e from) (formula_result f (from + formula_size e)) (from + formula_size e + formula_size f))
+      ++ operator_rules op (formula_result e from) (formula_result f (from + formula_size e))
+      (from + formula_size e + formula_size f))
 
   pub joined_rules : (ℕ → List Pair) → Formulas → (request from : ℕ) → List NodeRules
   joined_rules bits no_parts request from = []
@@ -78,7 +84,8 @@ abbrev mutual
   chained_rules bits width left no_operations request from = []
   chained_rules bits width left (and_operation op e more) request from =
       formula_rules bits e request from ++ (operator_rules op left (formula_result e from) (from + formula_size e)
-      ++ chained_rules bits width (operator_result op left (from + formula_size e)) more request (from + formula_size e + operator_size op width))
+      ++ chained_rules bits width (operator_result op left (from + formula_size e)) more request
+      (from + formula_size e + operator_size op width))
 
 -- each of the variables has as many bits as its width
 abbrev pub HasBits : List Var → (ℕ → List Pair) → Type 0

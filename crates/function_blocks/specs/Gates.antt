@@ -1,5 +1,5 @@
--- Gates on dual-rail bits: a rail of the result rises on each row of the truth table that gives its value, and falls once
--- all inputs are neutral.
+-- Gates on dual-rail bits: a rail of the result rises on each row of the truth table that gives its value, and falls
+-- once all inputs are neutral.
 use Rattle.std.specs.Prelude.{ℕ, zero, suc, ◌+◌, ◌-◌, ◌*◌, Bool, true, false, not, ◌&&◌, ◌||◌, if◌then◌else◌, List, [], ◌∷◌, ◌++◌, map, length, filter, flat_map}
 use Rattle.prs_core.specs.declared.rule.Literal.{Literal}
 use Rattle.prs_core.specs.Nets.{NodeRules, is_high, is_low, one_term}
@@ -19,7 +19,8 @@ minterm (p ∷ ps) (b ∷ bs) = is_high (if b then p.t else p.f) ∷ minterm ps 
 minterm _ _ = []
 
 abbrev pub gate_rail : List Pair → (List Bool → Bool) → NodeRules
-gate_rail inputs f = record { up = map (minterm inputs) (filter f (table (length inputs))); down = one_term (lows (rails_of inputs)) }
+gate_rail inputs f =
+    record { up = map (minterm inputs) (filter f (table (length inputs))); down = one_term (lows (rails_of inputs)) }
 
 -- rail t and rail f of a gate with this truth function
 abbrev pub gate : List Pair → (List Bool → Bool) → List NodeRules
@@ -68,7 +69,8 @@ bitwise f _ _ = []
 abbrev pub ripple : (List Bool → Bool) → List Pair → List Pair → (carried : List Pair) → (from : ℕ) → List NodeRules
 ripple carry (a ∷ []) (b ∷ []) carried from = gate (a ∷ b ∷ carried) odd_ones
 ripple carry (a ∷ xs) (b ∷ ys) carried from =
-    gate (a ∷ b ∷ carried) odd_ones ++ (gate (a ∷ b ∷ carried) carry ++ ripple carry xs ys (pair_at (from + 2) ∷ []) (from + 4))
+    gate (a ∷ b ∷ carried) odd_ones ++ (gate (a ∷ b ∷ carried) carry ++ ripple carry xs ys (pair_at (from + 2) ∷ [])
+    (from + 4))
 ripple carry _ _ carried from = []
 
 -- the bits of the result, of which each but the top one is followed by what is carried on

@@ -6,3 +6,6 @@ pub mod Waves
 pub mod Listed
 pub mod ExpressionParts
 pub mod RailFacts
+pub mod Blocks
+pub mod Functions
+pub mod BitsRead

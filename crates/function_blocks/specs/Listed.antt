@@ -22,7 +22,8 @@ placed from i = if i.crossed then nodes.exchanged (nodes.pair_at (from + 2 * i.a
 -- the rules of the two nodes of a gate, where the variables have these bits
 abbrev pub part_rules : (ℕ → List nodes.Pair) → (request from : ℕ) → Part → List NodeRules
 part_rules bits request from (fixed v) = constant_bit request v
-part_rules bits request from (read_bit x i) = read_rail request (nodes.pair_of (bits x) i).t ∷ read_rail request (nodes.pair_of (bits x) i).f ∷ []
+part_rules bits request from (read_bit x i) =
+    read_rail request (nodes.pair_of (bits x) i).t ∷ read_rail request (nodes.pair_of (bits x) i).f ∷ []
 part_rules bits request from (made f i more) = gate (map (placed from) (i ∷ more)) f
 
 abbrev pub rules_listed : (ℕ → List nodes.Pair) → (request from : ℕ) → List Part → List NodeRules
@@ -40,10 +41,13 @@ node_of p true = p.t
 node_of p false = p.f
 
 -- Nodes that have these values: the request, the gates' rails, and those of the variables as far as they are read.
-pub record Valued (vars : List Var) (bits : ℕ → List nodes.Pair) (e : Formula) (request from : ℕ) (v : ℕ → Bool) (r : Bool) (now : ℕ → Rails) (u : Pairs (gate_count e)) : Type 0 where
+pub record Valued (vars : List Var) (bits : ℕ → List nodes.Pair) (e : Formula) (request from : ℕ) (v : ℕ → Bool)
+    (r : Bool) (now : ℕ → Rails) (u : Pairs (gate_count e)) : Type 0 where
   pub asked : v request ≡ r
-  pub gates : (k : ℕ) (one : Bool) → k < gate_count e → v (from + rail_place k one) ≡ side_of (pair_in (gate_count e) u k) one
-  pub read : (x i : ℕ) (one : Bool) → reads x e ≡ true → i < var_width vars x → v (node_of (nodes.pair_of (bits x) i) one) ≡ now x i one
+  pub gates : (k : ℕ) (one : Bool) → k < gate_count e
+      → v (from + rail_place k one) ≡ side_of (pair_in (gate_count e) u k) one
+  pub read : (x i : ℕ) (one : Bool) → reads x e ≡ true → i < var_width vars x
+      → v (node_of (nodes.pair_of (bits x) i) one) ≡ now x i one
 
 -- A node of these guards, and what they say, is as the rule says.
 pub record Told (v : ℕ → Bool) (node : ℕ) (rules : NodeRules) (r : Rule) : Type 0 where
@@ -57,6 +61,13 @@ pub record Listed (vars : List Var) (e : Formula) : Type 0 where
   pub count : length (parts_of e 0) ≡ gate_count e
   pub wide : length (outs_of e 0) ≡ width_of e
   pub result : (from : ℕ) → formula_result e from ≡ map (placed from) (outs_of e 0)
-  pub rules : (bits : ℕ → List nodes.Pair) → HasBits vars bits → (request from : ℕ) → formula_rules bits e request from ≡ rules_listed bits request from (parts_of e 0)
-  pub outputs : (bits : ℕ → List nodes.Pair) (request from : ℕ) (v : ℕ → Bool) (r : Bool) (now : ℕ → Rails) (u : Pairs (gate_count e)) → Valued vars bits e request from v r now u → (i : ℕ) (one : Bool) → i < width_of e → v (node_of (nodes.pair_of (formula_result e from) i) one) ≡ out_rail e u i one
-  pub told : (bits : ℕ → List nodes.Pair) → HasBits vars bits → (request from : ℕ) (v : ℕ → Bool) (r : Bool) (now : ℕ → Rails) (u : Pairs (gate_count e)) → Valued vars bits e request from v r now u → (k : ℕ) (one : Bool) → k < gate_count e → Told v (from + rail_place k one) (get_or (formula_rules bits e request from) (rail_place k one) nodes.no_rules) (gate_rule e now r u k one)
+  pub rules : (bits : ℕ → List nodes.Pair) → HasBits vars bits → (request from : ℕ)
+      → formula_rules bits e request from ≡ rules_listed bits request from (parts_of e 0)
+  pub outputs : (bits : ℕ → List nodes.Pair) (request from : ℕ) (v : ℕ → Bool) (r : Bool) (now : ℕ → Rails)
+      (u : Pairs (gate_count e)) → Valued vars bits e request from v r now u → (i : ℕ) (one : Bool) → i < width_of e
+      → v (node_of (nodes.pair_of (formula_result e from) i) one) ≡ out_rail e u i one
+  pub told : (bits : ℕ → List nodes.Pair) → HasBits vars bits
+      → (request from : ℕ) (v : ℕ → Bool) (r : Bool) (now : ℕ → Rails) (u : Pairs (gate_count e))
+      → Valued vars bits e request from v r now u → (k : ℕ) (one : Bool) → k < gate_count e
+      → Told v (from + rail_place k one) (get_or (formula_rules bits e request from) (rail_place k one) nodes.no_rules)
+      (gate_rule e now r u k one)

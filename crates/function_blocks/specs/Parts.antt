@@ -52,7 +52,8 @@ ripple_parts carry [] vs carried from = []
 ripple_parts carry (a ∷ us) [] carried from = []
 ripple_parts carry (a ∷ []) (b ∷ vs) carried from = made odd_ones a (b ∷ carried) ∷ []
 ripple_parts carry (a ∷ d ∷ us) (b ∷ vs) carried from =
-    made odd_ones a (b ∷ carried) ∷ made carry a (b ∷ carried) ∷ ripple_parts carry (d ∷ us) vs (input (suc from) ∷ []) (suc (suc from))
+    made odd_ones a (b ∷ carried) ∷ made carry a (b ∷ carried) ∷ ripple_parts carry (d ∷ us) vs (input (suc from) ∷ [])
+    (suc (suc from))
 
 abbrev pub ripple_inputs : List Input → (from : ℕ) → List Input
 ripple_inputs [] from = []
@@ -62,7 +63,8 @@ ripple_inputs (a ∷ us) from = input from ∷ ripple_inputs us (suc (suc from))
 abbrev pub borrow_parts : List Input → List Input → (borrowed : List Input) → (from : ℕ) → List Part
 borrow_parts [] vs borrowed from = []
 borrow_parts (a ∷ us) [] borrowed from = []
-borrow_parts (a ∷ us) (b ∷ vs) borrowed from = made borrows a (b ∷ borrowed) ∷ borrow_parts us vs (input from ∷ []) (suc from)
+borrow_parts (a ∷ us) (b ∷ vs) borrowed from =
+    made borrows a (b ∷ borrowed) ∷ borrow_parts us vs (input from ∷ []) (suc from)
 
 -- the conjunction of a bit with the next one, of that with the one behind it, and so on
 abbrev pub conjunction_parts : Input → List Input → (from : ℕ) → List Part
@@ -167,7 +169,8 @@ abbrev mutual
   pub chained_outs : (width : ℕ) → List Input → Operations → (from : ℕ) → List Input
   chained_outs width left no_operations from = left
   chained_outs width left (and_operation op e more) from =
-      chained_outs width (operator_inputs op left (from + gate_count e)) more (from + gate_count e + operator_gates op width)
+      chained_outs width (operator_inputs op left (from + gate_count e)) more
+      (from + gate_count e + operator_gates op width)
 
 -- its gates
 abbrev mutual
@@ -176,7 +179,8 @@ abbrev mutual
   parts_of (reading var high low at) from = read_parts var low (high + 1 - low)
   parts_of (joined parts) from = joined_parts parts from
   parts_of (inverted e) from = parts_of e from
-  parts_of (chained e more) from = parts_of e from ++ chained_parts (width_of e) (outs_of e from) more (from + gate_count e)
+  parts_of (chained e more) from =
+      parts_of e from ++ chained_parts (width_of e) (outs_of e from) more (from + gate_count e)
   parts_of (compared op e f) from =
       parts_of e from ++ (parts_of f (from + gate_count e)
       ++ operator_parts op (outs_of e from) (outs_of f (from + gate_count e)) (from + gate_count e + gate_count f))
@@ -189,4 +193,5 @@ abbrev mutual
   chained_parts width left no_operations from = []
   chained_parts width left (and_operation op e more) from =
       parts_of e from ++ (operator_parts op left (outs_of e from) (from + gate_count e)
-      ++ chained_parts width (operator_inputs op left (from + gate_count e)) more (from + gate_count e + operator_gates op width))
+      ++ chained_parts width (operator_inputs op left (from + gate_count e)) more
+      (from + gate_count e + operator_gates op width))

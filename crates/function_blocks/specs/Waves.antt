@@ -39,7 +39,8 @@ down_holds r look (made f i more) one = list_all neutral (taken look (i ∷ more
 abbrev pub part_rule : Bool → (look : ℕ → Pair) → (bits : ℕ → Rails) → Part → Pair → Bool → Rule
 part_rule r look bits g p one = rule_of (side_of p one) (up_holds r look bits g one) (down_holds r look g one)
 
-abbrev pub rule_among : Bool → (look : ℕ → Pair) → (bits : ℕ → Rails) → List Part → (n : ℕ) → Pairs n → (gate : ℕ) → Bool → Rule
+abbrev pub rule_among : Bool → (look : ℕ → Pair) → (bits : ℕ → Rails) → List Part → (n : ℕ) → Pairs n → (gate : ℕ)
+    → Bool → Rule
 rule_among r look bits [] n u k one = no_rule false
 rule_among r look bits (g ∷ gs) zero u k one = no_rule false
 rule_among r look bits (g ∷ gs) (suc n) u zero one = part_rule r look bits g u.0 one
@@ -59,8 +60,8 @@ abbrev pub wet : (look : ℕ → Pair) → Part → Bool
 wet look (made f i more) = list_any some (taken look (i ∷ more))
 wet look _ = false
 
--- What holds of a gate: one rail at most; the rails go with their guards; and while the request is low a gate is neutral
--- only behind neutral inputs.
+-- What holds of a gate: one rail at most; the rails go with their guards; and while the request is low a gate is
+-- neutral only behind neutral inputs.
 abbrev pub legal : (request ut uf wet : Bool) → Pair → Bool
 legal r ut uf w p = single p && (binds r p.t ut && (binds r p.f uf && implies (not r && w) (some p)))
 
@@ -81,7 +82,8 @@ cold _ _ u = true
 
 -- what holds of the gates of an expression in each state under the request
 abbrev pub good : Bool → (bits : ℕ → Rails) → (e : Formula) → Pairs (gate_count e) → Bool
-good r bits e u = all_fit r (pair_in (gate_count e) u) bits (parts_of e 0) (gate_count e) u && cold (parts_of e 0) (gate_count e) u
+good r bits e u =
+    all_fit r (pair_in (gate_count e) u) bits (parts_of e 0) (gate_count e) u && cold (parts_of e 0) (gate_count e) u
 
 -- the rails of its value
 abbrev pub rails_at : List Input → (look : ℕ → Pair) → Rails
@@ -112,32 +114,64 @@ pub record Waves (e : Formula) : Type 0 where
   -- low gates are as they should be; the request may rise over them, and fall over a whole value
   pub idle : (bits : ℕ → Rails) → good false bits e (low_pairs (gate_count e)) ≡ true
   pub begins : (bits : ℕ → Rails) → good true bits e (low_pairs (gate_count e)) ≡ true
-  pub ease : (bits : ℕ → Rails) (u : Pairs (gate_count e)) → Single bits → good true bits e u ≡ true → full e u ≡ true → good false bits e u ≡ true
+  pub ease : (bits : ℕ → Rails) (u : Pairs (gate_count e)) → Single bits → good true bits e u ≡ true → full e u ≡ true
+      → good false bits e u ≡ true
   -- a gate's move keeps what holds, goes with the request, and disables no other
-  pub own : (r : Bool) (bits : ℕ → Rails) (u : Pairs (gate_count e)) (k : ℕ) (one : Bool) → Single bits → good r bits e u ≡ true → fires (gate_rule e bits r u k one) ≡ true → good r bits e (turned_pairs (gate_count e) u k one) ≡ true
-  pub law : (r : Bool) (bits : ℕ → Rails) (u : Pairs (gate_count e)) (k : ℕ) (one : Bool) → Single bits → good r bits e u ≡ true → fires (gate_rule e bits r u k one) ≡ true → (if side_of (pair_in (gate_count e) u k) one then not r else (r && not (side_of (pair_in (gate_count e) u k) (not one)))) ≡ true
-  pub firm : (r : Bool) (bits : ℕ → Rails) (u : Pairs (gate_count e)) (k : ℕ) (one : Bool) (j : ℕ) (side : Bool) → Single bits → (j ≡ k → side ≡ one → ⊥) → good r bits e u ≡ true → fires (gate_rule e bits r u k one) ≡ true → fires (gate_rule e bits r u j side) ≡ true → fires (gate_rule e bits r (turned_pairs (gate_count e) u k one) j side) ≡ true
-  pub apart : (r : Bool) (bits : ℕ → Rails) (u : Pairs (gate_count e)) (k : ℕ) (one : Bool) → Single bits → good r bits e u ≡ true → is_apart (gate_rule e bits r u k one) ≡ true
-  pub there : (r : Bool) (bits : ℕ → Rails) (u : Pairs (gate_count e)) (k : ℕ) (one : Bool) → fires (gate_rule e bits r u k one) ≡ true → k < gate_count e
+  pub own : (r : Bool) (bits : ℕ → Rails) (u : Pairs (gate_count e)) (k : ℕ) (one : Bool) → Single bits
+      → good r bits e u ≡ true → fires (gate_rule e bits r u k one) ≡ true
+      → good r bits e (turned_pairs (gate_count e) u k one) ≡ true
+  pub law : (r : Bool) (bits : ℕ → Rails) (u : Pairs (gate_count e)) (k : ℕ) (one : Bool) → Single bits
+      → good r bits e u ≡ true → fires (gate_rule e bits r u k one) ≡ true
+      → (if side_of (pair_in (gate_count e) u k)
+      one then not r else (r && not (side_of (pair_in (gate_count e) u k) (not one)))) ≡ true
+  pub firm : (r : Bool) (bits : ℕ → Rails) (u : Pairs (gate_count e)) (k : ℕ) (one : Bool) (j : ℕ) (side : Bool)
+      → Single bits → (j ≡ k → side ≡ one → ⊥) → good r bits e u ≡ true → fires (gate_rule e bits r u k one) ≡ true
+      → fires (gate_rule e bits r u j side) ≡ true
+      → fires (gate_rule e bits r (turned_pairs (gate_count e) u k one) j side) ≡ true
+  pub apart : (r : Bool) (bits : ℕ → Rails) (u : Pairs (gate_count e)) (k : ℕ) (one : Bool) → Single bits
+      → good r bits e u ≡ true → is_apart (gate_rule e bits r u k one) ≡ true
+  pub there : (r : Bool) (bits : ℕ → Rails) (u : Pairs (gate_count e)) (k : ℕ) (one : Bool)
+      → fires (gate_rule e bits r u k one) ≡ true → k < gate_count e
   -- while the request is high only the variables that are read matter, and none while it is low
-  pub unread : (r : Bool) (bits now : ℕ → Rails) (u : Pairs (gate_count e)) → ((x i : ℕ) (one : Bool) → reads x e ≡ true → bits x i one ≡ now x i one) → (good r bits e u ≡ good r now e u) × ((k : ℕ) (one : Bool) → gate_rule e bits r u k one ≡ gate_rule e now r u k one)
-  pub asleep : (bits now : ℕ → Rails) (u : Pairs (gate_count e)) → (good false bits e u ≡ good false now e u) × ((k : ℕ) (one : Bool) → gate_rule e bits false u k one ≡ gate_rule e now false u k one)
+  pub unread : (r : Bool) (bits now : ℕ → Rails) (u : Pairs (gate_count e))
+      → ((x i : ℕ) (one : Bool) → reads x e ≡ true → bits x i one ≡ now x i one) → (good r bits e u ≡ good r now e u)
+      × ((k : ℕ) (one : Bool) → gate_rule e bits r u k one ≡ gate_rule e now r u k one)
+  pub asleep : (bits now : ℕ → Rails) (u : Pairs (gate_count e)) → (good false bits e u ≡ good false now e u)
+      × ((k : ℕ) (one : Bool) → gate_rule e bits false u k one ≡ gate_rule e now false u k one)
   -- no gate moves over a whole value, nor over low rails; then the inner gates have their value too, or are low
-  pub quiet_full : (bits : ℕ → Rails) (u : Pairs (gate_count e)) → Single bits → good true bits e u ≡ true → full e u ≡ true → (k : ℕ) (one : Bool) → fires (gate_rule e bits true u k one) ≡ false
-  pub inner_full : (bits : ℕ → Rails) (u : Pairs (gate_count e)) → good true bits e u ≡ true → full e u ≡ true → (k : ℕ) → k < gate_count e → (some (pair_in (gate_count e) u k) && single (pair_in (gate_count e) u k)) ≡ true
-  pub quiet_low : (bits : ℕ → Rails) (k : ℕ) (one : Bool) → fires (gate_rule e bits false (low_pairs (gate_count e)) k one) ≡ false
-  pub inner_empty : (bits : ℕ → Rails) (u : Pairs (gate_count e)) → good false bits e u ≡ true → empty e u ≡ true → u ≡ low_pairs (gate_count e)
+  pub quiet_full : (bits : ℕ → Rails) (u : Pairs (gate_count e)) → Single bits → good true bits e u ≡ true
+      → full e u ≡ true → (k : ℕ) (one : Bool) → fires (gate_rule e bits true u k one) ≡ false
+  pub inner_full : (bits : ℕ → Rails) (u : Pairs (gate_count e)) → good true bits e u ≡ true → full e u ≡ true → (k : ℕ)
+      → k < gate_count e → (some (pair_in (gate_count e) u k) && single (pair_in (gate_count e) u k)) ≡ true
+  pub quiet_low : (bits : ℕ → Rails) (k : ℕ) (one : Bool)
+      → fires (gate_rule e bits false (low_pairs (gate_count e)) k one) ≡ false
+  pub inner_empty : (bits : ℕ → Rails) (u : Pairs (gate_count e)) → good false bits e u ≡ true → empty e u ≡ true
+      → u ≡ low_pairs (gate_count e)
   -- where no gate moves the wave has arrived
-  pub rest_up : (vars : List Var) (bits : ℕ → Rails) (u : Pairs (gate_count e)) → ReadsFrom vars e → Ready vars bits e → good true bits e u ≡ true → ((k : ℕ) (one : Bool) → fires (gate_rule e bits true u k one) ≡ false) → full e u ≡ true
-  pub rest_down : (bits : ℕ → Rails) (u : Pairs (gate_count e)) → good false bits e u ≡ true → ((k : ℕ) (one : Bool) → fires (gate_rule e bits false u k one) ≡ false) → empty e u ≡ true
+  pub rest_up : (vars : List Var) (bits : ℕ → Rails) (u : Pairs (gate_count e)) → ReadsFrom vars e → Ready vars bits e
+      → good true bits e u ≡ true → ((k : ℕ) (one : Bool) → fires (gate_rule e bits true u k one) ≡ false)
+      → full e u ≡ true
+  pub rest_down : (bits : ℕ → Rails) (u : Pairs (gate_count e)) → good false bits e u ≡ true
+      → ((k : ℕ) (one : Bool) → fires (gate_rule e bits false u k one) ≡ false) → empty e u ≡ true
   -- the rails of the value: one of a bit at most, so many bits, and they go with the request
-  pub one_rail : (r : Bool) (bits : ℕ → Rails) (u : Pairs (gate_count e)) (i : ℕ) → good r bits e u ≡ true → out_rail e u i true ≡ true → out_rail e u i false ≡ true → ⊥
+  pub one_rail : (r : Bool) (bits : ℕ → Rails) (u : Pairs (gate_count e)) (i : ℕ) → good r bits e u ≡ true
+      → out_rail e u i true ≡ true → out_rail e u i false ≡ true → ⊥
   pub wide : (u : Pairs (gate_count e)) (i : ℕ) (one : Bool) → out_rail e u i one ≡ true → i < width_of e
-  pub rises : (bits : ℕ → Rails) (u : Pairs (gate_count e)) (k : ℕ) (one : Bool) → Single bits → good true bits e u ≡ true → fires (gate_rule e bits true u k one) ≡ true → (i : ℕ) (side : Bool) → out_rail e u i side ≡ true → out_rail e (turned_pairs (gate_count e) u k one) i side ≡ true
-  pub falls : (bits : ℕ → Rails) (u : Pairs (gate_count e)) (k : ℕ) (one : Bool) → Single bits → good false bits e u ≡ true → fires (gate_rule e bits false u k one) ≡ true → (i : ℕ) (side : Bool) → out_rail e (turned_pairs (gate_count e) u k one) i side ≡ true → out_rail e u i side ≡ true
+  pub rises : (bits : ℕ → Rails) (u : Pairs (gate_count e)) (k : ℕ) (one : Bool) → Single bits
+      → good true bits e u ≡ true → fires (gate_rule e bits true u k one) ≡ true → (i : ℕ) (side : Bool)
+      → out_rail e u i side ≡ true → out_rail e (turned_pairs (gate_count e) u k one) i side ≡ true
+  pub falls : (bits : ℕ → Rails) (u : Pairs (gate_count e)) (k : ℕ) (one : Bool) → Single bits
+      → good false bits e u ≡ true → fires (gate_rule e bits false u k one) ≡ true → (i : ℕ) (side : Bool)
+      → out_rail e (turned_pairs (gate_count e) u k one) i side ≡ true → out_rail e u i side ≡ true
   -- each of them that is high is right (of a guard: `head`), and all together say the expression's value
-  pub right : (vars : List Var) (bits : ℕ → Rails) (u : Pairs (gate_count e)) → ReadsFrom vars e → Single bits → good true bits e u ≡ true → (i : ℕ) (one : Bool) → out_rail e u i one ≡ true → (value (store_of vars bits) e / 2 ^ i % 2 == 1) ≡ one
-  pub head : (vars : List Var) (bits : ℕ → Rails) (u : Pairs (gate_count e)) → width_of e ≡ 1 → ReadsFrom vars e → Single bits → good true bits e u ≡ true → (one : Bool) → out_rail e u 0 one ≡ true → (value (store_of vars bits) e == 1) ≡ one
-  pub value_is : (vars : List Var) (bits : ℕ → Rails) (u : Pairs (gate_count e)) → ReadsFrom vars e → Single bits → good true bits e u ≡ true → full e u ≡ true → value_on (width_of e) (out_rail e u) ≡ Some (value (store_of vars bits) e)
+  pub right : (vars : List Var) (bits : ℕ → Rails) (u : Pairs (gate_count e)) → ReadsFrom vars e → Single bits
+      → good true bits e u ≡ true → (i : ℕ) (one : Bool) → out_rail e u i one ≡ true
+      → (value (store_of vars bits) e / 2 ^ i % 2 == 1) ≡ one
+  pub head : (vars : List Var) (bits : ℕ → Rails) (u : Pairs (gate_count e)) → width_of e ≡ 1 → ReadsFrom vars e
+      → Single bits → good true bits e u ≡ true → (one : Bool) → out_rail e u 0 one ≡ true
+      → (value (store_of vars bits) e == 1) ≡ one
+  pub value_is : (vars : List Var) (bits : ℕ → Rails) (u : Pairs (gate_count e)) → ReadsFrom vars e → Single bits
+      → good true bits e u ≡ true → full e u ≡ true
+      → value_on (width_of e) (out_rail e u) ≡ Some (value (store_of vars bits) e)
   -- and that is one of the variables that are read
   pub agrees : (f g : ℕ → ℕ) → ((x : ℕ) → reads x e ≡ true → f x ≡ g x) → value f e ≡ value g e

@@ -10,8 +10,6 @@ mod name;
 mod parts;
 mod print;
 mod site;
-#[cfg(test)]
-mod tests;
 mod tree;
 
 pub use answer::answer_node;

@@ -19,7 +19,7 @@ use Rattle.chp_syntax.specs.declared.tree.DeclKind.TheVariants as declares
 use Rattle.chp_syntax.specs.Trees.{Procedure, Expression, number, whole, slice, bit, join, negation, chain, Statement, skips, assigns, sends, receives, follows, besides, selects, repeats, calls}
 use Rattle.width_check.specs.Values.{one_if}
 use Rattle.width_check.specs.Typing.{IsTyped, IsDeclaredChannel, IsDeclaredVar}
-use Rattle.width_check.specs.Form.{typed_form, process_form}
+use Rattle.width_check.specs.Form.{typed_form}
 use Rattle.width_check.specs.Places.{declaration, declared_width, is_var, sent_on, received_on, Use, Expected, expect}
 use Rattle.width_check.specs.Faults.{FaultAt, wants_var, IsBadPart, LacksWidth, IsMisfit}
 use Rattle.width_check.specs.Accepted.{IsAccepted}
@@ -161,8 +161,9 @@ module _ (d : Decl) (bit_d : IsBit d) (chan : Ident) (n : ℕ) (at : Span) (same
   wide_no : (w v : ℕ) → w ≡ 1 → v ≡ n → 2 ^ w ≤ v → ⊥
   wide_no w v e f h = let g : 2 ^ w ≡ 2 ^ 1 = ap (λ x. 2 ^ x) e in absurd (omega (arith, small, f, g, h))
 
-  pub accepted_is : (procs : List Procedure) → IsAccepted (record { decls = d ∷ []; procs = procs; body = sends chan (number n at) })
-  accepted_is procs = record {
+  pub accepted_is : IsAccepted (record { decls = d ∷ []; procs = []; body = sends chan (number n at) })
+  accepted_is = record {
+    call_free = record { procs = refl; body = refl };
     named = (
       (λ s f. no_second f.earlier f.later f.second f.order f.second_is),
       (
@@ -216,11 +217,11 @@ module _ (d : Decl) (bit_d : IsBit d) (chan : Ident) (n : ℕ) (at : Span) (same
           here (inl g) = absurd (cc g.1)
           here (inr g) = g
 
-      no_misfit : (s : Span) → ¬ FaultAt (record { decls = d ∷ []; procs = procs; body = sends chan (number n at) }) code.Width s
+      no_misfit : (s : Span) → ¬ FaultAt (record { decls = d ∷ []; procs = []; body = sends chan (number n at) }) code.Width s
       no_misfit s (inl f) = leaf_fits f.leaf (only (expect (number n at) (declared_width (d ∷ []) chan.name)) f.leaf f.among) f.misfit
       no_misfit s (inr f) = none f.receive f.among
 
-      no_wide : (s : Span) → ¬ FaultAt (record { decls = d ∷ []; procs = procs; body = sends chan (number n at) }) code.ConstantTooWide s
+      no_wide : (s : Span) → ¬ FaultAt (record { decls = d ∷ []; procs = []; body = sends chan (number n at) }) code.ConstantTooWide s
       no_wide s (inl f) =
           let e = only (expect (number n at) (declared_width (d ∷ []) chan.name)) (expect (number f.value s) f.width) f.among in
           let v : n ≡ f.value = ap (λ (x : Expected). number_in x.expression) e in
@@ -253,7 +254,7 @@ bit_typed name at b is = record {
 
 pub bit_covered : (name : List ℕ) (at : Span) (b : Bool) → Covered (bit_program name at b)
 bit_covered name at b = record {
-  channels = All-cons (λ (c : Channel). c.kind ≡ kind.Out) (record { name = name; kind = kind.Out; width = 1 }) [] refl (All-nil (λ (c : Channel). c.kind ≡ kind.Out));
+  channels = (λ e. absurd (cc e), tt);
   body = tt;
   sharing = record { variables = λ a b apart. absurd apart; sends = λ a b apart. absurd apart; receives = λ a b apart. absurd apart };
 }

@@ -12,13 +12,13 @@ use Rattle.chp_base.specs.Names.{IsName, IsNodeName, word_part, node_part, begin
 use Rattle.handshake_expand.specs.Named.{numbered}
 use Rattle.net_compose.proofs.NameLemmas.{numbered_is_name}
 
-parts_are : (xs : List ℕ) → list_all word_part xs ≡ true → list_all node_part xs ≡ true
+pub parts_are : (xs : List ℕ) → list_all word_part xs ≡ true → list_all node_part xs ≡ true
 parts_are [] h = refl
 parts_are (b ∷ bs) h =
     let t = and_parts (word_part b) (list_all word_part bs) h in
     and_from (node_part b) (list_all node_part bs) (or_left (word_part b) (b == 46) t.0) (parts_are bs t.1)
 
-all_append : (p : ℕ → Bool) (xs ys : List ℕ) → list_all p xs ≡ true → list_all p ys ≡ true → list_all p (xs ++ ys) ≡ true
+pub all_append : (p : ℕ → Bool) (xs ys : List ℕ) → list_all p xs ≡ true → list_all p ys ≡ true → list_all p (xs ++ ys) ≡ true
 all_append p [] ys h k = k
 all_append p (x ∷ xs) ys h k =
     let t = and_parts (p x) (list_all p xs) h in
@@ -28,7 +28,7 @@ first_append : (xs ys : List ℕ) → begins_with_letter xs ≡ true → begins_
 first_append [] ys h = absurd (cc h)
 first_append (x ∷ xs) ys h = h
 
-wire_is_name : (name tail : List ℕ) → IsName name → list_all node_part tail ≡ true → length tail ≤ 8 → IsNodeName (name ++ tail)
+pub wire_is_name : (name tail : List ℕ) → IsName name → list_all node_part tail ≡ true → length tail ≤ 8 → IsNodeName (name ++ tail)
 wire_is_name name tail is parts short = record {
   short = omega (arith, length-append name tail, is.short, short);
   first = first_append name tail is.first;

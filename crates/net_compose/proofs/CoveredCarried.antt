@@ -1,6 +1,6 @@
 -- The net of each covered program carries it.
 use Rattle.std.proofs.Common.{◌≡◌, ◌≢◌, ℕ, zero, suc, ◌+◌, ◌-◌, ◌<◌, ◌≤◌, ◌==◌, Bool, true, false, List, [], ◌∷◌, ◌++◌, map, length, get_or, replicate, Option, Some, None, inl, inr, refl, sym, ap, ◌∙◌, subst, arith, ◌⊎◌, ◌*◌, ⊎_elim, append-nil, append_assoc}
-use Rattle.std.specs.Prelude.{not, ◌&&◌, ◌||◌, if◌then◌else◌, is_some, nat_lt, All, fold, filter, slice_set}
+use Rattle.std.specs.Prelude.{not, ◌&&◌, ◌||◌, if◌then◌else◌, is_some, nat_lt, All, fold, filter}
 use Rattle.std.proofs.lemmas.Bool.{cases_lt, eqb-true, and_from}
 use Rattle.std.proofs.lemmas.Bool.Decides.{nat_tests}
 use Rattle.chp_base.specs.declared.channel.Channel.{Channel}
@@ -28,10 +28,10 @@ use Rattle.chp_meaning.proofs.HalvedTyping.{typed_sized}
 use Rattle.chp_meaning.specs.Laws.{IsBehind, OneHistory, RoundsHold}
 use Rattle.handshake_expand.specs.Layout.{wires_before, var_from, channel_from, nodes_of, size_of, body_from, root_request, root_latch}
 use Rattle.circuit_places.specs.Covered.{Covered, IsCovered, AreCovered}
-use Rattle.circuit_places.specs.Circuit.{low, Spot, TurnSpot, BranchSpot, of_branch, joint, in_this, in_others, joint_count, child, latch, next, inner, of_skip, done, gate, of_assign, of_send, in_members, of_loop, ask, in_body, in_last, in_member, in_later, gate_count, stands, turn_stands, branch_stands}
+use Rattle.circuit_places.specs.Circuit.{of_receive, heard, stored, taking, low, Spot, TurnSpot, BranchSpot, of_branch, joint, in_this, in_others, joint_count, child, latch, next, inner, of_skip, done, gate, of_assign, of_send, in_members, of_loop, ask, in_body, in_last, in_member, in_later, gate_count, stands, turn_stands, branch_stands}
 use Rattle.circuit_places.specs.Whole.{first_bits, Whole, Node, go_node, own_node, rail_node, ack_node, bit_node, wrote_node, joint_node, is_node, enabled, moved, first_of, neutral_on, Reaches, at_first, by_move}
 use Rattle.circuit_places.specs.Carried.{IsAtRest, IsCarried, CircuitsCarry}
-use Rattle.net_compose.specs.Translation.{translation, sites_in, sites_in_turn, sites_in_branches, hidden_high, vars_high, in_body as in_program, first_values, rails_at, ack_at, wires_from}
+use Rattle.net_compose.specs.Translation.{translation, sites_in, sites_in_turn, sites_in_branches, hidden_high, vars_high, first_values, rails_at, ack_at, wires_from}
 use Rattle.cell_variable.specs.Variables.{high_first}
 use Rattle.net_compose.specs.Carries.{IsFollowing, IsSettled, IsCarrying, Carries}
 use Rattle.net_compose.proofs.FlatCells.{length-bits, low_bits, IsFine, IsFineTurn, IsFineBranch, rail_place}
@@ -80,7 +80,8 @@ behind_on c d e f g k =
     (a.0 ++ b.0, b.1 ∙ (ap (λ h. h ++ b.0) a.1 ∙ append_assoc (history_at c.histories k) a.0 b.0))
 
 rounds_behind : (P : TypedProgram) (script : List OfferValue) → RoundsHold P script → (n m : ℕ) → IsBehind (rounds P script n) (rounds P script (n + m))
-rounds_behind P script hold n zero = let e : n ≡ n + 0 = omega arith in subst (λ j. IsBehind (rounds P script n) (rounds P script j)) e (behind_same (rounds P script n))
+rounds_behind P script hold n zero = let e : n ≡ n + 0 = omega arith in subst (λ j. IsBehind (rounds P script n) (rounds P script j)) e
+    (behind_same (rounds P script n))
 rounds_behind P script hold n (suc m) =
     let e : suc (n + m) ≡ n + suc m = omega arith in
     subst (λ j. IsBehind (rounds P script n) (rounds P script j)) e
@@ -92,7 +93,7 @@ below_told : (i n : ℕ) → nat_lt i n ≡ true → i < n
 below_told i n h = grind (arith, nat_tests)
 
 mutual
-  fine_spot : (P : TypedProgram) (p : Process) (s : Spot p) → stands s ≡ true → IsFine P p s
+  fine_spot : (P : TypedProgram) (p : Process) (s : Spot p) → stands P.channels s ≡ true → IsFine P p s
   fine_spot P skipping of_skip h = tt
   fine_spot P (sending chan at e) (of_send done) h = tt
   fine_spot P (sending chan at e) (of_send (gate i one)) h = below_told i (gate_count e) h
@@ -102,12 +103,14 @@ mutual
   fine_spot P (repeating p) (in_body s) h = fine_spot P p s h
   fine_spot P (assigning x at e) (of_assign done) h = tt
   fine_spot P (assigning x at e) (of_assign (gate i one)) h = below_told i (gate_count e) h
-  fine_spot P (receiving k at x to) s h = elim s [ ]
+  fine_spot P (receiving k at x to) (of_receive heard) h = tt
+  fine_spot P (receiving k at x to) (of_receive stored) h = tt
+  fine_spot P (receiving k at x to) (of_receive (taking i one)) h = below_told i (channel_width P.channels k) h
   fine_spot P (side_by_side members) (of_branch s) h = fine_branch P members s h
   fine_spot P (side_by_side members) (joint k) h = below_told k (joint_count (member_count members)) h
   fine_spot P (choosing again choices) s h = elim s [ ]
 
-  fine_branch : (P : TypedProgram) (members : Processes) (s : BranchSpot members) → branch_stands s ≡ true → IsFineBranch P members s
+  fine_branch : (P : TypedProgram) (members : Processes) (s : BranchSpot members) → branch_stands P.channels s ≡ true → IsFineBranch P members s
   fine_branch P no_members s h = elim s [ ]
   fine_branch P (and_member p more) (in_this child) h = tt
   fine_branch P (and_member p more) (in_this latch) h = tt
@@ -115,7 +118,7 @@ mutual
   fine_branch P (and_member p more) (in_this (inner s)) h = fine_spot P p s h
   fine_branch P (and_member p more) (in_others s) h = fine_branch P more s h
 
-  fine_turn : (P : TypedProgram) (members : Processes) (s : TurnSpot members) → turn_stands s ≡ true → IsFineTurn P members s
+  fine_turn : (P : TypedProgram) (members : Processes) (s : TurnSpot members) → turn_stands P.channels s ≡ true → IsFineTurn P members s
   fine_turn P no_members s h = elim s [ ]
   fine_turn P (and_member p no_members) (in_last s) h = fine_spot P p s h
   fine_turn P (and_member p (and_member q more)) (in_member child) h = tt
@@ -159,7 +162,7 @@ mutual
   none_hidden P (in_turn members) c from = none_hidden_turn P members c from
   none_hidden P (repeating p) c from = none_hidden P p c (from + 2)
   none_hidden P (assigning x at e) c from = ap (λ b. if b then high_first (var_width P.vars x) 0 from else []) c
-  none_hidden P (receiving k at x to) c from = absurd c
+  none_hidden P (receiving k at x to) c from = refl
   none_hidden P (side_by_side members) c from = none_hidden_branches P members c from
   none_hidden P (choosing again choices) c from = absurd c
 
@@ -198,7 +201,8 @@ module _ (P : TypedProgram) (given : Given P) where
   high_is : (m : ℕ) → m < nodes_of P → high (first_values P) m ≡ member m (vars_high P 0 P.vars)
   high_is m h =
       ap (λ l. high l m) first_is
-      ∙ (raised_is (vars_high P 0 P.vars) (replicate (nodes_of P) false) m (omega (arith, h, length-replicated (nodes_of P))) ∙ ap (λ b. b || member m (vars_high P 0 P.vars)) (all_low_at (nodes_of P) m))
+      ∙ (raised_is (vars_high P 0 P.vars) (replicate (nodes_of P) false) m (omega (arith, h, length-replicated (nodes_of P)))
+      ∙ ap (λ b. b || member m (vars_high P 0 P.vars)) (all_low_at (nodes_of P) m))
 
   -- beside the blocks all are low
   low_there : (m : ℕ) → m < nodes_of P → (m < 2 + wires_before P.channels (length P.channels)) ⊎ (root_request P ≤ m) → high (first_values P) m ≡ false
@@ -212,26 +216,34 @@ module _ (P : TypedProgram) (given : Given P) where
       by true e = absurd (apart (high_member P 0 P.vars m e) where_m)
       by false e = refl
 
-  block_there : (y : ℕ) (b : Part) → y < length P.vars → IsPart (var_width P.vars y) b → high (first_values P) (var_from P y + offset (var_width P.vars y) b) ≡ part_value P given (first_of P).wires y b
+  block_there : (y : ℕ) (b : Part) → y < length P.vars → IsPart (var_width P.vars y) b
+      → high (first_values P) (var_from P y + offset (var_width P.vars y) b) ≡ part_value P given (first_of P).wires y b
   block_there y b hy hb =
       let e = part_bounds P given y b hy hb in
-      high_is (var_from P y + offset (var_width P.vars y) b) (omega (arith, e.1)) ∙ by (member (var_from P y + offset (var_width P.vars y) b) (vars_high P 0 P.vars)) refl
+      high_is (var_from P y + offset (var_width P.vars y) b) (omega (arith, e.1))
+      ∙ by (member (var_from P y + offset (var_width P.vars y) b) (vars_high P 0 P.vars)) refl
     where
       found : HighRail P 0 P.vars (var_from P y + offset (var_width P.vars y) b) → part_value P given (first_of P).wires y b ≡ true
       found r =
           let u = same_var P given r.var y (a_bit r.bit r.one) b r.some hy r.below hb (high_at P (var_from P y + offset (var_width P.vars y) b) r) in
           let below : r.bit < var_width P.vars y = subst (λ (n : ℕ). r.bit < var_width P.vars n) u r.below in
-          let q = same_part P given y (a_bit r.bit r.one) b below hb (sym (ap (λ n. var_from P n + (5 * r.bit + side r.one)) u) ∙ high_at P (var_from P y + offset (var_width P.vars y) b) r) in
+          let q = same_part P given y (a_bit r.bit r.one) b below hb (sym (ap (λ n. var_from P n + (5 * r.bit + side r.one)) u)
+          ∙ high_at P (var_from P y + offset (var_width P.vars y) b) r) in
           ap (part_value P given (first_of P).wires y) (sym q) ∙ (ap (λ n. first_bits P.vars n r.bit r.one) (sym u) ∙ r.high)
 
-      none : (b : Part) → member (var_from P y + offset (var_width P.vars y) b) (vars_high P 0 P.vars) ≡ false → part_value P given (first_of P).wires y b ≡ false
+      none : (b : Part) → member (var_from P y + offset (var_width P.vars y) b) (vars_high P 0 P.vars) ≡ false
+          → part_value P given (first_of P).wires y b ≡ false
       none (a_put i one) e = refl
       none (a_mark i) e = refl
       none (a_joint k) e = refl
       none (a_bit i one) e = low (first_bits P.vars y i one) refl
         where
           low : (z : Bool) → first_bits P.vars y i one ≡ z → z ≡ false
-          low true h = absurd (cc (e, ap (λ n. member (var_from P n + (5 * i + side one)) (vars_high P 0 P.vars)) (let g : y ≡ 0 + y = omega arith in g) ∙ high_there P 0 P.vars y i one h))
+          low true h = absurd (cc (
+            e,
+            ap (λ n. member (var_from P n + (5 * i + side one)) (vars_high P 0 P.vars)) (let g : y ≡ 0 + y = omega arith in g)
+                ∙ high_there P 0 P.vars y i one h,
+          ))
           low false h = refl
 
       by : (z : Bool) → member (var_from P y + offset (var_width P.vars y) b) (vars_high P 0 P.vars) ≡ z → z ≡ part_value P given (first_of P).wires y b
@@ -245,7 +257,10 @@ module _ (P : TypedProgram) (given : Given P) where
     done = low_there 1 (omega arith) (inl (omega arith));
     child = low_there (root_request P) (omega arith) (inr (omega arith));
     latch = low_there (root_latch P) (omega arith) (inr (omega arith));
-    body = record { at = λ i h. low_there (body_from P + i) (let e = length-bits P P.body given.covered (low P.body) in omega (arith, h, e)) (inr (omega arith)) ∙ sym (ap (λ l. get_or l i false) (low_bits P P.body given.covered) ∙ all_low_at (size_of P P.body) i) };
+    body = record {
+      at = λ i h. low_there (body_from P + i) (let e = length-bits P P.body given.covered (low P.body) in omega (arith, h, e)) (inr (omega arith))
+          ∙ sym (ap (λ l. get_or l i false) (low_bits P P.body given.covered) ∙ all_low_at (size_of P P.body) i);
+    };
     rail = λ k i one hk hi. let e = rail_bounds P k i one hk hi in low_there (channel_from P k + rail_place i one) (omega (arith, e.1)) (inl e.1);
     ack = λ k hk. let e = ack_bounds P k hk in low_there (ack_at P k) (omega (arith, e.1)) (inl e.1);
     block = block_there;
@@ -279,25 +294,30 @@ module _ (P : TypedProgram) (given : Given P) where
           node = q.node;
           fine = q.fine;
           is = q.is;
-          may = sym (enabled_is P given st r.cells r.shows script fits q.node q.fine) ∙ (ap (move_enabled (translation P) script st) q.is ∙ on);
+          may = sym (enabled_is P given st r.cells r.shows script q.node q.fine) ∙ (ap (move_enabled (translation P) script st) q.is ∙ on);
         } in
         here)
-        (λ (le : nodes_of P ≤ n). absurd (cc (past_end P given st r.cells r.shows script fits n le, on)))
+        (λ (le : nodes_of P ≤ n). absurd (cc (past_end P given st r.cells r.shows script n le, on)))
         (cases_lt n (nodes_of P))
 
-    next_shows : (st : RunState) (moves : ℕ) (r : Reached st moves) (n : ℕ) (m : Moving st moves r n) → Shows P given (moved_flat (translation P) st n) (moved P r.cells m.node)
-    next_shows st moves r n m = subst (λ i. Shows P given (moved_flat (translation P) st i) (moved P r.cells m.node)) m.is (after_move P given st r.cells r.shows m.node m.fine)
+    next_shows : (st : RunState) (moves : ℕ) (r : Reached st moves) (n : ℕ) (m : Moving st moves r n)
+        → Shows P given (moved_flat (translation P) st n) (moved P r.cells m.node)
+    next_shows st moves r n m = subst (λ i. Shows P given (moved_flat (translation P) st i) (moved P r.cells m.node)) m.is
+        (after_move P given st r.cells r.shows m.node m.fine)
 
-    one_more : (st : RunState) (moves : ℕ) → Reached st moves → (n : ℕ) → move_enabled (translation P) script st n ≡ true → Reached (moved_flat (translation P) st n) (suc moves)
+    one_more : (st : RunState) (moves : ℕ) → Reached st moves → (n : ℕ) → move_enabled (translation P) script st n ≡ true
+        → Reached (moved_flat (translation P) st n) (suc moves)
     one_more st moves r n on =
         let m = moving st moves r n on in
         record { cells = moved P r.cells m.node; reaches = by_move m.node r.reaches m.may; shows = next_shows st moves r n m }
 
-    reach : (ns : List ℕ) (st : RunState) (moves : ℕ) → Reached st moves → IsRun (translation P) script st ns → Reached (after (translation P) st ns) (moves + length ns)
+    reach : (ns : List ℕ) (st : RunState) (moves : ℕ) → Reached st moves → IsRun (translation P) script st ns
+        → Reached (after (translation P) st ns) (moves + length ns)
     reach [] st moves r run = let e : moves ≡ moves + 0 = omega arith in subst (λ k. Reached st k) e r
     reach (n ∷ ns) st moves r run =
         let e : suc moves + length ns ≡ moves + suc (length ns) = omega arith in
-        subst (λ k. Reached (after (translation P) (moved_flat (translation P) st n) ns) k) e (reach ns (moved_flat (translation P) st n) (suc moves) (one_more st moves r n run.0) run.1)
+        subst (λ k. Reached (after (translation P) (moved_flat (translation P) st n) ns) k) e
+        (reach ns (moved_flat (translation P) st n) (suc moves) (one_more st moves r n run.0) run.1)
 
     module _ (carried : (moves : ℕ) (x : Whole P.body) → Reaches P script moves x → IsCarried P script moves x) where
       apart : (st : RunState) (moves : ℕ) → Reached st moves → IsApart (translation P) st
@@ -310,22 +330,25 @@ module _ (P : TypedProgram) (given : Given P) where
           (λ (le : nodes_of P ≤ n). past_apart P given st n le)
           (cases_lt n (nodes_of P))
 
-      stable : (st : RunState) (moves : ℕ) → Reached st moves → (n : ℕ) → move_enabled (translation P) script st n ≡ true → (m : ℕ) → m ≢ n → move_enabled (translation P) script st m ≡ true → move_enabled (translation P) script (moved_flat (translation P) st n) m ≡ true
+      stable : (st : RunState) (moves : ℕ) → Reached st moves → (n : ℕ) → move_enabled (translation P) script st n ≡ true → (m : ℕ) → m ≢ n
+          → move_enabled (translation P) script st m ≡ true → move_enabled (translation P) script (moved_flat (translation P) st n) m ≡ true
       stable st moves r n on m ne there =
           let safe = (carried moves r.cells r.reaches).safe in
           let p = moving st moves r n on in
           let q = moving st moves r m there in
           let still = safe.stable q.node p.node (λ (e : q.node ≡ p.node). ne (sym q.is ∙ (ap (number_of P given) e ∙ p.is))) q.may p.may in
           ap (move_enabled (translation P) script (moved_flat (translation P) st n)) (sym q.is)
-          ∙ (enabled_is P given (moved_flat (translation P) st n) (moved P r.cells p.node) (next_shows st moves r n p) script fits q.node q.fine ∙ still)
+          ∙ (enabled_is P given (moved_flat (translation P) st n) (moved P r.cells p.node) (next_shows st moves r n p) script q.node q.fine ∙ still)
 
       -- each channel keeps its phases
       module _ (st : RunState) (moves : ℕ) (r : Reached st moves) (n : ℕ) (on : move_enabled (translation P) script st n ≡ true) where
-        may_rail : (k i : ℕ) (one : Bool) → k < length P.channels → i < channel_width P.channels k → n ≡ channel_from P k + rail_place i one → enabled P script r.cells (rail_node (of_channel k) i one) ≡ true
-        may_rail k i one hk hi e = sym (enabled_is P given st r.cells r.shows script fits (rail_node (of_channel k) i one) (hk, hi)) ∙ (ap (move_enabled (translation P) script st) (sym e) ∙ on)
+        may_rail : (k i : ℕ) (one : Bool) → k < length P.channels → i < channel_width P.channels k → n ≡ channel_from P k + rail_place i one
+            → enabled P script r.cells (rail_node (of_channel k) i one) ≡ true
+        may_rail k i one hk hi e = sym (enabled_is P given st r.cells r.shows script (rail_node (of_channel k) i one) (hk, hi))
+            ∙ (ap (move_enabled (translation P) script st) (sym e) ∙ on)
 
         may_ack : (k : ℕ) → k < length P.channels → n ≡ ack_at P k → enabled P script r.cells (ack_node k) ≡ true
-        may_ack k hk e = sym (enabled_is P given st r.cells r.shows script fits (ack_node k) hk) ∙ (ap (move_enabled (translation P) script st) (sym e) ∙ on)
+        may_ack k hk e = sym (enabled_is P given st r.cells r.shows script (ack_node k) hk) ∙ (ap (move_enabled (translation P) script st) (sym e) ∙ on)
 
         rail_keeps_phase : (k i : ℕ) (one : Bool) → k < length P.channels → i < channel_width P.channels k → n ≡ channel_from P k + rail_place i one
             → rail_keeps (high st.values) (ack_at P k) (channel_from P k + rail_place i one) (channel_from P k + rail_place i (not one)) ≡ true
@@ -333,10 +356,12 @@ module _ (P : TypedProgram) (given : Given P) where
             let safe = (carried moves r.cells r.reaches).safe in
             let s = r.shows in
             let w = r.cells.wires in
-            ap (λ b. if b then high st.values (ack_at P k) else not (high st.values (ack_at P k)) && not (high st.values (channel_from P k + rail_place i (not one)))) (s.rail k i one hk hi)
+            ap (λ b. if b then high st.values (ack_at P k) else not (high st.values (ack_at P k)) && not
+            (high st.values (channel_from P k + rail_place i (not one)))) (s.rail k i one hk hi)
             ∙ (ap (λ b. if w.rail (of_channel k) i one then b else not b && not (high st.values (channel_from P k + rail_place i (not one)))) (s.ack k hk)
             ∙ (ap (λ b. if w.rail (of_channel k) i one then w.ack k else not (w.ack k) && not b) (s.rail k i (not one) hk hi)
-            ∙ by_value (w.rail (of_channel k) i one) (w.ack k) (w.rail (of_channel k) i (not one)) (λ low. safe.rail_up k i one low (may_rail k i one hk hi e)) (λ up. safe.rail_down k i one up (may_rail k i one hk hi e))))
+            ∙ by_value (w.rail (of_channel k) i one) (w.ack k) (w.rail (of_channel k) i (not one)) (λ low. safe.rail_up k i one low (may_rail k i one hk hi e))
+            (λ up. safe.rail_down k i one up (may_rail k i one hk hi e))))
           where
             by_value : (b a o : Bool) → (b ≡ false → (a ≡ false) × (o ≡ false)) → (b ≡ true → a ≡ true) → (if b then a else not a && not o) ≡ true
             by_value true a o up down = down refl
@@ -348,10 +373,13 @@ module _ (P : TypedProgram) (given : Given P) where
             let s = r.shows in
             let w = r.cells.wires in
             let width = channel_width P.channels k in
-            let rails : (i : ℕ) (one : Bool) → i < width → high st.values (channel_from P k + rail_place i one) ≡ w.rail (of_channel k) i one = λ i one lt. s.rail k i one hk lt in
+            let rails : (i : ℕ) (one : Bool) → i < width → high st.values (channel_from P k + rail_place i one) ≡ w.rail
+            (of_channel k) i one = λ i one lt. s.rail k i one hk lt in
             ap (λ b. if b then neutral (high st.values) (rails_of (rails_at P k)) else valid (high st.values) (rails_of (rails_at P k))) (s.ack k hk)
-            ∙ (ap (λ b. if w.ack k then b else valid (high st.values) (rails_of (rails_at P k))) (neutral_is (high st.values) width (channel_from P k) (w.rail (of_channel k)) rails)
-            ∙ (ap (λ o. if w.ack k then neutral_on width (w.rail (of_channel k)) else is_some o) (value_is (high st.values) width (channel_from P k) (w.rail (of_channel k)) rails)
+            ∙ (ap (λ b. if w.ack k then b else valid (high st.values) (rails_of (rails_at P k)))
+            (neutral_is (high st.values) width (channel_from P k) (w.rail (of_channel k)) rails)
+            ∙ (ap (λ o. if w.ack k then neutral_on width (w.rail (of_channel k)) else is_some o)
+            (value_is (high st.values) width (channel_from P k) (w.rail (of_channel k)) rails)
             ∙ by_value (w.ack k) (λ up. safe.ack_down k up (may_ack k hk e)) (λ low. safe.ack_up k low (may_ack k hk e))))
           where
             by_value : {x y : Bool} → (a : Bool) → (a ≡ true → x ≡ true) → (a ≡ false → y ≡ true) → (if a then x else y) ≡ true
@@ -367,9 +395,12 @@ module _ (P : TypedProgram) (given : Given P) where
             let z : 0 + k ≡ k = omega arith in
             let a : (get_or (wires_from P 0 P.channels) k no_channel).ack ≡ ack_at P k = w.1 ∙ ap (ack_at P) z in
             let b : (get_or (wires_from P 0 P.channels) k no_channel).rails ≡ rails_of (rails_at P k) = w.0 ∙ ap (λ j. rails_of (rails_at P j)) z in
-            ap (λ l. rails_keep (high st.values) (get_or (wires_from P 0 P.channels) k no_channel).ack l n && (not (n == (get_or (wires_from P 0 P.channels) k no_channel).ack) || ack_keeps (high st.values) (get_or (wires_from P 0 P.channels) k no_channel).ack l)) b
+            ap (λ l. rails_keep (high st.values) (get_or (wires_from P 0 P.channels) k no_channel).ack l n &&
+            (not (n == (get_or (wires_from P 0 P.channels) k no_channel).ack) || ack_keeps (high st.values)
+            (get_or (wires_from P 0 P.channels) k no_channel).ack l)) b
             ∙ (ap (λ m. rails_keep (high st.values) m (rails_of (rails_at P k)) n && (not (n == m) || ack_keeps (high st.values) m (rails_of (rails_at P k)))) a
-            ∙ and_from (rails_keep (high st.values) (ack_at P k) (rails_of (rails_at P k)) n) (not (n == ack_at P k) || ack_keeps (high st.values) (ack_at P k) (rails_of (rails_at P k)))
+            ∙ and_from (rails_keep (high st.values) (ack_at P k) (rails_of (rails_at P k)) n)
+            (not (n == ack_at P k) || ack_keeps (high st.values) (ack_at P k) (rails_of (rails_at P k)))
             (rails_kept (high st.values) (channel_width P.channels k) (channel_from P k) (ack_at P k) n (λ i one lt e. rail_keeps_phase k i one hk lt e))
             (by_test (n == ack_at P k) (λ e. ack_keeps_phase k hk (eqb-true n (ack_at P k) e))))
           where
@@ -392,15 +423,17 @@ module _ (P : TypedProgram) (given : Given P) where
       at_rest : (st : RunState) (moves : ℕ) (r : Reached st moves) → IsAtRestFlat (translation P) script st → IsAtRest P script r.cells
       at_rest st moves r still n stands_there =
           let f = fine_node P given n stands_there in
-          sym (enabled_is P given st r.cells r.shows script fits n f) ∙ still (number_of P given n)
+          sym (enabled_is P given st r.cells r.shows script n f) ∙ still (number_of P given n)
 
-      module _ (steps_taken : (c d : Configuration) (at : Place) → step_at c at ≡ Some d → Step c at d) (append : (c d : Configuration) (n : ℕ) → Leads c n d → IsBehind c d) (one : OneHistory P script) (hold : RoundsHold P script) where
+      module _ (steps_taken : (c d : Configuration) (at : Place) → step_at c at ≡ Some d → Step c at d)
+          (append : (c d : Configuration) (n : ℕ) → Leads c n d → IsBehind c d) (one : OneHistory P script) (hold : RoundsHold P script) where
         following : (st : RunState) (moves : ℕ) → Reached st moves → IsFollowing st (rounds P script moves)
         following st moves r k =
             let q = carried moves r.cells r.reaches in
             let on = one q.steps q.to q.leads in
             let e : q.steps + (moves - q.steps) ≡ moves = omega (arith, q.within) in
-            let a = behind_on q.to (rounds P script q.steps) (rounds P script (q.steps + (moves - q.steps))) (append q.to (rounds P script q.steps) on.0 on.1) (rounds_behind P script hold q.steps (moves - q.steps)) k in
+            let a = behind_on q.to (rounds P script q.steps) (rounds P script (q.steps + (moves - q.steps))) (append q.to (rounds P script q.steps) on.0 on.1)
+            (rounds_behind P script hold q.steps (moves - q.steps)) k in
             (a.0, ap (λ m. history_at (rounds P script m).histories k) (sym e) ∙ (a.1 ∙ ap (λ hs. history_at hs k ++ a.0) (q.passed ∙ sym r.shows.histories)))
 
         settled : (st : RunState) (moves : ℕ) → Reached st moves → IsAtRestFlat (translation P) script st → IsSettled st (rounds P script moves)
@@ -411,7 +444,8 @@ module _ (P : TypedProgram) (given : Given P) where
             let e : q.steps + (moves - q.steps) ≡ moves = omega (arith, q.within) in
             let there : rounds P script moves ≡ q.to =
             ap (rounds P script) (sym e) ∙ (rounds_on (start_of P script) q.steps (moves - q.steps)
-            ∙ (ap (λ c. rounds_from c (moves - q.steps)) (sym (leads_nowhere q.to (rounds P script q.steps) on.0 z.still on.1)) ∙ rounds_stay steps_taken q.to z.still (moves - q.steps))) in
+            ∙ (ap (λ c. rounds_from c (moves - q.steps)) (sym (leads_nowhere q.to (rounds P script q.steps) on.0 z.still on.1))
+            ∙ rounds_stay steps_taken q.to z.still (moves - q.steps))) in
             subst (λ c. IsSettled st c) (sym there) (record {
               whole = λ k. ap (λ hs. history_at hs k) (r.shows.histories ∙ sym q.passed);
               still = z.still;
@@ -422,11 +456,14 @@ module _ (P : TypedProgram) (given : Given P) where
             is_high true h = refl
             is_high false h = absurd (h refl)
 
-        carrying : (ns : List ℕ) → IsRun (translation P) script (begin_at (translation P) (translation P).first) ns → IsCarrying (translation P) P script (translation P).first (length ns) ns
+        carrying : (ns : List ℕ) → IsRun (translation P) script (begin_at (translation P) (translation P).first) ns
+            → IsCarrying (translation P) P script (translation P).first (length ns) ns
         carrying ns run =
             let first : Reached (begin_at (translation P) (translation P).first) 0 = record { cells = first_of P; reaches = at_first; shows = starts } in
             let e : 0 + length ns ≡ length ns = omega arith in
-            let last : Reached (after (translation P) (begin_at (translation P) (translation P).first) ns) (length ns) = subst (λ k. Reached (after (translation P) (begin_at (translation P) (translation P).first) ns) k) e (reach ns (begin_at (translation P) (translation P).first) 0 first run) in
+            let last : Reached (after (translation P) (begin_at (translation P) (translation P).first) ns) (length ns) = subst
+            (λ k. Reached (after (translation P) (begin_at (translation P) (translation P).first) ns) k) e
+            (reach ns (begin_at (translation P) (translation P).first) 0 first run) in
             record {
               safe = safe_run ns (begin_at (translation P) (translation P).first) 0 first run;
               prefix = following (after (translation P) (begin_at (translation P) (translation P).first) ns) (length ns) last;
@@ -440,12 +477,14 @@ have_bits (v ∷ vs) each (suc y) h = have_bits vs (All-tail IsDeclaredVar v vs 
 
 -- what is assumed here are laws of steps and rounds, and that of circuits as trees of cells
 pub covered_carried : ((c d : Configuration) (at : Place) → step_at c at ≡ Some d → Step c at d) → ((c d : Configuration) (n : ℕ) → Leads c n d → IsBehind c d)
-    → ((p : TypedProgram) (script : List OfferValue) → MeetsSharing p.body → OneHistory p script) → ((p : TypedProgram) (script : List OfferValue) → MeetsSharing p.body → RoundsHold p script)
+    → ((p : TypedProgram) (script : List OfferValue) → MeetsSharing p.body → OneHistory p script)
+    → ((p : TypedProgram) (script : List OfferValue) → MeetsSharing p.body → RoundsHold p script)
     → CircuitsCarry → (P : TypedProgram) → IsTyped P.channels P.vars P.body → Covered P → Carries (translation P) P
 covered_carried steps_taken append one hold circuits P typed covered =
-    let given : Given P = record { typed = typed.body_is; covered = covered.body; out = covered.channels; some = have_bits P.vars typed.each_var } in
+    let given : Given P = record { typed = typed.body_is; covered = covered.body; some = have_bits P.vars typed.each_var } in
     let meets = covered.sharing in
     record {
       channels = same_channels P given 0 P.channels;
-      runs = λ script fits moves run. carrying P given script fits (λ k x r. circuits P (typed_sized P.channels P.vars P.body typed) covered script fits k x r) steps_taken append (one P script meets) (hold P script meets) moves run;
+      runs = λ script fits moves run. carrying P given script fits (λ k x r. circuits P
+          (typed_sized P.channels P.vars P.body typed) covered script fits k x r) steps_taken append (one P script meets) (hold P script meets) moves run;
     }

@@ -15,50 +15,50 @@ use Rattle.width_check.specs.declared.typed.Var.{Var}
 use Rattle.width_check.specs.Processes.{constant, reading, joined, inverted, chained, compared, no_parts, and_part, no_operations, and_operation, skipping, assigning, sending, receiving, in_turn, side_by_side, choosing, repeating, no_members, and_member, no_choices, and_choice, TypedProgram}
 use Rattle.net_compose.specs.Translation.{translation}
 
-abbrev at : Span
+abbrev pub at : Span
 at = record { from = 0; to = 1 }
 
-abbrev channel : Kind → ℕ → Channel
+abbrev pub channel : Kind → ℕ → Channel
 channel kind width = record { name = []; kind = kind; width = width }
 
-abbrev var : ℕ → ℕ → Var
+abbrev pub var : ℕ → ℕ → Var
 var width first = record { name = []; width = width; first = first }
 
-abbrev hi : ℕ → Literal
+abbrev pub hi : ℕ → Literal
 hi node = record { node = node; high = true }
 
-abbrev lo : ℕ → Literal
+abbrev pub lo : ℕ → Literal
 lo node = record { node = node; high = false }
 
-abbrev all : List Literal → GuardValue
+abbrev pub all : List Literal → GuardValue
 all literals = literals ∷ []
 
 -- a node that rises by the one guard and falls by the other
-abbrev turns : (up down : GuardValue) → NodeRules
+abbrev pub turns : (up down : GuardValue) → NodeRules
 turns up down = record { up = up; down = down }
 
-abbrev no_rules : NodeRules
+abbrev pub no_rules : NodeRules
 no_rules = record { up = []; down = [] }
 
-abbrev wires : Channel → (rails : List ℕ) → (ack : ℕ) → Wires
+abbrev pub wires : Channel → (rails : List ℕ) → (ack : ℕ) → Wires
 wires channel rails ack = record { channel = channel; rails = rails; ack = ack }
 
-abbrev is_among : List ℕ → ℕ → Bool
+abbrev pub is_among : List ℕ → ℕ → Bool
 is_among nodes node = list_any (λ n. n == node) nodes
 
 -- so many nodes, of which these are high at first
-abbrev high_first : (count : ℕ) → List ℕ → List Bool
+abbrev pub high_first : (count : ℕ) → List ℕ → List Bool
 high_first count nodes = map (is_among nodes) (range_with_len 0 count)
 
 -- a net, the names aside
-abbrev a_net : List NodeRules → (highs : List ℕ) → List Wires → NetValue
+abbrev pub a_net : List NodeRules → (highs : List ℕ) → List Wires → NetValue
 a_net rows highs channels =
     net_of [] (high_first (length rows) highs) (record { up = map (λ (r : NodeRules). r.up) rows; down = map (λ (r : NodeRules). r.down) rows }) channels None
 
-abbrev nameless : NetValue → NetValue
+abbrev pub nameless : NetValue → NetValue
 nameless n = record { names = []; first = n.first; up = n.up; down = n.down; channels = n.channels; reset = n.reset }
 
-abbrev name_count : NetValue → ℕ
+abbrev pub name_count : NetValue → ℕ
 name_count n = length n.names
 
 -- begin skip end

@@ -1,16 +1,17 @@
 -- The cells of a covered circuit as a list of values, in the order of the nodes' numbers.
-use Rattle.std.proofs.Common.{◌≡◌, ℕ, zero, suc, ◌+◌, ◌-◌, ◌*◌, ◌<◌, ◌≤◌, Bool, true, false, List, [], ◌∷◌, ◌++◌, length, get_or, set, replicate, refl, sym, ap, ◌∙◌, arith, length-append, get_or-append-add, ⊎_elim}
-use Rattle.std.specs.Prelude.{not, if◌then◌else◌}
-use Rattle.std.proofs.lemmas.Bool.{cases_lt}
+use Rattle.std.proofs.Common.{◌≡◌, ◌≢◌, ℕ, zero, suc, ◌+◌, ◌-◌, ◌*◌, ◌<◌, ◌≤◌, ◌==◌, Bool, true, false, List, [], ◌∷◌, ◌++◌, length, get_or, set, replicate, refl, sym, ap, ◌∙◌, arith, length-append, get_or-append-add, ⊎_elim}
+use Rattle.std.specs.Prelude.{not, ◌&&◌, if◌then◌else◌}
+use Rattle.std.proofs.lemmas.Bool.{cases_lt, cases_eq, eq-eqb, ne_eqb}
 use Rattle.std.proofs.lemmas.List.{get_or_append_left, set-append_left, set-append_right, replicate-append-replicate}
 use Rattle.width_check.specs.Processes.{Formula, Process, skipping, assigning, sending, receiving, in_turn, side_by_side, choosing, repeating, Processes, no_members, and_member, member_count, TypedProgram}
 use Rattle.width_check.specs.Reads.{reads}
-use Rattle.width_check.specs.Typing.{var_width}
+use Rattle.width_check.specs.Typing.{channel_width, var_width}
 use Rattle.handshake_expand.specs.Layout.{formula_size, through_size, assign_size, size_of, turn_size, branches_size}
 pub use Rattle.function_blocks.specs.Listed.{rail_place}
 use Rattle.function_blocks.proofs.PartSizes.{count_doubled}
+use Rattle.circuit_places.specs.Lines.{Rails}
 use Rattle.circuit_places.specs.Covered.{IsCovered, AreCovered}
-use Rattle.circuit_places.specs.Circuit.{Pairs, gate_count, Cells, TurnCells, BranchCells, joint_count, low_pairs, low, low_turn, low_branches, low_bits as low_tree, Spot, TurnSpot, BranchSpot, of_branch, joint, in_this, in_others, child, latch, next, inner, of_skip, done, gate, of_assign, of_send, in_members, of_loop, ask, in_body, in_last, in_member, in_later, turned_pairs, turned, turned_turn, turned_branches}
+use Rattle.circuit_places.specs.Circuit.{same_bit, rails_turned, of_receive, heard, stored, taking, Pairs, gate_count, Cells, TurnCells, BranchCells, joint_count, low_pairs, low, low_turn, low_branches, low_bits as low_tree, Spot, TurnSpot, BranchSpot, of_branch, joint, in_this, in_others, child, latch, next, inner, of_skip, done, gate, of_assign, of_send, in_members, of_loop, ask, in_body, in_last, in_member, in_later, turned_pairs, turned, turned_turn, turned_branches}
 use Rattle.net_compose.proofs.FlatTrees.{joint_count_is, tree_bits, length-tree_bits, tree_turned, tree_low}
 
 -- the rails of some pairs
@@ -31,25 +32,72 @@ pub length-pair_bits : (n : ℕ) (x : Pairs n) → length (pair_bits n x) ≡ 2 
 length-pair_bits zero x = refl
 length-pair_bits (suc n) x = omega (arith, length-pair_bits n x.1)
 
+-- so many pairs of rails
+abbrev pub rail_bits : (n : ℕ) → Rails → List Bool
+rail_bits zero r = []
+rail_bits (suc n) r = r zero true ∷ r zero false ∷ rail_bits n (λ i. r (suc i))
+
+pub length-rail_bits : (n : ℕ) (r : Rails) → length (rail_bits n r) ≡ 2 * n
+length-rail_bits zero r = refl
+length-rail_bits (suc n) r = omega (arith, length-rail_bits n (λ i. r (suc i)))
+
+pub rail_bits_same : (n : ℕ) (r q : Rails) → ((i : ℕ) (one : Bool) → r i one ≡ q i one) → rail_bits n r ≡ rail_bits n q
+rail_bits_same zero r q e = refl
+rail_bits_same (suc n) r q e =
+    ap (λ b. b ∷ r zero false ∷ rail_bits n (λ i. r (suc i))) (e zero true)
+    ∙ (ap (λ b. q zero true ∷ b ∷ rail_bits n (λ i. r (suc i))) (e zero false)
+    ∙ ap (λ l. q zero true ∷ q zero false ∷ l) (rail_bits_same n (λ i. r (suc i)) (λ i. q (suc i)) (λ i one. e (suc i) one)))
+
+same_suc : (j i : ℕ) → (j == i) ≡ (suc j == suc i)
+same_suc j i = ⊎_elim
+    (λ (e : j ≡ i). eq-eqb j i e ∙ sym (eq-eqb (suc j) (suc i) (ap suc e)))
+    (λ (n : j ≢ i). ne_eqb j i n ∙ sym (ne_eqb (suc j) (suc i) (λ e. n (omega (arith, e)))))
+    (cases_eq j i)
+
+-- one of them turned over
+pub rail_turned_at : (n : ℕ) (r : Rails) (i : ℕ) (one : Bool) → i < n → set (rail_bits n r) (rail_place i one)
+    (not (get_or (rail_bits n r) (rail_place i one) false)) ≡ rail_bits n (rails_turned r i one)
+rail_turned_at zero r i one h = absurd (omega arith)
+rail_turned_at (suc n) r zero true h =
+    ap (λ l. not (r zero true) ∷ r zero false ∷ l) (rail_bits_same n (λ k. r (suc k)) (λ k. rails_turned r zero true (suc k))
+    (λ k s. sym (ap (λ b. if b && same_bit s true then not (r zero true) else r (suc k) s) (ne_eqb (suc k) 0 (λ e. absurd (omega (arith, e)))))))
+rail_turned_at (suc n) r zero false h =
+    ap (λ l. r zero true ∷ not (r zero false) ∷ l) (rail_bits_same n (λ k. r (suc k)) (λ k. rails_turned r zero false (suc k))
+    (λ k s. sym (ap (λ b. if b && same_bit s false then not (r zero false) else r (suc k) s) (ne_eqb (suc k) 0 (λ e. absurd (omega (arith, e)))))))
+rail_turned_at (suc n) r (suc i) one h =
+    let head = λ (s : Bool). ap (λ b. if b && same_bit s one then not (r (suc i) one) else r zero s) (ne_eqb 0 (suc i) (λ e. absurd (omega (arith, e)))) in
+    let tail = rail_bits_same n (rails_turned (λ k. r (suc k)) i one) (λ k. rails_turned r (suc i) one (suc k))
+    (λ k s. ap (λ b. if b && same_bit s one then not (r (suc i) one) else r (suc k) s) (same_suc k i)) in
+    ap (λ l. r zero true ∷ r zero false ∷ l) (rail_turned_at n (λ k. r (suc k)) i one (omega arith) ∙ tail)
+    ∙ (ap (λ b. b ∷ r zero false ∷ rail_bits n (λ k. rails_turned r (suc i) one (suc k))) (sym (head true))
+    ∙ ap (λ b. rails_turned r (suc i) one zero true ∷ b ∷ rail_bits n (λ k. rails_turned r (suc i) one (suc k))) (sym (head false)))
+
+pub low_rail_bits : (n : ℕ) → rail_bits n (λ i one. false) ≡ replicate (2 * n) false
+low_rail_bits zero = refl
+low_rail_bits (suc n) =
+    let e : suc (suc (2 * n)) ≡ 2 * suc n = omega arith in
+    ap (λ l. false ∷ false ∷ l) (low_rail_bits n) ∙ ap (λ m. replicate m false) e
+
 abbrev mutual
-  pub bits : (p : Process) → Cells p → List Bool
-  bits skipping x = x ∷ []
-  bits (assigning y at e) x = x.answer ∷ pair_bits (gate_count e) x.gates
-  bits (sending chan at e) x = x.answer ∷ pair_bits (gate_count e) x.gates
-  bits (in_turn members) x = turn_bits members x
-  bits (side_by_side members) x = branch_bits members x.branches ++ tree_bits (joint_count (member_count members)) x.tree
-  bits (repeating p) x = x.answer ∷ x.ask ∷ bits p x.inner
-  bits _ x = []
+  pub bits : TypedProgram → (p : Process) → Cells p → List Bool
+  bits P skipping x = x ∷ []
+  bits P (assigning y at e) x = x.answer ∷ pair_bits (gate_count e) x.gates
+  bits P (sending chan at e) x = x.answer ∷ pair_bits (gate_count e) x.gates
+  bits P (in_turn members) x = turn_bits P members x
+  bits P (side_by_side members) x = branch_bits P members x.branches ++ tree_bits (joint_count (member_count members)) x.tree
+  bits P (repeating p) x = x.answer ∷ x.ask ∷ bits P p x.inner
+  bits P (receiving chan at y to) x = x.answer ∷ x.kept ∷ rail_bits (channel_width P.channels chan) x.taken
+  bits P _ x = []
 
-  pub branch_bits : (members : Processes) → BranchCells members → List Bool
-  branch_bits no_members x = []
-  branch_bits (and_member p more) x = x.0.child ∷ x.0.latch ∷ x.0.next ∷ (bits p x.0.inner ++ branch_bits more x.1)
+  pub branch_bits : TypedProgram → (members : Processes) → BranchCells members → List Bool
+  branch_bits P no_members x = []
+  branch_bits P (and_member p more) x = x.0.child ∷ x.0.latch ∷ x.0.next ∷ (bits P p x.0.inner ++ branch_bits P more x.1)
 
-  pub turn_bits : (members : Processes) → TurnCells members → List Bool
-  turn_bits no_members x = []
-  turn_bits (and_member p no_members) x = bits p x
-  turn_bits (and_member p (and_member q more)) x =
-      x.member.child ∷ x.member.latch ∷ x.member.next ∷ (bits p x.member.inner ++ turn_bits (and_member q more) x.later)
+  pub turn_bits : TypedProgram → (members : Processes) → TurnCells members → List Bool
+  turn_bits P no_members x = []
+  turn_bits P (and_member p no_members) x = bits P p x
+  turn_bits P (and_member p (and_member q more)) x =
+      x.member.child ∷ x.member.latch ∷ x.member.next ∷ (bits P p x.member.inner ++ turn_bits P (and_member q more) x.later)
 
 -- which rail a number is
 pub record Rail (n k : ℕ) : Type 0 where
@@ -62,7 +110,13 @@ pub rail_of : (n k : ℕ) → k < 2 * n → Rail n k
 rail_of zero k h = absurd (omega arith)
 rail_of (suc n) zero h = record { bit = zero; one = true; below = omega arith; is = refl }
 rail_of (suc n) (suc zero) h = record { bit = zero; one = false; below = omega arith; is = refl }
-rail_of (suc n) (suc (suc k)) h = let r = rail_of n k (omega arith) in record { bit = suc r.bit; one = r.one; below = omega (arith, r.below); is = ap (λ m. suc (suc m)) r.is }
+rail_of (suc n) (suc (suc k)) h = let r = rail_of n k (omega arith) in record {
+  bit = suc r.bit;
+  one = r.one;
+  below = omega (arith, r.below);
+  is = ap
+      (λ m. suc (suc m)) r.is;
+}
 
 module _ (P : TypedProgram) where
   -- where a node is in the list
@@ -79,6 +133,9 @@ module _ (P : TypedProgram) where
     place (repeating p) of_loop = 0
     place (repeating p) ask = 1
     place (repeating p) (in_body s) = suc (suc (place p s))
+    place (receiving chan at y to) (of_receive heard) = 0
+    place (receiving chan at y to) (of_receive stored) = 1
+    place (receiving chan at y to) (of_receive (taking i one)) = suc (suc (rail_place i one))
     place _ s = 0
 
     pub branch_place : (members : Processes) → BranchSpot members → ℕ
@@ -103,6 +160,7 @@ module _ (P : TypedProgram) where
     pub IsFine : (p : Process) → Spot p → Type 0
     IsFine (assigning y at e) (of_assign (gate i one)) = i < gate_count e
     IsFine (sending chan at e) (of_send (gate i one)) = i < gate_count e
+    IsFine (receiving chan at y to) (of_receive (taking i one)) = i < channel_width P.channels chan
     IsFine (in_turn members) (in_members s) = IsFineTurn members s
     IsFine (side_by_side members) (of_branch s) = IsFineBranch members s
     IsFine (side_by_side members) (joint k) = k < joint_count (member_count members)
@@ -125,33 +183,38 @@ module _ (P : TypedProgram) where
   plain_size z e c = ap (λ b. if b then through_size (var_width P.vars z) e else 1 + formula_size e) c
 
   mutual
-    pub length-bits : (p : Process) → IsCovered p → (x : Cells p) → length (bits p x) ≡ size_of P p
+    pub length-bits : (p : Process) → IsCovered p → (x : Cells p) → length (bits P p x) ≡ size_of P p
     length-bits skipping c x = refl
     length-bits (sending chan at e) c x = omega (arith, length-pair_bits (gate_count e) x.gates, count_doubled e)
     length-bits (in_turn members) c x = length-turn_bits members c x
     length-bits (repeating p) c x = omega (arith, length-bits p c x.inner)
     length-bits (assigning z at e) c x = omega (arith, length-pair_bits (gate_count e) x.gates, count_doubled e, plain_size z e c)
-    length-bits (receiving chan at z to) c x = absurd c
+    length-bits (receiving chan at z to) c x = omega (arith, length-rail_bits (channel_width P.channels chan) x.taken)
     length-bits (side_by_side members) c x =
         omega (
           arith,
-          length-append (branch_bits members x.branches) (tree_bits (joint_count (member_count members)) x.tree),
+          length-append (branch_bits P members x.branches) (tree_bits (joint_count (member_count members)) x.tree),
           length-branch_bits members c x.branches,
           length-tree_bits (joint_count (member_count members)) x.tree,
           joint_count_is (member_count members),
         )
     length-bits (choosing again choices) c x = absurd c
 
-    pub length-branch_bits : (members : Processes) → AreCovered members → (x : BranchCells members) → length (branch_bits members x) ≡ branches_size P members
+    pub length-branch_bits : (members : Processes) → AreCovered members → (x : BranchCells members) → length (branch_bits P members x) ≡ branches_size P members
     length-branch_bits no_members c x = refl
     length-branch_bits (and_member p more) c x =
-        omega (arith, length-append (bits p x.0.inner) (branch_bits more x.1), length-bits p c.0 x.0.inner, length-branch_bits more c.1 x.1)
+        omega (arith, length-append (bits P p x.0.inner) (branch_bits P more x.1), length-bits p c.0 x.0.inner, length-branch_bits more c.1 x.1)
 
-    pub length-turn_bits : (members : Processes) → AreCovered members → (x : TurnCells members) → length (turn_bits members x) ≡ turn_size P members
+    pub length-turn_bits : (members : Processes) → AreCovered members → (x : TurnCells members) → length (turn_bits P members x) ≡ turn_size P members
     length-turn_bits no_members c x = refl
     length-turn_bits (and_member p no_members) c x = length-bits p c.0 x
     length-turn_bits (and_member p (and_member q more)) c x =
-        omega (arith, length-append (bits p x.member.inner) (turn_bits (and_member q more) x.later), length-bits p c.0 x.member.inner, length-turn_bits (and_member q more) c.1 x.later)
+        omega (
+          arith,
+          length-append (bits P p x.member.inner) (turn_bits P (and_member q more) x.later),
+          length-bits p c.0 x.member.inner,
+          length-turn_bits (and_member q more) c.1 x.later,
+        )
 
   mutual
     pub place_lt : (p : Process) → IsCovered p → (s : Spot p) → IsFine p s → place p s < size_of P p
@@ -164,12 +227,15 @@ module _ (P : TypedProgram) where
     place_lt (repeating p) c (in_body s) f = omega (arith, place_lt p c s f)
     place_lt (assigning z at e) c (of_assign done) f = omega (arith, plain_size z e c)
     place_lt (assigning z at e) c (of_assign (gate i one)) f = omega (arith, rail_place_lt i (gate_count e) one f, count_doubled e, plain_size z e c)
-    place_lt (receiving chan at z to) c s f = absurd c
+    place_lt (receiving chan at z to) c (of_receive heard) f = omega arith
+    place_lt (receiving chan at z to) c (of_receive stored) f = omega arith
+    place_lt (receiving chan at z to) c (of_receive (taking i one)) f = omega (arith, rail_place_lt i (channel_width P.channels chan) one f)
     place_lt (side_by_side members) c (of_branch s) f = omega (arith, branch_place_lt members c s f)
     place_lt (side_by_side members) c (joint k) f = omega (arith, f, joint_count_is (member_count members))
     place_lt (choosing again choices) c s f = absurd c
 
-    pub branch_place_lt : (members : Processes) → AreCovered members → (s : BranchSpot members) → IsFineBranch members s → branch_place members s < branches_size P members
+    pub branch_place_lt : (members : Processes) → AreCovered members → (s : BranchSpot members) → IsFineBranch members s
+        → branch_place members s < branches_size P members
     branch_place_lt no_members c s f = elim s [ ]
     branch_place_lt (and_member p more) c (in_this child) f = omega arith
     branch_place_lt (and_member p more) c (in_this latch) f = omega arith
@@ -187,7 +253,8 @@ module _ (P : TypedProgram) where
     turn_place_lt (and_member p (and_member q more)) c (in_later s) f = omega (arith, turn_place_lt (and_member q more) c.1 s f)
 
   -- a rail among pairs
-  pub rail_at_place : (n : ℕ) (x : Pairs n) (i : ℕ) (one : Bool) → i < n → (y : Bool) → set (pair_bits n x) (rail_place i one) (not (get_or (pair_bits n x) (rail_place i one) false)) ≡ pair_bits n (turned_pairs n x i one)
+  pub rail_at_place : (n : ℕ) (x : Pairs n) (i : ℕ) (one : Bool) → i < n → (y : Bool)
+      → set (pair_bits n x) (rail_place i one) (not (get_or (pair_bits n x) (rail_place i one) false)) ≡ pair_bits n (turned_pairs n x i one)
   rail_at_place zero x i one h y = absurd (omega arith)
   rail_at_place (suc n) x zero true h y = refl
   rail_at_place (suc n) x zero false h y = refl
@@ -207,7 +274,8 @@ module _ (P : TypedProgram) where
 
   -- a node turned over in the list is the node turned over in the tree
   mutual
-    pub turned_is : (p : Process) → IsCovered p → (x : Cells p) (s : Spot p) → IsFine p s → set (bits p x) (place p s) (not (get_or (bits p x) (place p s) false)) ≡ bits p (turned p x s)
+    pub turned_is : (p : Process) → IsCovered p → (x : Cells p) (s : Spot p) → IsFine p s
+        → set (bits P p x) (place p s) (not (get_or (bits P p x) (place p s) false)) ≡ bits P p (turned p x s)
     turned_is skipping c x of_skip f = refl
     turned_is (sending chan at e) c x (of_send done) f = refl
     turned_is (sending chan at e) c x (of_send (gate i one)) f = ap (λ l. x.answer ∷ l) (rail_at_place (gate_count e) x.gates i one f true)
@@ -217,49 +285,59 @@ module _ (P : TypedProgram) where
     turned_is (repeating p) c x (in_body s) f = ap (λ l. x.answer ∷ x.ask ∷ l) (turned_is p c x.inner s f)
     turned_is (assigning z at e) c x (of_assign done) f = refl
     turned_is (assigning z at e) c x (of_assign (gate i one)) f = ap (λ l. x.answer ∷ l) (rail_at_place (gate_count e) x.gates i one f true)
-    turned_is (receiving chan at z to) c x s f = absurd c
+    turned_is (receiving chan at z to) c x (of_receive heard) f = refl
+    turned_is (receiving chan at z to) c x (of_receive stored) f = refl
+    turned_is (receiving chan at z to) c x (of_receive (taking i one)) f = ap (λ l. x.answer ∷ x.kept ∷ l)
+        (rail_turned_at (channel_width P.channels chan) x.taken i one f)
     turned_is (side_by_side members) c x (of_branch s) f =
         let b = tree_bits (joint_count (member_count members)) x.tree in
-        set_first (branch_bits members x.branches) b (branch_place members s) (omega (arith, branch_place_lt members c s f, length-branch_bits members c x.branches)) ∙ ap (λ l. l ++ b) (turned_branch_is members c x.branches s f)
+        set_first (branch_bits P members x.branches) b (branch_place members s)
+        (omega (arith, branch_place_lt members c s f, length-branch_bits members c x.branches))
+        ∙ ap (λ l. l ++ b) (turned_branch_is members c x.branches s f)
     turned_is (side_by_side members) c x (joint k) f =
-        let a = branch_bits members x.branches in
-        set_second a (tree_bits (joint_count (member_count members)) x.tree) (branches_size P members) k (length-branch_bits members c x.branches) ∙ ap (λ l. a ++ l) (tree_turned (joint_count (member_count members)) x.tree k f)
+        let a = branch_bits P members x.branches in
+        set_second a (tree_bits (joint_count (member_count members)) x.tree) (branches_size P members) k (length-branch_bits members c x.branches)
+        ∙ ap (λ l. a ++ l) (tree_turned (joint_count (member_count members)) x.tree k f)
     turned_is (choosing again choices) c x s f = absurd c
 
     pub turned_branch_is : (members : Processes) → AreCovered members → (x : BranchCells members) (s : BranchSpot members) → IsFineBranch members s
-        → set (branch_bits members x) (branch_place members s) (not (get_or (branch_bits members x) (branch_place members s) false)) ≡ branch_bits members (turned_branches members x s)
+        → set (branch_bits P members x) (branch_place members s) (not (get_or (branch_bits P members x) (branch_place members s) false)) ≡ branch_bits P members
+        (turned_branches members x s)
     turned_branch_is no_members c x s f = elim s [ ]
     turned_branch_is (and_member p more) c x (in_this child) f = refl
     turned_branch_is (and_member p more) c x (in_this latch) f = refl
     turned_branch_is (and_member p more) c x (in_this next) f = refl
     turned_branch_is (and_member p more) c x (in_this (inner s)) f =
-        let a = bits p x.0.inner in
-        let b = branch_bits more x.1 in
+        let a = bits P p x.0.inner in
+        let b = branch_bits P more x.1 in
         ap (λ l. x.0.child ∷ x.0.latch ∷ x.0.next ∷ l)
         (set_first a b (place p s) (omega (arith, place_lt p c.0 s f, length-bits p c.0 x.0.inner)) ∙ ap (λ l. l ++ b) (turned_is p c.0 x.0.inner s f))
     turned_branch_is (and_member p more) c x (in_others s) f =
-        let a = bits p x.0.inner in
-        let b = branch_bits more x.1 in
+        let a = bits P p x.0.inner in
+        let b = branch_bits P more x.1 in
         ap (λ l. x.0.child ∷ x.0.latch ∷ x.0.next ∷ l)
         (set_second a b (size_of P p) (branch_place more s) (length-bits p c.0 x.0.inner) ∙ ap (λ l. a ++ l) (turned_branch_is more c.1 x.1 s f))
 
     pub turned_turn_is : (members : Processes) → AreCovered members → (x : TurnCells members) (s : TurnSpot members) → IsFineTurn members s
-        → set (turn_bits members x) (turn_place members s) (not (get_or (turn_bits members x) (turn_place members s) false)) ≡ turn_bits members (turned_turn members x s)
+        → set (turn_bits P members x) (turn_place members s) (not (get_or (turn_bits P members x) (turn_place members s) false)) ≡ turn_bits P members
+        (turned_turn members x s)
     turned_turn_is no_members c x s f = elim s [ ]
     turned_turn_is (and_member p no_members) c x (in_last s) f = turned_is p c.0 x s f
     turned_turn_is (and_member p (and_member q more)) c x (in_member child) f = refl
     turned_turn_is (and_member p (and_member q more)) c x (in_member latch) f = refl
     turned_turn_is (and_member p (and_member q more)) c x (in_member next) f = refl
     turned_turn_is (and_member p (and_member q more)) c x (in_member (inner s)) f =
-        let a = bits p x.member.inner in
-        let b = turn_bits (and_member q more) x.later in
+        let a = bits P p x.member.inner in
+        let b = turn_bits P (and_member q more) x.later in
         ap (λ l. x.member.child ∷ x.member.latch ∷ x.member.next ∷ l)
-        (set_first a b (place p s) (omega (arith, place_lt p c.0 s f, length-bits p c.0 x.member.inner)) ∙ ap (λ l. l ++ b) (turned_is p c.0 x.member.inner s f))
+        (set_first a b (place p s) (omega (arith, place_lt p c.0 s f, length-bits p c.0 x.member.inner))
+        ∙ ap (λ l. l ++ b) (turned_is p c.0 x.member.inner s f))
     turned_turn_is (and_member p (and_member q more)) c x (in_later s) f =
-        let a = bits p x.member.inner in
-        let b = turn_bits (and_member q more) x.later in
+        let a = bits P p x.member.inner in
+        let b = turn_bits P (and_member q more) x.later in
         ap (λ l. x.member.child ∷ x.member.latch ∷ x.member.next ∷ l)
-        (set_second a b (size_of P p) (turn_place (and_member q more) s) (length-bits p c.0 x.member.inner) ∙ ap (λ l. a ++ l) (turned_turn_is (and_member q more) c.1 x.later s f))
+        (set_second a b (size_of P p) (turn_place (and_member q more) s) (length-bits p c.0 x.member.inner)
+        ∙ ap (λ l. a ++ l) (turned_turn_is (and_member q more) c.1 x.later s f))
 
   -- each node of the list is a node of the tree
   pub record AtPlace (p : Process) (n : ℕ) : Type 0 where
@@ -287,11 +365,17 @@ module _ (P : TypedProgram) where
     spot_of (in_turn members) c n h = let r = turn_spot_of members c n h in record { spot = in_members r.spot; fine = r.fine; is = r.is }
     spot_of (repeating p) c zero h = record { spot = of_loop; fine = tt; is = refl }
     spot_of (repeating p) c (suc zero) h = record { spot = ask; fine = tt; is = refl }
-    spot_of (repeating p) c (suc (suc n)) h = let r = spot_of p c n (omega arith) in record { spot = in_body r.spot; fine = r.fine; is = ap (λ m. suc (suc m)) r.is }
+    spot_of (repeating p) c (suc (suc n)) h = let r = spot_of p c n (omega arith) in
+        record { spot = in_body r.spot; fine = r.fine; is = ap (λ m. suc (suc m)) r.is }
     spot_of (assigning z at e) c zero h = record { spot = of_assign done; fine = tt; is = refl }
     spot_of (assigning z at e) c (suc n) h =
-        let r = rail_of (gate_count e) n (omega (arith, h, count_doubled e, plain_size z e c)) in record { spot = of_assign (gate r.bit r.one); fine = r.below; is = ap suc r.is }
-    spot_of (receiving chan at z to) c n h = absurd c
+        let r = rail_of (gate_count e) n (omega (arith, h, count_doubled e, plain_size z e c)) in
+        record { spot = of_assign (gate r.bit r.one); fine = r.below; is = ap suc r.is }
+    spot_of (receiving chan at z to) c zero h = record { spot = of_receive heard; fine = tt; is = refl }
+    spot_of (receiving chan at z to) c (suc zero) h = record { spot = of_receive stored; fine = tt; is = refl }
+    spot_of (receiving chan at z to) c (suc (suc n)) h =
+        let r = rail_of (channel_width P.channels chan) n (omega (arith, h)) in
+        record { spot = of_receive (taking r.bit r.one); fine = r.below; is = ap (λ m. suc (suc m)) r.is }
     spot_of (side_by_side members) c n h =
         ⊎_elim
         (λ (lt : n < branches_size P members).
@@ -299,7 +383,12 @@ module _ (P : TypedProgram) where
         let here : AtPlace (side_by_side members) n = record { spot = of_branch r.spot; fine = r.fine; is = r.is } in
         here)
         (λ (le : branches_size P members ≤ n).
-        let here : AtPlace (side_by_side members) n = record { spot = joint (n - branches_size P members); fine = omega (arith, joint_count_is (member_count members)); is = omega arith } in
+        let here : AtPlace (side_by_side members) n = record {
+          spot = joint (n - branches_size P members);
+          fine = omega
+              (arith, joint_count_is (member_count members));
+          is = omega arith;
+        } in
         here)
         (cases_lt n (branches_size P members))
     spot_of (choosing again choices) c n h = absurd c
@@ -313,7 +402,8 @@ module _ (P : TypedProgram) where
         ⊎_elim
         (λ (lt : n < size_of P p).
         let r = spot_of p c.0 n lt in
-        let here : AtBranchPlace (and_member p more) (suc (suc (suc n))) = record { spot = in_this (inner r.spot); fine = r.fine; is = ap (λ m. suc (suc (suc m))) r.is } in
+        let here : AtBranchPlace (and_member p more) (suc (suc (suc n))) =
+        record { spot = in_this (inner r.spot); fine = r.fine; is = ap (λ m. suc (suc (suc m))) r.is } in
         here)
         (λ (le : size_of P p ≤ n).
         let r = branch_spot_of more c.1 (n - size_of P p) (omega arith) in
@@ -331,11 +421,13 @@ module _ (P : TypedProgram) where
         ⊎_elim
         (λ (lt : n < size_of P p).
         let r = spot_of p c.0 n lt in
-        let here : AtTurnPlace (and_member p (and_member q more)) (suc (suc (suc n))) = record { spot = in_member (inner r.spot); fine = r.fine; is = ap (λ m. suc (suc (suc m))) r.is } in
+        let here : AtTurnPlace (and_member p (and_member q more)) (suc (suc (suc n))) =
+        record { spot = in_member (inner r.spot); fine = r.fine; is = ap (λ m. suc (suc (suc m))) r.is } in
         here)
         (λ (le : size_of P p ≤ n).
         let r = turn_spot_of (and_member q more) c.1 (n - size_of P p) (omega arith) in
-        let here : AtTurnPlace (and_member p (and_member q more)) (suc (suc (suc n))) = record { spot = in_later r.spot; fine = r.fine; is = omega (arith, r.is) } in
+        let here : AtTurnPlace (and_member p (and_member q more)) (suc (suc (suc n))) =
+        record { spot = in_later r.spot; fine = r.fine; is = omega (arith, r.is) } in
         here)
         (cases_lt n (size_of P p))
 
@@ -347,7 +439,7 @@ module _ (P : TypedProgram) where
       ap (λ l. false ∷ false ∷ l) (low_pair_bits n) ∙ ap (λ m. replicate m false) e
 
   mutual
-    pub low_bits : (p : Process) → IsCovered p → bits p (low p) ≡ replicate (size_of P p) false
+    pub low_bits : (p : Process) → IsCovered p → bits P p (low p) ≡ replicate (size_of P p) false
     low_bits skipping c = refl
     low_bits (sending chan at e) c =
         let m : suc (2 * gate_count e) ≡ 1 + formula_size e = omega (arith, count_doubled e) in
@@ -359,31 +451,35 @@ module _ (P : TypedProgram) where
     low_bits (assigning z at e) c =
         let m : suc (2 * gate_count e) ≡ assign_size P z e = omega (arith, count_doubled e, plain_size z e c) in
         ap (λ l. false ∷ l) (low_pair_bits (gate_count e)) ∙ ap (λ n. replicate n false) m
-    low_bits (receiving chan at z to) c = absurd c
+    low_bits (receiving chan at z to) c =
+        let m : suc (suc (2 * channel_width P.channels chan)) ≡ 2 + 2 * channel_width P.channels chan = omega arith in
+        ap (λ l. false ∷ false ∷ l) (low_rail_bits (channel_width P.channels chan)) ∙ ap (λ n. replicate n false) m
     low_bits (side_by_side members) c =
         let n = joint_count (member_count members) in
-        let m : branches_size P members + joint_count (member_count members) ≡ branches_size P members + (member_count members - 1) = omega (arith, joint_count_is (member_count members)) in
+        let m : branches_size P members + joint_count (member_count members) ≡ branches_size P members + (member_count members - 1) = omega
+        (arith, joint_count_is (member_count members)) in
         ap (λ l. l ++ tree_bits n (low_tree n)) (low_branch_bits members c)
-        ∙ (ap (λ l. replicate (branches_size P members) false ++ l) (tree_low n) ∙ (replicate-append-replicate (branches_size P members) n false ∙ ap (λ k. replicate k false) m))
+        ∙ (ap (λ l. replicate (branches_size P members) false ++ l) (tree_low n)
+        ∙ (replicate-append-replicate (branches_size P members) n false ∙ ap (λ k. replicate k false) m))
     low_bits (choosing again choices) c = absurd c
 
-    pub low_branch_bits : (members : Processes) → AreCovered members → branch_bits members (low_branches members) ≡ replicate (branches_size P members) false
+    pub low_branch_bits : (members : Processes) → AreCovered members → branch_bits P members (low_branches members) ≡ replicate (branches_size P members) false
     low_branch_bits no_members c = refl
     low_branch_bits (and_member p more) c =
         let n = branches_size P more in
         let m : suc (suc (suc (size_of P p + n))) ≡ 3 + size_of P p + n = omega arith in
         ap (λ l. false ∷ false ∷ false ∷ l)
-        (ap (λ l. l ++ branch_bits more (low_branches more)) (low_bits p c.0)
+        (ap (λ l. l ++ branch_bits P more (low_branches more)) (low_bits p c.0)
         ∙ (ap (λ l. replicate (size_of P p) false ++ l) (low_branch_bits more c.1) ∙ replicate-append-replicate (size_of P p) n false))
         ∙ ap (λ k. replicate k false) m
 
-    pub low_turn_bits : (members : Processes) → AreCovered members → turn_bits members (low_turn members) ≡ replicate (turn_size P members) false
+    pub low_turn_bits : (members : Processes) → AreCovered members → turn_bits P members (low_turn members) ≡ replicate (turn_size P members) false
     low_turn_bits no_members c = refl
     low_turn_bits (and_member p no_members) c = low_bits p c.0
     low_turn_bits (and_member p (and_member q more)) c =
         let n = turn_size P (and_member q more) in
         let m : suc (suc (suc (size_of P p + n))) ≡ 3 + size_of P p + n = omega arith in
         ap (λ l. false ∷ false ∷ false ∷ l)
-        (ap (λ l. l ++ turn_bits (and_member q more) (low_turn (and_member q more))) (low_bits p c.0)
+        (ap (λ l. l ++ turn_bits P (and_member q more) (low_turn (and_member q more))) (low_bits p c.0)
         ∙ (ap (λ l. replicate (size_of P p) false ++ l) (low_turn_bits (and_member q more) c.1) ∙ replicate-append-replicate (size_of P p) n false))
         ∙ ap (λ k. replicate k false) m

@@ -1,6 +1,6 @@
 -- The net of a covered program, read at its numbers, moves as its circuit of cells does.
 use Rattle.std.proofs.Common.{◌≡◌, ◌≢◌, ℕ, zero, suc, ◌+◌, ◌-◌, ◌*◌, ◌<◌, ◌≤◌, ◌==◌, Bool, true, false, List, [], ◌∷◌, ◌++◌, map, length, get_or, set, Option, Some, None, ◌⊎◌, inl, inr, refl, sym, ap, ◌∙◌, subst, arith, length-append, length-set, get_or-append-add, get_or-set_same, get_or-set_other, ⊎_elim}
-use Rattle.std.specs.Prelude.{not, ◌&&◌, ◌||◌, if◌then◌else◌, is_some}
+use Rattle.std.specs.Prelude.{not, ◌&&◌, ◌||◌, if◌then◌else◌, slice_get, is_some}
 use Rattle.std.specs.List.{list_any}
 use Rattle.std.proofs.lemmas.Bool.{cases_lt, cases_eq, eqb-true, eq-eqb, ne_eqb}
 use Rattle.std.proofs.lemmas.List.{get_or_past}
@@ -8,15 +8,14 @@ use Rattle.prs_core.specs.Nets.{NodeRules, up_of, down_of}
 use Rattle.prs_core.specs.Pairs.{pair_of, rails_of, no_rules, or_of}
 use Rattle.function_blocks.specs.Listed.{node_of}
 use Rattle.prs_core.specs.Moves.{high, guard_holds, rule_enabled, both_ways, fired, rail_value_of, neutral}
-use Rattle.env_script.specs.Scripts.{OfferValue, offer_at, is_over, IsScript}
-use Rattle.env_script.specs.Environment.{env_enabled, channels_move, valid}
+use Rattle.env_script.specs.Scripts.{OfferValue, gives, takes, nothing, offer_at, is_over}
+use Rattle.env_script.specs.Environment.{env_enabled, channels_move, offer_moves, lowers, raises_next, valid}
 use Rattle.env_script.specs.Runs.{RunState, history_at, completed, move_enabled, moved as moved_flat}
 use Rattle.width_check.specs.Processes.{TypedProgram}
-use Rattle.std.proofs.lemmas.List.Elements.{All-head, All-tail}
 use Rattle.chp_base.specs.declared.channel.Channel.{Channel}
-use Rattle.chp_base.specs.declared.channel.Kind.TheVariants.{Out}
+use Rattle.chp_base.specs.declared.channel.Kind.{Kind}
+use Rattle.chp_base.specs.declared.channel.Kind.TheVariants.{In, Out, Chan}
 use Rattle.width_check.specs.Typing.{IsProcess, channel_width, kind_at, var_width}
-use Rattle.width_check.specs.declared.typed.Var.{Var}
 use Rattle.circuit_places.specs.Lines.{of_channel, of_var, Rails}
 use Rattle.prs_core.specs.Parts.{turned as turned_value}
 use Rattle.prs_core.specs.Turning.{turned_here, turned_apart}
@@ -25,13 +24,13 @@ use Rattle.net_compose.proofs.FlatBlocks.{Part, a_bit, a_put, a_mark, a_joint, o
 use Rattle.handshake_expand.specs.Layout.{block_size, var_from, wires_before, channel_from, blocks_before, root_request, root_latch, body_from, nodes_of, go_node as go_number}
 use Rattle.cell_sequence.specs.Sequence.{q_child, q_latch, q_next}
 use Rattle.circuit_places.specs.Covered.{IsCovered}
-use Rattle.circuit_places.specs.Circuit.{joint_count, tree_rule, answer, GuardedSpot, child, latch, next, inner, Rule, no_rule, fires, is_apart, same_bit, guarded_rule, rule, site_rails}
-use Rattle.circuit_places.specs.Whole.{Wires, line_ack, bit_rule, wrote_rule, bit_turned, wrote_turned, joint_turned, ack_turned, seen, is_sent, rails_turned, rail_turned, Whole, Node, go_node, own_node, rail_node, ack_node, bit_node, wrote_node, joint_node, merged, all_low, rule_in, answers, env_moves, enabled, moved, passed, value_on, neutral_on}
-use Rattle.net_compose.specs.Translation.{translation, all_rules, channels_rules, vars_rules, rules_of, in_body, write_site, bits_at, written_at, send_site, rails_at, ack_at, wires_from, body_answer}
+use Rattle.circuit_places.specs.Circuit.{joint_count, tree_rule, answer, GuardedSpot, child, latch, next, inner, Rule, no_rule, fires, is_apart, same_bit, guarded_rule, rule, site_rails, rails_turned, takers}
+use Rattle.circuit_places.specs.Whole.{Wires, line_ack, bit_rule, wrote_rule, bit_turned, wrote_turned, joint_turned, ack_turned, seen, is_sent, is_heard, rail_turned, Whole, Node, go_node, own_node, rail_node, ack_node, bit_node, wrote_node, joint_node, merged, all_low, rule_in, answers, offers, brings, number_rail, env_moves, enabled, moved, passed, value_on, neutral_on}
+use Rattle.net_compose.specs.Translation.{translation, all_rules, channels_rules, vars_rules, rules_of, in_body, write_site, bits_at, written_at, send_site, receive_site, rails_at, ack_at, wires_from, body_answer}
 use Rattle.net_compose.proofs.FlatCells.{bits, place, IsFine, length-bits, place_lt, rail_place, turned_is, spot_of}
 use Rattle.net_compose.proofs.FlatRules.{Stands, one_high, one_low, high_and_low, or_up, or_down, length-rules, answer_is, rule_is}
-use Rattle.net_compose.proofs.FlatSites.{at_site, sites_are}
-use Rattle.net_compose.proofs.FlatWires.{Wire, a_rail, an_ack, wire_of, rail_same, ack_same, rail_no_ack, rail_bounds, ack_bounds, length-channels_rules, AllOut, rail_rules_at, ack_rules_at, value_is, neutral_is, takes_at, moves_none, moves_some, values_none, values_some}
+use Rattle.net_compose.proofs.FlatSites.{at_site, sites_are, takers_are}
+use Rattle.net_compose.proofs.FlatWires.{Wire, a_rail, an_ack, wire_of, rail_same, ack_same, rail_no_ack, rail_bounds, ack_bounds, length-channels_rules, rail_guards, ack_guards, rail_rules_at, ack_rules_at, value_is, neutral_is, not_listed, is_listed, not_raised, raised_is, wires_at, moves_none, moves_some, quiet_offer, values_none, values_some}
 
 -- the two guards of a node of the net are those of its rules
 up_told : (xs : List NodeRules) (n : ℕ) → get_or (map (λ (r : NodeRules). r.up) xs) n [] ≡ (get_or xs n no_rules).up
@@ -44,16 +43,10 @@ down_told [] n = refl
 down_told (x ∷ xs) zero = refl
 down_told (x ∷ xs) (suc n) = down_told xs n
 
-out_sent : (cs : List Channel) → AllOut cs → (k : ℕ) → k < length cs → is_sent (kind_at cs k) ≡ true
-out_sent [] out k h = refl
-out_sent (c ∷ cs) out zero h = ap is_sent (All-head (λ (c : Channel). c.kind ≡ Out) c cs out)
-out_sent (c ∷ cs) out (suc k) h = out_sent cs (All-tail (λ (c : Channel). c.kind ≡ Out) c cs out) k (omega (arith, h))
-
 -- what is assumed of the program
 pub record Given (P : TypedProgram) : Type 0 where
   pub typed : IsProcess P.channels P.vars P.body
   pub covered : IsCovered P.body
-  pub out : AllOut P.channels
   pub some : (y : ℕ) → y < length P.vars → 1 ≤ var_width P.vars y
 
 module _ (P : TypedProgram) (given : Given P) where
@@ -67,18 +60,24 @@ module _ (P : TypedProgram) (given : Given P) where
   root_rules = q_child go_number (root_latch P) ∷ q_latch go_number (body_answer P) ∷ rules_of P P.body (root_request P) (body_from P)
 
   abbrev behind_wires : List NodeRules
-  behind_wires = vars_rules P 0 P.vars ++ (q_child go_number (root_latch P) ∷ q_latch go_number (body_answer P) ∷ rules_of P P.body (root_request P) (body_from P))
+  behind_wires = vars_rules P 0 P.vars ++ (q_child go_number (root_latch P) ∷ q_latch go_number (body_answer P) ∷ rules_of P P.body (root_request P)
+      (body_from P))
 
-  root_told : (n m : ℕ) → n ≡ root_request P + m → get_or (all_rules P) n no_rules ≡ get_or (q_child go_number (root_latch P) ∷ q_latch go_number (body_answer P) ∷ rules_of P P.body (root_request P) (body_from P)) m no_rules
+  root_told : (n m : ℕ) → n ≡ root_request P + m → get_or (all_rules P) n no_rules ≡ get_or
+      (q_child go_number (root_latch P) ∷ q_latch go_number (body_answer P) ∷ rules_of P P.body (root_request P) (body_from P)) m no_rules
   root_told n m e =
-      let i : n ≡ suc (suc (length (channels_rules P 0 P.channels) + (length (vars_rules P 0 P.vars) + m))) = omega (arith, e, length-channels_rules P 0 P.channels given.out, length-vars_rules P 0 P.vars) in
+      let i : n ≡ suc (suc (length (channels_rules P 0 P.channels) + (length (vars_rules P 0 P.vars) + m))) = omega
+      (arith, e, length-channels_rules P 0 P.channels, length-vars_rules P 0 P.vars) in
       ap (λ k. get_or (all_rules P) k no_rules) i
       ∙ (get_or-append-add (channels_rules P 0 P.channels) behind_wires (length (vars_rules P 0 P.vars) + m) no_rules
-      ∙ get_or-append-add (vars_rules P 0 P.vars) (q_child go_number (root_latch P) ∷ q_latch go_number (body_answer P) ∷ rules_of P P.body (root_request P) (body_from P)) m no_rules)
+      ∙ get_or-append-add (vars_rules P 0 P.vars) (q_child go_number (root_latch P) ∷ q_latch go_number (body_answer P) ∷ rules_of P P.body (root_request P)
+      (body_from P)) m no_rules)
 
-  block_told : (y m : ℕ) → y < length P.vars → m < block_size (var_width P.vars y) → get_or (all_rules P) (var_from P y + m) no_rules ≡ get_or (variable_rules (var_width P.vars y) (var_from P y) (in_body P (write_site P y))) m no_rules
+  block_told : (y m : ℕ) → y < length P.vars → m < block_size (var_width P.vars y)
+      → get_or (all_rules P) (var_from P y + m) no_rules ≡ get_or (variable_rules (var_width P.vars y) (var_from P y) (in_body P (write_site P y))) m no_rules
   block_told y m hy hm =
-      let i : var_from P y + m ≡ suc (suc (length (channels_rules P 0 P.channels) + (blocks_before P.vars y + m))) = omega (arith, length-channels_rules P 0 P.channels given.out) in
+      let i : var_from P y + m ≡ suc (suc (length (channels_rules P 0 P.channels) + (blocks_before P.vars y + m))) = omega
+      (arith, length-channels_rules P 0 P.channels) in
       ap (λ k. get_or (all_rules P) k no_rules) i
       ∙ (get_or-append-add (channels_rules P 0 P.channels) behind_wires (blocks_before P.vars y + m) no_rules
       ∙ vars_rule P 0 P.vars (q_child go_number (root_latch P) ∷ q_latch go_number (body_answer P) ∷ rules_of P P.body (root_request P) (body_from P)) y m hy hm
@@ -117,13 +116,16 @@ module _ (P : TypedProgram) (given : Given P) where
   Fine (joint_node y k) = (y < length P.vars) × (k < joint_count (var_width P.vars y))
 
   -- the numbers of blocks
-  pub part_bounds : (y : ℕ) (b : Part) → y < length P.vars → IsPart (var_width P.vars y) b → (2 + wires_before P.channels (length P.channels) ≤ var_from P y + offset (var_width P.vars y) b) × (var_from P y + offset (var_width P.vars y) b < root_request P)
+  pub part_bounds : (y : ℕ) (b : Part) → y < length P.vars → IsPart (var_width P.vars y) b
+      → (2 + wires_before P.channels (length P.channels) ≤ var_from P y + offset (var_width P.vars y) b) ×
+      (var_from P y + offset (var_width P.vars y) b < root_request P)
   part_bounds y b hy hb =
       let e = offset_lt (var_width P.vars y) b hb in
       let w = blocks_below P.vars y hy in
       (omega arith, omega (arith, e, w))
 
-  pub same_var : (y z : ℕ) (b c : Part) → y < length P.vars → z < length P.vars → IsPart (var_width P.vars y) b → IsPart (var_width P.vars z) c → var_from P y + offset (var_width P.vars y) b ≡ var_from P z + offset (var_width P.vars z) c → y ≡ z
+  pub same_var : (y z : ℕ) (b c : Part) → y < length P.vars → z < length P.vars → IsPart (var_width P.vars y) b → IsPart (var_width P.vars z) c
+      → var_from P y + offset (var_width P.vars y) b ≡ var_from P z + offset (var_width P.vars z) c → y ≡ z
   same_var y z b c hy hz hb hc e =
       let f = offset_lt (var_width P.vars y) b hb in
       let g = offset_lt (var_width P.vars z) c hc in
@@ -136,7 +138,8 @@ module _ (P : TypedProgram) (given : Given P) where
       (cases_lt z y))
       (cases_lt y z)
 
-  pub same_part : (y : ℕ) (b c : Part) → IsPart (var_width P.vars y) b → IsPart (var_width P.vars y) c → var_from P y + offset (var_width P.vars y) b ≡ var_from P y + offset (var_width P.vars y) c → b ≡ c
+  pub same_part : (y : ℕ) (b c : Part) → IsPart (var_width P.vars y) b → IsPart (var_width P.vars y) c
+      → var_from P y + offset (var_width P.vars y) b ≡ var_from P y + offset (var_width P.vars y) c → b ≡ c
   same_part y b c hb hc e = part_same (var_width P.vars y) b c hb hc (omega (arith, e))
 
   -- the value of a node of a block
@@ -153,10 +156,12 @@ module _ (P : TypedProgram) (given : Given P) where
     pub done : high st.values 1 ≡ x.root.next
     pub child : high st.values (root_request P) ≡ x.root.child
     pub latch : high st.values (root_latch P) ≡ x.root.latch
-    pub body : Stands (high st.values) (body_from P) (bits P.body x.root.inner)
-    pub rail : (k i : ℕ) (one : Bool) → k < length P.channels → i < channel_width P.channels k → high st.values (channel_from P k + rail_place i one) ≡ x.wires.rail (of_channel k) i one
+    pub body : Stands (high st.values) (body_from P) (bits P P.body x.root.inner)
+    pub rail : (k i : ℕ) (one : Bool) → k < length P.channels → i < channel_width P.channels k
+        → high st.values (channel_from P k + rail_place i one) ≡ x.wires.rail (of_channel k) i one
     pub ack : (k : ℕ) → k < length P.channels → high st.values (ack_at P k) ≡ x.wires.ack k
-    pub block : (y : ℕ) (b : Part) → y < length P.vars → IsPart (var_width P.vars y) b → high st.values (var_from P y + offset (var_width P.vars y) b) ≡ part_value x.wires y b
+    pub block : (y : ℕ) (b : Part) → y < length P.vars → IsPart (var_width P.vars y) b
+        → high st.values (var_from P y + offset (var_width P.vars y) b) ≡ part_value x.wires y b
     pub histories : st.histories ≡ x.histories
     pub channels : length x.histories ≡ length P.channels
 
@@ -166,7 +171,8 @@ module _ (P : TypedProgram) (given : Given P) where
     pub up : guard_holds v (up_of (translation P) n) ≡ r.up
     pub down : guard_holds v (down_of (translation P) n) ≡ r.down
 
-  tells_from : (v : ℕ → Bool) (n : ℕ) (r : Rule) (g : NodeRules) → get_or (all_rules P) n no_rules ≡ g → v n ≡ r.now → guard_holds v g.up ≡ r.up → guard_holds v g.down ≡ r.down → Tells v n r
+  tells_from : (v : ℕ → Bool) (n : ℕ) (r : Rule) (g : NodeRules) → get_or (all_rules P) n no_rules ≡ g → v n ≡ r.now → guard_holds v g.up ≡ r.up
+      → guard_holds v g.down ≡ r.down → Tells v n r
   tells_from v n r g e now up down = record {
     now = now;
     up = ap (guard_holds v) (up_told (all_rules P) n) ∙ (ap (λ (z : NodeRules). guard_holds v z.up) e ∙ up);
@@ -177,19 +183,31 @@ module _ (P : TypedProgram) (given : Given P) where
     abbrev value : ℕ → Bool
     value = high st.values
 
-    block_is : (y : ℕ) → y < length P.vars → BlockIs (high st.values) (var_width P.vars y) (var_from P y) (x.wires.bit y) (x.wires.rail (of_var y)) (x.wires.wrote y) (x.wires.joint y)
-    block_is y h = record { bits = λ i one l. s.block y (a_bit i one) h l; puts = λ i one l. s.block y (a_put i one) h l; marks = λ i l. s.block y (a_mark i) h l; joints = λ k l. s.block y (a_joint k) h l }
+    block_is : (y : ℕ) → y < length P.vars → BlockIs (high st.values) (var_width P.vars y) (var_from P y) (x.wires.bit y) (x.wires.rail (of_var y))
+        (x.wires.wrote y) (x.wires.joint y)
+    block_is y h = record {
+      bits = λ i one l. s.block y (a_bit i one) h l;
+      puts = λ i one l. s.block y (a_put i one) h l;
+      marks = λ i l. s.block y
+          (a_mark i) h l;
+      joints = λ k l. s.block y (a_joint k) h l;
+    }
 
     written_told : (y : ℕ) → y < length P.vars → high st.values (written_at P y) ≡ line_ack P x.wires (of_var y)
-    written_told y h = written_is (high st.values) (var_width P.vars y) (var_from P y) (x.wires.bit y) (x.wires.rail (of_var y)) (x.wires.wrote y) (x.wires.joint y) (block_is y h) (in_body P (write_site P y)) (given.some y h)
+    written_told y h = written_is (high st.values) (var_width P.vars y) (var_from P y) (x.wires.bit y) (x.wires.rail (of_var y)) (x.wires.wrote y)
+        (x.wires.joint y) (block_is y h) (in_body P (write_site P y)) (given.some y h)
 
-    bits_told : (y i : ℕ) (one : Bool) → y < length P.vars → i < var_width P.vars y → high st.values (node_of (pair_of (bits_at P y) i) one) ≡ x.wires.bit y i one
+    bits_told : (y i : ℕ) (one : Bool) → y < length P.vars → i < var_width P.vars y
+        → high st.values (node_of (pair_of (bits_at P y) i) one) ≡ x.wires.bit y i one
     bits_told y i one h l = ap (high st.values) (bit_number (var_width P.vars y) (var_from P y) i one l) ∙ s.block y (a_bit i one) h l
 
     part_tells : (y : ℕ) (b : Part) (h : y < length P.vars) → IsPart (var_width P.vars y) b → (r : Rule)
-        → Says (high st.values) (var_width P.vars y) (var_from P y) (x.wires.bit y) (x.wires.rail (of_var y)) (x.wires.wrote y) (x.wires.joint y) (block_is y h) (in_body P (write_site P y)) (offset (var_width P.vars y) b) r
+        → Says (high st.values) (var_width P.vars y) (var_from P y) (x.wires.bit y) (x.wires.rail (of_var y)) (x.wires.wrote y) (x.wires.joint y) (block_is y h)
+        (in_body P (write_site P y)) (offset (var_width P.vars y) b) r
         → Tells (high st.values) (var_from P y + offset (var_width P.vars y) b) r
-    part_tells y b h l r z = tells_from (high st.values) (var_from P y + offset (var_width P.vars y) b) r (get_or (variable_rules (var_width P.vars y) (var_from P y) (in_body P (write_site P y))) (offset (var_width P.vars y) b) no_rules) (block_told y (offset (var_width P.vars y) b) h (offset_lt (var_width P.vars y) b l)) z.now z.up z.down
+    part_tells y b h l r z = tells_from (high st.values) (var_from P y + offset (var_width P.vars y) b) r
+        (get_or (variable_rules (var_width P.vars y) (var_from P y) (in_body P (write_site P y))) (offset (var_width P.vars y) b) no_rules)
+        (block_told y (offset (var_width P.vars y) b) h (offset_lt (var_width P.vars y) b l)) z.now z.up z.down
 
     body_answer_is : high st.values (body_answer P) ≡ answer P.body x.root.inner
     body_answer_is = answer_is P (high st.values) P.body given.covered given.typed (body_from P) x.root.inner s.body
@@ -197,59 +215,115 @@ module _ (P : TypedProgram) (given : Given P) where
     own_tells : (p : GuardedSpot P.body) → own_fine p → Tells (high st.values) (own_number p) (guarded_rule P.body (seen P x.wires) x.go x.root p)
     own_tells next f =
         tells_from (high st.values) 1 (guarded_rule P.body (seen P x.wires) x.go x.root next) (q_next (root_latch P) (body_answer P)) refl s.done
-        (high_and_low (high st.values) (root_latch P) (body_answer P) ∙ (ap (λ b. b && not (high st.values (body_answer P))) s.latch ∙ ap (λ b. x.root.latch && not b) body_answer_is))
+        (high_and_low (high st.values) (root_latch P) (body_answer P) ∙ (ap (λ b. b && not (high st.values (body_answer P))) s.latch
+        ∙ ap (λ b. x.root.latch && not b) body_answer_is))
         (one_low (high st.values) (root_latch P) ∙ ap not s.latch)
     own_tells child f =
-        tells_from (high st.values) (root_request P) (guarded_rule P.body (seen P x.wires) x.go x.root child) (q_child go_number (root_latch P)) (root_told (root_request P) 0 (omega arith)) s.child
+        tells_from (high st.values) (root_request P) (guarded_rule P.body (seen P x.wires) x.go x.root child) (q_child go_number (root_latch P))
+        (root_told (root_request P) 0 (omega arith)) s.child
         (high_and_low (high st.values) 0 (root_latch P) ∙ (ap (λ b. b && not (high st.values (root_latch P))) s.go ∙ ap (λ b. x.go && not b) s.latch))
         (one_high (high st.values) (root_latch P) ∙ s.latch)
     own_tells latch f =
-        tells_from (high st.values) (root_latch P) (guarded_rule P.body (seen P x.wires) x.go x.root latch) (q_latch go_number (body_answer P)) (root_told (root_latch P) 1 refl) s.latch
+        tells_from (high st.values) (root_latch P) (guarded_rule P.body (seen P x.wires) x.go x.root latch) (q_latch go_number (body_answer P))
+        (root_told (root_latch P) 1 refl) s.latch
         (one_high (high st.values) (body_answer P) ∙ body_answer_is)
         (one_low (high st.values) 0 ∙ ap not s.go)
     own_tells (inner p) f =
-        let t = rule_is P (high st.values) (seen P x.wires) s.ack written_told bits_told P.body given.covered given.typed (root_request P) (body_from P) x.root.inner p f s.body in
+        let t = rule_is P (high st.values) (seen P x.wires) s.ack written_told bits_told s.rail P.body given.covered given.typed (root_request P)
+        (body_from P) x.root.inner p f s.body in
         let r = rule P.body (seen P x.wires) (high st.values (root_request P)) x.root.inner p in
         let e : r ≡ rule P.body (seen P x.wires) x.root.child x.root.inner p = ap (λ b. rule P.body (seen P x.wires) b x.root.inner p) s.child in
-        tells_from (high st.values) (body_from P + place P P.body p) (rule P.body (seen P x.wires) x.root.child x.root.inner p) (get_or (rules_of P P.body (root_request P) (body_from P)) (place P P.body p) no_rules)
+        tells_from (high st.values) (body_from P + place P P.body p) (rule P.body (seen P x.wires) x.root.child x.root.inner p)
+        (get_or (rules_of P P.body (root_request P) (body_from P)) (place P P.body p) no_rules)
         (root_told (body_from P + place P P.body p) (suc (suc (place P P.body p))) (omega arith))
         (t.now ∙ ap (λ (z : Rule). z.now) e) (t.up ∙ ap (λ (z : Rule). z.up) e) (t.down ∙ ap (λ (z : Rule). z.down) e)
 
-    rail_tells : (k i : ℕ) (one : Bool) → k < length P.channels → i < channel_width P.channels k → Tells (high st.values) (channel_from P k + rail_place i one) (merged (x.wires.rail (of_channel k) i one) (site_rails P.body x.root.inner (of_channel k) i one))
-    rail_tells k i one hk hi =
-        let sites = in_body P (send_site k) in
-        let e = sites_are (high st.values) P (of_channel k) i one hi P.body given.covered given.typed (body_from P) x.root.inner s.body in
-        let n : channel_from P k + rail_place i one ≡ suc (suc (wires_before P.channels k + rail_place i one)) = omega arith in
-        tells_from (high st.values) (channel_from P k + rail_place i one) (merged (x.wires.rail (of_channel k) i one) (site_rails P.body x.root.inner (of_channel k) i one)) (or_of (map (at_site i one) sites))
-        (ap (λ m. get_or (all_rules P) m no_rules) n ∙ rail_rules_at P given.out behind_wires k i one hk hi)
-        (s.rail k i one hk hi)
-        (or_up (high st.values) (map (at_site i one) sites) ∙ ap (list_any (λ b. b)) e)
-        (or_down (high st.values) (map (at_site i one) sites) ∙ ap all_low e)
+    -- a rail of a channel, by the channel's kind
+    rail_tells : (k i : ℕ) (one : Bool) → k < length P.channels → i < channel_width P.channels k → (kind : Kind) → kind_at P.channels k ≡ kind
+        → Tells (high st.values) (channel_from P k + rail_place i one) (if is_sent kind then merged (x.wires.rail (of_channel k) i one)
+        (site_rails P.body x.root.inner (of_channel k) i one) else no_rule (x.wires.rail (of_channel k) i one))
+    rail_tells k i one hk hi kind is = by kind (place_is ∙ ap (λ z. rail_guards P z k i one) is)
+      where
+        place_is : get_or (all_rules P) (channel_from P k + rail_place i one) no_rules ≡ rail_guards P (kind_at P.channels k) k i one
+        place_is =
+            let n : channel_from P k + rail_place i one ≡ suc (suc (wires_before P.channels k + rail_place i one)) = omega arith in
+            ap (λ m. get_or (all_rules P) m no_rules) n ∙ rail_rules_at P behind_wires k i one hk hi
 
-    ack_tells : (k : ℕ) → k < length P.channels → Tells (high st.values) (ack_at P k) (no_rule (x.wires.ack k))
-    ack_tells k hk =
-        let n : ack_at P k ≡ suc (suc (wires_before P.channels k + 2 * channel_width P.channels k)) = omega arith in
-        tells_from (high st.values) (ack_at P k) (no_rule (x.wires.ack k)) no_rules
-        (ap (λ m. get_or (all_rules P) m no_rules) n ∙ ack_rules_at P given.out behind_wires k hk)
-        (s.ack k hk) refl refl
+        merges : get_or (all_rules P) (channel_from P k + rail_place i one) no_rules ≡ or_of (map (at_site i one) (in_body P (send_site k)))
+            → Tells (high st.values) (channel_from P k + rail_place i one)
+            (merged (x.wires.rail (of_channel k) i one) (site_rails P.body x.root.inner (of_channel k) i one))
+        merges told =
+            let sites = in_body P (send_site k) in
+            let e = sites_are (high st.values) P (of_channel k) i one hi P.body given.covered given.typed (body_from P) x.root.inner s.body in
+            tells_from (high st.values) (channel_from P k + rail_place i one)
+            (merged (x.wires.rail (of_channel k) i one) (site_rails P.body x.root.inner (of_channel k) i one)) (or_of (map (at_site i one) sites)) told
+            (s.rail k i one hk hi)
+            (or_up (high st.values) (map (at_site i one) sites) ∙ ap (list_any (λ b. b)) e)
+            (or_down (high st.values) (map (at_site i one) sites) ∙ ap all_low e)
+
+        by : (kind : Kind) → get_or (all_rules P) (channel_from P k + rail_place i one) no_rules ≡ rail_guards P kind k i one
+            → Tells (high st.values) (channel_from P k + rail_place i one)
+            (if is_sent kind then merged (x.wires.rail (of_channel k) i one) (site_rails P.body x.root.inner (of_channel k) i one) else no_rule
+            (x.wires.rail (of_channel k) i one))
+        by Out told = merges told
+        by Chan told = merges told
+        by In told = tells_from (high st.values) (channel_from P k + rail_place i one) (no_rule (x.wires.rail (of_channel k) i one)) no_rules told
+            (s.rail k i one hk hi) refl refl
+
+    ack_tells : (k : ℕ) → k < length P.channels → (kind : Kind) → kind_at P.channels k ≡ kind
+        → Tells (high st.values) (ack_at P k) (if is_heard kind then merged (x.wires.ack k) (takers P.body x.root.inner k) else no_rule (x.wires.ack k))
+    ack_tells k hk kind is = by kind (place_is ∙ ap (λ z. ack_guards P z k) is)
+      where
+        place_is : get_or (all_rules P) (ack_at P k) no_rules ≡ ack_guards P (kind_at P.channels k) k
+        place_is =
+            let n : ack_at P k ≡ suc (suc (wires_before P.channels k + 2 * channel_width P.channels k)) = omega arith in
+            ap (λ m. get_or (all_rules P) m no_rules) n ∙ ack_rules_at P behind_wires k hk
+
+        merges : get_or (all_rules P) (ack_at P k) no_rules ≡ or_of (in_body P (receive_site k))
+            → Tells (high st.values) (ack_at P k) (merged (x.wires.ack k) (takers P.body x.root.inner k))
+        merges told =
+            let e = takers_are (high st.values) P k P.body given.covered given.typed (body_from P) x.root.inner s.body in
+            tells_from (high st.values) (ack_at P k) (merged (x.wires.ack k) (takers P.body x.root.inner k)) (or_of (in_body P (receive_site k))) told
+            (s.ack k hk)
+            (or_up (high st.values) (in_body P (receive_site k)) ∙ ap (list_any (λ b. b)) e)
+            (or_down (high st.values) (in_body P (receive_site k)) ∙ ap all_low e)
+
+        by : (kind : Kind) → get_or (all_rules P) (ack_at P k) no_rules ≡ ack_guards P kind k
+            → Tells (high st.values) (ack_at P k) (if is_heard kind then merged (x.wires.ack k) (takers P.body x.root.inner k) else no_rule (x.wires.ack k))
+        by Out told = tells_from (high st.values) (ack_at P k) (no_rule (x.wires.ack k)) no_rules told (s.ack k hk) refl refl
+        by Chan told = merges told
+        by In told = merges told
 
     pub node_tells : (n : Node P.body) → Fine n → Tells (high st.values) (number_of n) (rule_in P x n)
     node_tells go_node f = tells_from (high st.values) 0 (no_rule x.go) no_rules refl s.go refl refl
     node_tells (own_node p) f = own_tells p f
-    node_tells (rail_node (of_channel k) i one) f =
-        subst (λ (b : Bool). Tells (high st.values) (channel_from P k + rail_place i one) (if b then merged (x.wires.rail (of_channel k) i one) (site_rails P.body x.root.inner (of_channel k) i one) else no_rule (x.wires.rail (of_channel k) i one)))
-        (sym (out_sent P.channels given.out k f.0)) (rail_tells k i one f.0 f.1)
-    node_tells (ack_node k) f = ack_tells k f
-    node_tells (rail_node (of_var y) i one) f = part_tells y (a_put i one) f.0 f.1 (merged (x.wires.rail (of_var y) i one) (site_rails P.body x.root.inner (of_var y) i one))
-        (put_says (high st.values) (var_width P.vars y) (var_from P y) (x.wires.bit y) (x.wires.rail (of_var y)) (x.wires.wrote y) (x.wires.joint y) (block_is y f.0) (in_body P (write_site P y)) i one (site_rails P.body x.root.inner (of_var y) i one) f.1 (sites_are (high st.values) P (of_var y) i one f.1 P.body given.covered given.typed (body_from P) x.root.inner s.body))
-    node_tells (bit_node y i one) f = part_tells y (a_bit i one) f.0 f.1 (bit_rule (x.wires.rail (of_var y)) (x.wires.bit y) i one) (bit_says (high st.values) (var_width P.vars y) (var_from P y) (x.wires.bit y) (x.wires.rail (of_var y)) (x.wires.wrote y) (x.wires.joint y) (block_is y f.0) (in_body P (write_site P y)) i one f.1)
-    node_tells (wrote_node y i) f = part_tells y (a_mark i) f.0 f.1 (wrote_rule (x.wires.rail (of_var y)) (x.wires.bit y) (x.wires.wrote y) i) (mark_says (high st.values) (var_width P.vars y) (var_from P y) (x.wires.bit y) (x.wires.rail (of_var y)) (x.wires.wrote y) (x.wires.joint y) (block_is y f.0) (in_body P (write_site P y)) i f.1)
-    node_tells (joint_node y k) f = part_tells y (a_joint k) f.0 f.1 (tree_rule (var_width P.vars y) (x.wires.wrote y) (x.wires.joint y) k) (joint_says (high st.values) (var_width P.vars y) (var_from P y) (x.wires.bit y) (x.wires.rail (of_var y)) (x.wires.wrote y) (x.wires.joint y) (block_is y f.0) (in_body P (write_site P y)) k f.1)
+    node_tells (rail_node (of_channel k) i one) f = rail_tells k i one f.0 f.1 (kind_at P.channels k) refl
+    node_tells (ack_node k) f = ack_tells k f (kind_at P.channels k) refl
+    node_tells (rail_node (of_var y) i one) f = part_tells y (a_put i one) f.0 f.1
+        (merged (x.wires.rail (of_var y) i one) (site_rails P.body x.root.inner (of_var y) i one))
+        (put_says (high st.values) (var_width P.vars y) (var_from P y) (x.wires.bit y) (x.wires.rail (of_var y)) (x.wires.wrote y) (x.wires.joint y)
+        (block_is y f.0) (in_body P (write_site P y)) i one (site_rails P.body x.root.inner (of_var y) i one) f.1
+        (sites_are (high st.values) P (of_var y) i one f.1 P.body given.covered given.typed (body_from P) x.root.inner s.body))
+    node_tells (bit_node y i one) f = part_tells y (a_bit i one) f.0 f.1 (bit_rule (x.wires.rail (of_var y)) (x.wires.bit y) i one)
+        (bit_says (high st.values) (var_width P.vars y) (var_from P y) (x.wires.bit y) (x.wires.rail (of_var y)) (x.wires.wrote y) (x.wires.joint y)
+        (block_is y f.0) (in_body P (write_site P y)) i one f.1)
+    node_tells (wrote_node y i) f = part_tells y (a_mark i) f.0 f.1 (wrote_rule (x.wires.rail (of_var y)) (x.wires.bit y) (x.wires.wrote y) i)
+        (mark_says (high st.values) (var_width P.vars y) (var_from P y) (x.wires.bit y) (x.wires.rail (of_var y)) (x.wires.wrote y) (x.wires.joint y)
+        (block_is y f.0) (in_body P (write_site P y)) i f.1)
+    node_tells (joint_node y k) f = part_tells y (a_joint k) f.0 f.1 (tree_rule (var_width P.vars y) (x.wires.wrote y) (x.wires.joint y) k)
+        (joint_says (high st.values) (var_width P.vars y) (var_from P y) (x.wires.bit y) (x.wires.rail (of_var y)) (x.wires.wrote y) (x.wires.joint y)
+        (block_is y f.0) (in_body P (write_site P y)) k f.1)
 
     -- the environment's moves
 
-    quiet_channels : (script : List OfferValue) → IsScript P.channels script → (n : ℕ) → ((j : ℕ) → j < length P.channels → n ≢ ack_at P j) → channels_move (high st.values) (offer_at script) (completed st.histories) 0 (wires_from P 0 P.channels) n ≡ false
-    quiet_channels script fits n far = moves_none P script (completed st.histories) (high st.values) 0 P.channels n (λ j low up. (takes_at P.channels script given.out fits j (omega (arith, up)), far j (omega (arith, up))))
+    -- the node is none of a channel's wires
+    abbrev Beyond : ℕ → ℕ → Type 0
+    Beyond n j = (n ≢ ack_at P j) × ((i : ℕ) (one : Bool) → i < channel_width P.channels j → n ≢ channel_from P j + rail_place i one)
+
+    quiet_channels : (script : List OfferValue) (n : ℕ) → ((j : ℕ) → j < length P.channels → Beyond n j)
+        → channels_move (high st.values) (offer_at script) (completed st.histories) 0 (wires_from P 0 P.channels) n ≡ false
+    quiet_channels script n far = moves_none P script (completed st.histories) (high st.values) 0 P.channels n
+        (λ j low up c. let z = far j (omega (arith, up)) in quiet_offer P script (completed st.histories) (high st.values) j n z.0 z.1 (offer_at script j) c)
 
     -- no channel moves a node that isn't one of the wires
     below_wires : (n : ℕ) → n < 2 → (j : ℕ) → j < length P.channels → n ≢ ack_at P j
@@ -258,58 +332,162 @@ module _ (P : TypedProgram) (given : Given P) where
     above_wires : (n : ℕ) → 2 + wires_before P.channels (length P.channels) ≤ n → (j : ℕ) → j < length P.channels → n ≢ ack_at P j
     above_wires n h j lt e = let b = ack_bounds P j lt in absurd (omega (arith, h, e, b.1))
 
-    quiet_environment : (script : List OfferValue) → IsScript P.channels script → (n : ℕ) → 1 ≤ n → ((j : ℕ) → j < length P.channels → n ≢ ack_at P j) → env_enabled (translation P) script (completed st.histories) (high st.values) n ≡ false
-    quiet_environment script fits n h far =
-        ap (λ b. (b && not (high st.values 0)) || channels_move (high st.values) (offer_at script) (completed st.histories) 0 (wires_from P 0 P.channels) n) (ne_eqb n 0 (λ e. absurd (omega (arith, e, h))))
-        ∙ quiet_channels script fits n far
+    below_all : (n : ℕ) → n < 2 → (j : ℕ) → j < length P.channels → Beyond n j
+    below_all n h j lt = (below_wires n h j lt, λ i one l e. let b = rail_bounds P j i one lt l in absurd (omega (arith, h, e, b.0)))
+
+    above_all : (n : ℕ) → 2 + wires_before P.channels (length P.channels) ≤ n → (j : ℕ) → j < length P.channels → Beyond n j
+    above_all n h j lt = (above_wires n h j lt, λ i one l e. let b = rail_bounds P j i one lt l in absurd (omega (arith, h, e, b.1)))
+
+    quiet_environment : (script : List OfferValue) (n : ℕ) → 1 ≤ n → ((j : ℕ) → j < length P.channels → Beyond n j)
+        → env_enabled (translation P) script (completed st.histories) (high st.values) n ≡ false
+    quiet_environment script n h far =
+        ap (λ b. (b && not (high st.values 0)) || channels_move (high st.values) (offer_at script) (completed st.histories) 0 (wires_from P 0 P.channels) n)
+        (ne_eqb n 0 (λ e. absurd (omega (arith, e, h))))
+        ∙ quiet_channels script n far
 
     or_nothing : (b : Bool) → (b || false) ≡ b
     or_nothing true = refl
     or_nothing false = refl
 
-    ack_moves : (script : List OfferValue) → IsScript P.channels script → (k : ℕ) → k < length P.channels → env_enabled (translation P) script (completed st.histories) (high st.values) (ack_at P k) ≡ answers (channel_width P.channels k) x.wires k (completed x.histories k) (offer_at script k)
-    ack_moves script fits k hk =
-        let t = takes_at P.channels script given.out fits k hk in
-        let w = channel_width P.channels k in
-        let rails : (i : ℕ) (one : Bool) → i < w → high st.values (channel_from P k + rail_place i one) ≡ x.wires.rail (of_channel k) i one = λ i one lt. s.rail k i one hk lt in
-        let value = value_is (high st.values) w (channel_from P k) (x.wires.rail (of_channel k)) rails in
-        let none = neutral_is (high st.values) w (channel_from P k) (x.wires.rail (of_channel k)) rails in
-        let done : completed st.histories k ≡ completed x.histories k = ap (λ h. completed h k) s.histories in
-        let start : (ack_at P k == 0) ≡ false = ne_eqb (ack_at P k) 0 (λ e. absurd (omega (arith, e))) in
-        ap (λ b. (b && not (high st.values 0)) || channels_move (high st.values) (offer_at script) (completed st.histories) 0 (wires_from P 0 P.channels) (ack_at P k)) start
-        ∙ (moves_some P script (completed st.histories) (high st.values) 0 P.channels (ack_at P k) k (omega arith) (omega (arith, hk)) refl
-        (λ j low up. (takes_at P.channels script given.out fits j (omega (arith, up)), λ ne e. ne (sym (ack_same P k j hk (omega (arith, up)) e)))) t.0 t.1
-        ∙ (ap (λ b. if b then neutral (high st.values) (rails_of (rails_at P k)) else valid (high st.values) (rails_of (rails_at P k)) && is_over t.0 (completed st.histories k)) (s.ack k hk)
-        ∙ (ap (λ b. if x.wires.ack k then b else valid (high st.values) (rails_of (rails_at P k)) && is_over t.0 (completed st.histories k)) none
-        ∙ (ap (λ o. if x.wires.ack k then neutral_on w (x.wires.rail (of_channel k)) else is_some o && is_over t.0 (completed st.histories k)) value
-        ∙ (ap (λ m. if x.wires.ack k then neutral_on w (x.wires.rail (of_channel k)) else is_some (value_on w (x.wires.rail (of_channel k))) && is_over t.0 m) done
-        ∙ ap (answers w x.wires k (completed x.histories k)) (sym t.1))))))
+    done_is : (k : ℕ) → completed st.histories k ≡ completed x.histories k
+    done_is k = ap (λ h. completed h k) s.histories
+
+    -- at the wires of one channel the others' environments don't move
+    one_channel : (script : List OfferValue) (n k : ℕ) (b : Bool) → 1 ≤ n → k < length P.channels → ((j : ℕ) → j < length P.channels → j ≢ k → Beyond n j)
+        → ((c : Channel) → offer_moves (high st.values) (wires_at P script (completed st.histories) (high st.values) k c) (offer_at script k)
+        (completed st.histories k) n ≡ b) → env_enabled (translation P) script (completed st.histories) (high st.values) n ≡ b
+    one_channel script n k b h hk far here =
+        ap (λ b. (b && not (high st.values 0)) || channels_move (high st.values) (offer_at script) (completed st.histories) 0 (wires_from P 0 P.channels) n)
+        (ne_eqb n 0 (λ e. absurd (omega (arith, e, h))))
+        ∙ moves_some P script (completed st.histories) (high st.values) 0 P.channels n k b (omega arith) (omega (arith, hk))
+        (λ j low up ne c. let z = far j (omega (arith, up)) ne in quiet_offer P script (completed st.histories) (high st.values) j n z.0 z.1
+        (offer_at script j) c) here
+
+    ack_moves : (script : List OfferValue) (k : ℕ) → k < length P.channels
+        → env_enabled (translation P) script (completed st.histories) (high st.values) (ack_at P k) ≡ answers (channel_width P.channels k) x.wires k
+        (completed x.histories k) (offer_at script k)
+    ack_moves script k hk = one_channel script (ack_at P k) k (answers (channel_width P.channels k) x.wires k (completed x.histories k) (offer_at script k))
+        (let b = ack_bounds P k hk in omega (arith, b.0)) hk
+        (λ j lt ne. (λ e. ne (sym (ack_same P k j hk lt e)), λ i one l e. rail_no_ack P j k i one lt hk l (sym e)))
+        (λ c. here c (offer_at script k))
+      where
+        width : ℕ
+        width = channel_width P.channels k
+
+        rails : (i : ℕ) (one : Bool) → i < channel_width P.channels k → high st.values (channel_from P k + rail_place i one) ≡ x.wires.rail (of_channel k) i one
+        rails i one lt = s.rail k i one hk lt
+
+        far : (i : ℕ) (one : Bool) → i < channel_width P.channels k → ack_at P k ≢ channel_from P k + rail_place i one
+        far i one l e = rail_no_ack P k k i one hk hk l (sym e)
+
+        here : (c : Channel) (offer : OfferValue) → offer_moves (high st.values) (wires_at P script (completed st.histories) (high st.values) k c) offer
+            (completed st.histories k) (ack_at P k) ≡ answers (channel_width P.channels k) x.wires k (completed x.histories k) offer
+        here c nothing = refl
+        here c (gives values) = by (high st.values (ack_at P k)) (slice_get values (completed st.histories k))
+          where
+            never : (b : Bool) → (b && false) ≡ false
+            never true = refl
+            never false = refl
+
+            by : (a : Bool) (value : Option ℕ) → (if a then lowers (high st.values) (rails_of (rails_at P k)) (ack_at P k) else raises_next
+                (high st.values) value (rails_of (rails_at P k)) (ack_at P k)) ≡ false
+            by true value = ap (λ b. high st.values (ack_at P k) && b) (not_listed (high st.values) (channel_width P.channels k) (channel_from P k)
+                (ack_at P k) far) ∙ never (high st.values (ack_at P k))
+            by false None = refl
+            by false (Some value) = not_raised (high st.values) (channel_width P.channels k) (channel_from P k) (ack_at P k) value far
+        here c (takes count) =
+            let w = channel_width P.channels k in
+            let value = value_is (high st.values) w (channel_from P k) (x.wires.rail (of_channel k)) rails in
+            let none = neutral_is (high st.values) w (channel_from P k) (x.wires.rail (of_channel k)) rails in
+            ap (λ b. b && (if high st.values (ack_at P k) then neutral (high st.values) (rails_of (rails_at P k)) else valid (high st.values)
+            (rails_of (rails_at P k)) && is_over count (completed st.histories k))) (eq-eqb (ack_at P k) (ack_at P k) refl)
+            ∙ (ap (λ b. if b then neutral (high st.values) (rails_of (rails_at P k)) else valid (high st.values) (rails_of (rails_at P k)) && is_over count
+            (completed st.histories k)) (s.ack k hk)
+            ∙ (ap (λ b. if x.wires.ack k then b else valid (high st.values) (rails_of (rails_at P k)) && is_over count (completed st.histories k)) none
+            ∙ (ap (λ o. if x.wires.ack k then neutral_on w (x.wires.rail (of_channel k)) else is_some o && is_over count (completed st.histories k)) value
+            ∙ ap (λ m. if x.wires.ack k then neutral_on w (x.wires.rail (of_channel k)) else is_some
+            (value_on w (x.wires.rail (of_channel k))) && is_over count m) (done_is k))))
+
+    -- the rails of an `in` channel
+    rail_moves : (script : List OfferValue) (k i : ℕ) (one : Bool) → k < length P.channels → i < channel_width P.channels k
+        → env_enabled (translation P) script (completed st.histories) (high st.values) (channel_from P k + rail_place i one) ≡ offers
+        (channel_width P.channels k) x.wires k (completed x.histories k) (offer_at script k) i one
+    rail_moves script k i one hk hi = one_channel script (channel_from P k + rail_place i one) k
+        (offers (channel_width P.channels k) x.wires k (completed x.histories k) (offer_at script k) i one)
+        (let b = rail_bounds P k i one hk hi in omega (arith, b.0)) hk
+        (λ j lt ne. (rail_no_ack P k j i one hk lt hi, λ l side hl e. ne (sym (rail_same P k j i l one side hk lt hi hl e).0)))
+        (λ c. here c (offer_at script k))
+      where
+        here : (c : Channel) (offer : OfferValue) → offer_moves (high st.values) (wires_at P script (completed st.histories) (high st.values) k c) offer
+            (completed st.histories k) (channel_from P k + rail_place i one) ≡ offers (channel_width P.channels k) x.wires k
+            (completed x.histories k) offer i one
+        here c nothing = refl
+        here c (takes count) =
+            ap (λ b. b && (if high st.values (ack_at P k) then neutral (high st.values) (rails_of (rails_at P k)) else valid (high st.values)
+            (rails_of (rails_at P k)) && is_over count (completed st.histories k)))
+            (ne_eqb (channel_from P k + rail_place i one) (ack_at P k) (rail_no_ack P k k i one hk hk hi))
+        here c (gives values) =
+            ap (λ m. if high st.values (ack_at P k) then lowers (high st.values) (rails_of (rails_at P k))
+            (channel_from P k + rail_place i one) else raises_next (high st.values) (slice_get values m) (rails_of (rails_at P k))
+            (channel_from P k + rail_place i one)) (done_is k)
+            ∙ (ap (λ b. if b then lowers (high st.values) (rails_of (rails_at P k)) (channel_from P k + rail_place i one) else raises_next (high st.values)
+            (slice_get values (completed x.histories k)) (rails_of (rails_at P k)) (channel_from P k + rail_place i one)) (s.ack k hk)
+            ∙ (ap (λ b. if x.wires.ack k then b else raises_next (high st.values) (slice_get values (completed x.histories k)) (rails_of (rails_at P k))
+            (channel_from P k + rail_place i one)) falls
+            ∙ ap (λ b. if x.wires.ack k then x.wires.rail (of_channel k) i one else b) (rises (slice_get values (completed x.histories k)))))
+          where
+            always : (b : Bool) → (b && true) ≡ b
+            always true = refl
+            always false = refl
+
+            falls : lowers (high st.values) (rails_of (rails_at P k)) (channel_from P k + rail_place i one) ≡ x.wires.rail (of_channel k) i one
+            falls =
+                ap (λ b. high st.values (channel_from P k + rail_place i one) && b)
+                (is_listed (high st.values) (channel_width P.channels k) (channel_from P k) i one hi)
+                ∙ (always (high st.values (channel_from P k + rail_place i one)) ∙ s.rail k i one hk hi)
+
+            rises : (value : Option ℕ) → raises_next (high st.values) value (rails_of (rails_at P k)) (channel_from P k + rail_place i one) ≡
+                (brings (channel_width P.channels k) value i one && (not (x.wires.rail (of_channel k) i true) && not (x.wires.rail (of_channel k) i false)))
+            rises None = refl
+            rises (Some value) =
+                raised_is (high st.values) (channel_width P.channels k) (channel_from P k) value i one hi
+                ∙ (ap (λ b. number_rail (channel_width P.channels k) value i one && (not b && not (high st.values (channel_from P k + rail_place i false))))
+                (s.rail k i true hk hi)
+                ∙ ap (λ b. number_rail (channel_width P.channels k) value i one && (not (x.wires.rail (of_channel k) i true) && not b))
+                (s.rail k i false hk hi))
 
     rule_fires : (n : ℕ) (r : Rule) → Tells (high st.values) n r → rule_enabled (translation P) (high st.values) n ≡ fires r
     rule_fires n r t =
         ap (λ b. if b then guard_holds (high st.values) (down_of (translation P) n) else guard_holds (high st.values) (up_of (translation P) n)) t.now
         ∙ (ap (λ b. if r.now then b else guard_holds (high st.values) (up_of (translation P) n)) t.down ∙ ap (λ b. if r.now then r.down else b) t.up)
 
-    env_is : (script : List OfferValue) → IsScript P.channels script → (n : Node P.body) → Fine n → env_enabled (translation P) script (completed st.histories) (high st.values) (number_of n) ≡ env_moves P script x n
-    env_is script fits go_node f =
+    env_is : (script : List OfferValue) (n : Node P.body) → Fine n → env_enabled (translation P) script (completed st.histories) (high st.values)
+        (number_of n) ≡ env_moves P script x n
+    env_is script go_node f =
         ap (λ b. not b || channels_move (high st.values) (offer_at script) (completed st.histories) 0 (wires_from P 0 P.channels) 0) s.go
-        ∙ (ap (λ b. not x.go || b) (quiet_channels script fits 0 (below_wires 0 (omega arith))) ∙ or_nothing (not x.go))
-    env_is script fits (own_node next) f = quiet_environment script fits 1 (omega arith) (below_wires 1 (omega arith))
-    env_is script fits (own_node child) f = quiet_environment script fits (root_request P) (omega (arith, root_is)) (above_wires (root_request P) (omega arith))
-    env_is script fits (own_node latch) f = quiet_environment script fits (root_latch P) (omega (arith, root_is)) (above_wires (root_latch P) (omega arith))
-    env_is script fits (own_node (inner p)) f = quiet_environment script fits (body_from P + place P P.body p) (omega (arith, root_is)) (above_wires (body_from P + place P P.body p) (omega arith))
-    env_is script fits (rail_node (of_channel k) i one) f = quiet_environment script fits (channel_from P k + rail_place i one) (omega arith) (λ j lt. rail_no_ack P k j i one f.0 lt f.1)
-    env_is script fits (ack_node k) f = ack_moves script fits k f
-    env_is script fits (rail_node (of_var y) i one) f = let e = part_bounds y (a_put i one) f.0 f.1 in quiet_environment script fits (var_from P y + offset (var_width P.vars y) (a_put i one)) (omega arith) (above_wires (var_from P y + offset (var_width P.vars y) (a_put i one)) e.0)
-    env_is script fits (bit_node y i one) f = let e = part_bounds y (a_bit i one) f.0 f.1 in quiet_environment script fits (var_from P y + offset (var_width P.vars y) (a_bit i one)) (omega arith) (above_wires (var_from P y + offset (var_width P.vars y) (a_bit i one)) e.0)
-    env_is script fits (wrote_node y i) f = let e = part_bounds y (a_mark i) f.0 f.1 in quiet_environment script fits (var_from P y + offset (var_width P.vars y) (a_mark i)) (omega arith) (above_wires (var_from P y + offset (var_width P.vars y) (a_mark i)) e.0)
-    env_is script fits (joint_node y k) f = let e = part_bounds y (a_joint k) f.0 f.1 in quiet_environment script fits (var_from P y + offset (var_width P.vars y) (a_joint k)) (omega arith) (above_wires (var_from P y + offset (var_width P.vars y) (a_joint k)) e.0)
+        ∙ (ap (λ b. not x.go || b) (quiet_channels script 0 (below_all 0 (omega arith))) ∙ or_nothing (not x.go))
+    env_is script (own_node next) f = quiet_environment script 1 (omega arith) (below_all 1 (omega arith))
+    env_is script (own_node child) f = quiet_environment script (root_request P) (omega (arith, root_is)) (above_all (root_request P) (omega arith))
+    env_is script (own_node latch) f = quiet_environment script (root_latch P) (omega (arith, root_is)) (above_all (root_latch P) (omega arith))
+    env_is script (own_node (inner p)) f = quiet_environment script (body_from P + place P P.body p) (omega (arith, root_is))
+        (above_all (body_from P + place P P.body p) (omega arith))
+    env_is script (rail_node (of_channel k) i one) f = rail_moves script k i one f.0 f.1
+    env_is script (ack_node k) f = ack_moves script k f
+    env_is script (rail_node (of_var y) i one) f = let e = part_bounds y (a_put i one) f.0 f.1 in quiet_environment script
+        (var_from P y + offset (var_width P.vars y) (a_put i one)) (omega arith) (above_all (var_from P y + offset (var_width P.vars y) (a_put i one)) e.0)
+    env_is script (bit_node y i one) f = let e = part_bounds y (a_bit i one) f.0 f.1 in quiet_environment script
+        (var_from P y + offset (var_width P.vars y) (a_bit i one)) (omega arith) (above_all (var_from P y + offset (var_width P.vars y) (a_bit i one)) e.0)
+    env_is script (wrote_node y i) f = let e = part_bounds y (a_mark i) f.0 f.1 in quiet_environment script
+        (var_from P y + offset (var_width P.vars y) (a_mark i)) (omega arith) (above_all (var_from P y + offset (var_width P.vars y) (a_mark i)) e.0)
+    env_is script (joint_node y k) f = let e = part_bounds y (a_joint k) f.0 f.1 in quiet_environment script
+        (var_from P y + offset (var_width P.vars y) (a_joint k)) (omega arith) (above_all (var_from P y + offset (var_width P.vars y) (a_joint k)) e.0)
 
     -- a node of the net may move exactly where its node of the cells may
-    pub enabled_is : (script : List OfferValue) → IsScript P.channels script → (n : Node P.body) → Fine n → move_enabled (translation P) script st (number_of n) ≡ enabled P script x n
-    enabled_is script fits n f =
-        ap (λ b. b || env_enabled (translation P) script (completed st.histories) (high st.values) (number_of n)) (rule_fires (number_of n) (rule_in P x n) (node_tells n f))
-        ∙ ap (λ b. fires (rule_in P x n) || b) (env_is script fits n f)
+    pub enabled_is : (script : List OfferValue) (n : Node P.body) → Fine n → move_enabled (translation P) script st (number_of n) ≡ enabled P script x n
+    enabled_is script n f =
+        ap (λ b. b || env_enabled (translation P) script (completed st.histories) (high st.values) (number_of n))
+        (rule_fires (number_of n) (rule_in P x n) (node_tells n f))
+        ∙ ap (λ b. fires (rule_in P x n) || b) (env_is script n f)
 
     -- its guards hold as those of the cells do
     pub apart_is : (n : Node P.body) → Fine n → is_apart (rule_in P x n) ≡ true → both_ways (translation P) (high st.values) (number_of n) ≡ false
@@ -372,8 +550,9 @@ module _ (P : TypedProgram) (given : Given P) where
       omega (
         arith,
         length-append (channels_rules P 0 P.channels) behind_wires,
-        length-append (vars_rules P 0 P.vars) (q_child go_number (root_latch P) ∷ q_latch go_number (body_answer P) ∷ rules_of P P.body (root_request P) (body_from P)),
-        length-channels_rules P 0 P.channels given.out,
+        length-append (vars_rules P 0 P.vars) (q_child go_number (root_latch P) ∷ q_latch go_number (body_answer P) ∷ rules_of P P.body (root_request P)
+            (body_from P)),
+        length-channels_rules P 0 P.channels,
         length-vars_rules P 0 P.vars,
         length-rules P P.body given.covered given.typed (root_request P) (body_from P),
       )
@@ -388,11 +567,13 @@ module _ (P : TypedProgram) (given : Given P) where
   pub past_apart : (st : RunState) (n : ℕ) → nodes_of P ≤ n → both_ways (translation P) (high st.values) n ≡ false
   past_apart st n h = ap (λ g. guard_holds (high st.values) g && guard_holds (high st.values) (down_of (translation P) n)) (past_up n h)
 
-  pub past_end : (st : RunState) (x : Whole P.body) → Shows st x → (script : List OfferValue) → IsScript P.channels script → (n : ℕ) → nodes_of P ≤ n → move_enabled (translation P) script st n ≡ false
-  past_end st x s script fits n h =
-      let env = quiet_environment st x s script fits n (omega (arith, h, root_is)) (above_wires st x s n (omega (arith, h))) in
+  pub past_end : (st : RunState) (x : Whole P.body) → Shows st x → (script : List OfferValue) (n : ℕ) → nodes_of P ≤ n
+      → move_enabled (translation P) script st n ≡ false
+  past_end st x s script n h =
+      let env = quiet_environment st x s script n (omega (arith, h, root_is)) (above_all st x s n (omega (arith, h))) in
       ap (λ b. rule_enabled (translation P) (high st.values) n || b) env
-      ∙ (ap (λ g. (if high st.values n then guard_holds (high st.values) (down_of (translation P) n) else guard_holds (high st.values) g) || false) (past_up n h)
+      ∙ (ap (λ g. (if high st.values n then guard_holds (high st.values) (down_of (translation P) n) else guard_holds (high st.values) g) || false)
+      (past_up n h)
       ∙ (ap (λ g. (if high st.values n then guard_holds (high st.values) g else false) || false) (past_down n h) ∙ both_none (high st.values n)))
     where
       both_none : (b : Bool) → ((if b then false else false) || false) ≡ false
@@ -403,7 +584,8 @@ module _ (P : TypedProgram) (given : Given P) where
 
   module _ (st : RunState) (x : Whole P.body) (s : Shows st x) (m : ℕ) (lt : m < nodes_of P) where
     fired_here : (n : ℕ) → n ≡ m → high (fired st.values m) n ≡ not (high st.values n)
-    fired_here n e = ap (λ i. high (fired st.values m) i) e ∙ (get_or-set_same st.values m (not (high st.values m)) false (omega (arith, lt, s.count)) ∙ ap (λ i. not (high st.values i)) (sym e))
+    fired_here n e = ap (λ i. high (fired st.values m) i) e ∙ (get_or-set_same st.values m (not (high st.values m)) false (omega (arith, lt, s.count))
+        ∙ ap (λ i. not (high st.values i)) (sym e))
 
     fired_far : (n : ℕ) → n ≢ m → high (fired st.values m) n ≡ high st.values n
     fired_far n ne = get_or-set_other st.values m n (not (high st.values m)) false ne
@@ -413,7 +595,8 @@ module _ (P : TypedProgram) (given : Given P) where
 
     -- nothing passes where no acknowledge moves
     still_histories : ((j : ℕ) → j < length P.channels → m ≢ ack_at P j) → (moved_flat (translation P) st m).histories ≡ x.histories
-    still_histories far = values_none P (high st.values) 0 P.channels st.histories m (ap length s.histories ∙ s.channels) (λ j low up. far j (omega (arith, up))) ∙ s.histories
+    still_histories far = values_none P (high st.values) 0 P.channels st.histories m (ap length s.histories ∙ s.channels)
+        (λ j low up. far j (omega (arith, up))) ∙ s.histories
 
     go_far : 0 ≢ m → high (fired st.values m) 0 ≡ x.go
     go_far ne = fired_far 0 ne ∙ s.go
@@ -427,11 +610,12 @@ module _ (P : TypedProgram) (given : Given P) where
     latch_far : root_latch P ≢ m → high (fired st.values m) (root_latch P) ≡ x.root.latch
     latch_far ne = fired_far (root_latch P) ne ∙ s.latch
 
-    body_far : m < body_from P → Stands (high (fired st.values m)) (body_from P) (bits P.body x.root.inner)
+    body_far : m < body_from P → Stands (high (fired st.values m)) (body_from P) (bits P P.body x.root.inner)
     body_far below = record { at = λ i h. fired_far (body_from P + i) (λ e. absurd (omega (arith, e, below))) ∙ s.body.at i h }
 
     -- where the node isn't a wire
-    rail_outside : (m < 2) ⊎ (root_request P ≤ m) → (k i : ℕ) (one : Bool) → k < length P.channels → i < channel_width P.channels k → high (fired st.values m) (channel_from P k + rail_place i one) ≡ x.wires.rail (of_channel k) i one
+    rail_outside : (m < 2) ⊎ (root_request P ≤ m) → (k i : ℕ) (one : Bool) → k < length P.channels → i < channel_width P.channels k
+        → high (fired st.values m) (channel_from P k + rail_place i one) ≡ x.wires.rail (of_channel k) i one
     rail_outside where_m k i one hk hi =
         let b = rail_bounds P k i one hk hi in
         fired_far (channel_from P k + rail_place i one) (λ e. no_wire where_m e b.0 b.1) ∙ s.rail k i one hk hi
@@ -440,7 +624,8 @@ module _ (P : TypedProgram) (given : Given P) where
         no_wire (inl below) e low up = absurd (omega (arith, below, e, low))
         no_wire (inr above) e low up = absurd (omega (arith, above, e, up, root_is))
 
-    block_outside : (m < 2 + wires_before P.channels (length P.channels)) ⊎ (root_request P ≤ m) → (y : ℕ) (b : Part) → y < length P.vars → IsPart (var_width P.vars y) b → high (fired st.values m) (var_from P y + offset (var_width P.vars y) b) ≡ part_value x.wires y b
+    block_outside : (m < 2 + wires_before P.channels (length P.channels)) ⊎ (root_request P ≤ m) → (y : ℕ) (b : Part) → y < length P.vars
+        → IsPart (var_width P.vars y) b → high (fired st.values m) (var_from P y + offset (var_width P.vars y) b) ≡ part_value x.wires y b
     block_outside where_m y b hy hb = fired_far (var_from P y + offset (var_width P.vars y) b) (λ e. apart where_m e) ∙ s.block y b hy hb
       where
         apart : (m < 2 + wires_before P.channels (length P.channels)) ⊎ (root_request P ≤ m) → var_from P y + offset (var_width P.vars y) b ≡ m → ⊥
@@ -456,7 +641,8 @@ module _ (P : TypedProgram) (given : Given P) where
     histories_outside (inr above) = still_histories (above_wires st x s m (omega (arith, above)))
 
   -- a Q-element's own node, or one inside of the body
-  own_after : (st : RunState) (x : Whole P.body) (s : Shows st x) (p : GuardedSpot P.body) → own_fine p → Shows (moved_flat (translation P) st (own_number p)) (moved P x (own_node p))
+  own_after : (st : RunState) (x : Whole P.body) (s : Shows st x) (p : GuardedSpot P.body) → own_fine p
+      → Shows (moved_flat (translation P) st (own_number p)) (moved P x (own_node p))
   own_after st x s next f =
       let lt : 1 < nodes_of P = omega (arith, root_is) in
       record {
@@ -507,7 +693,7 @@ module _ (P : TypedProgram) (given : Given P) where
       let m = body_from P + place P P.body p in
       let k = place_lt P P.body given.covered p f in
       let lt : body_from P + place P P.body p < nodes_of P = omega (arith, k) in
-      let xs = bits P.body x.root.inner in
+      let xs = bits P P.body x.root.inner in
       let long = length-bits P P.body given.covered x.root.inner in
       record {
         count = fired_count st x s (body_from P + place P P.body p) lt;
@@ -515,21 +701,22 @@ module _ (P : TypedProgram) (given : Given P) where
         done = done_far st x s (body_from P + place P P.body p) lt (λ e. absurd (omega (arith, e, root_is)));
         child = child_far st x s (body_from P + place P P.body p) lt (λ e. absurd (omega (arith, e)));
         latch = latch_far st x s (body_from P + place P P.body p) lt (λ e. absurd (omega (arith, e)));
-        body = subst (λ l. Stands (high (fired st.values (body_from P + place P P.body p))) (body_from P) l) (turned_is P P.body given.covered x.root.inner p f) (record {
-          at = λ i h.
-              let below : i < length xs = omega (arith, h, length-set xs (place P P.body p) (not (get_or xs (place P P.body p) false))) in
-              ⊎_elim
-              (λ (e : i ≡ place P P.body p).
-              let n : body_from P + i ≡ body_from P + place P P.body p = ap (λ j. body_from P + j) e in
-              fired_here st x s (body_from P + place P P.body p) lt (body_from P + i) n
-              ∙ (ap not (s.body.at i below ∙ ap (λ j. get_or xs j false) e)
-              ∙ (sym (get_or-set_same xs (place P P.body p) (not (get_or xs (place P P.body p) false)) false (omega (arith, k, long)))
-              ∙ ap (λ j. get_or (set xs (place P P.body p) (not (get_or xs (place P P.body p) false))) j false) (sym e))))
-              (λ (ne : i ≢ place P P.body p).
-              fired_far st x s (body_from P + place P P.body p) lt (body_from P + i) (λ e. ne (omega (arith, e)))
-              ∙ (s.body.at i below ∙ sym (get_or-set_other xs (place P P.body p) i (not (get_or xs (place P P.body p) false)) false ne)))
-              (cases_eq i (place P P.body p));
-        });
+        body = subst (λ l. Stands (high (fired st.values (body_from P + place P P.body p))) (body_from P) l) (turned_is P P.body given.covered x.root.inner p f)
+            (record {
+              at = λ i h.
+                  let below : i < length xs = omega (arith, h, length-set xs (place P P.body p) (not (get_or xs (place P P.body p) false))) in
+                  ⊎_elim
+                  (λ (e : i ≡ place P P.body p).
+                  let n : body_from P + i ≡ body_from P + place P P.body p = ap (λ j. body_from P + j) e in
+                  fired_here st x s (body_from P + place P P.body p) lt (body_from P + i) n
+                  ∙ (ap not (s.body.at i below ∙ ap (λ j. get_or xs j false) e)
+                  ∙ (sym (get_or-set_same xs (place P P.body p) (not (get_or xs (place P P.body p) false)) false (omega (arith, k, long)))
+                  ∙ ap (λ j. get_or (set xs (place P P.body p) (not (get_or xs (place P P.body p) false))) j false) (sym e))))
+                  (λ (ne : i ≢ place P P.body p).
+                  fired_far st x s (body_from P + place P P.body p) lt (body_from P + i) (λ e. ne (omega (arith, e)))
+                  ∙ (s.body.at i below ∙ sym (get_or-set_other xs (place P P.body p) i (not (get_or xs (place P P.body p) false)) false ne)))
+                  (cases_eq i (place P P.body p));
+            });
         rail = rail_outside st x s (body_from P + place P P.body p) lt (inr (omega arith));
         ack = ack_outside st x s (body_from P + place P P.body p) lt (inr (omega arith));
         block = block_outside st x s (body_from P + place P P.body p) lt (inr (omega arith));
@@ -568,7 +755,8 @@ module _ (P : TypedProgram) (given : Given P) where
 
   same_rail_back : (c k j i : ℕ) (side one : Bool) → c ≡ k → j ≡ i → side ≡ one → ((c == k) && ((j == i) && same_bit side one)) ≡ true
   same_rail_back c k j i side one ec ej es =
-      ap (λ b. b && ((j == i) && same_bit side one)) (eq-eqb c k ec) ∙ (ap (λ b. b && same_bit side one) (eq-eqb j i ej) ∙ (ap (λ b. same_bit b one) es ∙ itself one))
+      ap (λ b. b && ((j == i) && same_bit side one)) (eq-eqb c k ec) ∙ (ap (λ b. b && same_bit side one) (eq-eqb j i ej)
+      ∙ (ap (λ b. same_bit b one) es ∙ itself one))
     where
       itself : (b : Bool) → same_bit b b ≡ true
       itself true = refl
@@ -602,22 +790,30 @@ module _ (P : TypedProgram) (given : Given P) where
         child = child_far st x s m lt (λ z. absurd (omega (arith, z, e.1)));
         latch = latch_far st x s m lt (λ z. absurd (omega (arith, z, e.1)));
         body = body_far st x s m lt (omega (arith, e.1));
-        rail = λ k i one hk hi. let r = rail_bounds P k i one hk hi in fired_far st x s m lt (channel_from P k + rail_place i one) (λ z. absurd (let g : ⊥ = omega (arith, z, r.1, e.0) in g)) ∙ (s.rail k i one hk hi ∙ sym (rails k i one));
-        ack = λ k hk. let r = ack_bounds P k hk in fired_far st x s m lt (ack_at P k) (λ z. absurd (let g : ⊥ = omega (arith, z, r.1, e.0) in g)) ∙ (s.ack k hk ∙ sym (acks k));
-        block = λ z c hz hc. ⊎_elim (λ (same : var_from P z + offset (var_width P.vars z) c ≡ m). one_part lt z c hz hc same) (λ (ne : var_from P z + offset (var_width P.vars z) c ≢ m).
-            fired_far st x s m lt (var_from P z + offset (var_width P.vars z) c) ne ∙ (s.block z c hz hc ∙ sym (far z c (λ u q. ne (ap (λ n. var_from P n + offset (var_width P.vars n) c) u ∙ ap (λ d. var_from P y + offset (var_width P.vars y) d) q)))))
+        rail = λ k i one hk hi. let r = rail_bounds P k i one hk hi in fired_far st x s m lt (channel_from P k + rail_place i one)
+            (λ z. absurd (let g : ⊥ = omega (arith, z, r.1, e.0) in g)) ∙ (s.rail k i one hk hi ∙ sym (rails k i one));
+        ack = λ k hk. let r = ack_bounds P k hk in fired_far st x s m lt (ack_at P k) (λ z. absurd (let g : ⊥ = omega (arith, z, r.1, e.0) in g))
+            ∙ (s.ack k hk ∙ sym (acks k));
+        block = λ z c hz hc. ⊎_elim (λ (same : var_from P z + offset (var_width P.vars z) c ≡ m). one_part lt z c hz hc same)
+            (λ (ne : var_from P z + offset (var_width P.vars z) c ≢ m).
+            fired_far st x s m lt (var_from P z + offset (var_width P.vars z) c) ne
+            ∙ (s.block z c hz hc ∙ sym (far z c (λ u q. ne (ap (λ n. var_from P n + offset (var_width P.vars n) c) u
+            ∙ ap (λ d. var_from P y + offset (var_width P.vars y) d) q)))))
             (cases_eq (var_from P z + offset (var_width P.vars z) c) m);
         histories = still_histories st x s m lt (above_wires st x s m e.0);
         channels = s.channels;
       }
     where
-      one_part : var_from P y + offset (var_width P.vars y) b < nodes_of P → (z : ℕ) (c : Part) → z < length P.vars → IsPart (var_width P.vars z) c → var_from P z + offset (var_width P.vars z) c ≡ var_from P y + offset (var_width P.vars y) b
+      one_part : var_from P y + offset (var_width P.vars y) b < nodes_of P → (z : ℕ) (c : Part) → z < length P.vars → IsPart (var_width P.vars z) c
+          → var_from P z + offset (var_width P.vars z) c ≡ var_from P y + offset (var_width P.vars y) b
           → high (fired st.values (var_from P y + offset (var_width P.vars y) b)) (var_from P z + offset (var_width P.vars z) c) ≡ part_value now z c
       one_part lt z c hz hc same =
           let u = same_var z y c b hz hy hc hb same in
-          let q = same_part y c b (subst (λ (n : ℕ). IsPart (var_width P.vars n) c) u hc) hb (sym (ap (λ n. var_from P n + offset (var_width P.vars n) c) u) ∙ same) in
+          let q = same_part y c b (subst (λ (n : ℕ). IsPart (var_width P.vars n) c) u hc) hb
+          (sym (ap (λ n. var_from P n + offset (var_width P.vars n) c) u) ∙ same) in
           fired_here st x s (var_from P y + offset (var_width P.vars y) b) lt (var_from P z + offset (var_width P.vars z) c) same
-          ∙ (ap (λ n. not (high st.values n)) same ∙ (ap not (s.block y b hy hb) ∙ (sym here ∙ (ap (λ d. part_value now y d) (sym q) ∙ ap (λ n. part_value now n c) (sym u)))))
+          ∙ (ap (λ n. not (high st.values n)) same ∙ (ap not (s.block y b hy hb)
+          ∙ (sym here ∙ (ap (λ d. part_value now y d) (sym q) ∙ ap (λ n. part_value now n c) (sym u)))))
 
   rails_far : (r : Rails) (i : ℕ) (one : Bool) (j : ℕ) (t : Bool) → (j ≡ i → t ≡ one → ⊥) → rails_turned r i one j t ≡ r j t
   rails_far r i one j t ne = by ((j == i) && same_bit t one) refl
@@ -636,9 +832,11 @@ module _ (P : TypedProgram) (given : Given P) where
   of_same y z f g e = ap (λ (b : Bool). if b then f else g) (eq-eqb z y e)
 
   -- rails of variables, and other nodes, of which one is turned over
-  rails_by : (rs : ℕ → Rails) (y i : ℕ) (one : Bool) (z j : ℕ) (t : Bool) → (z ≡ y → j ≡ i → t ≡ one → ⊥) → (if z == y then rails_turned (rs y) i one else rs z) j t ≡ rs z j t
+  rails_by : (rs : ℕ → Rails) (y i : ℕ) (one : Bool) (z j : ℕ) (t : Bool) → (z ≡ y → j ≡ i → t ≡ one → ⊥)
+      → (if z == y then rails_turned (rs y) i one else rs z) j t ≡ rs z j t
   rails_by rs y i one z j t ne = ⊎_elim
-      (λ (e : z ≡ y). ap (λ (r : Rails). r j t) (of_same y z (rails_turned (rs y) i one) (rs z) e) ∙ (rails_far (rs y) i one j t (ne e) ∙ ap (λ n. rs n j t) (sym e)))
+      (λ (e : z ≡ y). ap (λ (r : Rails). r j t) (of_same y z (rails_turned (rs y) i one) (rs z) e)
+      ∙ (rails_far (rs y) i one j t (ne e) ∙ ap (λ n. rs n j t) (sym e)))
       (λ (n : z ≢ y). ap (λ (r : Rails). r j t) (of_one y z (rails_turned (rs y) i one) (rs z) n))
       (cases_eq z y)
 
@@ -648,14 +846,19 @@ module _ (P : TypedProgram) (given : Given P) where
       (λ (n : z ≢ y). ap (λ (r : ℕ → Bool). r j) (of_one y z (turned_value (rs y) i) (rs z) n))
       (cases_eq z y)
 
-  turned_rail : (x : Whole P.body) (k i : ℕ) (one : Bool) (c j : ℕ) (side : Bool) → (rail_turned x.wires (of_channel k) i one).rail (of_channel c) j side ≡ (if (c == k) && ((j == i) && same_bit side one) then not (x.wires.rail (of_channel k) i one) else x.wires.rail (of_channel c) j side)
+  turned_rail : (x : Whole P.body) (k i : ℕ) (one : Bool) (c j : ℕ) (side : Bool)
+      → (rail_turned x.wires (of_channel k) i one).rail (of_channel c) j side ≡
+      (if (c == k) && ((j == i) && same_bit side one) then not (x.wires.rail (of_channel k) i one) else x.wires.rail (of_channel c) j side)
   turned_rail x k i one c j side = by (c == k) refl
     where
-      by : (b : Bool) → (c == k) ≡ b → (if b then rails_turned (x.wires.rail (of_channel k)) i one else x.wires.rail (of_channel c)) j side ≡ (if b && ((j == i) && same_bit side one) then not (x.wires.rail (of_channel k) i one) else x.wires.rail (of_channel c) j side)
-      by true e = ap (λ n. if (j == i) && same_bit side one then not (x.wires.rail (of_channel k) i one) else x.wires.rail (of_channel n) j side) (sym (eqb-true c k e))
+      by : (b : Bool) → (c == k) ≡ b → (if b then rails_turned (x.wires.rail (of_channel k)) i one else x.wires.rail (of_channel c)) j side ≡
+          (if b && ((j == i) && same_bit side one) then not (x.wires.rail (of_channel k) i one) else x.wires.rail (of_channel c) j side)
+      by true e = ap (λ n. if (j == i) && same_bit side one then not (x.wires.rail (of_channel k) i one) else x.wires.rail (of_channel n) j side)
+          (sym (eqb-true c k e))
       by false e = refl
 
-  rail_after : (st : RunState) (x : Whole P.body) → Shows st x → (k i : ℕ) (one : Bool) → k < length P.channels → i < channel_width P.channels k → Shows (moved_flat (translation P) st (channel_from P k + rail_place i one)) (moved P x (rail_node (of_channel k) i one))
+  rail_after : (st : RunState) (x : Whole P.body) → Shows st x → (k i : ℕ) (one : Bool) → k < length P.channels → i < channel_width P.channels k
+      → Shows (moved_flat (translation P) st (channel_from P k + rail_place i one)) (moved P x (rail_node (of_channel k) i one))
   rail_after st x s k i one hk hi =
       let b = rail_bounds P k i one hk hi in
       let lt : channel_from P k + rail_place i one < nodes_of P = omega (arith, b.1, root_is) in
@@ -673,8 +876,10 @@ module _ (P : TypedProgram) (given : Given P) where
         channels = s.channels;
       }
     where
-      by_test : channel_from P k + rail_place i one < nodes_of P → (c j : ℕ) (side : Bool) → c < length P.channels → j < channel_width P.channels c → (t : Bool) → ((c == k) && ((j == i) && same_bit side one)) ≡ t
-          → high (fired st.values (channel_from P k + rail_place i one)) (channel_from P c + rail_place j side) ≡ (if t then not (x.wires.rail (of_channel k) i one) else x.wires.rail (of_channel c) j side)
+      by_test : channel_from P k + rail_place i one < nodes_of P → (c j : ℕ) (side : Bool) → c < length P.channels → j < channel_width P.channels c → (t : Bool)
+          → ((c == k) && ((j == i) && same_bit side one)) ≡ t
+          → high (fired st.values (channel_from P k + rail_place i one)) (channel_from P c + rail_place j side) ≡
+          (if t then not (x.wires.rail (of_channel k) i one) else x.wires.rail (of_channel c) j side)
       by_test lt c j side hc hj true e =
           let q = same_rail c k j i side one e in
           let n : channel_from P c + rail_place j side ≡ channel_from P k + rail_place i one = cc (q.0, q.1, q.2) in
@@ -685,7 +890,8 @@ module _ (P : TypedProgram) (given : Given P) where
           (λ z. let q = rail_same P c k j i side one hc hk hj hi z in absurd (cc (same_rail_back c k j i side one q.0 q.1 q.2, e)))
           ∙ s.rail c j side hc hj
 
-  ack_after : (st : RunState) (x : Whole P.body) → Shows st x → (k : ℕ) → k < length P.channels → Shows (moved_flat (translation P) st (ack_at P k)) (moved P x (ack_node k))
+  ack_after : (st : RunState) (x : Whole P.body) → Shows st x → (k : ℕ) → k < length P.channels
+      → Shows (moved_flat (translation P) st (ack_at P k)) (moved P x (ack_node k))
   ack_after st x s k hk =
       let b = ack_bounds P k hk in
       let lt : ack_at P k < nodes_of P = omega (arith, b.1, root_is) in
@@ -696,14 +902,16 @@ module _ (P : TypedProgram) (given : Given P) where
         child = child_far st x s (ack_at P k) lt (λ e. absurd (omega (arith, e, b.1, root_is)));
         latch = latch_far st x s (ack_at P k) lt (λ e. absurd (omega (arith, e, b.1, root_is)));
         body = body_far st x s (ack_at P k) lt (omega (arith, b.1, root_is));
-        rail = λ c j side hc hj. fired_far st x s (ack_at P k) lt (channel_from P c + rail_place j side) (rail_no_ack P c k j side hc hk hj) ∙ s.rail c j side hc hj;
+        rail = λ c j side hc hj. fired_far st x s (ack_at P k) lt (channel_from P c + rail_place j side) (rail_no_ack P c k j side hc hk hj)
+            ∙ s.rail c j side hc hj;
         ack = λ c hc. by_test lt c hc (c == k) refl;
         block = λ y c hy hc. block_outside st x s (ack_at P k) lt (inl b.1) y c hy hc ∙ sym (ack_parts x.wires k y c);
         histories = values_here ∙ by_ack (x.wires.ack k) refl;
         channels = lengths (x.wires.ack k);
       }
     where
-      by_test : ack_at P k < nodes_of P → (c : ℕ) → c < length P.channels → (t : Bool) → (c == k) ≡ t → high (fired st.values (ack_at P k)) (ack_at P c) ≡ (if t then not (x.wires.ack k) else x.wires.ack c)
+      by_test : ack_at P k < nodes_of P → (c : ℕ) → c < length P.channels → (t : Bool) → (c == k) ≡ t
+          → high (fired st.values (ack_at P k)) (ack_at P c) ≡ (if t then not (x.wires.ack k) else x.wires.ack c)
       by_test lt c hc true e =
           let n : ack_at P c ≡ ack_at P k = ap (ack_at P) (eqb-true c k e) in
           fired_here st x s (ack_at P k) lt (ack_at P c) n ∙ (ap (λ m. not (high st.values m)) n ∙ ap not (s.ack k hk))
@@ -713,17 +921,21 @@ module _ (P : TypedProgram) (given : Given P) where
       value_here : rail_value_of (high st.values) (rails_of (rails_at P k)) ≡ value_on (channel_width P.channels k) (x.wires.rail (of_channel k))
       value_here = value_is (high st.values) (channel_width P.channels k) (channel_from P k) (x.wires.rail (of_channel k)) (λ i one lt. s.rail k i one hk lt)
 
-      values_here : (moved_flat (translation P) st (ack_at P k)).histories ≡ passed x.histories k (if not (x.wires.ack k) then value_on (channel_width P.channels k) (x.wires.rail (of_channel k)) else None)
+      values_here : (moved_flat (translation P) st (ack_at P k)).histories ≡ passed x.histories k
+          (if not (x.wires.ack k) then value_on (channel_width P.channels k) (x.wires.rail (of_channel k)) else None)
       values_here =
           let e : 0 + k ≡ k = omega arith in
           values_some P (high st.values) 0 P.channels st.histories (ack_at P k) k (ap length s.histories ∙ s.channels) hk (ap (ack_at P) (sym e))
           (λ i low up ne z. ne (sym (ack_same P k i hk (omega (arith, up)) z) ∙ sym e))
-          ∙ (ap (λ h. passed h k (if not (high st.values (ack_at P k)) then rail_value_of (high st.values) (rails_of (rails_at P (0 + k))) else None)) s.histories
+          ∙ (ap (λ h. passed h k (if not (high st.values (ack_at P k)) then rail_value_of (high st.values)
+          (rails_of (rails_at P (0 + k))) else None)) s.histories
           ∙ (ap (λ b. passed x.histories k (if not b then rail_value_of (high st.values) (rails_of (rails_at P (0 + k))) else None)) (s.ack k hk)
           ∙ (ap (λ j. passed x.histories k (if not (x.wires.ack k) then rail_value_of (high st.values) (rails_of (rails_at P j)) else None)) e
           ∙ ap (λ o. passed x.histories k (if not (x.wires.ack k) then o else None)) value_here)))
 
-      by_ack : (a : Bool) → x.wires.ack k ≡ a → passed x.histories k (if not a then value_on (channel_width P.channels k) (x.wires.rail (of_channel k)) else None) ≡ (if a then x.histories else passed x.histories k (value_on (channel_width P.channels k) (x.wires.rail (of_channel k))))
+      by_ack : (a : Bool) → x.wires.ack k ≡ a → passed x.histories k (if not a then value_on (channel_width P.channels k)
+          (x.wires.rail (of_channel k)) else None) ≡ (if a then x.histories else passed x.histories k
+          (value_on (channel_width P.channels k) (x.wires.rail (of_channel k))))
       by_ack true e = refl
       by_ack false e = refl
 
@@ -731,17 +943,21 @@ module _ (P : TypedProgram) (given : Given P) where
       length-passed None = s.channels
       length-passed (Some y) = length-set x.histories k (history_at x.histories k ++ y ∷ []) ∙ s.channels
 
-      lengths : (a : Bool) → length (if a then x.histories else passed x.histories k (value_on (channel_width P.channels k) (x.wires.rail (of_channel k)))) ≡ length P.channels
+      lengths : (a : Bool) → length (if a then x.histories else passed x.histories k
+          (value_on (channel_width P.channels k) (x.wires.rail (of_channel k)))) ≡ length P.channels
       lengths true = s.channels
       lengths false = length-passed (value_on (channel_width P.channels k) (x.wires.rail (of_channel k)))
 
-  pub after_move : (st : RunState) (x : Whole P.body) → Shows st x → (n : Node P.body) → Fine n → Shows (moved_flat (translation P) st (number_of n)) (moved P x n)
+  pub after_move : (st : RunState) (x : Whole P.body) → Shows st x → (n : Node P.body) → Fine n
+      → Shows (moved_flat (translation P) st (number_of n)) (moved P x n)
   after_move st x s go_node f = go_after_is st x s
   after_move st x s (own_node p) f = own_after st x s p f
   after_move st x s (rail_node (of_channel k) i one) f = rail_after st x s k i one f.0 f.1
   after_move st x s (ack_node k) f = ack_after st x s k f
-  after_move st x s (rail_node (of_var y) i one) f = part_after st x s y (a_put i one) f.0 f.1 (rail_turned x.wires (of_var y) i one) (λ k j t. refl) (λ k. refl)
-      (ap (λ (r : Rails). r i one) (of_same y y (rails_turned (x.wires.rail (of_var y)) i one) (x.wires.rail (of_var y)) refl) ∙ rails_here (x.wires.rail (of_var y)) i one) far
+  after_move st x s (rail_node (of_var y) i one) f = part_after st x s y (a_put i one) f.0 f.1 (rail_turned x.wires (of_var y) i one) (λ k j t. refl)
+      (λ k. refl)
+      (ap (λ (r : Rails). r i one) (of_same y y (rails_turned (x.wires.rail (of_var y)) i one) (x.wires.rail (of_var y)) refl)
+      ∙ rails_here (x.wires.rail (of_var y)) i one) far
     where
       far : (z : ℕ) (c : Part) → (z ≡ y → c ≡ a_put i one → ⊥) → part_value (rail_turned x.wires (of_var y) i one) z c ≡ part_value x.wires z c
       far z (a_put j t) ne = rails_by (λ n. x.wires.rail (of_var n)) y i one z j t (λ u v q. ne u (ap (λ n. a_put n t) v ∙ ap (λ n. a_put i n) q))

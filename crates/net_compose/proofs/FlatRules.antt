@@ -4,16 +4,17 @@ use Rattle.std.specs.Prelude.{not, ◌&&◌, ◌||◌, if◌then◌else◌}
 use Rattle.std.specs.List.{list_any, list_all, range_with_len}
 use Rattle.std.proofs.lemmas.List.{get_or_append_left}
 use Rattle.prs_core.specs.Nets.{NodeRules, is_high, is_low, one_term}
-use Rattle.prs_core.specs.Pairs.{pair_of, no_rules, or_of, lows}
+use Rattle.prs_core.specs.Pairs.{pair_of, pairs_from, no_rules, or_of, lows}
 use Rattle.prs_core.specs.Moves.{term_holds, guard_holds}
 use Rattle.width_check.specs.Processes.{Formula, Process, skipping, assigning, sending, receiving, in_turn, side_by_side, choosing, repeating, Processes, no_members, and_member, member_count, TypedProgram}
 use Rattle.chp_base.specs.declared.span.Span.{Span}
-use Rattle.width_check.specs.Typing.{var_width, ReadsFrom, IsProcess, AreProcesses}
+use Rattle.width_check.specs.Typing.{channel_width, var_width, ReadsFrom, IsProcess, AreProcesses}
 use Rattle.width_check.specs.Values.{IsWellFormed}
 use Rattle.width_check.specs.Reads.{reads}
-use Rattle.handshake_expand.specs.Layout.{formula_size, assign_size, size_of, turn_size, branches_size}
+use Rattle.handshake_expand.specs.Layout.{formula_size, size_of, turn_size, branches_size, channel_from}
 use Rattle.handshake_expand.specs.Answers as number
 use Rattle.cell_variable.specs.Variables.{write_answer}
+use Rattle.cell_channel.specs.Ends.{taken_rail, port_rules}
 use Rattle.function_blocks.specs.Expressions.{formula_rules}
 use Rattle.function_blocks.specs.Rails.{pair_in}
 use Rattle.function_blocks.specs.Listed.{node_of}
@@ -23,13 +24,13 @@ use Rattle.circuit_places.proofs.Meets.{read_declared}
 use Rattle.cell_parallel.specs.Trees.{tree_rules}
 use Rattle.cell_parallel.specs.Sizes.{tree_length}
 use Rattle.circuit_places.specs.Covered.{IsCovered, AreCovered}
-use Rattle.circuit_places.specs.Lines.{of_channel, of_var, Seen}
-use Rattle.circuit_places.specs.Circuit.{Pairs, side_of, Site, gate_count, Cells, TurnCells, BranchCells, bit_at, joint_count, tree_value, tree_rule, branch_ends as cell_ends, answer, turn_answer, Spot, TurnSpot, BranchSpot, of_branch, joint, in_this, in_others, child, latch, next, inner, of_skip, done, gate, of_assign, of_send, in_members, of_loop, ask, in_body, in_last, in_member, in_later, Rule, rule_of, gate_rule, rule, turn_rule, branch_rule}
+use Rattle.circuit_places.specs.Lines.{of_channel, of_var, Rails, Seen}
+use Rattle.circuit_places.specs.Circuit.{of_receive, heard, stored, taking, Pairs, side_of, gate_count, Cells, TurnCells, BranchCells, bit_at, joint_count, tree_value, tree_rule, branch_ends as cell_ends, answer, turn_answer, Spot, TurnSpot, BranchSpot, of_branch, joint, in_this, in_others, child, latch, next, inner, of_skip, done, gate, of_assign, of_send, in_members, of_loop, ask, in_body, in_last, in_member, in_later, Rule, rule_of, gate_rule, rule, turn_rule, branch_rule}
 use Rattle.circuit_places.specs.Whole.{all_low}
 use Rattle.net_compose.specs.Translation.{through_rules, rules_of, turn_rules, branches_rules, branch_ends, branches_end, bits_at, ack_at, written_at}
 use Rattle.net_compose.proofs.Sizes.{has_bits}
 use Rattle.net_compose.proofs.FlatTrees.{joint_count_is, tree_bits, length-tree_bits, tree_bit, value_node, value_leaf, answer_value, Alike, tree_alike}
-use Rattle.net_compose.proofs.FlatCells.{plain_size, pair_bits, rail_place, bits, turn_bits, branch_bits, place, turn_place, branch_place, IsFine, IsFineTurn, IsFineBranch, length-bits, length-branch_bits, place_lt, branch_place_lt}
+use Rattle.net_compose.proofs.FlatCells.{plain_size, pair_bits, rail_bits, rail_place, bits, turn_bits, branch_bits, place, turn_place, branch_place, IsFine, IsFineTurn, IsFineBranch, length-bits, length-branch_bits, place_lt, branch_place_lt}
 
 -- the nodes from a number on have these values
 pub record Stands (v : ℕ → Bool) (from : ℕ) (xs : List Bool) : Type 0 where
@@ -42,10 +43,16 @@ pub record Told (v : ℕ → Bool) (rules : List NodeRules) (from i : ℕ) (r : 
   pub down : guard_holds v (get_or rules i no_rules).down ≡ r.down
 
 pub told_of : (v : ℕ → Bool) (rules : List NodeRules) (from i : ℕ) (r s : Rule) → r ≡ s → Told v rules from i r → Told v rules from i s
-told_of v rules from i r s e t = record { now = t.now ∙ ap (λ (x : Rule). x.now) e; up = t.up ∙ ap (λ (x : Rule). x.up) e; down = t.down ∙ ap (λ (x : Rule). x.down) e }
+told_of v rules from i r s e t = record {
+  now = t.now ∙ ap (λ (x : Rule). x.now) e;
+  up = t.up ∙ ap (λ (x : Rule). x.up) e;
+  down = t.down
+      ∙ ap (λ (x : Rule). x.down) e;
+}
 
 -- the same place further on in a longer list
-pub told_within : (v : ℕ → Bool) (rules more : List NodeRules) (from i to j : ℕ) (r : Rule) → get_or more j no_rules ≡ get_or rules i no_rules → to + j ≡ from + i → Told v rules from i r → Told v more to j r
+pub told_within : (v : ℕ → Bool) (rules more : List NodeRules) (from i to j : ℕ) (r : Rule) → get_or more j no_rules ≡ get_or rules i no_rules
+    → to + j ≡ from + i → Told v rules from i r → Told v more to j r
 told_within v rules more from i to j r e n t = record {
   now = ap v n ∙ t.now;
   up = ap (λ (x : NodeRules). guard_holds v x.up) e ∙ t.up;
@@ -73,7 +80,8 @@ module _ (v : ℕ → Bool) where
   stands_head from b xs h = let n : from ≡ from + 0 = omega arith in ap v n ∙ h.at 0 (omega arith)
 
   -- the rails of some gates
-  pub gate_value : (n : ℕ) (x : Pairs n) (from k : ℕ) (one : Bool) → k < n → Stands v from (pair_bits n x) → v (from + rail_place k one) ≡ side_of (pair_in n x k) one
+  pub gate_value : (n : ℕ) (x : Pairs n) (from k : ℕ) (one : Bool) → k < n → Stands v from (pair_bits n x)
+      → v (from + rail_place k one) ≡ side_of (pair_in n x k) one
   gate_value zero x from k one h s = absurd (omega arith)
   gate_value (suc n) x from zero true h s = s.at 0 (omega arith)
   gate_value (suc n) x from zero false h s = s.at 1 (omega arith)
@@ -89,15 +97,41 @@ module _ (v : ℕ → Bool) where
   one_low n = elim (v n) as (λ b. ((not b && true) || false) ≡ not b) [ true ↦ refl | false ↦ refl ]
 
   pub high_and_low : (n m : ℕ) → guard_holds v (one_term (is_high n ∷ is_low m ∷ [])) ≡ (v n && not (v m))
-  high_and_low n m = elim (v n) as (λ b. ((b && (not (v m) && true)) || false) ≡ (b && not (v m))) [ true ↦ elim (v m) as (λ c. ((not c && true) || false) ≡ not c) [ true ↦ refl | false ↦ refl ] | false ↦ refl ]
+  high_and_low n m = elim (v n) as (λ b. ((b && (not (v m) && true)) || false) ≡ (b && not (v m))) [
+    | true ↦ elim (v m) as
+        (λ c. ((not c && true) || false) ≡ not c) [ true ↦ refl | false ↦ refl ]
+    | false ↦ refl
+  ]
 
   pub both_high : (n m : ℕ) → guard_holds v (one_term (is_high n ∷ is_high m ∷ [])) ≡ (v n && v m)
-  both_high n m = elim (v n) as (λ b. ((b && (v m && true)) || false) ≡ (b && v m)) [ true ↦ elim (v m) as (λ c. ((c && true) || false) ≡ c) [ true ↦ refl | false ↦ refl ] | false ↦ refl ]
+  both_high n m = elim (v n) as (λ b. ((b && (v m && true)) || false) ≡ (b && v m)) [
+    | true ↦ elim (v m) as
+        (λ c. ((c && true) || false) ≡ c) [ true ↦ refl | false ↦ refl ]
+    | false ↦ refl
+  ]
+
+  pub both_low : (n m : ℕ) → guard_holds v (one_term (is_low n ∷ is_low m ∷ [])) ≡ (not (v n) && not (v m))
+  both_low n m = elim (v n) as (λ b. ((not b && (not (v m) && true)) || false) ≡ (not b && not (v m))) [
+    | true ↦ refl
+    | false ↦ elim (v m) as
+        (λ c. ((not c && true) || false) ≡ not c) [ true ↦ refl | false ↦ refl ]
+  ]
+
+  -- a rail among so many pairs
+  pub rail_value : (n : ℕ) (q : Rails) (from i : ℕ) (one : Bool) → i < n → Stands v from (rail_bits n q) → v (from + rail_place i one) ≡ q i one
+  rail_value zero q from i one h s = absurd (omega arith)
+  rail_value (suc n) q from zero true h s = s.at 0 (omega arith)
+  rail_value (suc n) q from zero false h s = s.at 1 (omega arith)
+  rail_value (suc n) q from (suc i) one h s =
+      let e : from + suc (suc (rail_place i one)) ≡ from + 2 + rail_place i one = omega arith in
+      ap v e ∙ rail_value n (λ k. q (suc k)) (from + 2) i one (omega arith)
+      (stands_after from (from + 2) (q zero true ∷ q zero false ∷ []) (rail_bits n (λ k. q (suc k))) s (omega arith))
 
   -- a merge over some nodes
   any_high : (ns : List ℕ) → guard_holds v (map (λ k. is_high k ∷ []) ns) ≡ list_any (λ b. b) (map v ns)
   any_high [] = refl
-  any_high (n ∷ ns) = elim (v n) as (λ b. ((b && true) || guard_holds v (map (λ k. is_high k ∷ []) ns)) ≡ (b || list_any (λ b. b) (map v ns))) [ true ↦ refl | false ↦ any_high ns ]
+  any_high (n ∷ ns) = elim (v n) as (λ b. ((b && true) || guard_holds v (map (λ k. is_high k ∷ []) ns)) ≡
+      (b || list_any (λ b. b) (map v ns))) [ true ↦ refl | false ↦ any_high ns ]
 
   lows_hold : (ns : List ℕ) → term_holds v (lows ns) ≡ list_all not (map v ns)
   lows_hold [] = refl
@@ -115,6 +149,19 @@ module _ (v : ℕ → Bool) where
   or_down [] = refl
   or_down (n ∷ ns) = or_false (term_holds v (lows (n ∷ ns))) ∙ ap (λ b. not (v n) && b) (lows_hold ns)
 
+-- the rules of a receive's rails
+length-port_rules : (r n from : ℕ) → length (port_rules r (pairs_from n from)) ≡ 2 * n
+length-port_rules r zero from = refl
+length-port_rules r (suc n) from = omega (arith, length-port_rules r n (from + 2))
+
+port_rule_at : (r n from i : ℕ) (one : Bool) → i < n → get_or (port_rules r (pairs_from n from)) (rail_place i one) no_rules ≡ taken_rail r
+    (from + rail_place i one)
+port_rule_at r zero from i one h = absurd (omega arith)
+port_rule_at r (suc n) from zero true h = ap (taken_rail r) (let e : from ≡ from + 0 = omega arith in e)
+port_rule_at r (suc n) from zero false h = refl
+port_rule_at r (suc n) from (suc i) one h = port_rule_at r n (from + 2) i one (omega arith)
+    ∙ ap (taken_rail r) (let e : from + 2 + rail_place i one ≡ from + suc (suc (rail_place i one)) = omega arith in e)
+
 module _ (P : TypedProgram) where
   -- the ends of branches, and where their nodes end
   pub length-branch_ends : (members : Processes) (from : ℕ) → length (branch_ends P members from) ≡ member_count members
@@ -126,8 +173,10 @@ module _ (P : TypedProgram) where
   branches_end_is (and_member p more) from = let e = branches_end_is more (from + 3 + size_of P p) in omega (arith, e)
 
   -- an assignment that doesn't read its target has the rules of its answer, and of its expression
-  pub plain_rules : (z : ℕ) (at : Span) (e : Formula) → reads z e ≡ false → (r from : ℕ) → rules_of P (assigning z at e) r from ≡ write_answer r (written_at P z) ∷ formula_rules (bits_at P) e r (from + 1)
-  plain_rules z at e c r from = ap (λ b. if b then through_rules P z e r from else (write_answer r (written_at P z) ∷ formula_rules (bits_at P) e r (from + 1))) c
+  pub plain_rules : (z : ℕ) (at : Span) (e : Formula) → reads z e ≡ false → (r from : ℕ)
+      → rules_of P (assigning z at e) r from ≡ write_answer r (written_at P z) ∷ formula_rules (bits_at P) e r (from + 1)
+  plain_rules z at e c r from = ap (λ b. if b then through_rules P z e r from else
+      (write_answer r (written_at P z) ∷ formula_rules (bits_at P) e r (from + 1))) c
 
   mutual
     pub length-rules : (p : Process) → IsCovered p → IsProcess P.channels P.vars p → (r from : ℕ) → length (rules_of P p r from) ≡ size_of P p
@@ -138,7 +187,7 @@ module _ (P : TypedProgram) where
     length-rules (assigning z at e) c t r from =
         ap length (plain_rules z at e c r from)
         ∙ omega (arith, rules_length P.vars (bits_at P) (has_bits P) e r (from + 1) t.1.formed t.1.reads, plain_size P z e c)
-    length-rules (receiving chan at z to) c t r from = absurd c
+    length-rules (receiving chan at z to) c t r from = omega (arith, length-port_rules r (channel_width P.channels chan) (channel_from P chan))
     length-rules (side_by_side members) c t r from =
         omega (
           arith,
@@ -149,7 +198,8 @@ module _ (P : TypedProgram) where
         )
     length-rules (choosing again choices) c t r from = absurd c
 
-    pub length-branches_rules : (members : Processes) → AreCovered members → AreProcesses P.channels P.vars members → (r from : ℕ) → length (branches_rules P members r from) ≡ branches_size P members
+    pub length-branches_rules : (members : Processes) → AreCovered members → AreProcesses P.channels P.vars members → (r from : ℕ)
+        → length (branches_rules P members r from) ≡ branches_size P members
     length-branches_rules no_members c t r from = refl
     length-branches_rules (and_member p more) c t r from =
         omega (
@@ -159,7 +209,8 @@ module _ (P : TypedProgram) where
           length-branches_rules more c.1 t.1 r (from + 3 + size_of P p),
         )
 
-    pub length-turn_rules : (members : Processes) → AreCovered members → AreProcesses P.channels P.vars members → (r from : ℕ) → length (turn_rules P members r from) ≡ turn_size P members
+    pub length-turn_rules : (members : Processes) → AreCovered members → AreProcesses P.channels P.vars members → (r from : ℕ)
+        → length (turn_rules P members r from) ≡ turn_size P members
     length-turn_rules no_members c t r from = refl
     length-turn_rules (and_member p no_members) c t r from = length-rules p c.0 t.0 r from
     length-turn_rules (and_member p (and_member q more)) c t r from =
@@ -172,98 +223,120 @@ module _ (P : TypedProgram) where
 
   module _ (v : ℕ → Bool) where
     -- the parts of a sequence
-    pub stands_member : (p q : Process) (more : Processes) (from : ℕ) (x : TurnCells (and_member p (and_member q more))) → Stands v from (turn_bits (and_member p (and_member q more)) x) → Stands v (from + 3) (bits p x.member.inner)
+    pub stands_member : (p q : Process) (more : Processes) (from : ℕ) (x : TurnCells (and_member p (and_member q more)))
+        → Stands v from (turn_bits P (and_member p (and_member q more)) x) → Stands v (from + 3) (bits P p x.member.inner)
     stands_member p q more from x s =
-        let a = bits p x.member.inner in
-        let b = turn_bits (and_member q more) x.later in
+        let a = bits P p x.member.inner in
+        let b = turn_bits P (and_member q more) x.later in
         stands_before v (from + 3) a b (stands_after v from (from + 3) (x.member.child ∷ x.member.latch ∷ x.member.next ∷ []) (a ++ b) s (omega arith))
 
-    pub stands_later : (p q : Process) (more : Processes) (c : IsCovered p) (from : ℕ) (x : TurnCells (and_member p (and_member q more))) → Stands v from (turn_bits (and_member p (and_member q more)) x) → Stands v (from + 3 + size_of P p) (turn_bits (and_member q more) x.later)
+    pub stands_later : (p q : Process) (more : Processes) (c : IsCovered p) (from : ℕ) (x : TurnCells (and_member p (and_member q more)))
+        → Stands v from (turn_bits P (and_member p (and_member q more)) x) → Stands v (from + 3 + size_of P p) (turn_bits P (and_member q more) x.later)
     stands_later p q more c from x s =
-        let a = bits p x.member.inner in
-        let b = turn_bits (and_member q more) x.later in
+        let a = bits P p x.member.inner in
+        let b = turn_bits P (and_member q more) x.later in
         stands_after v (from + 3) (from + 3 + size_of P p) a b
         (stands_after v from (from + 3) (x.member.child ∷ x.member.latch ∷ x.member.next ∷ []) (a ++ b) s (omega arith))
         (omega (arith, length-bits P p c x.member.inner))
 
     -- the parts of a parallel composition
-    pub stands_branches : (members : Processes) (from : ℕ) (x : Cells (side_by_side members)) → Stands v from (bits (side_by_side members) x) → Stands v from (branch_bits members x.branches)
-    stands_branches members from x s = stands_before v from (branch_bits members x.branches) (tree_bits (joint_count (member_count members)) x.tree) s
+    pub stands_branches : (members : Processes) (from : ℕ) (x : Cells (side_by_side members)) → Stands v from (bits P (side_by_side members) x)
+        → Stands v from (branch_bits P members x.branches)
+    stands_branches members from x s = stands_before v from (branch_bits P members x.branches) (tree_bits (joint_count (member_count members)) x.tree) s
 
-    pub stands_tree : (members : Processes) (c : AreCovered members) (from : ℕ) (x : Cells (side_by_side members)) → Stands v from (bits (side_by_side members) x) → Stands v (from + branches_size P members) (tree_bits (joint_count (member_count members)) x.tree)
+    pub stands_tree : (members : Processes) (c : AreCovered members) (from : ℕ) (x : Cells (side_by_side members))
+        → Stands v from (bits P (side_by_side members) x) → Stands v (from + branches_size P members) (tree_bits (joint_count (member_count members)) x.tree)
     stands_tree members c from x s =
-        stands_after v from (from + branches_size P members) (branch_bits members x.branches) (tree_bits (joint_count (member_count members)) x.tree) s (omega (arith, length-branch_bits P members c x.branches))
+        stands_after v from (from + branches_size P members) (branch_bits P members x.branches) (tree_bits (joint_count (member_count members)) x.tree) s
+        (omega (arith, length-branch_bits P members c x.branches))
 
-    pub stands_this : (p : Process) (more : Processes) (from : ℕ) (x : BranchCells (and_member p more)) → Stands v from (branch_bits (and_member p more) x) → Stands v (from + 3) (bits p x.0.inner)
+    pub stands_this : (p : Process) (more : Processes) (from : ℕ) (x : BranchCells (and_member p more)) → Stands v from (branch_bits P (and_member p more) x)
+        → Stands v (from + 3) (bits P p x.0.inner)
     stands_this p more from x s =
-        let a = bits p x.0.inner in
-        let b = branch_bits more x.1 in
+        let a = bits P p x.0.inner in
+        let b = branch_bits P more x.1 in
         stands_before v (from + 3) a b (stands_after v from (from + 3) (x.0.child ∷ x.0.latch ∷ x.0.next ∷ []) (a ++ b) s (omega arith))
 
-    pub stands_others : (p : Process) (more : Processes) (c : IsCovered p) (from : ℕ) (x : BranchCells (and_member p more)) → Stands v from (branch_bits (and_member p more) x) → Stands v (from + 3 + size_of P p) (branch_bits more x.1)
+    pub stands_others : (p : Process) (more : Processes) (c : IsCovered p) (from : ℕ) (x : BranchCells (and_member p more))
+        → Stands v from (branch_bits P (and_member p more) x) → Stands v (from + 3 + size_of P p) (branch_bits P more x.1)
     stands_others p more c from x s =
-        let a = bits p x.0.inner in
-        let b = branch_bits more x.1 in
+        let a = bits P p x.0.inner in
+        let b = branch_bits P more x.1 in
         stands_after v (from + 3) (from + 3 + size_of P p) a b
         (stands_after v from (from + 3) (x.0.child ∷ x.0.latch ∷ x.0.next ∷ []) (a ++ b) s (omega arith))
         (omega (arith, length-bits P p c x.0.inner))
 
     -- the leaves of a completion tree, and its nodes
-    tree_at : (members : Processes) (c : AreCovered members) (from : ℕ) (x : Cells (side_by_side members)) → Stands v from (bits (side_by_side members) x) → (k : ℕ) → k < joint_count (member_count members)
+    tree_at : (members : Processes) (c : AreCovered members) (from : ℕ) (x : Cells (side_by_side members)) → Stands v from (bits P (side_by_side members) x)
+        → (k : ℕ) → k < joint_count (member_count members)
         → v (from + branches_size P members + k) ≡ bit_at (joint_count (member_count members)) x.tree k
     tree_at members c from x s k less =
-        (stands_tree members c from x s).at k (omega (arith, less, length-tree_bits (joint_count (member_count members)) x.tree)) ∙ tree_bit (joint_count (member_count members)) x.tree k
+        (stands_tree members c from x s).at k (omega (arith, less, length-tree_bits (joint_count (member_count members)) x.tree))
+        ∙ tree_bit (joint_count (member_count members)) x.tree k
 
-    leaves_alike : (w : ℕ → Bool) (members : Processes) → AreCovered members → (from a : ℕ) (x : BranchCells members) → Stands v from (branch_bits members x) → ((i : ℕ) → i < member_count members → w (a + i) ≡ cell_ends members x i)
+    leaves_alike : (w : ℕ → Bool) (members : Processes) → AreCovered members → (from a : ℕ) (x : BranchCells members) → Stands v from (branch_bits P members x)
+        → ((i : ℕ) → i < member_count members → w (a + i) ≡ cell_ends members x i)
         → Alike v w (branch_ends P members from) (range_with_len a (member_count members))
     leaves_alike w no_members c from a x s h = tt
     leaves_alike w (and_member p more) c from a x s h = (
       s.at 2 (omega arith) ∙ (sym (h 0 (omega arith)) ∙ ap w (let e : a + 0 ≡ a = omega arith in e)),
-      leaves_alike w more c.1 (from + 3 + size_of P p) (a + 1) x.1 (stands_others p more c.0 from x s) (λ i less. ap w (let e : a + 1 + i ≡ a + suc i = omega arith in e) ∙ h (suc i) (omega (arith, less))),
+      leaves_alike w more c.1 (from + 3 + size_of P p) (a + 1) x.1 (stands_others p more c.0 from x s)
+          (λ i less. ap w (let e : a + 1 + i ≡ a + suc i = omega arith in e) ∙ h (suc i) (omega (arith, less))),
     )
 
-    joint_told : (members : Processes) → AreCovered members → (from : ℕ) (x : Cells (side_by_side members)) (k : ℕ) → k < joint_count (member_count members) → Stands v from (bits (side_by_side members) x)
-        → Told v (tree_rules (branch_ends P members from) (branches_end P members from)) (from + branches_size P members) k (tree_rule (member_count members) (cell_ends members x.branches) (bit_at (joint_count (member_count members)) x.tree) k)
+    joint_told : (members : Processes) → AreCovered members → (from : ℕ) (x : Cells (side_by_side members)) (k : ℕ) → k < joint_count (member_count members)
+        → Stands v from (bits P (side_by_side members) x)
+        → Told v (tree_rules (branch_ends P members from) (branches_end P members from)) (from + branches_size P members) k
+        (tree_rule (member_count members) (cell_ends members x.branches) (bit_at (joint_count (member_count members)) x.tree) k)
     joint_told members c from x k less s =
         let n = member_count members in
         let leaf = cell_ends members x.branches in
         let node = bit_at (joint_count (member_count members)) x.tree in
-        let same = leaves_alike (tree_value n leaf node) members c from 0 x.branches (stands_branches members from x s) (λ i lt. ap (tree_value n leaf node) (let e : 0 + i ≡ i = omega arith in e) ∙ value_leaf n leaf node i lt) in
+        let same = leaves_alike (tree_value n leaf node) members c from 0 x.branches (stands_branches members from x s)
+        (λ i lt. ap (tree_value n leaf node) (let e : 0 + i ≡ i = omega arith in e) ∙ value_leaf n leaf node i lt) in
         let told = tree_alike v (tree_value n leaf node) (branch_ends P members from) (range_with_len 0 n) (branches_end P members from) n same
-        (λ j lt. ap v (let e : branches_end P members from + j ≡ from + branches_size P members + j = omega (arith, branches_end_is members from) in e) ∙ (tree_at members c from x s j lt ∙ sym (value_node n leaf node j))) k in
+        (λ j lt. ap v (let e : branches_end P members from + j ≡ from + branches_size P members + j = omega (arith, branches_end_is members from) in e)
+        ∙ (tree_at members c from x s j lt ∙ sym (value_node n leaf node j))) k in
         record { now = tree_at members c from x s k less; up = told.0; down = told.1 }
 
-    pub stands_body : (p : Process) (from : ℕ) (x : Cells (repeating p)) → Stands v from (bits (repeating p) x) → Stands v (from + 2) (bits p x.inner)
-    stands_body p from x s = stands_after v from (from + 2) (x.answer ∷ x.ask ∷ []) (bits p x.inner) s (omega arith)
+    pub stands_body : (p : Process) (from : ℕ) (x : Cells (repeating p)) → Stands v from (bits P (repeating p) x) → Stands v (from + 2) (bits P p x.inner)
+    stands_body p from x s = stands_after v from (from + 2) (x.answer ∷ x.ask ∷ []) (bits P p x.inner) s (omega arith)
 
     -- the answer's node
     mutual
-      pub answer_is : (p : Process) → IsCovered p → IsProcess P.channels P.vars p → (from : ℕ) (x : Cells p) → Stands v from (bits p x) → v (number.answer_of P p from) ≡ answer p x
+      pub answer_is : (p : Process) → IsCovered p → IsProcess P.channels P.vars p → (from : ℕ) (x : Cells p) → Stands v from (bits P p x)
+          → v (number.answer_of P p from) ≡ answer p x
       answer_is skipping c t from x s = stands_head v from x [] s
       answer_is (sending chan at e) c t from x s = stands_head v from x.answer (pair_bits (gate_count e) x.gates) s
       answer_is (in_turn members) c t from x s = turn_answer_is members c t.1 (omega (arith, t.0)) from x s
-      answer_is (repeating p) c t from x s = stands_head v from x.answer (x.ask ∷ bits p x.inner) s
+      answer_is (repeating p) c t from x s = stands_head v from x.answer (x.ask ∷ bits P p x.inner) s
       answer_is (assigning z at e) c t from x s =
           ap (λ b. v (if b then number.second_answer P z from (formula_size e) else from)) c ∙ stands_head v from x.answer (pair_bits (gate_count e) x.gates) s
-      answer_is (receiving chan at z to) c t from x s = absurd c
+      answer_is (receiving chan at z to) c t from x s = stands_head v from x.answer (x.kept ∷ rail_bits (channel_width P.channels chan) x.taken) s
       answer_is (side_by_side members) c t from x s =
           let n = member_count members in
           let some : 2 ≤ member_count members = t.0 in
-          ap v (let e : from + (branches_size P members + (member_count members - 1)) - 1 ≡ from + branches_size P members + (member_count members - 2) = omega (arith, some) in e)
+          ap v (let e : from + (branches_size P members + (member_count members - 1)) - 1 ≡ from + branches_size P members + (member_count members - 2) = omega
+          (arith, some) in e)
           ∙ (tree_at members c from x s (n - 2) (omega (arith, some, joint_count_is (member_count members)))
           ∙ sym (answer_value n (cell_ends members x.branches) (bit_at (joint_count (member_count members)) x.tree) some))
       answer_is (choosing again choices) c t from x s = absurd c
 
-      pub turn_answer_is : (members : Processes) → AreCovered members → AreProcesses P.channels P.vars members → 1 ≤ member_count members → (from : ℕ) (x : TurnCells members) → Stands v from (turn_bits members x) → v (number.turn_answer P members from) ≡ turn_answer members x
+      pub turn_answer_is : (members : Processes) → AreCovered members → AreProcesses P.channels P.vars members → 1 ≤ member_count members
+          → (from : ℕ) (x : TurnCells members) → Stands v from (turn_bits P members x) → v (number.turn_answer P members from) ≡ turn_answer members x
       turn_answer_is no_members c t some from x s = absurd (omega (arith, some))
       turn_answer_is (and_member p no_members) c t some from x s = answer_is p c.0 t.0 from x s
       turn_answer_is (and_member p (and_member q more)) c t some from x s =
           turn_answer_is (and_member q more) c.1 t.1 (omega arith) (from + 3 + size_of P p) x.later (stands_later p q more c.0 from x s)
 
     -- the rules of the own nodes, where the channels' acknowledges stand at their numbers
-    module _ (w : Seen) (acks : (k : ℕ) → k < length P.channels → v (ack_at P k) ≡ w.ack (of_channel k)) (puts : (x : ℕ) → x < length P.vars → v (written_at P x) ≡ w.ack (of_var x))
-        (bits_are : (x i : ℕ) (one : Bool) → x < length P.vars → i < var_width P.vars x → v (node_of (pair_of (bits_at P x) i) one) ≡ w.bit x i one) where
-      gate_told : (r from i : ℕ) (one : Bool) (e : Formula) → IsWellFormed e → ReadsFrom P.vars e → (g : Pairs (gate_count e)) → i < gate_count e → Stands v from (pair_bits (gate_count e) g)
+    module _ (w : Seen) (acks : (k : ℕ) → k < length P.channels → v (ack_at P k) ≡ w.ack (of_channel k))
+        (puts : (x : ℕ) → x < length P.vars → v (written_at P x) ≡ w.ack (of_var x))
+        (bits_are : (x i : ℕ) (one : Bool) → x < length P.vars → i < var_width P.vars x → v (node_of (pair_of (bits_at P x) i) one) ≡ w.bit x i one)
+        (rails_are : (k i : ℕ) (one : Bool) → k < length P.channels → i < channel_width P.channels k
+        → v (channel_from P k + rail_place i one) ≡ w.rail (of_channel k) i one) where
+      gate_told : (r from i : ℕ) (one : Bool) (e : Formula) → IsWellFormed e → ReadsFrom P.vars e → (g : Pairs (gate_count e)) → i < gate_count e
+          → Stands v from (pair_bits (gate_count e) g)
           → Told v (formula_rules (bits_at P) e r from) from (rail_place i one) (gate_rule e w.bit (v r) g i one)
       gate_told r from i one e formed read g h s =
           let t = (listed P.vars e formed read).told (bits_at P) (has_bits P) r from v (v r) w.bit g (record {
@@ -274,7 +347,8 @@ module _ (P : TypedProgram) where
           record { now = t.now; up = t.up; down = t.down }
 
       mutual
-        pub rule_is : (p : Process) → IsCovered p → IsProcess P.channels P.vars p → (r from : ℕ) (x : Cells p) (s : Spot p) → IsFine P p s → Stands v from (bits p x) → Told v (rules_of P p r from) from (place P p s) (rule p w (v r) x s)
+        pub rule_is : (p : Process) → IsCovered p → IsProcess P.channels P.vars p → (r from : ℕ) (x : Cells p) (s : Spot p) → IsFine P p s
+            → Stands v from (bits P p x) → Told v (rules_of P p r from) from (place P p s) (rule p w (v r) x s)
         rule_is skipping c t r from x of_skip f s = record { now = s.at 0 (omega arith); up = one_high v r; down = one_low v r }
         rule_is (sending chan at e) c t r from x (of_send done) f s = record {
           now = s.at 0 (omega arith);
@@ -282,8 +356,10 @@ module _ (P : TypedProgram) where
           down = one_low v (ack_at P chan) ∙ ap not (acks chan t.within);
         }
         rule_is (sending chan at e) c t r from x (of_send (gate i one)) f s =
-            told_within v (formula_rules (bits_at P) e r (from + 1)) (rules_of P (sending chan at e) r from) (from + 1) (rail_place i one) from (suc (rail_place i one)) (gate_rule e w.bit (v r) x.gates i one) refl (omega arith)
-            (gate_told r (from + 1) i one e t.sent.formed t.sent.reads x.gates f (stands_after v from (from + 1) (x.answer ∷ []) (pair_bits (gate_count e) x.gates) s (omega arith)))
+            told_within v (formula_rules (bits_at P) e r (from + 1)) (rules_of P (sending chan at e) r from) (from + 1) (rail_place i one) from
+            (suc (rail_place i one)) (gate_rule e w.bit (v r) x.gates i one) refl (omega arith)
+            (gate_told r (from + 1) i one e t.sent.formed t.sent.reads x.gates f
+            (stands_after v from (from + 1) (x.answer ∷ []) (pair_bits (gate_count e) x.gates) s (omega arith)))
         rule_is (in_turn members) c t r from x (in_members z) f s = turn_rule_is members c t.1 r from x z f s
         rule_is (repeating p) c t r from x of_loop f s = record { now = s.at 0 (omega arith); up = refl; down = refl }
         rule_is (repeating p) c t r from x ask f s =
@@ -295,35 +371,67 @@ module _ (P : TypedProgram) where
             }
         rule_is (repeating p) c t r from x (in_body z) f s =
             let b : v (from + 1) ≡ x.ask = s.at 1 (omega arith) in
-            told_of v (rules_of P (repeating p) r from) from (suc (suc (place P p z))) (rule p w (v (from + 1)) x.inner z) (rule p w x.ask x.inner z) (ap (λ b. rule p w b x.inner z) b)
-            (told_within v (rules_of P p (from + 1) (from + 2)) (rules_of P (repeating p) r from) (from + 2) (place P p z) from (suc (suc (place P p z))) (rule p w (v (from + 1)) x.inner z) refl (omega arith)
+            told_of v (rules_of P (repeating p) r from) from (suc (suc (place P p z))) (rule p w (v (from + 1)) x.inner z) (rule p w x.ask x.inner z)
+            (ap (λ b. rule p w b x.inner z) b)
+            (told_within v (rules_of P p (from + 1) (from + 2)) (rules_of P (repeating p) r from) (from + 2) (place P p z) from (suc (suc (place P p z)))
+            (rule p w (v (from + 1)) x.inner z) refl (omega arith)
             (rule_is p c t (from + 1) (from + 2) x.inner z f (stands_body p from x s)))
         rule_is (assigning y at e) c t r from x (of_assign done) f s =
-            told_as v (rules_of P (assigning y at e) r from) (write_answer r (written_at P y) ∷ formula_rules (bits_at P) e r (from + 1)) from 0 (rule_of x.answer (v r && w.ack (of_var y)) (not (w.ack (of_var y)))) (plain_rules y at e c r from) (record {
+            told_as v (rules_of P (assigning y at e) r from) (write_answer r (written_at P y) ∷ formula_rules (bits_at P) e r (from + 1)) from 0
+            (rule_of x.answer (v r && w.ack (of_var y)) (not (w.ack (of_var y)))) (plain_rules y at e c r from) (record {
               now = s.at 0 (omega arith);
               up = both_high v r (written_at P y) ∙ ap (λ z. v r && z) (puts y t.0);
               down = one_low v (written_at P y) ∙ ap not (puts y t.0);
             })
         rule_is (assigning y at e) c t r from x (of_assign (gate i one)) f s =
-            told_as v (rules_of P (assigning y at e) r from) (write_answer r (written_at P y) ∷ formula_rules (bits_at P) e r (from + 1)) from (suc (rail_place i one)) (gate_rule e w.bit (v r) x.gates i one) (plain_rules y at e c r from)
-            (told_within v (formula_rules (bits_at P) e r (from + 1)) (write_answer r (written_at P y) ∷ formula_rules (bits_at P) e r (from + 1)) (from + 1) (rail_place i one) from (suc (rail_place i one)) (gate_rule e w.bit (v r) x.gates i one) refl (omega arith)
-            (gate_told r (from + 1) i one e t.1.formed t.1.reads x.gates f (stands_after v from (from + 1) (x.answer ∷ []) (pair_bits (gate_count e) x.gates) s (omega arith))))
-        rule_is (receiving chan at y to) c t r from x z f s = absurd c
+            told_as v (rules_of P (assigning y at e) r from) (write_answer r (written_at P y) ∷ formula_rules (bits_at P) e r (from + 1)) from
+            (suc (rail_place i one)) (gate_rule e w.bit (v r) x.gates i one) (plain_rules y at e c r from)
+            (told_within v (formula_rules (bits_at P) e r (from + 1)) (write_answer r (written_at P y) ∷ formula_rules (bits_at P) e r (from + 1)) (from + 1)
+            (rail_place i one) from (suc (rail_place i one)) (gate_rule e w.bit (v r) x.gates i one) refl (omega arith)
+            (gate_told r (from + 1) i one e t.1.formed t.1.reads x.gates f
+            (stands_after v from (from + 1) (x.answer ∷ []) (pair_bits (gate_count e) x.gates) s (omega arith))))
+        rule_is (receiving chan at y to) c t r from x (of_receive heard) f s = record {
+          now = s.at 0 (omega arith);
+          up = both_high v r (ack_at P chan) ∙ ap (λ z. v r && z) (acks chan t.within);
+          down = one_low v (ack_at P chan) ∙ ap not (acks chan t.within);
+        }
+        rule_is (receiving chan at y to) c t r from x (of_receive stored) f s = record {
+          now = s.at 1 (omega arith);
+          up = both_high v r (written_at P y) ∙ ap (λ z. v r && z) (puts y t.target);
+          down = one_low v (written_at P y) ∙ ap not (puts y t.target);
+        }
+        rule_is (receiving chan at y to) c t r from x (of_receive (taking i one)) f s =
+            let n = channel_width P.channels chan in
+            let e = port_rule_at r n (channel_from P chan) i one f in
+            let rail = rails_are chan i one t.within f in
+            let q = rail_value v n x.taken (from + 2) i one f (stands_after v from (from + 2) (x.answer ∷ x.kept ∷ []) (rail_bits n x.taken) s (omega arith)) in
+            record {
+              now = ap v (let z : from + suc (suc (rail_place i one)) ≡ from + 2 + rail_place i one = omega arith in z) ∙ q;
+              up = ap (λ (z : NodeRules). guard_holds v z.up) e ∙ (both_high v r (channel_from P chan + rail_place i one) ∙ ap (λ z. v r && z) rail);
+              down = ap (λ (z : NodeRules). guard_holds v z.down) e ∙ (both_low v r (channel_from P chan + rail_place i one)
+                  ∙ ap (λ z. not (v r) && not z) rail);
+            }
         rule_is (side_by_side members) c t r from x (of_branch z) f s =
             let here = branches_rules P members r from in
             let rest = tree_rules (branch_ends P members from) (branches_end P members from) in
-            told_within v here (rules_of P (side_by_side members) r from) from (branch_place P members z) from (branch_place P members z) (branch_rule members w (v r) x.branches z)
-            (get_or_append_left here rest no_rules (branch_place P members z) (omega (arith, branch_place_lt P members c z f, length-branches_rules members c t.1 r from))) refl
+            told_within v here (rules_of P (side_by_side members) r from) from (branch_place P members z) from (branch_place P members z)
+            (branch_rule members w (v r) x.branches z)
+            (get_or_append_left here rest no_rules (branch_place P members z)
+            (omega (arith, branch_place_lt P members c z f, length-branches_rules members c t.1 r from))) refl
             (branch_rule_is members c t.1 r from x.branches z f (stands_branches members from x s))
         rule_is (side_by_side members) c t r from x (joint k) f s =
             let here = branches_rules P members r from in
             let rest = tree_rules (branch_ends P members from) (branches_end P members from) in
-            told_within v rest (rules_of P (side_by_side members) r from) (from + branches_size P members) k from (branches_size P members + k) (tree_rule (member_count members) (cell_ends members x.branches) (bit_at (joint_count (member_count members)) x.tree) k)
-            (ap (λ n. get_or (here ++ rest) (n + k) no_rules) (sym (length-branches_rules members c t.1 r from)) ∙ get_or-append-add here rest k no_rules) (omega arith)
+            told_within v rest (rules_of P (side_by_side members) r from) (from + branches_size P members) k from (branches_size P members + k)
+            (tree_rule (member_count members) (cell_ends members x.branches) (bit_at (joint_count (member_count members)) x.tree) k)
+            (ap (λ n. get_or (here ++ rest) (n + k) no_rules) (sym (length-branches_rules members c t.1 r from)) ∙ get_or-append-add here rest k no_rules)
+            (omega arith)
             (joint_told members c from x k f s)
         rule_is (choosing again choices) c t r from x z f s = absurd c
 
-        pub branch_rule_is : (members : Processes) → AreCovered members → AreProcesses P.channels P.vars members → (r from : ℕ) (x : BranchCells members) (s : BranchSpot members) → IsFineBranch P members s → Stands v from (branch_bits members x) → Told v (branches_rules P members r from) from (branch_place P members s) (branch_rule members w (v r) x s)
+        pub branch_rule_is : (members : Processes) → AreCovered members → AreProcesses P.channels P.vars members
+            → (r from : ℕ) (x : BranchCells members) (s : BranchSpot members) → IsFineBranch P members s → Stands v from (branch_bits P members x)
+            → Told v (branches_rules P members r from) from (branch_place P members s) (branch_rule members w (v r) x s)
         branch_rule_is no_members c t r from x z f s = elim z [ ]
         branch_rule_is (and_member p more) c t r from x (in_this child) f s =
             let u : v (from + 1) ≡ x.0.latch = s.at 1 (omega arith) in
@@ -336,15 +444,17 @@ module _ (P : TypedProgram) where
             let d = answer_is p c.0 t.0 (from + 3) x.0.inner (stands_this p more from x s) in
             record {
               now = s.at 2 (omega arith);
-              up = high_and_low v (from + 1) (number.answer_of P p (from + 3)) ∙ (ap (λ b. b && not (v (number.answer_of P p (from + 3)))) u ∙ ap (λ b. x.0.latch && not b) d);
+              up = high_and_low v (from + 1) (number.answer_of P p (from + 3))
+                  ∙ (ap (λ b. b && not (v (number.answer_of P p (from + 3)))) u ∙ ap (λ b. x.0.latch && not b) d);
               down = one_low v (from + 1) ∙ ap not u;
             }
         branch_rule_is (and_member p more) c t r from x (in_this (inner z)) f s =
-            let b : v from ≡ x.0.child = stands_head v from x.0.child (x.0.latch ∷ x.0.next ∷ (bits p x.0.inner ++ branch_bits more x.1)) s in
+            let b : v from ≡ x.0.child = stands_head v from x.0.child (x.0.latch ∷ x.0.next ∷ (bits P p x.0.inner ++ branch_bits P more x.1)) s in
             let here = rules_of P p from (from + 3) in
             let rest = branches_rules P more r (from + 3 + size_of P p) in
             let k = place P p z in
-            told_of v (branches_rules P (and_member p more) r from) from (suc (suc (suc k))) (rule p w (v from) x.0.inner z) (rule p w x.0.child x.0.inner z) (ap (λ b. rule p w b x.0.inner z) b)
+            told_of v (branches_rules P (and_member p more) r from) from (suc (suc (suc k))) (rule p w (v from) x.0.inner z) (rule p w x.0.child x.0.inner z)
+            (ap (λ b. rule p w b x.0.inner z) b)
             (told_within v here (branches_rules P (and_member p more) r from) (from + 3) k from (suc (suc (suc k))) (rule p w (v from) x.0.inner z)
             (get_or_append_left here rest no_rules k (omega (arith, place_lt P p c.0 z f, length-rules p c.0 t.0 from (from + 3)))) (omega arith)
             (rule_is p c.0 t.0 from (from + 3) x.0.inner z f (stands_this p more from x s)))
@@ -352,11 +462,15 @@ module _ (P : TypedProgram) where
             let here = rules_of P p from (from + 3) in
             let rest = branches_rules P more r (from + 3 + size_of P p) in
             let k = branch_place P more z in
-            told_within v rest (branches_rules P (and_member p more) r from) (from + 3 + size_of P p) k from (suc (suc (suc (size_of P p + k)))) (branch_rule more w (v r) x.1 z)
-            (ap (λ n. get_or (here ++ rest) (n + k) no_rules) (sym (length-rules p c.0 t.0 from (from + 3))) ∙ get_or-append-add here rest k no_rules) (omega arith)
+            told_within v rest (branches_rules P (and_member p more) r from) (from + 3 + size_of P p) k from (suc (suc (suc (size_of P p + k))))
+            (branch_rule more w (v r) x.1 z)
+            (ap (λ n. get_or (here ++ rest) (n + k) no_rules) (sym (length-rules p c.0 t.0 from (from + 3))) ∙ get_or-append-add here rest k no_rules)
+            (omega arith)
             (branch_rule_is more c.1 t.1 r (from + 3 + size_of P p) x.1 z f (stands_others p more c.0 from x s))
 
-        pub turn_rule_is : (members : Processes) → AreCovered members → AreProcesses P.channels P.vars members → (r from : ℕ) (x : TurnCells members) (s : TurnSpot members) → IsFineTurn P members s → Stands v from (turn_bits members x) → Told v (turn_rules P members r from) from (turn_place P members s) (turn_rule members w (v r) x s)
+        pub turn_rule_is : (members : Processes) → AreCovered members → AreProcesses P.channels P.vars members
+            → (r from : ℕ) (x : TurnCells members) (s : TurnSpot members) → IsFineTurn P members s → Stands v from (turn_bits P members x)
+            → Told v (turn_rules P members r from) from (turn_place P members s) (turn_rule members w (v r) x s)
         turn_rule_is no_members c t r from x z f s = elim z [ ]
         turn_rule_is (and_member p no_members) c t r from x (in_last z) f s = rule_is p c.0 t.0 r from x z f s
         turn_rule_is (and_member p (and_member q more)) c t r from x (in_member child) f s =
@@ -370,16 +484,20 @@ module _ (P : TypedProgram) where
             let d = answer_is p c.0 t.0 (from + 3) x.member.inner (stands_member p q more from x s) in
             record {
               now = s.at 2 (omega arith);
-              up = high_and_low v (from + 1) (number.answer_of P p (from + 3)) ∙ (ap (λ b. b && not (v (number.answer_of P p (from + 3)))) u ∙ ap (λ b. x.member.latch && not b) d);
+              up = high_and_low v (from + 1) (number.answer_of P p (from + 3))
+                  ∙ (ap (λ b. b && not (v (number.answer_of P p (from + 3)))) u ∙ ap (λ b. x.member.latch && not b) d);
               down = one_low v (from + 1) ∙ ap not u;
             }
         turn_rule_is (and_member p (and_member q more)) c t r from x (in_member (inner z)) f s =
-            let b : v from ≡ x.member.child = stands_head v from x.member.child (x.member.latch ∷ x.member.next ∷ (bits p x.member.inner ++ turn_bits (and_member q more) x.later)) s in
+            let b : v from ≡ x.member.child = stands_head v from x.member.child
+            (x.member.latch ∷ x.member.next ∷ (bits P p x.member.inner ++ turn_bits P (and_member q more) x.later)) s in
             let here = rules_of P p from (from + 3) in
             let rest = turn_rules P (and_member q more) (from + 2) (from + 3 + size_of P p) in
             let k = place P p z in
-            told_of v (turn_rules P (and_member p (and_member q more)) r from) from (suc (suc (suc k))) (rule p w (v from) x.member.inner z) (rule p w x.member.child x.member.inner z) (ap (λ b. rule p w b x.member.inner z) b)
-            (told_within v here (turn_rules P (and_member p (and_member q more)) r from) (from + 3) k from (suc (suc (suc k))) (rule p w (v from) x.member.inner z)
+            told_of v (turn_rules P (and_member p (and_member q more)) r from) from (suc (suc (suc k))) (rule p w (v from) x.member.inner z)
+            (rule p w x.member.child x.member.inner z) (ap (λ b. rule p w b x.member.inner z) b)
+            (told_within v here (turn_rules P (and_member p (and_member q more)) r from) (from + 3) k from (suc (suc (suc k)))
+            (rule p w (v from) x.member.inner z)
             (get_or_append_left here rest no_rules k (omega (arith, place_lt P p c.0 z f, length-rules p c.0 t.0 from (from + 3)))) (omega arith)
             (rule_is p c.0 t.0 from (from + 3) x.member.inner z f (stands_member p q more from x s)))
         turn_rule_is (and_member p (and_member q more)) c t r from x (in_later z) f s =
@@ -387,7 +505,11 @@ module _ (P : TypedProgram) where
             let here = rules_of P p from (from + 3) in
             let rest = turn_rules P (and_member q more) (from + 2) (from + 3 + size_of P p) in
             let k = turn_place P (and_member q more) z in
-            told_of v (turn_rules P (and_member p (and_member q more)) r from) from (suc (suc (suc (size_of P p + k)))) (turn_rule (and_member q more) w (v (from + 2)) x.later z) (turn_rule (and_member q more) w x.member.next x.later z) (ap (λ b. turn_rule (and_member q more) w b x.later z) b)
-            (told_within v rest (turn_rules P (and_member p (and_member q more)) r from) (from + 3 + size_of P p) k from (suc (suc (suc (size_of P p + k)))) (turn_rule (and_member q more) w (v (from + 2)) x.later z)
-            (ap (λ n. get_or (here ++ rest) (n + k) no_rules) (sym (length-rules p c.0 t.0 from (from + 3))) ∙ get_or-append-add here rest k no_rules) (omega arith)
+            told_of v (turn_rules P (and_member p (and_member q more)) r from) from (suc (suc (suc (size_of P p + k))))
+            (turn_rule (and_member q more) w (v (from + 2)) x.later z) (turn_rule (and_member q more) w x.member.next x.later z)
+            (ap (λ b. turn_rule (and_member q more) w b x.later z) b)
+            (told_within v rest (turn_rules P (and_member p (and_member q more)) r from) (from + 3 + size_of P p) k from (suc (suc (suc (size_of P p + k))))
+            (turn_rule (and_member q more) w (v (from + 2)) x.later z)
+            (ap (λ n. get_or (here ++ rest) (n + k) no_rules) (sym (length-rules p c.0 t.0 from (from + 3))) ∙ get_or-append-add here rest k no_rules)
+            (omega arith)
             (turn_rule_is (and_member q more) c.1 t.1 (from + 2) (from + 3 + size_of P p) x.later z f (stands_later p q more c.0 from x s)))

@@ -10,7 +10,7 @@ use Rattle.prs_core.specs.Pairs.{no_rules}
 use Rattle.prs_core.specs.Moves.{guard_holds}
 use Rattle.cell_parallel.specs.Trees.{level_rules, next_level, levels_rules, tree_rules, tree_top}
 use Rattle.cell_parallel.specs.Sizes.{level_length, tree_length}
-use Rattle.circuit_places.specs.Circuit.{Bits, bit_at, turned_bits, low_bits as low_tree, joint_count, tree_value, tree_answer, tree_rule}
+use Rattle.circuit_places.specs.Circuit.{Bits, bit_at, turned_bits, low_bits as low_tree, joint_count, tree_value, tree_answer}
 
 -- one node fewer than leaves
 pub joint_count_is : (n : ℕ) → joint_count n ≡ n - 1
@@ -80,7 +80,8 @@ module _ (v w : ℕ → Bool) where
   rules_append [] (s ∷ ss) rs' ss' h k = absurd h
   rules_append (r ∷ rs) [] rs' ss' h k = absurd h
 
-  rules_at : (rs ss : List NodeRules) → RulesAlike v w rs ss → (k : ℕ) → (guard_holds v (get_or rs k no_rules).up ≡ guard_holds w (get_or ss k no_rules).up) × (guard_holds v (get_or rs k no_rules).down ≡ guard_holds w (get_or ss k no_rules).down)
+  rules_at : (rs ss : List NodeRules) → RulesAlike v w rs ss → (k : ℕ) → (guard_holds v (get_or rs k no_rules).up ≡ guard_holds w (get_or ss k no_rules).up) ×
+      (guard_holds v (get_or rs k no_rules).down ≡ guard_holds w (get_or ss k no_rules).down)
   rules_at [] [] h k = (refl, refl)
   rules_at (r ∷ rs) (s ∷ ss) h zero = (h.0, h.1)
   rules_at (r ∷ rs) (s ∷ ss) h (suc k) = rules_at rs ss h.2 k
@@ -100,26 +101,30 @@ module _ (v w : ℕ → Bool) where
   level_alike (m ∷ []) (l ∷ k ∷ ls) h = absurd h.1
   level_alike (m ∷ n ∷ ms) (l ∷ []) h = absurd h.1
 
-  next_alike : (ms ls : List ℕ) (to from : ℕ) → Alike v w ms ls → ((j : ℕ) → j < length (level_rules ls) → v (to + j) ≡ w (from + j)) → Alike v w (next_level ms to) (next_level ls from)
+  next_alike : (ms ls : List ℕ) (to from : ℕ) → Alike v w ms ls → ((j : ℕ) → j < length (level_rules ls) → v (to + j) ≡ w (from + j))
+      → Alike v w (next_level ms to) (next_level ls from)
   next_alike [] [] to from h own = tt
   next_alike (m ∷ []) (l ∷ []) to from h own = h
   next_alike (m ∷ n ∷ ms) (l ∷ k ∷ ls) to from h own = (
     ap v (let e : to ≡ to + 0 = omega arith in e) ∙ (own 0 (omega arith) ∙ ap w (let e : from + 0 ≡ from = omega arith in e)),
     next_alike ms ls (to + 1) (from + 1) h.1.1 (λ j less.
-        ap v (let e : to + 1 + j ≡ to + suc j = omega arith in e) ∙ (own (suc j) (omega (arith, less)) ∙ ap w (let e : from + suc j ≡ from + 1 + j = omega arith in e))),
+        ap v (let e : to + 1 + j ≡ to + suc j = omega arith in e) ∙ (own (suc j) (omega (arith, less))
+        ∙ ap w (let e : from + suc j ≡ from + 1 + j = omega arith in e))),
   )
   next_alike [] (l ∷ ls) to from h own = absurd h
   next_alike (m ∷ ms) [] to from h own = absurd h
   next_alike (m ∷ []) (l ∷ k ∷ ls) to from h own = absurd h.1
   next_alike (m ∷ n ∷ ms) (l ∷ []) to from h own = absurd h.1
 
-  levels_alike : (n : ℕ) (ms ls : List ℕ) (to from : ℕ) → Alike v w ms ls → ((j : ℕ) → j < length (levels_rules n ls from) → v (to + j) ≡ w (from + j)) → RulesAlike v w (levels_rules n ms to) (levels_rules n ls from)
+  levels_alike : (n : ℕ) (ms ls : List ℕ) (to from : ℕ) → Alike v w ms ls → ((j : ℕ) → j < length (levels_rules n ls from) → v (to + j) ≡ w (from + j))
+      → RulesAlike v w (levels_rules n ms to) (levels_rules n ls from)
   levels_alike zero ms ls to from h own = tt
   levels_alike (suc n) ms ls to from h own =
       let same = alike_length ms ls h in
       let long = level_length ls in
       let whole = length-append (level_rules ls) (levels_rules n (next_level ls from) (from + length ls / 2)) in
-      rules_append (level_rules ms) (level_rules ls) (levels_rules n (next_level ms to) (to + length ms / 2)) (levels_rules n (next_level ls from) (from + length ls / 2)) (level_alike ms ls h)
+      rules_append (level_rules ms) (level_rules ls) (levels_rules n (next_level ms to) (to + length ms / 2))
+      (levels_rules n (next_level ls from) (from + length ls / 2)) (level_alike ms ls h)
       (levels_alike n (next_level ms to) (next_level ls from) (to + length ms / 2) (from + length ls / 2)
       (next_alike ms ls to from h (λ j less. own j (omega (arith, less, whole))))
       (λ j less.
@@ -127,7 +132,9 @@ module _ (v w : ℕ → Bool) where
       ∙ (own (length ls / 2 + j) (omega (arith, less, whole, long)) ∙ ap w (let e : from + (length ls / 2 + j) ≡ from + length ls / 2 + j = omega arith in e))))
 
   pub tree_alike : (ms ls : List ℕ) (to from : ℕ) → Alike v w ms ls → ((j : ℕ) → j < length (tree_rules ls from) → v (to + j) ≡ w (from + j)) → (k : ℕ)
-      → (guard_holds v (get_or (tree_rules ms to) k no_rules).up ≡ guard_holds w (get_or (tree_rules ls from) k no_rules).up) × (guard_holds v (get_or (tree_rules ms to) k no_rules).down ≡ guard_holds w (get_or (tree_rules ls from) k no_rules).down)
+      → (guard_holds v (get_or (tree_rules ms to) k no_rules).up ≡ guard_holds w (get_or (tree_rules ls from) k no_rules).up) ×
+      (guard_holds v (get_or (tree_rules ms to) k no_rules).down ≡ guard_holds w (get_or (tree_rules ls from) k no_rules).down)
   tree_alike ms ls to from h own =
       rules_at (tree_rules ms to) (tree_rules ls from)
-      (subst (λ (n : ℕ). RulesAlike v w (levels_rules n ms to) (tree_rules ls from)) (sym (alike_length ms ls h)) (levels_alike (length ls) ms ls to from h own))
+      (subst (λ (n : ℕ). RulesAlike v w (levels_rules n ms to) (tree_rules ls from)) (sym (alike_length ms ls h))
+      (levels_alike (length ls) ms ls to from h own))

@@ -12,8 +12,6 @@ use Rattle.width_check.specs.Processes.{TypedProgram}
 use Rattle.width_check.specs.Form.{typed_form}
 use Rattle.width_check.specs.Typing.{IsTyped, IsDeclaredChannel, IsDeclaredVar}
 use Rattle.std.proofs.lemmas.List.Elements.{All-nil}
-use Rattle.chp_base.specs.declared.channel.Channel.{Channel}
-use Rattle.chp_base.specs.declared.channel.Kind.TheVariants as kind
 use Rattle.width_check.specs.Faults.{FaultAt}
 use Rattle.width_check.specs.Accepted.{IsAccepted}
 use Rattle.circuit_places.specs.Covered.{Covered}
@@ -29,6 +27,7 @@ none_in x (k, below, is) = absurd (omega arith)
 
 skip_accepted : (at : Span) → IsAccepted (record { decls = []; procs = []; body = skips at })
 skip_accepted at = record {
+  call_free = record { procs = refl; body = refl };
   named = (
     (λ s d. absurd (cc d.second_is)),
     (
@@ -57,7 +56,8 @@ skip_accepted at = record {
     no_wide s (inr d) = none_in d.decl d.among
 
 idle_by : (Q : ProgramTree → Type 0) → ((at : Span) → Q (record { decls = []; procs = []; body = skips at }))
-    → (ds : List Decl) (ps : List Procedure) (s : Statement) → does_nothing s ≡ true → is_none ds ≡ true → is_none ps ≡ true → Q (record { decls = ds; procs = ps; body = s })
+    → (ds : List Decl) (ps : List Procedure) (s : Statement) → does_nothing s ≡ true → is_none ds ≡ true → is_none ps ≡ true
+    → Q (record { decls = ds; procs = ps; body = s })
 idle_by Q here [] [] (skips at) e f g = here at
 idle_by Q here (d ∷ ds) ps s e f g = absurd (cc f)
 idle_by Q here [] (q ∷ ps) s e f g = absurd (cc g)
@@ -83,10 +83,21 @@ pub idle_accepted : (p : ProgramTree) → is_idle p ≡ true → IsAccepted p
 idle_accepted = idle_is IsAccepted skip_accepted
 
 idle_typed : IsTyped idle.channels idle.vars idle.body
-idle_typed = record { each_channel = All-nil IsDeclaredChannel; each_var = All-nil IsDeclaredVar; distinct = λ i j d below within. absurd (omega arith); body_is = tt }
+idle_typed = record {
+  each_channel = All-nil IsDeclaredChannel;
+  each_var = All-nil IsDeclaredVar;
+  distinct = λ i j d below within. absurd
+      (omega arith);
+  body_is = tt;
+}
 
 idle_covered : Covered idle
-idle_covered = record { channels = All-nil (λ (c : Channel). c.kind ≡ kind.Out); body = tt; sharing = record { variables = λ a b apart. absurd apart; sends = λ a b apart. absurd apart; receives = λ a b apart. absurd apart } }
+idle_covered = record {
+  channels = tt;
+  body = tt;
+  sharing =
+      record { variables = λ a b apart. absurd apart; sends = λ a b apart. absurd apart; receives = λ a b apart. absurd apart };
+}
 
 -- `X!0` and `X!1`
 
@@ -103,7 +114,7 @@ form_of p name bit f =
     let here : HasForm (record { decls = f.decl ∷ []; procs = []; body = sends s.chan (number s.value s.at) }) f.decl.name.name bit = record {
       at = s.chan.at;
       typed = typed_is f.decl d s.chan s.value s.at s.same s.small bit s.bit [];
-      accepted = accepted_is f.decl d s.chan s.value s.at s.same s.small [];
+      accepted = accepted_is f.decl d s.chan s.value s.at s.same s.small;
       named = d.name;
     } in
     subst (λ n. HasForm p n bit) (sym f.name_is)
@@ -112,10 +123,13 @@ form_of p name bit f =
     (subst (λ ds. HasForm (record { decls = ds; procs = []; body = sends s.chan (number s.value s.at) }) f.decl.name.name bit) (sym f.only) here)))
 
 -- carried, by the law of covered programs
-pub idle_carried : ((p : TypedProgram) → IsTyped p.channels p.vars p.body → Covered p → Carries (translation p) p) → (p : ProgramTree) → is_idle p ≡ true → Carries (translation (typed_form p)) (typed_form p)
+pub idle_carried : ((p : TypedProgram) → IsTyped p.channels p.vars p.body → Covered p → Carries (translation p) p) → (p : ProgramTree) → is_idle p ≡ true
+    → Carries (translation (typed_form p)) (typed_form p)
 idle_carried law p h = subst (λ t. Carries (translation t) t) (sym (idle_form p h)) (law idle idle_typed idle_covered)
 
-pub bit_carried : ((p : TypedProgram) → IsTyped p.channels p.vars p.body → Covered p → Carries (translation p) p) → (p : ProgramTree) (name : List ℕ) (bit : Bool) (net : NetValue) → IsBitForm p name bit → ((at : Span) → net ≡ translation (bit_program name at bit)) → Carries (translation (typed_form p)) (typed_form p)
+pub bit_carried : ((p : TypedProgram) → IsTyped p.channels p.vars p.body → Covered p → Carries (translation p) p)
+    → (p : ProgramTree) (name : List ℕ) (bit : Bool) (net : NetValue) → IsBitForm p name bit → ((at : Span) → net ≡ translation (bit_program name at bit))
+    → Carries (translation (typed_form p)) (typed_form p)
 bit_carried law p name bit net f is =
     let h = form_of p name bit f in
     subst (λ t. Carries (translation t) t) (sym h.typed) (law (bit_program name h.at bit) (bit_typed name h.at bit h.named) (bit_covered name h.at bit))
@@ -128,7 +142,8 @@ idle_built p h = ap (λ b. b || is_bit_form p) h
 pub bit_built : (p : ProgramTree) (name : List ℕ) (bit : Bool) → IsBitForm p name bit → is_built p ≡ true
 bit_built p name bit f =
     let sends_it : sends_bit (f.decl ∷ []) p.body ≡ true = ap (λ b. b && is_some (bit_sent f.decl p.body)) f.out ∙ ap is_some f.sent in
-    let form : is_bit_form p ≡ true = ap (λ ds. sends_bit ds p.body && is_none p.procs) f.only ∙ (ap (λ b. b && is_none p.procs) sends_it ∙ ap is_none f.alone) in
+    let form : is_bit_form p ≡ true = ap (λ ds. sends_bit ds p.body && is_none p.procs) f.only
+    ∙ (ap (λ b. b && is_none p.procs) sends_it ∙ ap is_none f.alone) in
     or_there (is_idle p) (is_bit_form p) form
   where
     or_there : (a b : Bool) → b ≡ true → (a || b) ≡ true
@@ -138,8 +153,10 @@ bit_built p name bit f =
 pub not_built : (p : ProgramTree) → is_idle p ≡ false → is_bit_form p ≡ false → is_built p ≡ false
 not_built p e f = ap (λ b. b || is_bit_form p) e ∙ f
 
-pub bit_accepted : (p : ProgramTree) (name : List ℕ) (bit : Bool) (net : NetValue) → IsBitForm p name bit → ((at : Span) → net ≡ translation (bit_program name at bit)) → IsAccepted p
+pub bit_accepted : (p : ProgramTree) (name : List ℕ) (bit : Bool) (net : NetValue) → IsBitForm p name bit
+    → ((at : Span) → net ≡ translation (bit_program name at bit)) → IsAccepted p
 bit_accepted p name bit net f is = (form_of p name bit f).accepted
 
-pub bit_net_is : (p : ProgramTree) (name : List ℕ) (bit : Bool) (net : NetValue) → IsBitForm p name bit → ((at : Span) → net ≡ translation (bit_program name at bit)) → net ≡ translation (typed_form p)
+pub bit_net_is : (p : ProgramTree) (name : List ℕ) (bit : Bool) (net : NetValue) → IsBitForm p name bit
+    → ((at : Span) → net ≡ translation (bit_program name at bit)) → net ≡ translation (typed_form p)
 bit_net_is p name bit net f is = let h = form_of p name bit f in is h.at ∙ ap translation (sym h.typed)

@@ -19,7 +19,8 @@ pub record IsCarriedBeside (P Q : TypedProgram) (script : List OfferValue) (move
   pub passed : to.histories ≡ x.histories
   pub rest : IsAtRest Q script x → IsSettled Q x to
 
-pub carried_beside : HalvesFollow → (P : TypedProgram) (script : List OfferValue) → IsTyped P.channels P.vars P.body → MeetsSharing P.body → (moves : ℕ) (x : Whole (halved_program P).body)
+pub carried_beside : HalvesFollow → (P : TypedProgram) (script : List OfferValue) → IsTyped P.channels P.vars P.body → MeetsSharing P.body
+    → (moves : ℕ) (x : Whole (halved_program P).body)
     → IsCarried (halved_program P) script moves x → IsCarriedBeside P (halved_program P) script moves x
 carried_beside follow P script typed meets moves x carried =
     let r = follow P script typed meets carried.steps carried.to carried.leads in

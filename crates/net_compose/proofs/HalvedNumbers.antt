@@ -1,12 +1,11 @@
 -- Node numbers of a program in halves: a hidden variable's block stands before the nodes of its two assignments, which are
 -- those of a sequence.
-use Rattle.std.proofs.Common.{◌≡◌, ◌≢◌, ◌⊎◌, ℕ, zero, suc, ◌+◌, ◌-◌, ◌*◌, ◌<◌, ◌≤◌, Bool, true, false, List, [], ◌∷◌, ◌++◌, length, take, drop, refl, sym, ap, ◌∙◌, subst, arith, append_assoc}
+use Rattle.std.proofs.Common.{◌≡◌, ℕ, suc, ◌+◌, ◌-◌, ◌*◌, ◌<◌, ◌≤◌, Bool, true, false, List, [], ◌∷◌, ◌++◌, length, take, refl, sym, ap, ◌∙◌, subst, arith}
 use Rattle.std.specs.Prelude.{if◌then◌else◌, nat_lt, slice_index}
 use Rattle.std.proofs.lemmas.Bool.Decides.{nat_tests}
 use Rattle.std.proofs.Math.Seq.{take-length}
 use Rattle.std.proofs.lemmas.List.{length-append}
 use Rattle.chp_base.specs.declared.span.Span.{Span}
-use Rattle.chp_base.specs.declared.channel.Channel.{Channel}
 use Rattle.prs_core.specs.Nets.{NodeRules}
 use Rattle.prs_core.specs.Pairs.{Pair}
 use Rattle.width_check.specs.declared.typed.Var.{Var}
@@ -15,15 +14,14 @@ use Rattle.width_check.specs.Values.{width_of}
 use Rattle.width_check.proofs.Bounds.{width_some}
 use Rattle.width_check.specs.Typing.{channel_width, var_width, ReadsFrom, EachReadsFrom, AllReadFrom, IsOfWidth, IsProcess, AreProcesses, AreChoices}
 use Rattle.width_check.specs.Reads.{reads}
-use Rattle.chp_syntax.specs.declared.tree.Op.{Op}
 use Rattle.handshake_expand.specs.Layout.{formula_size, operator_size, block_size, through_size, size_of, turn_size, branches_size, guards_size, bodies_size, var_from}
-use Rattle.handshake_expand.specs.Answers.{answer_of, select_own, again_own, bodies_from}
+use Rattle.handshake_expand.specs.Answers.{select_own, again_own, bodies_from}
 use Rattle.cell_variable.specs.Variables.{all_written, variable_rules, write_answer}
 use Rattle.function_blocks.specs.Expressions.{read_bits, bits_between, formula_rules, joined_rules, chained_rules, formula_result}
 use Rattle.function_blocks.specs.Gates.{operator_rules}
 use Rattle.function_blocks.specs.Gates.{operator_result}
-use Rattle.chp_meaning.specs.Halves.{hidden_of, hidden_vars, hidden_in_each, hidden_in_choices, read_back, in_halves, halved_assign, halved, halved_each, halved_choices, ReadsNoTarget, EachReadsNoTarget, ChoicesReadNoTarget}
-use Rattle.net_compose.specs.Translation.{bits_at, block_bits, written_at, q_rules, through_at, through_rules, Sites, in_body, sites_in, sites_in_turn, sites_in_branches, sites_in_bodies}
+use Rattle.chp_meaning.specs.Halves.{hidden_of, hidden_vars, hidden_in_each, hidden_in_choices, read_back, halved_assign, halved, halved_each, halved_choices, ReadsNoTarget, EachReadsNoTarget, ChoicesReadNoTarget}
+use Rattle.net_compose.specs.Translation.{bits_at, block_bits, written_at, q_rules, through_rules, Sites, in_body, sites_in, sites_in_turn, sites_in_branches, sites_in_bodies}
 use Rattle.net_compose.proofs.Sizes.{block_length}
 
 -- how many nodes the blocks of some variables have
@@ -37,13 +35,17 @@ blocks_append (x ∷ xs) ys = let e = blocks_append xs ys in omega arith
 
 -- in halves a statement has as many nodes, with the blocks of its hidden variables
 
-assign_halved : (P Q : TypedProgram) (n x : ℕ) (at : Span) (e : Formula) (b : Bool) → reads x e ≡ b → width_of e ≡ var_width P.vars x → 1 ≤ width_of e → ReadsNoTarget (halved_assign b n x at e)
+assign_halved : (P Q : TypedProgram) (n x : ℕ) (at : Span) (e : Formula) (b : Bool) → reads x e ≡ b → width_of e ≡ var_width P.vars x → 1 ≤ width_of e
+    → ReadsNoTarget (halved_assign b n x at e)
     → (if b then through_size (var_width P.vars x) e else 1 + formula_size e) ≡ size_of Q (halved_assign b n x at e) + blocks (hidden_of b e)
 assign_halved P Q n x at e false none wide some plain =
-    let s : size_of Q (assigning x at e) ≡ 1 + formula_size e = ap (λ (b : Bool). if b then through_size (var_width Q.vars x) e else 1 + formula_size e) none in omega arith
+    let s : size_of Q (assigning x at e) ≡ 1 + formula_size e = ap (λ (b : Bool). if b then through_size
+    (var_width Q.vars x) e else 1 + formula_size e) none in omega arith
 assign_halved P Q n x at e true self wide some plain =
-    let first : size_of Q (assigning n at e) ≡ 1 + formula_size e = ap (λ (b : Bool). if b then through_size (var_width Q.vars n) e else 1 + formula_size e) plain.0 in
-    let second : size_of Q (assigning x at (read_back n e at)) ≡ 1 + 2 * (width_of e - 1 + 1 - 0) = ap (λ (b : Bool). if b then through_size (var_width Q.vars x) (read_back n e at) else 1 + formula_size (read_back n e at)) plain.1.0 in
+    let first : size_of Q (assigning n at e) ≡ 1 + formula_size e = ap (λ (b : Bool). if b then through_size
+    (var_width Q.vars n) e else 1 + formula_size e) plain.0 in
+    let second : size_of Q (assigning x at (read_back n e at)) ≡ 1 + 2 * (width_of e - 1 + 1 - 0) = ap
+    (λ (b : Bool). if b then through_size (var_width Q.vars x) (read_back n e at) else 1 + formula_size (read_back n e at)) plain.1.0 in
     let same : block_size (width_of e) ≡ block_size (var_width P.vars x) = ap block_size wide in
     omega arith
 
@@ -60,7 +62,8 @@ guards_same n no_choices = refl
 guards_same n (and_choice g p more) = ap (λ k. formula_size g + k) (guards_same (n + length (hidden_vars p)) more)
 
 mutual
-  pub halved_size : (P Q : TypedProgram) → P.channels ≡ Q.channels → (n : ℕ) (p : Process) → IsProcess P.channels P.vars p → ReadsNoTarget (halved n p) → size_of P p ≡ size_of Q (halved n p) + blocks (hidden_vars p)
+  pub halved_size : (P Q : TypedProgram) → P.channels ≡ Q.channels → (n : ℕ) (p : Process) → IsProcess P.channels P.vars p → ReadsNoTarget (halved n p)
+      → size_of P p ≡ size_of Q (halved n p) + blocks (hidden_vars p)
   halved_size P Q same n skipping typed plain = omega arith
   halved_size P Q same n (assigning x at e) typed plain = assign_halved P Q n x at e (reads x e) refl typed.1.agrees (width_some e typed.1.formed) plain
   halved_size P Q same n (sending k at e) typed plain = omega arith
@@ -83,7 +86,8 @@ mutual
       omega arith
   halved_size P Q same n (repeating p) typed plain = let e = halved_size P Q same n p typed plain in omega arith
 
-  turn_halved : (P Q : TypedProgram) → P.channels ≡ Q.channels → (n : ℕ) (members : Processes) → AreProcesses P.channels P.vars members → EachReadsNoTarget (halved_each n members) → turn_size P members ≡ turn_size Q (halved_each n members) + blocks (hidden_in_each members)
+  turn_halved : (P Q : TypedProgram) → P.channels ≡ Q.channels → (n : ℕ) (members : Processes) → AreProcesses P.channels P.vars members
+      → EachReadsNoTarget (halved_each n members) → turn_size P members ≡ turn_size Q (halved_each n members) + blocks (hidden_in_each members)
   turn_halved P Q same n no_members typed plain = omega arith
   turn_halved P Q same n (and_member p no_members) typed plain =
       let e = halved_size P Q same n p typed.0 plain.0 in
@@ -95,7 +99,8 @@ mutual
       let l = blocks_append (hidden_vars p) (hidden_in_each (and_member q more)) in
       omega arith
 
-  branches_halved : (P Q : TypedProgram) → P.channels ≡ Q.channels → (n : ℕ) (members : Processes) → AreProcesses P.channels P.vars members → EachReadsNoTarget (halved_each n members) → branches_size P members ≡ branches_size Q (halved_each n members) + blocks (hidden_in_each members)
+  branches_halved : (P Q : TypedProgram) → P.channels ≡ Q.channels → (n : ℕ) (members : Processes) → AreProcesses P.channels P.vars members
+      → EachReadsNoTarget (halved_each n members) → branches_size P members ≡ branches_size Q (halved_each n members) + blocks (hidden_in_each members)
   branches_halved P Q same n no_members typed plain = omega arith
   branches_halved P Q same n (and_member p more) typed plain =
       let e = halved_size P Q same n p typed.0 plain.0 in
@@ -103,7 +108,8 @@ mutual
       let l = blocks_append (hidden_vars p) (hidden_in_each more) in
       omega arith
 
-  bodies_halved : (P Q : TypedProgram) → P.channels ≡ Q.channels → (n : ℕ) (choices : Choices) → AreChoices P.channels P.vars choices → ChoicesReadNoTarget (halved_choices n choices) → bodies_size P choices ≡ bodies_size Q (halved_choices n choices) + blocks (hidden_in_choices choices)
+  bodies_halved : (P Q : TypedProgram) → P.channels ≡ Q.channels → (n : ℕ) (choices : Choices) → AreChoices P.channels P.vars choices
+      → ChoicesReadNoTarget (halved_choices n choices) → bodies_size P choices ≡ bodies_size Q (halved_choices n choices) + blocks (hidden_in_choices choices)
   bodies_halved P Q same n no_choices typed plain = omega arith
   bodies_halved P Q same n (and_choice g p more) typed plain =
       let e = halved_size P Q same n p typed.1 plain.0 in
@@ -145,7 +151,8 @@ mutual
       let m = length-append (sites_in P hidden_block p (from + 3)) (sites_in_turn P hidden_block (and_member q more) (from + 3 + size_of P p)) in
       omega arith
 
-  branches_counted : (P : TypedProgram) (members : Processes) (from : ℕ) → length (sites_in_branches P hidden_block members from) ≡ length (hidden_in_each members)
+  branches_counted : (P : TypedProgram) (members : Processes) (from : ℕ) → length (sites_in_branches P hidden_block members from) ≡ length
+      (hidden_in_each members)
   branches_counted P no_members from = refl
   branches_counted P (and_member p more) from =
       let e = blocks_counted P p (from + 3) in
@@ -165,26 +172,30 @@ mutual
 
 -- the rules of an expression speak of the bits that it reads
 mutual
-  rules_same : (vars : List Var) (f g : ℕ → List Pair) → ((x : ℕ) → x < length vars → f x ≡ g x) → (e : Formula) → ReadsFrom vars e → (request from : ℕ) → formula_rules f e request from ≡ formula_rules g e request from
+  rules_same : (vars : List Var) (f g : ℕ → List Pair) → ((x : ℕ) → x < length vars → f x ≡ g x) → (e : Formula) → ReadsFrom vars e → (request from : ℕ)
+      → formula_rules f e request from ≡ formula_rules g e request from
   rules_same vars f g same (constant w v) h request from = refl
   rules_same vars f g same (reading var high low at) h request from = ap (λ xs. read_bits request (bits_between high low xs)) (same var h.0)
   rules_same vars f g same (joined parts) h request from = joined_same vars f g same parts h request from
   rules_same vars f g same (inverted e) h request from = rules_same vars f g same e h request from
   rules_same vars f g same (chained e more) h request from =
       ap (λ rs. rs ++ chained_rules f (width_of e) (formula_result e from) more request (from + formula_size e)) (rules_same vars f g same e h.0 request from)
-      ∙ ap (λ rs. formula_rules g e request from ++ rs) (chained_same vars f g same (width_of e) (formula_result e from) more h.1 request (from + formula_size e))
+      ∙ ap (λ rs. formula_rules g e request from ++ rs) (chained_same vars f g same (width_of e) (formula_result e from) more h.1 request
+      (from + formula_size e))
   rules_same vars f g same (compared op e d) h request from =
       let last = operator_rules op (formula_result e from) (formula_result d (from + formula_size e)) (from + formula_size e + formula_size d) in
       ap (λ rs. rs ++ (formula_rules f d request (from + formula_size e) ++ last)) (rules_same vars f g same e h.0 request from)
       ∙ ap (λ rs. formula_rules g e request from ++ (rs ++ last)) (rules_same vars f g same d h.1 request (from + formula_size e))
 
-  joined_same : (vars : List Var) (f g : ℕ → List Pair) → ((x : ℕ) → x < length vars → f x ≡ g x) → (parts : Formulas) → EachReadsFrom vars parts → (request from : ℕ) → joined_rules f parts request from ≡ joined_rules g parts request from
+  joined_same : (vars : List Var) (f g : ℕ → List Pair) → ((x : ℕ) → x < length vars → f x ≡ g x) → (parts : Formulas) → EachReadsFrom vars parts
+      → (request from : ℕ) → joined_rules f parts request from ≡ joined_rules g parts request from
   joined_same vars f g same no_parts h request from = refl
   joined_same vars f g same (and_part e more) h request from =
       ap (λ rs. rs ++ joined_rules f more request (from + formula_size e)) (rules_same vars f g same e h.0 request from)
       ∙ ap (λ rs. formula_rules g e request from ++ rs) (joined_same vars f g same more h.1 request (from + formula_size e))
 
-  chained_same : (vars : List Var) (f g : ℕ → List Pair) → ((x : ℕ) → x < length vars → f x ≡ g x) → (width : ℕ) (left : List Pair) (more : Operations) → AllReadFrom vars more → (request from : ℕ) → chained_rules f width left more request from ≡ chained_rules g width left more request from
+  chained_same : (vars : List Var) (f g : ℕ → List Pair) → ((x : ℕ) → x < length vars → f x ≡ g x) → (width : ℕ) (left : List Pair) (more : Operations)
+      → AllReadFrom vars more → (request from : ℕ) → chained_rules f width left more request from ≡ chained_rules g width left more request from
   chained_same vars f g same width left no_operations h request from = refl
   chained_same vars f g same width left (and_operation op e more) h request from =
       let first = operator_rules op left (formula_result e from) (from + formula_size e) in
@@ -208,7 +219,8 @@ pub through_is : (P : TypedProgram) (bits : ℕ → List Pair) (written : ℕ �
     → block_bits (var_width P.vars x) from ≡ bits h → all_written (var_width P.vars x) from ≡ written h
     → IsOfWidth P.vars (var_width P.vars x) e
     → through_rules P x e request from
-    ≡ variable_rules (var_width P.vars x) from (formula_result e (from + block_size (var_width P.vars x) + 3 + 1) ∷ []) ++ halves_rules bits written h x at e request (from + block_size (var_width P.vars x))
+    ≡ variable_rules (var_width P.vars x) from (formula_result e (from + block_size
+    (var_width P.vars x) + 3 + 1) ∷ []) ++ halves_rules bits written h x at e request (from + block_size (var_width P.vars x))
 through_is P bits written h x at e request from same joint own_bits own_joint typed =
     let w = var_width P.vars x in
     let element = from + block_size w in
@@ -221,10 +233,14 @@ through_is P bits written h x at e request from same joint own_bits own_joint ty
     ap (λ xs. bits_between (width_of e - 1) 0 xs) (sym own_bits)
     ∙ (ap (λ k. take k (block_bits w from)) (number ∙ sym long) ∙ take-length (block_bits w from)) in
     ap (λ rs. front ++ (q_rules request (element + 3) element ++ rs))
-    (ap (λ k. write_answer element k ∷ (formula_rules (bits_at P) e element (element + 3 + 1) ++ (write_answer (element + 2) (written_at P x) ∷ read_bits (element + 2) (block_bits w from)))) own_joint
-    ∙ (ap (λ rs. write_answer element (written h) ∷ (rs ++ (write_answer (element + 2) (written_at P x) ∷ read_bits (element + 2) (block_bits w from)))) (rules_same P.vars (bits_at P) bits same e typed.reads element (element + 3 + 1))
-    ∙ (ap (λ k. write_answer element (written h) ∷ (formula_rules bits e element (element + 3 + 1) ++ (write_answer (element + 2) k ∷ read_bits (element + 2) (block_bits w from)))) joint
-    ∙ ap (λ xs. write_answer element (written h) ∷ (formula_rules bits e element (element + 3 + 1) ++ (write_answer (element + 2) (written x) ∷ read_bits (element + 2) xs))) (sym back))))
+    (ap (λ k. write_answer element k ∷ (formula_rules (bits_at P) e element (element + 3 + 1) ++
+    (write_answer (element + 2) (written_at P x) ∷ read_bits (element + 2) (block_bits w from)))) own_joint
+    ∙ (ap (λ rs. write_answer element (written h) ∷ (rs ++ (write_answer (element + 2) (written_at P x) ∷ read_bits (element + 2) (block_bits w from))))
+    (rules_same P.vars (bits_at P) bits same e typed.reads element (element + 3 + 1))
+    ∙ (ap (λ k. write_answer element (written h) ∷ (formula_rules bits e element (element + 3 + 1) ++
+    (write_answer (element + 2) k ∷ read_bits (element + 2) (block_bits w from)))) joint
+    ∙ ap (λ xs. write_answer element (written h) ∷ (formula_rules bits e element (element + 3 + 1) ++
+    (write_answer (element + 2) (written x) ∷ read_bits (element + 2) xs))) (sym back))))
 
 -- the numbers from one on have these blocks
 abbrev pub BlocksFrom : (block : ℕ → ℕ) → ℕ → List ℕ → Type 0
@@ -236,7 +252,8 @@ blocks_left block n [] ys h = tt
 blocks_left block n (x ∷ xs) ys h = (h.0, blocks_left block (suc n) xs ys h.1)
 
 -- what follows the hidden variables of a part has its numbers behind these
-pub blocks_right : (block : ℕ → ℕ) (n : ℕ) (xs ys : List ℕ) (vs : List Var) → length xs ≡ length vs → BlocksFrom block n (xs ++ ys) → BlocksFrom block (n + length vs) ys
+pub blocks_right : (block : ℕ → ℕ) (n : ℕ) (xs ys : List ℕ) (vs : List Var) → length xs ≡ length vs → BlocksFrom block n (xs ++ ys)
+    → BlocksFrom block (n + length vs) ys
 blocks_right block n [] ys vs same h = let e : n ≡ n + length vs = omega (arith, same) in subst (λ k. BlocksFrom block k ys) e h
 blocks_right block n (x ∷ xs) ys [] same h = absurd (omega (arith, same))
 blocks_right block n (x ∷ xs) ys (v ∷ vs) same h =

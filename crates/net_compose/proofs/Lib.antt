@@ -1,4 +1,5 @@
 pub mod Examples
+pub mod BranchExamples
 pub mod NameLemmas
 pub mod Nothing
 pub mod FlatTrees
@@ -15,6 +16,11 @@ pub mod BitNet
 pub mod BitAccepted
 pub mod Forms
 pub mod Sizes
+pub mod GuardCosts
+pub mod NetLiterals
+pub mod NetNames
+pub mod NetFilled
+pub mod NetHolds
 pub mod HalvedNumbers
 pub mod HalvedCarried
 pub mod ResetCarried

@@ -33,12 +33,14 @@ settled_low st c is =
     let e = with_default st.values false done_node in
     record { whole = is.whole; still = is.still; answer = (λ h. is.answer.0 (sym e ∙ h), λ over. e ∙ is.answer.1 over) }
 
-module _ (net : NetValue) (p : TypedProgram) (carries : Carries net p) (script : List OfferValue) (fits : IsScript p.channels script) (values : List Bool) (moves : List ℕ) where
+module _ (net : NetValue) (p : TypedProgram) (carries : Carries net p) (script : List OfferValue) (fits : IsScript p.channels script) (values : List Bool)
+    (moves : List ℕ) where
   carrying : IsBefore net script (begin_at (reset_of net) values) moves ⊎ IsBehind net script (begin_at (reset_of net) values) moves
       → IsCarrying (reset_of net) p script values (moves_since_reset (reset_of net).reset moves) moves
   carrying (inl b) = record {
     safe = b.safe;
-    prefix = nothing_follows (after (reset_of net) (begin_at (reset_of net) values) moves) (rounds p script (moves_since_reset (reset_of net).reset moves)) (length net.channels) b.nothing;
+    prefix = nothing_follows (after (reset_of net) (begin_at (reset_of net) values) moves) (rounds p script (moves_since_reset (reset_of net).reset moves))
+        (length net.channels) b.nothing;
     rest = λ rests. absurd (b.goes rests);
   }
   carrying (inr b) =

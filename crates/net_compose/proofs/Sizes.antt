@@ -41,7 +41,7 @@ either : (b : Bool) (xs ys : List NodeRules) (m n : ℕ) → length xs ≡ m →
 either true xs ys m n h k = h
 either false xs ys m n h k = k
 
-pairs_length : (bits from : ℕ) → length (pairs_from bits from) ≡ bits
+pub pairs_length : (bits from : ℕ) → length (pairs_from bits from) ≡ bits
 pairs_length zero from = refl
 pairs_length (suc n) from = ap suc (pairs_length n (from + 2))
 
@@ -108,7 +108,7 @@ latches_length request hs = length-map _ _ ∙ ones_length [] hs
 starts_length : (ls : List ℕ) (hs : List Pair) → length (starts ls hs) ≡ length ls
 starts_length ls hs = length-map _ _
 
-pairs_of_guards : Counted → (p : TypedProgram) (choices : Choices) (from : ℕ) → AreChoices p.channels p.vars choices → length (guard_pairs choices from) ≡ choice_count choices
+pub pairs_of_guards : Counted → (p : TypedProgram) (choices : Choices) (from : ℕ) → AreChoices p.channels p.vars choices → length (guard_pairs choices from) ≡ choice_count choices
 pairs_of_guards k p no_choices from h = refl
 pairs_of_guards k p (and_choice g s more) from h =
     let one = k.bits g from h.0.formed ∙ h.0.agrees in
@@ -133,7 +133,7 @@ guards_length k p (and_choice g s more) request from h =
 
 -- statements
 
-ends_length : (p : TypedProgram) (members : Processes) (from : ℕ) → length (branch_ends p members from) ≡ member_count members
+pub ends_length : (p : TypedProgram) (members : Processes) (from : ℕ) → length (branch_ends p members from) ≡ member_count members
 ends_length p no_members from = refl
 ends_length p (and_member s more) from = ap suc (ends_length p more (from + 3 + size_of p s))
 
@@ -198,11 +198,11 @@ mutual
 
 -- all rules
 
-rails_length : (sites : List (List Pair)) (place width : ℕ) → length (rail_rules sites place width) ≡ 2 * width
+pub rails_length : (sites : List (List Pair)) (place width : ℕ) → length (rail_rules sites place width) ≡ 2 * width
 rails_length sites place zero = refl
 rails_length sites place (suc n) = let e = rails_length sites (suc place) n in omega (arith, e)
 
-wires_length : (p : TypedProgram) (k width : ℕ) (kind : Kind) → length (channel_rules p k width kind) ≡ wires_size width
+pub wires_length : (p : TypedProgram) (k width : ℕ) (kind : Kind) → length (channel_rules p k width kind) ≡ wires_size width
 wires_length p k width In = both (replicate (2 * width) _) (_ ∷ []) _ 1 (length-replicate (2 * width) _) refl
 wires_length p k width Out = both (rail_rules (in_body p (send_site k)) 0 width) (_ ∷ []) _ 1 (rails_length _ 0 width) refl
 wires_length p k width Chan = both (rail_rules (in_body p (send_site k)) 0 width) (_ ∷ []) _ 1 (rails_length _ 0 width) refl
@@ -215,10 +215,10 @@ vars_length : Counted → (p : TypedProgram) (x : ℕ) (vs : List Var) → lengt
 vars_length k p x [] = refl
 vars_length k p x (v ∷ vs) = both (variable_rules v.width _ (in_body p (write_site p x))) (vars_rules p (suc x) vs) _ _ (variable_length k v.width _ _) (vars_length k p (suc x) vs)
 
-abbrev root_and_body : TypedProgram → List NodeRules
+abbrev pub root_and_body : TypedProgram → List NodeRules
 root_and_body p = q_child go_node (root_latch p) ∷ q_latch go_node (body_answer p) ∷ rules_of p p.body (root_request p) (body_from p)
 
-all_length : Counted → (p : TypedProgram) → IsProcess p.channels p.vars p.body → length (all_rules p) ≡ nodes_of p
+pub all_length : Counted → (p : TypedProgram) → IsProcess p.channels p.vars p.body → length (all_rules p) ≡ nodes_of p
 all_length k p h =
     let body = statement_length k p p.body (root_request p) (body_from p) h in
     let vars = both (vars_rules p 0 p.vars) (root_and_body p) _ _ (vars_length k p 0 p.vars) (ap (λ n. suc (suc n)) body) in

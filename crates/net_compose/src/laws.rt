@@ -1,12 +1,12 @@
 //! Laws of nets and the programs that they carry.
 
-ghost use Rattle.std.specs.Prelude.{◌↔◌};
-ghost use Rattle.prs_core.specs.Nets.{NetValue};
+ghost use Rattle.std.specs.Prelude.{◌↔◌, ◌≤◌};
+ghost use Rattle.prs_core.specs.Nets.{NetValue, IsRules, IsNet};
 ghost use Rattle.width_check.specs.Processes.{TypedProgram};
 ghost use Rattle.width_check.specs.Typing.{IsTyped};
 ghost use Rattle.circuit_places.specs.Covered.{Covered};
 ghost use Rattle.handshake_expand.specs.Layout.{nodes_of};
-ghost use Rattle.net_compose.specs.Translation.{translation};
+ghost use Rattle.net_compose.specs.Translation.{composed, translation};
 ghost use Rattle.net_compose.specs.Carries.{Carries, ResetCarries};
 ghost use Rattle.net_compose.specs.Points.{HasPoints};
 ghost use Rattle.net_compose.specs.Sized.{IsOfSize};
@@ -15,10 +15,10 @@ use chp_meaning::{one_history, rounds_hold, runs_append, steps_taken};
 use circuit_places::circuits_carry;
 use reset_runs::reset_runs;
 
-/// Law: the net of a covered program carries it. Covered are skip, sends of any expression over variables, assignments of
-/// any expression that doesn't read their own target, sequences, parallel compositions and loops that go on for ever, on
-/// channels on which the environment receives, under the sharing rule; any number of sites on a channel or a variable,
-/// of any width, and whatever else is declared. In every
+/// Law: the net of a covered program carries it. Covered are skip, sends of any expression over variables, receives,
+/// assignments of any expression that doesn't read their own target, sequences, parallel compositions and loops that go
+/// on for ever, on `in` and `out` channels, under the sharing rule; any number of sites on a channel or a variable, of any
+/// width, and whatever channels and variables are declared besides and not used. In every
 /// run of the net, under every script and in whatever order the nodes switch, no enabled move is taken away, no node is
 /// pulled both ways and no channel leaves its phases; what has passed on a channel after some moves is a front of what
 /// has passed there after as many rounds of the program; and at rest it is all of it, the program goes no further, and
@@ -56,4 +56,16 @@ pub fn carries_reset()
     ensures { (net : NetValue) (p : TypedProgram) → ResetCarries net p }
 {
     reset_runs();
+}
+
+/// Law: the net of a typed program of at most 65,536 nodes, whose guards speak of its own nodes alone, is a net that a rule
+/// file can hold: each name is the name of a node and no two are alike, the wires of its channels stand where their names
+/// say and are low at first, those of the environment have no rules, no term is empty, and there are at most 64 literals for
+/// each node.
+pub fn nets_hold()
+    ensures { (p : TypedProgram) → IsTyped p.channels p.vars p.body → nodes_of p ≤ 65536 → IsRules (composed p) → IsNet (translation p) }
+{
+    function_blocks::laws::bits_counted();
+    function_blocks::laws::rules_counted();
+    cell_parallel::tree_counted();
 }

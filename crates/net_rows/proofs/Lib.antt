@@ -1,2 +1,3 @@
-mod NetTests
 pub mod ScriptChannels
+pub mod Tested
+pub mod WorkedSelection

@@ -9,6 +9,8 @@ use Rattle.chp_base.specs.declared.channel.Channel.{Channel}
 use Rattle.prs_core.specs.declared.wires.Wires.{Wires}
 use Rattle.prs_core.specs.Nets.{NetValue, IsNet}
 use Rattle.env_script.specs.Environment.{channels_of}
+use Rattle.env_script.specs.Scripts.{OfferValue, IsScript}
+use Rattle.env_script.proofs.Wires.{one_each}
 
 pairs_mapped : {X Y : Type 0} (f : X → Y) (R : Y → Y → Type 0) (xs : List X) → AllPairs (λ a b. R (f a) (f b)) xs → AllPairs R (map f xs)
 pairs_mapped f R [] each = λ i j d before within. absurd (omega arith)
@@ -28,3 +30,7 @@ script_wide n net = All-map (λ (c : Channel). (1 ≤ c.width) × (c.width ≤ 6
 -- one answer for each node
 pub counted : (test : ℕ → Bool) (n : ℕ) → length (map test (range_with_len 0 n)) ≡ n
 counted test n = length-map-range_with_len test 0 n
+
+-- one offer for each channel
+pub offered : (net : NetValue) (script : List OfferValue) → IsScript (channels_of net) script → length script ≡ length net.channels
+offered net script is = one_each net script is

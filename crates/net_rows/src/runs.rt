@@ -4,14 +4,18 @@ ghost use Rattle.std.specs.Prelude.{◌≡◌, ◌<◌, ◌≤◌, length, IfOk,
 ghost use Rattle.env_script.specs.Environment.{channels_of};
 ghost use Rattle.env_script.specs.Scripts.{IsScript};
 
-use crate::texts::{SEND, SKIP};
+use crate::bench::Bench;
+use crate::nets::net_of;
+use case_text::put_numbers;
 use chp_base::Channel;
-use env_script::{Hazard, Script, read_script};
+use env_script::{Hazard, Script, ScriptError, read_script};
 use plain_runs::Run;
-use prs_core::{Net, enabled, first_state};
-use prs_file::read_net;
+use prs_core::Net;
 use std::alloc::{AllocError, Global};
-use std::test::Fail;
+use std::fmt::Write;
+
+/// The most bytes of a script.
+pub const MOST_OF_SCRIPT: usize = 2_097_152;
 
 /// The channels of the net.
 fn channels_of(alloc: Global, net: &Net) -> Result<Vec<Channel>, AllocError>
@@ -28,20 +32,14 @@ fn channels_of(alloc: Global, net: &Net) -> Result<Vec<Channel>, AllocError>
     Ok(channels)
 }
 
-/// The net of a rule file, and a script of its channels.
-fn read(alloc: Global, rules: &[u8], script: &[u8]) -> Result<(Net, Script), Fail>
-    requires rules { length rules.now ≤ 268435456 }
-    requires script { length script.now ≤ 2097152 }
-    ensures { IfOk result (λ both. IsScript (channels_of both.0) both.1) }
+/// The script that the text is, for the channels of the net.
+pub fn script_of(alloc: Global, net: &Net, text: &[u8]) -> Result<Script, ScriptError>
+    requires { length text.now ≤ 2097152 }
+    ensures { IfOk result (λ script. IsScript (channels_of net.now) script) }
 {
-    let Ok(net) = read_net(alloc, rules) else {
-        return Err("no net".into());
-    };
-    let channels = channels_of(alloc, &net)?;
-    match read_script(alloc, script, &channels) {
-        Ok(script) => Ok((net, script)),
-        Err(_) => Err("no script".into()),
-    }
+    let _net = net.first();
+    let channels = channels_of(alloc, net)?;
+    read_script(alloc, text, &channels)
 }
 
 fn first_true(tests: &[bool]) -> Option<usize>
@@ -70,8 +68,9 @@ fn least(alloc: Global, run: &Run) -> Result<Option<u32>, AllocError>
     }
 }
 
-/// How a run went: the nodes that moved, the hazard at which it ended, whether `done` is high, and what has passed on each channel.
-#[derive(Debug, Drop)]
+/// How a run went: the nodes that moved, the hazard at which it ended, whether `done` is high, and what has passed on each
+/// channel.
+#[derive(Drop)]
 struct Outcome {
     moves: Vec<u32>,
     hazard: Option<Hazard>,
@@ -96,14 +95,19 @@ fn moves(alloc: Global, run: &mut Run, most: u32) -> Result<(Vec<u32>, Option<Ha
     Ok((moves, None))
 }
 
-/// The run of so many moves at most of the net of a rule file under a script.
-fn ran(alloc: Global, rules: &[u8], script: &[u8], most: u32) -> Result<Outcome, Fail>
-    requires rules { length rules.now ≤ 268435456 }
-    requires script { length script.now ≤ 2097152 }
-{
-    let (net, script) = read(alloc, rules, script)?;
+/// The run of so many moves at most of the net under the script, or None where a text is refused.
+fn ran(alloc: Global, bench: &Bench, most: u32) -> Result<Option<Outcome>, AllocError> {
+    let Some(net) = net_of(alloc, bench) else {
+        return Ok(None);
+    };
+    if bench.script.len() > MOST_OF_SCRIPT {
+        return Ok(None);
+    }
+    let Ok(script) = script_of(alloc, &net, &bench.script) else {
+        return Ok(None);
+    };
     let Ok(channels) = u32::try_from(net.channels().len()) else {
-        return Err("too many channels".into());
+        return Ok(None);
     };
     let mut run = Run::new(alloc, net, script)?;
     let (moves, hazard) = moves(alloc, &mut run, most)?;
@@ -111,91 +115,37 @@ fn ran(alloc: Global, rules: &[u8], script: &[u8], most: u32) -> Result<Outcome,
     for chan in 0..channels {
         passed.push(Vec::from_slice(alloc, run.history(chan))?)?;
     }
-    Ok(Outcome {
+    Ok(Some(Outcome {
         moves,
         hazard,
         done: run.is_high(1),
         passed,
-    })
+    }))
 }
 
-#[test]
-fn skips(rt: HostRuntime) -> Result<(), Fail> {
-    let ran = ran(rt.alloc(), SKIP, b"", 100)?;
-    assert_eq!(rt; ran.moves.as_slice(), [0, 2, 4, 3, 2, 4, 1].as_slice());
-    assert_eq!(rt; ran.hazard, None);
-    assert_eq!(rt; ran.done, true);
-    assert_eq!(rt; ran.passed.len(), 0);
-    Ok(())
-}
-
-#[test]
-fn sends(rt: HostRuntime) -> Result<(), Fail> {
-    for (script, most, moves, done, values) in [
-        (
-            b"".as_slice(),
-            100,
-            [0, 5, 8, 2, 4, 7, 6, 5, 8, 2, 4, 7, 1].as_slice(),
-            true,
-            [1].as_slice(),
-        ),
-        (b"", 5, &[0, 5, 8, 2, 4], false, &[1]),
-        (b"X: 0", 100, &[0, 5, 8, 2], false, &[]),
-    ] {
-        let ran = ran(rt.alloc(), SEND, script, most)?;
-        assert_eq!(rt; ran.moves.as_slice(), moves);
-        assert_eq!(rt; ran.hazard, None);
-        assert_eq!(rt; ran.done, done);
-        assert_eq!(rt; ran.passed.len(), 1);
-        for passed in &ran.passed {
-            assert_eq!(rt; passed.as_slice(), values);
-        }
-    }
-    Ok(())
-}
-
-#[test]
-fn hazards(rt: HostRuntime) -> Result<(), Fail> {
-    for (rules, script, moves, hazard) in [
-        (
-            b"prs 1\nnode go 0\nnode done 0\nnode a 0\nnode b 0\nrule go -> a+\nrule go & ~a -> b+\n".as_slice(),
-            b"".as_slice(),
-            [0, 2].as_slice(),
-            Hazard::Unstable { node: 3 },
-        ),
-        (
-            b"prs 1\nnode go 0\nnode done 0\nnode c 0\nrule go -> c+\nrule go -> c-\n",
-            b"",
-            &[0],
-            Hazard::BothWays { node: 2 },
-        ),
-        (
-            b"prs 1\nnode go 0\nnode done 0\nnode X.0.t 0\nnode X.0.f 0\nnode X.a 0\nout X 1\nrule go -> X.0.t+\nrule go -> X.0.f+\n",
-            b"X: 0",
-            &[0, 2, 3],
-            Hazard::Protocol { chan: 0 },
-        ),
-    ] {
-        let ran = ran(rt.alloc(), rules, script, 100)?;
-        assert_eq!(rt; ran.moves.as_slice(), moves);
-        assert_eq!(rt; ran.hazard, Some(hazard));
-        assert_eq!(rt; ran.done, false);
-        for history in &ran.passed {
-            assert_eq!(rt; history.len(), 0);
-        }
-    }
-    Ok(())
-}
-
-#[test]
-fn starts_low(rt: HostRuntime) -> Result<(), Fail> {
-    let Ok(net) = read_net(rt.alloc(), SKIP) else {
-        return Err("no net".into());
+/// Which nodes moved, the hazard at which the run ended, if it did, whether `done` is high, and what has passed on each
+/// channel.
+pub fn moved(alloc: Global, bench: &Bench, most: u32, page: &mut String) -> Result<(), AllocError> {
+    let Some(outcome) = ran(alloc, bench, most)? else {
+        return page.push_str("no run\n");
     };
-    let state = first_state(rt.alloc(), &net)?;
-    for node in 0..net.first().len() as u32 {
-        assert_eq!(rt; state.is_high(node), false);
-        assert_eq!(rt; enabled(&net, &state, node), false);
+    page.push_str("moved")?;
+    for node in &outcome.moves {
+        write!(page, " {}", *node)?;
+    }
+    match &outcome.hazard {
+        Some(hazard) => writeln!(page, "; {hazard:?}")?,
+        None => page.push('\n')?,
+    }
+    page.push_str(if outcome.done {
+        "done high\n"
+    } else {
+        "done low\n"
+    })?;
+    for (chan, values) in outcome.passed.iter().enumerate() {
+        write!(page, "channel {chan}:")?;
+        put_numbers(page, values)?;
+        page.push('\n')?;
     }
     Ok(())
 }

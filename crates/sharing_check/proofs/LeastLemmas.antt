@@ -8,11 +8,13 @@ IsTransitive {A} R = (a b c : A) → R a b → R b c → R a c
 pub least_none : {A : Type 0} (R : A → A → Type 0) (P : A → Type 0) → ((a : A) → ¬ P a) → IsLeast R P None
 least_none R P none = record { there = λ a is. absurd (cc is); least = λ b p. absurd (none b p) }
 
-pub least_same : {A : Type 0} {R : A → A → Type 0} {P Q : A → Type 0} {o : Option A} → IsLeast R P o → ((a : A) → P a → Q a) → ((a : A) → Q a → P a) → IsLeast R Q o
+pub least_same : {A : Type 0} {R : A → A → Type 0} {P Q : A → Type 0} {o : Option A} → IsLeast R P o → ((a : A) → P a → Q a) → ((a : A) → Q a → P a)
+    → IsLeast R Q o
 least_same l into from = record { there = λ a is. into a (l.there a is); least = λ b q. l.least b (from b q) }
 
 -- of more values, none of which is less than all the former
-pub least_refine : {A : Type 0} {R : A → A → Type 0} {P Q : A → Type 0} {o : Option A} → IsTransitive R → IsLeast R P o → ((a : A) → P a → Q a) → ((b : A) → Q b → (a : A) × P a × R a b)
+pub least_refine : {A : Type 0} {R : A → A → Type 0} {P Q : A → Type 0} {o : Option A} → IsTransitive R → IsLeast R P o → ((a : A) → P a → Q a)
+    → ((b : A) → Q b → (a : A) × P a × R a b)
     → IsLeast R Q o
 least_refine trans l into below = record {
   there = λ a is. into a (l.there a is);
@@ -23,7 +25,8 @@ least_refine trans l into below = record {
 }
 
 -- of one kind's least value and those of another kind
-pub least_more : {A : Type 0} {R : A → A → Type 0} {P Q : A → Type 0} {o r : Option A} → IsTransitive R → IsLeast R P o → IsLeast R (λ a. (o ≡ Some a) ⊎ Q a) r → IsLeast R (λ a. P a ⊎ Q a) r
+pub least_more : {A : Type 0} {R : A → A → Type 0} {P Q : A → Type 0} {o r : Option A} → IsTransitive R → IsLeast R P o
+    → IsLeast R (λ a. (o ≡ Some a) ⊎ Q a) r → IsLeast R (λ a. P a ⊎ Q a) r
 least_more {A} {R} {P} {Q} {o} {r} trans l k = record { there = λ a is. into a (k.there a is); least = below }
   where
     into : (a : A) → (o ≡ Some a) ⊎ Q a → P a ⊎ Q a
@@ -38,7 +41,8 @@ least_more {A} {R} {P} {Q} {o} {r} trans l k = record { there = λ a is. into a 
     below b (inr q) = k.least b (inr q)
 
 -- of two kinds' least values
-pub least_both : {A : Type 0} {R : A → A → Type 0} {P Q : A → Type 0} {o q r : Option A} → IsTransitive R → IsLeast R P o → IsLeast R Q q → IsLeast R (IsEither o q) r → IsLeast R (λ a. P a ⊎ Q a) r
+pub least_both : {A : Type 0} {R : A → A → Type 0} {P Q : A → Type 0} {o q r : Option A} → IsTransitive R → IsLeast R P o → IsLeast R Q q
+    → IsLeast R (IsEither o q) r → IsLeast R (λ a. P a ⊎ Q a) r
 least_both {A} {R} {P} {Q} {o} {q} {r} trans l k m = record { there = λ a is. into a (m.there a is); least = below }
   where
     into : (a : A) → IsEither o q a → P a ⊎ Q a

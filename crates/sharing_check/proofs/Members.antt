@@ -43,25 +43,29 @@ link_last (k ∷ ls) l = ap (λ (os : List Occurrence). reads_of (formula_of k.r
 
 -- ---- what an expression reads
 
-pub part_more : (cause : FaultCode) (es : List TExpr) (i : ℕ) (e : TExpr) (a b d : Deeds) → i < length es → e ≡ get_or es i e → Adds cause (reads_of_parts (parts_of (take i es))) a b → Adds cause (reads_of (formula_of e)) b d
+pub part_more : (cause : FaultCode) (es : List TExpr) (i : ℕ) (e : TExpr) (a b d : Deeds) → i < length es → e ≡ get_or es i e
+    → Adds cause (reads_of_parts (parts_of (take i es))) a b → Adds cause (reads_of (formula_of e)) b d
     → Adds cause (reads_of_parts (parts_of (take (i + 1) es))) a d
 part_more cause es i e a b d within is l k =
     let same = ap (λ (xs : List TExpr). reads_of_parts (parts_of xs)) (one_more es i e within is) ∙ part_last (take i es) e in
     subst (λ (os : List Occurrence). Adds cause os a d) (sym same) (adds_more cause _ _ a b d l k)
 
-pub link_more : (cause : FaultCode) (ls : List TLink) (i : ℕ) (l : TLink) (a b d : Deeds) → i < length ls → l ≡ get_or ls i l → Adds cause (reads_of_operations (links_of (take i ls))) a b
+pub link_more : (cause : FaultCode) (ls : List TLink) (i : ℕ) (l : TLink) (a b d : Deeds) → i < length ls → l ≡ get_or ls i l
+    → Adds cause (reads_of_operations (links_of (take i ls))) a b
     → Adds cause (reads_of (formula_of l.right)) b d → Adds cause (reads_of_operations (links_of (take (i + 1) ls))) a d
 link_more cause ls i l a b d within is m k =
     let same = ap (λ (xs : List TLink). reads_of_operations (links_of xs)) (one_more ls i l within is) ∙ link_last (take i ls) l in
     subst (λ (os : List Occurrence). Adds cause os a d) (sym same) (adds_more cause _ _ a b d m k)
 
-pub join_read : (cause : FaultCode) (e : TExpr) (v : Vec TExpr Global) (es : List TExpr) (n : ℕ) (a b : Deeds) → e ≡ Join v → es ≡ v.items → length es ≤ n → Adds cause (reads_of_parts (parts_of (take n es))) a b
+pub join_read : (cause : FaultCode) (e : TExpr) (v : Vec TExpr Global) (es : List TExpr) (n : ℕ) (a b : Deeds) → e ≡ Join v → es ≡ v.items
+    → length es ≤ n → Adds cause (reads_of_parts (parts_of (take n es))) a b
     → Adds cause (reads_of (formula_of e)) a b
 join_read cause e v es n a b is items all adds =
     let same = ap reads_of (joined_parts e v is) ∙ ap (λ (xs : List TExpr). reads_of_parts (parts_of xs)) (sym items ∙ sym (take_all n es all)) in
     subst (λ (os : List Occurrence). Adds cause os a b) (sym same) adds
 
-pub chain_read : (cause : FaultCode) (e : TExpr) (first : Box TExpr Global) (v : Vec TLink Global) (ls : List TLink) (n : ℕ) (a b d : Deeds) → e ≡ Chain first v → ls ≡ v.items → length ls ≤ n
+pub chain_read : (cause : FaultCode) (e : TExpr) (first : Box TExpr Global) (v : Vec TLink Global) (ls : List TLink) (n : ℕ) (a b d : Deeds)
+    → e ≡ Chain first v → ls ≡ v.items → length ls ≤ n
     → Adds cause (reads_of (formula_of first.value)) a b → Adds cause (reads_of_operations (links_of (take n ls))) b d → Adds cause (reads_of (formula_of e)) a d
 chain_read cause e first v ls n a b d is items all l k =
     let same = ap reads_of (chained_links e first v is)
@@ -70,25 +74,29 @@ chain_read cause e first v ls n a b d is items all l k =
 
 -- ---- what the members of a statement do
 
-pub turn_next : (cause : FaultCode) (ss : List TStmt) (i : ℕ) (s : TStmt) (a b d : Deeds) → i < length ss → s ≡ get_or ss i s → Tells cause (in_turn (members_of (take i ss))) a → Tells cause (process_of s) b
+pub turn_next : (cause : FaultCode) (ss : List TStmt) (i : ℕ) (s : TStmt) (a b d : Deeds) → i < length ss → s ≡ get_or ss i s
+    → Tells cause (in_turn (members_of (take i ss))) a → Tells cause (process_of s) b
     → Merges a b None d → Tells cause (in_turn (members_of (take (i + 1) ss))) d
 turn_next cause ss i s a b d within is tells own merges =
     let same = ap (λ (xs : List TStmt). in_turn (members_of xs)) (one_more ss i s within is) ∙ ap in_turn (member_last (take i ss) s) in
     subst (λ (p : Process). Tells cause p d) (sym same) (turn_more cause _ _ a b d tells own merges)
 
-pub branch_next : (cause : FaultCode) (ss : List TStmt) (i : ℕ) (s : TStmt) (a b d : Deeds) (across : Option Clash) → i < length ss → s ≡ get_or ss i s → Tells cause (side_by_side (members_of (take i ss))) a
+pub branch_next : (cause : FaultCode) (ss : List TStmt) (i : ℕ) (s : TStmt) (a b d : Deeds) (across : Option Clash) → i < length ss
+    → s ≡ get_or ss i s → Tells cause (side_by_side (members_of (take i ss))) a
     → Tells cause (process_of s) b → IsLeast IsNoLaterPair (Crosses a b) across → Merges a b across d → Tells cause (side_by_side (members_of (take (i + 1) ss))) d
 branch_next cause ss i s a b d across within is tells own least merges =
     let same = ap (λ (xs : List TStmt). side_by_side (members_of xs)) (one_more ss i s within is) ∙ ap side_by_side (member_last (take i ss) s) in
     subst (λ (p : Process). Tells cause p d) (sym same) (branch_more cause _ _ a b d across tells own least merges)
 
-pub choice_next : (cause : FaultCode) (arms : List TArm) (i : ℕ) (arm : TArm) (a b d e : Deeds) → i < length arms → arm ≡ get_or arms i arm → Tells cause (choosing true (arms_of (take i arms))) a
+pub choice_next : (cause : FaultCode) (arms : List TArm) (i : ℕ) (arm : TArm) (a b d e : Deeds) → i < length arms → arm ≡ get_or arms i arm
+    → Tells cause (choosing true (arms_of (take i arms))) a
     → Tells cause (process_of arm.body) b → Adds cause (reads_of (formula_of arm.guard)) b d → Merges a d None e → Tells cause (choosing true (arms_of (take (i + 1) arms))) e
 choice_next cause arms i arm a b d e within is tells own adds merges =
     let same = ap (λ (xs : List TArm). choosing true (arms_of xs)) (one_more arms i arm within is) ∙ ap (choosing true) (arm_last (take i arms) arm) in
     subst (λ (p : Process). Tells cause p e) (sym same) (choice_told cause true _ _ _ a b d e tells own adds merges)
 
-pub then_told : (cause : FaultCode) (s : TStmt) (v : Vec TStmt Global) (ss : List TStmt) (n : ℕ) (d : Deeds) → s ≡ Then v → ss ≡ v.items → length ss ≤ n → Tells cause (in_turn (members_of (take n ss))) d
+pub then_told : (cause : FaultCode) (s : TStmt) (v : Vec TStmt Global) (ss : List TStmt) (n : ℕ) (d : Deeds) → s ≡ Then v → ss ≡ v.items
+    → length ss ≤ n → Tells cause (in_turn (members_of (take n ss))) d
     → Tells cause (process_of s) d
 then_told cause s v ss n d is items all tells =
     let same = then_is s v is ∙ ap (λ (xs : List TStmt). in_turn (members_of xs)) (sym items ∙ sym (take_all n ss all)) in
@@ -100,7 +108,8 @@ beside_told cause s v ss n d is items all tells =
     let same = beside_is s v is ∙ ap (λ (xs : List TStmt). side_by_side (members_of xs)) (sym items ∙ sym (take_all n ss all)) in
     subst (λ (p : Process). Tells cause p d) (sym same) tells
 
-pub select_told : (cause : FaultCode) (s : TStmt) (again : Bool) (v : Vec TArm Global) (arms : List TArm) (n : ℕ) (d : Deeds) → s ≡ Select again v → arms ≡ v.items → length arms ≤ n
+pub select_told : (cause : FaultCode) (s : TStmt) (again : Bool) (v : Vec TArm Global) (arms : List TArm) (n : ℕ) (d : Deeds) → s ≡ Select again v
+    → arms ≡ v.items → length arms ≤ n
     → Tells cause (choosing true (arms_of (take n arms))) d → Tells cause (process_of s) d
 select_told cause s again v arms n d is items all tells =
     let same = select_is s again v is ∙ ap (λ (xs : List TArm). choosing again (arms_of xs)) (sym items ∙ sym (take_all n arms all)) in

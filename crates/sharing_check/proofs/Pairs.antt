@@ -58,7 +58,8 @@ pub member_occurrences : (members : Processes) (p : Process) → occurrences_of_
 member_occurrences no_members p = append-nil (occurrences p)
 member_occurrences (and_member q more) p = ap (λ (os : List Occurrence). occurrences q ++ os) (member_occurrences more p) ∙ sym (append_assoc (occurrences q) (occurrences_of_each more) (occurrences p))
 
-pub choice_occurrences : (choices : Choices) (g : Formula) (p : Process) → occurrences_of_choices (with_choice choices g p) ≡ occurrences_of_choices choices ++ (reads_of g ++ occurrences p)
+pub choice_occurrences : (choices : Choices) (g : Formula) (p : Process)
+    → occurrences_of_choices (with_choice choices g p) ≡ occurrences_of_choices choices ++ (reads_of g ++ occurrences p)
 choice_occurrences no_choices g p = ap (λ (os : List Occurrence). reads_of g ++ os) (append-nil (occurrences p))
 choice_occurrences (and_choice h q more) g p =
     ap (λ (os : List Occurrence). reads_of h ++ (occurrences q ++ os)) (choice_occurrences more g p)
@@ -66,7 +67,8 @@ choice_occurrences (and_choice h q more) g p =
     ∙ sym (append_assoc (reads_of h) (occurrences q ++ occurrences_of_choices more) (reads_of g ++ occurrences p))
 
 -- a pair within one more member is within the former ones or in it
-pub inside_more : (members : Processes) (p : Process) (a b : Occurrence) → ParallelInside (with_member members p) a b → ParallelInside members a b ⊎ Parallel p a b
+pub inside_more : (members : Processes) (p : Process) (a b : Occurrence) → ParallelInside (with_member members p) a b
+    → ParallelInside members a b ⊎ Parallel p a b
 inside_more no_members p a b (inl h) = inr h
 inside_more no_members p a b (inr h) = inl h
 inside_more (and_member q more) p a b (inl h) = inl (inl h)
@@ -76,14 +78,16 @@ inside_more (and_member q more) p a b (inr h) = by_rest (inside_more more p a b 
     by_rest (inl k) = inl (inr k)
     by_rest (inr k) = inr k
 
-pub more_inside : (members : Processes) (p : Process) (a b : Occurrence) → ParallelInside members a b ⊎ Parallel p a b → ParallelInside (with_member members p) a b
+pub more_inside : (members : Processes) (p : Process) (a b : Occurrence) → ParallelInside members a b ⊎ Parallel p a b
+    → ParallelInside (with_member members p) a b
 more_inside no_members p a b (inl h) = absurd h
 more_inside no_members p a b (inr h) = inl h
 more_inside (and_member q more) p a b (inl (inl h)) = inl h
 more_inside (and_member q more) p a b (inl (inr h)) = inr (more_inside more p a b (inl h))
 more_inside (and_member q more) p a b (inr h) = inr (more_inside more p a b (inr h))
 
-pub choice_more : (choices : Choices) (g : Formula) (p : Process) (a b : Occurrence) → ParallelInChoices (with_choice choices g p) a b → ParallelInChoices choices a b ⊎ Parallel p a b
+pub choice_more : (choices : Choices) (g : Formula) (p : Process) (a b : Occurrence) → ParallelInChoices (with_choice choices g p) a b
+    → ParallelInChoices choices a b ⊎ Parallel p a b
 choice_more no_choices g p a b (inl h) = inr h
 choice_more no_choices g p a b (inr h) = inl h
 choice_more (and_choice f q more) g p a b (inl h) = inl (inl h)
@@ -93,7 +97,8 @@ choice_more (and_choice f q more) g p a b (inr h) = by_rest (choice_more more g 
     by_rest (inl k) = inl (inr k)
     by_rest (inr k) = inr k
 
-pub more_choice : (choices : Choices) (g : Formula) (p : Process) (a b : Occurrence) → ParallelInChoices choices a b ⊎ Parallel p a b → ParallelInChoices (with_choice choices g p) a b
+pub more_choice : (choices : Choices) (g : Formula) (p : Process) (a b : Occurrence) → ParallelInChoices choices a b ⊎ Parallel p a b
+    → ParallelInChoices (with_choice choices g p) a b
 more_choice no_choices g p a b (inl h) = absurd h
 more_choice no_choices g p a b (inr h) = inl h
 more_choice (and_choice f q more) g p a b (inl (inl h)) = inl h
@@ -169,7 +174,8 @@ members_more (and_member q more) p a b (inr h) = by_rest (members_more more p a 
     by_rest (inl k) = inl (inr k)
     by_rest (inr k) = inr (joined_right (occurrences q) (occurrences_of_each more) (occurrences p) a b k)
 
-pub more_members : (members : Processes) (p : Process) (a b : Occurrence) → ParallelAcross members a b ⊎ IsAcross (occurrences_of_each members) (occurrences p) a b
+pub more_members : (members : Processes) (p : Process) (a b : Occurrence)
+    → ParallelAcross members a b ⊎ IsAcross (occurrences_of_each members) (occurrences p) a b
     → ParallelAcross (with_member members p) a b
 more_members no_members p a b (inl h) = absurd h
 more_members no_members p a b (inr h) = absurd (none_across (occurrences p) a b h)

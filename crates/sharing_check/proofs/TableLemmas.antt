@@ -15,7 +15,8 @@ use Rattle.sharing_check.proofs.Orders.{no_later_refl, no_later_trans, pair_tran
 use Rattle.sharing_check.proofs.LeastLemmas.{least_none, least_same, least_more, least_both}
 
 -- a place at which a table has none that is no later
-pub noted : (old new : Option Span) (x name : ℕ) (at : Span) → new ≡ cond (nat_eq name x) (Some at) old → ((s : Span) → name ≡ x → old ≡ Some s → IsNoLater at s)
+pub noted : (old new : Option Span) (x name : ℕ) (at : Span) → new ≡ cond (nat_eq name x) (Some at) old
+    → ((s : Span) → name ≡ x → old ≡ Some s → IsNoLater at s)
     → IsLeast IsNoLater (λ s. (old ≡ Some s) ⊎ ((x ≡ name) × (s ≡ at))) new
 noted old new x name at is later = by_test (nat_eq name x) refl
   where
@@ -51,7 +52,8 @@ noted_none first x = record { there = λ a e. inl e; least = below }
     below b (inl e) = (b, e, no_later_refl b)
     below b (inr h) = let within = h.1 in absurd (omega arith)
 
-pub noted_more : (first old new : Option Span) (es : List (ℕ × Span)) (x name : ℕ) (at : Span) → IsLeast IsNoLater (IsOneOf first es x) old → IsLeast IsNoLater (λ s. (old ≡ Some s) ⊎ ((x ≡ name) × (s ≡ at))) new
+pub noted_more : (first old new : Option Span) (es : List (ℕ × Span)) (x name : ℕ) (at : Span) → IsLeast IsNoLater (IsOneOf first es x) old
+    → IsLeast IsNoLater (λ s. (old ≡ Some s) ⊎ ((x ≡ name) × (s ≡ at))) new
     → IsLeast IsNoLater (IsOneOf first (es ++ (name, at) ∷ []) x) new
 noted_more first old new es x name at l k = least_same (least_more no_later_trans l k) into from
   where
@@ -75,7 +77,8 @@ entry_found es x s unique h = lookup-from_Contains nat_eq_equiv x s es unique h
 pub found_entry : (es : List (ℕ × Span)) (x : ℕ) (s : Span) → lookup (nat_eq x) es ≡ Some s → Contains es (x, s)
 found_entry es x s e = Contains-from_lookup (λ a b same. (Decides-eqb a b).0 same) x s es e
 
-pub noted_all : (first new : Option Span) (es : List (ℕ × Span)) (x : ℕ) → IsDistinct nat_eq (keys_of es) → IsLeast IsNoLater (IsOneOf first es x) new → IsLeast IsNoLater (IsEither first (lookup (nat_eq x) es)) new
+pub noted_all : (first new : Option Span) (es : List (ℕ × Span)) (x : ℕ) → IsDistinct nat_eq (keys_of es) → IsLeast IsNoLater (IsOneOf first es x) new
+    → IsLeast IsNoLater (IsEither first (lookup (nat_eq x) es)) new
 noted_all first new es x unique l = least_same l into from
   where
     into : (s : Span) → IsOneOf first es x s → IsEither first (lookup (nat_eq x) es) s
@@ -101,7 +104,8 @@ MeetsAt one other c = (s : Span) × (other ≡ Some s) × IsInOrder one s c
 pub met_none : (other : Lookup) → IsLeast IsNoLaterPair (MeetingAmong [] other) None
 met_none other = least_none IsNoLaterPair (MeetingAmong [] other) (λ c m. let within = m.in_one.1 in omega arith)
 
-pub met_more : (first one new : Option Clash) (es : List (ℕ × Span)) (other : Lookup) (name : ℕ) (at : Span) → IsLeast IsNoLaterPair (MeetingAmong es other) first → IsLeast IsNoLaterPair (MeetsAt at (other name)) one
+pub met_more : (first one new : Option Clash) (es : List (ℕ × Span)) (other : Lookup) (name : ℕ) (at : Span)
+    → IsLeast IsNoLaterPair (MeetingAmong es other) first → IsLeast IsNoLaterPair (MeetsAt at (other name)) one
     → IsLeast IsNoLaterPair (IsEither first one) new → IsLeast IsNoLaterPair (MeetingAmong (es ++ (name, at) ∷ []) other) new
 met_more first one new es other name at l k m = least_same (least_both pair_trans l k m) into from
   where
@@ -126,7 +130,8 @@ met_more first one new es other name at l k m = least_same (least_both pair_tran
             let place : at ≡ h.here = ap (λ (y : ℕ × Span). y.1) e in
             inr (h.there, ap other same ∙ h.in_other, subst (λ (s : Span). IsInOrder s h.there c) (sym place) h.pair)
 
-pub met_all : (first : Option Clash) (es : List (ℕ × Span)) (other : Lookup) → IsDistinct nat_eq (keys_of es) → IsLeast IsNoLaterPair (MeetingAmong es other) first
+pub met_all : (first : Option Clash) (es : List (ℕ × Span)) (other : Lookup) → IsDistinct nat_eq (keys_of es)
+    → IsLeast IsNoLaterPair (MeetingAmong es other) first
     → IsLeast IsNoLaterPair (Meeting (λ x. lookup (nat_eq x) es) other) first
 met_all first es other unique l = least_same l (λ c h. record {
   name = h.name;
@@ -157,7 +162,8 @@ pub record MeetingOf (P Q : ℕ → Span → Type 0) (c : Clash) : Type 0 where
   pub in_other : Q name there
   pub pair : IsInOrder here there c
 
-pub meeting_there : (P Q : ℕ → Span → Type 0) (f g : Lookup) → ((x : ℕ) → IsLeast IsNoLater (P x) (f x)) → ((x : ℕ) → IsLeast IsNoLater (Q x) (g x)) → (c : Clash) → Meeting f g c → MeetingOf P Q c
+pub meeting_there : (P Q : ℕ → Span → Type 0) (f g : Lookup) → ((x : ℕ) → IsLeast IsNoLater (P x) (f x)) → ((x : ℕ) → IsLeast IsNoLater (Q x) (g x))
+    → (c : Clash) → Meeting f g c → MeetingOf P Q c
 meeting_there P Q f g l k c h = record {
   name = h.name;
   here = h.here;
@@ -167,7 +173,8 @@ meeting_there P Q f g l k c h = record {
   pair = h.pair;
 }
 
-pub meeting_below : (P Q : ℕ → Span → Type 0) (f g : Lookup) → ((x : ℕ) → IsLeast IsNoLater (P x) (f x)) → ((x : ℕ) → IsLeast IsNoLater (Q x) (g x)) → (d : Clash) → MeetingOf P Q d → (c : Clash) × Meeting f g c × IsNoLaterPair c d
+pub meeting_below : (P Q : ℕ → Span → Type 0) (f g : Lookup) → ((x : ℕ) → IsLeast IsNoLater (P x) (f x)) → ((x : ℕ) → IsLeast IsNoLater (Q x) (g x))
+    → (d : Clash) → MeetingOf P Q d → (c : Clash) × Meeting f g c × IsNoLaterPair c d
 meeting_below P Q f g l k d h =
     let m = (l h.name).least h.here h.in_one in
     let n = (k h.name).least h.there h.in_other in

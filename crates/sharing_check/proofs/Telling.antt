@@ -12,7 +12,7 @@ use Rattle.sharing_check.specs.declared.clash.Clash.{Clash}
 use Rattle.sharing_check.specs.declared.deeds.Deeds.{Deeds}
 use Rattle.sharing_check.specs.Leasts.{IsLeast, IsEither, IsNoLaterPair, IsInOrder}
 use Rattle.sharing_check.specs.Places.{Lookup, Notes, Joins}
-use Rattle.sharing_check.specs.Tells.{IsExclusive, IsCommon, IsPlace, Tells, Adds, Crosses, Merges}
+use Rattle.sharing_check.specs.Tells.{IsExclusive, IsCommon, IsDoneAt, Tells, Adds, Crosses, Merges}
 use Rattle.sharing_check.proofs.Orders.{no_later_refl, no_later_trans, no_later_total, pair_trans}
 use Rattle.sharing_check.proofs.LeastLemmas.{least_none, least_same, least_refine, least_more, least_both}
 use Rattle.sharing_check.proofs.TableLemmas.{MeetingOf, meeting_there, meeting_below}
@@ -20,58 +20,60 @@ use Rattle.sharing_check.proofs.Pairs.{clashes_sym, parallel_sym, with_member, w
 
 -- ---- places of some occurrences
 
-place_in : {Is : Deed → ℕ → Type 0} {os : List Occurrence} {x : ℕ} {s : Span} (ps : List Occurrence) → ((o : Occurrence) → Contains os o → Contains ps o) → IsPlace Is os x s → IsPlace Is ps x s
+place_in : {Is : Deed → ℕ → Type 0} {os : List Occurrence} {x : ℕ} {s : Span} (ps : List Occurrence)
+    → ((o : Occurrence) → Contains os o → Contains ps o) → IsDoneAt Is os x s → IsDoneAt Is ps x s
 place_in ps within h = record { occurrence = h.occurrence; among = within h.occurrence h.among; kind = h.kind; at = h.at }
 
-place_left : {Is : Deed → ℕ → Type 0} (os ps : List Occurrence) {x : ℕ} {s : Span} → IsPlace Is os x s → IsPlace Is (os ++ ps) x s
+place_left : {Is : Deed → ℕ → Type 0} (os ps : List Occurrence) {x : ℕ} {s : Span} → IsDoneAt Is os x s → IsDoneAt Is (os ++ ps) x s
 place_left os ps h = place_in (os ++ ps) (λ o. Contains-append_left os ps o) h
 
-place_right : {Is : Deed → ℕ → Type 0} (os ps : List Occurrence) {x : ℕ} {s : Span} → IsPlace Is ps x s → IsPlace Is (os ++ ps) x s
+place_right : {Is : Deed → ℕ → Type 0} (os ps : List Occurrence) {x : ℕ} {s : Span} → IsDoneAt Is ps x s → IsDoneAt Is (os ++ ps) x s
 place_right os ps h = place_in (os ++ ps) (λ o. Contains-append_right os ps o) h
 
-place_cases : (Is : Deed → ℕ → Type 0) (os ps : List Occurrence) (x : ℕ) (s : Span) → IsPlace Is (os ++ ps) x s → IsPlace Is os x s ⊎ IsPlace Is ps x s
+place_cases : (Is : Deed → ℕ → Type 0) (os ps : List Occurrence) (x : ℕ) (s : Span) → IsDoneAt Is (os ++ ps) x s → IsDoneAt Is os x s ⊎ IsDoneAt Is ps x s
 place_cases Is os ps x s h = by_list (Contains-append_cases os ps h.occurrence h.among)
   where
-    by_list : Contains os h.occurrence ⊎ Contains ps h.occurrence → IsPlace Is os x s ⊎ IsPlace Is ps x s
+    by_list : Contains os h.occurrence ⊎ Contains ps h.occurrence → IsDoneAt Is os x s ⊎ IsDoneAt Is ps x s
     by_list (inl k) = inl (record { occurrence = h.occurrence; among = k; kind = h.kind; at = h.at })
     by_list (inr k) = inr (record { occurrence = h.occurrence; among = k; kind = h.kind; at = h.at })
 
-place_none : (Is : Deed → ℕ → Type 0) (x : ℕ) (s : Span) → ¬ IsPlace Is [] x s
+place_none : (Is : Deed → ℕ → Type 0) (x : ℕ) (s : Span) → ¬ IsDoneAt Is [] x s
 place_none Is x s h = let within = h.among.1 in omega arith
 
-place_one : (Is : Deed → ℕ → Type 0) (d : Deed) (at : Span) (x : ℕ) (s : Span) → IsPlace Is (done_at d at ∷ []) x s → Is d x × (s ≡ at)
+place_one : (Is : Deed → ℕ → Type 0) (d : Deed) (at : Span) (x : ℕ) (s : Span) → IsDoneAt Is (done_at d at ∷ []) x s → Is d x × (s ≡ at)
 place_one Is d at x s h = by_index h.among
   where
     by_index : Contains (done_at d at ∷ []) h.occurrence → Is d x × (s ≡ at)
     by_index (zero, within, is) = (subst (λ (o : Occurrence). Is o.deed x) (sym is) h.kind, h.at ∙ ap (λ (o : Occurrence). o.at) (sym is))
     by_index (suc k, within, is) = absurd (omega (arith, within))
 
-one_place : (Is : Deed → ℕ → Type 0) (d : Deed) (at : Span) (x : ℕ) (s : Span) → Is d x → s ≡ at → IsPlace Is (done_at d at ∷ []) x s
+one_place : (Is : Deed → ℕ → Type 0) (d : Deed) (at : Span) (x : ℕ) (s : Span) → Is d x → s ≡ at → IsDoneAt Is (done_at d at ∷ []) x s
 one_place Is d at x s kind same = record { occurrence = done_at d at; among = (0, omega arith, refl); kind = kind; at = same }
 
 -- ---- one more occurrence, and more of them
 
 -- a table with the places of some more occurrences
 abbrev pub AddsIn : (Deed → ℕ → Type 0) → List Occurrence → Lookup → Lookup → Type 0
-AddsIn Is os f g = (x : ℕ) → IsLeast IsNoLater (λ s. (f x ≡ Some s) ⊎ IsPlace Is os x s) (g x)
+AddsIn Is os f g = (x : ℕ) → IsLeast IsNoLater (λ s. (f x ≡ Some s) ⊎ IsDoneAt Is os x s) (g x)
 
 -- an occurrence of the kind
-pub one_in : (Is : Deed → ℕ → Type 0) (d : Deed) (name : ℕ) (at : Span) (f g : Lookup) → ((x : ℕ) → Is d x → x ≡ name) → Is d name → Notes f name at g → AddsIn Is (done_at d at ∷ []) f g
+pub one_in : (Is : Deed → ℕ → Type 0) (d : Deed) (name : ℕ) (at : Span) (f g : Lookup) → ((x : ℕ) → Is d x → x ≡ name) → Is d name → Notes f name at g
+    → AddsIn Is (done_at d at ∷ []) f g
 one_in Is d name at f g only is notes x = least_same (notes x) into from
   where
-    into : (s : Span) → (f x ≡ Some s) ⊎ ((x ≡ name) × (s ≡ at)) → (f x ≡ Some s) ⊎ IsPlace Is (done_at d at ∷ []) x s
+    into : (s : Span) → (f x ≡ Some s) ⊎ ((x ≡ name) × (s ≡ at)) → (f x ≡ Some s) ⊎ IsDoneAt Is (done_at d at ∷ []) x s
     into s (inl e) = inl e
     into s (inr e) = inr (one_place Is d at x s (subst (λ (y : ℕ). Is d y) (sym e.0) is) e.1)
 
-    from : (s : Span) → (f x ≡ Some s) ⊎ IsPlace Is (done_at d at ∷ []) x s → (f x ≡ Some s) ⊎ ((x ≡ name) × (s ≡ at))
+    from : (s : Span) → (f x ≡ Some s) ⊎ IsDoneAt Is (done_at d at ∷ []) x s → (f x ≡ Some s) ⊎ ((x ≡ name) × (s ≡ at))
     from s (inl e) = inl e
     from s (inr h) = let k = place_one Is d at x s h in inr (only x k.0, k.1)
 
 -- none of the kind
-pub none_in : (Is : Deed → ℕ → Type 0) (os : List Occurrence) (f : Lookup) → ((x : ℕ) (s : Span) → ¬ IsPlace Is os x s) → AddsIn Is os f f
+pub none_in : (Is : Deed → ℕ → Type 0) (os : List Occurrence) (f : Lookup) → ((x : ℕ) (s : Span) → ¬ IsDoneAt Is os x s) → AddsIn Is os f f
 none_in Is os f none x = record { there = λ s e. inl e; least = below }
   where
-    below : (s : Span) → (f x ≡ Some s) ⊎ IsPlace Is os x s → (a : Span) × (f x ≡ Some a) × IsNoLater a s
+    below : (s : Span) → (f x ≡ Some s) ⊎ IsDoneAt Is os x s → (a : Span) × (f x ≡ Some a) × IsNoLater a s
     below s (inl e) = (s, e, no_later_refl s)
     below s (inr h) = absurd (none x s h)
 
@@ -81,16 +83,16 @@ not_in Is d at f none = none_in Is (done_at d at ∷ []) f (λ x s h. none x (pl
 more_in : (Is : Deed → ℕ → Type 0) (os ps : List Occurrence) (f g h : Lookup) → AddsIn Is os f g → AddsIn Is ps g h → AddsIn Is (os ++ ps) f h
 more_in Is os ps f g h l k x = least_same (least_more no_later_trans (l x) (k x)) into from
   where
-    into : (s : Span) → ((f x ≡ Some s) ⊎ IsPlace Is os x s) ⊎ IsPlace Is ps x s → (f x ≡ Some s) ⊎ IsPlace Is (os ++ ps) x s
+    into : (s : Span) → ((f x ≡ Some s) ⊎ IsDoneAt Is os x s) ⊎ IsDoneAt Is ps x s → (f x ≡ Some s) ⊎ IsDoneAt Is (os ++ ps) x s
     into s (inl (inl e)) = inl e
     into s (inl (inr p)) = inr (place_left os ps p)
     into s (inr p) = inr (place_right os ps p)
 
-    from : (s : Span) → (f x ≡ Some s) ⊎ IsPlace Is (os ++ ps) x s → ((f x ≡ Some s) ⊎ IsPlace Is os x s) ⊎ IsPlace Is ps x s
+    from : (s : Span) → (f x ≡ Some s) ⊎ IsDoneAt Is (os ++ ps) x s → ((f x ≡ Some s) ⊎ IsDoneAt Is os x s) ⊎ IsDoneAt Is ps x s
     from s (inl e) = inl (inl e)
     from s (inr p) = by_list (place_cases Is os ps x s p)
       where
-        by_list : IsPlace Is os x s ⊎ IsPlace Is ps x s → ((f x ≡ Some s) ⊎ IsPlace Is os x s) ⊎ IsPlace Is ps x s
+        by_list : IsDoneAt Is os x s ⊎ IsDoneAt Is ps x s → ((f x ≡ Some s) ⊎ IsDoneAt Is os x s) ⊎ IsDoneAt Is ps x s
         by_list (inl q) = inl (inr q)
         by_list (inr q) = inr q
 
@@ -122,22 +124,24 @@ tells_alone cause p a b alone empty adds = record {
   clash = subst (λ (o : Option Clash). IsLeast IsNoLaterPair (λ c. SharedAt p cause c.first c.second) o) (sym adds.clash) (least_same empty.clash (λ c h. absurd h.parallel) (λ c h. absurd (alone h.a h.b h.parallel)));
 }
   where
-    own : (Is : Deed → ℕ → Type 0) (f g : Lookup) (x : ℕ) → IsLeast IsNoLater (IsPlace Is [] x) (f x) → IsLeast IsNoLater (λ s. (f x ≡ Some s) ⊎ IsPlace Is (occurrences p) x s) (g x)
-        → IsLeast IsNoLater (IsPlace Is (occurrences p) x) (g x)
+    own : (Is : Deed → ℕ → Type 0) (f g : Lookup) (x : ℕ) → IsLeast IsNoLater (IsDoneAt Is [] x) (f x)
+        → IsLeast IsNoLater (λ s. (f x ≡ Some s) ⊎ IsDoneAt Is (occurrences p) x s) (g x)
+        → IsLeast IsNoLater (IsDoneAt Is (occurrences p) x) (g x)
     own Is f g x none l = least_same l into (λ s h. inr h)
       where
-        into : (s : Span) → (f x ≡ Some s) ⊎ IsPlace Is (occurrences p) x s → IsPlace Is (occurrences p) x s
+        into : (s : Span) → (f x ≡ Some s) ⊎ IsDoneAt Is (occurrences p) x s → IsDoneAt Is (occurrences p) x s
         into s (inl e) = absurd (place_none Is x s (none.there s e))
         into s (inr h) = h
 
 -- ---- statements with parts
 
 -- the tables of two statements, joined, are those of one with the occurrences of both
-joined_in : (Is : Deed → ℕ → Type 0) (os ps qs : List Occurrence) (f g h : Lookup) → qs ≡ os ++ ps → ((x : ℕ) → IsLeast IsNoLater (IsPlace Is os x) (f x)) → ((x : ℕ) → IsLeast IsNoLater (IsPlace Is ps x) (g x))
-    → Joins f g h → (x : ℕ) → IsLeast IsNoLater (IsPlace Is qs x) (h x)
-joined_in Is os ps qs f g h are l k joins x = subst (λ (rs : List Occurrence). IsLeast IsNoLater (IsPlace Is rs x) (h x)) (sym are) (least_same (least_both no_later_trans (l x) (k x) (joins x)) into (place_cases Is os ps x))
+joined_in : (Is : Deed → ℕ → Type 0) (os ps qs : List Occurrence) (f g h : Lookup) → qs ≡ os ++ ps
+    → ((x : ℕ) → IsLeast IsNoLater (IsDoneAt Is os x) (f x)) → ((x : ℕ) → IsLeast IsNoLater (IsDoneAt Is ps x) (g x))
+    → Joins f g h → (x : ℕ) → IsLeast IsNoLater (IsDoneAt Is qs x) (h x)
+joined_in Is os ps qs f g h are l k joins x = subst (λ (rs : List Occurrence). IsLeast IsNoLater (IsDoneAt Is rs x) (h x)) (sym are) (least_same (least_both no_later_trans (l x) (k x) (joins x)) into (place_cases Is os ps x))
   where
-    into : (s : Span) → IsPlace Is os x s ⊎ IsPlace Is ps x s → IsPlace Is (os ++ ps) x s
+    into : (s : Span) → IsDoneAt Is os x s ⊎ IsDoneAt Is ps x s → IsDoneAt Is (os ++ ps) x s
     into s (inl p) = place_left os ps p
     into s (inr p) = place_right os ps p
 
@@ -157,10 +161,12 @@ shared_as p cause c h = record { a = h.a; b = h.b; related = h.parallel; clash =
 as_shared : (p : Process) (cause : FaultCode) (c : Clash) → SharedBy (Parallel p) cause c → SharedAt p cause c.first c.second
 as_shared p cause c h = record { a = h.a; b = h.b; parallel = h.related; clash = h.clash; at_first = h.at_first; at_second = h.at_second; order = h.order }
 
-related_as : (R S : Occurrence → Occurrence → Type 0) (cause : FaultCode) (c : Clash) → ((a b : Occurrence) → R a b → S a b) → SharedBy R cause c → SharedBy S cause c
+related_as : (R S : Occurrence → Occurrence → Type 0) (cause : FaultCode) (c : Clash) → ((a b : Occurrence) → R a b → S a b) → SharedBy R cause c
+    → SharedBy S cause c
 related_as R S cause c into h = record { a = h.a; b = h.b; related = into h.a h.b h.related; clash = h.clash; at_first = h.at_first; at_second = h.at_second; order = h.order }
 
-related_cases : (R S T : Occurrence → Occurrence → Type 0) (cause : FaultCode) (c : Clash) → ((a b : Occurrence) → R a b → S a b ⊎ T a b) → SharedBy R cause c → SharedBy S cause c ⊎ SharedBy T cause c
+related_cases : (R S T : Occurrence → Occurrence → Type 0) (cause : FaultCode) (c : Clash) → ((a b : Occurrence) → R a b → S a b ⊎ T a b)
+    → SharedBy R cause c → SharedBy S cause c ⊎ SharedBy T cause c
 related_cases R S T cause c cases h = by_case (cases h.a h.b h.related)
   where
     by_case : S h.a h.b ⊎ T h.a h.b → SharedBy S cause c ⊎ SharedBy T cause c
@@ -196,11 +202,12 @@ one_common _ _ _ x h k = absurd k
 
 -- the places of the kind in some occurrences
 abbrev kept_by : (Deed → ℕ → Type 0) → List Occurrence → Lookup → Type 0
-kept_by Is os f = (x : ℕ) → IsLeast IsNoLater (IsPlace Is os x) (f x)
+kept_by Is os f = (x : ℕ) → IsLeast IsNoLater (IsDoneAt Is os x) (f x)
 
 -- a meeting of two places, in which the deeds clash
-meeting_shared : (Is It : Deed → ℕ → Type 0) (cause : FaultCode) (os ps : List Occurrence) (c : Clash) → ((d e : Deed) (x : ℕ) → Is d x → It e x → Clashes cause d e)
-    → MeetingOf (IsPlace Is os) (IsPlace It ps) c → SharedBy (IsAcross os ps) cause c
+meeting_shared : (Is It : Deed → ℕ → Type 0) (cause : FaultCode) (os ps : List Occurrence) (c : Clash)
+    → ((d e : Deed) (x : ℕ) → Is d x → It e x → Clashes cause d e)
+    → MeetingOf (IsDoneAt Is os) (IsDoneAt It ps) c → SharedBy (IsAcross os ps) cause c
 meeting_shared Is It cause os ps c clash h = by_order h.pair.these
   where
     by_order : ((c.first ≡ h.here) × (c.second ≡ h.there)) ⊎ ((c.first ≡ h.there) × (c.second ≡ h.here)) → SharedBy (IsAcross os ps) cause c
@@ -224,8 +231,9 @@ meeting_shared Is It cause os ps c clash h = by_order h.pair.these
     }
 
 -- the meeting of two occurrences in the order of their lists
-meets_there : (Is It : Deed → ℕ → Type 0) (os ps : List Occurrence) (x : ℕ) (a b : Occurrence) (c : Clash) → Contains os a → Contains ps b → Is a.deed x → It b.deed x → IsInOrder a.at b.at c
-    → MeetingOf (IsPlace Is os) (IsPlace It ps) c
+meets_there : (Is It : Deed → ℕ → Type 0) (os ps : List Occurrence) (x : ℕ) (a b : Occurrence) (c : Clash) → Contains os a → Contains ps b
+    → Is a.deed x → It b.deed x → IsInOrder a.at b.at c
+    → MeetingOf (IsDoneAt Is os) (IsDoneAt It ps) c
 meets_there Is It os ps x a b c in_os in_ps is it pair = record {
   name = x;
   here = a.at;
@@ -239,7 +247,8 @@ abbrev CrossedBelow : Deeds → Deeds → Clash → Type 0
 CrossedBelow a b d = (c : Clash) × Crosses a b c × IsNoLaterPair c d
 
 -- the least pair of places that the tables of two statements have for one name is that of the clashes across them
-pub crossing : (cause : FaultCode) (os ps : List Occurrence) (a b : Deeds) (o : Option Clash) → kept_by (IsExclusive cause) os (get nat_eq a.exclusive) → kept_by (IsCommon cause) os (get nat_eq a.common)
+pub crossing : (cause : FaultCode) (os ps : List Occurrence) (a b : Deeds) (o : Option Clash)
+    → kept_by (IsExclusive cause) os (get nat_eq a.exclusive) → kept_by (IsCommon cause) os (get nat_eq a.common)
     → kept_by (IsExclusive cause) ps (get nat_eq b.exclusive) → kept_by (IsCommon cause) ps (get nat_eq b.common) → IsLeast IsNoLaterPair (Crosses a b) o → IsLeast IsNoLaterPair (SharedBy (IsAcross os ps) cause) o
 crossing cause os ps a b o a_exclusive a_common b_exclusive b_common l = least_refine pair_trans l into below
   where
@@ -249,13 +258,13 @@ crossing cause os ps a b o a_exclusive a_common b_exclusive b_common l = least_r
     into c (inr (inr h)) =
         meeting_shared (IsCommon cause) (IsExclusive cause) cause os ps c (λ d e x k m. clashes_sym cause e d (one_common cause e d x m k)) (meeting_there _ _ _ _ a_common b_exclusive c h)
 
-    both : (d : Clash) → MeetingOf (IsPlace (IsExclusive cause) os) (IsPlace (IsExclusive cause) ps) d → CrossedBelow a b d
+    both : (d : Clash) → MeetingOf (IsDoneAt (IsExclusive cause) os) (IsDoneAt (IsExclusive cause) ps) d → CrossedBelow a b d
     both d h = let m = meeting_below _ _ _ _ a_exclusive b_exclusive d h in (m.0, inl m.1, m.2)
 
-    left : (d : Clash) → MeetingOf (IsPlace (IsExclusive cause) os) (IsPlace (IsCommon cause) ps) d → CrossedBelow a b d
+    left : (d : Clash) → MeetingOf (IsDoneAt (IsExclusive cause) os) (IsDoneAt (IsCommon cause) ps) d → CrossedBelow a b d
     left d h = let m = meeting_below _ _ _ _ a_exclusive b_common d h in (m.0, inr (inl m.1), m.2)
 
-    right : (d : Clash) → MeetingOf (IsPlace (IsCommon cause) os) (IsPlace (IsExclusive cause) ps) d → CrossedBelow a b d
+    right : (d : Clash) → MeetingOf (IsDoneAt (IsCommon cause) os) (IsDoneAt (IsExclusive cause) ps) d → CrossedBelow a b d
     right d h = let m = meeting_below _ _ _ _ a_common b_exclusive d h in (m.0, inr (inr m.1), m.2)
 
     -- an occurrence of the first list with one of the second
@@ -280,7 +289,8 @@ abbrev IsBelow : Option Clash → Clash → Type 0
 IsBelow o e = (c : Clash) × (o ≡ Some c) × IsNoLaterPair c e
 
 -- what two statements tell, of one that has the occurrences of both, and whose pairs are those of both and those across
-tells_more : (cause : FaultCode) (p q r : Process) (R : Occurrence → Occurrence → Type 0) (a b d : Deeds) (across : Option Clash) → occurrences r ≡ occurrences p ++ occurrences q
+tells_more : (cause : FaultCode) (p q r : Process) (R : Occurrence → Occurrence → Type 0) (a b d : Deeds) (across : Option Clash)
+    → occurrences r ≡ occurrences p ++ occurrences q
     → ((u v : Occurrence) → Parallel r u v → (Parallel p u v ⊎ Parallel q u v) ⊎ R u v) → ((u v : Occurrence) → (Parallel p u v ⊎ Parallel q u v) ⊎ R u v → Parallel r u v)
     → Tells cause p a → Tells cause q b → IsLeast IsNoLaterPair (SharedBy R cause) across → Merges a b across d → Tells cause r d
 tells_more cause p q r R a b d across are cases pairs tells others least merges = record {
@@ -324,12 +334,14 @@ as_either : (R S T : Type 0) → (R ⊎ S → T) → (R ⊎ S) ⊎ ⊥ → T
 as_either R S T into (inl h) = into h
 as_either R S T into (inr h) = absurd h
 
-pub turn_more : (cause : FaultCode) (members : Processes) (p : Process) (a b d : Deeds) → Tells cause (in_turn members) a → Tells cause p b → Merges a b None d → Tells cause (in_turn (with_member members p)) d
+pub turn_more : (cause : FaultCode) (members : Processes) (p : Process) (a b d : Deeds) → Tells cause (in_turn members) a → Tells cause p b
+    → Merges a b None d → Tells cause (in_turn (with_member members p)) d
 turn_more cause members p a b d tells own merges =
     tells_more cause (in_turn members) p (in_turn (with_member members p)) Never a b d None (member_occurrences members p) (λ u v h. inl (inside_more members p u v h))
     (λ u v. as_either _ _ _ (more_inside members p u v)) tells own (never_least cause) merges
 
-pub choice_told : (cause : FaultCode) (again : Bool) (choices : Choices) (g : Formula) (p : Process) (a b d e : Deeds) → Tells cause (choosing again choices) a → Tells cause p b → Adds cause (reads_of g) b d → Merges a d None e
+pub choice_told : (cause : FaultCode) (again : Bool) (choices : Choices) (g : Formula) (p : Process) (a b d e : Deeds)
+    → Tells cause (choosing again choices) a → Tells cause p b → Adds cause (reads_of g) b d → Merges a d None e
     → Tells cause (choosing again (with_choice choices g p)) e
 choice_told cause again choices g p a b d e tells own adds merges = record {
   exclusive = joined_in (IsExclusive cause) (occurrences_of_choices choices) (reads_of g ++ occurrences p) _ _ _ _ (choice_occurrences choices g p) tells.exclusive
@@ -339,18 +351,19 @@ choice_told cause again choices g p a b d e tells own adds merges = record {
   clash = least_same (least_both pair_trans tells.clash (subst (λ (o : Option Clash). IsLeast IsNoLaterPair (λ c. SharedAt p cause c.first c.second) o) (sym adds.clash) own.clash) (least_same merges.clash only (λ c h. inl h))) into from;
 }
   where
-    branch : (Is : Deed → ℕ → Type 0) (f h : Lookup) (x : ℕ) → IsLeast IsNoLater (IsPlace Is (occurrences p) x) (f x) → IsLeast IsNoLater (λ s. (f x ≡ Some s) ⊎ IsPlace Is (reads_of g) x s) (h x)
-        → IsLeast IsNoLater (IsPlace Is (reads_of g ++ occurrences p) x) (h x)
+    branch : (Is : Deed → ℕ → Type 0) (f h : Lookup) (x : ℕ) → IsLeast IsNoLater (IsDoneAt Is (occurrences p) x) (f x)
+        → IsLeast IsNoLater (λ s. (f x ≡ Some s) ⊎ IsDoneAt Is (reads_of g) x s) (h x)
+        → IsLeast IsNoLater (IsDoneAt Is (reads_of g ++ occurrences p) x) (h x)
     branch Is f h x l k = least_same (least_more no_later_trans l k) put got
       where
-        put : (s : Span) → IsPlace Is (occurrences p) x s ⊎ IsPlace Is (reads_of g) x s → IsPlace Is (reads_of g ++ occurrences p) x s
+        put : (s : Span) → IsDoneAt Is (occurrences p) x s ⊎ IsDoneAt Is (reads_of g) x s → IsDoneAt Is (reads_of g ++ occurrences p) x s
         put s (inl m) = place_right (reads_of g) (occurrences p) m
         put s (inr m) = place_left (reads_of g) (occurrences p) m
 
-        got : (s : Span) → IsPlace Is (reads_of g ++ occurrences p) x s → IsPlace Is (occurrences p) x s ⊎ IsPlace Is (reads_of g) x s
+        got : (s : Span) → IsDoneAt Is (reads_of g ++ occurrences p) x s → IsDoneAt Is (occurrences p) x s ⊎ IsDoneAt Is (reads_of g) x s
         got s m = by_list (place_cases Is (reads_of g) (occurrences p) x s m)
           where
-            by_list : IsPlace Is (reads_of g) x s ⊎ IsPlace Is (occurrences p) x s → IsPlace Is (occurrences p) x s ⊎ IsPlace Is (reads_of g) x s
+            by_list : IsDoneAt Is (reads_of g) x s ⊎ IsDoneAt Is (occurrences p) x s → IsDoneAt Is (occurrences p) x s ⊎ IsDoneAt Is (reads_of g) x s
             by_list (inl n) = inr n
             by_list (inr n) = inl n
 
@@ -358,27 +371,33 @@ choice_told cause again choices g p a b d e tells own adds merges = record {
     only c (inl h) = h
     only c (inr e) = absurd (cc e)
 
-    into : (c : Clash) → SharedAt (choosing again choices) cause c.first c.second ⊎ SharedAt p cause c.first c.second → SharedAt (choosing again (with_choice choices g p)) cause c.first c.second
+    into : (c : Clash) → SharedAt (choosing again choices) cause c.first c.second ⊎ SharedAt p cause c.first c.second
+        → SharedAt (choosing again (with_choice choices g p)) cause c.first c.second
     into c (inl h) = as_shared _ cause c (related_as (Parallel (choosing again choices)) _ cause c (λ u v k. more_choice choices g p u v (inl k)) (shared_as _ cause c h))
     into c (inr h) = as_shared _ cause c (related_as (Parallel p) _ cause c (λ u v k. more_choice choices g p u v (inr k)) (shared_as _ cause c h))
 
-    from : (c : Clash) → SharedAt (choosing again (with_choice choices g p)) cause c.first c.second → SharedAt (choosing again choices) cause c.first c.second ⊎ SharedAt p cause c.first c.second
+    from : (c : Clash) → SharedAt (choosing again (with_choice choices g p)) cause c.first c.second
+        → SharedAt (choosing again choices) cause c.first c.second ⊎ SharedAt p cause c.first c.second
     from c h = by_case (related_cases _ (Parallel (choosing again choices)) (Parallel p) cause c (choice_more choices g p) (shared_as _ cause c h))
       where
-        by_case : SharedBy (Parallel (choosing again choices)) cause c ⊎ SharedBy (Parallel p) cause c → SharedAt (choosing again choices) cause c.first c.second ⊎ SharedAt p cause c.first c.second
+        by_case : SharedBy (Parallel (choosing again choices)) cause c ⊎ SharedBy (Parallel p) cause c
+            → SharedAt (choosing again choices) cause c.first c.second ⊎ SharedAt p cause c.first c.second
         by_case (inl k) = inl (as_shared _ cause c k)
         by_case (inr k) = inr (as_shared _ cause c k)
 
-pub branch_more : (cause : FaultCode) (members : Processes) (p : Process) (a b d : Deeds) (across : Option Clash) → Tells cause (side_by_side members) a → Tells cause p b → IsLeast IsNoLaterPair (Crosses a b) across
+pub branch_more : (cause : FaultCode) (members : Processes) (p : Process) (a b d : Deeds) (across : Option Clash)
+    → Tells cause (side_by_side members) a → Tells cause p b → IsLeast IsNoLaterPair (Crosses a b) across
     → Merges a b across d → Tells cause (side_by_side (with_member members p)) d
 branch_more cause members p a b d across tells own least merges =
     tells_more cause (side_by_side members) p (side_by_side (with_member members p)) (IsAcross (occurrences_of_each members) (occurrences p)) a b d across (member_occurrences members p) cases pairs tells own
     (crossing cause (occurrences_of_each members) (occurrences p) a b across tells.exclusive tells.common own.exclusive own.common least) merges
   where
-    cases : (u v : Occurrence) → Parallel (side_by_side (with_member members p)) u v → (Parallel (side_by_side members) u v ⊎ Parallel p u v) ⊎ IsAcross (occurrences_of_each members) (occurrences p) u v
+    cases : (u v : Occurrence) → Parallel (side_by_side (with_member members p)) u v
+        → (Parallel (side_by_side members) u v ⊎ Parallel p u v) ⊎ IsAcross (occurrences_of_each members) (occurrences p) u v
     cases u v (inl h) = by_inside (inside_more members p u v h)
       where
-        by_inside : ParallelInside members u v ⊎ Parallel p u v → (Parallel (side_by_side members) u v ⊎ Parallel p u v) ⊎ IsAcross (occurrences_of_each members) (occurrences p) u v
+        by_inside : ParallelInside members u v ⊎ Parallel p u v
+            → (Parallel (side_by_side members) u v ⊎ Parallel p u v) ⊎ IsAcross (occurrences_of_each members) (occurrences p) u v
         by_inside (inl k) = inl (inl (inl k))
         by_inside (inr k) = inl (inr k)
     cases u v (inr h) = by_across (members_more members p u v h)
@@ -388,7 +407,8 @@ branch_more cause members p a b d across tells own least merges =
         by_across (inl k) = inl (inl (inr k))
         by_across (inr k) = inr k
 
-    pairs : (u v : Occurrence) → (Parallel (side_by_side members) u v ⊎ Parallel p u v) ⊎ IsAcross (occurrences_of_each members) (occurrences p) u v → Parallel (side_by_side (with_member members p)) u v
+    pairs : (u v : Occurrence) → (Parallel (side_by_side members) u v ⊎ Parallel p u v) ⊎ IsAcross (occurrences_of_each members) (occurrences p) u v
+        → Parallel (side_by_side (with_member members p)) u v
     pairs u v (inl (inl (inl h))) = inl (more_inside members p u v (inl h))
     pairs u v (inl (inl (inr h))) = inr (more_members members p u v (inl h))
     pairs u v (inl (inr h)) = inl (more_inside members p u v (inr h))
@@ -397,7 +417,8 @@ branch_more cause members p a b d across tells own least merges =
 -- ---- a whole program
 
 -- with none that is reported, nothing of the kind is shared
-pub unshared : (p : Process) (cause : FaultCode) (o : Option Clash) → o ≡ None → IsLeast IsNoLaterPair (λ c. SharedAt p cause c.first c.second) o → IsUnshared p cause
+pub unshared : (p : Process) (cause : FaultCode) (o : Option Clash) → o ≡ None → IsLeast IsNoLaterPair (λ c. SharedAt p cause c.first c.second) o
+    → IsUnshared p cause
 unshared p cause o is l a b parallel clash = by_order (no_later_total a.at b.at)
   where
     none : (c : Clash) → ¬ SharedAt p cause c.first c.second
@@ -410,7 +431,8 @@ unshared p cause o is l a b parallel clash = by_order (no_later_total a.at b.at)
         (record { a = b; b = a; parallel = parallel_sym p a b parallel; clash = clashes_sym cause a.deed b.deed clash; at_first = refl; at_second = refl; order = h })
 
 -- the least pair is the one that is reported
-pub first_shared : (p : Process) (cause : FaultCode) (o : Option Clash) (c : Clash) → o ≡ Some c → IsLeast IsNoLaterPair (λ d. SharedAt p cause d.first d.second) o → IsFirstShared p cause c.first c.second
+pub first_shared : (p : Process) (cause : FaultCode) (o : Option Clash) (c : Clash) → o ≡ Some c
+    → IsLeast IsNoLaterPair (λ d. SharedAt p cause d.first d.second) o → IsFirstShared p cause c.first c.second
 first_shared p cause o c is l = record { shared = l.there c is; least_second = λ s t h. (below s t h).by_second; least_first = λ s h. (below s c.second h).by_first refl }
   where
     below : (s t : Span) → SharedAt p cause s t → IsNoLaterPair c (record { first = s; second = t })
@@ -425,10 +447,12 @@ first_shared p cause o c is l = record { shared = l.there c is; least_second = �
 abbrev Table : Type 0
 Table = HashMap ℕ Span (BuildHasherDefault FoldHasher)
 
-kept_in : (Is : Deed → ℕ → Type 0) (d : Deed) (at : Span) (t u : Table) → u ≡ t → ((x : ℕ) → ¬ Is d x) → AddsIn Is (done_at d at ∷ []) (get nat_eq t) (get nat_eq u)
+kept_in : (Is : Deed → ℕ → Type 0) (d : Deed) (at : Span) (t u : Table) → u ≡ t → ((x : ℕ) → ¬ Is d x)
+    → AddsIn Is (done_at d at ∷ []) (get nat_eq t) (get nat_eq u)
 kept_in Is d at t u same none = subst (λ (v : Table). AddsIn Is (done_at d at ∷ []) (get nat_eq t) (get nat_eq v)) (sym same) (not_in Is d at (get nat_eq t) none)
 
-pub adds_exclusive : (cause is : FaultCode) (d : Deed) (name : ℕ) (at : Span) (a b : Deeds) → cause ≡ is → ((x : ℕ) → IsExclusive is d x → x ≡ name) → IsExclusive is d name → ((x : ℕ) → ¬ IsCommon is d x)
+pub adds_exclusive : (cause is : FaultCode) (d : Deed) (name : ℕ) (at : Span) (a b : Deeds) → cause ≡ is → ((x : ℕ) → IsExclusive is d x → x ≡ name)
+    → IsExclusive is d name → ((x : ℕ) → ¬ IsCommon is d x)
     → Notes (get nat_eq a.exclusive) name at (get nat_eq b.exclusive) → b.common ≡ a.common → b.clash ≡ a.clash → Adds cause (done_at d at ∷ []) a b
 adds_exclusive cause is d name at a b same only kind none notes common clash = subst (λ (c : FaultCode). Adds c (done_at d at ∷ []) a b) (sym same) (record {
   exclusive = one_in (IsExclusive is) d name at (get nat_eq a.exclusive) (get nat_eq b.exclusive) only kind notes;
@@ -436,7 +460,8 @@ adds_exclusive cause is d name at a b same only kind none notes common clash = s
   clash = clash;
 })
 
-pub adds_common : (cause : FaultCode) (var : ℕ) (at : Span) (a b : Deeds) → cause ≡ code.SharedVariable → Notes (get nat_eq a.common) var at (get nat_eq b.common) → b.exclusive ≡ a.exclusive → b.clash ≡ a.clash
+pub adds_common : (cause : FaultCode) (var : ℕ) (at : Span) (a b : Deeds) → cause ≡ code.SharedVariable
+    → Notes (get nat_eq a.common) var at (get nat_eq b.common) → b.exclusive ≡ a.exclusive → b.clash ≡ a.clash
     → Adds cause (done_at (reads_var var) at ∷ []) a b
 adds_common cause var at a b same notes exclusive clash = subst (λ (c : FaultCode). Adds c (done_at (reads_var var) at ∷ []) a b) (sym same) (record {
   exclusive = kept_in (IsExclusive code.SharedVariable) (reads_var var) at a.exclusive b.exclusive exclusive (λ x h. h);
@@ -445,7 +470,8 @@ adds_common cause var at a b same notes exclusive clash = subst (λ (c : FaultCo
 })
 
 -- an occurrence of which the cause doesn't speak
-pub adds_neither : (cause : FaultCode) (d : Deed) (at : Span) (a : Deeds) → ((x : ℕ) → ¬ IsExclusive cause d x) → ((x : ℕ) → ¬ IsCommon cause d x) → Adds cause (done_at d at ∷ []) a a
+pub adds_neither : (cause : FaultCode) (d : Deed) (at : Span) (a : Deeds) → ((x : ℕ) → ¬ IsExclusive cause d x) → ((x : ℕ) → ¬ IsCommon cause d x)
+    → Adds cause (done_at d at ∷ []) a a
 adds_neither cause d at a one other = record {
   exclusive = not_in (IsExclusive cause) d at (get nat_eq a.exclusive) one;
   common = not_in (IsCommon cause) d at (get nat_eq a.common) other;
@@ -454,16 +480,18 @@ adds_neither cause d at a one other = record {
 
 -- ---- statements with the same occurrences and pairs tell the same
 
-pub tells_as : (cause : FaultCode) (p q : Process) (d : Deeds) → occurrences q ≡ occurrences p → ((u v : Occurrence) → Parallel p u v → Parallel q u v) → ((u v : Occurrence) → Parallel q u v → Parallel p u v)
+pub tells_as : (cause : FaultCode) (p q : Process) (d : Deeds) → occurrences q ≡ occurrences p
+    → ((u v : Occurrence) → Parallel p u v → Parallel q u v) → ((u v : Occurrence) → Parallel q u v → Parallel p u v)
     → Tells cause p d → Tells cause q d
 tells_as cause p q d are into from tells = record {
-  exclusive = λ x. subst (λ (os : List Occurrence). IsLeast IsNoLater (IsPlace (IsExclusive cause) os x) (get nat_eq d.exclusive x)) (sym are) (tells.exclusive x);
-  common = λ x. subst (λ (os : List Occurrence). IsLeast IsNoLater (IsPlace (IsCommon cause) os x) (get nat_eq d.common x)) (sym are) (tells.common x);
+  exclusive = λ x. subst (λ (os : List Occurrence). IsLeast IsNoLater (IsDoneAt (IsExclusive cause) os x) (get nat_eq d.exclusive x)) (sym are) (tells.exclusive x);
+  common = λ x. subst (λ (os : List Occurrence). IsLeast IsNoLater (IsDoneAt (IsCommon cause) os x) (get nat_eq d.common x)) (sym are) (tells.common x);
   clash = least_same tells.clash (λ c h. as_shared q cause c (related_as (Parallel p) (Parallel q) cause c into (shared_as p cause c h)))
       (λ c h. as_shared p cause c (related_as (Parallel q) (Parallel p) cause c from (shared_as q cause c h)));
 }
 
-pub again_told : (cause : FaultCode) (again other : Bool) (choices : Choices) (d : Deeds) → Tells cause (choosing again choices) d → Tells cause (choosing other choices) d
+pub again_told : (cause : FaultCode) (again other : Bool) (choices : Choices) (d : Deeds) → Tells cause (choosing again choices) d
+    → Tells cause (choosing other choices) d
 again_told cause again other choices d = tells_as cause (choosing again choices) (choosing other choices) d refl (λ u v h. h) (λ u v h. h)
 
 pub repeat_told : (cause : FaultCode) (p : Process) (d : Deeds) → Tells cause p d → Tells cause (repeating p) d

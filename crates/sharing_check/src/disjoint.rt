@@ -3,7 +3,8 @@
 ghost use Rattle.std.specs.Prelude.{◌≡◌, OnOk, IfOk, IfErr};
 ghost use Rattle.chp_syntax.specs.Tokens.{IfRefused};
 ghost use Rattle.width_check.specs.View.{process_of};
-ghost use Rattle.width_check.specs.Sharing.{MeetsSharing, IsUnshared, IsFirstShared, IsFirstSharedFault, sharing_faults};
+ghost use Rattle.width_check.specs.Sharing.{MeetsSharing, IsUnshared, IsFirstShared};
+ghost use Rattle.width_check.specs.Sharing.{IsFirstSharedFault, sharing_faults};
 
 use crate::deeds::first_clash;
 use chp_base::{Fault, FaultCode, TextError};
@@ -70,7 +71,8 @@ fn refuse_shared(alloc: Global, cause: FaultCode, body: &TStmt) -> Result<(), Te
 pub fn share(alloc: Global, typed: Typed) -> Result<Disjoint, TextError>
     ensures program { IfOk result (λ d. d ≡ typed) }
     ensures meets { OnOk result (MeetsSharing (process_of typed.body)) }
-    ensures place { IfErr result (IfRefused (λ f. IsFirstSharedFault (process_of typed.body) sharing_faults f.code f.at f.other)) }
+    ensures place { IfErr result (IfRefused (λ f.
+        IsFirstSharedFault (process_of typed.body) sharing_faults f.code f.at f.other)) }
     ensures refused { IfErr result (IfRefused (λ _. ¬ MeetsSharing (process_of typed.body))) }
 {
     refuse_shared(alloc, FaultCode::SharedVariable, typed.body())?;

@@ -8,6 +8,9 @@ pub mod Order
 pub mod Places
 pub mod Calls
 pub mod Faults
+pub mod Walk
+pub mod Refusing
+pub mod Sound
 pub mod Form
 pub mod Sharing
 pub mod Accepted

@@ -10,7 +10,8 @@ use crate::typed::{TExpr, TStmt, Var};
 use chp_base::{Channel, Kind};
 use chp_syntax::Op;
 
-fn is_comparison(op: Op) -> bool
+/// Whether an operator compares its sides.
+pub(crate) fn is_comparison(op: Op) -> bool
     ensures { result ≡ is_comparison op }
 {
     matches!(op, Op::Eq | Op::Ne | Op::Lt | Op::Le | Op::Gt | Op::Ge)

@@ -1,16 +1,23 @@
 //! Programs whose names and widths are checked.
 #![tactic(auto)]
 
+mod call_free;
+mod causes;
 mod declared;
 mod evaluate;
+mod findings;
 mod fitting;
+pub mod laws;
+mod making;
+mod naming;
 mod operate;
 mod resolving;
-#[cfg(test)]
-mod tests;
+mod scope;
+mod survey;
 mod typed;
 mod width;
 
+pub use call_free::is_call_free;
 pub use evaluate::value;
 pub use operate::operated;
 pub use resolving::resolve;

@@ -9,10 +9,15 @@ ghost use Rattle.width_check.specs.Faults.{naming_faults, HasNone, IsFirstFault}
 ghost use Rattle.width_check.specs.Form.{typed_form};
 ghost use Rattle.width_check.specs.Typed.{program_of};
 
+use crate::causes::{Cause, earlier_of, refuse};
+use crate::making::make_statement;
+use crate::naming::{channels_of, first_out_of_range, first_wide, name_all, number_all, vars_of};
+use crate::scope::Scope;
+use crate::survey::survey;
 use crate::typed::Typed;
-use chp_base::TextError;
+use chp_base::{FaultCode, TextError};
 use chp_syntax::Program;
-use std::alloc::{AllocError, Global};
+use std::alloc::Global;
 
 /// The typed form of a program of the grammar's shape with at most 300,000 declarations, and with neither procedures
 /// nor calls.
@@ -34,6 +39,52 @@ pub fn resolve(alloc: Global, program: &Program) -> Result<Typed, TextError>
     ensures other { IfErr result (IfRefused (λ f. f.other ≡ f.at)) }
     ensures place { IfErr result (IfRefused (λ f. IsFirstFault (tree_of program.now) naming_faults f.code f.at)) }
 {
-    let _program = program;
-    Err(TextError::NoMemory(AllocError))
+    let decls = program.decls.as_slice();
+    let naming = name_all(alloc, decls)?;
+    let double = Cause {
+        code: FaultCode::DoubleName,
+        place: naming.double,
+    };
+    refuse(&[double])?;
+    let numbers = number_all(alloc, decls)?;
+    let scope = Scope::new(decls, naming.names, numbers);
+    let found = survey(&scope, &program.body);
+    refuse(&[
+        Cause {
+            code: FaultCode::WidthRange,
+            place: first_out_of_range(decls),
+        },
+        Cause {
+            code: FaultCode::Undeclared,
+            place: found.undeclared,
+        },
+        Cause {
+            code: FaultCode::WrongKind,
+            place: found.wrong_kind,
+        },
+        Cause {
+            code: FaultCode::Direction,
+            place: found.direction,
+        },
+        Cause {
+            code: FaultCode::BadSlice,
+            place: found.slice,
+        },
+        Cause {
+            code: FaultCode::UnknownWidth,
+            place: found.widthless,
+        },
+        Cause {
+            code: FaultCode::Width,
+            place: earlier_of(found.leaf, found.target),
+        },
+        Cause {
+            code: FaultCode::ConstantTooWide,
+            place: earlier_of(found.number, first_wide(decls)),
+        },
+    ])?;
+    let body = make_statement(alloc, &scope, &program.body)?;
+    let channels = channels_of(alloc, decls)?;
+    let vars = vars_of(alloc, decls)?;
+    Ok(Typed::made(channels, vars, body))
 }

@@ -165,6 +165,18 @@ impl Typed {
         }
     }
 
+    /// The program of these parts, which meet what the type keeps.
+    pub(crate) fn made(channels: Vec<Channel>, vars: Vec<Var>, body: TStmt) -> Typed
+        requires { IsTyped channels.items vars.items (process_of body) }
+        ensures { result ≡ typed_value channels.items vars.items body }
+    {
+        Typed {
+            channels,
+            vars,
+            body,
+        }
+    }
+
     /// The channels in order of declaration.
     pub fn channels(&self) -> &[Channel]
         ensures { result.now ≡ self.now.channels }

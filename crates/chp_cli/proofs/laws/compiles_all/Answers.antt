@@ -1,5 +1,9 @@
+use Rattle.chp_cli.proofs.OneAnswers.{no_fault}
 use Rattle.chp_cli.proofs.Written.{compile_writes}
 use Rattle.chp_cli.proofs.laws.compiles_all.Goals as goal
 
 pub returns : goal.returns
-returns c = λ given file told t a is. compile_writes given file told t a is
+returns c =
+    let names = c.one_fault.ensures in
+    let sharing = c.one_shared_fault.ensures in
+    compile_writes (no_fault names.cause names.place names.none sharing.cause sharing.first sharing.second sharing.none)

@@ -1,4 +1,4 @@
-use Rattle.std.proofs.Common.{◌≡◌, ◌∙◌, ◌++◌, ap, sym, append-nil}
+use Rattle.std.proofs.Common.{◌∙◌, ◌++◌, ap, sym, append-nil}
 use Rattle.chp_cli.specs.Replies.{end_line}
 use Rattle.chp_cli.specs.Statuses.{is_whole}
 use Rattle.chp_cli.proofs.Ending.{complete_of, read_of, silent_of, usage_of, write_of}

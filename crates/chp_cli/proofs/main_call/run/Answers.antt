@@ -1,8 +1,6 @@
-use Rattle.std.proofs.Common.{◌≡◌, ◌∙◌, List, ℕ, [], Some, None, rules, take, ap, sym, subst, append-nil}
-use Rattle.std.specs.Prelude.{◌++◌, Option}
-use Rattle.chp_cli.specs.Answers.{given_by, writes}
-use Rattle.chp_cli.specs.Commands.{Asked, asked, asked_by}
-use Rattle.chp_cli.specs.Ends.{Answers, formless, whole, cut_off, no_memory}
+use Rattle.std.proofs.Common.{◌≡◌, [], Some, None, rules, take, sym, append-nil}
+use Rattle.chp_cli.specs.Commands.{asked, asked_by}
+use Rattle.chp_cli.specs.Ends.{formless, whole, cut_off, no_memory}
 use Rattle.chp_cli.specs.Replies.{written}
 use Rattle.chp_cli.proofs.Ending.{answers_of, front_of, stopped_ends}
 use Rattle.chp_cli.proofs.main_call.run.Goals as goal

@@ -1,6 +1,6 @@
 use Rattle.std.proofs.Common.{◌≡◌, ◌∙◌, None, Some, ap, sym}
 use Rattle.std.specs.Prelude.{is_some}
-use Rattle.chp_cli.specs.Migrating.{named_reset, taken, migrated}
+use Rattle.chp_cli.specs.Migrating.{named_reset, taken}
 use Rattle.chp_cli.proofs.NamedReset.{none_is, stays, reset_writes}
 use Rattle.chp_cli.proofs.migrate.migrate_net.Goals as goal
 

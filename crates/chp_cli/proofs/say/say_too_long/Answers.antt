@@ -1,4 +1,4 @@
-use Rattle.std.proofs.Common.{◌≡◌, ◌∙◌, ◌++◌, codes, sym, ap}
+use Rattle.std.proofs.Common.{◌∙◌, ◌++◌, codes, ap}
 use Rattle.chp_cli.proofs.say.say_too_long.Goals as goal
 
 pub returns-clause-said : goal.returns-clause-said

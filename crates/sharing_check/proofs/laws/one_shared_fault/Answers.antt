@@ -16,7 +16,8 @@ one_pair body c s t u v h k =
     let first : s ≡ u = no_later_one s u (h.least_first u (subst (λ (w : Span). SharedAt body c u w) (sym second) k.shared)) (k.least_first s (subst (λ (w : Span). SharedAt body c s w) second h.shared)) in
     (first, second)
 
-once : (body : Process) (causes : List FaultCode) (c d : FaultCode) (s t u v : Span) → IsFirstSharedFault body causes c s t → IsFirstSharedFault body causes d u v → (c ≡ d) × (s ≡ u) × (t ≡ v)
+once : (body : Process) (causes : List FaultCode) (c d : FaultCode) (s t u v : Span) → IsFirstSharedFault body causes c s t
+    → IsFirstSharedFault body causes d u v → (c ≡ d) × (s ≡ u) × (t ≡ v)
 once body [] c d s t u v h k = absurd h
 once body (e ∷ es) c d s t u v (inl h) (inl k) = let pair = one_pair body e s t u v h.1 k.1 in (h.0 ∙ sym k.0, pair.0, pair.1)
 once body (e ∷ es) c d s t u v (inl h) (inr k) = absurd (not_unshared body e s t h.1.shared k.0)

@@ -1,0 +1,28 @@
+//! Worked cases of the commands and of the edge. They stand in data/, and what each must do in the file stdout; how
+//! they are written is told in docs/TESTS.md.
+#![tactic(auto)]
+
+mod bench;
+mod cases;
+mod edge;
+mod printer;
+mod reading;
+mod run;
+
+use bench::Bench;
+use cases::obey;
+use std::{fs, io};
+
+const TOPICS: [&str; 5] = ["texts", "compile", "check", "migrate", "edge"];
+
+fn main(rt: HostRuntime) -> io::Result<()> {
+    let mut page = String::new(rt.alloc());
+    for topic in TOPICS {
+        let mut bench = Bench::new(rt.alloc());
+        let cases = fs::read_to_string(&rt, topic)?;
+        for line in cases.lines() {
+            obey(&rt, &mut bench, line, &mut page)?;
+        }
+    }
+    rt.print(page)
+}

@@ -1,0 +1,232 @@
+//! Gates on dual-rail bits.
+
+ghost use Rattle.std.specs.Prelude.{◌≡◌, ◌+◌, ◌<◌, ◌≤◌, [], ◌∷◌, ◌++◌, map, filter, length, true, false, IfOk, OnOk};
+ghost use Rattle.prs_core.specs.Nets.{one_term};
+ghost use Rattle.prs_core.specs.Pairs.{lows, rails_of};
+ghost use Rattle.function_blocks.specs.Gates.{all_one, some_one, odd_ones, carries, borrows, table, minterm, gate_rail, gate};
+ghost use Rattle.function_blocks.specs.Waves.{rows_of};
+ghost use Rattle.function_blocks.specs.Functions.{truth, carried_on};
+
+use crate::node::{Bit, NodeGuards};
+use prs_core::{Guard, Term, all_of, high, low};
+use std::alloc::{AllocError, Global};
+
+/// The truth function of a gate. An input's value stands in a row of the truth table at the input's place.
+#[derive(Clone, Copy, Debug, PartialEq, Eq)]
+pub enum Function {
+    And,
+    Or,
+    Xor,
+    /// The exclusive or turned over: of two inputs, whether they are equal.
+    Equal,
+    /// Whether at least two of three inputs are 1, or both of two.
+    Carry,
+    /// Whether the first input, less the second one and less the third one if there is one, is below zero.
+    Borrow,
+}
+
+fn all_one(row: &[bool]) -> bool
+    ensures { result ≡ all_one row.now }
+{
+    for one in row {
+        if !*one {
+            return false;
+        }
+    }
+    true
+}
+
+fn some_one(row: &[bool]) -> bool
+    ensures { result ≡ some_one row.now }
+{
+    for one in row {
+        if *one {
+            return true;
+        }
+    }
+    false
+}
+
+#[tactic(auto, using(crate::proofs::Emitted::odd_more))]
+fn odd_ones(row: &[bool]) -> bool
+    ensures { result ≡ odd_ones row.now }
+{
+    let mut odd = false;
+    for one in row {
+        odd = odd != *one;
+    }
+    odd
+}
+
+fn carries(row: &[bool]) -> bool
+    requires some { 2 ≤ length row.now }
+    requires most { length row.now ≤ 3 }
+    ensures { result ≡ carries row.now }
+{
+    match row {
+        [a, b, c] => (*a && *b) || (*a && *c) || (*b && *c),
+        _ => all_one(row),
+    }
+}
+
+fn borrows(row: &[bool]) -> bool
+    requires some { 2 ≤ length row.now }
+    requires most { length row.now ≤ 3 }
+    ensures { result ≡ borrows row.now }
+{
+    match row {
+        [a, b, c] => (!*a && *b) || (!*a && *c) || (*b && *c),
+        _ => !row[0] && row[1],
+    }
+}
+
+impl Function {
+    /// The function's value on a row of the truth table of two or three inputs.
+    pub fn value(self, row: &[bool]) -> bool
+        requires some { 2 ≤ length row.now }
+        requires most { length row.now ≤ 3 }
+        ensures { result ≡ truth self row.now }
+    {
+        match self {
+            Function::And => all_one(row),
+            Function::Or => some_one(row),
+            Function::Xor => odd_ones(row),
+            Function::Equal => !odd_ones(row),
+            Function::Carry => carries(row),
+            Function::Borrow => borrows(row),
+        }
+    }
+}
+
+/// The term of a row: for each input the rail that is high in it.
+fn minterm(alloc: Global, inputs: &[Bit], row: &[bool]) -> Result<Term, AllocError>
+    requires some { 0 < length inputs.now }
+    requires agree { length row.now ≡ length inputs.now }
+    ensures { IfOk result (λ term. term ≡ minterm inputs.now row.now) }
+{
+    let mut literals = Vec::new(alloc);
+    for place in 0..inputs.len() {
+        literals.push(high(inputs[place].rail(row[place])))?;
+    }
+    Ok(Term::new(literals).unwrap())
+}
+
+/// How many rows the truth table of two or three inputs has.
+fn row_count(inputs: usize) -> u8
+    requires some { 2 ≤ inputs }
+    requires most { inputs ≤ 3 }
+    ensures { result ≡ length (table inputs) }
+{
+    if inputs == 2 { 4 } else { 8 }
+}
+
+/// Adds the row's term where the function has this value on the row.
+fn add_row(
+    alloc: Global,
+    function: Function,
+    value: bool,
+    inputs: &[Bit],
+    row: &[bool],
+    terms: &mut Vec<Term>,
+) -> Result<(), AllocError>
+    requires some { 2 ≤ length inputs.now }
+    requires most { length inputs.now ≤ 3 }
+    requires agree { length row.now ≡ length inputs.now }
+    ensures { OnOk result (terms.new.items
+        ≡ terms.old.items ++ map (minterm inputs.now) (filter (rows_of value (truth function)) (row.now ∷ []))) }
+{
+    if function.value(row) == value {
+        terms.push(minterm(alloc, inputs, row)?)?;
+    }
+    Ok(())
+}
+
+/// The guard that holds on the rows on which the function has this value. Rows ascend, the first input lowest.
+fn rows_with(
+    alloc: Global,
+    function: Function,
+    value: bool,
+    inputs: &[Bit],
+) -> Result<Guard, AllocError>
+    requires some { 2 ≤ length inputs.now }
+    requires most { length inputs.now ≤ 3 }
+    ensures { IfOk result (λ guard. guard
+        ≡ map (minterm inputs.now) (filter (rows_of value (truth function)) (table (length inputs.now)))) }
+{
+    let mut terms = Vec::new(alloc);
+    for number in 0..row_count(inputs.len()) {
+        let row = [number % 2 == 1, number / 2 % 2 == 1, number / 4 % 2 == 1];
+        add_row(
+            alloc,
+            function,
+            value,
+            inputs,
+            &row[..inputs.len()],
+            &mut terms,
+        )?;
+    }
+    Ok(Guard::new(terms))
+}
+
+/// The guard that holds where all rails of the inputs are low.
+fn all_neutral(alloc: Global, inputs: &[Bit]) -> Result<Guard, AllocError>
+    requires { 0 < length inputs.now }
+    ensures { IfOk result (λ guard. guard ≡ one_term (lows (rails_of inputs.now))) }
+{
+    let mut literals = Vec::new(alloc);
+    for input in inputs {
+        literals.push(low(input.rail(true)))?;
+        literals.push(low(input.rail(false)))?;
+    }
+    all_of(alloc, &literals)
+}
+
+/// The guards of a gate's rail that rises on the rows on which the function has this value.
+fn gate_rail(
+    alloc: Global,
+    function: Function,
+    value: bool,
+    inputs: &[Bit],
+) -> Result<NodeGuards, AllocError>
+    requires some { 2 ≤ length inputs.now }
+    requires most { length inputs.now ≤ 3 }
+    ensures { IfOk result (λ guards. guards ≡ gate_rail inputs.now (rows_of value (truth function))) }
+{
+    let up = rows_with(alloc, function, value, inputs)?;
+    let down = all_neutral(alloc, inputs)?;
+    Ok(NodeGuards { up, down })
+}
+
+/// Adds the guards of a gate's rails.
+fn gate(
+    alloc: Global,
+    function: Function,
+    inputs: &[Bit],
+    guards: &mut Vec<NodeGuards>,
+) -> Result<(), AllocError>
+    requires some { 2 ≤ length inputs.now }
+    requires most { length inputs.now ≤ 3 }
+    ensures { OnOk result (guards.new.items ≡ guards.old.items ++ gate inputs.now (truth function)) }
+{
+    guards.push(gate_rail(alloc, function, true, inputs)?)?;
+    guards.push(gate_rail(alloc, function, false, inputs)?)?;
+    Ok(())
+}
+
+/// Adds the guards of the rails of a gate of two inputs, or of three where something is carried on from below.
+pub fn gate_over(
+    alloc: Global,
+    function: Function,
+    left: &Bit,
+    right: &Bit,
+    carried: &Option<Bit>,
+    guards: &mut Vec<NodeGuards>,
+) -> Result<(), AllocError>
+    ensures { OnOk result (guards.new.items
+        ≡ guards.old.items ++ gate (left.now ∷ right.now ∷ carried_on carried.now) (truth function)) }
+{
+    match carried {
+        None => gate(alloc, function, &[*left, *right], guards),
+        Some(below) => gate(alloc, function, &[*left, *right, *below], guards),
+    }
+}

@@ -1,0 +1,29 @@
+//! Worked cases of the calls below the top: names and numbers, scripts, the cells, nets and their runs. They stand in
+//! data/, and what each must do in the file stdout; how they are written is told in docs/TESTS.md.
+#![tactic(auto)]
+
+mod bench;
+mod cases;
+mod cells;
+mod names;
+mod nets;
+mod runs;
+mod scripts;
+
+use bench::Bench;
+use cases::obey;
+use std::{fs, io};
+
+const TOPICS: [&str; 4] = ["names", "scripts", "cells", "nets"];
+
+fn main(rt: HostRuntime) -> io::Result<()> {
+    let mut page = String::new(rt.alloc());
+    for topic in TOPICS {
+        let mut bench = Bench::new(rt.alloc())?;
+        let cases = fs::read_to_string(&rt, topic)?;
+        for line in cases.lines() {
+            obey(rt.alloc(), &mut bench, line, &mut page)?;
+        }
+    }
+    rt.print(page)
+}

@@ -1,0 +1,169 @@
+-- What is made of a statement, member by member.
+use Rattle.std.proofs.Common.{◌≡◌, ℕ, ◌+◌, ◌<◌, ◌≤◌, Bool, true, false, List, [], ◌∷◌, ◌++◌, length, get_or, drop, Option, Some, refl, sym, ap, ◌∙◌, subst, arith}
+use Rattle.std.specs.Prelude.{◌||◌, IsSome}
+use Rattle.std.specs.declared.alloc.Global.{Global}
+use Rattle.std.specs.declared.vec.Vec.{Vec}
+use Rattle.chp_base.specs.declared.span.Span.{Span}
+use Rattle.chp_syntax.specs.declared.tree.Arm.{Arm}
+use Rattle.chp_syntax.specs.declared.tree.Decl.{Decl}
+use Rattle.chp_syntax.specs.declared.tree.Ident.{Ident}
+use Rattle.chp_syntax.specs.declared.tree.Stmt.{Stmt, Then, Beside, Select}
+use Rattle.chp_syntax.specs.Reading.{arm_count}
+use Rattle.chp_syntax.specs.Shape.{IsShapedExpression, IsShapedStatement, AreShapedMembers, AreShapedArms}
+use Rattle.chp_syntax.specs.Trees as plain
+use Rattle.chp_syntax.specs.Trees.{Expression, Statement, assigns, sends, receives, follows, besides, selects, Statements, and_member, Arms, and_arm}
+use Rattle.chp_syntax.specs.View.{expression_of, statement_of}
+use Rattle.width_check.specs.declared.typed.TArm.{TArm}
+use Rattle.width_check.specs.declared.typed.TExpr.{TExpr}
+use Rattle.width_check.specs.declared.typed.TStmt as made
+use Rattle.width_check.specs.declared.typed.TStmt.{TStmt}
+use Rattle.width_check.specs.Calls.{has_call, some_has_call, arm_has_call}
+use Rattle.width_check.specs.Form.{formula_form, process_form, processes_form, choices_form}
+use Rattle.width_check.specs.Places.{declaration, declared_width, use_of, written, sent_on, received_on, stored}
+use Rattle.width_check.specs.Processes as typed
+use Rattle.width_check.specs.Processes.{Formula, Process, Processes, Choices, in_turn, side_by_side, choosing}
+use Rattle.width_check.specs.Sound.{AreRanged, IsSound, is_var_in}
+use Rattle.width_check.specs.View.{formula_of, process_of}
+use Rattle.width_check.specs.Walk.{Met, met_both, met_use, met_in, met_of, met_of_each, met_of_arms, members_of, arms_of}
+use Rattle.width_check.proofs.Lists.{then_is, beside_is, select_is, members_more, members_end, arms_more, arms_end}
+use Rattle.width_check.proofs.Makings.{before_members, before_arms, members_all, arms_all, one_member, one_arm}
+use Rattle.width_check.proofs.Soundness.{sound_left, sound_right, is_declared}
+use Rattle.width_check.proofs.Statements as rows
+use Rattle.width_check.proofs.Walks.{assign_pieces, send_pieces, each_pieces, arm_pieces}
+
+either_false : (a b : Bool) → (a || b) ≡ false → (a ≡ false) × (b ≡ false)
+either_false true b h = absurd (cc h)
+either_false false b h = (refl, h)
+
+-- an assignment and a send
+
+pub assign_sound : (ds : List Decl) (target : Ident) (e : Expression) → IsSound ds (met_of ds (assigns target e)) → (is_var_in ds target.name ≡ Some true) × IsSound ds (met_in ds (declared_width ds target.name) e)
+assign_sound ds target e s =
+    let pieces = subst (λ (m : Met). IsSound ds m) (sym (assign_pieces ds target e)) s in
+    (s.uses (use_of target written) (0, omega arith, refl), sound_right ds (met_use (use_of target written)) (met_in ds (declared_width ds target.name) e) pieces)
+
+pub send_sound : (ds : List Decl) (chan : Ident) (e : Expression) → IsSound ds (met_of ds (sends chan e)) → (is_var_in ds chan.name ≡ Some false) × IsSound ds (met_in ds (declared_width ds chan.name) e)
+send_sound ds chan e s =
+    let pieces = subst (λ (m : Met). IsSound ds m) (sym (send_pieces ds chan e)) s in
+    (s.uses (use_of chan sent_on) (0, omega arith, refl), sound_right ds (met_use (use_of chan sent_on)) (met_in ds (declared_width ds chan.name) e) pieces)
+
+pub receive_sound : (ds : List Decl) (chan target : Ident) → IsSound ds (met_of ds (receives chan target)) → (is_var_in ds chan.name ≡ Some false) × (is_var_in ds target.name ≡ Some true)
+receive_sound ds chan target s = (s.uses (use_of chan received_on) (0, omega arith, refl), s.uses (use_of target stored) (1, omega arith, refl))
+
+-- members that are left
+
+pub record AreMembersLeft (ds : List Decl) (members : Statements) : Type 0 where
+  pub shaped : AreShapedMembers members
+  pub free : some_has_call members ≡ false
+  pub sound : IsSound ds (met_of_each ds members)
+
+pub then_left : (ds : List Decl) (s : Stmt) (v : Vec Stmt Global) (ss : List Stmt) → s ≡ Then v → ss ≡ v.items → IsShapedStatement (statement_of s) → has_call (statement_of s) ≡ false → IsSound ds (met_of ds (statement_of s)) → AreMembersLeft ds (members_of ss)
+then_left ds s v ss is same shaped free sound =
+    let tree : statement_of s ≡ follows (members_of ss) = then_is s v is ∙ ap (λ (xs : List Stmt). follows (members_of xs)) (sym same) in
+    let shape = subst (λ (x : Statement). IsShapedStatement x) tree shaped in
+    record { shaped = shape.1; free = sym (ap has_call tree) ∙ free; sound = subst (λ (x : Statement). IsSound ds (met_of ds x)) tree sound }
+
+pub beside_left : (ds : List Decl) (s : Stmt) (v : Vec Stmt Global) (ss : List Stmt) → s ≡ Beside v → ss ≡ v.items → IsShapedStatement (statement_of s) → has_call (statement_of s) ≡ false → IsSound ds (met_of ds (statement_of s)) → AreMembersLeft ds (members_of ss)
+beside_left ds s v ss is same shaped free sound =
+    let tree : statement_of s ≡ besides (members_of ss) = beside_is s v is ∙ ap (λ (xs : List Stmt). besides (members_of xs)) (sym same) in
+    let shape = subst (λ (x : Statement). IsShapedStatement x) tree shaped in
+    record { shaped = shape.1; free = sym (ap has_call tree) ∙ free; sound = subst (λ (x : Statement). IsSound ds (met_of ds x)) tree sound }
+
+pub record IsStatementReady (ds : List Decl) (s : Statement) : Type 0 where
+  pub shaped : IsShapedStatement s
+  pub free : has_call s ≡ false
+  pub sound : IsSound ds (met_of ds s)
+
+members_here : (ds : List Decl) (ss : List Stmt) (i : ℕ) (s : Stmt) → i < length ss → s ≡ get_or ss i s → AreMembersLeft ds (members_of (drop i ss)) → AreMembersLeft ds (and_member (statement_of s) (members_of (drop (i + 1) ss)))
+members_here ds ss i s within is left = subst (λ (us : Statements). AreMembersLeft ds us) (members_more ss i s within is) left
+
+pub member_ready : (ds : List Decl) (ss : List Stmt) (i : ℕ) (s : Stmt) → i < length ss → s ≡ get_or ss i s → AreMembersLeft ds (members_of (drop i ss)) → IsStatementReady ds (statement_of s)
+member_ready ds ss i s within is left =
+    let here = members_here ds ss i s within is left in
+    let rest = members_of (drop (i + 1) ss) in
+    let pieces = subst (λ (m : Met). IsSound ds m) (sym (each_pieces ds (statement_of s) rest)) here.sound in
+    record { shaped = here.shaped.0; free = (either_false (has_call (statement_of s)) (some_has_call rest) here.free).0; sound = sound_left ds (met_of ds (statement_of s)) (met_of_each ds rest) pieces }
+
+pub members_next : (ds : List Decl) (ss : List Stmt) (i : ℕ) (s : Stmt) → i < length ss → s ≡ get_or ss i s → AreMembersLeft ds (members_of (drop i ss)) → AreMembersLeft ds (members_of (drop (i + 1) ss))
+members_next ds ss i s within is left =
+    let here = members_here ds ss i s within is left in
+    let rest = members_of (drop (i + 1) ss) in
+    let pieces = subst (λ (m : Met). IsSound ds m) (sym (each_pieces ds (statement_of s) rest)) here.sound in
+    record { shaped = here.shaped.1; free = (either_false (has_call (statement_of s)) (some_has_call rest) here.free).1; sound = sound_right ds (met_of ds (statement_of s)) (met_of_each ds rest) pieces }
+
+pub member_made : (ds : List Decl) (ss : List Stmt) (i : ℕ) (s : Stmt) (made new : List TStmt) (t : TStmt) (total : Processes) → i < length ss → s ≡ get_or ss i s → process_of t ≡ process_form ds (statement_of s) → new ≡ made ++ t ∷ [] → before_members made (processes_form ds (members_of (drop i ss))) ≡ total → before_members new (processes_form ds (members_of (drop (i + 1) ss))) ≡ total
+member_made ds ss i s made new t total within is is_made pushed so_far =
+    let rest = processes_form ds (members_of (drop (i + 1) ss)) in
+    let begun = ap (λ (us : Statements). before_members made (processes_form ds us)) (sym (members_more ss i s within is)) ∙ so_far in
+    ap (λ (ts : List TStmt). before_members ts rest) pushed ∙ one_member made t rest ∙ ap (λ (p : Process). before_members made (typed.and_member p rest)) is_made ∙ begun
+
+pub then_made : (ds : List Decl) (s : Stmt) (v : Vec Stmt Global) (ss : List Stmt) (i : ℕ) (t : Vec TStmt Global) → s ≡ Then v → ss ≡ v.items → length ss ≤ i → before_members t.items (processes_form ds (members_of (drop i ss))) ≡ processes_form ds (members_of ss) → process_of (made.Then t) ≡ process_form ds (statement_of s)
+then_made ds s v ss i t is same over so_far =
+    let done = ap (λ (us : Statements). before_members t.items (processes_form ds us)) (sym (members_end ss i over)) ∙ so_far in
+    let tree : statement_of s ≡ follows (members_of ss) = then_is s v is ∙ ap (λ (xs : List Stmt). follows (members_of xs)) (sym same) in
+    rows.then_is (made.Then t) t refl ∙ ap in_turn (sym (members_all t.items) ∙ done) ∙ ap (process_form ds) (sym tree)
+
+pub beside_made : (ds : List Decl) (s : Stmt) (v : Vec Stmt Global) (ss : List Stmt) (i : ℕ) (t : Vec TStmt Global) → s ≡ Beside v → ss ≡ v.items → length ss ≤ i → before_members t.items (processes_form ds (members_of (drop i ss))) ≡ processes_form ds (members_of ss) → process_of (made.Beside t) ≡ process_form ds (statement_of s)
+beside_made ds s v ss i t is same over so_far =
+    let done = ap (λ (us : Statements). before_members t.items (processes_form ds us)) (sym (members_end ss i over)) ∙ so_far in
+    let tree : statement_of s ≡ besides (members_of ss) = beside_is s v is ∙ ap (λ (xs : List Stmt). besides (members_of xs)) (sym same) in
+    rows.beside_is (made.Beside t) t refl ∙ ap side_by_side (sym (members_all t.items) ∙ done) ∙ ap (process_form ds) (sym tree)
+
+-- arms
+
+pub record AreArmsLeft (ds : List Decl) (arms : Arms) : Type 0 where
+  pub shaped : AreShapedArms arms
+  pub free : arm_has_call arms ≡ false
+  pub sound : IsSound ds (met_of_arms ds arms)
+
+pub select_left : (ds : List Decl) (s : Stmt) (again : Bool) (v : Vec Arm Global) (xs : List Arm) → s ≡ Select again v → xs ≡ v.items → IsShapedStatement (statement_of s) → has_call (statement_of s) ≡ false → IsSound ds (met_of ds (statement_of s)) → AreArmsLeft ds (arms_of xs)
+select_left ds s again v xs is same shaped free sound =
+    let tree : statement_of s ≡ selects again (arms_of xs) = select_is s again v is ∙ ap (λ (ys : List Arm). selects again (arms_of ys)) (sym same) in
+    let shape = subst (λ (x : Statement). IsShapedStatement x) tree shaped in
+    record { shaped = shape.2; free = sym (ap has_call tree) ∙ free; sound = subst (λ (x : Statement). IsSound ds (met_of ds x)) tree sound }
+
+pub record IsArmReady (ds : List Decl) (a : Arm) : Type 0 where
+  pub guard_shaped : IsShapedExpression (expression_of a.guard)
+  pub guard_sound : IsSound ds (met_in ds 1 (expression_of a.guard))
+  pub body : IsStatementReady ds (statement_of a.body)
+
+arms_here : (ds : List Decl) (xs : List Arm) (i : ℕ) (a : Arm) → i < length xs → a ≡ get_or xs i a → AreArmsLeft ds (arms_of (drop i xs)) → AreArmsLeft ds (and_arm (expression_of a.guard) (statement_of a.body) (arms_of (drop (i + 1) xs)))
+arms_here ds xs i a within is left = subst (λ (us : Arms). AreArmsLeft ds us) (arms_more xs i a within is) left
+
+pub arm_ready : (ds : List Decl) (xs : List Arm) (i : ℕ) (a : Arm) → i < length xs → a ≡ get_or xs i a → AreArmsLeft ds (arms_of (drop i xs)) → IsArmReady ds a
+arm_ready ds xs i a within is left =
+    let here = arms_here ds xs i a within is left in
+    let rest = arms_of (drop (i + 1) xs) in
+    let g = expression_of a.guard in
+    let s = statement_of a.body in
+    let pieces = subst (λ (m : Met). IsSound ds m) (sym (arm_pieces ds g s rest)) here.sound in
+    let others = sound_right ds (met_in ds 1 g) (met_both (met_of ds s) (met_of_arms ds rest)) pieces in
+    record {
+      guard_shaped = here.shaped.0;
+      guard_sound = sound_left ds (met_in ds 1 g) (met_both (met_of ds s) (met_of_arms ds rest)) pieces;
+      body = record { shaped = here.shaped.1; free = (either_false (has_call s) (arm_has_call rest) here.free).0; sound = sound_left ds (met_of ds s) (met_of_arms ds rest) others };
+    }
+
+pub arms_next : (ds : List Decl) (xs : List Arm) (i : ℕ) (a : Arm) → i < length xs → a ≡ get_or xs i a → AreArmsLeft ds (arms_of (drop i xs)) → AreArmsLeft ds (arms_of (drop (i + 1) xs))
+arms_next ds xs i a within is left =
+    let here = arms_here ds xs i a within is left in
+    let rest = arms_of (drop (i + 1) xs) in
+    let g = expression_of a.guard in
+    let s = statement_of a.body in
+    let pieces = subst (λ (m : Met). IsSound ds m) (sym (arm_pieces ds g s rest)) here.sound in
+    let others = sound_right ds (met_in ds 1 g) (met_both (met_of ds s) (met_of_arms ds rest)) pieces in
+    record { shaped = here.shaped.2; free = (either_false (has_call s) (arm_has_call rest) here.free).1; sound = sound_right ds (met_of ds s) (met_of_arms ds rest) others }
+
+pub arm_made : (ds : List Decl) (xs : List Arm) (i : ℕ) (a : Arm) (made new : List TArm) (f : TExpr) (t : TStmt) (total : Choices) → i < length xs → a ≡ get_or xs i a → formula_of f ≡ formula_form ds 1 (expression_of a.guard) → process_of t ≡ process_form ds (statement_of a.body) → new ≡ made ++ (record { guard = f; body = t }) ∷ []
+    → before_arms made (choices_form ds (arms_of (drop i xs))) ≡ total → before_arms new (choices_form ds (arms_of (drop (i + 1) xs))) ≡ total
+arm_made ds xs i a made new f t total within is is_guard is_body pushed so_far =
+    let rest = choices_form ds (arms_of (drop (i + 1) xs)) in
+    let begun = ap (λ (us : Arms). before_arms made (choices_form ds us)) (sym (arms_more xs i a within is)) ∙ so_far in
+    ap (λ (ts : List TArm). before_arms ts rest) pushed ∙ one_arm made (record { guard = f; body = t }) rest
+    ∙ ap (λ (g : Formula). before_arms made (typed.and_choice g (process_of t) rest)) is_guard ∙ ap (λ (p : Process). before_arms made (typed.and_choice (formula_form ds 1 (expression_of a.guard)) p rest)) is_body ∙ begun
+
+pub select_made : (ds : List Decl) (s : Stmt) (again : Bool) (v : Vec Arm Global) (xs : List Arm) (i : ℕ) (t : Vec TArm Global) → s ≡ Select again v → xs ≡ v.items → length xs ≤ i → before_arms t.items (choices_form ds (arms_of (drop i xs))) ≡ choices_form ds (arms_of xs) → process_of (made.Select again t) ≡ process_form ds (statement_of s)
+select_made ds s again v xs i t is same over so_far =
+    let done = ap (λ (us : Arms). before_arms t.items (choices_form ds us)) (sym (arms_end xs i over)) ∙ so_far in
+    let tree : statement_of s ≡ selects again (arms_of xs) = select_is s again v is ∙ ap (λ (ys : List Arm). selects again (arms_of ys)) (sym same) in
+    rows.select_is (made.Select again t) again t refl ∙ ap (choosing again) (sym (arms_all t.items) ∙ done) ∙ ap (process_form ds) (sym tree)

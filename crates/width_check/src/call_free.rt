@@ -1,0 +1,50 @@
+//! Whether a program has neither procedures nor calls.
+
+ghost use Rattle.std.specs.Prelude.{◌≡◌};
+ghost use Rattle.std.specs.Bool.{Decides};
+ghost use Rattle.chp_syntax.specs.View.{program_of, statement_of};
+ghost use Rattle.width_check.specs.Calls.{has_call, IsCallFree};
+
+use chp_syntax::{Program, Stmt};
+
+/// Whether a call stands in a statement.
+fn has_call(s: &Stmt) -> bool
+    ensures { result ≡ has_call (statement_of s.now) }
+{
+    match s {
+        Stmt::Skip { .. } | Stmt::Assign { .. } | Stmt::Send { .. } | Stmt::Receive { .. } => false,
+        Stmt::Then { parts } => {
+            for part in parts {
+                if has_call(part) {
+                    return true;
+                }
+            }
+            false
+        }
+        Stmt::Beside { parts } => {
+            for branch in parts {
+                if has_call(branch) {
+                    return true;
+                }
+            }
+            false
+        }
+        Stmt::Select { arms, .. } => {
+            for arm in arms {
+                if has_call(&arm.body) {
+                    return true;
+                }
+            }
+            false
+        }
+        Stmt::Repeat { body } => has_call(body),
+        Stmt::Call { .. } => true,
+    }
+}
+
+/// Whether a program has neither procedures nor calls, as `resolve` asks for.
+pub fn is_call_free(program: &Program) -> bool
+    ensures { Decides result (IsCallFree (program_of program.now)) }
+{
+    program.procs.is_empty() && !has_call(&program.body)
+}

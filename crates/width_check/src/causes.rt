@@ -1,0 +1,44 @@
+//! The first of the causes for which a program is refused.
+
+ghost use Rattle.std.specs.Prelude.{◌≡◌, IfOk, IfErr};
+ghost use Rattle.chp_syntax.specs.Tokens.{IfRefused};
+ghost use Rattle.width_check.specs.Refusing.{AreNone, IsFirstCause};
+ghost use Rattle.width_check.specs.Walk as walk;
+
+use crate::findings::earlier;
+use chp_base::{Fault, FaultCode, Span, TextError};
+
+/// A cause, and the first place at which it holds, where there is one.
+#[derive(Clone, Copy, Debug)]
+pub struct Cause {
+    pub code: FaultCode,
+    pub place: Option<Span>,
+}
+
+/// The earlier of two places, where there are any.
+pub fn earlier_of(first: Option<Span>, second: Option<Span>) -> Option<Span>
+    ensures { result ≡ walk.earlier_of first second }
+{
+    match second {
+        Some(place) => earlier(first, place),
+        None => first,
+    }
+}
+
+/// A refusal by the first of the causes that has a place.
+pub fn refuse(causes: &[Cause]) -> Result<(), TextError>
+    ensures none { IfOk result (λ done. AreNone causes.now) }
+    ensures first { IfErr result (IfRefused (λ f. IsFirstCause causes.now f.code f.at)) }
+    ensures other { IfErr result (IfRefused (λ f. f.other ≡ f.at)) }
+{
+    for cause in causes {
+        if let Some(at) = cause.place {
+            return Err(TextError::Refused(Fault {
+                code: cause.code,
+                at,
+                other: at,
+            }));
+        }
+    }
+    Ok(())
+}
