@@ -34,3 +34,5 @@ pub mod WiresMade
 pub mod RulesInTurn
 pub mod ElementsWritten
 pub mod ResultsOwn
+pub mod MergesWritten
+pub mod Raised

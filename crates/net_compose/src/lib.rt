@@ -4,9 +4,11 @@
 mod bit;
 mod elements;
 mod ends;
+mod first;
 mod firsts;
 mod formula;
 pub mod laws;
+mod merges;
 mod names;
 mod plain;
 mod translate;
