@@ -36,3 +36,5 @@ pub mod ElementsWritten
 pub mod ResultsOwn
 pub mod MergesWritten
 pub mod Raised
+pub mod ReadBack
+pub mod GuardsWritten

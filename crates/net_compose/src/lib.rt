@@ -7,10 +7,12 @@ mod ends;
 mod first;
 mod firsts;
 mod formula;
+mod guards;
 pub mod laws;
 mod merges;
 mod names;
 mod plain;
+mod through;
 mod translate;
 mod wires;
 
