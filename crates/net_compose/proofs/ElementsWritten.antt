@@ -1,5 +1,5 @@
 -- A Q-element whose own nodes are numbered one behind the other.
-use Rattle.std.proofs.Common.{◌≡◌, ◌≢◌, ℕ, ◌+◌, ◌<◌, ◌≤◌, List, [], ◌∷◌, All, ap, arith}
+use Rattle.std.proofs.Common.{◌≡◌, ◌≢◌, ℕ, ◌+◌, ◌<◌, ◌≤◌, [], ◌∷◌, All, ap, arith}
 use Rattle.std.proofs.lemmas.List.Elements.{All-nil, All-cons}
 use Rattle.prs_core.specs.Nets.{RulesValue, with_rules}
 use Rattle.prs_core.specs.Parts.{owned_from, with_owned}

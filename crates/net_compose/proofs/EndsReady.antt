@@ -1,8 +1,7 @@
 -- What the ends of channels and the write sites are given, and what they write.
 use Rattle.std.proofs.Common.{◌≡◌, ℕ, zero, suc, ◌+◌, ◌-◌, ◌*◌, ◌<◌, ◌≤◌, List, [], ◌∷◌, ◌++◌, length, get_or, refl, sym, ap, ◌∙◌, arith, append_assoc}
-use Rattle.std.specs.Prelude.{slice_index_or, map, All}
-use Rattle.std.specs.List.{range_with_len}
-use Rattle.std.proofs.lemmas.List.{append-nil, length-map}
+use Rattle.std.specs.Prelude.{slice_index_or, All}
+use Rattle.std.proofs.lemmas.List.{append-nil}
 use Rattle.std.proofs.lemmas.List.Elements.{All-nil, All-cons, All-head, All-tail}
 use Rattle.std.proofs.lemmas.List.FromFn.{get_or-map-range_with_len}
 use Rattle.chp_base.specs.declared.channel.Channel.{Channel}
@@ -16,7 +15,7 @@ use Rattle.width_check.specs.Typing.{channel_width, var_width, IsDeclaredVar}
 use Rattle.handshake_expand.specs.Layout.{channel_from, var_from, root_request}
 use Rattle.handshake_expand.proofs.Rows.{channel_found, no_channel, var_found, no_var}
 use Rattle.cell_channel.specs.Ends.{end_owned, taken_rails, port_owned}
-use Rattle.cell_variable.specs.Variables.{Bit, bits_from, written_leaves, all_written, write_answer, write_owned}
+use Rattle.cell_variable.specs.Variables.{written_leaves, all_written, write_answer, write_owned}
 use Rattle.function_blocks.specs.Expressions.{formula_rules}
 use Rattle.net_compose.specs.Begins.{channel_firsts, var_firsts}
 use Rattle.net_compose.specs.Translation.{rails_at, ack_at, bits_at, written_at, rules_of}

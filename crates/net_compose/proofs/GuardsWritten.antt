@@ -1,5 +1,5 @@
 -- Guards, one by one.
-use Rattle.std.proofs.Common.{◌≡◌, ℕ, ◌+◌, ◌<◌, ◌≤◌, List, [], ◌∷◌, ◌++◌, length, get_or, drop, refl, sym, ap, subst, ◌∙◌, arith, append_assoc}
+use Rattle.std.proofs.Common.{◌≡◌, ℕ, ◌+◌, ◌<◌, ◌≤◌, List, [], ◌∷◌, ◌++◌, length, get_or, drop, refl, sym, ap, subst, ◌∙◌, arith}
 use Rattle.chp_base.specs.declared.channel.Channel.{Channel}
 use Rattle.prs_core.specs.Nets.{RulesValue, NodeRules}
 use Rattle.prs_core.specs.Pairs.{Pair, rails_of}
@@ -12,7 +12,7 @@ use Rattle.width_check.specs.View.{formula_of}
 use Rattle.handshake_expand.specs.Layout.{formula_size, guards_size}
 use Rattle.handshake_expand.specs.PartTree.{arms_of}
 use Rattle.handshake_expand.proofs.Branches.{sites_more, sites_done}
-use Rattle.handshake_expand.proofs.Rows.{arm_at, no_more_arms}
+use Rattle.handshake_expand.proofs.Rows.{arm_at}
 use Rattle.function_blocks.specs.Expressions.{formula_rules, formula_result}
 use Rattle.net_compose.specs.Translation.{bits_at, guard_pairs, guards_rules}
 use Rattle.net_compose.proofs.RulesInTurn.{guard_rules_here, guard_pairs_here, guard_rules_end, guard_pairs_end}

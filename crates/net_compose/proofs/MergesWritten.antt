@@ -1,5 +1,5 @@
 -- Merges, bit by bit.
-use Rattle.std.proofs.Common.{◌≡◌, ◌≢◌, ℕ, zero, suc, ◌+◌, ◌*◌, ◌<◌, ◌≤◌, List, [], ◌∷◌, ◌++◌, length, get_or, map, refl, sym, ap, subst, ◌∙◌, arith}
+use Rattle.std.proofs.Common.{◌≡◌, ◌≢◌, ℕ, suc, ◌+◌, ◌*◌, ◌<◌, ◌≤◌, List, [], ◌∷◌, ◌++◌, length, get_or, map, refl, sym, ap, subst, ◌∙◌, arith}
 use Rattle.std.specs.Prelude.{slice_index_or, take, All}
 use Rattle.std.specs.declared.alloc.Global.{Global}
 use Rattle.std.specs.declared.vec.Vec.{Vec}
@@ -11,7 +11,7 @@ use Rattle.prs_core.specs.Parts.{owned_from, with_owned}
 use Rattle.cell_select.specs.PortNodes.{pairs_of}
 use Rattle.cell_select.proofs.PairLists.{pair_in, pair_within}
 use Rattle.cell_variable.specs.Variables.{bits_from, merges_owned}
-use Rattle.net_compose.specs.RailLists.{rails_in, bits_in}
+use Rattle.net_compose.specs.RailLists.{rails_in}
 use Rattle.net_compose.specs.Translation.{rail_rules}
 use Rattle.net_compose.proofs.EndsReady.{first_found}
 

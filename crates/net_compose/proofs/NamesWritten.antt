@@ -1,6 +1,6 @@
 -- The names of nodes, one by one.
 use Rattle.std.proofs.Common.{◌≡◌, ℕ, ◌+◌, ◌<◌, ◌≤◌, List, [], ◌∷◌, ◌++◌, length, sym, ap, ◌∙◌, arith}
-use Rattle.std.specs.Prelude.{take, slice_index_or}
+use Rattle.std.specs.Prelude.{take}
 use Rattle.std.proofs.lemmas.List.{take_more, take_all}
 use Rattle.chp_base.specs.Names.{IsNodeName}
 use Rattle.width_check.specs.Processes.{TypedProgram}

@@ -1,11 +1,11 @@
 -- A hidden variable is read back, and its rules stand together.
 use Rattle.std.proofs.Common.{◌≡◌, ◌≢◌, ℕ, zero, suc, ◌+◌, ◌-◌, ◌*◌, ◌<◌, ◌≤◌, List, [], ◌∷◌, ◌++◌, length, All, refl, sym, ap, subst, ◌∙◌, arith, append_assoc}
-use Rattle.std.specs.Prelude.{take, drop}
+use Rattle.std.specs.Prelude.{take}
 use Rattle.std.proofs.lemmas.List.{length-append}
 use Rattle.std.proofs.lemmas.List.Elements.{All-cons, All-head, All-tail}
 use Rattle.chp_base.specs.declared.span.Span.{Span}
 use Rattle.prs_core.specs.Nets.{RulesValue, NodeRules}
-use Rattle.prs_core.specs.Pairs.{Pair, pair_of, pair_at, pairs_from, rails_of}
+use Rattle.prs_core.specs.Pairs.{Pair, pair_at, pairs_from, rails_of}
 use Rattle.prs_core.specs.Parts.{owned_from, with_owned}
 use Rattle.width_check.specs.declared.typed.Var.{Var}
 use Rattle.width_check.specs.Processes.{Formula, reading, TypedProgram}

@@ -1,11 +1,11 @@
 -- The rails of an expression's value are among its own nodes.
-use Rattle.std.proofs.Common.{◌≡◌, ℕ, zero, suc, ◌+◌, ◌-◌, ◌*◌, ◌<◌, ◌≤◌, false, List, [], ◌∷◌, ◌++◌, length, map, All, refl, ◌∙◌, arith}
+use Rattle.std.proofs.Common.{◌≡◌, ℕ, zero, suc, ◌+◌, ◌-◌, ◌*◌, ◌<◌, ◌≤◌, List, [], ◌∷◌, ◌++◌, length, map, All, ◌∙◌, arith}
 use Rattle.std.proofs.lemmas.List.Elements.{All-nil, All-cons}
-use Rattle.prs_core.specs.Pairs.{Pair, pair_at, pairs_from, exchanged, rails_of}
+use Rattle.prs_core.specs.Pairs.{Pair, pairs_from, exchanged, rails_of}
 use Rattle.chp_syntax.specs.declared.tree.Op.{Op}
 use Rattle.chp_syntax.specs.declared.tree.Op.TheVariants.{And, Or, Xor, Add, Sub, Eq, Ne, Lt, Le, Gt, Ge}
 use Rattle.width_check.specs.Processes.{Formula, constant, reading, joined, inverted, chained, compared, Formulas, no_parts, and_part, part_count, Operations, no_operations, and_operation}
-use Rattle.width_check.specs.Values.{width_of, widths_of, is_comparison, IsWellFormed, AreWellFormed, AreOperations}
+use Rattle.width_check.specs.Values.{width_of, widths_of, IsWellFormed, AreWellFormed, AreOperations}
 use Rattle.handshake_expand.specs.Layout.{operator_size, formula_size, parts_size, operations_size}
 use Rattle.function_blocks.specs.Expressions.{formula_result, joined_result, chained_result}
 use Rattle.function_blocks.specs.Gates.{result_pairs, ripple_result, operator_result}

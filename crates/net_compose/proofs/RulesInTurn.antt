@@ -1,7 +1,5 @@
 -- The rules and the sites of sequences, parallel compositions and selections, member by member.
 use Rattle.std.proofs.Common.{◌≡◌, ℕ, ◌+◌, ◌<◌, ◌≤◌, Bool, true, false, List, [], ◌∷◌, ◌++◌, length, get_or, drop, refl, ap, ◌∙◌, arith}
-use Rattle.prs_core.specs.Nets.{NodeRules}
-use Rattle.prs_core.specs.Pairs.{Pair}
 use Rattle.width_check.specs.declared.typed.TArm.{TArm}
 use Rattle.width_check.specs.declared.typed.TStmt.{TStmt}
 use Rattle.width_check.specs.Processes.{Process, choosing, Processes, no_members, and_member, member_count, TypedProgram}

@@ -9,7 +9,7 @@ use Rattle.width_check.specs.Typing.{channel_width}
 use Rattle.handshake_expand.specs.Layout.{wires_before, channel_from}
 use Rattle.handshake_expand.proofs.Branches.{sites_more, sites_done}
 use Rattle.handshake_expand.proofs.Rows.{channel_found}
-use Rattle.net_compose.specs.Translation.{rails_at, ack_at, wires_from}
+use Rattle.net_compose.specs.Translation.{wires_from}
 
 abbrev wires_for : Channel → (first width : ℕ) → Wires
 wires_for c first width = record { channel = c; rails = rails_of (pairs_from width first); ack = first + 2 * width }

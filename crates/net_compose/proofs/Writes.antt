@@ -1,9 +1,9 @@
 -- Rules that are written in parts, one behind the other or in another order, and all of them.
-use Rattle.std.proofs.Common.{◌≡◌, ◌≢◌, ℕ, zero, suc, ◌+◌, ◌<◌, ◌≤◌, ◌⊎◌, List, [], ◌∷◌, ◌++◌, length, map, refl, sym, ap, ◌∙◌, inl, inr, arith, append_assoc}
-use Rattle.std.specs.Prelude.{replicate, slice_set, All, Contains}
-use Rattle.std.proofs.lemmas.List.{append-nil, length-append, set_at}
+use Rattle.std.proofs.Common.{◌≡◌, ◌≢◌, ℕ, ◌+◌, ◌<◌, ◌≤◌, ◌⊎◌, List, [], ◌∷◌, ◌++◌, length, map, refl, sym, ap, ◌∙◌, inl, inr, arith, append_assoc}
+use Rattle.std.specs.Prelude.{replicate, slice_set, Contains}
+use Rattle.std.proofs.lemmas.List.{length-append, set_at}
 use Rattle.std.proofs.lemmas.List.Elements.{All-nil, All-cons}
-use Rattle.prs_core.specs.Nets.{RulesValue, NodeRules, GuardValue, with_rules}
+use Rattle.prs_core.specs.Nets.{RulesValue, NodeRules, GuardValue}
 use Rattle.prs_core.specs.Parts.{Owned, owned, owned_from, with_owned}
 use Rattle.prs_core.specs.Turning.{among_cases, none_among}
 use Rattle.prs_core.specs.Writing.{IsOther, with_append, with_exchanged}

@@ -1,7 +1,7 @@
 -- All sites of a program in text order: what it sends, takes and writes, each with its rails or its node.
 use Rattle.std.specs.Prelude.{ℕ, ◌+◌, List, [], ◌∷◌}
 use Rattle.prs_core.specs.Pairs.{Pair, pairs_from}
-use Rattle.width_check.specs.Processes.{Process, assigning, sending, receiving, TypedProgram}
+use Rattle.width_check.specs.Processes.{assigning, sending, receiving, TypedProgram}
 use Rattle.width_check.specs.Typing.{channel_width}
 use Rattle.function_blocks.specs.Expressions.{formula_result}
 use Rattle.net_compose.specs.Translation.{Sites, assigned_rails}

@@ -1,4 +1,4 @@
-use Rattle.std.proofs.Common.{◌≡◌, ◌+◌, ◌*◌, ap, sym, ◌∙◌, arith}
+use Rattle.std.proofs.Common.{◌+◌, ◌*◌, ap, ◌∙◌, arith}
 use Rattle.width_check.specs.Typed.{program_of}
 use Rattle.net_compose.proofs.EndsReady.{ack_is, ack_before}
 use Rattle.net_compose.proofs.ends.ack_node.Goals as goal

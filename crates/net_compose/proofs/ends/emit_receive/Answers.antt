@@ -1,6 +1,5 @@
-use Rattle.std.proofs.Common.{◌≡◌, ◌+◌, ◌*◌, ◌<◌, length, All, ap, sym, subst, ◌∙◌, arith}
+use Rattle.std.proofs.Common.{◌≡◌, ◌*◌, ◌<◌, length, All, ap, sym, subst, ◌∙◌, arith}
 use Rattle.std.specs.Prelude.{slice_index_or}
-use Rattle.prs_core.specs.Pairs.{pairs_from, rails_of}
 use Rattle.width_check.specs.Typed.{program_of}
 use Rattle.net_compose.proofs.EndsReady.{ack_before, rails_are, rails_counted, rails_below, received_wrote}
 use Rattle.net_compose.proofs.ends.emit_receive.Goals as goal

@@ -1,4 +1,4 @@
-use Rattle.std.proofs.Common.{◌≡◌, suc, ◌+◌, ◌-◌, ◌*◌, ◌++◌, ap, sym, ◌∙◌, arith}
+use Rattle.std.proofs.Common.{◌≡◌, suc, ◌+◌, ◌-◌, ◌++◌, ap, sym, ◌∙◌, arith}
 use Rattle.prs_core.specs.Pairs.{pairs_from, rails_of}
 use Rattle.net_compose.proofs.EndsReady.{rails_more, rails_done}
 use Rattle.net_compose.proofs.ends.rails_from.Goals as goal

@@ -1,4 +1,4 @@
-use Rattle.std.proofs.Common.{◌≡◌, ◌+◌, ◌-◌, ◌*◌, ap, sym, ◌∙◌, arith}
+use Rattle.std.proofs.Common.{◌+◌, ◌-◌, ◌*◌, ap, ◌∙◌, arith}
 use Rattle.width_check.specs.Typed.{program_of}
 use Rattle.net_compose.proofs.EndsReady.{var_some, written_is, written_before}
 use Rattle.net_compose.proofs.ends.written_node.Goals as goal

@@ -1,7 +1,6 @@
-use Rattle.std.proofs.Common.{◌≡◌, suc, ◌+◌, ◌-◌, ◌*◌, ◌<◌, ◌≤◌, ◌%◌, ◌==◌, length, refl, ap, ◌∙◌, arith, length-set}
-use Rattle.std.specs.Prelude.{slice_set}
+use Rattle.std.proofs.Common.{◌≡◌, suc, ◌+◌, ◌-◌, refl, ap, ◌∙◌, arith, length-set}
 use Rattle.cell_variable.specs.Variables.{high_first}
-use Rattle.net_compose.proofs.Raised.{with_raised, raise_step, raise_end, rail_low}
+use Rattle.net_compose.proofs.Raised.{with_raised, raise_step, raise_end}
 use Rattle.net_compose.proofs.first.raise.Goals as goal
 
 pub loop-bit-init : goal.loop-bit-init

@@ -1,4 +1,4 @@
-use Rattle.std.proofs.Common.{◌+◌, ◌<◌, length, ◌∙◌, arith}
+use Rattle.std.proofs.Common.{length, ◌∙◌, arith}
 use Rattle.width_check.specs.Typed.{program_of}
 use Rattle.width_check.specs.View.{formula_of}
 use Rattle.net_compose.proofs.FormulaReady.{bits_there, rails_apart, rails_unasked, wrote_formula}

@@ -1,4 +1,4 @@
-use Rattle.std.proofs.Common.{◌≡◌, ◌+◌, ◌<◌, ◌≤◌, ◌++◌, length, refl, ap, ◌∙◌, arith}
+use Rattle.std.proofs.Common.{◌≡◌, ◌+◌, ◌++◌, refl, ap, ◌∙◌, arith}
 use Rattle.prs_core.specs.Pairs.{rails_of}
 use Rattle.width_check.specs.Typed.{program_of}
 use Rattle.width_check.specs.View.{formula_of}

@@ -1,4 +1,4 @@
-use Rattle.std.proofs.Common.{◌≡◌, suc, ◌+◌, ◌-◌, ◌*◌, ◌<◌, length, refl, ap, ◌∙◌, arith}
+use Rattle.std.proofs.Common.{◌≡◌, suc, ◌+◌, ◌-◌, length, refl, ap, ◌∙◌, arith}
 use Rattle.prs_core.specs.Parts.{with_owned}
 use Rattle.handshake_expand.specs.Layout.{block_size}
 use Rattle.cell_variable.specs.Variables.{bits_from, merges_owned}

@@ -1,6 +1,6 @@
-use Rattle.std.proofs.Common.{◌≡◌, ◌≢◌, ℕ, ◌+◌, ◌*◌, ◌<◌, ◌≤◌, List, length, All, sym, ap, subst, ◌∙◌, arith}
+use Rattle.std.proofs.Common.{◌≢◌, ℕ, ◌+◌, ◌*◌, ◌<◌, ◌≤◌, List, length, All, sym, ap, subst, ◌∙◌, arith}
 use Rattle.net_compose.specs.RailLists.{rails_in}
-use Rattle.net_compose.proofs.MergesWritten.{rails_at_place, each_at_place, each_behind, apart_inputs, merges_wrote}
+use Rattle.net_compose.proofs.MergesWritten.{rails_at_place, each_at_place, apart_inputs, merges_wrote}
 use Rattle.net_compose.proofs.merges.emit_merges.Goals as goal
 
 low_place : (bit place : ℕ) (sites : List (List ℕ)) → place ≤ 2 * bit + 1 → All (λ (rails : List ℕ). 2 * bit + 1 < length rails) sites → All (λ (rails : List ℕ). place < length rails) sites

@@ -1,4 +1,4 @@
-use Rattle.std.proofs.Common.{◌≡◌, suc, ◌+◌, ◌-◌, ◌*◌, ◌<◌, length, refl, ap, arith}
+use Rattle.std.proofs.Common.{◌≡◌, suc, ◌+◌, ◌-◌, ◌*◌, length, refl, ap, arith}
 use Rattle.prs_core.specs.Parts.{owned_from, with_owned}
 use Rattle.net_compose.specs.Translation.{rail_rules}
 use Rattle.net_compose.specs.RailLists.{rails_in, bits_in}

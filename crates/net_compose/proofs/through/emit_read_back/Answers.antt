@@ -1,4 +1,4 @@
-use Rattle.std.proofs.Common.{◌+◌, ◌≤◌, length, ◌∙◌, arith}
+use Rattle.std.proofs.Common.{length, ◌∙◌, arith}
 use Rattle.width_check.specs.View.{formula_of}
 use Rattle.net_compose.proofs.ReadBack.{back_formed, back_size, back_there, back_apart, back_unasked, back_wrote, back_rails}
 use Rattle.net_compose.proofs.through.emit_read_back.Goals as goal

@@ -1,4 +1,4 @@
-use Rattle.std.proofs.Common.{◌≡◌, ◌+◌, ◌-◌, ◌*◌, ◌<◌, ◌≤◌, [], ◌∷◌, length, refl, ap, sym, ◌∙◌, arith}
+use Rattle.std.proofs.Common.{◌≡◌, ◌+◌, ◌-◌, [], ◌∷◌, length, refl, ap, sym, ◌∙◌, arith}
 use Rattle.prs_core.specs.Pairs.{pairs_from, rails_of}
 use Rattle.prs_core.specs.Parts.{owned_from, with_owned}
 use Rattle.width_check.specs.Typed.{program_of}

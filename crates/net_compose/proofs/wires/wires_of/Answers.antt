@@ -1,4 +1,4 @@
-use Rattle.std.proofs.Common.{◌≡◌, ◌+◌, ◌*◌, ◌++◌, length, ap, sym, ◌∙◌, arith}
+use Rattle.std.proofs.Common.{◌≡◌, ◌+◌, ◌++◌, length, ap, arith}
 use Rattle.width_check.specs.Typed.{program_of}
 use Rattle.handshake_expand.specs.Layout.{wires_before}
 use Rattle.handshake_expand.proofs.Placing.{wires_within}
