@@ -24,3 +24,17 @@ pub mod NetHolds
 pub mod HalvedNumbers
 pub mod HalvedCarried
 pub mod ResetCarried
+pub mod FirstsMade
+pub mod FormulaReady
+pub mod Writes
+pub mod SitesPicked
+pub mod EndsReady
+pub mod NamesWritten
+pub mod WiresMade
+pub mod RulesInTurn
+pub mod ElementsWritten
+pub mod ResultsOwn
+pub mod MergesWritten
+pub mod Raised
+pub mod ReadBack
+pub mod GuardsWritten

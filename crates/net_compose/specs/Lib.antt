@@ -4,5 +4,8 @@ pub mod Built
 pub mod Carries
 pub mod Points
 pub mod Sized
+pub mod Begins
+pub mod EverySite
+pub mod RailLists
 pub use Rattle.chp_syntax.specs.View
 pub use Rattle.prs_core.specs.Nets
