@@ -11,7 +11,6 @@ ghost use Rattle.chp_cli.specs.Replies.{Halts, Stops};
 ghost use Rattle.chp_cli.specs.Steps.{FromChecks, FromFile, FromNet, FromProgram, IsFileOf, IsTextOf, Never, most_of_net, most_of_text};
 
 use crate::answer::{Refusal, Stop};
-use crate::calls::has_calls;
 use chp_base::TextError;
 use chp_edge::{ReadEnd, Shelf, read_all};
 use chp_syntax::{Program, parse};
@@ -19,7 +18,7 @@ use prs_core::Net;
 use prs_file::{NetReadError, read_net};
 use sharing_check::{Disjoint, share};
 use std::alloc::Global;
-use width_check::resolve;
+use width_check::{is_call_free, resolve};
 
 /// The most bytes of a program text.
 pub const MOST_OF_TEXT: usize = 262_144;
@@ -74,7 +73,7 @@ pub fn checked_program<'a>(alloc: Global, program: &Program) -> Result<Disjoint,
     ensures form { IfOk result (λ disjoint. typed_of disjoint ≡ typed_form (program_of program.now)) }
     ensures stopped { IfErr result (Halts (FromChecks (program_of program.now) (Never (program_of program.now)))) }
 {
-    if has_calls(program) {
+    if !is_call_free(program) {
         return Err(Stop::Refused(Refusal::NotBuilt));
     }
     let typed = match resolve(alloc, program) {

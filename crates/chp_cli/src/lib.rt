@@ -2,7 +2,6 @@
 #![tactic(auto)]
 
 mod answer;
-mod calls;
 mod check;
 mod command;
 mod compile;

@@ -1,5 +1,5 @@
 -- The guards of an expression, part by part: how far they are made, and what is left.
-use Rattle.std.proofs.Common.{◌≡◌, ◌≢◌, ℕ, zero, suc, ◌+◌, ◌-◌, ◌*◌, ◌^◌, ◌<◌, ◌≤◌, List, [], ◌∷◌, ◌++◌, length, take, drop, All, refl, sym, ap, subst, ◌∙◌, arith, append_assoc, length-append}
+use Rattle.std.proofs.Common.{◌≡◌, ◌≢◌, ℕ, zero, suc, ◌+◌, ◌-◌, ◌*◌, ◌^◌, ◌<◌, ◌≤◌, List, [], ◌∷◌, ◌++◌, length, take, drop, get_or, All, refl, sym, ap, subst, ◌∙◌, arith, append_assoc, length-append}
 use Rattle.std.proofs.lemmas.List.{append-nil}
 use Rattle.std.specs.Prelude.{slice_index_or, min}
 use Rattle.prs_core.specs.Nets.{NodeRules}
@@ -7,7 +7,12 @@ use Rattle.prs_core.specs.Pairs as nodes
 use Rattle.prs_core.specs.Pairs.{Pair, pair_at, pairs_from}
 use Rattle.prs_core.specs.Parts.{Keeps}
 use Rattle.chp_syntax.specs.declared.tree.Op.{Op}
+use Rattle.std.specs.declared.alloc.Global.{Global}
+use Rattle.std.specs.declared.boxed.Box.{Box}
 use Rattle.width_check.specs.declared.typed.Var.{Var}
+use Rattle.width_check.specs.declared.typed.TExpr.{TExpr, Compare}
+use Rattle.width_check.specs.declared.typed.TLink.{TLink}
+use Rattle.width_check.specs.View.{formula_of}
 use Rattle.width_check.specs.Processes.{Formula, constant, reading, joined, inverted, chained, compared, Formulas, no_parts, and_part, Operations, no_operations, and_operation}
 use Rattle.width_check.specs.Values.{width_of, IsWellFormed, AreWellFormed, AreOperations}
 use Rattle.width_check.specs.Typing.{var_width, ReadsFrom, EachReadsFrom, AllReadFrom}
@@ -19,6 +24,7 @@ use Rattle.function_blocks.specs.BitsRead.{EachRead, EachPart, EachOperation, bi
 use Rattle.function_blocks.specs.ExpressionParts.{IsOutside, AreDistinct, expression_part}
 use Rattle.width_check.proofs.Bounds.{width_most}
 use Rattle.function_blocks.proofs.PartSizes.{some_width}
+use Rattle.handshake_expand.proofs.Rows.{parts_of, links_of, part_at, link_at}
 use Rattle.function_blocks.proofs.ReadBits.{each_formed, var_bound, vars_over, over_bits, over_reads}
 use Rattle.function_blocks.proofs.ExpressionKeeps.{expression_keeps}
 use Rattle.function_blocks.proofs.Sizes.{result_length, rules_length, operator_length, each_bit}
@@ -66,6 +72,13 @@ pub counted : (firsts : List ℕ) (e : Formula) (request from : ℕ) → IsWellF
     → length (formula_rules (bits_in_blocks firsts) e request from) ≡ formula_size e
 counted firsts e request from h = rules_length (block_vars firsts e) (bits_in_blocks firsts) (block_bits firsts e) e request from h (block_reads firsts e h)
 
+-- a comparison by its sides
+pub compare_is : (e : TExpr) (op : Op) (a b : Box TExpr Global) (left right : TExpr) → e ≡ Compare op a b → left ≡ a.value → right ≡ b.value
+    → formula_of e ≡ compared op (formula_of left) (formula_of right)
+compare_is e op a b left right is left_is right_is =
+    ap formula_of is
+    ∙ (ap (λ x. compared op (formula_of x) (formula_of b.value)) (sym left_is) ∙ ap (λ x. compared op (formula_of left) (formula_of x)) (sym right_is))
+
 -- the place behind what was added
 grown : (from : ℕ) (old more now : List NodeRules) (n : ℕ) → now ≡ old ++ more → length more ≡ n → from + length now ≡ from + length old + n
 grown from old more now n is size = let e : length now ≡ length old + length more = ap length is ∙ length-append old more in omega (arith, e, size)
@@ -81,6 +94,10 @@ module _ (firsts : List ℕ) (request from : ℕ) where
   pub record Done (old : List NodeRules) (f : Formula) (made : List NodeRules) (bits : List Pair) : Type 0 where
     pub made_is : made ≡ old ++ formula_rules Bits f request (from + length old)
     pub bits_are : bits ≡ formula_result f (from + length old)
+
+  pub done : (old : List NodeRules) (f : Formula) (made : List NodeRules) (bits : List Pair) → made ≡ old ++ formula_rules Bits f request (from + length old)
+      → bits ≡ formula_result f (from + length old) → Done old f made bits
+  done old f made bits made_is bits_are = record { made_is = made_is; bits_are = bits_are }
 
   -- so many parts of a join are left
   pub record Joining (old : List NodeRules) (f : Formula) (rest : Formulas) (made : List NodeRules) (bits : List Pair) : Type 0 where
@@ -112,6 +129,11 @@ module _ (firsts : List ℕ) (request from : ℕ) where
         read = read;
         room = omega (arith, size, room);
       }
+
+  pub part_left : (old : List NodeRules) (f : Formula) (es : List TExpr) (i : ℕ) (e : TExpr) (made : List NodeRules) (bits : List Pair)
+      → Joining old f (parts_of (drop i es)) made bits → i < length es → e ≡ get_or es i e
+      → Joining old f (and_part (formula_of e) (parts_of (drop (i + 1) es))) made bits
+  part_left old f es i e made bits j within is = subst (λ (r : Formulas). Joining old f r made bits) (part_at es i e within is) j
 
   pub join_more : (old : List NodeRules) (f e : Formula) (more : Formulas) (made now : List NodeRules) (bits lower all : List Pair)
       → Joining old f (and_part e more) made bits → now ≡ made ++ formula_rules Bits e request (from + length made)
@@ -166,6 +188,11 @@ module _ (firsts : List ℕ) (request from : ℕ) where
         some = let k = some_width e formed.0 in omega (arith, wide, k);
         most = let k = width_most e formed.0 in omega (arith, wide, k);
       }
+
+  pub link_left : (old : List NodeRules) (f : Formula) (ls : List TLink) (i : ℕ) (l : TLink) (made : List NodeRules) (bits : List Pair)
+      → Chaining old f (links_of (drop i ls)) made bits → i < length ls → l ≡ get_or ls i l
+      → Chaining old f (and_operation l.op (formula_of l.right) (links_of (drop (i + 1) ls))) made bits
+  link_left old f ls i l made bits j within is = subst (λ (r : Operations). Chaining old f r made bits) (link_at ls i l within is) j
 
   -- the right side is made: then the operator's gates fit
   pub record Fits (made : List NodeRules) (op : Op) (left right : List Pair) : Type 0 where

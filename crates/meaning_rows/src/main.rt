@@ -1,9 +1,7 @@
-//! Worked programs that are made by hand: whether parts are a program, what the operators give, how many nodes circuits
-//! have, and rounds. What each must give stands in the file stdout. Where a command shows the same, the row belongs to
-//! its cases.
+//! Worked programs that are made by hand: whether parts are a program, what the operators give, and rounds. What each
+//! must give stands in the file stdout. Where a command shows the same, the row belongs to its cases.
 #![tactic(auto)]
 
-mod counts;
 mod parts;
 mod programs;
 mod rounds;
@@ -15,7 +13,6 @@ use stop::Stop;
 
 fn rows(alloc: Global, page: &mut String) -> Result<(), Stop> {
     parts::rows(alloc, page)?;
-    counts::rows(alloc, page)?;
     rounds::rows(alloc, page)
 }
 

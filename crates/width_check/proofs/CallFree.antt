@@ -1,13 +1,11 @@
 -- Calls among members and arms.
-use Rattle.std.proofs.Common.{◌≡◌, ℕ, ◌+◌, ◌<◌, ◌≤◌, Bool, true, false, List, [], ◌∷◌, length, map, get_or, drop, refl, sym, ap, ◌∙◌, arith}
+use Rattle.std.proofs.Common.{◌≡◌, ℕ, ◌+◌, ◌<◌, ◌≤◌, Bool, true, false, List, length, get_or, drop, sym, ap, ◌∙◌}
 use Rattle.std.specs.Prelude.{◌||◌}
 use Rattle.std.specs.declared.alloc.Global.{Global}
 use Rattle.std.specs.declared.vec.Vec.{Vec}
 use Rattle.chp_syntax.specs.declared.tree.Arm.{Arm}
-use Rattle.chp_syntax.specs.declared.tree.Proc.{Proc}
 use Rattle.chp_syntax.specs.declared.tree.Stmt.{Stmt, Then, Beside, Select}
-use Rattle.chp_syntax.specs.Trees.{follows, besides, selects, Statements, Arms}
-use Rattle.chp_syntax.specs.View.{statement_of, procedure_of}
+use Rattle.chp_syntax.specs.View.{statement_of}
 use Rattle.width_check.specs.Calls.{has_call, some_has_call, arm_has_call}
 use Rattle.width_check.specs.Walk.{members_of, arms_of}
 use Rattle.width_check.proofs.Lists.{then_is, beside_is, select_is, members_more, members_end, arms_more, arms_end}

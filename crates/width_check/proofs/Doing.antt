@@ -1,16 +1,13 @@
 -- What is made of a statement, member by member.
-use Rattle.std.proofs.Common.{◌≡◌, ℕ, ◌+◌, ◌<◌, ◌≤◌, Bool, true, false, List, [], ◌∷◌, ◌++◌, length, get_or, drop, Option, Some, refl, sym, ap, ◌∙◌, subst, arith}
-use Rattle.std.specs.Prelude.{◌||◌, IsSome}
+use Rattle.std.proofs.Common.{◌≡◌, ℕ, ◌+◌, ◌<◌, ◌≤◌, Bool, true, false, List, [], ◌∷◌, ◌++◌, length, get_or, drop, Some, refl, sym, ap, ◌∙◌, subst, arith}
+use Rattle.std.specs.Prelude.{◌||◌}
 use Rattle.std.specs.declared.alloc.Global.{Global}
 use Rattle.std.specs.declared.vec.Vec.{Vec}
-use Rattle.chp_base.specs.declared.span.Span.{Span}
 use Rattle.chp_syntax.specs.declared.tree.Arm.{Arm}
 use Rattle.chp_syntax.specs.declared.tree.Decl.{Decl}
 use Rattle.chp_syntax.specs.declared.tree.Ident.{Ident}
 use Rattle.chp_syntax.specs.declared.tree.Stmt.{Stmt, Then, Beside, Select}
-use Rattle.chp_syntax.specs.Reading.{arm_count}
 use Rattle.chp_syntax.specs.Shape.{IsShapedExpression, IsShapedStatement, AreShapedMembers, AreShapedArms}
-use Rattle.chp_syntax.specs.Trees as plain
 use Rattle.chp_syntax.specs.Trees.{Expression, Statement, assigns, sends, receives, follows, besides, selects, Statements, and_member, Arms, and_arm}
 use Rattle.chp_syntax.specs.View.{expression_of, statement_of}
 use Rattle.width_check.specs.declared.typed.TArm.{TArm}
@@ -19,15 +16,15 @@ use Rattle.width_check.specs.declared.typed.TStmt as made
 use Rattle.width_check.specs.declared.typed.TStmt.{TStmt}
 use Rattle.width_check.specs.Calls.{has_call, some_has_call, arm_has_call}
 use Rattle.width_check.specs.Form.{formula_form, process_form, processes_form, choices_form}
-use Rattle.width_check.specs.Places.{declaration, declared_width, use_of, written, sent_on, received_on, stored}
+use Rattle.width_check.specs.Places.{declared_width, use_of, written, sent_on, received_on, stored}
 use Rattle.width_check.specs.Processes as typed
 use Rattle.width_check.specs.Processes.{Formula, Process, Processes, Choices, in_turn, side_by_side, choosing}
-use Rattle.width_check.specs.Sound.{AreRanged, IsSound, is_var_in}
+use Rattle.width_check.specs.Sound.{IsSound, is_var_in}
 use Rattle.width_check.specs.View.{formula_of, process_of}
 use Rattle.width_check.specs.Walk.{Met, met_both, met_use, met_in, met_of, met_of_each, met_of_arms, members_of, arms_of}
 use Rattle.width_check.proofs.Lists.{then_is, beside_is, select_is, members_more, members_end, arms_more, arms_end}
 use Rattle.width_check.proofs.Makings.{before_members, before_arms, members_all, arms_all, one_member, one_arm}
-use Rattle.width_check.proofs.Soundness.{sound_left, sound_right, is_declared}
+use Rattle.width_check.proofs.Soundness.{sound_left, sound_right}
 use Rattle.width_check.proofs.Statements as rows
 use Rattle.width_check.proofs.Walks.{assign_pieces, send_pieces, each_pieces, arm_pieces}
 

@@ -1,6 +1,6 @@
 -- The first fault of a program, from the first places that were found for each cause.
-use Rattle.std.proofs.Common.{◌≡◌, ◌≢◌, ℕ, zero, suc, ◌+◌, ◌^◌, ◌<◌, ◌≤◌, Bool, true, false, List, [], ◌∷◌, ◌++◌, Option, Some, None, ◌⊎◌, inl, inr, ⊎_elim, refl, sym, ap, ◌∙◌, subst, arith}
-use Rattle.std.specs.Prelude.{not, ◌||◌, ◌==◌, nat_lt, nat_le, if◌then◌else◌, unwrap_or, flat_map, Contains}
+use Rattle.std.proofs.Common.{◌≡◌, ◌≢◌, ℕ, ◌^◌, ◌<◌, ◌≤◌, Bool, true, false, List, [], ◌∷◌, ◌++◌, Option, Some, None, ◌⊎◌, inl, inr, ⊎_elim, refl, sym, ap, ◌∙◌, subst, arith}
+use Rattle.std.specs.Prelude.{not, ◌||◌, ◌==◌, nat_lt, nat_le, if◌then◌else◌, unwrap_or, Contains}
 use Rattle.std.proofs.lemmas.Bool.Decides.{nat_tests}
 use Rattle.std.proofs.lemmas.List.Elements.{Contains-append_left, Contains-append_right, Contains-append_cases}
 use Rattle.chp_base.specs.declared.span.Span.{Span}
@@ -10,14 +10,13 @@ use Rattle.chp_syntax.specs.declared.tree.Decl.{Decl}
 use Rattle.chp_syntax.specs.Trees.{Expression, number, whole, slice, bit, join, negation, chain, Expressions, no_parts, and_part, Links, no_links, and_link, Statement, skips, assigns, sends, receives, follows, besides, selects, repeats, calls, Statements, no_members, and_member, Arms, no_arms, and_arm, ProgramTree}
 use Rattle.width_check.specs.declared.causes.Cause.{Cause}
 use Rattle.width_check.specs.declared.findings.Findings.{Findings}
-use Rattle.width_check.specs.Order.{IsNoLater, IsFirst}
 use Rattle.width_check.specs.Places.{declared_width, compares, or_width, own_width, own_widths, first_width, span_of, Expected, expect, leaves, leaves_of_parts, leaves_of_links, expressions_in, expressions_in_each, expressions_in_arms}
 use Rattle.width_check.specs.Faults.{all_expressions, all_leaves, IsWideJoin, IsMisfit, IsMisfitLeaf, IsMisfitReceive, IsWideNumber, IsWideFirst, FaultAt, naming_faults, HasNone, IsFirstFault}
 use Rattle.width_check.specs.Refusing.{AreNone, IsFirstCause}
 use Rattle.width_check.specs.Sound.{AreRanged}
-use Rattle.width_check.specs.Walk.{is_earlier, earlier, earlier_of, first_of, first_double, met_of, capped, side_width, is_bad_part, is_unfit, is_misfit, exceeds, is_wide_number, is_misfit_target, is_out_of_range, is_wide_first, no_findings, noted}
+use Rattle.width_check.specs.Walk.{is_earlier, earlier, earlier_of, first_of, first_double, met_of, capped, side_width, is_bad_part, is_unfit, is_misfit, exceeds, is_wide_number, is_out_of_range, is_wide_first, no_findings, noted}
 use Rattle.width_check.proofs.Least.{IsLeast, Passes, least_same, least_more, least_in, no_later_chain, in_rest, front_or_rest, no_item}
-use Rattle.width_check.proofs.Reasons.{is_false, not_both, none_pass, undeclared_least, wrong_kind_least, direction_least, slice_least, widthless_least, target_least, range_least, in_flat_map, flat_map_in}
+use Rattle.width_check.proofs.Reasons.{none_pass, undeclared_least, wrong_kind_least, direction_least, slice_least, widthless_least, target_least, range_least, in_flat_map, flat_map_in}
 use Rattle.width_check.proofs.Doubles.{double_least}
 use Rattle.width_check.proofs.Leaves.{leaf_of_program, ranged_most, declared_most, wide_leaf}
 

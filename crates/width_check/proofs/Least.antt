@@ -1,6 +1,6 @@
 -- The first of the places at which something is.
-use Rattle.std.proofs.Common.{◌≡◌, ℕ, zero, suc, ◌+◌, ◌<◌, ◌≤◌, Bool, true, false, List, [], ◌∷◌, ◌++◌, length, get_or, Option, Some, None, ◌⊎◌, inl, inr, ⊎_elim, refl, sym, ap, ◌∙◌, subst, arith}
-use Rattle.std.specs.Prelude.{not, ◌&&◌, ◌||◌, ◌==◌, nat_lt, if◌then◌else◌, Contains, MatchOption}
+use Rattle.std.proofs.Common.{◌≡◌, ℕ, zero, suc, ◌<◌, Bool, true, false, List, [], ◌∷◌, length, get_or, Option, Some, None, ◌⊎◌, inl, inr, ⊎_elim, refl, sym, ◌∙◌, subst, arith}
+use Rattle.std.specs.Prelude.{◌&&◌, ◌||◌, ◌==◌, nat_lt, if◌then◌else◌, Contains, MatchOption}
 use Rattle.std.proofs.lemmas.Bool.Decides.{nat_tests}
 use Rattle.chp_base.specs.declared.span.Span.{Span}
 use Rattle.width_check.specs.Order.{IsNoLater, IsFirst}
@@ -41,7 +41,7 @@ no_earlier_than s t is = by_front (nat_lt s.from t.from) (nat_lt t.from s.from) 
     by_front false true one other is = inl (grind (arith, nat_tests))
     by_front false false one other is = by_back (s.from == t.from) (nat_lt t.to s.to) refl refl one other is
 
-no_later_self : (s : Span) → IsNoLater s s
+pub no_later_self : (s : Span) → IsNoLater s s
 no_later_self s = inr (refl, omega arith)
 
 pub no_later_chain : (s t u : Span) → IsNoLater s t → IsNoLater t u → IsNoLater s u

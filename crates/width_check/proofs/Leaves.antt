@@ -1,6 +1,6 @@
 -- Leaves: each is a part of its expression, and of at most 64 bits unless it is a join.
-use Rattle.std.proofs.Common.{◌≡◌, ◌≢◌, ℕ, zero, suc, ◌+◌, ◌-◌, ◌^◌, ◌<◌, ◌≤◌, Bool, true, false, List, [], ◌∷◌, ◌++◌, Option, Some, None, ◌⊎◌, inl, inr, ⊎_elim, refl, sym, ap, ◌∙◌, subst, arith}
-use Rattle.std.specs.Prelude.{not, ◌||◌, ◌==◌, nat_lt, nat_le, if◌then◌else◌, unwrap_or, flat_map, find, Contains}
+use Rattle.std.proofs.Common.{◌≡◌, ℕ, ◌+◌, ◌-◌, ◌<◌, ◌≤◌, Bool, true, false, List, [], ◌∷◌, ◌++◌, Option, Some, None, ⊎_elim, refl, subst, arith}
+use Rattle.std.specs.Prelude.{◌||◌, nat_lt, nat_le, if◌then◌else◌, unwrap_or, Contains}
 use Rattle.std.specs.Str.{bytes_eq}
 use Rattle.std.proofs.lemmas.Bool.Decides.{nat_tests}
 use Rattle.std.proofs.lemmas.List.Elements.{Contains-append_left, Contains-append_right, Contains-append_cases}
@@ -11,7 +11,7 @@ use Rattle.width_check.specs.Faults.{all_expressions, all_leaves, IsWideJoin}
 use Rattle.width_check.specs.Sound.{AreRanged}
 use Rattle.width_check.specs.Walk.{side_width, is_bad_part, is_out_of_range}
 use Rattle.width_check.proofs.Least.{in_rest, front_or_rest, no_item}
-use Rattle.width_check.proofs.Reasons.{not_both, in_flat_map, flat_map_in}
+use Rattle.width_check.proofs.Reasons.{in_flat_map, flat_map_in}
 
 abbrev pub is_leaf : Expression → Bool
 is_leaf (negation e at) = false

@@ -1,5 +1,5 @@
 -- Members of trees, as lists.
-use Rattle.std.proofs.Common.{◌≡◌, ℕ, ◌+◌, ◌<◌, ◌≤◌, Bool, List, [], ◌∷◌, length, map, get_or, drop, sym, ap, ◌∙◌}
+use Rattle.std.proofs.Common.{◌≡◌, ℕ, ◌+◌, ◌<◌, ◌≤◌, Bool, List, length, get_or, drop, sym, ap, ◌∙◌}
 use Rattle.std.proofs.lemmas.List.{drop_more, drop_all}
 use Rattle.std.specs.declared.alloc.Global.{Global}
 use Rattle.std.specs.declared.boxed.Box.{Box}
@@ -9,8 +9,8 @@ use Rattle.chp_syntax.specs.declared.tree.Expr.{Expr, Join, Chain}
 use Rattle.chp_syntax.specs.declared.tree.Link.{Link}
 use Rattle.chp_syntax.specs.declared.tree.Arm.{Arm}
 use Rattle.chp_syntax.specs.declared.tree.Stmt.{Stmt, Then, Beside, Select}
-use Rattle.chp_syntax.specs.Trees.{join, chain, Expressions, no_parts, and_part, Links, no_links, and_link, Statement, follows, besides, selects, Statements, no_members, and_member, Arms, no_arms, and_arm}
-use Rattle.chp_syntax.specs.View.{expression_of, link_of, and_pair, statement_of, guarded_of, and_guarded, onto}
+use Rattle.chp_syntax.specs.Trees.{join, chain, no_parts, and_part, no_links, and_link, follows, besides, selects, no_members, and_member, no_arms, and_arm}
+use Rattle.chp_syntax.specs.View.{expression_of, statement_of}
 use Rattle.chp_syntax.proofs.Rows.{join_tree, chain_tree, then_tree, beside_tree, select_tree}
 use Rattle.width_check.specs.Walk.{parts_of, links_of, members_of, arms_of}
 

@@ -1,6 +1,6 @@
 -- The numbers of names among the channels and the variables.
-use Rattle.std.proofs.Common.{◌≡◌, ℕ, zero, suc, ◌+◌, ◌<◌, ◌≤◌, Bool, true, false, List, [], ◌∷◌, length, get_or, Option, Some, None, refl, sym, ap, ◌∙◌, subst, arith}
-use Rattle.std.specs.Prelude.{if◌then◌else◌, slice_get, Contains, IsSome, option_map}
+use Rattle.std.proofs.Common.{◌≡◌, ℕ, zero, suc, ◌+◌, ◌<◌, ◌≤◌, Bool, true, false, List, [], ◌∷◌, length, get_or, Option, Some, None, refl, sym, ap, ◌∙◌, arith}
+use Rattle.std.specs.Prelude.{if◌then◌else◌, slice_get, Contains, IsSome}
 use Rattle.std.specs.List.{IsDistinct, position_or_len}
 use Rattle.std.specs.Str.{bytes_eq}
 use Rattle.std.proofs.lemmas.Map.Keys.{IsDistinct-head, IsDistinct-tail}
@@ -13,7 +13,7 @@ use Rattle.width_check.specs.declared.typed.Var.{Var}
 use Rattle.width_check.specs.Places.{declaration, declared_width, is_var}
 use Rattle.width_check.specs.Form.{channel_of, with_channel, channels_of, with_var, vars_of, channel_number, var_number}
 use Rattle.width_check.specs.Sound.{AreRanged, is_var_in, numbers_of, kind_of}
-use Rattle.width_check.proofs.Scopes.{names, found_within, found_is, none_among}
+use Rattle.width_check.proofs.Scopes.{names, none_among}
 use Rattle.width_check.proofs.Leaves.{declared_among, ranged_some, ranged_most}
 
 pub among_at : (ds : List Decl) (i : ℕ) (d : Decl) → i < length ds → d ≡ get_or ds i d → Contains ds d

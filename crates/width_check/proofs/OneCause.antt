@@ -1,15 +1,15 @@
 -- A program has at most one first fault.
-use Rattle.std.proofs.Common.{◌≡◌, ℕ, ◌<◌, ◌≤◌, List, [], ◌∷◌, ◌⊎◌, inl, inr, refl, sym, ap, ◌∙◌, arith}
+use Rattle.std.proofs.Common.{◌≡◌, ℕ, List, [], ◌∷◌, inl, inr, sym, ap, ◌∙◌, arith}
 use Rattle.chp_base.specs.declared.span.Span.{Span}
 use Rattle.chp_base.specs.declared.fault.FaultCode.{FaultCode}
 use Rattle.chp_syntax.specs.Trees.{ProgramTree}
-use Rattle.width_check.specs.Order.{IsNoLater, IsFirst}
-use Rattle.width_check.specs.Faults.{FaultAt, HasNone, IsFirstFault}
+use Rattle.width_check.specs.Order.{IsNoLater}
+use Rattle.width_check.specs.Faults.{HasNone, IsFirstFault}
 
 one_span : (s t : Span) → s.from ≡ t.from → s.to ≡ t.to → s ≡ t
 one_span s t front back = ap (λ (n : ℕ). let x : Span = record { from = n; to = s.to } in x) front ∙ ap (λ (n : ℕ). let x : Span = record { from = t.from; to = n } in x) back
 
-one_place : (s t : Span) → IsNoLater s t → IsNoLater t s → s ≡ t
+pub one_place : (s t : Span) → IsNoLater s t → IsNoLater t s → s ≡ t
 one_place s t (inl a) (inl b) = absurd (omega (arith, a, b))
 one_place s t (inl a) (inr b) = absurd (omega (arith, a, b.0))
 one_place s t (inr a) (inl b) = absurd (omega (arith, a.0, b))

@@ -1,6 +1,6 @@
 -- What is made of an expression, member by member.
-use Rattle.std.proofs.Common.{◌≡◌, ℕ, ◌+◌, ◌-◌, ◌<◌, ◌≤◌, Bool, true, false, List, [], ◌∷◌, ◌++◌, length, get_or, drop, Option, Some, None, refl, sym, ap, ◌∙◌, subst, arith}
-use Rattle.std.specs.Prelude.{unwrap_or, option_map, Contains, if◌then◌else◌}
+use Rattle.std.proofs.Common.{◌≡◌, ℕ, ◌+◌, ◌<◌, ◌≤◌, true, false, List, [], ◌∷◌, ◌++◌, length, get_or, drop, Option, Some, refl, sym, ap, ◌∙◌, subst, arith}
+use Rattle.std.specs.Prelude.{unwrap_or, option_map, Contains}
 use Rattle.std.specs.declared.alloc.Global.{Global}
 use Rattle.std.specs.declared.boxed.Box.{Box}
 use Rattle.std.specs.declared.vec.Vec.{Vec}
@@ -10,8 +10,7 @@ use Rattle.chp_syntax.specs.declared.tree.Expr.{Expr, Join, Chain}
 use Rattle.chp_syntax.specs.declared.tree.Link.{Link}
 use Rattle.chp_syntax.specs.declared.tree.Op.{Op}
 use Rattle.chp_syntax.specs.Shape.{IsShapedExpression, AreShapedParts, AreShapedLinks}
-use Rattle.chp_syntax.specs.Trees as plain
-use Rattle.chp_syntax.specs.Trees.{Expression, join, chain, Expressions, and_part, Links, no_links, and_link}
+use Rattle.chp_syntax.specs.Trees.{Expression, join, chain, Expressions, and_part, Links, and_link}
 use Rattle.chp_syntax.specs.View.{expression_of}
 use Rattle.width_check.specs.declared.typed.TExpr as made
 use Rattle.width_check.specs.declared.typed.TExpr.{TExpr}
@@ -26,7 +25,7 @@ use Rattle.width_check.specs.Walk.{capped, side_width, lacking_parts, met_in, me
 use Rattle.width_check.proofs.Lists.{join_is, chain_is, parts_more, parts_end, links_more, links_end}
 use Rattle.width_check.proofs.Makings.{before_parts, before_links, parts_all, links_all, one_part, one_link}
 use Rattle.width_check.proofs.Rows as rows
-use Rattle.width_check.proofs.Soundness.{IsPartWidth, part_width, parts_full, IsSideWidth, side_width_of, sound_part, sound_parts, sound_join, sound_first, sound_rest, sound_link, sound_links}
+use Rattle.width_check.proofs.Soundness.{part_width, parts_full, side_width_of, sound_part, sound_parts, sound_join, sound_first, sound_rest, sound_link, sound_links}
 use Rattle.width_check.proofs.Walks.{wanted_of}
 
 -- what is asked of an expression before its typed form is made
@@ -166,10 +165,6 @@ pub record AreSides (ds : List Decl) (u : ℕ) (f : Expr) (l : Link) : Type 0 wh
 one_more : (ls : List Link) (l : Link) → compares (links_of ls) ≡ true → l ≡ get_or ls 0 l → links_of ls ≡ and_link l.op (expression_of l.right) (links_of (drop 1 ls))
 one_more [] l is here = absurd (cc is)
 one_more (k ∷ ls) l is here = ap (λ (x : Link). and_link x.op (expression_of x.right) (links_of ls)) (sym here)
-
-pub some_link : (ls : List Link) → compares (links_of ls) ≡ true → 0 < length ls
-some_link [] is = absurd (cc is)
-some_link (k ∷ ls) is = omega arith
 
 -- the facts of a comparison: its width, and its one link
 pub record IsCompared (ds : List Decl) (first : Box Expr Global) (ls : List Link) (l : Link) (u : ℕ) : Type 0 where

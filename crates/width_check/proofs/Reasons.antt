@@ -1,15 +1,14 @@
 -- Each cause of a refusal, and the first of its places as a walk finds it.
-use Rattle.std.proofs.Common.{◌≡◌, ◌≢◌, ℕ, zero, suc, ◌+◌, ◌^◌, ◌<◌, ◌≤◌, Bool, true, false, List, [], ◌∷◌, ◌++◌, Option, Some, None, ◌⊎◌, inl, inr, ⊎_elim, refl, sym, ap, ◌∙◌, subst, arith}
+use Rattle.std.proofs.Common.{◌≡◌, ◌≢◌, ℕ, ◌<◌, ◌≤◌, Bool, true, false, List, [], ◌∷◌, Option, Some, None, ◌⊎◌, inl, inr, ⊎_elim, refl, sym, subst, arith}
 use Rattle.std.specs.Prelude.{not, ◌&&◌, ◌||◌, ◌==◌, nat_lt, nat_le, if◌then◌else◌, is_none, flat_map, Contains}
 use Rattle.std.proofs.lemmas.Bool.Decides.{nat_tests}
 use Rattle.std.proofs.lemmas.List.Elements.{Contains-append_left, Contains-append_right, Contains-append_cases}
 use Rattle.chp_base.specs.declared.span.Span.{Span}
-use Rattle.chp_base.specs.declared.fault.FaultCode.TheVariants as code
 use Rattle.chp_syntax.specs.declared.tree.Decl.{Decl}
 use Rattle.chp_syntax.specs.declared.tree.DeclKind.{DeclKind}
 use Rattle.chp_syntax.specs.declared.tree.DeclKind.TheVariants.{In, Out, Chan, Var}
-use Rattle.chp_syntax.specs.Trees.{Expression, number, whole, slice, bit, join, negation, chain, Expressions, no_parts, and_part, Links, ProgramTree}
-use Rattle.width_check.specs.Places.{declaration, declared_width, is_var, Role, sent_on, received_on, written, stored, read, Use, uses_in, compares, own_width, span_of, Expected, leaves, expressions_in, inside, Reception, receptions_in}
+use Rattle.chp_syntax.specs.Trees.{Expression, number, whole, slice, bit, join, negation, chain, Expressions, no_parts, and_part, ProgramTree}
+use Rattle.width_check.specs.Places.{declaration, declared_width, is_var, Role, sent_on, received_on, written, stored, read, Use, uses_in, compares, own_width, span_of, Reception, receptions_in}
 use Rattle.width_check.specs.Faults.{IsUndeclared, wants_var, IsOfWrongKind, IsMisdirected, all_expressions, IsBadPart, IsBadSlice, HasPart, LacksWidth, IsOfUnknownWidth, IsMisfitReceive, IsOutOfRange}
 use Rattle.width_check.specs.Walk.{first_of, is_undeclared, differ, differs_in_kind, has_wrong_kind, is_against, goes_against, is_misdirected, is_bad_part, lacking_parts, side_width, lacks_width, lacking, is_misfit_target, is_out_of_range}
 use Rattle.width_check.proofs.Least.{IsLeast, Passes, least_same, least_in, in_rest, front_or_rest, no_item}
@@ -17,9 +16,6 @@ use Rattle.width_check.proofs.Least.{IsLeast, Passes, least_same, least_in, in_r
 pub is_false : (b : Bool) → ¬ (b ≡ true) → b ≡ false
 is_false true h = absurd (h refl)
 is_false false h = refl
-
-pub not_both : {b : Bool} → b ≡ true → b ≡ false → ⊥
-not_both h k = let e : true ≡ false = sym h ∙ k in cc e
 
 -- an item that passes would have a place
 pub none_pass : {X : Type 0} (test : X → Bool) (at : X → Span) (xs : List X) → first_of test at None xs ≡ None → (x : X) → Contains xs x → test x ≡ false

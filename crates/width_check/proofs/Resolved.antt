@@ -1,5 +1,5 @@
 -- What is known when a program is refused, and when it isn't.
-use Rattle.std.proofs.Common.{◌≡◌, List, [], ◌∷◌, Option, None, inl, inr, refl, sym, ap, ◌∙◌, subst}
+use Rattle.std.proofs.Common.{◌≡◌, List, [], ◌∷◌, Option, None, inl, inr, refl, sym, ap, ◌∙◌}
 use Rattle.chp_base.specs.declared.fault.FaultCode.{FaultCode}
 use Rattle.chp_base.specs.declared.fault.FaultCode.TheVariants as code
 use Rattle.chp_base.specs.declared.fault.TextError.{TextError}
@@ -7,7 +7,7 @@ use Rattle.chp_base.specs.declared.fault.TextError.TheVariants.{Refused, NoMemor
 use Rattle.chp_base.specs.declared.span.Span.{Span}
 use Rattle.chp_syntax.specs.declared.tree.Decl.{Decl}
 use Rattle.chp_syntax.specs.Tokens.{IfRefused}
-use Rattle.chp_syntax.specs.Trees.{Statement, ProgramTree}
+use Rattle.chp_syntax.specs.Trees.{ProgramTree}
 use Rattle.width_check.specs.declared.causes.Cause.{Cause}
 use Rattle.width_check.specs.declared.findings.Findings.{Findings}
 use Rattle.width_check.specs.Faults.{naming_faults, HasNone, IsFirstFault}

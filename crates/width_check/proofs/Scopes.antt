@@ -1,6 +1,6 @@
 -- Names that are found in a table, and the widths of expressions.
-use Rattle.std.proofs.Common.{◌≡◌, ℕ, zero, suc, ◌+◌, ◌<◌, ◌≤◌, Bool, true, false, List, [], ◌∷◌, length, map, get_or, drop, Option, Some, None, refl, sym, ap, ◌∙◌, subst, arith}
-use Rattle.std.specs.Prelude.{min, Contains, slice_get, option_map, unwrap_or, if◌then◌else◌}
+use Rattle.std.proofs.Common.{◌≡◌, ℕ, zero, suc, ◌+◌, ◌<◌, ◌≤◌, Bool, true, false, List, [], ◌∷◌, length, map, get_or, Option, Some, None, refl, ◌∙◌, subst, arith}
+use Rattle.std.specs.Prelude.{Contains, slice_get, option_map, unwrap_or}
 use Rattle.std.specs.List.{IsDistinct, AllByRecursion}
 use Rattle.std.specs.Str.{bytes_eq}
 use Rattle.std.proofs.lemmas.Map.Keys.{IsDistinct-head, IsDistinct-tail}
@@ -8,7 +8,7 @@ use Rattle.std.proofs.lemmas.Slice.Eq.{bytes_eq-Decides}
 use Rattle.chp_base.specs.declared.span.Span.{Span}
 use Rattle.chp_syntax.specs.declared.tree.Decl.{Decl}
 use Rattle.chp_syntax.specs.declared.tree.Op.{Op}
-use Rattle.chp_syntax.specs.Trees.{Expression, chain, Expressions, no_parts, and_part, Links, no_links, and_link}
+use Rattle.chp_syntax.specs.Trees.{Expression, chain, Expressions, no_parts, and_part, Links, and_link}
 use Rattle.width_check.specs.Places.{declaration, compares, or_width, own_width, own_widths, first_width}
 use Rattle.width_check.specs.Walk.{capped, side_width}
 
@@ -48,20 +48,8 @@ not_found (d ∷ ds) name none = not_here d ds name (bytes_eq d.name.name name) 
 
 -- widths of more than 64 bits count as 65
 
-pub capped_below : (n : ℕ) → n ≤ 65 → capped n ≡ n
-capped_below n h = grind arith
-
-pub capped_above : (n : ℕ) → 65 ≤ n → capped n ≡ 65
-capped_above n h = grind arith
-
 pub capped_most : (r n : ℕ) → r ≡ capped n → r ≤ 65
 capped_most r n is = grind arith
-
-pub capped_sum : (n m : ℕ) → capped (capped n + m) ≡ capped (n + m)
-capped_sum n m = grind arith
-
-pub capped_right : (n m : ℕ) → capped (n + capped m) ≡ capped (n + m)
-capped_right n m = grind arith
 
 pub wide_already : (n m whole : ℕ) → 64 < n → n ≤ 65 → capped (n + m) ≡ whole → whole ≡ n
 wide_already n m whole wide most is = grind arith
@@ -85,13 +73,6 @@ link_first decls op e more w whole so_far is = step (own_width decls e) so_far i
     step : (o : Option ℕ) → option_map capped (or_width o (first_width decls more)) ≡ whole → Some w ≡ option_map capped o → Some w ≡ whole
     step None so here = absurd (cc here)
     step (Some v) so here = here ∙ so
-
-pub link_later : (decls : List Decl) (op : Op) (e : Expression) (more : Links) (whole : Option ℕ) → option_map capped (first_width decls (and_link op e more)) ≡ whole → None ≡ option_map capped (own_width decls e) → option_map capped (first_width decls more) ≡ whole
-link_later decls op e more whole so_far is = step (own_width decls e) so_far is
-  where
-    step : (o : Option ℕ) → option_map capped (or_width o (first_width decls more)) ≡ whole → None ≡ option_map capped o → option_map capped (first_width decls more) ≡ whole
-    step None so here = so
-    step (Some v) so here = absurd (cc here)
 
 pub left_first : (decls : List Decl) (e : Expression) (more : Links) (w : ℕ) → Some w ≡ option_map capped (own_width decls e) → Some w ≡ option_map capped (side_width decls e more)
 left_first decls e more w is = step (own_width decls e) is

@@ -1,28 +1,24 @@
 -- Where nothing is wrong with an expression, its typed form is an expression of the wanted width.
-use Rattle.std.proofs.Common.{◌≡◌, ◌≢◌, ℕ, zero, suc, ◌+◌, ◌-◌, ◌^◌, ◌<◌, ◌≤◌, Bool, true, false, List, [], ◌∷◌, ◌++◌, length, Option, Some, None, ◌⊎◌, inl, inr, ⊎_elim, refl, sym, ap, ◌∙◌, subst, arith}
-use Rattle.std.specs.Prelude.{not, ◌||◌, ◌==◌, nat_lt, nat_le, if◌then◌else◌, is_none, unwrap_or, option_map, flat_map, Contains, IsSome}
+use Rattle.std.proofs.Common.{◌≡◌, ℕ, suc, ◌+◌, ◌-◌, ◌^◌, ◌<◌, ◌≤◌, Bool, true, false, List, [], ◌∷◌, ◌++◌, length, Option, Some, None, refl, sym, ap, ◌∙◌, subst, arith}
+use Rattle.std.specs.Prelude.{not, ◌||◌, ◌==◌, nat_lt, nat_le, if◌then◌else◌, is_none, unwrap_or, option_map, Contains, IsSome}
 use Rattle.std.specs.Str.{bytes_eq}
 use Rattle.std.proofs.lemmas.Bool.Decides.{nat_tests}
 use Rattle.std.proofs.lemmas.List.Elements.{Contains-append_left, Contains-append_right}
 use Rattle.chp_base.specs.declared.span.Span.{Span}
-use Rattle.chp_base.specs.declared.channel.Channel.{Channel}
 use Rattle.chp_syntax.specs.declared.tree.Decl.{Decl}
 use Rattle.chp_syntax.specs.declared.tree.Ident.{Ident}
 use Rattle.chp_syntax.specs.declared.tree.Op.{Op}
 use Rattle.chp_syntax.specs.Shape.{is_comparison, some_compares, link_count, part_count, IsShapedExpression, AreShapedParts, AreShapedLinks}
 use Rattle.chp_syntax.specs.Trees.{Expression, number, whole, slice, bit, join, negation, chain, Expressions, no_parts, and_part, Links, no_links, and_link}
-use Rattle.width_check.specs.declared.typed.Var.{Var}
 use Rattle.width_check.specs.Processes as typed
 use Rattle.width_check.specs.Places.{declaration, declared_width, is_var, use_of, read, compares, or_width, own_width, own_widths, first_width, span_of, Expected, expect, leaves, leaves_of_links}
-use Rattle.width_check.specs.Faults.{wants_var}
-use Rattle.width_check.specs.Form.{vars_of, var_number, formula_form, parts_form, operations_form, compared_with}
+use Rattle.width_check.specs.Form.{vars_of, var_number, formula_form, parts_form, operations_form}
 use Rattle.width_check.specs.Typing.{var_width, IsOfWidth}
-use Rattle.width_check.specs.Values.{width_of, widths_of}
+use Rattle.width_check.specs.Values.{widths_of}
 use Rattle.width_check.specs.Sound.{AreRanged, is_var_in, IsSound}
-use Rattle.width_check.specs.Walk.{Met, met_both, met_chain, met_in, met_in_parts, met_in_links, capped, side_width, lacking_parts, is_unfit, is_wide_number}
-use Rattle.width_check.proofs.Alike.{Alike, alike}
-use Rattle.width_check.proofs.Least.{in_rest, no_item}
-use Rattle.width_check.proofs.Leaves.{declared_among, declared_most, good_slice}
+use Rattle.width_check.specs.Walk.{Met, met_both, met_chain, met_in, met_in_parts, met_in_links, capped, side_width, lacking_parts, is_unfit}
+use Rattle.width_check.proofs.Least.{in_rest}
+use Rattle.width_check.proofs.Leaves.{declared_most, good_slice}
 use Rattle.width_check.proofs.Judging.{own_most, first_most}
 use Rattle.width_check.proofs.Numbering.{declared_some, var_first, var_behind, var_apart, one_var, no_var}
 use Rattle.width_check.proofs.Walks.{chain_pieces, wanted_of}

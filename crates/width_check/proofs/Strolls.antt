@@ -1,6 +1,6 @@
 -- A walk over members as lists, step by step.
-use Rattle.std.proofs.Common.{◌≡◌, ℕ, ◌+◌, ◌<◌, ◌≤◌, Bool, List, length, get_or, drop, Option, sym, ap, ◌∙◌}
-use Rattle.std.specs.Prelude.{if◌then◌else◌, option_map, unwrap_or}
+use Rattle.std.proofs.Common.{◌≡◌, ℕ, ◌+◌, ◌<◌, ◌≤◌, Bool, List, length, get_or, drop, subst, Option, Some, None, sym, ap, ◌∙◌}
+use Rattle.std.specs.Prelude.{if◌then◌else◌, is_none, option_map, unwrap_or}
 use Rattle.std.specs.declared.alloc.Global.{Global}
 use Rattle.std.specs.declared.boxed.Box.{Box}
 use Rattle.std.specs.declared.vec.Vec.{Vec}
@@ -11,42 +11,77 @@ use Rattle.chp_syntax.specs.declared.tree.Expr.{Expr, Join, Chain}
 use Rattle.chp_syntax.specs.declared.tree.Link.{Link}
 use Rattle.chp_syntax.specs.declared.tree.Stmt.{Stmt, Then, Beside, Select}
 use Rattle.chp_syntax.specs.Trees as plain
-use Rattle.chp_syntax.specs.Trees.{follows, besides}
+use Rattle.chp_syntax.specs.Trees.{Expression, join, chain, follows, besides}
 use Rattle.chp_syntax.specs.View.{expression_of, statement_of}
 use Rattle.width_check.specs.declared.findings.Findings.{Findings}
-use Rattle.width_check.specs.Places.{compares, own_width}
-use Rattle.width_check.specs.Walk.{capped, side_width, Met, met_in, met_join, met_chain, met_in_parts, met_in_links, met_of, met_of_each, met_of_arms, noted, parts_of, links_of, members_of, arms_of}
+use Rattle.width_check.specs.declared.lead.Lead.{Lead}
+use Rattle.width_check.specs.Leading.{IsLeadTo, lacks, known}
+use Rattle.width_check.specs.Leading.{width as lead_width}
+use Rattle.width_check.specs.Places.{compares, own_width, own_widths, span_of}
+use Rattle.width_check.specs.Walk.{capped, own_or, with_part, with_leaf, met_in, met_chain, met_in_links, met_of, met_of_each, met_of_arms, noted, parts_of, links_of, members_of, arms_of}
 use Rattle.width_check.proofs.Lists.{join_is, chain_is, then_is, beside_is, select_is, parts_more, parts_end, links_more, links_end, members_more, members_end, arms_more, arms_end}
-use Rattle.width_check.proofs.Walks.{noted_part, noted_join, noted_link, noted_chain, noted_member, noted_arm}
+use Rattle.width_check.proofs.Leads.{none_capped, capped_twice, chain_node, lead_first, lead_rest, lead_own}
+use Rattle.width_check.proofs.Swapping.{noted_parts, parts_step, join_whole}
+use Rattle.width_check.proofs.Walks.{noted_wanted, noted_link, noted_chain, noted_member, noted_arm}
 
-pub part_step : (decls : List Decl) (es : List Expr) (i : ℕ) (part : Expr) (f g whole : Findings) (o : Option ℕ) (w : ℕ) → i < length es → part ≡ get_or es i part → noted decls f (met_in_parts decls (parts_of (drop i es))) ≡ whole → o ≡ option_map capped (own_width decls (expression_of part)) → w ≡ unwrap_or o 0 → g ≡ noted decls f (met_in decls w (expression_of part)) → noted decls g (met_in_parts decls (parts_of (drop (i + 1) es))) ≡ whole
-part_step decls es i part f g whole o w within is so_far own wanted new =
-    noted_part decls f g whole (expression_of part) (parts_of (drop (i + 1) es)) o w (ap (λ ps. noted decls f (met_in_parts decls ps)) (sym (parts_more es i part within is)) ∙ so_far) own wanted new
+pub part_step : (ds : List Decl) (es : List Expr) (i : ℕ) (e : Expr) (f g h total : Findings) (own : Option ℕ) (place : Span) → i < length es → e ≡ get_or es i e → noted_parts ds f (parts_of (drop i es)) ≡ total → own ≡ option_map capped (own_width ds (expression_of e)) → place ≡ span_of (expression_of e) → g ≡ noted ds f (met_in ds (own_or ds None (expression_of e)) (expression_of e)) → h ≡ with_part g (is_none own) place → noted_parts ds h (parts_of (drop (i + 1) es)) ≡ total
+part_step ds es i e f g h total own place within is so_far found here new noted_it =
+    let more = parts_of (drop (i + 1) es) in
+    let begun = ap (noted_parts ds f) (sym (parts_more es i e within is)) ∙ so_far in
+    let lacks : is_none own ≡ is_none (own_width ds (expression_of e)) = ap (λ (o : Option ℕ). is_none o) found ∙ none_capped (own_width ds (expression_of e)) in
+    ap (λ (x : Findings). noted_parts ds x more) (noted_it ∙ ap (λ (b : Bool). with_part g b place) lacks ∙ ap (λ (s : Span). with_part g (is_none (own_width ds (expression_of e))) s) here)
+    ∙ parts_step ds f g total (expression_of e) more begun new
 
-pub part_done : (decls : List Decl) (e : Expr) (v : Vec Expr Global) (at : Span) (all es : List Expr) (i : ℕ) (f g findings : Findings) (w : ℕ) → e ≡ Join v at → all ≡ v.items → es ≡ v.items → length es ≤ i → noted decls f (met_in_parts decls (parts_of (drop i es))) ≡ noted decls g (met_in_parts decls (parts_of es)) → g ≡ noted decls findings (met_join w (parts_of all) at) → f ≡ noted decls findings (met_in decls w (expression_of e))
-part_done decls e v at all es i f g findings w is same here over so_far node =
-    let done : f ≡ noted decls g (met_in_parts decls (parts_of es)) = ap (λ ps. noted decls f (met_in_parts decls ps)) (sym (parts_end es i over)) ∙ so_far in
-    done ∙ ap (λ (xs : List Expr). noted decls g (met_in_parts decls (parts_of xs))) (here ∙ sym same)
-    ∙ noted_join decls findings g w (parts_of all) at node
-    ∙ ap (λ x. noted decls findings (met_in decls w x)) (ap (λ (xs : List Expr). plain.join (parts_of xs) at) same ∙ sym (join_is e v at is))
+pub part_done : (ds : List Decl) (e : Expr) (v : Vec Expr Global) (at : Span) (es : List Expr) (i : ℕ) (f g h : Findings) (n w : ℕ) (wanted : Option ℕ) → e ≡ Join v at → es ≡ v.items → length es ≤ i → noted_parts ds g (parts_of (drop i es)) ≡ noted_parts ds f (parts_of es) → n ≡ capped (own_widths ds (parts_of es)) → w ≡ unwrap_or wanted n → h ≡ with_leaf g n w at → h ≡ noted ds f (met_in ds (own_or ds wanted (expression_of e)) (expression_of e))
+part_done ds e v at es i f g h n w wanted is same over so_far own wants leaf =
+    let tree : expression_of e ≡ join (parts_of es) at = join_is e v at is ∙ ap (λ (xs : List Expr). join (parts_of xs) at) (sym same) in
+    let done : g ≡ noted_parts ds f (parts_of es) = ap (noted_parts ds g) (sym (parts_end es i over)) ∙ so_far in
+    let whole = join_whole ds f g n w (parts_of es) at own done in
+    leaf ∙ whole ∙ noted_wanted ds f w (own_or ds wanted (join (parts_of es) at)) (join (parts_of es) at) (by_wanted wanted wants)
+    ∙ ap (λ (x : Expression). noted ds f (met_in ds (own_or ds wanted x) x)) (sym tree)
+  where
+    by_wanted : (o : Option ℕ) → w ≡ unwrap_or o n → capped w ≡ capped (own_or ds o (join (parts_of es) at))
+    by_wanted None so = ap capped (so ∙ own) ∙ capped_twice (own_widths ds (parts_of es))
+    by_wanted (Some u) so = ap capped so
 
 pub link_step : (decls : List Decl) (w : ℕ) (ls : List Link) (i : ℕ) (l : Link) (f g whole : Findings) → i < length ls → l ≡ get_or ls i l → noted decls f (met_in_links decls w (links_of (drop i ls))) ≡ whole → g ≡ noted decls f (met_in decls w (expression_of l.right)) → noted decls g (met_in_links decls w (links_of (drop (i + 1) ls))) ≡ whole
 link_step decls w ls i l f g whole within is so_far new =
     noted_link decls f g whole w l.op (expression_of l.right) (links_of (drop (i + 1) ls)) (ap (λ us. noted decls f (met_in_links decls w us)) (sym (links_more ls i l within is)) ∙ so_far) new
 
-pub link_done : (decls : List Decl) (e : Expr) (first : Box Expr Global) (v : Vec Link Global) (at : Span) (a b c : Expr) (k l m : List Link) (i : ℕ) (findings g h f : Findings) (w wanted : ℕ) → e ≡ Chain first v at
-    → a ≡ first.value → k ≡ v.items → wanted ≡ (if compares (links_of k) then capped (unwrap_or (side_width decls (expression_of a) (links_of k)) 0) else w)
-    → b ≡ first.value → l ≡ v.items → g ≡ noted decls findings (met_chain w (expression_of b) (links_of l) at)
-    → c ≡ first.value → h ≡ noted decls g (met_in decls wanted (expression_of c))
-    → m ≡ v.items → length m ≤ i → noted decls f (met_in_links decls wanted (links_of (drop i m))) ≡ noted decls h (met_in_links decls wanted (links_of m)) → f ≡ noted decls findings (met_in decls w (expression_of e))
-link_done decls e first v at a b c k l m i findings g h f w wanted is ea ek so eb el node ec member em over so_far =
-    let done : f ≡ noted decls h (met_in_links decls wanted (links_of m)) = ap (λ us. noted decls f (met_in_links decls wanted us)) (sym (links_end m i over)) ∙ so_far in
-    let so' = rw (ea, ek) at so in
-    let node' = rw (eb, el) at node in
-    let member' = rw ec at member in
-    done ∙ ap (λ (xs : List Link). noted decls h (met_in_links decls wanted (links_of xs))) em
-    ∙ noted_chain decls findings g h w wanted (expression_of first.value) (links_of v.items) at so' node' member'
-    ∙ ap (λ x. noted decls findings (met_in decls w x)) (sym (chain_is e first v at is))
+pub link_done : (ds : List Decl) (e : Expr) (first : Box Expr Global) (v : Vec Link Global) (at : Span) (a b : Expr) (k l m : List Link) (i : ℕ) (f g h r : Findings) (width : ℕ) (wanted own members : Option ℕ) (lead : Lead) (comparing : Bool) → e ≡ Chain first v at
+    → k ≡ v.items → comparing ≡ compares (links_of k)
+    → a ≡ first.value → l ≡ v.items → IsLeadTo ds wanted (expression_of a) (links_of l) lead
+    → g ≡ (if comparing then with_leaf (with_part f (lacks lead) at) 1 (unwrap_or wanted 1) at else f)
+    → b ≡ first.value → h ≡ noted ds g (met_in ds (own_or ds (known lead) (expression_of b)) (expression_of b)) → (known lead ≡ None → own ≡ option_map capped (own_width ds (expression_of b)))
+    → members ≡ lead_width lead own → width ≡ unwrap_or members 0
+    → m ≡ v.items → length m ≤ i → noted ds r (met_in_links ds width (links_of (drop i m))) ≡ noted ds h (met_in_links ds width (links_of m)) → r ≡ noted ds f (met_in ds (own_or ds wanted (expression_of e)) (expression_of e))
+link_done ds e first v at a b k l m i f g h r width wanted own members lead comparing is ek comp ea el leads node eb front owned member_width all em over so_far =
+    let done : r ≡ noted ds h (met_in_links ds width (links_of m)) = ap (λ us. noted ds r (met_in_links ds width us)) (sym (links_end m i over)) ∙ so_far in
+    let x = expression_of first.value in
+    let more = links_of v.items in
+    let w = own_or ds wanted (chain x more at) in
+    let comp' : comparing ≡ compares more = comp ∙ ap (λ (xs : List Link). compares (links_of xs)) ek in
+    let leads' : IsLeadTo ds wanted x more lead = subst (λ (xs : List Link). IsLeadTo ds wanted x (links_of xs) lead) el (subst (λ (y : Expr). IsLeadTo ds wanted (expression_of y) (links_of l) lead) ea leads) in
+    let front' : h ≡ noted ds g (met_in ds (own_or ds (known lead) x) x) = front ∙ ap (λ (y : Expr). noted ds g (met_in ds (own_or ds (known lead) (expression_of y)) (expression_of y))) eb in
+    let owned' : known lead ≡ None → own ≡ option_map capped (own_width ds x) = λ none. owned none ∙ ap (λ (y : Expr). option_map capped (own_width ds (expression_of y))) eb in
+    let node' : g ≡ noted ds f (met_chain w x more at) = node ∙ chain_node ds f wanted x more at lead comparing comp' leads' in
+    let same = lead_first ds wanted x more at lead leads' in
+    let others = lead_rest ds wanted x more at lead own leads' owned' in
+    done ∙ ap (λ (xs : List Link). noted ds h (met_in_links ds width (links_of xs))) em
+    ∙ noted_chain ds f g h w (own_or ds (known lead) x) width x more at same (ap capped (all ∙ ap (λ (o : Option ℕ). unwrap_or o 0) member_width) ∙ others) node' front'
+    ∙ ap (λ (y : Expression). noted ds f (met_in ds (own_or ds wanted y) y)) (sym (chain_is e first v at is))
+
+-- the own width of a chain, where none is wanted
+pub chain_own : (ds : List Decl) (e : Expr) (first : Box Expr Global) (v : Vec Link Global) (at : Span) (a b : Expr) (k l : List Link) (wanted own members : Option ℕ) (lead : Lead) (comparing : Bool) → e ≡ Chain first v at → k ≡ v.items → comparing ≡ compares (links_of k) → a ≡ first.value → l ≡ v.items → IsLeadTo ds wanted (expression_of a) (links_of l) lead → b ≡ first.value → (known lead ≡ None → own ≡ option_map capped (own_width ds (expression_of b))) → members ≡ lead_width lead own → wanted ≡ None → (if comparing then Some 1 else members) ≡ option_map capped (own_width ds (expression_of e))
+chain_own ds e first v at a b k l wanted own members lead comparing is ek comp ea el leads eb owned member_width none =
+    let x = expression_of first.value in
+    let more = links_of v.items in
+    let comp' : comparing ≡ compares more = comp ∙ ap (λ (xs : List Link). compares (links_of xs)) ek in
+    let leads' : IsLeadTo ds wanted x more lead = subst (λ (xs : List Link). IsLeadTo ds wanted x (links_of xs) lead) el (subst (λ (y : Expr). IsLeadTo ds wanted (expression_of y) (links_of l) lead) ea leads) in
+    let owned' : known lead ≡ None → own ≡ option_map capped (own_width ds x) = λ n. owned n ∙ ap (λ (y : Expr). option_map capped (own_width ds (expression_of y))) eb in
+    ap (λ (o : Option ℕ). let y : Option ℕ = if comparing then Some 1 else o in y) member_width
+    ∙ lead_own ds wanted x more at lead own comparing comp' leads' owned' none
+    ∙ sym (ap (λ (y : Expression). option_map capped (own_width ds y)) (chain_is e first v at is))
 
 pub member_step : (decls : List Decl) (ss : List Stmt) (i : ℕ) (s : Stmt) (f g whole : Findings) → i < length ss → s ≡ get_or ss i s → noted decls f (met_of_each decls (members_of (drop i ss))) ≡ whole → g ≡ noted decls f (met_of decls (statement_of s)) → noted decls g (met_of_each decls (members_of (drop (i + 1) ss))) ≡ whole
 member_step decls ss i s f g whole within is so_far new =

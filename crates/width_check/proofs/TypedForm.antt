@@ -1,13 +1,11 @@
 -- The typed form of a program in which nothing is wrong is a typed program.
-use Rattle.std.proofs.Common.{◌≡◌, ◌≢◌, ℕ, zero, suc, ◌+◌, ◌^◌, ◌<◌, ◌≤◌, Bool, true, false, List, [], ◌∷◌, ◌++◌, length, map, get_or, Option, Some, None, ◌⊎◌, inl, inr, ⊎_elim, refl, sym, ap, ◌∙◌, subst, arith}
+use Rattle.std.proofs.Common.{◌≡◌, ◌≢◌, ℕ, zero, suc, ◌^◌, ◌<◌, Bool, true, false, List, [], ◌∷◌, ◌++◌, length, map, get_or, Option, Some, None, inl, inr, ⊎_elim, refl, sym, ap, ◌∙◌, subst, arith}
 use Rattle.std.specs.Prelude.{not, ◌==◌, nat_le, is_none, option_map, slice_get, Contains, All, AllPairs}
 use Rattle.std.specs.Str.{bytes_eq}
 use Rattle.std.proofs.lemmas.Bool.Decides.{nat_tests}
 use Rattle.std.proofs.lemmas.List.Elements.{All-nil, All-cons, Contains-append_left, Contains-append_right, Contains-append_cases}
 use Rattle.std.proofs.lemmas.List.Kept.{AllPairs-cons}
-use Rattle.chp_base.specs.Names.{IsName}
 use Rattle.chp_base.specs.declared.channel.Channel.{Channel}
-use Rattle.chp_base.specs.declared.channel.Kind.{Kind}
 use Rattle.chp_base.specs.declared.channel.Kind.TheVariants as kind
 use Rattle.chp_base.specs.declared.fault.FaultCode.TheVariants as code
 use Rattle.chp_base.specs.declared.span.Span.{Span}
@@ -20,15 +18,15 @@ use Rattle.chp_syntax.specs.Trees.{Statement, skips, assigns, sends, receives, f
 use Rattle.width_check.specs.declared.typed.Var.{Var}
 use Rattle.width_check.specs.Processes as typed
 use Rattle.width_check.specs.Places.{declaration, declared_width, is_var, Role, Use, use_of, sent_on, received_on, Expected, Reception, span_of, uses_in, receptions_in}
-use Rattle.width_check.specs.Faults.{naming_faults, HasNone, FaultAt, IsDouble, IsMisfitLeaf, IsMisfitReceive, IsWideNumber, IsWideFirst, wants_var, all_expressions, all_leaves, LacksWidth}
+use Rattle.width_check.specs.Faults.{naming_faults, HasNone, FaultAt, IsMisfitLeaf, IsMisfitReceive, IsWideNumber, IsWideFirst, wants_var, all_expressions, all_leaves}
 use Rattle.width_check.specs.Form.{channel_of, channels_of, vars_of, channel_number, formula_form, process_form, processes_form, choices_form}
-use Rattle.width_check.specs.Typing.{kind_at, channel_width, var_width, IsOfWidth, IsProcess, AreProcesses, AreChoices, IsDeclaredChannel, IsDeclaredVar, names_of, IsTyped}
+use Rattle.width_check.specs.Typing.{kind_at, channel_width, IsOfWidth, IsProcess, AreProcesses, AreChoices, IsDeclaredChannel, IsDeclaredVar, names_of, IsTyped}
 use Rattle.width_check.specs.Sound.{AreRanged, is_var_in, IsSound, kind_of}
-use Rattle.width_check.specs.Walk.{Met, met_both, met_use, met_in, met_of, met_of_each, met_of_arms, first_of, is_undeclared, has_wrong_kind, differs_in_kind, is_misdirected, goes_against, is_against, is_bad_part, lacking, is_misfit, is_misfit_target, is_wide_number, is_out_of_range, is_wide_first, capped, differ}
-use Rattle.width_check.proofs.Least.{IsLeast, in_rest, front_or_rest, no_item}
+use Rattle.width_check.specs.Walk.{Met, met_both, met_in, met_of, met_of_each, met_of_arms, is_undeclared, has_wrong_kind, differs_in_kind, is_misdirected, is_against, is_bad_part, is_misfit, is_misfit_target, is_wide_number, is_out_of_range, is_wide_first, capped, differ}
+use Rattle.width_check.proofs.Least.{IsLeast, in_rest, front_or_rest}
 use Rattle.width_check.proofs.Scopes.{names}
 use Rattle.width_check.proofs.Reasons.{none_pass, undeclared_least, wrong_kind_least, direction_least, slice_least, target_least, range_least, lacks_is}
-use Rattle.width_check.proofs.Leaves.{declared_among, ranged_some, ranged_most, declared_most}
+use Rattle.width_check.proofs.Leaves.{ranged_some, ranged_most, declared_most}
 use Rattle.width_check.proofs.Judging.{leaf_least, number_least, first_least}
 use Rattle.width_check.proofs.Numbering.{var_of, one_var, no_var, one_channel, no_channel, channel_first, channel_behind, channel_apart, declared_some}
 use Rattle.width_check.proofs.Soundness.{sound_left, sound_right, is_declared, var_at, expression_typed}

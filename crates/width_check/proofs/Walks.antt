@@ -1,7 +1,6 @@
 -- What a walk notes of members, of an expression and of a statement, piece by piece.
-use Rattle.std.proofs.Common.{◌≡◌, ℕ, zero, suc, ◌+◌, ◌^◌, ◌<◌, ◌≤◌, Bool, true, false, List, [], ◌∷◌, ◌++◌, length, get_or, drop, Option, Some, None, refl, sym, ap, ◌∙◌, subst, arith}
-use Rattle.std.specs.Prelude.{not, ◌||◌, ◌==◌, nat_lt, nat_le, if◌then◌else◌, flat_map, option_map, unwrap_or, min}
-use Rattle.std.proofs.lemmas.Bool.{cases_lt}
+use Rattle.std.proofs.Common.{◌≡◌, ℕ, ◌^◌, Bool, true, false, List, [], ◌∷◌, ◌++◌, Option, Some, None, refl, sym, ap, ◌∙◌, arith}
+use Rattle.std.specs.Prelude.{not, ◌||◌, ◌==◌, nat_lt, nat_le, if◌then◌else◌, is_none, unwrap_or}
 use Rattle.std.proofs.lemmas.Bool.Decides.{nat_tests}
 use Rattle.std.proofs.lemmas.Grind.{flat_map-append}
 use Rattle.std.proofs.lemmas.List.{append-nil}
@@ -9,10 +8,11 @@ use Rattle.chp_base.specs.declared.span.Span.{Span}
 use Rattle.chp_syntax.specs.declared.tree.Decl.{Decl}
 use Rattle.chp_syntax.specs.declared.tree.Ident.{Ident}
 use Rattle.chp_syntax.specs.declared.tree.Op.{Op}
-use Rattle.chp_syntax.specs.Trees.{Expression, number, whole, slice, bit, join, negation, chain, Expressions, no_parts, and_part, Links, no_links, and_link, Statement, assigns, sends, follows, besides, selects, repeats, Statements, no_members, and_member, Arms, no_arms, and_arm}
+use Rattle.chp_syntax.specs.Trees.{Expression, number, whole, slice, bit, join, negation, chain, Links, no_links, and_link, Statement, assigns, sends, Statements, and_member, Arms, and_arm}
 use Rattle.width_check.specs.declared.findings.Findings.{Findings}
-use Rattle.width_check.specs.Places.{declaration, use_of, written, sent_on, read, compares, own_width, own_widths, span_of, Expected, expect, leaves, leaves_of_parts, leaves_of_links, declared_width, expressions_in, expressions_in_each, expressions_in_arms, inside}
-use Rattle.width_check.specs.Walk.{earlier, first_of, Met, met_both, met_nothing, met_use, met_in, met_join, met_chain, met_in_parts, met_in_links, met_of, met_of_each, met_of_arms, all_inside, leaves_of_all, capped, side_width, exceeds, is_unfit, is_misfit, is_wide_number, lacking_parts, noted, differs_in_kind, goes_against}
+use Rattle.width_check.specs.Places.{declaration, use_of, written, sent_on, read, compares, own_width, span_of, Expected, expect, leaves, leaves_of_parts, leaves_of_links, declared_width}
+use Rattle.width_check.specs.Walk.{earlier, first_of, with_part, with_leaf, Met, met_both, met_use, met_in, met_chain, met_in_links, met_of, met_of_each, met_of_arms, capped, side_width, exceeds, is_unfit, is_misfit, is_wide_number, noted, differs_in_kind, goes_against}
+use Rattle.width_check.proofs.Scopes.{own_of_comparison}
 
 pub first_of-append : {X : Type 0} (test : X → Bool) (at : X → Span) (o : Option Span) (xs ys : List X) → first_of test at o (xs ++ ys) ≡ first_of test at (first_of test at o xs) ys
 first_of-append test at o [] ys = refl
@@ -84,25 +84,6 @@ noted_wanted decls f v w e same =
     let numbers : IsBlind is_wide_number v w = record { same = λ x. exceeds_capped x v w same } in
     rw (leaves_same decls misfits e f.leaf, leaves_same decls numbers e f.number) refl
 
-wanted_own : (o : Option ℕ) → capped (unwrap_or (option_map capped o) 0) ≡ capped (unwrap_or o 0)
-wanted_own None = refl
-wanted_own (Some n) = grind arith
-
--- a join
-
-pub join_node : (decls : List Decl) (parts : Expressions) (at : Span) (f g : Findings) (n w : ℕ) → n ≡ capped (own_widths decls parts) → g ≡ record f { widthless = first_of (λ (s : Span). true) (λ (s : Span). s) f.widthless (lacking_parts decls parts) }
-    → record g { leaf = (if nat_lt 64 n || not (n == w) then earlier g.leaf at else g.leaf) } ≡ noted decls f (met_join w parts at)
-join_node decls parts at f g n w own is = rw (is, own, misfit_capped (own_widths decls parts) w, append-nil (lacking_parts decls parts)) refl
-
-pub noted_part : (decls : List Decl) (f g total : Findings) (e : Expression) (more : Expressions) (o : Option ℕ) (w : ℕ) → noted decls f (met_in_parts decls (and_part e more)) ≡ total → o ≡ option_map capped (own_width decls e) → w ≡ unwrap_or o 0 → g ≡ noted decls f (met_in decls w e) → noted decls g (met_in_parts decls more) ≡ total
-noted_part decls f g total e more o w so_far own wanted new =
-    let same : capped w ≡ capped (unwrap_or (own_width decls e) 0) = ap capped (wanted ∙ ap (λ (p : Option ℕ). unwrap_or p 0) own) ∙ wanted_own (own_width decls e) in
-    ap (λ (h : Findings). noted decls h (met_in_parts decls more)) (new ∙ noted_wanted decls f w (unwrap_or (own_width decls e) 0) e same)
-    ∙ noted_both decls f (met_in decls (unwrap_or (own_width decls e) 0) e) (met_in_parts decls more) ∙ so_far
-
-pub noted_join : (decls : List Decl) (f g : Findings) (w : ℕ) (parts : Expressions) (at : Span) → g ≡ noted decls f (met_join w parts at) → noted decls g (met_in_parts decls parts) ≡ noted decls f (met_in decls w (join parts at))
-noted_join decls f g w parts at is = ap (λ (h : Findings). noted decls h (met_in_parts decls parts)) is ∙ noted_both decls f (met_join w parts at) (met_in_parts decls parts)
-
 -- a chain
 
 pub noted_link : (decls : List Decl) (f g total : Findings) (w : ℕ) (op : Op) (e : Expression) (more : Links) → noted decls f (met_in_links decls w (and_link op e more)) ≡ total → g ≡ noted decls f (met_in decls w e) → noted decls g (met_in_links decls w more) ≡ total
@@ -124,20 +105,25 @@ pub chain_pieces : (decls : List Decl) (w : ℕ) (e : Expression) (more : Links)
 chain_pieces decls w e more at true is = rw is refl
 chain_pieces decls w e more at false is = rw is refl
 
-wanted_capped : (decls : List Decl) (e : Expression) (more : Links) (w v : ℕ) (b : Bool) → compares more ≡ b → v ≡ (if compares more then capped (unwrap_or (side_width decls e more) 0) else w) → capped v ≡ capped (wanted_of decls w e more)
-wanted_capped decls e more w v true is so = let same : v ≡ capped (unwrap_or (side_width decls e more) 0) = rw is at so in rw is (grind arith)
-wanted_capped decls e more w v false is so = let same : v ≡ w = rw is at so in rw is (ap capped same)
+-- a chain, of whose members widths are wanted that count as the same
+pub noted_chain : (ds : List Decl) (f g h : Findings) (w u v : ℕ) (e : Expression) (more : Links) (at : Span) → capped u ≡ capped (wanted_of ds w e more) → capped v ≡ capped (wanted_of ds w e more) → g ≡ noted ds f (met_chain w e more at) → h ≡ noted ds g (met_in ds u e) → noted ds h (met_in_links ds v more) ≡ noted ds f (met_in ds w (chain e more at))
+noted_chain ds f g h w u v e more at same others node first =
+    let m = wanted_of ds w e more in
+    links_wanted ds h v m more others
+    ∙ ap (λ (x : Findings). noted ds x (met_in_links ds m more)) (first ∙ noted_wanted ds g u m e same)
+    ∙ noted_both ds g (met_in ds m e) (met_in_links ds m more)
+    ∙ ap (λ (x : Findings). noted ds x (met_both (met_in ds m e) (met_in_links ds m more))) node
+    ∙ noted_both ds f (met_chain w e more at) (met_both (met_in ds m e) (met_in_links ds m more))
+    ∙ ap (λ (x : Met). noted ds f x) (chain_pieces ds w e more at (compares more) refl)
 
-pub noted_chain : (decls : List Decl) (f g h : Findings) (w v : ℕ) (e : Expression) (more : Links) (at : Span) → v ≡ (if compares more then capped (unwrap_or (side_width decls e more) 0) else w) → g ≡ noted decls f (met_chain w e more at) → h ≡ noted decls g (met_in decls v e) → noted decls h (met_in_links decls v more) ≡ noted decls f (met_in decls w (chain e more at))
-noted_chain decls f g h w v e more at wanted node first =
-    let same = wanted_capped decls e more w v (compares more) refl wanted in
-    let u = wanted_of decls w e more in
-    links_wanted decls h v u more same
-    ∙ ap (λ (x : Findings). noted decls x (met_in_links decls u more)) (first ∙ noted_wanted decls g v u e same)
-    ∙ noted_both decls g (met_in decls u e) (met_in_links decls u more)
-    ∙ ap (λ (x : Findings). noted decls x (met_both (met_in decls u e) (met_in_links decls u more))) node
-    ∙ noted_both decls f (met_chain w e more at) (met_both (met_in decls u e) (met_in_links decls u more))
-    ∙ ap (λ (m : Met). noted decls f m) (chain_pieces decls w e more at (compares more) refl)
+-- the chain alone, as it compares or not
+pub chain_alone : (ds : List Decl) (f : Findings) (w : ℕ) (e : Expression) (more : Links) (at : Span) (b : Bool) → b ≡ compares more → (if b then with_leaf (with_part f (is_none (side_width ds e more)) at) 1 w at else f) ≡ noted ds f (met_chain w e more at)
+chain_alone ds f w e more at true is = by_test (is_none (side_width ds e more)) refl
+  where
+    by_test : (c : Bool) → is_none (side_width ds e more) ≡ c → with_leaf (with_part f (is_none (side_width ds e more)) at) 1 w at ≡ noted ds f (met_chain w e more at)
+    by_test true none = let one = own_of_comparison ds e more at (sym is) in rw (← is, none) (ap (λ (o : Option ℕ). let x : Findings = record f { widthless = earlier f.widthless at; leaf = (if is_unfit o w then earlier f.leaf at else f.leaf) } in x) (sym one))
+    by_test false some = let one = own_of_comparison ds e more at (sym is) in rw (← is, some) (ap (λ (o : Option ℕ). let x : Findings = record f { leaf = (if is_unfit o w then earlier f.leaf at else f.leaf) } in x) (sym one))
+chain_alone ds f w e more at false is = rw (← is) refl
 
 -- statements
 

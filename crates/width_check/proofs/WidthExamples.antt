@@ -1,5 +1,5 @@
 -- Small programs by hand: their first faults, and the typed form of one that has none.
-use Rattle.std.proofs.Common.{◌≡◌, ℕ, ◌+◌, Bool, false, List, [], ◌∷◌, Option, Some, None, inl, inr, refl}
+use Rattle.std.proofs.Common.{◌≡◌, ℕ, ◌+◌, false, List, [], ◌∷◌, Some, None, inl, inr, refl}
 use Rattle.std.specs.Prelude.{codes}
 use Rattle.chp_base.specs.declared.channel.Kind.TheVariants as kind
 use Rattle.chp_base.specs.declared.fault.FaultCode.{FaultCode}

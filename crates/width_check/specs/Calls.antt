@@ -1,6 +1,6 @@
 -- Programs with neither procedures nor calls.
-use Rattle.std.specs.Prelude.{◌≡◌, ◌||◌, Bool, true, false, List, []}
-use Rattle.chp_syntax.specs.Trees.{Statement, follows, besides, selects, repeats, calls, Statements, no_members, and_member, Arms, no_arms, and_arm, Procedure, ProgramTree}
+use Rattle.std.specs.Prelude.{◌≡◌, ◌||◌, Bool, true, false, []}
+use Rattle.chp_syntax.specs.Trees.{Statement, follows, besides, selects, repeats, calls, Statements, no_members, and_member, Arms, no_arms, and_arm, ProgramTree}
 
 -- whether a call stands in a statement
 abbrev mutual

@@ -11,6 +11,7 @@ pub mod Faults
 pub mod Walk
 pub mod Refusing
 pub mod Sound
+pub mod Leading
 pub mod Form
 pub mod Sharing
 pub mod Accepted

@@ -1,5 +1,5 @@
 -- The first of some causes that holds anywhere.
-use Rattle.std.specs.Prelude.{◌≡◌, ◌⊎◌, List, [], ◌∷◌, Option, Some, None}
+use Rattle.std.specs.Prelude.{◌≡◌, ◌⊎◌, List, [], ◌∷◌, Some, None}
 use Rattle.chp_base.specs.declared.span.Span.{Span}
 use Rattle.chp_base.specs.declared.fault.FaultCode.{FaultCode}
 use Rattle.width_check.specs.declared.causes.Cause.{Cause}

@@ -1,5 +1,5 @@
 -- Parts of a program in which nothing is wrong.
-use Rattle.std.specs.Prelude.{◌≡◌, ℕ, suc, Bool, false, true, if◌then◌else◌, List, [], ◌∷◌, Contains, Option, Some, option_map}
+use Rattle.std.specs.Prelude.{◌≡◌, ℕ, suc, Bool, false, if◌then◌else◌, List, [], ◌∷◌, Contains, Option, Some, option_map}
 use Rattle.chp_base.specs.declared.span.Span.{Span}
 use Rattle.chp_base.specs.declared.channel.Kind.{Kind}
 use Rattle.chp_base.specs.declared.channel.Kind.TheVariants.{In, Out, Chan}
@@ -7,7 +7,7 @@ use Rattle.chp_syntax.specs.declared.tree.Decl.{Decl}
 use Rattle.chp_syntax.specs.declared.tree.DeclKind.{DeclKind}
 use Rattle.chp_syntax.specs.declared.tree.DeclKind.TheVariants as declares
 use Rattle.chp_syntax.specs.Trees.{Expression}
-use Rattle.width_check.specs.Places.{declaration, declared_width, is_var, Use, Expected, Reception}
+use Rattle.width_check.specs.Places.{declaration, is_var, Use, Expected, Reception}
 use Rattle.width_check.specs.Faults.{wants_var}
 use Rattle.width_check.specs.Walk.{Met, is_misdirected, is_bad_part, lacking, is_misfit, is_misfit_target, is_wide_number, is_out_of_range}
 

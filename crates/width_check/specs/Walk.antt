@@ -1,5 +1,5 @@
 -- What a walk over a program meets, and the first places at which something is wrong with what it has met.
-use Rattle.std.specs.Prelude.{ℕ, ◌+◌, ◌^◌, min, Bool, true, false, not, ◌&&◌, ◌||◌, ◌==◌, nat_lt, nat_le, if◌then◌else◌, List, [], ◌∷◌, ◌++◌, map, flat_map, Option, Some, None, is_none}
+use Rattle.std.specs.Prelude.{ℕ, ◌^◌, min, Bool, true, false, not, ◌&&◌, ◌||◌, ◌==◌, nat_lt, nat_le, if◌then◌else◌, List, [], ◌∷◌, ◌++◌, map, flat_map, Option, Some, None, is_none, unwrap_or}
 use Rattle.std.specs.List.{list_any}
 use Rattle.std.specs.Str.{bytes_eq}
 use Rattle.chp_base.specs.declared.span.Span.{Span}
@@ -56,9 +56,6 @@ pub record Met : Type 0 where
 
 abbrev pub met_both : Met → Met → Met
 met_both m n = record { uses = m.uses ++ n.uses; expressions = m.expressions ++ n.expressions; leaves = m.leaves ++ n.leaves; receptions = m.receptions ++ n.receptions }
-
-abbrev pub met_nothing : Met
-met_nothing = record { uses = []; expressions = []; leaves = []; receptions = [] }
 
 abbrev pub met_use : Use → Met
 met_use u = record { uses = u ∷ []; expressions = []; leaves = []; receptions = [] }
@@ -136,6 +133,11 @@ lacking_parts decls (and_part e more) = if is_none (own_width decls e) then span
 abbrev pub side_width : List Decl → Expression → Links → Option ℕ
 side_width decls e more = or_width (own_width decls e) (first_width decls more)
 
+-- the width that is wanted, where one is, and else the expression's own; 0 where it has none
+abbrev pub own_or : List Decl → Option ℕ → Expression → ℕ
+own_or decls None e = unwrap_or (own_width decls e) 0
+own_or decls (Some w) e = w
+
 abbrev pub lacks_width : List Decl → Expression → Links → Bool
 lacks_width decls e more = compares more && is_none (side_width decls e more)
 
@@ -177,6 +179,17 @@ noted decls f m = record {
   target = first_of (is_misfit_target decls) (λ (r : Reception). r.target.at) f.target m.receptions;
   number = first_of is_wide_number (λ (l : Expected). span_of l.expression) f.number m.leaves;
 }
+
+-- findings, and what an expression is made of, of which this width is wanted, or else its own one
+abbrev pub surveyed : List Decl → Findings → Option ℕ → Expression → Findings
+surveyed decls f wanted e = noted decls f (met_in decls (own_or decls wanted e) e)
+
+-- findings, and a part or a comparison that may lack a width, or a leaf of a width where another one is wanted
+abbrev pub with_part : Findings → Bool → Span → Findings
+with_part f lacks s = record f { widthless = (if lacks then earlier f.widthless s else f.widthless) }
+
+abbrev pub with_leaf : Findings → (own wanted : ℕ) → Span → Findings
+with_leaf f own wanted s = record f { leaf = (if nat_lt 64 own || not (own == wanted) then earlier f.leaf s else f.leaf) }
 
 abbrev pub no_findings : Findings
 no_findings = record { undeclared = None; wrong_kind = None; direction = None; slice = None; widthless = None; leaf = None; target = None; number = None }

@@ -5,9 +5,9 @@ ghost use Rattle.width_check.specs.Walk as walk;
 
 use chp_base::Span;
 
-/// For each cause the first of the places that were found: a name that isn't declared, a name of the wrong kind, an end of
-/// a channel that is the environment's, bits that a variable doesn't have, no width where one is wanted, a wrong width of
-/// an expression, a wrong width of a receive's variable, and a number that doesn't fit.
+/// For each cause the first of the places that were found: a name that isn't declared, a name of the wrong kind, an end
+/// of a channel that is the environment's, bits that a variable doesn't have, no width where one is wanted, a wrong
+/// width of an expression, a wrong width of a receive's variable, and a number that doesn't fit.
 #[derive(Clone, Copy, Debug)]
 pub struct Findings {
     pub undeclared: Option<Span>,
@@ -64,7 +64,7 @@ pub fn is_wide(value: u64, wanted: u8) -> bool
 impl Findings {
     /// An expression at this place has a width of its own where another one is wanted.
     pub fn with_leaf(mut self, own: u8, wanted: u8, place: Span) -> Findings
-        ensures { result ≡ record self { leaf = (if nat_lt 64 own || not (own == wanted) then walk.earlier self.leaf place else self.leaf) } }
+        ensures { result ≡ walk.with_leaf self own wanted place }
     {
         self.leaf = earlier_if(64 < own || own != wanted, self.leaf, place);
         self

@@ -8,6 +8,7 @@ mod evaluate;
 mod findings;
 mod fitting;
 pub mod laws;
+mod lead;
 mod making;
 mod naming;
 mod operate;

@@ -1,13 +1,16 @@
 //! The declarations of a program, by name, and the widths that they give to its expressions.
 
-ghost use Rattle.std.specs.Prelude.{◌≡◌, ◌≤◌, ◌+◌, ◌-◌, ℕ, true, false, map, IfSome, IfNone, IsSome, Some, None, option_map};
+ghost use Rattle.std.specs.Prelude.{◌≡◌, ◌≤◌, ◌+◌, ◌-◌, ℕ, true, false, List, map, IfSome, IfNone, IsSome, Some, None, is_none, option_map};
+ghost use Rattle.chp_syntax.specs.declared.tree.Decl.{Decl};
 ghost use Rattle.chp_syntax.specs.View.{expression_of};
 ghost use Rattle.width_check.specs.Form.{channel_number, var_number};
+ghost use Rattle.width_check.specs.Leading.{IsLead, IsLeadTo};
 ghost use Rattle.width_check.specs.Places as plain;
 ghost use Rattle.width_check.specs.Sound.{AreRanged, is_var_in, numbers_of};
 ghost use Rattle.width_check.specs.Walk.{capped, links_of, side_width};
 
 use crate::fitting::is_comparison;
+use crate::lead::Lead;
 use chp_base::{Name, Symbols};
 use chp_syntax::{Decl, Expr, Link};
 
@@ -56,6 +59,31 @@ pub fn compares(links: &[Link]) -> bool
     match links {
         [first, ..] => is_comparison(first.op),
         [] => false,
+    }
+}
+
+/// Whether an expression is made of numbers alone, and so has no width by itself, whatever is declared.
+fn is_widthless(e: &Expr) -> bool
+    ensures { (decls : List Decl) → result ≡ is_none (plain.own_width decls (expression_of e.now)) }
+{
+    match e {
+        Expr::Number { .. } => true,
+        Expr::Whole { .. } | Expr::Slice { .. } | Expr::Bit { .. } | Expr::Join { .. } => false,
+        Expr::Not { inner, .. } => is_widthless(inner),
+        Expr::Chain { first, rest, .. } => {
+            if compares(rest) {
+                return false;
+            }
+            if !is_widthless(first) {
+                return false;
+            }
+            for link in rest {
+                if !is_widthless(&link.right) {
+                    return false;
+                }
+            }
+            true
+        }
     }
 }
 
@@ -152,18 +180,52 @@ impl<'a> Scope<'a> {
         }
     }
 
-    /// The width of both sides of a comparison: that of the left one, or else that of the right one.
-    pub fn side_width(&self, left: &Expr, links: &[Link]) -> Option<u8>
-        ensures { result ≡ option_map capped (side_width self.now.decls.now (expression_of left.now) (links_of links.now)) }
+    /// The width of the first of some links that has one.
+    pub fn first_width(&self, links: &[Link]) -> Option<u8>
+        ensures { result ≡ option_map capped (plain.first_width self.now.decls.now (links_of links.now)) }
     {
-        if let Some(width) = self.own_width(left) {
-            return Some(width);
-        }
         for link in links {
             if let Some(width) = self.own_width(&link.right) {
                 return Some(width);
             }
         }
         None
+    }
+
+    /// The width of the two sides of a comparison, which the first member of it gives that has one.
+    pub fn side_width(&self, first: &Expr, links: &[Link]) -> Option<u8>
+        ensures { result ≡ option_map capped (side_width self.now.decls.now (expression_of first.now) (links_of links.now)) }
+    {
+        match self.own_width(first) {
+            Some(width) => Some(width),
+            None => self.first_width(links),
+        }
+    }
+
+    /// Which member of a chain gives its width. Only a first member that is made of numbers alone has none.
+    fn lead(&self, first: &Expr, links: &[Link]) -> Lead
+        ensures { IsLead self.now.decls.now (expression_of first.now) (links_of links.now) result }
+    {
+        if !is_widthless(first) {
+            return Lead::First;
+        }
+        match self.first_width(links) {
+            Some(width) => Lead::Later(width),
+            None => Lead::Nothing,
+        }
+    }
+
+    /// Which member gives the width that is wanted of all members of a chain, or that width, where it is wanted of the
+    /// chain itself.
+    pub fn lead_to(&self, wanted: Option<u8>, first: &Expr, links: &[Link]) -> Lead
+        ensures { IsLeadTo self.now.decls.now wanted (expression_of first.now) (links_of links.now) result }
+    {
+        if compares(links) {
+            return self.lead(first, links);
+        }
+        match wanted {
+            Some(width) => Lead::Later(width),
+            None => self.lead(first, links),
+        }
     }
 }

@@ -1,15 +1,17 @@
 //! The walk over a program that finds the first place of each cause.
 
-ghost use Rattle.std.specs.Prelude.{◌≡◌, not, ◌==◌, option_map, unwrap_or, if◌then◌else◌};
+ghost use Rattle.std.specs.Prelude.{◌≡◌, Some, None, is_none, option_map, unwrap_or, if◌then◌else◌};
 ghost use Rattle.chp_syntax.specs.Trees as tree;
 ghost use Rattle.chp_syntax.specs.View.{expression_of, statement_of};
 ghost use Rattle.width_check.specs.Places as plain;
+ghost use Rattle.width_check.specs.Leading.{lacks};
 ghost use Rattle.width_check.specs.Walk as walk;
 
 use crate::findings::{Findings, earlier, earlier_if};
+use crate::lead::Lead;
 use crate::scope::{Scope, capped, compares, slice_width, sum};
 use chp_base::Span;
-use chp_syntax::{DeclKind, Expr, Ident, Link, Stmt};
+use chp_syntax::{DeclKind, Expr, Ident, Stmt};
 
 /// A name that stands for a variable.
 fn with_var(scope: &Scope, mut findings: Findings, of: &Ident) -> Findings
@@ -90,6 +92,15 @@ fn with_slice(
     findings.with_leaf(slice_width(high, low), width, at)
 }
 
+/// `x`
+fn with_whole(scope: &Scope, findings: Findings, of: &Ident, own: u8, width: u8) -> Findings
+    requires { own ≡ walk.capped (plain.declared_width scope.now.decls.now of.now.name) }
+    ensures { result ≡ walk.noted scope.now.decls.now findings (walk.met_in scope.now.decls.now width (tree.whole of.now)) }
+{
+    let findings = with_var(scope, findings, of);
+    findings.with_leaf(own, width, of.at)
+}
+
 /// The place of an expression.
 fn span(e: &Expr) -> Span
     ensures { result ≡ plain.span_of (expression_of e.now) }
@@ -105,82 +116,104 @@ fn span(e: &Expr) -> Span
     }
 }
 
-/// `{e, ..}`, but for what its parts are made of.
-fn with_join(scope: &Scope, mut findings: Findings, parts: &[Expr], at: Span, width: u8) -> Findings
-    ensures { result ≡ walk.noted scope.now.decls.now findings (walk.met_join width (walk.parts_of parts.now) at) }
+/// What was found, after a part of a join: it is to have a width.
+fn with_part(mut findings: Findings, own: Option<u8>, place: Span) -> Findings
+    ensures { result ≡ walk.with_part findings (is_none own) place }
 {
-    let mut own = 0;
-    for part in parts {
-        match scope.own_width(part) {
-            Some(bits) => own = sum(own, bits),
-            None => findings.widthless = earlier(findings.widthless, span(part)),
-        }
-    }
-    findings.with_leaf(own, width, at)
+    findings.widthless = earlier_if(own.is_none(), findings.widthless, place);
+    findings
 }
 
-/// The width that is wanted of the members of a chain.
-fn member_width(scope: &Scope, first: &Expr, rest: &[Link], width: u8) -> u8
-    ensures { result ≡ (if plain.compares (walk.links_of rest.now) then walk.capped (unwrap_or (walk.side_width scope.now.decls.now (expression_of first.now) (walk.links_of rest.now)) 0) else width) }
-{
-    if compares(rest) {
-        scope.side_width(first, rest).unwrap_or(0)
-    } else {
-        width
-    }
-}
-
-/// `e op e ..`, but for what its members are made of.
+/// What was found, after a chain: where it compares, one of its sides is to have a width, and it has one bit itself.
 fn with_chain(
-    scope: &Scope,
     mut findings: Findings,
-    first: &Expr,
-    rest: &[Link],
-    at: Span,
-    width: u8,
+    comparing: bool,
+    lead: Lead,
+    wanted: Option<u8>,
+    place: Span,
 ) -> Findings
-    ensures { result ≡ walk.noted scope.now.decls.now findings (walk.met_chain width (expression_of first.now) (walk.links_of rest.now) at) }
+    ensures { result ≡ (if comparing then walk.with_leaf (walk.with_part findings (lacks lead) place) 1 (unwrap_or wanted 1) place else findings) }
 {
-    if compares(rest) {
-        let lacks = scope.side_width(first, rest).is_none();
-        findings.widthless = earlier_if(lacks, findings.widthless, at);
-        findings.with_leaf(1, width, at)
+    if comparing {
+        let lacks = matches!(lead, Lead::Nothing);
+        findings.widthless = earlier_if(lacks, findings.widthless, place);
+        findings.with_leaf(1, wanted.unwrap_or(1), place)
     } else {
         findings
     }
 }
 
-/// An expression of which a width is wanted.
-fn with_expression(scope: &Scope, findings: Findings, e: &Expr, width: u8) -> Findings
-    ensures { result ≡ walk.noted scope.now.decls.now findings (walk.met_in scope.now.decls.now width (expression_of e.now)) }
+/// The width of a chain, whose members have this one.
+fn chain_width(comparing: bool, members: Option<u8>) -> Option<u8>
+    ensures { result ≡ (if comparing then Some 1 else members) }
+{
+    if comparing { Some(1) } else { members }
+}
+
+/// What was found of an expression, and its own width, where that was asked for.
+#[derive(Clone, Copy)]
+struct Surveyed {
+    findings: Findings,
+    own: Option<u8>,
+}
+
+/// An expression of which a width is wanted, or else its own one, which is then told.
+fn with_expression(scope: &Scope, findings: Findings, e: &Expr, wanted: Option<u8>) -> Surveyed
+    ensures findings { result.findings ≡ walk.surveyed scope.now.decls.now findings wanted (expression_of e.now) }
+    ensures own { wanted ≡ None → result.own ≡ option_map walk.capped (plain.own_width scope.now.decls.now (expression_of e.now)) }
 {
     match e {
-        Expr::Number { value, at } => findings.with_number(*value, width, *at),
+        Expr::Number { value, at } => Surveyed {
+            findings: findings.with_number(*value, wanted.unwrap_or(0), *at),
+            own: None,
+        },
         Expr::Whole { of } => {
-            let findings = with_var(scope, findings, of);
-            findings.with_leaf(capped(scope.width(&of.name)), width, of.at)
+            let own = capped(scope.width(&of.name));
+            Surveyed {
+                findings: with_whole(scope, findings, of, own, wanted.unwrap_or(own)),
+                own: Some(own),
+            }
         }
-        Expr::Slice { of, high, low, at } => with_slice(
-            scope, findings, of, *high, *low, *at, width,
-        ),
-        Expr::Bit { of, place, at } => with_bit(scope, findings, of, *place, *at, width),
+        Expr::Slice { of, high, low, at } => {
+            let own = slice_width(*high, *low);
+            Surveyed {
+                findings: with_slice(scope, findings, of, *high, *low, *at, wanted.unwrap_or(own)),
+                own: Some(own),
+            }
+        }
+        Expr::Bit { of, place, at } => Surveyed {
+            findings: with_bit(scope, findings, of, *place, *at, wanted.unwrap_or(1)),
+            own: Some(1),
+        },
         Expr::Join { parts, at } => {
-            let mut findings = with_join(scope, findings, parts, *at, width);
+            let mut findings = findings;
+            let mut own = 0;
             for part in parts {
-                let own = scope.own_width(part).unwrap_or(0);
-                findings = with_expression(scope, findings, part, own);
+                let surveyed = with_expression(scope, findings, part, None);
+                findings = with_part(surveyed.findings, surveyed.own, span(part));
+                own = sum(own, surveyed.own.unwrap_or(0));
             }
-            findings
+            Surveyed {
+                findings: findings.with_leaf(own, wanted.unwrap_or(own), *at),
+                own: Some(own),
+            }
         }
-        Expr::Not { inner, .. } => with_expression(scope, findings, inner, width),
+        Expr::Not { inner, .. } => with_expression(scope, findings, inner, wanted),
         Expr::Chain { first, rest, at } => {
-            let wanted = member_width(scope, first, rest, width);
-            let mut findings = with_chain(scope, findings, first, rest, *at, width);
-            findings = with_expression(scope, findings, first, wanted);
+            let comparing = compares(rest);
+            let lead = scope.lead_to(wanted, first, rest);
+            let findings = with_chain(findings, comparing, lead, wanted, *at);
+            let surveyed = with_expression(scope, findings, first, lead.known());
+            let mut findings = surveyed.findings;
+            let members = lead.width(surveyed.own);
+            let width = members.unwrap_or(0);
             for link in rest {
-                findings = with_expression(scope, findings, &link.right, wanted);
+                findings = with_expression(scope, findings, &link.right, Some(width)).findings;
             }
-            findings
+            Surveyed {
+                findings,
+                own: chain_width(comparing, members),
+            }
         }
     }
 }
@@ -204,11 +237,23 @@ fn with_statement(scope: &Scope, findings: Findings, s: &Stmt) -> Findings
         Stmt::Skip { .. } | Stmt::Call { .. } => findings,
         Stmt::Assign { target, value } => {
             let findings = with_var(scope, findings, target);
-            with_expression(scope, findings, value, capped(scope.width(&target.name)))
+            with_expression(
+                scope,
+                findings,
+                value,
+                Some(capped(scope.width(&target.name))),
+            )
+            .findings
         }
         Stmt::Send { chan, value } => {
             let findings = with_sender(scope, findings, chan);
-            with_expression(scope, findings, value, capped(scope.width(&chan.name)))
+            with_expression(
+                scope,
+                findings,
+                value,
+                Some(capped(scope.width(&chan.name))),
+            )
+            .findings
         }
         Stmt::Receive { chan, target } => with_receive(scope, findings, chan, target),
         Stmt::Then { parts } => {
@@ -228,7 +273,7 @@ fn with_statement(scope: &Scope, findings: Findings, s: &Stmt) -> Findings
         Stmt::Select { arms, .. } => {
             let mut findings = findings;
             for arm in arms {
-                findings = with_expression(scope, findings, &arm.guard, 1);
+                findings = with_expression(scope, findings, &arm.guard, Some(1)).findings;
                 findings = with_statement(scope, findings, &arm.body);
             }
             findings

@@ -1,13 +1,12 @@
-use Rattle.std.proofs.Common.{◌≡◌, ◌+◌, ◌++◌, length, rules, refl, ap, sym, subst, ◌∙◌, arith}
+use Rattle.std.proofs.Common.{◌≡◌, ◌+◌, ◌++◌, length, rules, refl, ap, sym, ◌∙◌, arith}
 use Rattle.std.proofs.lemmas.Result.{IfOk-weaker, on_ok_weaker}
-use Rattle.prs_core.specs.Pairs.{Pair}
 use Rattle.width_check.specs.declared.typed.TExpr.{the_lemmas}
 use Rattle.width_check.specs.View.{formula_of}
-use Rattle.width_check.specs.Processes.{Formula, Formulas, Operations, chained, compared}
-use Rattle.handshake_expand.proofs.Rows.{parts_of, links_of, join_is, chain_is, part_at, link_at, no_more_parts, no_more_links}
+use Rattle.width_check.specs.Processes.{chained}
+use Rattle.handshake_expand.proofs.Rows.{parts_of, links_of, join_is, chain_is}
 use Rattle.function_blocks.specs.Blocks.{bits_apart}
 use Rattle.function_blocks.specs.Expressions.{formula_result}
-use Rattle.function_blocks.proofs.Emission.{Joining, Chaining, Done, join_begin, join_more, join_end, chain_begin, chain_fits, chain_more, chain_end, compare_second, compare_fits, compare_end, pairs_apart}
+use Rattle.function_blocks.proofs.Emission.{done, join_begin, part_left, join_more, chain_begin, link_left, chain_fits, chain_more, compare_is, compare_second, compare_fits, compare_end, pairs_apart}
 use Rattle.function_blocks.proofs.emit.+expression.Goals as goal
 
 pub loop-part-init : goal.loop-part-init
@@ -18,9 +17,8 @@ loop-part-init t c =
 
 pub loop-part-preserved : goal.loop-part-preserved
 loop-part-preserved t c =
-    let at = part_at c.deref-part-items.result.now c.loop-part.part-index c.part-item.result c.loop-part-test.true c.part-item.is in
-    let here = subst (λ (r : Formulas). Joining c.args.vars.now c.args.request c.args.from c.args.guards.now.items (formula_of c.args.e.now) r
-    c.loop-part.guards.items c.loop-part.bits.items) at c.loop-part.invariant in
+    let here = part_left c.args.vars.now c.args.request c.args.from c.args.guards.now.items (formula_of c.args.e.now) c.deref-part-items.result.now
+    c.loop-part.part-index c.part-item.result _ _ c.loop-part.invariant c.loop-part-test.true c.part-item.is in
     join_more c.args.vars.now c.args.request c.args.from c.args.guards.now.items (formula_of c.args.e.now) (formula_of c.part-item.result) _ _ _ _ _ _ here
     c.in_ok-lower-in-Join.ensures.made c.in_ok-lower-in-Join.ensures.bits
     (c.in_ok-extend_from_slice-in-Join.ensures.items ∙ ap (λ (l : _). c.in_ok-lower-in-Join.lower.items ++ l) c.deref.ensures.value)
@@ -32,50 +30,45 @@ loop-link-init t c =
     rw c.deref-link-items.ensures.value
     (chain_begin c.args.vars.now c.args.request c.args.from c.args.guards.now.items (formula_of c.args.e.now) (formula_of c.deref-in-Chain.result.now)
     (links_of c.in-Chain.rest.items) _ _ is c.requires.formed c.requires.read c.requires.room
-    (record { made_is = c.in_ok-bits-in-Chain.ensures.made; bits_are = c.in_ok-bits-in-Chain.ensures.bits }))
+    (done c.args.vars.now c.args.request c.args.from _ _ _ _ c.in_ok-bits-in-Chain.ensures.made c.in_ok-bits-in-Chain.ensures.bits))
 
 -- the operator's gates fit behind those of the link's right side
 pub overflow_cast-node-in-loop-link : goal.overflow_cast-node-in-loop-link
 overflow_cast-node-in-loop-link t c =
-    let at = link_at c.deref-link-items.result.now c.loop-link.link-index c.link-item.result c.loop-link-test.true c.link-item.is in
-    let here = subst (λ (r : Operations). Chaining c.args.vars.now c.args.request c.args.from c.args.guards.now.items (formula_of c.args.e.now) r
-    c.loop-link.guards.items c.loop-link.bits.items) at c.loop-link.invariant in
+    let here = link_left c.args.vars.now c.args.request c.args.from c.args.guards.now.items (formula_of c.args.e.now) c.deref-link-items.result.now
+    c.loop-link.link-index c.link-item.result _ _ c.loop-link.invariant c.loop-link-test.true c.link-item.is in
     let fits = chain_fits c.args.vars.now c.args.request c.args.from c.args.guards.now.items (formula_of c.args.e.now) (formula_of c.link-item.result.right)
     c.link-item.result.op _ _ _ _ _ here c.in_ok-right-in-Chain.ensures.made c.in_ok-right-in-Chain.ensures.bits in
     omega (arith, fits.room, c.len-in-loop-link.ensures, c.expression-in-loop-link.new.guards.ok)
 
 pub overflow_add-node-in-loop-link : goal.overflow_add-node-in-loop-link
 overflow_add-node-in-loop-link t c =
-    let at = link_at c.deref-link-items.result.now c.loop-link.link-index c.link-item.result c.loop-link-test.true c.link-item.is in
-    let here = subst (λ (r : Operations). Chaining c.args.vars.now c.args.request c.args.from c.args.guards.now.items (formula_of c.args.e.now) r
-    c.loop-link.guards.items c.loop-link.bits.items) at c.loop-link.invariant in
+    let here = link_left c.args.vars.now c.args.request c.args.from c.args.guards.now.items (formula_of c.args.e.now) c.deref-link-items.result.now
+    c.loop-link.link-index c.link-item.result _ _ c.loop-link.invariant c.loop-link-test.true c.link-item.is in
     let fits = chain_fits c.args.vars.now c.args.request c.args.from c.args.guards.now.items (formula_of c.args.e.now) (formula_of c.link-item.result.right)
     c.link-item.result.op _ _ _ _ _ here c.in_ok-right-in-Chain.ensures.made c.in_ok-right-in-Chain.ensures.bits in
     omega (arith, fits.room, c.len-in-loop-link.ensures, c.expression-in-loop-link.new.guards.ok)
 
 pub operator-requires-clause-agree : goal.operator-requires-clause-agree
 operator-requires-clause-agree t c =
-    let at = link_at c.deref-link-items.result.now c.loop-link.link-index c.link-item.result c.loop-link-test.true c.link-item.is in
-    let here = subst (λ (r : Operations). Chaining c.args.vars.now c.args.request c.args.from c.args.guards.now.items (formula_of c.args.e.now) r
-    c.loop-link.guards.items c.loop-link.bits.items) at c.loop-link.invariant in
+    let here = link_left c.args.vars.now c.args.request c.args.from c.args.guards.now.items (formula_of c.args.e.now) c.deref-link-items.result.now
+    c.loop-link.link-index c.link-item.result _ _ c.loop-link.invariant c.loop-link-test.true c.link-item.is in
     let fits = chain_fits c.args.vars.now c.args.request c.args.from c.args.guards.now.items (formula_of c.args.e.now) (formula_of c.link-item.result.right)
     c.link-item.result.op _ _ _ _ _ here c.in_ok-right-in-Chain.ensures.made c.in_ok-right-in-Chain.ensures.bits in
     rw (c.deref-in-loop-link-2.ensures.value, c.deref-in-loop-link.ensures.value) fits.agree
 
 pub operator-requires-clause-room : goal.operator-requires-clause-room
 operator-requires-clause-room t c =
-    let at = link_at c.deref-link-items.result.now c.loop-link.link-index c.link-item.result c.loop-link-test.true c.link-item.is in
-    let here = subst (λ (r : Operations). Chaining c.args.vars.now c.args.request c.args.from c.args.guards.now.items (formula_of c.args.e.now) r
-    c.loop-link.guards.items c.loop-link.bits.items) at c.loop-link.invariant in
+    let here = link_left c.args.vars.now c.args.request c.args.from c.args.guards.now.items (formula_of c.args.e.now) c.deref-link-items.result.now
+    c.loop-link.link-index c.link-item.result _ _ c.loop-link.invariant c.loop-link-test.true c.link-item.is in
     let fits = chain_fits c.args.vars.now c.args.request c.args.from c.args.guards.now.items (formula_of c.args.e.now) (formula_of c.link-item.result.right)
     c.link-item.result.op _ _ _ _ _ here c.in_ok-right-in-Chain.ensures.made c.in_ok-right-in-Chain.ensures.bits in
     rw c.deref-in-loop-link.ensures.value (omega (arith, fits.room, c.len-in-loop-link.ensures, c.expression-in-loop-link.new.guards.ok))
 
 pub loop-link-preserved : goal.loop-link-preserved
 loop-link-preserved t c =
-    let at = link_at c.deref-link-items.result.now c.loop-link.link-index c.link-item.result c.loop-link-test.true c.link-item.is in
-    let here = subst (λ (r : Operations). Chaining c.args.vars.now c.args.request c.args.from c.args.guards.now.items (formula_of c.args.e.now) r
-    c.loop-link.guards.items c.loop-link.bits.items) at c.loop-link.invariant in
+    let here = link_left c.args.vars.now c.args.request c.args.from c.args.guards.now.items (formula_of c.args.e.now) c.deref-link-items.result.now
+    c.loop-link.link-index c.link-item.result _ _ c.loop-link.invariant c.loop-link-test.true c.link-item.is in
     let place : c.args.from + c.len-in-loop-link.result ≡ c.args.from + length c.expression-in-loop-link.new.guards.items =
     omega (arith, c.len-in-loop-link.ensures, c.expression-in-loop-link.new.guards.ok) in
     chain_more c.args.vars.now c.args.request c.args.from c.args.guards.now.items (formula_of c.args.e.now) (formula_of c.link-item.result.right)
@@ -83,108 +76,65 @@ loop-link-preserved t c =
     (rw (c.deref-in-loop-link.ensures.value, c.deref-in-loop-link-2.ensures.value, place) at c.in_ok-bits-in-Chain-2.ensures.made)
     (rw (c.deref-in-loop-link.ensures.value, place) at c.in_ok-bits-in-Chain-2.ensures.bits)
 
+-- a comparison: its left side, then its right one, then the operator
 pub expression-requires-in-Compare-2 : goal.expression-requires-in-Compare-2
 expression-requires-in-Compare-2 t c =
-    let is : formula_of c.args.e.now ≡ compared c.in-Compare.op (formula_of c.deref-in-Compare.result.now) (formula_of c.deref-in-Compare-2.result.now) =
-    ap formula_of c.in-Compare.is
-    ∙ (ap (λ x. compared c.in-Compare.op (formula_of x) (formula_of c.in-Compare.right.value)) (sym c.deref-in-Compare.ensures)
-    ∙ ap (λ x. compared c.in-Compare.op (formula_of c.deref-in-Compare.result.now) (formula_of x)) (sym c.deref-in-Compare-2.ensures)) in
-    let second = compare_second c.args.vars.now c.args.request c.args.from c.args.guards.now.items _ _ _ c.in-Compare.op _ _ is c.requires.formed
-    c.requires.read c.requires.room (record { made_is = c.in_ok-left-in-Compare.ensures.made; bits_are = c.in_ok-left-in-Compare.ensures.bits }) in
+    let is = compare_is _ _ _ _ _ _ c.in-Compare.is c.deref-in-Compare.ensures c.deref-in-Compare-2.ensures in
+    let left = done c.args.vars.now c.args.request c.args.from _ _ _ _ c.in_ok-left-in-Compare.ensures.made c.in_ok-left-in-Compare.ensures.bits in
+    let second = compare_second c.args.vars.now c.args.request c.args.from c.args.guards.now.items (formula_of c.args.e.now) _ _ c.in-Compare.op _ _ is
+    c.requires.formed c.requires.read c.requires.room left in
     (search (rules, the_lemmas), (second.formed, (second.read, second.room)))
 
 pub overflow_cast-node-in-Compare : goal.overflow_cast-node-in-Compare
 overflow_cast-node-in-Compare t c =
-    let is : formula_of c.args.e.now ≡ compared c.in-Compare.op (formula_of c.deref-in-Compare.result.now) (formula_of c.deref-in-Compare-2.result.now) =
-    ap formula_of c.in-Compare.is
-    ∙ (ap (λ x. compared c.in-Compare.op (formula_of x) (formula_of c.in-Compare.right.value)) (sym c.deref-in-Compare.ensures)
-    ∙ ap (λ x. compared c.in-Compare.op (formula_of c.deref-in-Compare.result.now) (formula_of x)) (sym c.deref-in-Compare-2.ensures)) in
-    let left : Done c.args.vars.now c.args.request c.args.from c.args.guards.now.items (formula_of c.deref-in-Compare.result.now)
-    c.expression-in-Compare.new.guards.items c.in_ok-left-in-Compare.left.items =
-    record { made_is = c.in_ok-left-in-Compare.ensures.made; bits_are = c.in_ok-left-in-Compare.ensures.bits } in
-    let right : Done c.args.vars.now c.args.request c.args.from c.expression-in-Compare.new.guards.items (formula_of c.deref-in-Compare-2.result.now)
-    c.expression-in-Compare-2.new.guards.items c.in_ok-right-in-Compare.right.items =
-    record { made_is = c.in_ok-right-in-Compare.ensures.made; bits_are = c.in_ok-right-in-Compare.ensures.bits } in
+    let is = compare_is _ _ _ _ _ _ c.in-Compare.is c.deref-in-Compare.ensures c.deref-in-Compare-2.ensures in
+    let left = done c.args.vars.now c.args.request c.args.from _ _ _ _ c.in_ok-left-in-Compare.ensures.made c.in_ok-left-in-Compare.ensures.bits in
+    let right = done c.args.vars.now c.args.request c.args.from _ _ _ _ c.in_ok-right-in-Compare.ensures.made c.in_ok-right-in-Compare.ensures.bits in
     let fits = compare_fits c.args.vars.now c.args.request c.args.from c.args.guards.now.items (formula_of c.args.e.now) _ _ c.in-Compare.op _ _ _ _ is
     c.requires.formed c.requires.read c.requires.room left right in
     omega (arith, fits.room, c.len-in-Compare.ensures, c.expression-in-Compare-2.new.guards.ok)
 
 pub overflow_add-node-in-Compare : goal.overflow_add-node-in-Compare
 overflow_add-node-in-Compare t c =
-    let is : formula_of c.args.e.now ≡ compared c.in-Compare.op (formula_of c.deref-in-Compare.result.now) (formula_of c.deref-in-Compare-2.result.now) =
-    ap formula_of c.in-Compare.is
-    ∙ (ap (λ x. compared c.in-Compare.op (formula_of x) (formula_of c.in-Compare.right.value)) (sym c.deref-in-Compare.ensures)
-    ∙ ap (λ x. compared c.in-Compare.op (formula_of c.deref-in-Compare.result.now) (formula_of x)) (sym c.deref-in-Compare-2.ensures)) in
-    let left : Done c.args.vars.now c.args.request c.args.from c.args.guards.now.items (formula_of c.deref-in-Compare.result.now)
-    c.expression-in-Compare.new.guards.items c.in_ok-left-in-Compare.left.items =
-    record { made_is = c.in_ok-left-in-Compare.ensures.made; bits_are = c.in_ok-left-in-Compare.ensures.bits } in
-    let right : Done c.args.vars.now c.args.request c.args.from c.expression-in-Compare.new.guards.items (formula_of c.deref-in-Compare-2.result.now)
-    c.expression-in-Compare-2.new.guards.items c.in_ok-right-in-Compare.right.items =
-    record { made_is = c.in_ok-right-in-Compare.ensures.made; bits_are = c.in_ok-right-in-Compare.ensures.bits } in
+    let is = compare_is _ _ _ _ _ _ c.in-Compare.is c.deref-in-Compare.ensures c.deref-in-Compare-2.ensures in
+    let left = done c.args.vars.now c.args.request c.args.from _ _ _ _ c.in_ok-left-in-Compare.ensures.made c.in_ok-left-in-Compare.ensures.bits in
+    let right = done c.args.vars.now c.args.request c.args.from _ _ _ _ c.in_ok-right-in-Compare.ensures.made c.in_ok-right-in-Compare.ensures.bits in
     let fits = compare_fits c.args.vars.now c.args.request c.args.from c.args.guards.now.items (formula_of c.args.e.now) _ _ c.in-Compare.op _ _ _ _ is
     c.requires.formed c.requires.read c.requires.room left right in
     omega (arith, fits.room, c.len-in-Compare.ensures, c.expression-in-Compare-2.new.guards.ok)
 
 pub operator-requires-in-Compare-clause-some : goal.operator-requires-in-Compare-clause-some
 operator-requires-in-Compare-clause-some t c =
-    let is : formula_of c.args.e.now ≡ compared c.in-Compare.op (formula_of c.deref-in-Compare.result.now) (formula_of c.deref-in-Compare-2.result.now) =
-    ap formula_of c.in-Compare.is
-    ∙ (ap (λ x. compared c.in-Compare.op (formula_of x) (formula_of c.in-Compare.right.value)) (sym c.deref-in-Compare.ensures)
-    ∙ ap (λ x. compared c.in-Compare.op (formula_of c.deref-in-Compare.result.now) (formula_of x)) (sym c.deref-in-Compare-2.ensures)) in
-    let left : Done c.args.vars.now c.args.request c.args.from c.args.guards.now.items (formula_of c.deref-in-Compare.result.now)
-    c.expression-in-Compare.new.guards.items c.in_ok-left-in-Compare.left.items =
-    record { made_is = c.in_ok-left-in-Compare.ensures.made; bits_are = c.in_ok-left-in-Compare.ensures.bits } in
-    let right : Done c.args.vars.now c.args.request c.args.from c.expression-in-Compare.new.guards.items (formula_of c.deref-in-Compare-2.result.now)
-    c.expression-in-Compare-2.new.guards.items c.in_ok-right-in-Compare.right.items =
-    record { made_is = c.in_ok-right-in-Compare.ensures.made; bits_are = c.in_ok-right-in-Compare.ensures.bits } in
+    let is = compare_is _ _ _ _ _ _ c.in-Compare.is c.deref-in-Compare.ensures c.deref-in-Compare-2.ensures in
+    let left = done c.args.vars.now c.args.request c.args.from _ _ _ _ c.in_ok-left-in-Compare.ensures.made c.in_ok-left-in-Compare.ensures.bits in
+    let right = done c.args.vars.now c.args.request c.args.from _ _ _ _ c.in_ok-right-in-Compare.ensures.made c.in_ok-right-in-Compare.ensures.bits in
     let fits = compare_fits c.args.vars.now c.args.request c.args.from c.args.guards.now.items (formula_of c.args.e.now) _ _ c.in-Compare.op _ _ _ _ is
     c.requires.formed c.requires.read c.requires.room left right in
     rw c.deref-in-Compare-3.ensures.value fits.some
 
 pub operator-requires-in-Compare-clause-most : goal.operator-requires-in-Compare-clause-most
 operator-requires-in-Compare-clause-most t c =
-    let is : formula_of c.args.e.now ≡ compared c.in-Compare.op (formula_of c.deref-in-Compare.result.now) (formula_of c.deref-in-Compare-2.result.now) =
-    ap formula_of c.in-Compare.is
-    ∙ (ap (λ x. compared c.in-Compare.op (formula_of x) (formula_of c.in-Compare.right.value)) (sym c.deref-in-Compare.ensures)
-    ∙ ap (λ x. compared c.in-Compare.op (formula_of c.deref-in-Compare.result.now) (formula_of x)) (sym c.deref-in-Compare-2.ensures)) in
-    let left : Done c.args.vars.now c.args.request c.args.from c.args.guards.now.items (formula_of c.deref-in-Compare.result.now)
-    c.expression-in-Compare.new.guards.items c.in_ok-left-in-Compare.left.items =
-    record { made_is = c.in_ok-left-in-Compare.ensures.made; bits_are = c.in_ok-left-in-Compare.ensures.bits } in
-    let right : Done c.args.vars.now c.args.request c.args.from c.expression-in-Compare.new.guards.items (formula_of c.deref-in-Compare-2.result.now)
-    c.expression-in-Compare-2.new.guards.items c.in_ok-right-in-Compare.right.items =
-    record { made_is = c.in_ok-right-in-Compare.ensures.made; bits_are = c.in_ok-right-in-Compare.ensures.bits } in
+    let is = compare_is _ _ _ _ _ _ c.in-Compare.is c.deref-in-Compare.ensures c.deref-in-Compare-2.ensures in
+    let left = done c.args.vars.now c.args.request c.args.from _ _ _ _ c.in_ok-left-in-Compare.ensures.made c.in_ok-left-in-Compare.ensures.bits in
+    let right = done c.args.vars.now c.args.request c.args.from _ _ _ _ c.in_ok-right-in-Compare.ensures.made c.in_ok-right-in-Compare.ensures.bits in
     let fits = compare_fits c.args.vars.now c.args.request c.args.from c.args.guards.now.items (formula_of c.args.e.now) _ _ c.in-Compare.op _ _ _ _ is
     c.requires.formed c.requires.read c.requires.room left right in
     rw c.deref-in-Compare-3.ensures.value fits.most
 
 pub operator-requires-in-Compare-clause-agree : goal.operator-requires-in-Compare-clause-agree
 operator-requires-in-Compare-clause-agree t c =
-    let is : formula_of c.args.e.now ≡ compared c.in-Compare.op (formula_of c.deref-in-Compare.result.now) (formula_of c.deref-in-Compare-2.result.now) =
-    ap formula_of c.in-Compare.is
-    ∙ (ap (λ x. compared c.in-Compare.op (formula_of x) (formula_of c.in-Compare.right.value)) (sym c.deref-in-Compare.ensures)
-    ∙ ap (λ x. compared c.in-Compare.op (formula_of c.deref-in-Compare.result.now) (formula_of x)) (sym c.deref-in-Compare-2.ensures)) in
-    let left : Done c.args.vars.now c.args.request c.args.from c.args.guards.now.items (formula_of c.deref-in-Compare.result.now)
-    c.expression-in-Compare.new.guards.items c.in_ok-left-in-Compare.left.items =
-    record { made_is = c.in_ok-left-in-Compare.ensures.made; bits_are = c.in_ok-left-in-Compare.ensures.bits } in
-    let right : Done c.args.vars.now c.args.request c.args.from c.expression-in-Compare.new.guards.items (formula_of c.deref-in-Compare-2.result.now)
-    c.expression-in-Compare-2.new.guards.items c.in_ok-right-in-Compare.right.items =
-    record { made_is = c.in_ok-right-in-Compare.ensures.made; bits_are = c.in_ok-right-in-Compare.ensures.bits } in
+    let is = compare_is _ _ _ _ _ _ c.in-Compare.is c.deref-in-Compare.ensures c.deref-in-Compare-2.ensures in
+    let left = done c.args.vars.now c.args.request c.args.from _ _ _ _ c.in_ok-left-in-Compare.ensures.made c.in_ok-left-in-Compare.ensures.bits in
+    let right = done c.args.vars.now c.args.request c.args.from _ _ _ _ c.in_ok-right-in-Compare.ensures.made c.in_ok-right-in-Compare.ensures.bits in
     let fits = compare_fits c.args.vars.now c.args.request c.args.from c.args.guards.now.items (formula_of c.args.e.now) _ _ c.in-Compare.op _ _ _ _ is
     c.requires.formed c.requires.read c.requires.room left right in
     rw (c.deref-in-Compare-4.ensures.value, c.deref-in-Compare-3.ensures.value) fits.agree
 
 pub operator-requires-in-Compare-clause-room : goal.operator-requires-in-Compare-clause-room
 operator-requires-in-Compare-clause-room t c =
-    let is : formula_of c.args.e.now ≡ compared c.in-Compare.op (formula_of c.deref-in-Compare.result.now) (formula_of c.deref-in-Compare-2.result.now) =
-    ap formula_of c.in-Compare.is
-    ∙ (ap (λ x. compared c.in-Compare.op (formula_of x) (formula_of c.in-Compare.right.value)) (sym c.deref-in-Compare.ensures)
-    ∙ ap (λ x. compared c.in-Compare.op (formula_of c.deref-in-Compare.result.now) (formula_of x)) (sym c.deref-in-Compare-2.ensures)) in
-    let left : Done c.args.vars.now c.args.request c.args.from c.args.guards.now.items (formula_of c.deref-in-Compare.result.now)
-    c.expression-in-Compare.new.guards.items c.in_ok-left-in-Compare.left.items =
-    record { made_is = c.in_ok-left-in-Compare.ensures.made; bits_are = c.in_ok-left-in-Compare.ensures.bits } in
-    let right : Done c.args.vars.now c.args.request c.args.from c.expression-in-Compare.new.guards.items (formula_of c.deref-in-Compare-2.result.now)
-    c.expression-in-Compare-2.new.guards.items c.in_ok-right-in-Compare.right.items =
-    record { made_is = c.in_ok-right-in-Compare.ensures.made; bits_are = c.in_ok-right-in-Compare.ensures.bits } in
+    let is = compare_is _ _ _ _ _ _ c.in-Compare.is c.deref-in-Compare.ensures c.deref-in-Compare-2.ensures in
+    let left = done c.args.vars.now c.args.request c.args.from _ _ _ _ c.in_ok-left-in-Compare.ensures.made c.in_ok-left-in-Compare.ensures.bits in
+    let right = done c.args.vars.now c.args.request c.args.from _ _ _ _ c.in_ok-right-in-Compare.ensures.made c.in_ok-right-in-Compare.ensures.bits in
     let fits = compare_fits c.args.vars.now c.args.request c.args.from c.args.guards.now.items (formula_of c.args.e.now) _ _ c.in-Compare.op _ _ _ _ is
     c.requires.formed c.requires.read c.requires.room left right in
     rw c.deref-in-Compare-3.ensures.value (omega (arith, fits.room, c.len-in-Compare.ensures, c.expression-in-Compare-2.new.guards.ok))
@@ -205,16 +155,9 @@ returns-in_ok-reading-in-Read-clause-bits t c =
 
 pub returns-in_ok-right-in-Compare-clause-made : goal.returns-in_ok-right-in-Compare-clause-made
 returns-in_ok-right-in-Compare-clause-made t c =
-    let is : formula_of c.args.e.now ≡ compared c.in-Compare.op (formula_of c.deref-in-Compare.result.now) (formula_of c.deref-in-Compare-2.result.now) =
-    ap formula_of c.in-Compare.is
-    ∙ (ap (λ x. compared c.in-Compare.op (formula_of x) (formula_of c.in-Compare.right.value)) (sym c.deref-in-Compare.ensures)
-    ∙ ap (λ x. compared c.in-Compare.op (formula_of c.deref-in-Compare.result.now) (formula_of x)) (sym c.deref-in-Compare-2.ensures)) in
-    let left : Done c.args.vars.now c.args.request c.args.from c.args.guards.now.items (formula_of c.deref-in-Compare.result.now)
-    c.expression-in-Compare.new.guards.items c.in_ok-left-in-Compare.left.items =
-    record { made_is = c.in_ok-left-in-Compare.ensures.made; bits_are = c.in_ok-left-in-Compare.ensures.bits } in
-    let right : Done c.args.vars.now c.args.request c.args.from c.expression-in-Compare.new.guards.items (formula_of c.deref-in-Compare-2.result.now)
-    c.expression-in-Compare-2.new.guards.items c.in_ok-right-in-Compare.right.items =
-    record { made_is = c.in_ok-right-in-Compare.ensures.made; bits_are = c.in_ok-right-in-Compare.ensures.bits } in
+    let is = compare_is _ _ _ _ _ _ c.in-Compare.is c.deref-in-Compare.ensures c.deref-in-Compare-2.ensures in
+    let left = done c.args.vars.now c.args.request c.args.from _ _ _ _ c.in_ok-left-in-Compare.ensures.made c.in_ok-left-in-Compare.ensures.bits in
+    let right = done c.args.vars.now c.args.request c.args.from _ _ _ _ c.in_ok-right-in-Compare.ensures.made c.in_ok-right-in-Compare.ensures.bits in
     let place : c.args.from + c.len-in-Compare.result ≡ c.args.from + length c.expression-in-Compare-2.new.guards.items =
     omega (arith, c.len-in-Compare.ensures, c.expression-in-Compare-2.new.guards.ok) in
     on_ok_weaker c.operator-in-Compare.result
@@ -224,16 +167,9 @@ returns-in_ok-right-in-Compare-clause-made t c =
 
 pub returns-in_ok-right-in-Compare-clause-bits : goal.returns-in_ok-right-in-Compare-clause-bits
 returns-in_ok-right-in-Compare-clause-bits t c =
-    let is : formula_of c.args.e.now ≡ compared c.in-Compare.op (formula_of c.deref-in-Compare.result.now) (formula_of c.deref-in-Compare-2.result.now) =
-    ap formula_of c.in-Compare.is
-    ∙ (ap (λ x. compared c.in-Compare.op (formula_of x) (formula_of c.in-Compare.right.value)) (sym c.deref-in-Compare.ensures)
-    ∙ ap (λ x. compared c.in-Compare.op (formula_of c.deref-in-Compare.result.now) (formula_of x)) (sym c.deref-in-Compare-2.ensures)) in
-    let left : Done c.args.vars.now c.args.request c.args.from c.args.guards.now.items (formula_of c.deref-in-Compare.result.now)
-    c.expression-in-Compare.new.guards.items c.in_ok-left-in-Compare.left.items =
-    record { made_is = c.in_ok-left-in-Compare.ensures.made; bits_are = c.in_ok-left-in-Compare.ensures.bits } in
-    let right : Done c.args.vars.now c.args.request c.args.from c.expression-in-Compare.new.guards.items (formula_of c.deref-in-Compare-2.result.now)
-    c.expression-in-Compare-2.new.guards.items c.in_ok-right-in-Compare.right.items =
-    record { made_is = c.in_ok-right-in-Compare.ensures.made; bits_are = c.in_ok-right-in-Compare.ensures.bits } in
+    let is = compare_is _ _ _ _ _ _ c.in-Compare.is c.deref-in-Compare.ensures c.deref-in-Compare-2.ensures in
+    let left = done c.args.vars.now c.args.request c.args.from _ _ _ _ c.in_ok-left-in-Compare.ensures.made c.in_ok-left-in-Compare.ensures.bits in
+    let right = done c.args.vars.now c.args.request c.args.from _ _ _ _ c.in_ok-right-in-Compare.ensures.made c.in_ok-right-in-Compare.ensures.bits in
     let place : c.args.from + c.len-in-Compare.result ≡ c.args.from + length c.expression-in-Compare-2.new.guards.items =
     omega (arith, c.len-in-Compare.ensures, c.expression-in-Compare-2.new.guards.ok) in
     IfOk-weaker c.operator-in-Compare.result _ _

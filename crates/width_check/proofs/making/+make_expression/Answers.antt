@@ -1,16 +1,15 @@
 use Rattle.std.proofs.lemmas.List.{get_or_read}
 use Rattle.chp_syntax.specs.declared.tree.Expr.{Expr, the_lemmas}
-use Rattle.std.proofs.Common.{rules, refl, ◌≡◌, Bool, true, false, sym, ◌∙◌, ap, subst, drop, arith}
-use Rattle.chp_syntax.specs.Trees.{Expression, number, slice, bit}
+use Rattle.std.proofs.Common.{rules, refl, sym, ◌∙◌, ap, drop, arith}
+use Rattle.chp_syntax.specs.Trees.{slice, bit}
 use Rattle.chp_syntax.specs.View.{expression_of}
 use Rattle.width_check.specs.Places.{declared_width, use_of, read}
 use Rattle.width_check.specs.Form.{formula_form}
 use Rattle.width_check.specs.View.{formula_of}
-use Rattle.width_check.specs.Sound.{IsSound}
-use Rattle.width_check.specs.Walk.{met_in, parts_of, links_of}
+use Rattle.width_check.specs.Walk.{parts_of}
 use Rattle.width_check.proofs.Leaves.{good_slice, declared_most}
 use Rattle.width_check.proofs.Soundness.{number_fits, bit_within, sound_inner}
-use Rattle.width_check.proofs.Ready.{ArePartsLeft, AreLinksLeft, part_ready, part_made, parts_next, join_left, join_made, first_ready, links_left, links_next, link_ready, link_made, chain_made, comparison_ready, comparison_made, some_link}
+use Rattle.width_check.proofs.Ready.{ArePartsLeft, part_ready, part_made, parts_next, join_left, join_made, first_ready, links_left, links_next, link_ready, link_made, chain_made, comparison_ready, comparison_made}
 use Rattle.width_check.proofs.making.+make_expression.Goals as goal
 
 pub constant-requires-clause-fits : goal.constant-requires-clause-fits

@@ -1,9 +1,9 @@
-use Rattle.std.proofs.Common.{◌≡◌, false, drop}
+use Rattle.std.proofs.Common.{◌≡◌, drop}
 use Rattle.std.specs.Prelude.{Contains}
 use Rattle.chp_base.specs.declared.span.Span.{Span}
 use Rattle.chp_syntax.specs.Shape.{AreShapedParts, AreShapedLinks}
 use Rattle.width_check.specs.Form.{parts_form, operations_form}
-use Rattle.width_check.specs.Sound.{AreRanged, IsSound}
+use Rattle.width_check.specs.Sound.{IsSound}
 use Rattle.width_check.specs.Walk.{lacking_parts, met_in_parts, met_in_links, parts_of, links_of}
 use Rattle.width_check.proofs.Makings.{before_parts, before_links}
 use Rattle.width_check.proofs.making.+make_expression.Given as goal

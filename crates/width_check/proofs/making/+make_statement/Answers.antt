@@ -1,13 +1,7 @@
-use Rattle.std.proofs.Common.{rules, refl, ◌≡◌, true, false, sym, ap, subst, ◌∙◌, drop, arith}
+use Rattle.std.proofs.Common.{rules, refl, true, false}
 use Rattle.std.proofs.lemmas.List.{get_or_read}
 use Rattle.chp_syntax.specs.declared.tree.Stmt.{the_lemmas}
-use Rattle.chp_syntax.specs.Trees.{Statement}
 use Rattle.chp_syntax.specs.View.{expression_of}
-use Rattle.width_check.specs.Form.{formula_form}
-use Rattle.width_check.specs.Processes.{assigning, sending, receiving}
-use Rattle.width_check.specs.Sound.{IsSound}
-use Rattle.width_check.specs.View.{formula_of}
-use Rattle.width_check.specs.Walk.{met_in}
 use Rattle.width_check.proofs.Soundness.{is_declared}
 use Rattle.width_check.proofs.Doing.{assign_sound, send_sound, receive_sound, then_left, beside_left, member_ready, members_next, member_made, then_made, beside_made, select_left, arm_ready, arms_next, arm_made, select_made}
 use Rattle.width_check.proofs.making.+make_statement.Goals as goal

@@ -1,4 +1,4 @@
-use Rattle.std.proofs.Common.{◌≡◌, ◌≤◌, List, [], length, map, take, drop, None}
+use Rattle.std.proofs.Common.{◌≡◌, ◌≤◌, [], length, map, take, drop, None}
 use Rattle.chp_syntax.specs.declared.tree.Decl.{Decl}
 use Rattle.width_check.specs.Walk.{first_double}
 use Rattle.width_check.proofs.naming.name_all.Given as goal

@@ -3,9 +3,7 @@ use Rattle.chp_syntax.specs.declared.tree.Decl.{Decl}
 use Rattle.chp_syntax.specs.Tokens.{IfRefused}
 use Rattle.chp_syntax.specs.View.{program_of}
 use Rattle.width_check.specs.Faults.{naming_faults, IsFirstFault}
-use Rattle.width_check.specs.Form.{channels_of, vars_of, process_form}
 use Rattle.width_check.specs.Sound.{AreRanged, IsSound}
-use Rattle.width_check.specs.Typing.{IsTyped}
 use Rattle.width_check.specs.Walk.{met_of}
 use Rattle.width_check.proofs.Resolved.{double_refused, other_refused, accepted, found, typed_parts}
 use Rattle.width_check.proofs.TypedForm.{program_ranged, program_sound, program_typed}

@@ -1,9 +1,18 @@
-use Rattle.std.proofs.Common.{◌≡◌, drop}
-use Rattle.width_check.specs.Walk.{noted, met_in_parts, met_in_links, parts_of, links_of}
+use Rattle.std.proofs.Common.{◌≡◌, ◌+◌, ◌≤◌, drop}
+use Rattle.width_check.specs.Places.{own_widths}
+use Rattle.width_check.specs.Walk.{noted, capped, met_in_links, parts_of, links_of}
+use Rattle.width_check.proofs.Swapping.{noted_parts}
 use Rattle.width_check.proofs.survey.+with_expression.Given as goal
 
 abbrev pub invariant-loop-part : goal.invariant-loop-part
-invariant-loop-part l = noted l.scope.decls.now l.findings (met_in_parts l.scope.decls.now (parts_of (drop l.part-index l.part-items))) ≡ noted l.scope.decls.now l.initial.findings (met_in_parts l.scope.decls.now (parts_of l.part-items))
+invariant-loop-part l = record {
+  found : noted_parts l.scope.decls.now l.findings (parts_of (drop l.part-index l.part-items)) ≡ noted_parts l.scope.decls.now l.fn.findings (parts_of l.part-items);
+  own : capped (l.own + own_widths l.scope.decls.now (parts_of (drop l.part-index l.part-items))) ≡ capped (own_widths l.scope.decls.now (parts_of l.part-items));
+  most : l.own ≤ 65;
+}
 
 abbrev pub invariant-loop-link : goal.invariant-loop-link
-invariant-loop-link l = noted l.scope.decls.now l.findings (met_in_links l.scope.decls.now l.wanted (links_of (drop l.link-index l.link-items))) ≡ noted l.scope.decls.now l.initial.findings (met_in_links l.scope.decls.now l.wanted (links_of l.link-items))
+invariant-loop-link l = noted l.scope.decls.now l.findings (met_in_links l.scope.decls.now l.width (links_of (drop l.link-index l.link-items))) ≡ noted l.scope.decls.now l.initial.findings (met_in_links l.scope.decls.now l.width (links_of l.link-items))
+
+abbrev pub decreases-with_expression : goal.decreases-with_expression
+decreases-with_expression l = goal.size-with_expression l

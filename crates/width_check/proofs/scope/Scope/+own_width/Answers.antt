@@ -1,8 +1,4 @@
-use Rattle.std.proofs.Common.{sym, ◌∙◌, ap}
-use Rattle.std.specs.Prelude.{option_map}
-use Rattle.chp_syntax.specs.View.{expression_of}
-use Rattle.width_check.specs.Places.{own_width}
-use Rattle.width_check.specs.Walk.{capped}
+use Rattle.std.proofs.Common.{sym}
 use Rattle.width_check.proofs.OwnWidths.{join_over, join_whole, comparison_one, chain_left, chain_link, chain_none}
 use Rattle.width_check.proofs.scope.Scope.+own_width.Goals as goal
 
