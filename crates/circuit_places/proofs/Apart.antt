@@ -1,12 +1,16 @@
 -- No own node is pulled both ways.
 use Rattle.std.proofs.Common.{◌≡◌, ℕ, Bool, true, false, List, refl, sym, ◌∙◌, subst}
 use Rattle.std.specs.Prelude.{not, ◌&&◌}
-use Rattle.width_check.specs.Processes.{Formula, Process, skipping, assigning, sending, receiving, in_turn, side_by_side, choosing, repeating, Processes, no_members, and_member, member_count}
+use Rattle.width_check.specs.Processes.{Formula, Process, skipping, assigning, sending, receiving, in_turn, side_by_side, choosing, repeating, Processes, no_members, and_member, member_count, Choices, no_choices, and_choice, choice_count}
 use Rattle.circuit_places.specs.Lines.{of_channel, of_var, Rails, Seen}
-use Rattle.circuit_places.specs.Circuit.{Port, PortSpot, low_port, port_rule, heard, stored, taking, of_receive, Site, SiteSpot, site_rule, low_site, gate_count, low_guarded, low, low_turn, low_bits, bit_at, joint_count, low_branches, branch_ends, same_bit, answer, GuardedSpot, Spot, TurnSpot, BranchSpot, child, latch, next, inner, of_skip, done, gate, of_assign, of_send, in_members, of_branch, joint, in_this, in_others, of_loop, ask, in_body, in_last, in_member, in_later, is_apart, guarded_rule, rule, turn_rule, branch_rule}
+use Rattle.circuit_places.specs.Circuit.{Port, PortSpot, low_port, port_rule, heard, stored, taking, of_receive, Site, SiteSpot, site_rule, low_site, gate_count, low_guarded, low, low_turn, low_bits, bit_at, joint_count, low_branches, branch_ends, same_bit, answer, GuardedSpot, Spot, TurnSpot, BranchSpot, child, latch, next, inner, of_skip, done, gate, of_assign, of_send, in_members, of_branch, joint, in_this, in_others, of_loop, ask, in_body, in_last, in_member, in_later, is_apart, guarded_rule, rule, turn_rule, branch_rule, GuardCells, low_guards, low_core, low_choices, choice_answers, GuardSpot, this_gate, other_gate, ChoiceSpot, this_choice, other_choice, of_core, of_guard, of_choice, of_round, heads, guards_rule, choice_rule}
 use Rattle.circuit_places.proofs.RailLemmas.{gate_apart, fst_true, snd_true, same_value}
 use Rattle.circuit_places.proofs.Trees.{joint_apart}
-use Rattle.circuit_places.proofs.Places.{Mode, asks, acks, site_of, all_ask, GuardedAt, At, TurnAt, BranchesAt, g_rests, g_in, g_past, g_back, port_of, rests, at_skip, at_assign, at_send, at_receive, at_turn, at_side, at_body, no_more, and_at, turn_rests, at_last, at_member, at_later, guarded_cells, cells, turn_cells, branch_cells, low_answer, next_is, link_asks, link_next}
+use Rattle.circuit_places.proofs.Places.{Mode, asks, acks, site_of, all_ask, GuardedAt, At, TurnAt, BranchesAt, g_rests, g_in, g_past, g_back, port_of, rests, at_skip, at_assign, at_send, at_receive, at_turn, at_side, at_body, no_more, and_at, turn_rests, at_last, at_member, at_later, guarded_cells, cells, turn_cells, branch_cells, low_answer, next_is, link_asks, link_next, at_choice, at_turning, at_closing, ChoiceAt, control_at, inside_at, ChosenAt, this_one, another, chosen_index, chosen_cells, choice_cells, choice_leave, low_neutral}
+use Rattle.circuit_places.specs.Heads.{hot, all_neutral, over, none_true}
+use Rattle.circuit_places.specs.Cores.{OwnSpot, core_rule, core_of, turning_of}
+use Rattle.circuit_places.proofs.HeadFacts.{neutral_over}
+use Rattle.circuit_places.proofs.CoreControl.{Control, uncalled, called, evaluating, latched, leaving, noted, spread, freed, lock_alone, Closing, told_all, lets_turn, lets_leave, lets_any, lets_answer, closing_turn, closing_leave, closing_any, closing_cells, control_leave, control_any, control_guards, core_apart, turning_apart}
 
 both_of : (r u : Bool) → not ((r && not u) && u) ≡ true
 both_of true true = refl
@@ -50,6 +54,46 @@ port_apart rail ack va r x heard = ack_apart r ack
 port_apart rail ack va r x stored = ack_apart r va
 port_apart rail ack va r x (taking i one) = take_apart r (rail i one)
 
+guards_apart : (choices : Choices) (bits : ℕ → Rails) (r : Bool) (x : GuardCells choices) (s : GuardSpot choices) → is_apart (guards_rule choices bits r x s) ≡ true
+guards_apart (and_choice g p more) bits r x (this_gate i one) = gate_apart g bits r x.0 i one
+guards_apart (and_choice g p more) bits r x (other_gate s) = guards_apart more bits r x.1 s
+guards_apart no_choices bits r x s = elim s [ ]
+
+low_core_apart : (choices : Choices) (s : OwnSpot (choice_count choices)) → is_apart (core_rule false false (heads choices (low_guards choices)) (choice_answers choices (low_choices choices)) (low_core choices (low_choices choices)) s) ≡ true
+low_core_apart choices s = core_apart false false (heads choices (low_guards choices)) (choice_answers choices (low_choices choices)) (low_core choices (low_choices choices)) (λ e. low_neutral choices) s
+
+-- where a core isn't called its guards are low
+idle_neutral : {again : Bool} (choices : Choices) {m : Mode} (c : Control again (choice_count choices) (GuardCells choices) (heads choices) m) → asks m ≡ false → all_neutral (choice_count choices) (heads choices (control_guards (low_guards choices) c)) ≡ true
+idle_neutral choices uncalled e = low_neutral choices
+idle_neutral choices called e = absurd (cc e)
+idle_neutral choices (evaluating g) e = absurd (cc e)
+idle_neutral choices (latched l i g h) e = absurd (cc e)
+idle_neutral choices (leaving y l g h) e = absurd (cc e)
+
+left_known : {again : Bool} (choices : Choices) {m : Mode} (c : Control again (choice_count choices) (GuardCells choices) (heads choices) m) → control_leave c ≡ true → all_neutral (choice_count choices) (heads choices (control_guards (low_guards choices) c)) ≡ true → control_any c ≡ true
+left_known choices uncalled e z = absurd (cc e)
+left_known choices called e z = absurd (cc e)
+left_known choices (evaluating g) e z = absurd (cc e)
+left_known choices (latched l i g h) e z = absurd (cc e)
+left_known choices (leaving y noted g h) e z = absurd (cc (lock_alone noted (over (choice_count choices) (heads choices g)) (none_true (choice_count choices) (heads choices g)) h refl, neutral_over (choice_count choices) (heads choices g) z))
+left_known choices (leaving y spread g h) e z = refl
+left_known choices (leaving y freed g h) e z = refl
+
+choice_neutral : {again : Bool} {choices : Choices} {m : Mode} (x : ChoiceAt again choices m) → asks m ≡ false → all_neutral (choice_count choices) (heads choices (choice_cells x).guards) ≡ true
+choice_neutral {choices = choices} (control_at c) e = idle_neutral choices c e
+choice_neutral {choices = choices} (inside_at a w) e = low_neutral choices
+
+choice_known : {again : Bool} {choices : Choices} {m : Mode} (x : ChoiceAt again choices m) → choice_leave x ≡ true → all_neutral (choice_count choices) (heads choices (choice_cells x).guards) ≡ true → (choice_cells x).any ≡ true
+choice_known {choices = choices} (control_at c) e z = left_known choices c e z
+choice_known (inside_at a w) e z = absurd (cc e)
+
+closing_known : {m : Mode} (c : Closing m) → closing_leave c ≡ true → closing_any c ≡ true
+closing_known told_all e = refl
+closing_known lets_turn e = refl
+closing_known lets_leave e = refl
+closing_known lets_any e = refl
+closing_known lets_answer e = absurd (cc e)
+
 mutual
   low_guarded_apart : (p : Process) (env : Seen) (s : GuardedSpot p) → is_apart (guarded_rule p env false (low_guarded (low p)) s) ≡ true
   low_guarded_apart p env child = refl
@@ -69,7 +113,18 @@ mutual
   low_apart (side_by_side members) env (of_branch s) = low_branch_apart members env s
   low_apart (side_by_side members) env (joint k) = joint_apart (member_count members) (branch_ends members (low_branches members))
       (bit_at (joint_count (member_count members)) (low_bits (joint_count (member_count members)))) k
-  low_apart (choosing again _) env s = refl
+  low_apart (choosing false choices) env (of_core s) = low_core_apart choices s
+  low_apart (choosing false choices) env (of_guard s) = guards_apart choices env.bit false (low_guards choices) s
+  low_apart (choosing false choices) env (of_choice s) = low_choice_apart choices env s
+  low_apart (choosing true choices) env (of_core s) = low_core_apart choices s
+  low_apart (choosing true choices) env (of_guard s) = guards_apart choices env.bit false (low_guards choices) s
+  low_apart (choosing true choices) env (of_choice s) = low_choice_apart choices env s
+  low_apart (choosing true choices) env (of_round s) = turning_apart false (heads choices (low_guards choices)) (turning_of false false false (low_core choices (low_choices choices))) (λ e. low_neutral choices) (λ e z. absurd (cc e)) s
+
+  pub low_choice_apart : (choices : Choices) (env : Seen) (s : ChoiceSpot choices) → is_apart (choice_rule choices env (low_bits (choice_count choices)) (low_choices choices) s) ≡ true
+  low_choice_apart no_choices env s = refl
+  low_choice_apart (and_choice g p more) env (this_choice s) = low_apart p env s
+  low_choice_apart (and_choice g p more) env (other_choice s) = low_choice_apart more env s
 
   low_branch_apart : (members : Processes) (env : Seen) (s : BranchSpot members) → is_apart (branch_rule members env false (low_branches members) s) ≡ true
   low_branch_apart no_members env s = refl
@@ -113,6 +168,27 @@ mutual
   own_apart env (at_body a) of_loop = refl
   own_apart env (at_body {p = p} a) ask = not_then (answer p (cells a))
   own_apart env (at_body a) (in_body s) = own_apart env a s
+  own_apart env (at_choice {choices = choices} {m = m} x) (of_core s) = core_apart (asks m) false (heads choices (choice_cells x).guards) (choice_answers choices (choice_cells x).branches) (choice_cells x) (choice_neutral x) s
+  own_apart env (at_choice {choices = choices} x) (of_guard s) = guards_apart choices env.bit (choice_cells x).ask (choice_cells x).guards s
+  own_apart env (at_choice x) (of_choice s) = choice_apart env x s
+  own_apart env (at_turning {choices = choices} {m = m} x) (of_core s) = core_apart (asks m) (choice_leave x) (heads choices (choice_cells x).guards) (choice_answers choices (choice_cells x).branches) (choice_cells x) (choice_neutral x) s
+  own_apart env (at_turning {choices = choices} x) (of_guard s) = guards_apart choices env.bit (choice_cells x).ask (choice_cells x).guards s
+  own_apart env (at_turning x) (of_choice s) = choice_apart env x s
+  own_apart env (at_turning {choices = choices} {m = m} x) (of_round s) = turning_apart true (heads choices (choice_cells x).guards) (turning_of false (asks m) (choice_leave x) (choice_cells x)) (choice_neutral x) (choice_known x) s
+  own_apart env (at_closing {choices = choices} c) (of_core s) = core_apart (closing_turn c) (closing_leave c) (heads choices (low_guards choices)) (choice_answers choices (low_choices choices)) (core_of false false (closing_any c) (low_bits (choice_count choices)) (low_bits (choice_count choices)) (low_guards choices) (low_choices choices)) (λ e. low_neutral choices) s
+  own_apart env (at_closing {choices = choices} c) (of_guard s) = guards_apart choices env.bit false (low_guards choices) s
+  own_apart env (at_closing {choices = choices} c) (of_choice s) = low_choice_apart choices env s
+  own_apart env (at_closing {choices = choices} {m = m} c) (of_round s) = turning_apart (asks m) (heads choices (low_guards choices)) (closing_cells (low_guards choices) (low_choices choices) c) (λ e. low_neutral choices) (λ e z. closing_known c e) s
+
+  pub choice_apart : {again : Bool} {choices : Choices} {m : Mode} (env : Seen) (x : ChoiceAt again choices m) (s : ChoiceSpot choices) → is_apart (choice_rule choices env (choice_cells x).started (choice_cells x).branches s) ≡ true
+  choice_apart {choices = choices} env (control_at c) s = low_choice_apart choices env s
+  choice_apart env (inside_at a w) s = chosen_apart env a s
+
+  pub chosen_apart : {choices : Choices} {k : Mode} (env : Seen) (a : ChosenAt choices k) (s : ChoiceSpot choices) → is_apart (choice_rule choices env (hot (chosen_index a) (asks k)) (chosen_cells a) s) ≡ true
+  chosen_apart env (this_one a) (this_choice s) = own_apart env a s
+  chosen_apart env (this_one {more = more} a) (other_choice s) = low_choice_apart more env s
+  chosen_apart env (another {p = p} a) (this_choice s) = low_apart p env s
+  chosen_apart env (another a) (other_choice s) = chosen_apart env a s
 
   branch_apart : {members : Processes} {ks : List Mode} (env : Seen) (r : Bool) (b : BranchesAt members ks) → all_ask r ks ≡ true → (s : BranchSpot members)
       → is_apart (branch_rule members env r (branch_cells b) s) ≡ true

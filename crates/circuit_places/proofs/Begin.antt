@@ -3,19 +3,23 @@ use Rattle.std.proofs.Common.{◌≡◌, ℕ, zero, suc, ◌==◌, ◌<◌, Bool
 use Rattle.std.specs.Prelude.{not, ◌&&◌, if◌then◌else◌, is_some}
 use Rattle.std.proofs.Math.Path.{fun_ext}
 use Rattle.chp_base.specs.declared.span.Span.{Span}
-use Rattle.width_check.specs.Processes.{Formula, Process, skipping, assigning, sending, receiving, in_turn, side_by_side, choosing, repeating, Processes, no_members, and_member, member_count, TypedProgram}
+use Rattle.width_check.specs.Processes.{Formula, Process, skipping, assigning, sending, receiving, in_turn, side_by_side, choosing, repeating, Processes, no_members, and_member, member_count, TypedProgram, Choices, no_choices, and_choice, choice_count}
 use Rattle.chp_meaning.specs.Terms.{Terms, active, opened, opened_turn, opened_each, and_branch, together}
 use Rattle.circuit_places.specs.Lines.{Line, of_channel, of_var, same_line, Rails, Seen}
 use Rattle.circuit_places.specs.Whole.{value_on, neutral_on}
-use Rattle.circuit_places.specs.Circuit.{Pairs, low_pairs, gate_count, Bits, low_guarded, low, SiteSpot, low_turn, low_branches, low_bits, bit_at, joint_count, GuardedSpot, Spot, TurnSpot, BranchSpot, of_skip, done, gate, of_assign, of_send, of_receive, PortSpot, heard, stored, taking, in_members, of_branch, joint, in_this, in_others, in_last, in_member, in_later}
+use Rattle.circuit_places.specs.Circuit.{Pairs, low_pairs, gate_count, Bits, low_guarded, low, SiteSpot, low_turn, low_branches, low_bits, bit_at, joint_count, GuardedSpot, Spot, TurnSpot, BranchSpot, of_skip, done, gate, of_assign, of_send, of_receive, PortSpot, heard, stored, taking, in_members, of_branch, joint, in_this, in_others, in_last, in_member, in_later, Cells, ChoiceCells, low_choices, ChoiceSpot, this_choice, other_choice, of_core, of_guard, of_choice, of_round}
 use Rattle.function_blocks.specs.Waves.{full, empty, Waves}
 use Rattle.circuit_places.proofs.RailLemmas.{fst_true, snd_true, never_and, low_out}
 use Rattle.circuit_places.proofs.Trees.{Settled, settled_low, top_low, top_of, flat_stands}
-use Rattle.circuit_places.proofs.Places.{Mode, idle, running, answered, returning, wave_may, SiteMay, all_ask, all_ack, all_idle, ends, SideMay, GuardedAt, At, TurnAt, BranchesAt, g_rests, g_in, g_past, g_back, rests, at_skip, at_assign, at_send, at_receive, at_turn, at_side, at_body, no_more, and_at, turn_rests, at_last, at_member, at_later, guarded_of, sides_of, guarded_cells, cells, turn_cells, branch_cells, Shown, none_shown, both_shown, guarded_shown, shown, turn_shown, branches_shown, site_shown, site_moves, send_fits, SiteFits, port_ends, PortFits, port_moves, Fits, TurnFits, BranchesFit, guarded_moves, moves, turn_moves, branch_moves}
-use Rattle.circuit_places.proofs.Meets.{PortMeets, Meets, TurnMeets, opened_then, sends, receives}
-use Rattle.circuit_places.proofs.Left.{waits, left, turn_left, branches_left}
-use Rattle.circuit_places.proofs.Flow.{Flow, Clean, Quiet, or_left, cases}
+use Rattle.circuit_places.proofs.Places.{Mode, idle, running, answered, returning, wave_may, SiteMay, all_ask, all_ack, all_idle, ends, SideMay, GuardedAt, At, TurnAt, BranchesAt, g_rests, g_in, g_past, g_back, rests, at_skip, at_assign, at_send, at_receive, at_turn, at_side, at_body, no_more, and_at, turn_rests, at_last, at_member, at_later, guarded_of, sides_of, guarded_cells, cells, turn_cells, branch_cells, Shown, none_shown, both_shown, guarded_shown, shown, turn_shown, branches_shown, site_shown, site_moves, send_fits, SiteFits, port_ends, PortFits, port_moves, Fits, TurnFits, BranchesFit, guarded_moves, moves, turn_moves, branch_moves, at_choice, at_turning, at_closing, control_at, inside_at, ChosenAt, this_one, another, chosen_index, chosen_cells, chosen_shown, ChosenFits, chosen_moves, low_guards_quiet}
+use Rattle.circuit_places.proofs.Meets.{PortMeets, Meets, TurnMeets, opened_then, sends, receives, ChoiceMeets, choice_sends, choice_receives}
+use Rattle.circuit_places.proofs.Left.{waits, left, turn_left, branches_left, body_at, chosen_left}
+use Rattle.circuit_places.proofs.Flow.{Flow, Clean, Quiet, or_left, cases, or_right}
 use Rattle.circuit_places.proofs.LineNames.{self_number, self_line}
+use Rattle.circuit_places.specs.Heads.{Index, top, under}
+use Rattle.circuit_places.specs.Cores.{of_joined, of_ask, of_any, of_latch, of_start, of_answer, of_turn, of_leave}
+use Rattle.circuit_places.proofs.CoreControl.{uncalled, called, reported, letting, told_all, lets_turn}
+use Rattle.circuit_places.proofs.GuardWaves.{guards_idle}
 
 -- a statement that rests
 mutual
@@ -27,6 +31,9 @@ mutual
   idle_is (at_receive _ k q h) = absurd (cc h)
   idle_is (at_turn t) = turn_idle_is t
   idle_is (at_side _ t b h) = absurd (cc h.awake)
+  idle_is (at_choice (control_at uncalled)) = (refl, refl)
+  idle_is (at_choice (inside_at a w)) = elim w [ ]
+  idle_is (at_closing c) = elim c [ ]
 
   pub turn_idle_is : {members : Processes} (t : TurnAt members idle) → (turn_cells t ≡ low_turn members) × (turn_shown t ≡ none_shown)
   turn_idle_is turn_rests = (refl, refl)
@@ -45,6 +52,11 @@ mutual
   idle_moves env (at_receive _ k q h) s = absurd (cc h)
   idle_moves env (at_turn t) (in_members s) = turn_idle_moves env t s
   idle_moves env (at_side _ t b h) s = absurd (cc h.awake)
+  idle_moves env (at_choice (control_at uncalled)) (of_core s) = refl
+  idle_moves env (at_choice {choices = choices} (control_at uncalled)) (of_guard s) = low_guards_quiet choices env.bit s
+  idle_moves env (at_choice (control_at uncalled)) (of_choice s) = refl
+  idle_moves env (at_choice (inside_at a w)) s = elim w [ ]
+  idle_moves env (at_closing c) s = elim c [ ]
 
   pub turn_idle_moves : {members : Processes} (env : Seen) (t : TurnAt members idle) (s : TurnSpot members) → turn_moves env t s ≡ false
   turn_idle_moves env turn_rests s = refl
@@ -159,6 +171,27 @@ mutual
   answered_moves P env clean (at_side {members = members} {ks = ks} _ t b h) f (joint k) =
       flat_stands (member_count members) h.known h.some (ends ks) (bit_at (joint_count (member_count members)) t) true h.settles h.top
       (ends_high b (h.all refl)) k
+  answered_moves P env clean (at_choice (inside_at a reported)) f (of_core s) = refl
+  answered_moves P env clean (at_choice (inside_at a reported)) f (of_guard s) = refl
+  answered_moves P env clean (at_choice (inside_at a reported)) f (of_choice s) = chosen_answered_moves P env clean a f s
+  answered_moves P env clean (at_choice (control_at c)) f s = elim c [ ]
+  answered_moves P env clean (at_closing told_all) f (of_core of_joined) = refl
+  answered_moves P env clean (at_closing told_all) f (of_core of_ask) = refl
+  answered_moves P env clean (at_closing told_all) f (of_core of_any) = refl
+  answered_moves P env clean (at_closing told_all) f (of_core (of_latch i)) = refl
+  answered_moves P env clean (at_closing told_all) f (of_core (of_start i)) = refl
+  answered_moves P env clean (at_closing told_all) f (of_guard s) = refl
+  answered_moves P env clean (at_closing told_all) f (of_choice s) = refl
+  answered_moves P env clean (at_closing told_all) f (of_round of_answer) = refl
+  answered_moves P env clean (at_closing told_all) f (of_round of_turn) = refl
+  answered_moves P env clean (at_closing told_all) f (of_round of_leave) = refl
+
+  pub chosen_answered_moves : (P : TypedProgram) {choices : Choices} (env : Seen) → Clean P env → (a : ChosenAt choices answered) → ChosenFits a env
+      → (s : ChoiceSpot choices) → chosen_moves env a s ≡ false
+  chosen_answered_moves P env clean (this_one a) f (this_choice s) = answered_moves P env clean a f s
+  chosen_answered_moves P env clean (this_one a) f (other_choice s) = refl
+  chosen_answered_moves P env clean (another a) f (this_choice s) = refl
+  chosen_answered_moves P env clean (another a) f (other_choice s) = chosen_answered_moves P env clean a f s
 
   pub turn_answered_moves : (P : TypedProgram) {members : Processes} (env : Seen) → Clean P env → (t : TurnAt members answered) → TurnFits t env
       → (s : TurnSpot members) → turn_moves env t s ≡ false
@@ -307,7 +340,22 @@ mutual
   begun P (repeating p) env h n = record { place = at_body rests; same = refl; fits = tt; offer = λ k i one. refl; take = λ k. refl; term = refl }
   begun P (receiving c at x to) env h n = receive_begun P c x at to env h (n.receive c (self_number c)) (n.send (of_var x) (self_line (of_var x)))
   begun P (side_by_side members) env h n = sides_begun P members env h
-  begun P (choosing again _) env h n = absurd h
+  begun P (choosing false choices) env h n = record {
+    place = at_choice (control_at called);
+    same = refl;
+    fits = guards_idle P env.bit choices h.1;
+    offer = λ k i one. refl;
+    take = λ k. refl;
+    term = refl;
+  }
+  begun P (choosing true choices) env h n = record {
+    place = at_turning (control_at uncalled);
+    same = refl;
+    fits = guards_idle P env.bit choices h.1;
+    offer = λ k i one. refl;
+    take = λ k. refl;
+    term = refl;
+  }
 
   pub turn_begun : (P : TypedProgram) (members : Processes) (env : Seen) → TurnMeets P members → Quiet (in_turn members) env → TurnBegun members env
   turn_begun P no_members env h n = absurd h
@@ -438,6 +486,9 @@ mutual
       record { place = at_receive returning k q refl; same = refl; fits = port_lowered env c x k q f; shows = refl }
   lowered P env clean (at_side _ t b h) f = sides_lowered env t b h f
   lowered P env clean (at_turn t) f = let b = turn_lowered P env clean t f in record { place = at_turn b.place; same = b.same; fits = b.fits; shows = b.shows }
+  lowered P env clean (at_choice (inside_at a reported)) f = record { place = at_choice (inside_at a letting); same = refl; fits = f; shows = refl }
+  lowered P env clean (at_choice (control_at c)) f = elim c [ ]
+  lowered P env clean (at_closing told_all) f = record { place = at_closing lets_turn; same = refl; fits = tt; shows = refl }
 
   pub turn_lowered : (P : TypedProgram) {members : Processes} (env : Seen) → Clean P env → (t : TurnAt members answered) → TurnFits t env
       → TurnLowered members t env
@@ -473,3 +524,82 @@ flow_then env a x y e offer take f = record {
   taken = λ c g h. absurd (cc (take c, h));
   left = λ c g h. f.left c g (ap (λ (z : Shown). z.take c) e);
 }
+
+-- the branch that is under way
+pub chosen_idle_is : {choices : Choices} (a : ChosenAt choices idle) → (chosen_cells a ≡ low_choices choices) × (chosen_shown a ≡ none_shown)
+chosen_idle_is (this_one {p = p} {more = more} a) = (ap (λ (x : Cells p). (x, low_choices more)) (idle_is a).0, (idle_is a).1)
+chosen_idle_is (another {p = p} {more = more} a) = (ap (λ (x : ChoiceCells more). (low p, x)) (chosen_idle_is a).0, (chosen_idle_is a).1)
+
+pub chosen_idle_moves : {choices : Choices} (env : Seen) (a : ChosenAt choices idle) (s : ChoiceSpot choices) → chosen_moves env a s ≡ false
+chosen_idle_moves env (this_one a) (this_choice s) = idle_moves env a s
+chosen_idle_moves env (this_one a) (other_choice s) = refl
+chosen_idle_moves env (another a) (this_choice s) = refl
+chosen_idle_moves env (another a) (other_choice s) = chosen_idle_moves env a s
+
+-- the acknowledges of all branches are low
+pub record ChoiceQuiet (choices : Choices) (env : Seen) : Type 0 where
+  pub send : (k : Line) → choice_sends choices k ≡ true → env.ack k ≡ false
+  pub receive : (c : ℕ) → choice_receives choices c ≡ true → env.ack (of_channel c) ≡ false
+
+pub record ChosenBegun (choices : Choices) (i : Index (choice_count choices)) (env : Seen) : Type 0 where
+  pub place : ChosenAt choices running
+  pub which : chosen_index place ≡ i
+  pub same : chosen_cells place ≡ low_choices choices
+  pub fits : ChosenFits place env
+  pub offer : (k : Line) (i : ℕ) (one : Bool) → (chosen_shown place).offer k i one ≡ false
+  pub take : (k : ℕ) → (chosen_shown place).take k ≡ false
+  pub term : chosen_left env.ack place ≡ opened (body_at choices i)
+
+pub chosen_begun : (P : TypedProgram) (choices : Choices) (i : Index (choice_count choices)) (env : Seen) → ChoiceMeets P choices → ChoiceQuiet choices env
+    → ChosenBegun choices i env
+chosen_begun P (and_choice g p more) top env h n =
+    let b = begun P p env h.0 record {
+      send = λ k e. n.send k (or_left (sends p k) (choice_sends more k) e);
+      receive = λ c e. n.receive c (or_left (receives p c) (choice_receives more c) e);
+    } in
+    record {
+      place = this_one b.place;
+      which = refl;
+      same = ap (λ (x : Cells p). (x, low_choices more)) b.same;
+      fits = b.fits;
+      offer = b.offer;
+      take = b.take;
+      term = b.term;
+    }
+chosen_begun P (and_choice g p more) (under i) env h n =
+    let b = chosen_begun P more i env h.1 record {
+      send = λ k e. n.send k (or_right (sends p k) (choice_sends more k) e);
+      receive = λ c e. n.receive c (or_right (receives p c) (choice_receives more c) e);
+    } in
+    record {
+      place = another b.place;
+      which = ap (λ j. under j) b.which;
+      same = ap (λ (x : ChoiceCells more). (low p, x)) b.same;
+      fits = b.fits;
+      offer = b.offer;
+      take = b.take;
+      term = b.term;
+    }
+chosen_begun P no_choices i env h n = elim i [ ]
+
+pub record ChosenLowered (choices : Choices) (a : ChosenAt choices answered) (env : Seen) : Type 0 where
+  pub place : ChosenAt choices returning
+  pub which : chosen_index place ≡ chosen_index a
+  pub same : chosen_cells place ≡ chosen_cells a
+  pub fits : ChosenFits place env
+  pub shows : chosen_shown place ≡ chosen_shown a
+
+pub chosen_lowered : (P : TypedProgram) {choices : Choices} (env : Seen) → Clean P env → (a : ChosenAt choices answered) → ChosenFits a env
+    → ChosenLowered choices a env
+chosen_lowered P env clean (this_one {p = p} {more = more} a) f =
+    let b = lowered P env clean a f in
+    record { place = this_one b.place; which = refl; same = ap (λ (x : Cells p). (x, low_choices more)) b.same; fits = b.fits; shows = b.shows }
+chosen_lowered P env clean (another {p = p} {more = more} a) f =
+    let b = chosen_lowered P env clean a f in
+    record {
+      place = another b.place;
+      which = ap (λ j. under j) b.which;
+      same = ap (λ (x : ChoiceCells more). (low p, x)) b.same;
+      fits = b.fits;
+      shows = b.shows;
+    }

@@ -2,9 +2,9 @@
 use Rattle.std.proofs.Common.{◌≡◌, ℕ, ◌≤◌, ◌<◌, ◌==◌, Bool, true, false, List, refl, sym, ap, ◌∙◌, subst}
 use Rattle.std.specs.Prelude.{not, ◌&&◌, if◌then◌else◌, is_some}
 use Rattle.chp_base.specs.declared.span.Span.{Span}
-use Rattle.width_check.specs.Processes.{Formula, Process, skipping, assigning, sending, receiving, in_turn, side_by_side, repeating, Processes, no_members, and_member, member_count, TypedProgram}
+use Rattle.width_check.specs.Processes.{Formula, Process, skipping, assigning, sending, receiving, in_turn, side_by_side, repeating, Processes, no_members, and_member, member_count, TypedProgram, choosing, Choices, and_choice}
 use Rattle.circuit_places.specs.Lines.{Line, of_channel, of_var, same_line, site_statement, line_width, Rails, Seen}
-use Rattle.circuit_places.specs.Circuit.{PortSpot, heard, stored, taking, of_receive, rails_turned, Pairs, gate_count, gate_rule, fires, SiteSpot, Bits, joint_count, GuardedSpot, Spot, TurnSpot, BranchSpot, child, latch, next, inner, of_skip, done, gate, of_assign, of_send, in_members, of_branch, joint, in_this, in_others, of_loop, ask, in_body, in_last, in_member, in_later}
+use Rattle.circuit_places.specs.Circuit.{PortSpot, heard, stored, taking, of_receive, rails_turned, Pairs, gate_count, gate_rule, fires, SiteSpot, Bits, joint_count, GuardedSpot, Spot, TurnSpot, BranchSpot, child, latch, next, inner, of_skip, done, gate, of_assign, of_send, in_members, of_branch, joint, in_this, in_others, of_loop, ask, in_body, in_last, in_member, in_later, GuardCells, low_guards, GuardSpot, ChoiceSpot, this_choice, other_choice, of_core, of_guard, of_choice, of_round, guards_read, guards_rule, guards_good}
 use Rattle.circuit_places.specs.Whole.{is_heard, value_on, neutral_on}
 use Rattle.width_check.specs.Typing.{kind_at}
 use Rattle.width_check.specs.Values.{width_of}
@@ -12,13 +12,15 @@ use Rattle.width_check.specs.Reads.{reads}
 use Rattle.function_blocks.specs.Waves.{good, out_rail, full, empty}
 use Rattle.function_blocks.specs.RailFacts.{covered, emptied}
 use Rattle.circuit_places.proofs.RailLemmas.{snd_true, both_true, not_true, told_not_low}
-use Rattle.circuit_places.proofs.Places.{Mode, idle, running, answered, returning, asks, acks, is_idle, inner_may, link, wave_may, SiteMay, SideMay, GuardedAt, At, TurnAt, BranchesAt, g_rests, g_in, g_past, g_back, rests, at_skip, at_assign, at_send, at_receive, at_turn, at_side, at_body, no_more, and_at, turn_rests, at_last, at_member, at_later, Shown, both_shown, guarded_shown, shown, turn_shown, branches_shown, site_shown, site_moves, port_may, port_shown, port_ends, PortFits, port_moves, send_fits, SiteFits, GuardedFits, Fits, TurnFits, BranchesFit, guarded_moves, moves, turn_moves, branch_moves, not_running}
-use Rattle.circuit_places.proofs.Meets.{PortMeets, SiteMeets, site_sends, Meets, TurnMeets, EachMeets, sends, turn_sends, receives, each_receives}
+use Rattle.circuit_places.proofs.Places.{Mode, idle, running, answered, returning, asks, acks, is_idle, inner_may, link, wave_may, SiteMay, SideMay, GuardedAt, At, TurnAt, BranchesAt, g_rests, g_in, g_past, g_back, rests, at_skip, at_assign, at_send, at_receive, at_turn, at_side, at_body, no_more, and_at, turn_rests, at_last, at_member, at_later, Shown, both_shown, guarded_shown, shown, turn_shown, branches_shown, site_shown, site_moves, port_may, port_shown, port_ends, PortFits, port_moves, send_fits, SiteFits, GuardedFits, Fits, TurnFits, BranchesFit, guarded_moves, moves, turn_moves, branch_moves, not_running, guards_shown, at_choice, at_turning, at_closing, ChoiceAt, control_at, inside_at, ChosenAt, this_one, another, choice_shown, chosen_shown, ChoiceFits, ChosenFits, choice_guard, choice_inner, chosen_moves}
+use Rattle.circuit_places.proofs.Meets.{PortMeets, SiteMeets, site_sends, Meets, TurnMeets, EachMeets, sends, turn_sends, receives, each_receives, GuardsMeet, ChoiceMeets, choice_sends, choice_receives}
 use Rattle.circuit_places.proofs.Flow.{neither_left, neither_right, low_of, or_left, or_right, cases}
 use Rattle.circuit_places.proofs.LineNames.{self_number, same_number, same_line_is}
 use Rattle.circuit_places.proofs.Begin.{answered_all, answered_full, answered_kept, answered_ack, answered_va, port_answered_moves}
 use Rattle.circuit_places.proofs.PortLeaf.{runs_kept, runs_va, runs_full, back_ack, back_kept, back_none, back_gone, low_by, run_ends, back_ends, still_high, fallen, port_none}
 use Rattle.circuit_places.proofs.Talks.{Beside, beside, or_false_right, or_false_left}
+use Rattle.circuit_places.proofs.CoreControl.{Closing, control_ask, control_guards}
+use Rattle.circuit_places.proofs.GuardWaves.{guards_unread, guards_asleep}
 
 pub record Changed (p : Process) (m : Mode) (env now : Seen) (a : At p m) : Type 0 where
   pub fits : Fits a now
@@ -36,6 +38,15 @@ pub record BranchesChanged (members : Processes) (ks : List Mode) (env now : See
   pub fits : BranchesFit b now
   pub keeps : (s : BranchSpot members) → branch_moves env b s ≡ true → branch_moves now b s ≡ true
 
+pub record ChosenChanged (choices : Choices) (k : Mode) (env now : Seen) (a : ChosenAt choices k) : Type 0 where
+  pub fits : ChosenFits a now
+  pub keeps : (s : ChoiceSpot choices) → chosen_moves env a s ≡ true → chosen_moves now a s ≡ true
+
+pub record ChoiceChanged (again : Bool) (choices : Choices) (m : Mode) (env now : Seen) (x : ChoiceAt again choices m) : Type 0 where
+  pub fits : ChoiceFits x now
+  pub guard : (s : GuardSpot choices) → choice_guard env x s ≡ true → choice_guard now x s ≡ true
+  pub inside : (s : ChoiceSpot choices) → choice_inner env x s ≡ true → choice_inner now x s ≡ true
+
 -- a condition on what a place shows that goes down to the parts
 pub record Handed (Cond : Process → Shown → Type 0) : Type 0 where
   pub to_first : {p : Process} {more : Processes} {x : Shown} → Cond (in_turn (and_member p more)) x → Cond p x
@@ -44,6 +55,9 @@ pub record Handed (Cond : Process → Shown → Type 0) : Type 0 where
   pub to_others : {p : Process} {more : Processes} {x y : Shown} → Beside p more x y → Cond (side_by_side (and_member p more)) (both_shown x y)
       → Cond (side_by_side more) y
   pub to_body : {p : Process} {x : Shown} → Cond (repeating p) x → Cond p x
+  pub to_choice : {again : Bool} {g : Formula} {p : Process} {more : Choices} {x : Shown} → Cond (choosing again (and_choice g p more)) x → Cond p x
+  pub to_choices : {again : Bool} {g : Formula} {p : Process} {more : Choices} {x : Shown} → Cond (choosing again (and_choice g p more)) x
+      → Cond (choosing again more) x
 
 -- and what the wire's move does to each leaf
 pub record SiteChanged (k : Line) (e : Formula) (m : Mode) (u : Pairs (gate_count e)) (env now : Seen) : Type 0 where
@@ -54,11 +68,17 @@ pub record PortChanged (c x : ℕ) (m : Mode) (l : Bool) (q : Rails) (env now : 
   pub fits : PortFits c x m l q now
   pub keeps : (s : PortSpot) → port_moves env c x m l q s ≡ true → port_moves now c x m l q s ≡ true
 
+pub record GuardsChanged (choices : Choices) (r : Bool) (x : GuardCells choices) (env now : Seen) : Type 0 where
+  pub fits : guards_good choices now.bit r x ≡ true
+  pub keeps : (s : GuardSpot choices) → fires (guards_rule choices env.bit r x s) ≡ true → fires (guards_rule choices now.bit r x s) ≡ true
+
 pub record AtLeaves (P : TypedProgram) (env now : Seen) (Cond : Process → Shown → Type 0) : Type 0 where
   pub at_ports : (c x : ℕ) (at to : Span) (m : Mode) (l : Bool) (q : Rails) → port_may m l ≡ true → PortMeets P c x
       → Cond (receiving c at x to) (port_shown c x l q) → PortFits c x m l q env → PortChanged c x m l q env now
   pub at_sites : (k : Line) (at : Span) (e : Formula) (m : Mode) (u : Pairs (gate_count e)) → SiteMay e m u → SiteMeets P k e
       → Cond (site_statement k at e) (site_shown k e u) → SiteFits k e m u env → SiteChanged k e m u env now
+  pub at_guards : (again : Bool) (choices : Choices) (r : Bool) (x : GuardCells choices) → GuardsMeet P choices
+      → Cond (choosing again choices) (guards_shown r choices) → guards_good choices env.bit r x ≡ true → GuardsChanged choices r x env now
 
 module _ (P : TypedProgram) (env now : Seen) (Cond : Process → Shown → Type 0) (handed : Handed Cond) (leaves : AtLeaves P env now Cond) where
   in_keeps : {p : Process} {m : Mode} (u : Bool) (a : At p m) (h : inner_may u m ≡ true) → Changed p m env now a → (s : GuardedSpot p)
@@ -147,6 +167,37 @@ module _ (P : TypedProgram) (env now : Seen) (Cond : Process → Shown → Type 
   later_keeps {k = k} {n = n} m g t h r (in_member s) z = past_keeps g (not_running m k n h) s z
   later_keeps m g t h r (in_later s) z = r.keeps s z
 
+  choice_keeps : {choices : Choices} {m : Mode} (x : ChoiceAt false choices m) → ChoiceChanged false choices m env now x
+      → (s : Spot (choosing false choices)) → moves env (at_choice x) s ≡ true → moves now (at_choice x) s ≡ true
+  choice_keeps x r (of_core s) z = z
+  choice_keeps x r (of_guard s) z = r.guard s z
+  choice_keeps x r (of_choice s) z = r.inside s z
+
+  turning_keeps : {choices : Choices} {m : Mode} (x : ChoiceAt true choices m) → ChoiceChanged true choices m env now x
+      → (s : Spot (choosing true choices)) → moves env (at_turning x) s ≡ true → moves now (at_turning x) s ≡ true
+  turning_keeps x r (of_core s) z = z
+  turning_keeps x r (of_guard s) z = r.guard s z
+  turning_keeps x r (of_choice s) z = r.inside s z
+  turning_keeps x r (of_round s) z = z
+
+  closing_keeps : {choices : Choices} {m : Mode} (c : Closing m) (s : Spot (choosing true choices)) → moves env (at_closing c) s ≡ true
+      → moves now (at_closing c) s ≡ true
+  closing_keeps c (of_core s) z = z
+  closing_keeps c (of_guard s) z = z
+  closing_keeps c (of_choice s) z = z
+  closing_keeps c (of_round s) z = z
+
+  this_keeps : {g : Formula} {p : Process} {more : Choices} {k : Mode} (a : At p k) → Changed p k env now a → (s : ChoiceSpot (and_choice g p more))
+      → chosen_moves env (this_one {g = g} {more = more} a) s ≡ true → chosen_moves now (this_one {g = g} {more = more} a) s ≡ true
+  this_keeps a r (this_choice s) z = r.keeps s z
+  this_keeps a r (other_choice s) z = absurd (cc z)
+
+  other_keeps : {g : Formula} {p : Process} {more : Choices} {k : Mode} (a : ChosenAt more k) → ChosenChanged more k env now a
+      → (s : ChoiceSpot (and_choice g p more)) → chosen_moves env (another {g = g} {p = p} a) s ≡ true
+      → chosen_moves now (another {g = g} {p = p} a) s ≡ true
+  other_keeps a r (this_choice s) z = absurd (cc z)
+  other_keeps a r (other_choice s) z = r.keeps s z
+
   mutual
     pub guarded_changed : {p : Process} {m : Mode} (g : GuardedAt p m) → Meets P p → Cond p (guarded_shown g) → GuardedFits g env → GuardedChanged p m env now g
     guarded_changed g_rests meets i f = record { fits = tt; keeps = λ s z. z }
@@ -163,6 +214,23 @@ module _ (P : TypedProgram) (env now : Seen) (Cond : Process → Shown → Type 
     changed (at_turn t) meets i f = let r = turn_changed t meets i f in record { fits = r.fits; keeps = members_keep t r }
     changed (at_side m t b h) meets i f = let r = branches_changed b meets.2 i f in record { fits = r.fits; keeps = sides_keep m t b h r }
     changed (at_body a) meets i f = let r = changed a meets (handed.to_body i) f in record { fits = r.fits; keeps = body_keeps a r }
+    changed (at_choice x) meets i f = let r = choice_changed false x meets.1 meets.2 i f in record { fits = r.fits; keeps = choice_keeps x r }
+    changed (at_turning x) meets i f = let r = choice_changed true x meets.1 meets.2 i f in record { fits = r.fits; keeps = turning_keeps x r }
+    changed (at_closing c) meets i f = record { fits = tt; keeps = closing_keeps c }
+
+    pub choice_changed : (again : Bool) {choices : Choices} {m : Mode} (x : ChoiceAt again choices m) → GuardsMeet P choices → ChoiceMeets P choices
+        → Cond (choosing again choices) (choice_shown x) → ChoiceFits x env → ChoiceChanged again choices m env now x
+    choice_changed again (control_at {choices = choices} c) laws meets i f =
+        let r = leaves.at_guards again choices (control_ask c) (control_guards (low_guards choices) c) laws i f in
+        record { fits = r.fits; guard = r.keeps; inside = λ s z. z }
+    choice_changed again (inside_at a w) laws meets i f =
+        let r = chosen_changed again a meets i f in record { fits = r.fits; guard = λ s z. z; inside = r.keeps }
+
+    pub chosen_changed : (again : Bool) {choices : Choices} {k : Mode} (a : ChosenAt choices k) → ChoiceMeets P choices
+        → Cond (choosing again choices) (chosen_shown a) → ChosenFits a env → ChosenChanged choices k env now a
+    chosen_changed again (this_one a) meets i f = let r = changed a meets.0 (handed.to_choice i) f in record { fits = r.fits; keeps = this_keeps a r }
+    chosen_changed again (another a) meets i f =
+        let r = chosen_changed again a meets.1 (handed.to_choices i) f in record { fits = r.fits; keeps = other_keeps a r }
 
     pub branches_changed : {members : Processes} {ks : List Mode} (b : BranchesAt members ks) → EachMeets P members
         → Cond (side_by_side members) (branches_shown b) → BranchesFit b env → BranchesChanged members ks env now b
@@ -214,6 +282,16 @@ ready_down c rail busy = record {
     calm = λ v h. r.calm v (or_right (x.read v) (y.read v) h);
   };
   to_body = λ {p} {x} r. record { send = r.send; receive = r.receive; calm = r.calm };
+  to_choice = λ {again} {g} {p} {more} {x} r. record {
+    send = λ e. r.send (or_left (sends p c) (choice_sends more c) e);
+    receive = λ d z e. r.receive d z (or_left (receives p d) (choice_receives more d) e);
+    calm = r.calm;
+  };
+  to_choices = λ {again} {g} {p} {more} {x} r. record {
+    send = λ e. r.send (or_right (sends p c) (choice_sends more c) e);
+    receive = λ d z e. r.receive d z (or_right (receives p d) (choice_receives more d) e);
+    calm = r.calm;
+  };
 }
 
 -- Each rail of the line that a statement holds is high, and no receive on its channel has a value.
@@ -236,6 +314,8 @@ kept_down c rail = record {
         (x.take d) (y.take d) (r.take d z);
   };
   to_body = λ {p} {x} r. record { offer = r.offer; take = r.take };
+  to_choice = λ {again} {g} {p} {more} {x} r. record { offer = r.offer; take = r.take };
+  to_choices = λ {again} {g} {p} {more} {x} r. record { offer = r.offer; take = r.take };
 }
 
 -- No receive on the channel has stored.
@@ -249,6 +329,8 @@ free_down c = record {
   to_this = λ {p} {more} {x} {y} b r. record { take = neither_left (x.take c) (y.take c) r.take };
   to_others = λ {p} {more} {x} {y} b r. record { take = neither_right (x.take c) (y.take c) r.take };
   to_body = λ {p} {x} r. record { take = r.take };
+  to_choice = λ {again} {g} {p} {more} {x} r. record { take = r.take };
+  to_choices = λ {again} {g} {p} {more} {x} r. record { take = r.take };
 }
 
 abbrev pub Any : Process → Shown → Type 0
@@ -261,6 +343,8 @@ any_down = record {
   to_this = λ {p} {more} {x} {y} b r. tt;
   to_others = λ {p} {more} {x} {y} b r. tt;
   to_body = λ {p} {x} r. tt;
+  to_choice = λ {again} {g} {p} {more} {x} r. tt;
+  to_choices = λ {again} {g} {p} {more} {x} r. tt;
 }
 
 -- the rails of a channel on which the program receives stay
@@ -290,6 +374,14 @@ still_site env now k e m u same bits f = record {
     keeps done z = ap (λ b. if acks m then not b else asks m && b) same ∙ z
     keeps (gate i one) z = ap (λ (b : ℕ → Rails). fires (gate_rule e b (asks m) u i one)) bits ∙ z
 
+-- guards over bits that stay
+pub still_guards : (env now : Seen) (choices : Choices) (r : Bool) (x : GuardCells choices) → now.bit ≡ env.bit → guards_good choices env.bit r x ≡ true
+    → GuardsChanged choices r x env now
+still_guards env now choices r x bits f = record {
+  fits = ap (λ (b : ℕ → Rails). guards_good choices b r x) bits ∙ f;
+  keeps = λ s z. ap (λ (b : ℕ → Rails). fires (guards_rule choices b r x s)) bits ∙ z;
+}
+
 -- a receive whose acknowledges and whose channel's rails stay
 pub still_port : (env now : Seen) (c x : ℕ) (m : Mode) (l : Bool) (q : Rails) → now.width ≡ env.width → now.ack (of_channel c) ≡ env.ack (of_channel c)
     → now.ack (of_var x) ≡ env.ack (of_var x) → now.rail (of_channel c) ≡ env.rail (of_channel c)
@@ -318,6 +410,7 @@ pub still_leaves : (P : TypedProgram) (env now : Seen) → now.width ≡ env.wid
     → AtLeaves P env now Any
 still_leaves P env now widths same bits rails = record {
   at_sites = λ k at e m u h meets r f. still_site env now k e m u (same k) bits f;
+  at_guards = λ again choices r x laws i f. still_guards env now choices r x bits f;
   at_ports = λ c x at to m l q h meets r f. still_port env now c x m l q widths (same (of_channel c)) (same (of_var x)) (rails c meets.heard) f;
 }
 
@@ -332,15 +425,32 @@ unread_down v = record {
   to_this = λ {p} {more} {x} {y} b r. record { read = neither_left (x.read v) (y.read v) r.read };
   to_others = λ {p} {more} {x} {y} b r. record { read = neither_right (x.read v) (y.read v) r.read };
   to_body = λ {p} {x} r. record { read = r.read };
+  to_choice = λ {again} {g} {p} {more} {x} r. record { read = r.read };
+  to_choices = λ {again} {g} {p} {more} {x} r. record { read = r.read };
 }
 
 pub bit_leaves : (P : TypedProgram) (env now : Seen) (v : ℕ) → now.width ≡ env.width → ((k : Line) → now.ack k ≡ env.ack k) → Received P env now
     → ((x : ℕ) → (x == v) ≡ false → now.bit x ≡ env.bit x) → AtLeaves P env now (Unread v)
 bit_leaves P env now v widths same rails far = record {
   at_sites = the_site;
+  at_guards = the_guards;
   at_ports = λ c x at to m l q h meets r f. still_port env now c x m l q widths (same (of_channel c)) (same (of_var x)) (rails c meets.heard) f;
 }
   where
+    the_guards : (again : Bool) (choices : Choices) (r : Bool) (x : GuardCells choices) → GuardsMeet P choices
+        → Unread v (choosing again choices) (guards_shown r choices) → guards_good choices env.bit r x ≡ true → GuardsChanged choices r x env now
+    the_guards again choices true x laws i f =
+        let r = guards_unread P env.bit now.bit true choices laws x others in
+        record { fits = sym r.0 ∙ f; keeps = λ s z. sym (ap fires (r.1 s)) ∙ z }
+      where
+        others : (y j : ℕ) (one : Bool) → guards_read choices y ≡ true → env.bit y j one ≡ now.bit y j one
+        others y j one read = cases (y == v)
+            (λ (z : (y == v) ≡ true). absurd (cc (read, ap (guards_read choices) (same_number y v z), i.read)))
+            (λ (z : (y == v) ≡ false). ap (λ (b : Rails). b j one) (sym (far y z)))
+    the_guards again choices false x laws i f =
+        let r = guards_asleep P env.bit now.bit choices laws x in
+        record { fits = sym r.0 ∙ f; keeps = λ s z. sym (ap fires (r.1 s)) ∙ z }
+
     the_site : (k : Line) (at : Span) (e : Formula) (m : Mode) (u : Pairs (gate_count e)) → SiteMay e m u → SiteMeets P k e
         → Unread v (site_statement k at e) (site_shown k e u) → SiteFits k e m u env → SiteChanged k e m u env now
     the_site k at e m u h meets r f = record {
@@ -410,7 +520,11 @@ site_runs P env d e m u h meets f whole low = full_mode e u m (env.ack d) meets.
 -- an acknowledge rises
 pub raise_leaves : (P : TypedProgram) (env now : Seen) (c : Line) (busy : ℕ → Bool) → AckTurned P env now c → env.ack c ≡ false
     → is_some (value_on (line_width P c) (env.rail c)) ≡ true → ((k : Line) → env.width k ≡ line_width P k) → AtLeaves P env now (Ready c (env.rail c) busy)
-raise_leaves P env now c busy t low some wide = record { at_sites = the_site; at_ports = the_port }
+raise_leaves P env now c busy t low some wide = record {
+  at_sites = the_site;
+  at_ports = the_port;
+  at_guards = λ again choices r x laws i f. still_guards env now choices r x t.bits f;
+}
   where
     at_it : (d : Line) (e : Formula) (m : Mode) (u : Pairs (gate_count e)) → m ≡ running → full e u ≡ true → env.ack d ≡ false → SiteFits d e m u env
         → SiteChanged d e m u env now
@@ -561,7 +675,11 @@ site_returns P env d e m u h meets f none high = none_returns m (full e u) (empt
 -- an acknowledge falls
 pub lower_leaves : (P : TypedProgram) (env now : Seen) (c : Line) → AckTurned P env now c → env.ack c ≡ true → neutral_on (line_width P c) (env.rail c) ≡ true
     → ((k : Line) → env.width k ≡ line_width P k) → AtLeaves P env now (Kept c (env.rail c))
-lower_leaves P env now c t high lows wide = record { at_sites = the_site; at_ports = the_port }
+lower_leaves P env now c t high lows wide = record {
+  at_sites = the_site;
+  at_ports = the_port;
+  at_guards = λ again choices r x laws i f. still_guards env now choices r x t.bits f;
+}
   where
     at_it : (d : Line) (e : Formula) (m : Mode) (u : Pairs (gate_count e)) → m ≡ returning → empty e u ≡ true → env.ack d ≡ true → SiteFits d e m u env
         → SiteChanged d e m u env now
@@ -714,6 +832,7 @@ pub rail_up_leaves : (P : TypedProgram) (env now : Seen) (c i : ℕ) (one : Bool
     → AtLeaves P env now (Free c)
 rail_up_leaves P env now c i one t low = record {
   at_sites = λ k at e m u h meets r f. still_site env now k e m u (t.acks k) t.bits f;
+  at_guards = λ again choices r x laws i f. still_guards env now choices r x t.bits f;
   at_ports = the_port;
 }
   where
@@ -768,6 +887,7 @@ pub rail_down_leaves : (P : TypedProgram) (env now : Seen) (c i : ℕ) (one : Bo
     → env.ack (of_channel c) ≡ true → AtLeaves P env now Any
 rail_down_leaves P env now c i one t top high = record {
   at_sites = λ k at e m u h meets r f. still_site env now k e m u (t.acks k) t.bits f;
+  at_guards = λ again choices r x laws i f. still_guards env now choices r x t.bits f;
   at_ports = the_port;
 }
   where

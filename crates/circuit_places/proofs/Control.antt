@@ -1,19 +1,22 @@
 -- Own moves of Q-elements, sequences and loops; and of every statement.
 use Rattle.std.proofs.Common.{◌≡◌, ◌≢◌, ℕ, Bool, true, false, List, refl, sym, ap, ◌∙◌, subst, inl}
 use Rattle.std.specs.Prelude.{not, ◌&&◌, if◌then◌else◌}
-use Rattle.width_check.specs.Processes.{Process, in_turn, repeating, side_by_side, Processes, no_members, and_member, TypedProgram}
+use Rattle.width_check.specs.Processes.{Process, in_turn, repeating, side_by_side, Processes, no_members, and_member, TypedProgram, Choices, choosing, choice_count, and_choice}
 use Rattle.chp_meaning.specs.Terms.{Term, finished, opened, followed}
-use Rattle.circuit_places.specs.Lines.{of_channel, Seen}
-use Rattle.circuit_places.specs.Circuit.{low_guarded, low, low_turn, GuardedSpot, Spot, TurnSpot, BranchSpot, child, latch, next, inner, of_assign, of_send, of_receive, in_members, of_branch, joint, in_this, in_others, of_loop, ask, in_body, in_last, in_member, in_later, turned_guarded, turned_turn}
-use Rattle.circuit_places.proofs.Places.{Mode, idle, running, answered, returning, asks, acks, inner_may, link, GuardedAt, At, TurnAt, BranchesAt, g_rests, g_in, g_past, g_back, rests, at_skip, at_assign, at_send, at_receive, at_turn, at_side, at_body, no_more, and_at, turn_rests, at_last, at_member, at_later, guarded_of, ring_of, turn_of, guarded_cells, cells, turn_cells, Shown, none_shown, guarded_shown, shown, turn_shown, branches_shown, GuardedFits, Fits, TurnFits, BranchesFit, guarded_writing, turn_writing, guarded_moves, moves, turn_moves, branch_moves}
-use Rattle.circuit_places.proofs.Meets.{Meets, TurnMeets, EachMeets, sends, turn_sends, receives, each_receives}
-use Rattle.circuit_places.proofs.Left.{inner_left, again, guarded_left, left, turn_left, Follows, followed_follows, loop_follows, left_done, turn_left_done, guarded_left_past, writing_done, turn_writing_done, guarded_writing_done}
-use Rattle.circuit_places.proofs.Flow.{goes, goes_asks, Flow, flow_same, flow_by, Clean, Backed, Quiet, low_of, quiet_of, After, GuardedAfter, TurnAfter, BranchAfter, or_left, or_right}
+use Rattle.circuit_places.specs.Lines.{of_channel, Seen, Line}
+use Rattle.circuit_places.specs.Circuit.{low_guarded, low, low_turn, GuardedSpot, Spot, TurnSpot, BranchSpot, child, latch, next, inner, of_assign, of_send, of_receive, in_members, of_branch, joint, in_this, in_others, of_loop, ask, in_body, in_last, in_member, in_later, turned_guarded, turned_turn, ChoiceSpot, this_choice, other_choice, of_core, of_guard, of_choice, of_round}
+use Rattle.circuit_places.proofs.Places.{Mode, idle, running, answered, returning, asks, acks, inner_may, link, GuardedAt, At, TurnAt, BranchesAt, g_rests, g_in, g_past, g_back, rests, at_skip, at_assign, at_send, at_receive, at_turn, at_side, at_body, no_more, and_at, turn_rests, at_last, at_member, at_later, guarded_of, ring_of, turn_of, guarded_cells, cells, turn_cells, Shown, none_shown, guarded_shown, shown, turn_shown, branches_shown, GuardedFits, Fits, TurnFits, BranchesFit, guarded_writing, turn_writing, guarded_moves, moves, turn_moves, branch_moves, at_choice, at_turning, at_closing, ChoiceAt, control_at, inside_at, ChosenAt, this_one, another, chosen_shown, ChosenFits, chosen_moves}
+use Rattle.circuit_places.proofs.Meets.{Meets, TurnMeets, EachMeets, sends, turn_sends, receives, each_receives, GuardsMeet, ChoiceMeets, choice_sends, choice_receives}
+use Rattle.circuit_places.proofs.Left.{inner_left, again, guarded_left, left, turn_left, Follows, followed_follows, loop_follows, left_done, turn_left_done, guarded_left_past, writing_done, turn_writing_done, guarded_writing_done, ToldBy}
+use Rattle.circuit_places.proofs.Flow.{goes, goes_asks, Flow, flow_same, flow_by, Clean, Backed, Quiet, low_of, quiet_of, After, GuardedAfter, TurnAfter, BranchAfter, or_left, or_right, not_both}
 use Rattle.circuit_places.proofs.Begin.{idle_is, turn_idle_is, guarded_idle_is, idle_moves, turn_idle_moves, guarded_idle_moves, guarded_past_is, answered_moves, turn_answered_moves, begun, turn_begun, lowered, turn_lowered, flow_begun, flow_then}
 use Rattle.circuit_places.proofs.Leaves.{skip_after, send_after, assign_after}
 use Rattle.circuit_places.proofs.PortLeaf.{receive_after}
 use Rattle.circuit_places.proofs.Talks.{beside, or_false_left, or_false_right}
 use Rattle.circuit_places.proofs.Sides.{this_after, others_after, side_after, joint_after}
+use Rattle.circuit_places.proofs.CoreMoves.{in_control, in_branch, Stepped}
+use Rattle.circuit_places.proofs.AgainMoves.{turning, closing}
+use Rattle.circuit_places.proofs.ChoiceMoves.{choice_branches, select_own, select_guard, select_branch, repeat_own, repeat_guard, repeat_branch, repeat_round, closing_own, this_after as this_branch, other_after as other_branch}
 
 inner_goes : (u : Bool) (m n : Mode) → inner_may u m ≡ true → goes m n ≡ true → inner_may u n ≡ true
 inner_goes false running running h g = refl
@@ -36,13 +39,13 @@ no_next true answered n h g e = cc e
 no_next true returning n h g e = cc e
 no_next false m n h g e = cc e
 
-inner_follows : (u : Bool) (m n : Mode) (s x y : Term) → inner_may u m ≡ true → goes m n ≡ true → ((n ≡ running → ⊥) → y ≡ finished) → Follows x y
-    → Follows (inner_left u m s x) (inner_left u n s y)
-inner_follows false running running s x y h g over r = r
-inner_follows false running answered s x y h g over r = subst (λ (z : Term). Follows x z) (over (λ e. cc e)) r
-inner_follows true returning returning s x y h g over r = inl refl
-inner_follows true returning idle s x y h g over r = inl refl
-inner_follows _ _ _ s x y h g over r = absurd (cc (h, g))
+inner_follows : (Told : Choices → List Process → Type 0) (u : Bool) (m n : Mode) (s x y : Term) → inner_may u m ≡ true → goes m n ≡ true
+    → ((n ≡ running → ⊥) → y ≡ finished) → Follows Told x y → Follows Told (inner_left u m s x) (inner_left u n s y)
+inner_follows Told false running running s x y h g over r = r
+inner_follows Told false running answered s x y h g over r = subst (λ (z : Term). Follows Told x z) (over (λ e. cc e)) r
+inner_follows Told true returning returning s x y h g over r = inl refl
+inner_follows Told true returning idle s x y h g over r = inl refl
+inner_follows Told _ _ _ s x y h g over r = absurd (cc (h, g))
 
 -- a move inside a Q-element
 module _ {p : Process} {m : Mode} (env : Seen) (u : Bool) (a : At p m) (h : inner_may u m ≡ true) (s : Spot p) (r : After p m env a s) where
@@ -62,7 +65,7 @@ module _ {p : Process} {m : Mode} (env : Seen) (u : Bool) (a : At p m) (h : inne
     fits = r.fits;
     flow = r.flow;
     frees = r.frees;
-    term = inner_follows u m r.mode (opened p) (left env.ack a) (left env.ack r.to) h r.way (λ (e : r.mode ≡ running → ⊥). left_done env.ack r.to e) r.term;
+    term = inner_follows (ToldBy env (shown a).read) u m r.mode (opened p) (left env.ack a) (left env.ack r.to) h r.way (λ (e : r.mode ≡ running → ⊥). left_done env.ack r.to e) r.term;
     keeps = inner_keeps;
   }
 
@@ -87,7 +90,7 @@ module _ (P : TypedProgram) {p : Process} (env : Seen) (clean : Clean P env) (me
       keeps b child ne z = absurd (ne refl)
       keeps b latch ne z = absurd (cc z)
       keeps b next ne z = absurd (cc z)
-      keeps b (inner q) ne z = absurd (cc (idle_moves env a q, z))
+      keeps b (inner q) ne z = absurd (not_both (idle_moves env a q) z)
 
   child_down : (a : At p answered) (h : inner_may true answered ≡ true) → Fits a env → GuardedAfter p running env (g_in true a h) child
   child_down a h f =
@@ -108,7 +111,7 @@ module _ (P : TypedProgram) {p : Process} (env : Seen) (clean : Clean P env) (me
       keeps b child ne z = absurd (ne refl)
       keeps b latch ne z = absurd (cc z)
       keeps b next ne z = absurd (cc z)
-      keeps b (inner q) ne z = absurd (cc (answered_moves P env clean a f q, z))
+      keeps b (inner q) ne z = absurd (not_both (answered_moves P env clean a f q) z)
 
   latch_up : (a : At p answered) (h : inner_may false answered ≡ true) → Fits a env → GuardedAfter p running env (g_in false a h) latch
   latch_up a h f = record {
@@ -147,7 +150,7 @@ module _ (P : TypedProgram) {p : Process} (env : Seen) (clean : Clean P env) (me
       keeps child ne z = absurd (cc z)
       keeps latch ne z = absurd (cc z)
       keeps next ne z = absurd (ne refl)
-      keeps (inner q) ne z = absurd (cc (idle_moves env a q, z))
+      keeps (inner q) ne z = absurd (not_both (idle_moves env a q) z)
 
   latch_down : GuardedAfter p returning env (g_back true) latch
   latch_down = record {
@@ -220,7 +223,7 @@ module _ (P : TypedProgram) {p q : Process} {more : Processes} (env : Seen) wher
       hands_on to b keeps (in_later x) ne z = absurd (cc z)
 
       by_mode : (m : Mode) (to : GuardedAt p m) → guarded_cells to ≡ turned_guarded p (guarded_cells g) s → goes running m ≡ true → GuardedFits to env
-          → Flow env (guarded_shown g) (guarded_shown to) → Follows (guarded_left env.ack g) (guarded_left env.ack to)
+          → Flow env (guarded_shown g) (guarded_shown to) → Follows (ToldBy env (guarded_shown g).read) (guarded_left env.ack g) (guarded_left env.ack to)
           → ((x : ℕ) → guarded_writing env.ack to x ≡ false → guarded_writing env.ack g x ≡ false)
           → ((x : GuardedSpot p) → x ≢ s → guarded_moves env g x ≡ true → guarded_moves env to x ≡ true)
           → TurnAfter (and_member p (and_member q more)) running env (at_member {q = q} {more = more} g) (in_member s)
@@ -232,7 +235,7 @@ module _ (P : TypedProgram) {p q : Process} {more : Processes} (env : Seen) wher
         fits = fits;
         flow = flow;
         frees = frees;
-        term = followed_follows (and_member q more) (guarded_left env.ack g) (guarded_left env.ack to) term;
+        term = followed_follows (ToldBy env (guarded_shown g).read) (and_member q more) (guarded_left env.ack g) (guarded_left env.ack to) term;
         keeps = stays to keeps;
       }
       by_mode answered to same way fits flow term frees keeps =
@@ -252,10 +255,10 @@ module _ (P : TypedProgram) {p q : Process} {more : Processes} (env : Seen) wher
             fits = b.fits;
             flow = flow_then env (guarded_shown g) (guarded_shown to) (turn_shown b.place) gone b.offer b.take flow;
             frees = λ x i. frees x (guarded_writing_done env.ack to (λ e. cc e) x);
-            term = subst (λ (z : Term). Follows (followed (guarded_left env.ack g) (and_member q more)) z) (sym b.term)
-                (subst (λ (z : Term). Follows (followed (guarded_left env.ack g) (and_member q more)) (followed z (and_member q more)))
+            term = subst (λ (z : Term). Follows (ToldBy env (guarded_shown g).read) (followed (guarded_left env.ack g) (and_member q more)) z) (sym b.term)
+                (subst (λ (z : Term). Follows (ToldBy env (guarded_shown g).read) (followed (guarded_left env.ack g) (and_member q more)) (followed z (and_member q more)))
                 (guarded_left_past env.ack to)
-                (followed_follows (and_member q more) (guarded_left env.ack g) (guarded_left env.ack to) term));
+                (followed_follows (ToldBy env (guarded_shown g).read) (and_member q more) (guarded_left env.ack g) (guarded_left env.ack to) term));
             keeps = hands_on to b.place keeps;
           }
       by_mode idle to same way fits flow term frees keeps = absurd (cc way)
@@ -285,7 +288,7 @@ linked _ _ _ _ h g = absurd (cc h)
 later_after : {p q : Process} {more : Processes} {k n m : Mode} (env : Seen) (g : GuardedAt p k) (t : TurnAt (and_member q more) n) (h : link m k n ≡ true)
     (s : TurnSpot (and_member q more))
     → (d : Mode) (to : TurnAt (and_member q more) d) → turn_cells to ≡ turned_turn (and_member q more) (turn_cells t) s → Linked m k n d → TurnFits to env
-    → Flow env (turn_shown t) (turn_shown to) → Follows (turn_left env.ack t) (turn_left env.ack to)
+    → Flow env (turn_shown t) (turn_shown to) → Follows (ToldBy env (turn_shown t).read) (turn_left env.ack t) (turn_left env.ack to)
     → ((x : ℕ) → turn_writing env.ack to x ≡ false → turn_writing env.ack t x ≡ false)
     → ((x : TurnSpot (and_member q more)) → x ≢ s → turn_moves env t x ≡ true → turn_moves env to x ≡ true)
     → TurnAfter (and_member p (and_member q more)) m env (at_later g t h) (in_later s)
@@ -346,7 +349,7 @@ later_after {p = p} {q = q} {more = more} env g t h s idle to same comes_home fi
   fits = tt;
   flow = flow_by env (turn_shown t) (turn_shown to) none_shown (turn_idle_is to).1 flow;
   frees = λ x i. frees x (turn_writing_done env.ack to (λ e. cc e) x);
-  term = subst (λ (z : Term). Follows (turn_left env.ack t) z) (turn_left_done env.ack to (λ e. cc e)) term;
+  term = subst (λ (z : Term). Follows (ToldBy env (turn_shown t).read) (turn_left env.ack t) z) (turn_left_done env.ack to (λ e. cc e)) term;
   keeps = here;
 }
   where
@@ -438,7 +441,7 @@ body_after {p = p} {m = m} env a s r = record {
   fits = r.fits;
   flow = r.flow;
   frees = r.frees;
-  term = followed_follows (again p) (left env.ack a) (left env.ack r.to) r.term;
+  term = followed_follows (ToldBy env (shown a).read) (again p) (left env.ack a) (left env.ack r.to) r.term;
   keeps = here;
 }
   where
@@ -460,14 +463,14 @@ ask_after P {p = p} {m = idle} env clean meets a f back e =
       fits = b.fits;
       flow = flow_begun env (shown a) (shown b.place) (idle_is a).1 b.offer b.take;
       frees = λ x i. writing_done env.ack a (λ e. cc e) x;
-      term = loop_follows p (left env.ack a) (left env.ack b.place) (left_done env.ack a (λ e. cc e)) b.term;
+      term = loop_follows (ToldBy env (shown a).read) p (left env.ack a) (left env.ack b.place) (left_done env.ack a (λ e. cc e)) b.term;
       keeps = here a b.place;
     }
   where
     here : (a : At p idle) (b : At p running) (x : Spot (repeating p)) → x ≢ ask → moves env (at_body a) x ≡ true → moves env (at_body b) x ≡ true
     here a b of_loop ne z = absurd (cc z)
     here a b ask ne z = absurd (ne refl)
-    here a b (in_body x) ne z = absurd (cc (idle_moves env a x, z))
+    here a b (in_body x) ne z = absurd (not_both (idle_moves env a x) z)
 ask_after P {p = p} {m = answered} env clean meets a f back e =
     let b = lowered P env clean a f in
     record {
@@ -486,7 +489,7 @@ ask_after P {p = p} {m = answered} env clean meets a f back e =
         → moves env (at_body b) x ≡ true
     here a f b of_loop ne z = absurd (cc z)
     here a f b ask ne z = absurd (ne refl)
-    here a f b (in_body x) ne z = absurd (cc (answered_moves P env clean a f x, z))
+    here a f b (in_body x) ne z = absurd (not_both (answered_moves P env clean a f x) z)
 ask_after P {m = running} env clean meets a f back e = absurd (cc e)
 ask_after P {m = returning} env clean meets a f back e = absurd (cc e)
 
@@ -535,6 +538,50 @@ mutual
       (advance P env clean meets a s f record { send = back.send; receive = back.receive } e)
   advance P env clean meets (at_body a) ask f back e = ask_after P env clean meets a f record { send = back.send; receive = back.receive } e
   advance P env clean meets (at_body a) of_loop f back e = absurd (cc e)
+  advance P env clean meets (at_choice {choices = choices} (control_at c)) (of_core s) f back e =
+      select_own P env clean choices meets.1 meets.2 (in_control c) s f back.send back.receive e
+  advance P env clean meets (at_choice {choices = choices} (control_at c)) (of_guard q) f back e =
+      select_guard P env clean choices meets.1 meets.2 (in_control c) q f e
+  advance P env clean meets (at_choice (control_at c)) (of_choice s) f back e = absurd (cc e)
+  advance P env clean meets (at_choice {choices = choices} (inside_at a w)) (of_core s) f back e =
+      select_own P env clean choices meets.1 meets.2 (in_branch a w) s f back.send back.receive e
+  advance P env clean meets (at_choice (inside_at a w)) (of_guard q) f back e = absurd (cc e)
+  advance P env clean meets (at_choice {choices = choices} (inside_at a w)) (of_choice s) f back e =
+      select_branch P env clean choices meets.1 meets.2 a w s f e (chosen_advance P env clean meets.2 a s f back.send back.receive e)
+  advance P env clean meets (at_turning {choices = choices} (control_at c)) (of_core s) f back e =
+      repeat_own P env clean choices meets.1 meets.2 (in_control c) s f back.send back.receive e
+  advance P env clean meets (at_turning {choices = choices} (control_at c)) (of_guard q) f back e =
+      repeat_guard P env clean choices meets.1 meets.2 (in_control c) q f e
+  advance P env clean meets (at_turning (control_at c)) (of_choice s) f back e = absurd (cc e)
+  advance P env clean meets (at_turning {choices = choices} (control_at c)) (of_round t) f back e =
+      repeat_round P env clean choices meets.1 meets.2 (turning (in_control c)) t f e
+  advance P env clean meets (at_turning {choices = choices} (inside_at a w)) (of_core s) f back e =
+      repeat_own P env clean choices meets.1 meets.2 (in_branch a w) s f back.send back.receive e
+  advance P env clean meets (at_turning (inside_at a w)) (of_guard q) f back e = absurd (cc e)
+  advance P env clean meets (at_turning {choices = choices} (inside_at a w)) (of_choice s) f back e =
+      repeat_branch P env clean choices meets.1 meets.2 a w s f e (chosen_advance P env clean meets.2 a s f back.send back.receive e)
+  advance P env clean meets (at_turning {choices = choices} (inside_at a w)) (of_round t) f back e =
+      repeat_round P env clean choices meets.1 meets.2 (turning (in_branch a w)) t f e
+  advance P env clean meets (at_closing {choices = choices} c) (of_core s) f back e = closing_own P env clean choices meets.1 meets.2 c s e
+  advance P env clean meets (at_closing c) (of_guard q) f back e = absurd (cc e)
+  advance P env clean meets (at_closing c) (of_choice s) f back e = absurd (cc e)
+  advance P env clean meets (at_closing {choices = choices} c) (of_round t) f back e =
+      repeat_round P env clean choices meets.1 meets.2 (closing c) t tt e
+
+  chosen_advance : (P : TypedProgram) {choices : Choices} {k : Mode} (env : Seen) (clean : Clean P env) → ChoiceMeets P choices → (a : ChosenAt choices k)
+      (s : ChoiceSpot choices) → ChosenFits a env → ((j : Line) → choice_sends choices j ≡ true → env.ack j ≡ true → (chosen_shown a).talk j ≡ true)
+      → ((c : ℕ) → choice_receives choices c ≡ true → env.ack (of_channel c) ≡ true → (chosen_shown a).listen c ≡ true) → chosen_moves env a s ≡ true
+      → Stepped (choice_branches P env clean choices) a s
+  chosen_advance P env clean meets (this_one {g = g} {p = p} {more = more} a) (this_choice s) f back hears e =
+      this_branch P {g = g} {more = more} env clean a s (advance P env clean meets.0 a s f record {
+        send = λ j h. back j (or_left (sends p j) (choice_sends more j) h);
+        receive = λ c h. hears c (or_left (receives p c) (choice_receives more c) h);
+      } e)
+  chosen_advance P env clean meets (another {g = g} {p = p} {more = more} a) (other_choice s) f back hears e =
+      other_branch P {g = g} {p = p} env clean a s (chosen_advance P env clean meets.1 a s f
+      (λ j h. back j (or_right (sends p j) (choice_sends more j) h)) (λ c h. hears c (or_right (receives p c) (choice_receives more c) h)) e)
+  chosen_advance P env clean meets (this_one a) (other_choice s) f back hears e = absurd (cc e)
+  chosen_advance P env clean meets (another a) (this_choice s) f back hears e = absurd (cc e)
 
   pub branch_advance : (P : TypedProgram) {members : Processes} {ks : List Mode} (env : Seen) → Clean P env → EachMeets P members
       → (b : BranchesAt members ks) (s : BranchSpot members) → BranchesFit b env → Backed (side_by_side members) (branches_shown b) env

@@ -5,11 +5,11 @@ use Rattle.chp_base.specs.declared.span.Span.{Span}
 use Rattle.chp_base.specs.declared.channel.Channel.{Channel}
 use Rattle.chp_base.specs.declared.channel.Kind.{Kind}
 use Rattle.chp_base.specs.declared.channel.Kind.TheVariants.{In, Out, Chan}
-use Rattle.chp_syntax.specs.declared.tree.Op.TheVariants.{Add, Lt}
-use Rattle.width_check.specs.Processes.{constant, reading, chained, compared, no_operations, and_operation, Process, skipping, assigning, sending, receiving, in_turn, side_by_side, choosing, repeating, Processes, no_members, and_member, TypedProgram}
+use Rattle.chp_syntax.specs.declared.tree.Op.TheVariants.{Add, Lt, Ge}
+use Rattle.width_check.specs.Processes.{constant, reading, chained, compared, no_operations, and_operation, Process, skipping, assigning, sending, receiving, in_turn, side_by_side, choosing, repeating, Processes, no_members, and_member, TypedProgram, Choices, no_choices, and_choice}
 use Rattle.width_check.specs.Reads.{reads}
-use Rattle.width_check.specs.Sharing.{Occurrence, Parallel, ParallelInside}
-use Rattle.circuit_places.specs.Covered.{IsCovered, AreCovered, talks_on, InternalUnused, Covered}
+use Rattle.width_check.specs.Sharing.{Occurrence, Parallel, ParallelInside, ParallelInChoices}
+use Rattle.circuit_places.specs.Covered.{IsCovered, AreCovered, talks_on, InternalUnused, Covered, EachCovered}
 use Rattle.circuit_places.proofs.RailLemmas.{fst_true, snd_true}
 
 -- at the other end of each channel that is used is the environment
@@ -30,7 +30,12 @@ abbrev mutual
   is_alone (receiving c at x to) = true
   is_alone (in_turn members) = are_alone members
   is_alone (repeating p) = is_alone p
+  is_alone (choosing again choices) = each_alone choices
   is_alone _ = false
+
+  each_alone : Choices → Bool
+  each_alone no_choices = true
+  each_alone (and_choice g p more) = is_alone p && each_alone more
 
   are_alone : Processes → Bool
   are_alone no_members = true
@@ -60,7 +65,14 @@ mutual
   covers (in_turn members) h = cover members h
   covers (repeating p) h = covers p h
   covers (side_by_side members) h = absurd (cc h)
-  covers (choosing again _) h = absurd (cc h)
+  covers (choosing again choices) h = cover_each choices h
+
+  cover_each : (choices : Choices) → each_alone choices ≡ true → EachCovered choices
+  cover_each no_choices h = tt
+  cover_each (and_choice g p more) h = (
+    covers p (fst_true (is_alone p) (each_alone more) h),
+    cover_each more (snd_true (is_alone p) (each_alone more) h),
+  )
 
   cover : (members : Processes) → are_alone members ≡ true → AreCovered members
   cover no_members h = tt
@@ -75,7 +87,12 @@ mutual
   alone (in_turn members) h a b x = all_alone members h a b x
   alone (repeating p) h a b x = alone p h a b x
   alone (side_by_side members) h a b x = cc h
-  alone (choosing again _) h a b x = cc h
+  alone (choosing again choices) h a b x = choices_alone choices h a b x
+
+  choices_alone : (choices : Choices) → each_alone choices ≡ true → (a b : Occurrence) → ParallelInChoices choices a b → ⊥
+  choices_alone no_choices h a b x = x
+  choices_alone (and_choice g p more) h a b (inl x) = alone p (fst_true (is_alone p) (each_alone more) h) a b x
+  choices_alone (and_choice g p more) h a b (inr x) = choices_alone more (snd_true (is_alone p) (each_alone more) h) a b x
 
   all_alone : (members : Processes) → are_alone members ≡ true → (a b : Occurrence) → ParallelInside members a b → ⊥
   all_alone no_members h a b x = x
@@ -153,3 +170,28 @@ unused = record {
 
 unused_covered : Covered unused
 unused_covered = decided unused refl
+
+-- in L : 8; out R : 8; var x : 8; var y : 8 = 5; begin *[L?x; [x < y -> R!x [] x >= y -> y := x]] end
+abbrev largest : TypedProgram
+largest = record {
+  channels = record { name = []; kind = In; width = 8 } ∷ record { name = []; kind = Out; width = 8 } ∷ [];
+  vars = record { name = []; width = 8; first = 0 } ∷ record { name = []; width = 8; first = 5 } ∷ [];
+  body = repeating (in_turn (and_member (receiving 0 at 0 at) (and_member (choosing false
+      (and_choice (compared Lt (reading 0 7 0 at) (reading 1 7 0 at)) (sending 1 at (reading 0 7 0 at))
+      (and_choice (compared Ge (reading 0 7 0 at) (reading 1 7 0 at)) (assigning 1 at (reading 0 7 0 at)) no_choices))) no_members)));
+}
+
+largest_covered : Covered largest
+largest_covered = decided largest refl
+
+-- in L : 1; out R : 1; var x : 1 = 1; begin *[x -> L?x; R!x] end
+abbrev until_zero : TypedProgram
+until_zero = record {
+  channels = record { name = []; kind = In; width = 1 } ∷ record { name = []; kind = Out; width = 1 } ∷ [];
+  vars = record { name = []; width = 1; first = 1 } ∷ [];
+  body = choosing true (and_choice (reading 0 0 0 at) (in_turn (and_member (receiving 0 at 0 at) (and_member (sending 1 at (reading 0 0 0 at)) no_members)))
+      no_choices);
+}
+
+until_zero_covered : Covered until_zero
+until_zero_covered = decided until_zero refl

@@ -1,14 +1,14 @@
 -- Where nothing moves in the whole circuit, the program has no step.
 use Rattle.std.proofs.Common.{◌≡◌, ◌≢◌, ℕ, ◌<◌, ◌≤◌, Bool, true, false, List, [], ◌∷◌, refl, sym, ap, ◌∙◌, subst, arith}
-use Rattle.std.specs.Prelude.{not, ◌&&◌, ◌||◌, if◌then◌else◌, slice_get, Option, Some, None, is_some}
+use Rattle.std.specs.Prelude.{not, ◌&&◌, ◌||◌, if◌then◌else◌, slice_get, slice_index, Option, Some, None, is_some}
 use Rattle.chp_base.specs.declared.span.Span.{Span}
 use Rattle.env_script.specs.declared.script.Count.{Count}
 use Rattle.env_script.specs.Scripts.{OfferValue, gives, takes, nothing, offer_at, is_over}
 use Rattle.env_script.specs.Runs.{completed}
-use Rattle.width_check.specs.Processes.{Formula, Process, sending, receiving, TypedProgram}
+use Rattle.width_check.specs.Processes.{Formula, Process, sending, receiving, TypedProgram, choosing, Choices}
 use Rattle.width_check.specs.Typing.{kind_at, channel_width, var_width}
 use Rattle.chp_meaning.specs.Terms.{Term, finished, Place, statement_at}
-use Rattle.chp_meaning.specs.Steps.{Configuration, Step, a_skip, an_assignment, a_selection, a_turn, an_end, a_repetition, a_communication, a_delivery, an_arrival}
+use Rattle.chp_meaning.specs.Steps.{Configuration, Step, a_skip, an_assignment, a_selection, a_turn, an_end, a_repetition, a_communication, a_delivery, an_arrival, open_branches}
 use Rattle.circuit_places.specs.Lines.{Line, of_channel, of_var, Rails}
 use Rattle.circuit_places.specs.Circuit.{turns}
 use Rattle.circuit_places.specs.Whole.{Wires, seen, line_ack, is_heard, is_merged, number_rail, brings, drives, offers, value_on, neutral_on, Node, go_node, own_node, rail_node, ack_node, bit_node, wrote_node, joint_node, answers}
@@ -18,43 +18,65 @@ use Rattle.circuit_places.proofs.Talks.{either, guarded_talks_sends, guarded_lis
 use Rattle.circuit_places.proofs.Arriving.{number_some}
 use Rattle.circuit_places.proofs.BitTable.{Now, may, write_t, write_f, some_bit}
 use Rattle.circuit_places.proofs.Blocks.{now_at, block_waits}
-use Rattle.circuit_places.proofs.Places.{Mode, running, returning, GuardedAt, g_rests, g_in, g_past, g_back, guarded_cells, guarded_shown}
+use Rattle.circuit_places.proofs.Places.{Mode, running, returning, GuardedAt, g_rests, g_in, g_past, g_back, guarded_cells, guarded_shown, guarded_writing}
 use Rattle.circuit_places.proofs.Left.{guarded_left}
-use Rattle.circuit_places.proofs.Rest.{Listening, Releasing, Valid, Blocked, a_send, a_receive, Waiting, Hanging, let_go, unstored, holding, Rest, settled, waiting, hanging, guarded_rest}
+use Rattle.circuit_places.proofs.Rest.{Listening, Releasing, Valid, Blocked, a_send, a_receive, Waiting, Hanging, let_go, unstored, holding, Rest, settled, waiting, hanging, guarded_rest, a_choice}
 use Rattle.circuit_places.proofs.Fires.{guarded_site}
 use Rattle.circuit_places.proofs.System.{Good, clean_of, can, driven, sent_turns, heard_turns, root_left, Fitted}
-use Rattle.circuit_places.proofs.Follow.{fewer, left_over, behind_none, Followed, over_before}
+use Rattle.circuit_places.proofs.Follow.{fewer, left_over, behind_none, Followed, over_before, open_is}
+use Rattle.circuit_places.proofs.Meets.{uses_within}
+use Rattle.circuit_places.proofs.Writing.{guarded_reads_uses, guarded_writing_unread}
+use Rattle.function_blocks.specs.Rails.{number_on}
 
--- a send that no acceptance is left for, and a receive that no value is left for
+-- a send that no acceptance is left for, a receive that no value is left for, a selection of which no branch alone is open
 pub data Refused (c : Configuration) (s : Process) : Type 0 where
   no_taker : (channel : ℕ) (at : Span) (e : Formula) (count : Count) → s ≡ sending channel at e → offer_at c.rests channel ≡ takes count
       → is_over count 0 ≡ false → Refused c s
   no_value : (channel x : ℕ) (at to : Span) → s ≡ receiving channel at x to → offer_at c.rests channel ≡ gives [] → Refused c s
+  no_choice : (again : Bool) (choices : Choices) → s ≡ choosing again choices → ((p : Process) → open_branches c choices ≢ p ∷ [])
+      → (again ≡ true → open_branches c choices ≢ []) → Refused c s
 
--- each is a send or a receive
-abbrev is_talk : Process → Bool
-is_talk (sending c at e) = true
-is_talk (receiving c at x to) = true
-is_talk _ = false
+-- each is one of these
+abbrev may_wait : Process → Bool
+may_wait (sending c at e) = true
+may_wait (receiving c at x to) = true
+may_wait (choosing again choices) = true
+may_wait _ = false
 
-refused_talks : (c : Configuration) (s : Process) → Refused c s → is_talk s ≡ true
-refused_talks c s (no_taker k at e count is o z) = ap is_talk is
-refused_talks c s (no_value k x at to is o) = ap is_talk is
+refused_waits : (c : Configuration) (s : Process) → Refused c s → may_wait s ≡ true
+refused_waits c s (no_taker k at e count is o z) = ap may_wait is
+refused_waits c s (no_value k x at to is o) = ap may_wait is
+refused_waits c s (no_choice again choices is one some) = ap may_wait is
+
+not_chosen : (c : Configuration) (again : Bool) (choices : Choices) (p : Process) → Refused c (choosing again choices) → open_branches c choices ≡ p ∷ [] → ⊥
+not_chosen c again choices p (no_taker channel at e count is o z) found = cc is
+not_chosen c again choices p (no_value channel x at to is o) found = cc is
+not_chosen c again choices p (no_choice a cs is one some) found =
+    let same : choices ≡ cs = cc is in one p (sym (ap (open_branches c) same) ∙ found)
+
+not_ended : (c : Configuration) (choices : Choices) → Refused c (choosing true choices) → open_branches c choices ≡ [] → ⊥
+not_ended c choices (no_taker channel at e count is o z) found = cc is
+not_ended c choices (no_value channel x at to is o) found = cc is
+not_ended c choices (no_choice a cs is one some) found =
+    let same : choices ≡ cs = cc is in
+    let t : true ≡ a = cc is in
+    some (sym t) (sym (ap (open_branches c) same) ∙ found)
 
 -- a configuration in which there are only such statements has no step
 pub no_step : (c : Configuration) → ((at : Place) (s : Process) → statement_at c.term at ≡ Some s → Refused c s) → (at : Place) (d : Configuration)
     → ¬ Step c at d
-no_step c all at d (a_skip e) = absurd (cc (refused_talks c _ (all at _ e)))
-no_step c all at d (an_assignment e) = absurd (cc (refused_talks c _ (all at _ e)))
-no_step c all at d (a_selection e g) = absurd (cc (refused_talks c _ (all at _ e)))
-no_step c all at d (a_turn e g) = absurd (cc (refused_talks c _ (all at _ e)))
-no_step c all at d (an_end e g) = absurd (cc (refused_talks c _ (all at _ e)))
-no_step c all at d (a_repetition e) = absurd (cc (refused_talks c _ (all at _ e)))
+no_step c all at d (a_skip e) = absurd (cc (refused_waits c _ (all at _ e)))
+no_step c all at d (an_assignment e) = absurd (cc (refused_waits c _ (all at _ e)))
+no_step c all at d (a_selection e g) = not_chosen c false _ _ (all at _ e) g
+no_step c all at d (a_turn e g) = not_chosen c true _ _ (all at _ e) g
+no_step c all at d (an_end e g) = not_ended c _ (all at _ e) g
+no_step c all at d (a_repetition e) = absurd (cc (refused_waits c _ (all at _ e)))
 no_step c all at d (a_communication other e f offered) = absurd (here (all at _ e) offered)
   where
     here : {k : ℕ} {s : Span} {x : Formula} → Refused c (sending k s x) → offer_at c.rests k ≡ nothing → ⊥
     here {k = k} (no_taker channel at e count is o z) offered = let same : k ≡ channel = cc is in cc (ap (offer_at c.rests) same, offered, o)
     here (no_value channel x at to is o) offered = cc is
+    here (no_choice again choices is one some) offered = cc is
 no_step c all at d (a_delivery e offered more) = absurd (here (all at _ e) offered more)
   where
     here : {k : ℕ} {s : Span} {x : Formula} {count : Count} → Refused c (sending k s x) → offer_at c.rests k ≡ takes count → is_over count 0 ≡ true → ⊥
@@ -64,10 +86,12 @@ no_step c all at d (a_delivery e offered more) = absurd (here (all at _ e) offer
         let counts : count ≡ most = cc both in
         cc (ap (λ i. is_over i 0) counts, more, z)
     here (no_value channel x at to is o) offered more = cc is
+    here (no_choice again choices is one some) offered more = cc is
 no_step c all at d (an_arrival e offered) = absurd (here (all at _ e) offered)
   where
     here : {k x v : ℕ} {s t : Span} {more : List ℕ} → Refused c (receiving k s x t) → offer_at c.rests k ≡ gives (v ∷ more) → ⊥
     here (no_taker channel at e count is o z) offered = cc is
+    here (no_choice again choices is one some) offered = cc is
     here {k = k} {v = v} {more = more} (no_value channel x at to is o) offered =
         let same : k ≡ channel = cc is in
         let both : gives (v ∷ more) ≡ gives [] = sym offered ∙ (ap (offer_at c.rests) same ∙ o) in
@@ -232,8 +256,19 @@ module _ (P : TypedProgram) {script : List OfferValue} (fitted : Fitted P script
           low_waits (now_at (w.bit v) (w.rail (of_var v)) (w.wrote v) (line_ack P w (of_var v)) i) h (taken i less) e
 
   -- what waits has no acceptance left, or no value
-  refused : {most : ℕ} {t : Term} {bits : ℕ → Rails} {busy : ℕ → Bool} (r : Followed P script most hs t bits busy) (s : Process)
+  refused : {most : ℕ} {t : Term} (r : Followed P script most hs t w.bit (guarded_writing (line_ack P w) g)) (s : Process)
       → Blocked P s (seen P w) (guarded_shown g) → Refused r.to s
+  refused r s (a_choice again choices b is) =
+      no_choice again choices is (λ p e. b.one (slice_index r.to.store) agree p (sym (open_is r.to choices) ∙ e))
+      (λ t e. b.some t (slice_index r.to.store) agree (sym (open_is r.to choices) ∙ e))
+    where
+      unwritten : (x : ℕ) → (guarded_shown g).read x ≡ true → guarded_writing (line_ack P w) g x ≡ false
+      unwritten x read = cases (guarded_writing (line_ack P w) g x)
+          (λ (e : guarded_writing (line_ack P w) g x ≡ true). absurd (cc (guarded_writing_unread P (line_ack P w) g good.meets x e, read)))
+          (λ (e : guarded_writing (line_ack P w) g x ≡ false). e)
+
+      agree : (x : ℕ) → (guarded_shown g).read x ≡ true → number_on (var_width P.vars x) (w.bit x) ≡ slice_index r.to.store x
+      agree x read = r.stored x (uses_within P P.body good.meets x (guarded_reads_uses g x read)) (unwritten x read)
   refused r s (a_receive c v at to l is) =
       let o = fitted.hears c l.meets.within (guarded_listens_receives g c l.hears) in
       no_value c v at to is (r.rests c ∙ (ap (λ x. left_over x (completed hs c)) o.1
@@ -263,7 +298,7 @@ module _ (P : TypedProgram) {script : List OfferValue} (fitted : Fitted P script
 
 waits : (P : TypedProgram) {script : List OfferValue} (fitted : Fitted P script) (w : Wires) (hs : List (List ℕ)) (g : GuardedAt P.body running)
     → (guarded_cells g).next ≡ false → Good P running g w → ((n : Node P.body) → can P script g w hs n ≡ false)
-    → {most : ℕ} {bits : ℕ → Rails} {busy : ℕ → Bool} (r : Followed P script most hs (guarded_left (line_ack P w) g) bits busy)
+    → {most : ℕ} (r : Followed P script most hs (guarded_left (line_ack P w) g) w.bit (guarded_writing (line_ack P w) g))
     → Waiting P (guarded_left (line_ack P w) g) (seen P w) (guarded_shown g) → AtEnd g r.to
 waits P fitted w hs g low good none r x = record {
   still = no_step r.to (λ at s e. refused P fitted w hs g good none r s (x.blocked at s (sym (ap (λ x. statement_at x at) r.term) ∙ e)));
@@ -273,10 +308,10 @@ waits P fitted w hs g low good none r x = record {
 
 pub at_end : (P : TypedProgram) {script : List OfferValue} (fitted : Fitted P script) (w : Wires) (hs : List (List ℕ)) {m : Mode} (g : GuardedAt P.body m)
     → m ≢ returning → Good P m g w → ((n : Node P.body) → can P script g w hs n ≡ false)
-    → {most : ℕ} {bits : ℕ → Rails} {busy : ℕ → Bool} (r : Followed P script most hs (root_left (line_ack P w) g) bits busy) → AtEnd g r.to
+    → {most : ℕ} (r : Followed P script most hs (root_left (line_ack P w) g) w.bit (guarded_writing (line_ack P w) g)) → AtEnd g r.to
 at_end P fitted w hs g_rests ne good none r = absurd (cc (none go_node))
 at_end P {script = script} fitted w hs (g_in u a h) ne good none r = here
-    (guarded_rest P (seen P w) (valid P fitted w hs (g_in u a h) good none) (g_in u a h) good.meets good.fits (λ s. none (own_node s)))
+    (guarded_rest P (seen P w) (clean_of good) (valid P fitted w hs (g_in u a h) good none) (g_in u a h) good.meets good.fits (λ s. none (own_node s)))
   where
     here : Rest P running (guarded_left (line_ack P w) (g_in u a h)) (seen P w) (guarded_shown (g_in u a h)) → AtEnd (g_in u a h) r.to
     here (settled e) = absurd (cc e)

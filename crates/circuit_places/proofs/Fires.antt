@@ -2,7 +2,7 @@
 use Rattle.std.proofs.Common.{◌≡◌, ℕ, ◌<◌, ◌≤◌, length, Bool, true, false, List, refl, sym, ap, ◌∙◌, subst}
 use Rattle.std.specs.Prelude.{not, ◌&&◌, ◌||◌, Some, is_some}
 use Rattle.chp_base.specs.declared.span.Span.{Span}
-use Rattle.width_check.specs.Processes.{Formula, Process, receiving, in_turn, side_by_side, Processes, and_member, TypedProgram}
+use Rattle.width_check.specs.Processes.{Formula, Process, receiving, in_turn, side_by_side, Processes, and_member, TypedProgram, choosing, Choices, no_members}
 use Rattle.chp_meaning.specs.Terms.{Term, Terms, and_branch, together, finished, active, opened, followed, here as at_here}
 use Rattle.circuit_places.specs.Lines.{Line, of_channel, of_var, same_line, site_statement, line_width, Rails, Seen}
 use Rattle.circuit_places.specs.Whole.{value_on, neutral_on}
@@ -13,9 +13,9 @@ use Rattle.width_check.specs.Typing.{kind_at}
 use Rattle.circuit_places.specs.Whole.{is_heard, is_merged}
 use Rattle.circuit_places.proofs.PortLeaf.{runs_kept}
 use Rattle.circuit_places.proofs.RailLemmas.{snd_true}
-use Rattle.circuit_places.proofs.Places.{Mode, idle, running, answered, returning, asks, inner_may, SiteMay, GuardedAt, At, TurnAt, BranchesAt, g_rests, g_in, g_past, g_back, rests, at_skip, at_assign, at_send, at_receive, at_turn, at_side, at_body, no_more, and_at, turn_rests, at_last, at_member, at_later, Shown, both_shown, guarded_shown, shown, turn_shown, branches_shown, site_shown, port_may, port_shown, PortFits, SiteFits, GuardedFits, Fits, TurnFits, BranchesFit}
-use Rattle.circuit_places.proofs.Meets.{HasLine, PortMeets, SiteMeets, read_declared, Meets, TurnMeets, EachMeets}
-use Rattle.circuit_places.proofs.Left.{waits, inner_left, again, guarded_left, left, turn_left, branches_left, Act, followed_act, left_done, ActInside, this_act, other_act, together_act}
+use Rattle.circuit_places.proofs.Places.{Mode, idle, running, answered, returning, asks, inner_may, SiteMay, GuardedAt, At, TurnAt, BranchesAt, g_rests, g_in, g_past, g_back, rests, at_skip, at_assign, at_send, at_receive, at_turn, at_side, at_body, no_more, and_at, turn_rests, at_last, at_member, at_later, Shown, both_shown, guarded_shown, shown, turn_shown, branches_shown, site_shown, port_may, port_shown, PortFits, SiteFits, GuardedFits, Fits, TurnFits, BranchesFit, at_choice, at_turning, at_closing, ChoiceAt, control_at, inside_at, ChosenAt, this_one, another, choice_shown, chosen_shown, ChoiceFits, ChosenFits}
+use Rattle.circuit_places.proofs.Meets.{HasLine, PortMeets, SiteMeets, read_declared, Meets, TurnMeets, EachMeets, ChoiceMeets}
+use Rattle.circuit_places.proofs.Left.{waits, inner_left, again, guarded_left, left, turn_left, branches_left, Act, followed_act, left_done, ActInside, this_act, other_act, together_act, branch_term, choice_left, chosen_left}
 use Rattle.circuit_places.proofs.Talks.{guarded_says_talks, branches_say_talk, either, Beside, beside, or_false_left, or_false_right}
 use Rattle.circuit_places.proofs.Flow.{Clean, low_of, cases}
 use Rattle.circuit_places.proofs.LineNames.{self_number, same_line_is}
@@ -148,6 +148,11 @@ module _ (P : TypedProgram) (env now : Seen) (clean : Clean P env) (busy : ℕ �
   fired_in {m = returning} true a h f = none_fired P env busy c ((shown a).says c) (left env.ack a) (left now.ack a) finished
       (left_done env.ack a (λ e. cc e)) f
 
+  fired_branch : (again : Bool) (choices : Choices) (b : Bool) (x y : Term) → Fired P env busy c b x y
+      → Fired P env busy c b (branch_term again choices x) (branch_term again choices y)
+  fired_branch false choices b x y r = r
+  fired_branch true choices b x y r = fired_then P env busy c (and_member (choosing true choices) no_members) b x y r
+
   -- the acknowledge's rise, seen from a statement
   mutual
     pub guarded_fires : {p : Process} {m : Mode} (g : GuardedAt p m) → Meets P p → Ready c (env.rail c) busy p (guarded_shown g) → GuardedFits g env
@@ -170,6 +175,22 @@ module _ (P : TypedProgram) (env now : Seen) (clean : Clean P env) (busy : ℕ �
         (branches_fire b meets.2 r f)
     fires (at_body {p = p} a) meets r f = fired_then P env busy c (again p) ((shown a).says c) (left env.ack a) (left now.ack a)
         (fires a meets ((ready_down c (env.rail c) busy).to_body r) f)
+    fires (at_choice x) meets r f = choice_fires false x meets.2 r f
+    fires (at_turning x) meets r f = choice_fires true x meets.2 r f
+    fires (at_closing c) meets r f = refl
+
+    choice_fires : (again : Bool) {choices : Choices} {m : Mode} (x : ChoiceAt again choices m) → ChoiceMeets P choices
+        → Ready c (env.rail c) busy (choosing again choices) (choice_shown x) → ChoiceFits x env
+        → Fired P env busy c ((choice_shown x).says c) (choice_left env.ack x) (choice_left now.ack x)
+    choice_fires again (control_at z) meets r f = refl
+    choice_fires again (inside_at {choices = choices} a w) meets r f = fired_branch again choices ((chosen_shown a).says c) (chosen_left env.ack a)
+        (chosen_left now.ack a) (chosen_fires again a meets r f)
+
+    chosen_fires : (again : Bool) {choices : Choices} {k : Mode} (a : ChosenAt choices k) → ChoiceMeets P choices
+        → Ready c (env.rail c) busy (choosing again choices) (chosen_shown a) → ChosenFits a env
+        → Fired P env busy c ((chosen_shown a).says c) (chosen_left env.ack a) (chosen_left now.ack a)
+    chosen_fires again (this_one a) meets r f = fires a meets.0 ((ready_down c (env.rail c) busy).to_choice r) f
+    chosen_fires again (another a) meets r f = chosen_fires again a meets.1 ((ready_down c (env.rail c) busy).to_choices r) f
 
     branches_fire : {members : Processes} {ks : List Mode} (b : BranchesAt members ks) → EachMeets P members
         → Ready c (env.rail c) busy (side_by_side members) (branches_shown b) → BranchesFit b env
@@ -240,6 +261,19 @@ module _ (P : TypedProgram) (env now : Seen) (c : Line) (t : AckTurned P env now
     still (at_side m t b h) meets r f = ap together (branches_still b meets.2 r f)
     still (at_turn t) meets r f = turn_still t meets r f
     still (at_body {p = p} a) meets r f = ap (λ z. followed z (again p)) (still a meets ((kept_down c (env.rail c)).to_body r) f)
+    still (at_choice x) meets r f = choice_still x meets.2 r f
+    still (at_turning x) meets r f = choice_still x meets.2 r f
+    still (at_closing z) meets r f = refl
+
+    choice_still : {again : Bool} {choices : Choices} {m : Mode} (x : ChoiceAt again choices m) → ChoiceMeets P choices
+        → Kept c (env.rail c) (choosing again choices) (choice_shown x) → ChoiceFits x env → choice_left now.ack x ≡ choice_left env.ack x
+    choice_still (control_at z) meets r f = refl
+    choice_still (inside_at {again = again} {choices = choices} a w) meets r f = ap (λ z. branch_term again choices z) (chosen_still again a meets r f)
+
+    chosen_still : (again : Bool) {choices : Choices} {k : Mode} (a : ChosenAt choices k) → ChoiceMeets P choices
+        → Kept c (env.rail c) (choosing again choices) (chosen_shown a) → ChosenFits a env → chosen_left now.ack a ≡ chosen_left env.ack a
+    chosen_still again (this_one a) meets r f = still a meets.0 ((kept_down c (env.rail c)).to_choice r) f
+    chosen_still again (another a) meets r f = chosen_still again a meets.1 ((kept_down c (env.rail c)).to_choices r) f
 
     branches_still : {members : Processes} {ks : List Mode} (b : BranchesAt members ks) → EachMeets P members
         → Kept c (env.rail c) (side_by_side members) (branches_shown b) → BranchesFit b env → branches_left now.ack b ≡ branches_left env.ack b
@@ -337,6 +371,19 @@ mutual
   site P env clean (at_body a) meets f c e = site P env clean a meets f c e
   site P env clean rests meets f c e = absurd (cc e)
   site P env clean (at_skip m h) meets f c e = absurd (cc e)
+  site P env clean (at_choice x) meets f c e = choice_site P env clean x meets.2 f c e
+  site P env clean (at_turning x) meets f c e = choice_site P env clean x meets.2 f c e
+  site P env clean (at_closing z) meets f c e = absurd (cc e)
+
+  choice_site : (P : TypedProgram) (env : Seen) → Clean P env → {again : Bool} {choices : Choices} {m : Mode} (x : ChoiceAt again choices m)
+      → ChoiceMeets P choices → ChoiceFits x env → (c : Line) → (choice_shown x).talk c ≡ true → OneSite P c (choice_shown x)
+  choice_site P env clean (control_at z) meets f c e = absurd (cc e)
+  choice_site P env clean (inside_at a w) meets f c e = chosen_site P env clean a meets f c e
+
+  chosen_site : (P : TypedProgram) (env : Seen) → Clean P env → {choices : Choices} {k : Mode} (a : ChosenAt choices k) → ChoiceMeets P choices
+      → ChosenFits a env → (c : Line) → (chosen_shown a).talk c ≡ true → OneSite P c (chosen_shown a)
+  chosen_site P env clean (this_one a) meets f c e = site P env clean a meets.0 f c e
+  chosen_site P env clean (another a) meets f c e = chosen_site P env clean a meets.1 f c e
 
   branches_site : (P : TypedProgram) (env : Seen) → Clean P env → {members : Processes} {ks : List Mode} (b : BranchesAt members ks) → EachMeets P members
       → BranchesFit b env → (c : Line) → (branches_shown b).talk c ≡ true → OneSite P c (branches_shown b)

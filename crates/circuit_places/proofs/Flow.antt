@@ -3,28 +3,14 @@ use Rattle.std.proofs.Common.{◌≡◌, ◌≢◌, ℕ, ◌<◌, Bool, true, fa
 use Rattle.std.specs.Prelude.{◌||◌, is_some}
 use Rattle.width_check.specs.Processes.{Process, Processes, TypedProgram}
 use Rattle.width_check.specs.Typing.{channel_width}
+pub use Rattle.circuit_places.proofs.Modes.{goes, goes_asks}
 use Rattle.circuit_places.specs.Lines.{Line, of_channel, line_width, Seen}
 use Rattle.circuit_places.specs.Circuit.{GuardedSpot, Spot, TurnSpot, BranchSpot, turned_guarded, turned, turned_turn, turned_branches}
 use Rattle.circuit_places.proofs.Places.{Mode, idle, running, answered, returning, asks, GuardedAt, At, TurnAt, BranchesAt, guarded_cells, cells, turn_cells, branch_cells, Shown, none_shown, both_shown, guarded_shown, shown, turn_shown, branches_shown, GuardedFits, Fits, TurnFits, BranchesFit, writing, guarded_writing, turn_writing, branches_writing, guarded_moves, moves, turn_moves, branch_moves}
 use Rattle.circuit_places.proofs.Meets.{sends, receives}
 use Rattle.function_blocks.specs.Rails.{Single}
 use Rattle.circuit_places.specs.Whole.{value_on, neutral_on}
-use Rattle.circuit_places.proofs.Left.{guarded_left, left, turn_left, branches_left, Follows, FollowsInside}
-
--- how an own move may take a handshake on
-abbrev pub goes : Mode → Mode → Bool
-goes running running = true
-goes running answered = true
-goes returning returning = true
-goes returning idle = true
-goes _ _ = false
-
-pub goes_asks : (m n : Mode) → goes m n ≡ true → asks n ≡ asks m
-goes_asks running running h = refl
-goes_asks running answered h = refl
-goes_asks returning returning h = refl
-goes_asks returning idle h = refl
-goes_asks _ _ h = absurd (cc h)
+use Rattle.circuit_places.proofs.Left.{guarded_left, left, turn_left, branches_left, Follows, FollowsInside, ToldBy}
 
 -- The promises to what stands apart. What is under way stays so while the acknowledge is high; a site's rail rises where the
 -- acknowledge is low, and falls where it is high, and so does its own acknowledge. What a receive takes is valid where it
@@ -130,7 +116,7 @@ pub record After (p : Process) (m : Mode) (env : Seen) (a : At p m) (s : Spot p)
   pub way : goes m mode ≡ true
   pub fits : Fits to env
   pub flow : Flow env (shown a) (shown to)
-  pub term : Follows (left env.ack a) (left env.ack to)
+  pub term : Follows (ToldBy env (shown a).read) (left env.ack a) (left env.ack to)
   pub frees : (x : ℕ) → writing env.ack to x ≡ false → writing env.ack a x ≡ false
   pub keeps : (q : Spot p) → q ≢ s → moves env a q ≡ true → moves env to q ≡ true
 
@@ -141,7 +127,7 @@ pub record GuardedAfter (p : Process) (m : Mode) (env : Seen) (a : GuardedAt p m
   pub way : goes m mode ≡ true
   pub fits : GuardedFits to env
   pub flow : Flow env (guarded_shown a) (guarded_shown to)
-  pub term : Follows (guarded_left env.ack a) (guarded_left env.ack to)
+  pub term : Follows (ToldBy env (guarded_shown a).read) (guarded_left env.ack a) (guarded_left env.ack to)
   pub frees : (x : ℕ) → guarded_writing env.ack to x ≡ false → guarded_writing env.ack a x ≡ false
   pub keeps : (q : GuardedSpot p) → q ≢ s → guarded_moves env a q ≡ true → guarded_moves env to q ≡ true
 
@@ -152,7 +138,7 @@ pub record TurnAfter (members : Processes) (m : Mode) (env : Seen) (a : TurnAt m
   pub way : goes m mode ≡ true
   pub fits : TurnFits to env
   pub flow : Flow env (turn_shown a) (turn_shown to)
-  pub term : Follows (turn_left env.ack a) (turn_left env.ack to)
+  pub term : Follows (ToldBy env (turn_shown a).read) (turn_left env.ack a) (turn_left env.ack to)
   pub frees : (x : ℕ) → turn_writing env.ack to x ≡ false → turn_writing env.ack a x ≡ false
   pub keeps : (q : TurnSpot members) → q ≢ s → turn_moves env a q ≡ true → turn_moves env to q ≡ true
 
@@ -168,7 +154,7 @@ pub record BranchAfter (members : Processes) (ks : List Mode) (env : Seen) (a : 
   pub way : OneGoes ks modes
   pub fits : BranchesFit to env
   pub flow : Flow env (branches_shown a) (branches_shown to)
-  pub term : FollowsInside (branches_left env.ack a) (branches_left env.ack to)
+  pub term : FollowsInside (ToldBy env (branches_shown a).read) (branches_left env.ack a) (branches_left env.ack to)
   pub frees : (x : ℕ) → branches_writing env.ack to x ≡ false → branches_writing env.ack a x ≡ false
   pub keeps : (q : BranchSpot members) → q ≢ s → branch_moves env a q ≡ true → branch_moves env to q ≡ true
 
@@ -190,3 +176,7 @@ neither_right false b h = h
 pub cases : {A : Type 0} (b : Bool) → (b ≡ true → A) → (b ≡ false → A) → A
 cases true f g = f refl
 cases false f g = g refl
+
+pub not_both : {b : Bool} → b ≡ false → b ≡ true → ⊥
+not_both {b = true} e h = cc e
+not_both {b = false} e h = cc h

@@ -7,21 +7,22 @@ use Rattle.env_script.specs.declared.script.Count.{Count}
 use Rattle.env_script.specs.declared.script.Count.TheVariants.{All, Times}
 use Rattle.env_script.specs.Scripts.{OfferValue, gives, takes, nothing, offer_at, is_over}
 use Rattle.env_script.specs.Runs.{history_at, completed}
-use Rattle.width_check.specs.Processes.{Process, skipping, repeating, TypedProgram}
+use Rattle.width_check.specs.Processes.{Process, skipping, repeating, TypedProgram, choosing, Choices, no_choices, and_choice}
 use Rattle.width_check.specs.Typing.{kind_at, channel_width, var_width}
 use Rattle.width_check.specs.declared.typed.Var.{Var}
 use Rattle.circuit_places.proofs.Writing.{number_told}
 use Rattle.chp_meaning.specs.Terms.{Term, finished, opened, Place, statement_at, with_left}
-use Rattle.chp_meaning.specs.Steps.{Configuration, one_fewer, leaving, value_in, storing, an_assignment, passing, offering, Step, a_skip, a_repetition, a_delivery, an_arrival, Leads, no_step, one_step, start_of}
+use Rattle.chp_meaning.specs.Steps.{Configuration, one_fewer, leaving, value_in, storing, an_assignment, passing, offering, Step, a_skip, a_repetition, a_delivery, an_arrival, Leads, no_step, one_step, start_of, open_branches, a_selection, a_turn, an_end}
 use Rattle.function_blocks.specs.Rails.{number_on}
 use Rattle.circuit_places.specs.Lines.{of_channel, of_var, Rails}
 use Rattle.circuit_places.specs.Whole.{seen, line_ack, is_heard, first_bits, wires_after, rail_turned, bit_turned, Wires, wrote_turned, joint_turned, value_on, Node, go_node, own_node, rail_node, ack_node, bit_node, wrote_node, joint_node, answers, passed, passed_after}
-use Rattle.circuit_places.proofs.Left.{Act, skips, goes_on, Follows}
+use Rattle.circuit_places.proofs.Left.{Act, skips, goes_on, Follows, open_by, Goes, chooses, ends, body_at, branch_term}
 use Rattle.circuit_places.proofs.Flow.{cases}
 use Rattle.circuit_places.proofs.LineNames.{self_number, same_number}
 use Rattle.circuit_places.proofs.Fires.{Passes}
-use Rattle.circuit_places.proofs.System.{Passing, Others, Arrival, Arrives, Acks, taken_out, taken_in, let_go_in, Freed, Rises, Stored, no_store, cleared, stores, takes_in, Moves, Fitted, takes_of, may_low}
+use Rattle.circuit_places.proofs.System.{Passing, Others, Arrival, Arrives, Acks, taken_out, taken_in, let_go_in, Freed, Rises, Stored, no_store, cleared, stores, takes_in, Moves, Fitted, takes_of, may_low, Decided}
 use Rattle.circuit_places.proofs.Arriving.{Arriving, next_value}
+use Rattle.width_check.specs.Values.{value}
 
 -- what is left of an offer when so many values have passed
 abbrev pub fewer : Count → ℕ → Count
@@ -107,6 +108,11 @@ started P script fitted = record {
     long zero = refl
     long (suc n) = ap (λ k. suc k) (long n)
 
+-- the branches that are open are those of the store
+pub open_is : (c : Configuration) (choices : Choices) → open_branches c choices ≡ open_by (slice_index c.store) choices
+open_is c no_choices = refl
+open_is c (and_choice g p more) = ap (λ (ps : List Process). if value (slice_index c.store) g == 1 then p ∷ ps else ps) (open_is c more)
+
 module _ {P : TypedProgram} {script : List OfferValue} {most : ℕ} {hs : List (List ℕ)} {t : Term} {bits : ℕ → Rails} {busy : ℕ → Bool}
     (r : Followed P script most hs t bits busy) (now : ℕ → Rails) (after : ℕ → Bool)
     (free : (x : ℕ) → after x ≡ false → (now x ≡ bits x) × (busy x ≡ false)) where
@@ -148,10 +154,22 @@ module _ {P : TypedProgram} {script : List OfferValue} {most : ℕ} {hs : List (
   stands : (s : Process) (left y : Term) (a : Act t s left y) → statement_at r.to.term a.at ≡ Some s
   stands s left y a = ap (λ x. statement_at x a.at) r.term ∙ a.stands
 
-  silent : (y : Term) → Follows t y → Followed P script (suc most) hs y now after
+  -- the branches that are open
+  decided : (choices : Choices) (ps : List Process) → Decided P bits busy choices ps → open_branches r.to choices ≡ ps
+  decided choices ps d = open_is r.to choices ∙ d (slice_index r.to.store) r.stored
+
+  silent : (y : Term) → Follows (Decided P bits busy) t y → Followed P script (suc most) hs y now after
   silent y (inl e) = stays y e
-  silent y (inr (skips a)) = leaves skipping finished y a (a_skip (stands skipping finished y a))
-  silent y (inr (goes_on {p = p} a)) = leaves (repeating p) _ y a (a_repetition (stands (repeating p) _ y a))
+  silent y (inr s) = by s.statement s.rest s.goes s.act
+    where
+      by : (s : Process) (l : Term) → Goes (Decided P bits busy) s l → Act t s l y → Followed P script (suc most) hs y now after
+      by _ _ skips a = leaves skipping finished y a (a_skip (stands skipping finished y a))
+      by _ _ (goes_on {p = p}) a = leaves (repeating p) _ y a (a_repetition (stands (repeating p) _ y a))
+      by _ _ (chooses {again = false} {choices = choices} i d) a =
+          leaves (choosing false choices) _ y a (a_selection (stands (choosing false choices) _ y a) (decided choices (body_at choices i ∷ []) d))
+      by _ _ (chooses {again = true} {choices = choices} i d) a =
+          leaves (choosing true choices) _ y a (a_turn (stands (choosing true choices) _ y a) (decided choices (body_at choices i ∷ []) d))
+      by _ _ (ends {choices = choices} d) a = leaves (choosing true choices) _ y a (an_end (stands (choosing true choices) _ y a) (decided choices [] d))
 
 -- an acceptance is used up
 one_more : (count : Count) (n k : ℕ) → k ≡ suc n → takes (one_fewer (fewer count n)) ≡ left_over (takes count) k

@@ -3,14 +3,14 @@
 use Rattle.std.proofs.Common.{◌≡◌, ℕ, ◌==◌, Bool, true, false, List, refl, sym, ap, ◌∙◌, subst}
 use Rattle.std.specs.Prelude.{◌&&◌, ◌||◌, is_some}
 use Rattle.chp_base.specs.declared.span.Span.{Span}
-use Rattle.width_check.specs.Processes.{Process, assigning, sending, receiving, Processes, and_member, TypedProgram}
+use Rattle.width_check.specs.Processes.{Process, assigning, sending, receiving, Processes, and_member, TypedProgram, choosing, Choices, no_members}
 use Rattle.chp_meaning.specs.Terms.{Term, Terms, and_branch, together, finished, active, opened, followed, here as at_here}
 use Rattle.circuit_places.specs.Lines.{Line, of_channel, of_var, same_line, Rails, Seen}
 use Rattle.circuit_places.specs.Whole.{value_on, neutral_on}
 use Rattle.circuit_places.proofs.RailLemmas.{fst_true, snd_true, both_true}
-use Rattle.circuit_places.proofs.Places.{Mode, idle, running, answered, returning, inner_may, under_way, port_may, port_shown, PortFits, GuardedAt, At, TurnAt, BranchesAt, g_rests, g_in, g_past, g_back, rests, at_skip, at_assign, at_send, at_receive, at_turn, at_side, at_body, no_more, and_at, turn_rests, at_last, at_member, at_later, Shown, both_shown, guarded_shown, shown, turn_shown, branches_shown, writing, guarded_writing, branches_writing, turn_writing, GuardedFits, Fits, TurnFits, BranchesFit}
-use Rattle.circuit_places.proofs.Meets.{PortMeets, Meets, TurnMeets, EachMeets}
-use Rattle.circuit_places.proofs.Left.{waits, inner_left, again, guarded_left, left, turn_left, branches_left, Act, followed_act, left_done, ActInside, this_act, other_act, together_act}
+use Rattle.circuit_places.proofs.Places.{Mode, idle, running, answered, returning, inner_may, under_way, port_may, port_shown, PortFits, GuardedAt, At, TurnAt, BranchesAt, g_rests, g_in, g_past, g_back, rests, at_skip, at_assign, at_send, at_receive, at_turn, at_side, at_body, no_more, and_at, turn_rests, at_last, at_member, at_later, Shown, both_shown, guarded_shown, shown, turn_shown, branches_shown, writing, guarded_writing, branches_writing, turn_writing, GuardedFits, Fits, TurnFits, BranchesFit, at_choice, at_turning, at_closing, ChoiceAt, control_at, inside_at, ChosenAt, this_one, another, choice_shown, chosen_shown, ChoiceFits, ChosenFits, choice_writing, chosen_writing}
+use Rattle.circuit_places.proofs.Meets.{PortMeets, Meets, TurnMeets, EachMeets, ChoiceMeets}
+use Rattle.circuit_places.proofs.Left.{waits, inner_left, again, guarded_left, left, turn_left, branches_left, Act, followed_act, left_done, ActInside, this_act, other_act, together_act, branch_term, choice_left, chosen_left}
 use Rattle.circuit_places.proofs.Talks.{either, beside}
 use Rattle.circuit_places.proofs.Flow.{neither_left, neither_right, or_left, or_right, or_free, cases}
 use Rattle.circuit_places.proofs.LineNames.{self_number, same_number}
@@ -93,6 +93,19 @@ module _ (P : TypedProgram) (env now : Seen) (c : ℕ) (t : Rising env now c) wh
     deaf (at_turn t) d = turn_deaf t d
     deaf (at_side m t b h) d = let r = branches_deaf b d in (ap together r.0, r.1)
     deaf (at_body {p = p} a) d = let r = deaf a d in (ap (λ y. followed y (again p)) r.0, r.1)
+    deaf (at_choice x) d = choice_deaf x d
+    deaf (at_turning x) d = choice_deaf x d
+    deaf (at_closing x) d = (refl, λ z. refl)
+
+    choice_deaf : {again : Bool} {choices : Choices} {m : Mode} (x : ChoiceAt again choices m) → Deaf (choice_shown x)
+        → (choice_left now.ack x ≡ choice_left env.ack x) × ((z : ℕ) → choice_writing now.ack x z ≡ choice_writing env.ack x z)
+    choice_deaf (control_at x) d = (refl, λ z. refl)
+    choice_deaf (inside_at {again = again} {choices = choices} a w) d = let r = chosen_deaf a d in (ap (λ y. branch_term again choices y) r.0, r.1)
+
+    chosen_deaf : {choices : Choices} {k : Mode} (a : ChosenAt choices k) → Deaf (chosen_shown a)
+        → (chosen_left now.ack a ≡ chosen_left env.ack a) × ((z : ℕ) → chosen_writing now.ack a z ≡ chosen_writing env.ack a z)
+    chosen_deaf (this_one a) d = deaf a d
+    chosen_deaf (another a) d = chosen_deaf a d
 
     branches_deaf : {members : Processes} {ks : List Mode} (b : BranchesAt members ks) → Deaf (branches_shown b)
         → (branches_left now.ack b ≡ branches_left env.ack b) × ((z : ℕ) → branches_writing now.ack b z ≡ branches_writing env.ack b z)
@@ -219,6 +232,11 @@ module _ (P : TypedProgram) (env now : Seen) (c : ℕ) (t : Rising env now c) wh
   hears_in {m = returning} u a h r = absurd (none_hears (shown a) (writing env.ack a) (writing now.ack a) (left env.ack a) (left now.ack a)
       (left_done env.ack a (λ e. cc e)) r)
 
+  hears_branch : (again : Bool) (choices : Choices) (x : Shown) (before after : ℕ → Bool) (u v : Term) → Hears P env c x before after u v
+      → Hears P env c x before after (branch_term again choices u) (branch_term again choices v)
+  hears_branch false choices x before after u v r = r
+  hears_branch true choices x before after u v r = hears_then (and_member (choosing true choices) no_members) x before after u v r
+
   -- the acknowledge's rise, seen from a statement that has stored, on a channel on which it doesn't send
   pub record Has (x : Shown) : Type 0 where
     pub take : x.take c ≡ true
@@ -245,6 +263,21 @@ module _ (P : TypedProgram) (env now : Seen) (c : ℕ) (t : Rising env now c) wh
     hears (at_skip m h) meets f k = absurd (cc k.take)
     hears (at_assign m u h) meets f k = absurd (cc k.take)
     hears (at_send m u h) meets f k = absurd (cc k.take)
+    hears (at_choice x) meets f k = choice_hears x meets.2 f k
+    hears (at_turning x) meets f k = choice_hears x meets.2 f k
+    hears (at_closing x) meets f k = absurd (cc k.take)
+
+    choice_hears : {again : Bool} {choices : Choices} {m : Mode} (x : ChoiceAt again choices m) → ChoiceMeets P choices → ChoiceFits x env
+        → Has (choice_shown x)
+        → Hears P env c (choice_shown x) (choice_writing env.ack x) (choice_writing now.ack x) (choice_left env.ack x) (choice_left now.ack x)
+    choice_hears (control_at x) meets f k = absurd (cc k.take)
+    choice_hears (inside_at {again = again} {choices = choices} a w) meets f k = hears_branch again choices (chosen_shown a) (chosen_writing env.ack a)
+        (chosen_writing now.ack a) (chosen_left env.ack a) (chosen_left now.ack a) (chosen_hears a meets f k)
+
+    chosen_hears : {choices : Choices} {m : Mode} (a : ChosenAt choices m) → ChoiceMeets P choices → ChosenFits a env → Has (chosen_shown a)
+        → Hears P env c (chosen_shown a) (chosen_writing env.ack a) (chosen_writing now.ack a) (chosen_left env.ack a) (chosen_left now.ack a)
+    chosen_hears (this_one a) meets f k = hears a meets.0 f k
+    chosen_hears (another a) meets f k = chosen_hears a meets.1 f k
 
     branches_hear : {members : Processes} {ks : List Mode} (b : BranchesAt members ks) → EachMeets P members → BranchesFit b env → Has (branches_shown b)
         → HearsInside P env c (branches_shown b) (branches_writing env.ack b) (branches_writing now.ack b) (branches_left env.ack b) (branches_left now.ack b)

@@ -24,7 +24,7 @@ skip_after env running h of_skip e = record {
   fits = tt;
   flow = flow_same env none_shown;
   frees = λ x i. refl;
-  term = skip_follows;
+  term = skip_follows _;
   keeps = λ q ne z. absurd (ne (only q));
 }
   where

@@ -1,11 +1,15 @@
 -- What is left of the program at a place, and its steps.
 use Rattle.std.proofs.Common.{◌≡◌, ℕ, zero, suc, Bool, true, false, List, [], ◌∷◌, refl, sym, ap, ◌∙◌, subst, inl, inr, ◌⊎◌}
-use Rattle.std.specs.Prelude.{Some, ◌&&◌, ◌||◌, if◌then◌else◌}
-use Rattle.width_check.specs.Processes.{Process, skipping, assigning, sending, receiving, repeating, Processes, no_members, and_member, member_count}
+use Rattle.std.specs.Prelude.{Some, ◌&&◌, ◌||◌, ◌==◌, if◌then◌else◌}
+use Rattle.width_check.specs.Processes.{Process, skipping, assigning, sending, receiving, choosing, repeating, Processes, no_members, and_member, member_count, Choices, no_choices, and_choice, choice_count}
 use Rattle.chp_meaning.specs.Terms.{Term, Terms, no_branches, and_branch, finished, active, in_sequence, in_parallel, is_finished, all_finished, together, opened, followed, Place, here, in_first, in_branch, statement_at, branch_at, with_left, with_branch}
-use Rattle.circuit_places.specs.Lines.{Line, of_channel, of_var}
-use Rattle.circuit_places.specs.Circuit.{Bits, joint_count}
-use Rattle.circuit_places.proofs.Places.{Mode, idle, running, answered, returning, link, all_ask, all_ack, SideMay, GuardedAt, At, TurnAt, BranchesAt, g_rests, g_in, g_past, g_back, rests, at_skip, at_assign, at_send, at_receive, at_turn, at_side, at_body, no_more, and_at, turn_rests, at_last, at_member, at_later, under_way, writing, guarded_writing, turn_writing, branches_writing}
+use Rattle.circuit_places.specs.Lines.{Line, of_channel, of_var, Seen}
+use Rattle.circuit_places.specs.Circuit.{Bits, joint_count, GuardCells, heads}
+use Rattle.circuit_places.proofs.Places.{Mode, idle, running, answered, returning, link, all_ask, all_ack, SideMay, GuardedAt, At, TurnAt, BranchesAt, g_rests, g_in, g_past, g_back, rests, at_skip, at_assign, at_send, at_receive, at_turn, at_side, at_body, no_more, and_at, turn_rests, at_last, at_member, at_later, under_way, writing, guarded_writing, turn_writing, branches_writing, at_choice, at_turning, at_closing, ChoiceAt, control_at, inside_at, ChosenAt, this_one, another, choice_writing, chosen_writing}
+use Rattle.width_check.specs.Values.{value}
+use Rattle.function_blocks.specs.Rails.{number_on}
+use Rattle.circuit_places.specs.Heads.{Index, top, under}
+use Rattle.circuit_places.proofs.CoreControl.{Control, uncalled, called, evaluating, latched, leaving, isnt_running, works, worked, reported, letting, backs}
 
 -- a statement is left until it is done
 abbrev pub waits : Mode → (over : Bool) → Term → Term
@@ -22,6 +26,23 @@ inner_left _ _ s x = finished
 abbrev pub again : Process → Processes
 again p = and_member (repeating p) no_members
 
+-- the branch of this number, and what is left of the statement where this is left of it
+abbrev pub body_at : (choices : Choices) → Index (choice_count choices) → Process
+body_at (and_choice g p more) top = p
+body_at (and_choice g p more) (under i) = body_at more i
+body_at no_choices i = elim i [ ]
+
+abbrev pub branch_term : (again : Bool) (choices : Choices) → Term → Term
+branch_term false choices t = t
+branch_term true choices t = followed t (and_member (choosing true choices) no_members)
+
+abbrev pub control_left : {m : Mode} (again : Bool) (choices : Choices) → Control again (choice_count choices) (GuardCells choices) (heads choices) m → Term
+control_left again choices uncalled = branch_term again choices finished
+control_left again choices called = active (choosing again choices)
+control_left again choices (evaluating g) = active (choosing again choices)
+control_left again choices (latched l i g h) = branch_term again choices (opened (body_at choices i))
+control_left again choices (leaving y l g h) = finished
+
 abbrev mutual
   pub guarded_left : {p : Process} {m : Mode} → (Line → Bool) → GuardedAt p m → Term
   guarded_left ack (g_in {p = p} {m = m} u a h) = inner_left u m (opened p) (left ack a)
@@ -35,7 +56,17 @@ abbrev mutual
   left ack (at_turn t) = turn_left ack t
   left ack (at_side m t b h) = together (branches_left ack b)
   left ack (at_body {p = p} a) = followed (left ack a) (again p)
+  left ack (at_choice x) = choice_left ack x
+  left ack (at_turning x) = choice_left ack x
   left ack _ = finished
+
+  pub choice_left : {again : Bool} {choices : Choices} {m : Mode} → (Line → Bool) → ChoiceAt again choices m → Term
+  choice_left ack (control_at {again = again} {choices = choices} c) = control_left again choices c
+  choice_left ack (inside_at {again = again} {choices = choices} a w) = branch_term again choices (chosen_left ack a)
+
+  pub chosen_left : {choices : Choices} {k : Mode} → (Line → Bool) → ChosenAt choices k → Term
+  chosen_left ack (this_one a) = left ack a
+  chosen_left ack (another a) = chosen_left ack a
 
   pub branches_left : {members : Processes} {ks : List Mode} → (Line → Bool) → BranchesAt members ks → Terms
   branches_left ack no_more = no_branches
@@ -59,19 +90,60 @@ followed_act more (active p) s l y a = record { at = in_first a.at; stands = a.s
 followed_act more (in_sequence x rest) s l y a = record { at = in_first a.at; stands = a.stands; then_is = ap (λ z. followed z more) a.then_is }
 followed_act more (in_parallel xs) s l y a = record { at = in_first a.at; stands = a.stands; then_is = ap (λ z. followed z more) a.then_is }
 
+-- the branches whose guards have the value 1, and that the rails that are read tell which they are
+abbrev pub open_by : (store : ℕ → ℕ) → Choices → List Process
+open_by store no_choices = []
+open_by store (and_choice g p more) = if value store g == 1 then p ∷ open_by store more else open_by store more
+
+abbrev pub ToldBy : Seen → (read : ℕ → Bool) → Choices → List Process → Type 0
+ToldBy env read choices ps = (store : ℕ → ℕ) → ((x : ℕ) → read x ≡ true → number_on (env.width (of_var x)) (env.bit x) ≡ store x)
+    → open_by store choices ≡ ps
+
+-- How a statement goes on, seen by no channel, and what is then left of it, where it is told which branches are open.
+pub data Goes (Told : Choices → List Process → Type 0) : Process → Term → Type 0 where
+  skips : Goes Told skipping finished
+  goes_on : {p : Process} → Goes Told (repeating p) (followed (opened p) (again p))
+  chooses : {again : Bool} {choices : Choices} (i : Index (choice_count choices)) → Told choices (body_at choices i ∷ [])
+      → Goes Told (choosing again choices) (branch_term again choices (opened (body_at choices i)))
+  ends : {choices : Choices} → Told choices [] → Goes Told (choosing true choices) finished
+
 -- a step that no channel sees
-pub data Silent (x y : Term) : Type 0 where
-  skips : Act x skipping finished y → Silent x y
-  goes_on : {p : Process} → Act x (repeating p) (followed (opened p) (again p)) y → Silent x y
+pub record Silent (Told : Choices → List Process → Type 0) (x y : Term) : Type 0 where
+  pub statement : Process
+  pub rest : Term
+  pub goes : Goes Told statement rest
+  pub act : Act x statement rest y
 
 -- the term stays, or makes such a step
-abbrev pub Follows : Term → Term → Type 0
-Follows x y = (y ≡ x) ⊎ Silent x y
+abbrev pub Follows : (Told : Choices → List Process → Type 0) → Term → Term → Type 0
+Follows Told x y = (y ≡ x) ⊎ Silent Told x y
 
-pub followed_follows : (more : Processes) (x y : Term) → Follows x y → Follows (followed x more) (followed y more)
-followed_follows more x y (inl e) = inl (ap (λ z. followed z more) e)
-followed_follows more x y (inr (skips a)) = inr (skips (followed_act more x skipping finished y a))
-followed_follows more x y (inr (goes_on {p = p} a)) = inr (goes_on (followed_act more x (repeating p) (followed (opened p) (again p)) y a))
+pub followed_follows : (Told : Choices → List Process → Type 0) (more : Processes) (x y : Term) → Follows Told x y
+    → Follows Told (followed x more) (followed y more)
+followed_follows Told more x y (inl e) = inl (ap (λ z. followed z more) e)
+followed_follows Told more x y (inr s) = inr (record {
+  statement = s.statement;
+  rest = s.rest;
+  goes = s.goes;
+  act = followed_act more x s.statement s.rest y s.act;
+})
+
+-- what is told by less is told by more
+wider : (T U : Choices → List Process → Type 0) → ((choices : Choices) (ps : List Process) → T choices ps → U choices ps) → (s : Process) (l : Term)
+    → Goes T s l → Goes U s l
+wider T U f _ _ skips = skips
+wider T U f _ _ goes_on = goes_on
+wider T U f _ _ (chooses {choices = choices} i t) = chooses i (f choices (body_at choices i ∷ []) t)
+wider T U f _ _ (ends {choices = choices} t) = ends (f choices [] t)
+
+pub follows_wider : (T U : Choices → List Process → Type 0) → ((choices : Choices) (ps : List Process) → T choices ps → U choices ps) → (x y : Term)
+    → Follows T x y → Follows U x y
+follows_wider T U f x y (inl e) = inl e
+follows_wider T U f x y (inr s) = inr (record { statement = s.statement; rest = s.rest; goes = wider T U f s.statement s.rest s.goes; act = s.act })
+
+pub told_wider : (env : Seen) (read more : ℕ → Bool) → ((x : ℕ) → read x ≡ true → more x ≡ true) → (choices : Choices) (ps : List Process)
+    → ToldBy env read choices ps → ToldBy env more choices ps
+told_wider env read more within choices ps t = λ store agree. t store (λ x h. agree x (within x h))
 
 -- the same of one of several branches
 pub record ActInside (ts : Terms) (s : Process) (l : Term) (us : Terms) : Type 0 where
@@ -107,36 +179,61 @@ together_act ts s l us a =
     subst (λ (z : Term). Act z s l (together us)) (sym (ap (λ b. if b then finished else in_parallel ts) (inside_stands ts a.index a.at s a.stands)))
     (record { at = in_branch a.index a.at; stands = a.stands; then_is = ap together a.then_is })
 
-pub data SilentInside (ts us : Terms) : Type 0 where
-  skips_inside : ActInside ts skipping finished us → SilentInside ts us
-  goes_inside : {p : Process} → ActInside ts (repeating p) (followed (opened p) (again p)) us → SilentInside ts us
+pub record SilentInside (Told : Choices → List Process → Type 0) (ts us : Terms) : Type 0 where
+  pub statement : Process
+  pub rest : Term
+  pub goes : Goes Told statement rest
+  pub act : ActInside ts statement rest us
 
-abbrev pub FollowsInside : Terms → Terms → Type 0
-FollowsInside ts us = (us ≡ ts) ⊎ SilentInside ts us
+abbrev pub FollowsInside : (Told : Choices → List Process → Type 0) → Terms → Terms → Type 0
+FollowsInside Told ts us = (us ≡ ts) ⊎ SilentInside Told ts us
 
-pub this_follows : (ts : Terms) (x y : Term) → Follows x y → FollowsInside (and_branch x ts) (and_branch y ts)
-this_follows ts x y (inl e) = inl (ap (λ z. and_branch z ts) e)
-this_follows ts x y (inr (skips a)) = inr (skips_inside (this_act ts x skipping finished y a))
-this_follows ts x y (inr (goes_on {p = p} a)) = inr (goes_inside (this_act ts x (repeating p) (followed (opened p) (again p)) y a))
+pub this_follows : (Told : Choices → List Process → Type 0) (ts : Terms) (x y : Term) → Follows Told x y
+    → FollowsInside Told (and_branch x ts) (and_branch y ts)
+this_follows Told ts x y (inl e) = inl (ap (λ z. and_branch z ts) e)
+this_follows Told ts x y (inr s) = inr (record {
+  statement = s.statement;
+  rest = s.rest;
+  goes = s.goes;
+  act = this_act ts x s.statement s.rest y s.act;
+})
 
-pub other_follows : (x : Term) (ts us : Terms) → FollowsInside ts us → FollowsInside (and_branch x ts) (and_branch x us)
-other_follows x ts us (inl e) = inl (ap (λ z. and_branch x z) e)
-other_follows x ts us (inr (skips_inside a)) = inr (skips_inside (other_act x ts skipping finished us a))
-other_follows x ts us (inr (goes_inside {p = p} a)) = inr (goes_inside (other_act x ts (repeating p) (followed (opened p) (again p)) us a))
+pub other_follows : (Told : Choices → List Process → Type 0) (x : Term) (ts us : Terms) → FollowsInside Told ts us
+    → FollowsInside Told (and_branch x ts) (and_branch x us)
+other_follows Told x ts us (inl e) = inl (ap (λ z. and_branch x z) e)
+other_follows Told x ts us (inr s) = inr (record {
+  statement = s.statement;
+  rest = s.rest;
+  goes = s.goes;
+  act = other_act x ts s.statement s.rest us s.act;
+})
 
-pub together_follows : (ts us : Terms) → FollowsInside ts us → Follows (together ts) (together us)
-together_follows ts us (inl e) = inl (ap together e)
-together_follows ts us (inr (skips_inside a)) = inr (skips (together_act ts skipping finished us a))
-together_follows ts us (inr (goes_inside {p = p} a)) = inr (goes_on (together_act ts (repeating p) (followed (opened p) (again p)) us a))
+pub inside_wider : (T U : Choices → List Process → Type 0) → ((choices : Choices) (ps : List Process) → T choices ps → U choices ps) → (ts us : Terms)
+    → FollowsInside T ts us → FollowsInside U ts us
+inside_wider T U f ts us (inl e) = inl e
+inside_wider T U f ts us (inr s) = inr (record { statement = s.statement; rest = s.rest; goes = wider T U f s.statement s.rest s.goes; act = s.act })
 
-pub skip_follows : Follows (active skipping) finished
-skip_follows = inr (skips (record { at = here; stands = refl; then_is = refl }))
+pub together_follows : (Told : Choices → List Process → Type 0) (ts us : Terms) → FollowsInside Told ts us → Follows Told (together ts) (together us)
+together_follows Told ts us (inl e) = inl (ap together e)
+together_follows Told ts us (inr s) = inr (record {
+  statement = s.statement;
+  rest = s.rest;
+  goes = s.goes;
+  act = together_act ts s.statement s.rest us s.act;
+})
 
-pub loop_follows : (p : Process) (x y : Term) → x ≡ finished → y ≡ opened p → Follows (followed x (again p)) (followed y (again p))
-loop_follows p x y e f =
-    subst (λ (z : Term). Follows (followed z (again p)) (followed y (again p))) (sym e)
-    (subst (λ (z : Term). Follows (active (repeating p)) (followed z (again p))) (sym f)
-    (inr (goes_on (record { at = here; stands = refl; then_is = refl }))))
+pub here_follows : {Told : Choices → List Process → Type 0} (s : Process) (l : Term) → Goes Told s l → Follows Told (active s) l
+here_follows s l g = inr (record { statement = s; rest = l; goes = g; act = record { at = here; stands = refl; then_is = refl } })
+
+pub skip_follows : (Told : Choices → List Process → Type 0) → Follows Told (active skipping) finished
+skip_follows Told = here_follows skipping finished skips
+
+pub loop_follows : (Told : Choices → List Process → Type 0) (p : Process) (x y : Term) → x ≡ finished → y ≡ opened p
+    → Follows Told (followed x (again p)) (followed y (again p))
+loop_follows Told p x y e f =
+    subst (λ (z : Term). Follows Told (followed z (again p)) (followed y (again p))) (sym e)
+    (subst (λ (z : Term). Follows Told (active (repeating p)) (followed z (again p))) (sym f)
+    (here_follows (repeating p) (followed (opened p) (again p)) goes_on))
 
 -- a statement that isn't running is done
 no_run : (m k n : Mode) → link m k n ≡ true → (m ≡ running → ⊥) → n ≡ running → ⊥
@@ -204,6 +301,22 @@ mutual
   left_done ack (at_turn t) o = turn_left_done ack t o
   left_done ack (at_side {members = members} {ks = ks} m t b h) o = branches_left_done ack b (side_done (member_count members) m ks t h o)
   left_done ack (at_body a) o = absurd (o refl)
+  left_done ack (at_choice (control_at uncalled)) o = refl
+  left_done ack (at_choice (control_at called)) o = absurd (o refl)
+  left_done ack (at_choice (control_at (evaluating g))) o = absurd (o refl)
+  left_done ack (at_choice (control_at (latched l i g h))) o = absurd (o refl)
+  left_done ack (at_choice (control_at (leaving y l g h))) o = absurd (o refl)
+  left_done ack (at_choice (inside_at a works)) o = absurd (o refl)
+  left_done ack (at_choice (inside_at a worked)) o = absurd (o refl)
+  left_done ack (at_choice (inside_at a reported)) o = chosen_left_done ack a (λ e. cc e)
+  left_done ack (at_choice (inside_at a letting)) o = chosen_left_done ack a (λ e. cc e)
+  left_done ack (at_choice (inside_at a (backs any h))) o = chosen_left_done ack a (λ e. cc (h, ap isnt_running e))
+  left_done ack (at_turning x) o = absurd (o refl)
+  left_done ack (at_closing c) o = refl
+
+  pub chosen_left_done : {choices : Choices} {k : Mode} (ack : Line → Bool) (a : ChosenAt choices k) → (k ≡ running → ⊥) → chosen_left ack a ≡ finished
+  chosen_left_done ack (this_one a) o = left_done ack a o
+  chosen_left_done ack (another a) o = chosen_left_done ack a o
 
   pub turn_left_done : {members : Processes} {m : Mode} (ack : Line → Bool) (t : TurnAt members m) → (m ≡ running → ⊥) → turn_left ack t ≡ finished
   turn_left_done ack turn_rests o = refl
@@ -242,6 +355,19 @@ mutual
   writing_done ack (at_turn t) o x = turn_writing_done ack t o x
   writing_done ack (at_side {members = members} {ks = ks} m t b h) o x = branches_writing_done ack b (side_done (member_count members) m ks t h o) x
   writing_done ack (at_body a) o x = absurd (o refl)
+  writing_done ack (at_choice (control_at c)) o x = refl
+  writing_done ack (at_choice (inside_at a works)) o x = absurd (o refl)
+  writing_done ack (at_choice (inside_at a worked)) o x = absurd (o refl)
+  writing_done ack (at_choice (inside_at a reported)) o x = chosen_writing_done ack a (λ e. cc e) x
+  writing_done ack (at_choice (inside_at a letting)) o x = chosen_writing_done ack a (λ e. cc e) x
+  writing_done ack (at_choice (inside_at a (backs any h))) o x = chosen_writing_done ack a (λ e. cc (h, ap isnt_running e)) x
+  writing_done ack (at_turning z) o x = absurd (o refl)
+  writing_done ack (at_closing c) o x = refl
+
+  pub chosen_writing_done : {choices : Choices} {k : Mode} (ack : Line → Bool) (a : ChosenAt choices k) → (k ≡ running → ⊥) → (x : ℕ)
+      → chosen_writing ack a x ≡ false
+  chosen_writing_done ack (this_one a) o x = writing_done ack a o x
+  chosen_writing_done ack (another a) o x = chosen_writing_done ack a o x
 
   pub turn_writing_done : {members : Processes} {m : Mode} (ack : Line → Bool) (t : TurnAt members m) → (m ≡ running → ⊥) → (x : ℕ)
       → turn_writing ack t x ≡ false

@@ -1,3 +1,9 @@
+pub mod Modes
+pub mod HeadFacts
+pub mod CoreControl
+pub mod CoreMoves
+pub mod AgainMoves
+pub mod CorePromises
 pub mod Examples
 pub mod CoveredExamples
 pub mod RailLemmas
@@ -5,6 +11,8 @@ pub mod Trees
 pub mod Places
 pub mod LineNames
 pub mod Meets
+pub mod GuardWaves
+pub mod Opens
 pub mod Left
 pub mod Flow
 pub mod Begin
@@ -12,6 +20,7 @@ pub mod Talks
 pub mod Sides
 pub mod Leaves
 pub mod PortLeaf
+pub mod ChoiceMoves
 pub mod Control
 pub mod Change
 pub mod Sites

@@ -5,22 +5,23 @@ use Rattle.std.specs.Prelude.{◌==◌, ◌||◌, ◌&&◌, if◌then◌else◌}
 use Rattle.chp_base.specs.declared.span.Span.{Span}
 use Rattle.chp_base.specs.declared.channel.Kind.{Kind}
 use Rattle.chp_base.specs.declared.channel.Kind.TheVariants.{In, Out, Chan}
-use Rattle.width_check.specs.Processes.{Formula, constant, reading, joined, inverted, chained, compared, Formulas, no_parts, and_part, Operations, no_operations, and_operation, Process, skipping, assigning, sending, receiving, in_turn, side_by_side, choosing, repeating, Processes, no_members, and_member, member_count, TypedProgram}
-use Rattle.width_check.specs.Typing.{kind_at, channel_width, var_width, ReadsFrom, IsOfWidth, IsSend, IsReceive, IsProcess, AreProcesses}
+use Rattle.width_check.specs.Processes.{Formula, constant, reading, joined, inverted, chained, compared, Formulas, no_parts, and_part, Operations, no_operations, and_operation, Process, skipping, assigning, sending, receiving, in_turn, side_by_side, choosing, repeating, Processes, no_members, and_member, member_count, TypedProgram, Choices, no_choices, and_choice, choice_count}
+use Rattle.width_check.specs.Typing.{kind_at, channel_width, var_width, ReadsFrom, IsOfWidth, IsSend, IsReceive, IsProcess, AreProcesses, AreChoices}
 use Rattle.width_check.specs.Reads.{reads, reads_in_parts, reads_in_operations}
 use Rattle.width_check.specs.Values.{width_of, IsWellFormed}
 use Rattle.width_check.proofs.Bounds.{width_some}
 use Rattle.chp_meaning.proofs.HalvedTyping.{unread}
 use Rattle.function_blocks.specs.Waves.{Waves}
-use Rattle.width_check.specs.Sharing.{Deed, reads_var, writes_var, sends_on, receives_on, Occurrence, reads_of, reads_of_parts, reads_of_operations, occurrences, occurrences_of_each, Parallel, ParallelInside, ParallelAcross, Clashes}
+use Rattle.width_check.specs.Sharing.{Deed, reads_var, writes_var, sends_on, receives_on, Occurrence, reads_of, reads_of_parts, reads_of_operations, occurrences, occurrences_of_each, Parallel, ParallelInside, ParallelAcross, Clashes, occurrences_of_choices, ParallelInChoices}
 use Rattle.chp_base.specs.declared.fault.FaultCode.TheVariants as code
 use Rattle.chp_meaning.specs.Terms.{Term, finished, active, in_parallel, is_finished, all_finished, in_sequence, opened, opened_turn, opened_each, followed}
 use Rattle.circuit_places.specs.Lines.{Line, of_channel, of_var, same_line, site_statement, line_width}
 use Rattle.circuit_places.specs.Whole.{is_sent, is_heard, is_merged}
 use Rattle.circuit_places.proofs.LineNames.{same_number, same_line_is}
 use Rattle.std.proofs.lemmas.Bool.{cases_lt}
-use Rattle.circuit_places.specs.Covered.{IsCovered, AreCovered, talks_on, one_talks_on}
+use Rattle.circuit_places.specs.Covered.{IsCovered, AreCovered, talks_on, one_talks_on, branch_talks_on, EachCovered}
 use Rattle.circuit_places.proofs.Trees.{TreeOver, TreesSettle, tree_over}
+use Rattle.circuit_places.specs.Circuit.{guards_read}
 
 -- the program has the line
 abbrev pub HasLine : TypedProgram → Line → Type 0
@@ -54,6 +55,16 @@ pub record PortMeets (P : TypedProgram) (c x : ℕ) : Type 0 where
   pub some : 1 ≤ var_width P.vars x
   pub widths : var_width P.vars x ≡ channel_width P.channels c
 
+-- a guard over the variables
+pub record GuardMeets (P : TypedProgram) (e : Formula) : Type 0 where
+  pub one : width_of e ≡ 1
+  pub reads : ReadsFrom P.vars e
+  pub known : Waves e
+
+abbrev pub GuardsMeet : TypedProgram → Choices → Type 0
+GuardsMeet P no_choices = Unit {0}
+GuardsMeet P (and_choice g p more) = GuardMeets P g × GuardsMeet P more
+
 -- the lines of which a statement has sites; a receive is one of its variable's
 abbrev mutual
   pub sends : Process → Line → Bool
@@ -63,7 +74,12 @@ abbrev mutual
   sends (in_turn members) k = turn_sends members k
   sends (side_by_side members) k = turn_sends members k
   sends (repeating p) k = sends p k
-  sends _ k = false
+  sends (choosing again choices) k = choice_sends choices k
+  sends skipping k = false
+
+  pub choice_sends : Choices → Line → Bool
+  choice_sends no_choices k = false
+  choice_sends (and_choice g p more) k = sends p k || choice_sends more k
 
   pub turn_sends : Processes → Line → Bool
   turn_sends no_members k = false
@@ -81,7 +97,12 @@ abbrev mutual
   uses (in_turn members) v = each_uses members v
   uses (side_by_side members) v = each_uses members v
   uses (repeating p) v = uses p v
+  uses (choosing again choices) v = guards_read choices v || choice_uses choices v
   uses _ v = false
+
+  pub choice_uses : Choices → ℕ → Bool
+  choice_uses no_choices v = false
+  choice_uses (and_choice g p more) v = uses p v || choice_uses more v
 
   pub each_uses : Processes → ℕ → Bool
   each_uses no_members v = false
@@ -94,7 +115,12 @@ abbrev mutual
   receives (in_turn members) k = each_receives members k
   receives (side_by_side members) k = each_receives members k
   receives (repeating p) k = receives p k
+  receives (choosing again choices) k = choice_receives choices k
   receives _ k = false
+
+  pub choice_receives : Choices → ℕ → Bool
+  choice_receives no_choices k = false
+  choice_receives (and_choice g p more) k = receives p k || choice_receives more k
 
   pub each_receives : Processes → ℕ → Bool
   each_receives no_members k = false
@@ -117,7 +143,11 @@ abbrev mutual
   Meets P (in_turn members) = TurnMeets P members
   Meets P (side_by_side members) = (2 ≤ member_count members) × TreeOver (member_count members) × EachMeets P members
   Meets P (repeating p) = Meets P p
-  Meets P _ = ⊥
+  Meets P (choosing again choices) = (1 ≤ choice_count choices) × GuardsMeet P choices × ChoiceMeets P choices
+
+  pub ChoiceMeets : TypedProgram → Choices → Type 0
+  ChoiceMeets P no_choices = Unit {0}
+  ChoiceMeets P (and_choice g p more) = Meets P p × ChoiceMeets P more
 
   pub EachMeets : TypedProgram → Processes → Type 0
   EachMeets P no_members = Unit {0}
@@ -156,6 +186,11 @@ assign_meets hold P x e h plain = record {
   known = hold e h.1.formed;
 }
 
+guards_meet : ExpressionsHold → (P : TypedProgram) (choices : Choices) → AreChoices P.channels P.vars choices → GuardsMeet P choices
+guards_meet hold P no_choices h = tt
+guards_meet hold P (and_choice g p more) h =
+    (record { one = h.0.agrees; reads = h.0.reads; known = hold g h.0.formed }, guards_meet hold P more h.2)
+
 heard_kind : (k : Kind) → k ≢ Out → is_heard k ≡ true
 heard_kind In ne = refl
 heard_kind Out ne = absurd (ne refl)
@@ -172,6 +207,10 @@ read_declared P e r v h = here (cases_lt v (length P.vars))
     here : (v < length P.vars) ⊎ (length P.vars ≤ v) → v < length P.vars
     here (inl less) = less
     here (inr out) = absurd (cc (unread P.vars v e r out, h))
+
+one_of : {A : Type 0} (a b : Bool) → (a || b) ≡ true → (a ≡ true → A) → (b ≡ true → A) → A
+one_of true b h f g = f refl
+one_of false b h f g = g h
 
 -- where a statement has a site it has an occurrence that says so
 abbrev deed_of : Line → Deed
@@ -246,7 +285,13 @@ mutual
     is = ap deed_of
         (same_line_is (of_var x) k h);
   }
-  found (choosing again choices) k h = absurd (cc h)
+  found (choosing again choices) k h = found_choice choices k h
+
+  found_choice : (choices : Choices) (k : Line) → choice_sends choices k ≡ true → Found (occurrences_of_choices choices) (deed_of k)
+  found_choice no_choices k h = absurd (cc h)
+  found_choice (and_choice g p more) k h = found_right (reads_of g) (occurrences p ++ occurrences_of_choices more) (deed_of k)
+      (found_either (occurrences p) (occurrences_of_choices more) (deed_of k) (sends p k) (choice_sends more k) h (λ e. found p k e)
+      (λ e. found_choice more k e))
 
   found_each : (members : Processes) (k : Line) → turn_sends members k ≡ true → Found (occurrences_of_each members) (deed_of k)
   found_each no_members k h = absurd (cc h)
@@ -263,7 +308,21 @@ mutual
   found_use (repeating p) v h = found_use p v h
   found_use skipping v h = absurd (cc h)
   found_use (receiving c at x to) v h = absurd (cc h)
-  found_use (choosing again choices) v h = absurd (cc h)
+  found_use (choosing again choices) v h = one_of (guards_read choices v) (choice_uses choices v) h (λ e. found_guard choices v e)
+      (λ e. found_use_choice choices v e)
+
+  found_guard : (choices : Choices) (v : ℕ) → guards_read choices v ≡ true → Found (occurrences_of_choices choices) (reads_var v)
+  found_guard no_choices v h = absurd (cc h)
+  found_guard (and_choice g p more) v h = one_of (reads v g) (guards_read more v) h
+      (λ e. found_left (reads_of g) (occurrences p ++ occurrences_of_choices more) (reads_var v) (found_read g v e))
+      (λ e. found_right (reads_of g) (occurrences p ++ occurrences_of_choices more) (reads_var v)
+      (found_right (occurrences p) (occurrences_of_choices more) (reads_var v) (found_guard more v e)))
+
+  found_use_choice : (choices : Choices) (v : ℕ) → choice_uses choices v ≡ true → Found (occurrences_of_choices choices) (reads_var v)
+  found_use_choice no_choices v h = absurd (cc h)
+  found_use_choice (and_choice g p more) v h = found_right (reads_of g) (occurrences p ++ occurrences_of_choices more) (reads_var v)
+      (found_either (occurrences p) (occurrences_of_choices more) (reads_var v) (uses p v) (choice_uses more v) h (λ e. found_use p v e)
+      (λ e. found_use_choice more v e))
 
   found_use_each : (members : Processes) (v : ℕ) → each_uses members v ≡ true → Found (occurrences_of_each members) (reads_var v)
   found_use_each no_members v h = absurd (cc h)
@@ -285,7 +344,13 @@ mutual
   found_receive skipping c h = absurd (cc h)
   found_receive (assigning x at e) c h = absurd (cc h)
   found_receive (sending k at e) c h = absurd (cc h)
-  found_receive (choosing again choices) c h = absurd (cc h)
+  found_receive (choosing again choices) c h = found_receive_choice choices c h
+
+  found_receive_choice : (choices : Choices) (c : ℕ) → choice_receives choices c ≡ true → Found (occurrences_of_choices choices) (receives_on c)
+  found_receive_choice no_choices c h = absurd (cc h)
+  found_receive_choice (and_choice g p more) c h = found_right (reads_of g) (occurrences p ++ occurrences_of_choices more) (receives_on c)
+      (found_either (occurrences p) (occurrences_of_choices more) (receives_on c) (receives p c) (choice_receives more c) h (λ e. found_receive p c e)
+      (λ e. found_receive_choice more c e))
 
   found_receive_each : (members : Processes) (c : ℕ) → each_receives members c ≡ true → Found (occurrences_of_each members) (receives_on c)
   found_receive_each no_members c h = absurd (cc h)
@@ -331,7 +396,17 @@ mutual
         (let e : 2 ≤ member_count members = h.0 in let g : 1 ≤ member_count members = omega (arith, e) in g),
     each_meets law hold P some_bit members apart h.1 k,
   )
-  meets law hold P some_bit (choosing again _) apart h k = k
+  meets law hold P some_bit (choosing again choices) apart h k =
+      (h.0, guards_meet hold P choices h.2, choice_meets law hold P some_bit choices apart h.2 k)
+
+  choice_meets : TreesSettle → ExpressionsHold → (P : TypedProgram) → ((x : ℕ) → x < length P.vars → 1 ≤ var_width P.vars x) → (choices : Choices)
+      → ((a b : Occurrence) → ParallelInChoices choices a b → ¬ Clash a.deed b.deed) → AreChoices P.channels P.vars choices → EachCovered choices
+      → ChoiceMeets P choices
+  choice_meets law hold P some_bit no_choices apart h k = tt
+  choice_meets law hold P some_bit (and_choice g p more) apart h k = (
+    meets law hold P some_bit p (λ a b z. apart a b (inl z)) h.1 k.0,
+    choice_meets law hold P some_bit more (λ a b z. apart a b (inr z)) h.2 k.1,
+  )
 
   pub turn_meets : TreesSettle → ExpressionsHold → (P : TypedProgram) → ((x : ℕ) → x < length P.vars → 1 ≤ var_width P.vars x) → (members : Processes)
       → ((a b : Occurrence) → ParallelInside members a b → ¬ Clash a.deed b.deed) → 1 ≤ member_count members → AreProcesses P.channels P.vars members
@@ -389,10 +464,6 @@ followed_on (in_parallel ts) more e = refl
 pub opened_then : (P : TypedProgram) (p : Process) → Meets P p → (more : Processes) → followed (opened p) more ≡ in_sequence (opened p) more
 opened_then P p h more = followed_on (opened p) more (opened_on P p h)
 
-one_of : {A : Type 0} (a b : Bool) → (a || b) ≡ true → (a ≡ true → A) → (b ≡ true → A) → A
-one_of true b h f g = f refl
-one_of false b h f g = g h
-
 -- a line of which a statement has sites is merged
 mutual
   pub sends_merged : (P : TypedProgram) (p : Process) → Meets P p → (k : Line) → sends p k ≡ true → is_merged P k ≡ true
@@ -403,7 +474,12 @@ mutual
   sends_merged P (repeating p) h k e = sends_merged P p h k e
   sends_merged P skipping h k e = absurd (cc e)
   sends_merged P (receiving c at x to) h k e = ap (is_merged P) (sym (same_line_is (of_var x) k e))
-  sends_merged P (choosing again choices) h k e = absurd (cc e)
+  sends_merged P (choosing again choices) h k e = choice_sends_merged P choices h.2 k e
+
+  choice_sends_merged : (P : TypedProgram) (choices : Choices) → ChoiceMeets P choices → (k : Line) → choice_sends choices k ≡ true → is_merged P k ≡ true
+  choice_sends_merged P no_choices h k e = absurd (cc e)
+  choice_sends_merged P (and_choice g p more) h k e = one_of (sends p k) (choice_sends more k) e (λ z. sends_merged P p h.0 k z)
+      (λ z. choice_sends_merged P more h.1 k z)
 
   turn_sends_merged : (P : TypedProgram) (members : Processes) → TurnMeets P members → (k : Line) → turn_sends members k ≡ true → is_merged P k ≡ true
   turn_sends_merged P no_members h k e = absurd (cc e)
@@ -426,7 +502,13 @@ mutual
   receives_heard P skipping h c e = absurd (cc e)
   receives_heard P (assigning x at f) h c e = absurd (cc e)
   receives_heard P (sending k at f) h c e = absurd (cc e)
-  receives_heard P (choosing again choices) h c e = absurd (cc e)
+  receives_heard P (choosing again choices) h c e = choice_receives_heard P choices h.2 c e
+
+  choice_receives_heard : (P : TypedProgram) (choices : Choices) → ChoiceMeets P choices → (c : ℕ) → choice_receives choices c ≡ true
+      → is_heard (kind_at P.channels c) ≡ true
+  choice_receives_heard P no_choices h c e = absurd (cc e)
+  choice_receives_heard P (and_choice g p more) h c e = one_of (receives p c) (choice_receives more c) e (λ z. receives_heard P p h.0 c z)
+      (λ z. choice_receives_heard P more h.1 c z)
 
   turn_receives_heard : (P : TypedProgram) (members : Processes) → TurnMeets P members → (c : ℕ) → each_receives members c ≡ true
       → is_heard (kind_at P.channels c) ≡ true
@@ -451,7 +533,13 @@ mutual
   receives_within P skipping h c e = absurd (cc e)
   receives_within P (assigning x at f) h c e = absurd (cc e)
   receives_within P (sending k at f) h c e = absurd (cc e)
-  receives_within P (choosing again choices) h c e = absurd (cc e)
+  receives_within P (choosing again choices) h c e = choice_receives_within P choices h.2 c e
+
+  choice_receives_within : (P : TypedProgram) (choices : Choices) → ChoiceMeets P choices → (c : ℕ) → choice_receives choices c ≡ true
+      → c < length P.channels
+  choice_receives_within P no_choices h c e = absurd (cc e)
+  choice_receives_within P (and_choice g p more) h c e = one_of (receives p c) (choice_receives more c) e (λ z. receives_within P p h.0 c z)
+      (λ z. choice_receives_within P more h.1 c z)
 
   turn_receives_within : (P : TypedProgram) (members : Processes) → TurnMeets P members → (c : ℕ) → each_receives members c ≡ true → c < length P.channels
   turn_receives_within P no_members h c e = absurd (cc e)
@@ -479,7 +567,12 @@ mutual
   sends_talks skipping c e = absurd (cc e)
   sends_talks (assigning x at f) c e = absurd (cc e)
   sends_talks (receiving k at x to) c e = absurd (cc e)
-  sends_talks (choosing again choices) c e = absurd (cc e)
+  sends_talks (choosing again choices) c e = choice_sends_talks choices c e
+
+  choice_sends_talks : (choices : Choices) (c : ℕ) → choice_sends choices (of_channel c) ≡ true → branch_talks_on c choices ≡ true
+  choice_sends_talks no_choices c e = absurd (cc e)
+  choice_sends_talks (and_choice g p more) c e = either_talks (sends p (of_channel c)) (choice_sends more (of_channel c)) (talks_on c p)
+      (branch_talks_on c more) (sends_talks p c) (choice_sends_talks more c) e
 
   each_sends_talks : (members : Processes) (c : ℕ) → turn_sends members (of_channel c) ≡ true → one_talks_on c members ≡ true
   each_sends_talks no_members c e = absurd (cc e)
@@ -494,9 +587,48 @@ mutual
   receives_talks skipping c e = absurd (cc e)
   receives_talks (assigning x at f) c e = absurd (cc e)
   receives_talks (sending k at f) c e = absurd (cc e)
-  receives_talks (choosing again choices) c e = absurd (cc e)
+  receives_talks (choosing again choices) c e = choice_receives_talks choices c e
+
+  choice_receives_talks : (choices : Choices) (c : ℕ) → choice_receives choices c ≡ true → branch_talks_on c choices ≡ true
+  choice_receives_talks no_choices c e = absurd (cc e)
+  choice_receives_talks (and_choice g p more) c e = either_talks (receives p c) (choice_receives more c) (talks_on c p) (branch_talks_on c more)
+      (receives_talks p c) (choice_receives_talks more c) e
 
   each_receives_talks : (members : Processes) (c : ℕ) → each_receives members c ≡ true → one_talks_on c members ≡ true
   each_receives_talks no_members c e = absurd (cc e)
   each_receives_talks (and_member p more) c e = either_talks (receives p c) (each_receives more c) (talks_on c p) (one_talks_on c more) (receives_talks p c)
       (each_receives_talks more c) e
+
+-- what a statement reads is declared
+mutual
+  pub uses_within : (P : TypedProgram) (p : Process) → Meets P p → (v : ℕ) → uses p v ≡ true → v < length P.vars
+  uses_within P (assigning x at f) h v e = read_declared P f h.reads v e
+  uses_within P (sending k at f) h v e = read_declared P f h.reads v e
+  uses_within P (in_turn members) h v e = turn_uses_within P members h v e
+  uses_within P (side_by_side members) h v e = each_uses_within P members h.2 v e
+  uses_within P (repeating p) h v e = uses_within P p h v e
+  uses_within P skipping h v e = absurd (cc e)
+  uses_within P (receiving k at x to) h v e = absurd (cc e)
+  uses_within P (choosing again choices) h v e = one_of (guards_read choices v) (choice_uses choices v) e (λ z. guards_read_within P choices h.1 v z)
+      (λ z. choice_uses_within P choices h.2 v z)
+
+  pub guards_read_within : (P : TypedProgram) (choices : Choices) → GuardsMeet P choices → (v : ℕ) → guards_read choices v ≡ true → v < length P.vars
+  guards_read_within P no_choices h v e = absurd (cc e)
+  guards_read_within P (and_choice g p more) h v e = one_of (reads v g) (guards_read more v) e (λ z. read_declared P g h.0.reads v z)
+      (λ z. guards_read_within P more h.1 v z)
+
+  choice_uses_within : (P : TypedProgram) (choices : Choices) → ChoiceMeets P choices → (v : ℕ) → choice_uses choices v ≡ true → v < length P.vars
+  choice_uses_within P no_choices h v e = absurd (cc e)
+  choice_uses_within P (and_choice g p more) h v e = one_of (uses p v) (choice_uses more v) e (λ z. uses_within P p h.0 v z)
+      (λ z. choice_uses_within P more h.1 v z)
+
+  turn_uses_within : (P : TypedProgram) (members : Processes) → TurnMeets P members → (v : ℕ) → each_uses members v ≡ true → v < length P.vars
+  turn_uses_within P no_members h v e = absurd (cc e)
+  turn_uses_within P (and_member p no_members) h v e = one_of (uses p v) false e (λ z. uses_within P p h v z) (λ z. absurd (cc z))
+  turn_uses_within P (and_member p (and_member q more)) h v e = one_of (uses p v) (each_uses (and_member q more) v) e (λ z. uses_within P p h.0 v z)
+      (λ z. turn_uses_within P (and_member q more) h.1 v z)
+
+  each_uses_within : (P : TypedProgram) (members : Processes) → EachMeets P members → (v : ℕ) → each_uses members v ≡ true → v < length P.vars
+  each_uses_within P no_members h v e = absurd (cc e)
+  each_uses_within P (and_member p more) h v e = one_of (uses p v) (each_uses more v) e (λ z. uses_within P p h.0 v z)
+      (λ z. each_uses_within P more h.2 v z)

@@ -4,33 +4,21 @@ use Rattle.std.specs.Prelude.{not, ◌&&◌, ◌||◌, if◌then◌else◌, is_s
 use Rattle.std.specs.List.{range_with_len}
 use Rattle.std.proofs.Math.Path.{fun_ext}
 use Rattle.chp_base.specs.declared.span.Span.{Span}
-use Rattle.width_check.specs.Processes.{Formula, Process, skipping, assigning, sending, receiving, in_turn, side_by_side, choosing, repeating, Processes, no_members, and_member, member_count}
+use Rattle.width_check.specs.Processes.{Formula, Process, skipping, assigning, sending, receiving, in_turn, side_by_side, choosing, repeating, Processes, no_members, and_member, member_count, Choices, no_choices, and_choice, choice_count}
 use Rattle.cell_parallel.specs.Trees.{tree_top}
+pub use Rattle.circuit_places.proofs.Modes.{Mode, idle, running, answered, returning, asks, acks}
 use Rattle.circuit_places.specs.Lines.{Line, of_channel, of_var, same_line, Rails, Seen}
 use Rattle.prs_core.specs.Deciding.{implies}
 use Rattle.circuit_places.specs.Whole.{value_on, neutral_on}
-use Rattle.circuit_places.specs.Circuit.{Port, PortSpot, low_port, port_rule, heard, stored, taking, of_receive, Guarded, Site, Pairs, SiteSpot, site_rule, low_site, Cells, TurnCells, Bits, BranchCells, low_bits, bit_at, joint_count, low_guarded, low, low_turn, low_branches, branch_ends, tree_answer, tree_rule, gate_count, answer, turn_answer, GuardedSpot, Spot, TurnSpot, BranchSpot, child, latch, next, inner, of_skip, done, gate, of_assign, of_send, in_members, of_branch, joint, in_this, in_others, of_loop, ask, in_body, in_last, in_member, in_later, fires, same_bit, gate_rule, guarded_rule, rule, turn_rule, branch_rule}
+use Rattle.circuit_places.specs.Circuit.{Port, PortSpot, low_port, port_rule, heard, stored, taking, of_receive, Guarded, Site, Pairs, SiteSpot, site_rule, low_site, Cells, TurnCells, Bits, BranchCells, low_bits, bit_at, joint_count, low_guarded, low, low_turn, low_branches, branch_ends, tree_answer, tree_rule, gate_count, answer, turn_answer, GuardedSpot, Spot, TurnSpot, BranchSpot, child, latch, next, inner, of_skip, done, gate, of_assign, of_send, in_members, of_branch, joint, in_this, in_others, of_loop, ask, in_body, in_last, in_member, in_later, fires, same_bit, gate_rule, guarded_rule, rule, turn_rule, branch_rule, Core, OwnSpot, RoundSpot, GuardCells, ChoiceCells, low_guards, low_core, low_choices, choice_answers, GuardSpot, this_gate, other_gate, ChoiceSpot, this_choice, other_choice, of_core, of_guard, of_choice, of_round, Pair, pair_of, guard_head, heads, guards_read, guards_rule, guards_good, choice_rule, low_pairs}
 use Rattle.width_check.specs.Reads.{reads}
 use Rattle.function_blocks.specs.Waves.{good, out_rail, full, empty, Waves}
-use Rattle.circuit_places.proofs.RailLemmas.{fst_true, snd_true, same_value, low_gate_quiet}
+use Rattle.circuit_places.proofs.RailLemmas.{fst_true, snd_true, same_value, low_gate_quiet, low_out}
 use Rattle.circuit_places.proofs.Trees.{all_low_value, joint_quiet, low_bit, TreeOver, Settled, top_of, joint_moves}
-
--- how far a handshake is
-pub data Mode : Type 0 where
-  idle running answered returning : Mode
-
--- the request and the answer then
-abbrev pub asks : Mode → Bool
-asks idle = false
-asks running = true
-asks answered = true
-asks returning = false
-
-abbrev pub acks : Mode → Bool
-acks idle = false
-acks running = false
-acks answered = true
-acks returning = true
+use Rattle.circuit_places.specs.Heads.{Index, top, under, hot, all_neutral}
+use Rattle.circuit_places.specs.Cores.{of_answer, of_turn, of_leave, core_rule, turning_rule, core_of, turning_of}
+use Rattle.circuit_places.proofs.HeadFacts.{neutral_over}
+use Rattle.circuit_places.proofs.CoreControl.{Control, uncalled, called, evaluating, latched, leaving, Way, Closing, control_leave, control_ask, control_guards, control_cells, control_moves, turning_moves, way_cells, closing_cells, way_moves, way_turning, closing_turn, closing_leave, closing_any, closing_own, closing_moves, control_can_is, turning_can_is, way_can_is, way_turning_is, closing_own_is, closing_can_is}
 
 abbrev pub is_idle : Mode → Bool
 is_idle idle = true
@@ -117,6 +105,20 @@ mutual
     at_side : {members : Processes} {ks : List Mode} (m : Mode) (t : Bits (joint_count (member_count members))) → BranchesAt members ks
         → SideMay (member_count members) m ks t → At (side_by_side members) m
     at_body : {p : Process} {m : Mode} → At p m → At (repeating p) running
+    at_choice : {choices : Choices} {m : Mode} → ChoiceAt false choices m → At (choosing false choices) m
+    at_turning : {choices : Choices} {m : Mode} → ChoiceAt true choices m → At (choosing true choices) running
+    at_closing : {choices : Choices} {m : Mode} → Closing m → At (choosing true choices) m
+
+  -- where the core of a selection or of a guarded repetition is
+  pub data ChoiceAt : Bool → Choices → Mode → Type 0 where
+    control_at : {again : Bool} {choices : Choices} {m : Mode} → Control again (choice_count choices) (GuardCells choices) (heads choices) m
+        → ChoiceAt again choices m
+    inside_at : {again : Bool} {choices : Choices} {m k : Mode} → ChosenAt choices k → Way m k → ChoiceAt again choices m
+
+  -- where its branch is that is under way
+  pub data ChosenAt : Choices → Mode → Type 0 where
+    this_one : {g : Formula} {p : Process} {more : Choices} {k : Mode} → At p k → ChosenAt (and_choice g p more) k
+    another : {g : Formula} {p : Process} {more : Choices} {k : Mode} → ChosenAt more k → ChosenAt (and_choice g p more) k
 
   -- where branches are, each so far
   pub data BranchesAt : Processes → List Mode → Type 0 where
@@ -149,6 +151,15 @@ turn_of p q more x y = record { member = x; later = y }
 abbrev pub sides_of : (members : Processes) → BranchCells members → Bits (joint_count (member_count members)) → Cells (side_by_side members)
 sides_of members x t = record { branches = x; tree = t }
 
+-- which branch it is
+abbrev pub chosen_index : {choices : Choices} {k : Mode} → ChosenAt choices k → Index (choice_count choices)
+chosen_index (this_one a) = top
+chosen_index (another a) = under (chosen_index a)
+
+abbrev pub choice_leave : {again : Bool} {choices : Choices} {m : Mode} → ChoiceAt again choices m → Bool
+choice_leave (control_at c) = control_leave c
+choice_leave (inside_at a w) = false
+
 -- the values of the nodes there
 abbrev mutual
   pub guarded_cells : {p : Process} {m : Mode} → GuardedAt p m → Guarded (Cells p)
@@ -166,6 +177,18 @@ abbrev mutual
   cells (at_turn t) = turn_cells t
   cells (at_side {members = members} m t b h) = sides_of members (branch_cells b) t
   cells (at_body {p = p} {m = m} a) = ring_of p (asks m) (cells a)
+  cells (at_choice x) = choice_cells x
+  cells (at_turning {m = m} x) = turning_of false (asks m) (choice_leave x) (choice_cells x)
+  cells (at_closing {choices = choices} c) = closing_cells {n = choice_count choices} (low_guards choices) (low_choices choices) c
+
+  pub choice_cells : {again : Bool} {choices : Choices} {m : Mode} → ChoiceAt again choices m
+      → Core (choice_count choices) (GuardCells choices) (ChoiceCells choices)
+  choice_cells (control_at {choices = choices} c) = control_cells (low_guards choices) (low_choices choices) c
+  choice_cells (inside_at {choices = choices} a w) = way_cells (low_guards choices) (chosen_index a) (chosen_cells a) w
+
+  pub chosen_cells : {choices : Choices} {k : Mode} → ChosenAt choices k → ChoiceCells choices
+  chosen_cells (this_one {more = more} a) = (cells a, low_choices more)
+  chosen_cells (another {p = p} a) = (low p, chosen_cells a)
 
   pub branch_cells : {members : Processes} {ks : List Mode} → BranchesAt members ks → BranchCells members
   branch_cells no_more = tt
@@ -221,6 +244,17 @@ port_shown c x k q = record {
   read = λ v. false;
 }
 
+-- guards that are asked for read their variables
+abbrev pub guards_shown : (asked : Bool) → Choices → Shown
+guards_shown e choices = record {
+  talk = λ j. false;
+  says = λ j. false;
+  offer = λ j i one. false;
+  listen = λ d. false;
+  take = λ d. false;
+  read = λ x. e && guards_read choices x;
+}
+
 abbrev mutual
   pub guarded_shown : {p : Process} {m : Mode} → GuardedAt p m → Shown
   guarded_shown (g_in u a h) = shown a
@@ -233,7 +267,17 @@ abbrev mutual
   shown (at_turn t) = turn_shown t
   shown (at_side m t b h) = branches_shown b
   shown (at_body a) = shown a
+  shown (at_choice x) = choice_shown x
+  shown (at_turning x) = choice_shown x
   shown _ = none_shown
+
+  pub choice_shown : {again : Bool} {choices : Choices} {m : Mode} → ChoiceAt again choices m → Shown
+  choice_shown (inside_at a w) = chosen_shown a
+  choice_shown (control_at {choices = choices} c) = guards_shown (control_ask c) choices
+
+  pub chosen_shown : {choices : Choices} {k : Mode} → ChosenAt choices k → Shown
+  chosen_shown (this_one a) = shown a
+  chosen_shown (another a) = chosen_shown a
 
   pub branches_shown : {members : Processes} {ks : List Mode} → BranchesAt members ks → Shown
   branches_shown no_more = none_shown
@@ -262,7 +306,17 @@ abbrev mutual
   writing ack (at_turn t) x = turn_writing ack t x
   writing ack (at_side m t b h) x = branches_writing ack b x
   writing ack (at_body a) x = writing ack a x
+  writing ack (at_choice c) x = choice_writing ack c x
+  writing ack (at_turning c) x = choice_writing ack c x
   writing ack _ x = false
+
+  pub choice_writing : {again : Bool} {choices : Choices} {m : Mode} → (Line → Bool) → ChoiceAt again choices m → ℕ → Bool
+  choice_writing ack (control_at c) x = false
+  choice_writing ack (inside_at a w) x = chosen_writing ack a x
+
+  pub chosen_writing : {choices : Choices} {k : Mode} → (Line → Bool) → ChosenAt choices k → ℕ → Bool
+  chosen_writing ack (this_one a) x = writing ack a x
+  chosen_writing ack (another a) x = chosen_writing ack a x
 
   pub branches_writing : {members : Processes} {ks : List Mode} → (Line → Bool) → BranchesAt members ks → ℕ → Bool
   branches_writing ack no_more x = false
@@ -314,7 +368,17 @@ abbrev mutual
   Fits (at_turn t) env = TurnFits t env
   Fits (at_side m t b h) env = BranchesFit b env
   Fits (at_body a) env = Fits a env
+  Fits (at_choice x) env = ChoiceFits x env
+  Fits (at_turning x) env = ChoiceFits x env
   Fits _ env = Unit {0}
+
+  pub ChoiceFits : {again : Bool} {choices : Choices} {m : Mode} → ChoiceAt again choices m → Seen → Type 0
+  ChoiceFits (control_at {choices = choices} c) env = guards_good choices env.bit (control_ask c) (control_guards (low_guards choices) c) ≡ true
+  ChoiceFits (inside_at a w) env = ChosenFits a env
+
+  pub ChosenFits : {choices : Choices} {k : Mode} → ChosenAt choices k → Seen → Type 0
+  ChosenFits (this_one a) env = Fits a env
+  ChosenFits (another a) env = ChosenFits a env
 
   pub BranchesFit : {members : Processes} {ks : List Mode} → BranchesAt members ks → Seen → Type 0
   BranchesFit no_more env = Unit {0}
@@ -333,6 +397,18 @@ site_moves env k e m u (gate i one) = fires (gate_rule e env.bit (asks m) u i on
 
 abbrev pub port_moves : Seen → (c x : ℕ) → (m : Mode) → (kept : Bool) → Rails → PortSpot → Bool
 port_moves env c x m k q s = fires (port_rule (env.rail (of_channel c)) (env.ack (of_channel c)) (env.ack (of_var x)) (asks m) (port_of (acks m) k q) s)
+
+abbrev pub choice_own : {again : Bool} {choices : Choices} {m : Mode} → ChoiceAt again choices m → OwnSpot (choice_count choices) → Bool
+choice_own (control_at c) s = control_moves c s
+choice_own (inside_at a w) s = way_moves w (chosen_index a) s
+
+abbrev pub choice_round : {again : Bool} {choices : Choices} {m : Mode} → ChoiceAt again choices m → RoundSpot → Bool
+choice_round (control_at c) s = turning_moves c s
+choice_round (inside_at a w) s = way_turning w s
+
+abbrev pub choice_guard : {again : Bool} {choices : Choices} {m : Mode} → Seen → ChoiceAt again choices m → GuardSpot choices → Bool
+choice_guard env (control_at {choices = choices} c) s = fires (guards_rule choices env.bit (control_ask c) (control_guards (low_guards choices) c) s)
+choice_guard env (inside_at a w) s = false
 
 abbrev mutual
   pub guarded_moves : {p : Process} {m : Mode} → Seen → GuardedAt p m → GuardedSpot p → Bool
@@ -354,7 +430,25 @@ abbrev mutual
   moves env (at_side {members = members} {ks = ks} m t b h) (joint k) = joint_moves (member_count members) (ends ks) t k
   moves env (at_body {m = m} a) ask = if asks m then acks m else not (acks m)
   moves env (at_body a) (in_body s) = moves env a s
+  moves env (at_choice x) (of_core s) = choice_own x s
+  moves env (at_choice x) (of_guard s) = choice_guard env x s
+  moves env (at_choice x) (of_choice s) = choice_inner env x s
+  moves env (at_turning x) (of_core s) = choice_own x s
+  moves env (at_turning x) (of_guard s) = choice_guard env x s
+  moves env (at_turning x) (of_choice s) = choice_inner env x s
+  moves env (at_turning x) (of_round s) = choice_round x s
+  moves env (at_closing c) (of_core s) = closing_own c s
+  moves env (at_closing c) (of_round s) = closing_moves c s
   moves _ _ _ = false
+
+  pub choice_inner : {again : Bool} {choices : Choices} {m : Mode} → Seen → ChoiceAt again choices m → ChoiceSpot choices → Bool
+  choice_inner env (inside_at a w) s = chosen_moves env a s
+  choice_inner _ _ _ = false
+
+  pub chosen_moves : {choices : Choices} {k : Mode} → Seen → ChosenAt choices k → ChoiceSpot choices → Bool
+  chosen_moves env (this_one a) (this_choice s) = moves env a s
+  chosen_moves env (another a) (other_choice s) = chosen_moves env a s
+  chosen_moves _ _ _ = false
 
   pub branch_moves : {members : Processes} {ks : List Mode} → Seen → BranchesAt members ks → BranchSpot members → Bool
   branch_moves env (and_at g b) (in_this s) = guarded_moves env g s
@@ -389,12 +483,18 @@ mutual
   low_answer (assigning x at e) = refl
   low_answer (receiving c at x to) = refl
   low_answer (side_by_side members) = low_sides_answer members
-  low_answer (choosing again _) = refl
+  low_answer (choosing false _) = refl
+  low_answer (choosing true _) = refl
 
   pub low_turn_answer : (members : Processes) → turn_answer members (low_turn members) ≡ false
   low_turn_answer no_members = refl
   low_turn_answer (and_member p no_members) = low_answer p
   low_turn_answer (and_member p (and_member q more)) = low_turn_answer (and_member q more)
+
+pub low_choice_answers : (choices : Choices) → choice_answers choices (low_choices choices) ≡ low_bits (choice_count choices)
+low_choice_answers no_choices = refl
+low_choice_answers (and_choice g p more) = ap (λ (b : Bool). (b, choice_answers more (low_choices more))) (low_answer p)
+    ∙ ap (λ (y : Bits (choice_count more)). (false, y)) (low_choice_answers more)
 
 pub next_is : {p : Process} {m : Mode} (g : GuardedAt p m) → (guarded_cells g).next ≡ acks m
 next_is g_rests = refl
@@ -441,6 +541,13 @@ ends_at (and_at g b) (suc i) = ends_at b i
 pub ends_are : {members : Processes} {ks : List Mode} (b : BranchesAt members ks) → branch_ends members (branch_cells b) ≡ ends ks
 ends_are b = fun_ext (λ i. ends_at b i)
 
+control_acks : {again : Bool} {n : ℕ} {G : Type 0} {hs : G → Pairs n} {m : Mode} → Control again n G hs m → false ≡ acks m
+control_acks uncalled = refl
+control_acks called = refl
+control_acks (evaluating g) = refl
+control_acks (latched l i g h) = refl
+control_acks (leaving y l g h) = refl
+
 -- the answer of a place is that of its mode
 mutual
   pub answer_is : {p : Process} {m : Mode} (a : At p m) → answer p (cells a) ≡ acks m
@@ -453,12 +560,22 @@ mutual
   answer_is (at_side {members = members} m t b h) = ap (λ (f : ℕ → Bool). tree_answer (member_count members) f (bit_at (joint_count (member_count members)) t))
       (ends_are b) ∙ h.top
   answer_is (at_body a) = refl
+  answer_is (at_choice (control_at c)) = control_acks c
+  answer_is (at_choice (inside_at a w)) = refl
+  answer_is (at_turning x) = refl
+  answer_is (at_closing c) = refl
 
   pub turn_answer_is : {members : Processes} {m : Mode} (t : TurnAt members m) → turn_answer members (turn_cells t) ≡ acks m
   turn_answer_is {members = members} turn_rests = low_turn_answer members
   turn_answer_is (at_last a) = answer_is a
   turn_answer_is (at_member {q = q} {more = more} g) = low_turn_answer (and_member q more)
   turn_answer_is (at_later {k = k} {n = n} {m = m} g t h) = turn_answer_is t ∙ link_acks m k n h
+
+pub chosen_answers : {choices : Choices} {k : Mode} (a : ChosenAt choices k) → choice_answers choices (chosen_cells a) ≡ hot (chosen_index a) (acks k)
+chosen_answers (this_one {more = more} {k = k} a) = ap (λ (b : Bool). (b, choice_answers more (low_choices more))) (answer_is a)
+    ∙ ap (λ (y : Bits (choice_count more)). (acks k, y)) (low_choice_answers more)
+chosen_answers (another {p = p} {more = more} a) = ap (λ (b : Bool). (b, choice_answers more (chosen_cells a))) (low_answer p)
+    ∙ ap (λ (y : Bits (choice_count more)). (false, y)) (chosen_answers a)
 
 -- nothing can move where the handshake rests
 low_site_quiet : (e : Formula) (bits : ℕ → Rails) (ack : Bool) (s : SiteSpot e) → fires (site_rule e bits ack false (low_site e) s) ≡ false
@@ -469,6 +586,35 @@ low_port_quiet : (rail : Rails) (ack va : Bool) (s : PortSpot) → fires (port_r
 low_port_quiet rail ack va heard = refl
 low_port_quiet rail ack va stored = refl
 low_port_quiet rail ack va (taking i one) = refl
+
+-- nor do gates of guards, whose heads are low
+pub low_guards_quiet : (choices : Choices) (bits : ℕ → Rails) (s : GuardSpot choices) → fires (guards_rule choices bits false (low_guards choices) s) ≡ false
+low_guards_quiet (and_choice g p more) bits (this_gate i one) = low_gate_quiet g bits i one
+low_guards_quiet (and_choice g p more) bits (other_gate s) = low_guards_quiet more bits s
+low_guards_quiet no_choices bits s = elim s [ ]
+
+low_head : (e : Formula) → guard_head e (low_pairs (gate_count e)) ≡ pair_of false false
+low_head e = ap (λ b. pair_of b (out_rail e (low_pairs (gate_count e)) 0 false)) (low_out e 0 true) ∙ ap (λ b. pair_of false b) (low_out e 0 false)
+
+pub low_neutral : (choices : Choices) → all_neutral (choice_count choices) (heads choices (low_guards choices)) ≡ true
+low_neutral no_choices = refl
+low_neutral (and_choice g p more) = ap (λ (h : Pair). not h.t && (not h.f && all_neutral (choice_count more) (heads more (low_guards more)))) (low_head g)
+    ∙ low_neutral more
+
+-- of a core at rest, as of one that isn't asked
+low_core_quiet : (choices : Choices) (s : OwnSpot (choice_count choices))
+    → fires (core_rule false false (heads choices (low_guards choices)) (choice_answers choices (low_choices choices)) (low_core choices (low_choices choices)) s)
+    ≡ false
+low_core_quiet choices s =
+    ap (λ (y : Bits (choice_count choices)). fires (core_rule false false (heads choices (low_guards choices)) y (low_core choices (low_choices choices)) s))
+    (low_choice_answers choices)
+    ∙ control_can_is {again = false} {heads = heads choices} (low_guards choices) (low_choices choices) (low_neutral choices) uncalled s
+
+low_round_quiet : (choices : Choices) (s : RoundSpot)
+    → fires (turning_rule false (heads choices (low_guards choices)) (turning_of false false false (low_core choices (low_choices choices))) s) ≡ false
+low_round_quiet choices of_answer = refl
+low_round_quiet choices of_turn = refl
+low_round_quiet choices of_leave = neutral_over (choice_count choices) (heads choices (low_guards choices)) (low_neutral choices)
 
 mutual
   pub low_guarded_quiet : (p : Process) (env : Seen) (s : GuardedSpot p) → fires (guarded_rule p env false (low_guarded (low p)) s) ≡ false
@@ -491,7 +637,19 @@ mutual
       let n = member_count members in
       joint_quiet n (branch_ends members (low_branches members)) (bit_at (joint_count n) (low_bits (joint_count n))) (low_end members)
       (low_bit (joint_count n)) k
-  low_quiet (choosing again _) env s = refl
+  low_quiet (choosing false choices) env (of_core s) = low_core_quiet choices s
+  low_quiet (choosing false choices) env (of_guard s) = low_guards_quiet choices env.bit s
+  low_quiet (choosing false choices) env (of_choice s) = low_choice_quiet choices env s
+  low_quiet (choosing true choices) env (of_core s) = low_core_quiet choices s
+  low_quiet (choosing true choices) env (of_guard s) = low_guards_quiet choices env.bit s
+  low_quiet (choosing true choices) env (of_choice s) = low_choice_quiet choices env s
+  low_quiet (choosing true choices) env (of_round s) = low_round_quiet choices s
+
+  pub low_choice_quiet : (choices : Choices) (env : Seen) (s : ChoiceSpot choices)
+      → fires (choice_rule choices env (low_bits (choice_count choices)) (low_choices choices) s) ≡ false
+  low_choice_quiet no_choices env s = refl
+  low_choice_quiet (and_choice g p more) env (this_choice s) = low_quiet p env s
+  low_choice_quiet (and_choice g p more) env (other_choice s) = low_choice_quiet more env s
 
   pub low_branch_quiet : (members : Processes) (env : Seen) (s : BranchSpot members) → fires (branch_rule members env false (low_branches members) s) ≡ false
   low_branch_quiet no_members env s = refl
@@ -509,6 +667,48 @@ site_can_is : (env : Seen) (k : Line) (e : Formula) (m : Mode) (u : Pairs (gate_
     → fires (site_rule e env.bit (env.ack k) (asks m) (site_of e (acks m) u) s) ≡ site_moves env k e m u s
 site_can_is env k e m u done = refl
 site_can_is env k e m u (gate i one) = refl
+
+no_leave : {choices : Choices} {m : Mode} (x : ChoiceAt false choices m) → choice_leave x ≡ false
+no_leave (control_at uncalled) = refl
+no_leave (control_at called) = refl
+no_leave (control_at (evaluating g)) = refl
+no_leave (control_at (latched l i g h)) = refl
+no_leave (control_at (leaving y l g h)) = absurd (cc y)
+no_leave (inside_at a w) = refl
+
+-- of the own nodes of a core, and of those round it
+choice_own_is : {again : Bool} {choices : Choices} {m : Mode} (x : ChoiceAt again choices m) (s : OwnSpot (choice_count choices))
+    → fires (core_rule (asks m) (choice_leave x) (heads choices (choice_cells x).guards) (choice_answers choices (choice_cells x).branches) (choice_cells x) s)
+    ≡ choice_own x s
+choice_own_is {choices = choices} {m = m} (control_at c) s =
+    ap (λ (y : Bits (choice_count choices)). fires (core_rule (asks m) (control_leave c) (heads choices (control_guards (low_guards choices) c)) y
+    (control_cells (low_guards choices) (low_choices choices) c) s)) (low_choice_answers choices)
+    ∙ control_can_is (low_guards choices) (low_choices choices) (low_neutral choices) c s
+choice_own_is {choices = choices} {m = m} (inside_at a w) s =
+    ap (λ (y : Bits (choice_count choices)). fires (core_rule (asks m) false (heads choices (low_guards choices)) y
+    (way_cells (low_guards choices) (chosen_index a) (chosen_cells a) w) s)) (chosen_answers a)
+    ∙ way_can_is (low_guards choices) (heads choices (low_guards choices)) (chosen_cells a) (low_neutral choices) w (chosen_index a) s
+
+choice_round_is : {again : Bool} {choices : Choices} {m : Mode} (x : ChoiceAt again choices m) (s : RoundSpot)
+    → fires (turning_rule true (heads choices (choice_cells x).guards) (turning_of false (asks m) (choice_leave x) (choice_cells x)) s) ≡ choice_round x s
+choice_round_is {choices = choices} (control_at c) s = turning_can_is (low_guards choices) (low_choices choices) (low_neutral choices) c s
+choice_round_is {choices = choices} (inside_at a w) s =
+    way_turning_is (low_guards choices) (heads choices (low_guards choices)) (chosen_cells a) (low_neutral choices) w (chosen_index a) s
+
+choice_guard_is : {again : Bool} {choices : Choices} {m : Mode} (env : Seen) (x : ChoiceAt again choices m) (s : GuardSpot choices)
+    → fires (guards_rule choices env.bit (choice_cells x).ask (choice_cells x).guards s) ≡ choice_guard env x s
+choice_guard_is env (control_at c) s = refl
+choice_guard_is {choices = choices} env (inside_at a w) s = low_guards_quiet choices env.bit s
+
+closing_is : (choices : Choices) {m : Mode} (c : Closing m) (s : OwnSpot (choice_count choices))
+    → fires (core_rule (closing_turn c) (closing_leave c) (heads choices (low_guards choices)) (choice_answers choices (low_choices choices))
+    (core_of false false (closing_any c) (low_bits (choice_count choices)) (low_bits (choice_count choices)) (low_guards choices) (low_choices choices)) s)
+    ≡ closing_own c s
+closing_is choices c s =
+    ap (λ (y : Bits (choice_count choices)). fires (core_rule (closing_turn c) (closing_leave c) (heads choices (low_guards choices)) y
+    (core_of {B = ChoiceCells choices} false false (closing_any c) (low_bits (choice_count choices)) (low_bits (choice_count choices)) (low_guards choices)
+    (low_choices choices)) s)) (low_choice_answers choices)
+    ∙ closing_own_is (low_guards choices) (heads choices (low_guards choices)) (low_choices choices) (low_neutral choices) c s
 
 mutual
   pub guarded_can_is : {p : Process} {m : Mode} (env : Seen) (g : GuardedAt p m) (s : GuardedSpot p)
@@ -544,6 +744,32 @@ mutual
   can_is env (at_body a) of_loop = refl
   can_is env (at_body {m = m} a) ask = ap (λ d. if asks m then d else not d) (answer_is a)
   can_is env (at_body a) (in_body s) = can_is env a s
+  can_is {m = m} env (at_choice {choices = choices} x) (of_core s) =
+      ap (λ v. fires (core_rule (asks m) v (heads choices (choice_cells x).guards) (choice_answers choices (choice_cells x).branches) (choice_cells x) s))
+      (sym (no_leave x)) ∙ choice_own_is x s
+  can_is env (at_choice x) (of_guard s) = choice_guard_is env x s
+  can_is env (at_choice x) (of_choice s) = choice_inner_is env x s
+  can_is env (at_turning {m = m} x) (of_core s) = choice_own_is x s
+  can_is env (at_turning x) (of_guard s) = choice_guard_is env x s
+  can_is env (at_turning x) (of_choice s) = choice_inner_is env x s
+  can_is env (at_turning x) (of_round s) = choice_round_is x s
+  can_is env (at_closing {choices = choices} c) (of_core s) = closing_is choices c s
+  can_is env (at_closing {choices = choices} c) (of_guard s) = low_guards_quiet choices env.bit s
+  can_is env (at_closing {choices = choices} c) (of_choice s) = low_choice_quiet choices env s
+  can_is env (at_closing {choices = choices} c) (of_round s) =
+      closing_can_is (choice_count choices) (low_guards choices) (heads choices (low_guards choices)) (low_choices choices) (low_neutral choices) c s
+
+  pub choice_inner_is : {again : Bool} {choices : Choices} {m : Mode} (env : Seen) (x : ChoiceAt again choices m) (s : ChoiceSpot choices)
+      → fires (choice_rule choices env (choice_cells x).started (choice_cells x).branches s) ≡ choice_inner env x s
+  choice_inner_is {choices = choices} env (control_at c) s = low_choice_quiet choices env s
+  choice_inner_is env (inside_at a w) s = chosen_can_is env a s
+
+  pub chosen_can_is : {choices : Choices} {k : Mode} (env : Seen) (a : ChosenAt choices k) (s : ChoiceSpot choices)
+      → fires (choice_rule choices env (hot (chosen_index a) (asks k)) (chosen_cells a) s) ≡ chosen_moves env a s
+  chosen_can_is env (this_one a) (this_choice s) = can_is env a s
+  chosen_can_is env (this_one {more = more} a) (other_choice s) = low_choice_quiet more env s
+  chosen_can_is env (another {p = p} a) (this_choice s) = low_quiet p env s
+  chosen_can_is env (another a) (other_choice s) = chosen_can_is env a s
 
   pub branch_can_is : {members : Processes} {ks : List Mode} (env : Seen) (r : Bool) (b : BranchesAt members ks) → all_ask r ks ≡ true
       → (s : BranchSpot members) → fires (branch_rule members env r (branch_cells b) s) ≡ branch_moves env b s

@@ -1,23 +1,32 @@
 -- Where none of its nodes moves, a statement is done, or waits for an acknowledge.
-use Rattle.std.proofs.Common.{◌≡◌, ◌≢◌, ℕ, zero, suc, ◌<◌, ◌≤◌, ◌==◌, Bool, true, false, List, ◌∷◌, refl, sym, ap, ◌∙◌, subst}
+use Rattle.std.proofs.Common.{◌≡◌, ◌≢◌, ℕ, zero, suc, ◌<◌, ◌≤◌, ◌==◌, Bool, true, false, List, [], ◌∷◌, refl, sym, ap, ◌∙◌, subst}
 use Rattle.std.specs.Prelude.{not, ◌&&◌, ◌||◌, if◌then◌else◌, Some, is_some}
 use Rattle.chp_base.specs.declared.span.Span.{Span}
-use Rattle.width_check.specs.Processes.{Formula, Process, assigning, sending, receiving, side_by_side, Processes, and_member, member_count, TypedProgram}
+use Rattle.width_check.specs.Processes.{Formula, Process, assigning, sending, receiving, side_by_side, Processes, and_member, member_count, TypedProgram, choosing, Choices, choice_count, no_members}
 use Rattle.chp_meaning.specs.Terms.{Term, Terms, and_branch, is_finished, all_finished, together, finished, active, in_sequence, in_parallel, followed, Place, here as at_here, in_first, in_branch, statement_at, branch_at}
 use Rattle.circuit_places.specs.Lines.{Line, of_channel, of_var, same_line, line_width, Rails, Seen}
-use Rattle.circuit_places.specs.Circuit.{Pairs, gate_count, SiteSpot, PortSpot, heard, stored, taking, Bits, bit_at, joint_count, same_bit, GuardedSpot, Spot, TurnSpot, BranchSpot, child, latch, next, inner, of_skip, done, gate, of_assign, of_send, of_receive, in_members, of_branch, joint, in_this, in_others, ask, in_body, in_last, in_member, in_later}
+use Rattle.circuit_places.specs.Circuit.{Pairs, gate_count, SiteSpot, PortSpot, heard, stored, taking, Bits, bit_at, joint_count, same_bit, GuardedSpot, Spot, TurnSpot, BranchSpot, child, latch, next, inner, of_skip, done, gate, of_assign, of_send, of_receive, in_members, of_branch, joint, in_this, in_others, ask, in_body, in_last, in_member, in_later, fires, GuardCells, low_guards, GuardSpot, ChoiceSpot, this_choice, other_choice, of_core, of_guard, of_choice, of_round, heads, guards_rule, guards_good}
 use Rattle.width_check.specs.Typing.{var_width}
 use Rattle.function_blocks.specs.Waves.{out_rail}
 use Rattle.circuit_places.specs.Whole.{is_merged, value_on}
 use Rattle.circuit_places.proofs.RailLemmas.{fst_true, snd_true, same_value, both_true, never_and, value_same, empty_low}
-use Rattle.circuit_places.proofs.Places.{Mode, idle, running, answered, returning, asks, acks, SiteMay, all_ask, all_ack, ends, SideMay, GuardedAt, At, TurnAt, BranchesAt, g_rests, g_in, g_past, g_back, rests, at_skip, at_assign, at_send, at_receive, at_turn, at_side, at_body, no_more, and_at, turn_rests, at_last, at_member, at_later, Shown, both_shown, guarded_shown, shown, turn_shown, branches_shown, site_shown, site_moves, SiteFits, port_may, port_shown, port_moves, GuardedFits, Fits, TurnFits, BranchesFit, guarded_moves, moves, turn_moves, branch_moves}
-use Rattle.circuit_places.proofs.Meets.{HasLine, SiteMeets, PortMeets, Meets, TurnMeets, EachMeets}
-use Rattle.circuit_places.proofs.Left.{waits, again, guarded_left, left, turn_left, branches_left, guarded_left_past, inside_stands, some_stands}
-use Rattle.circuit_places.proofs.Flow.{low_of, or_left, or_right}
+use Rattle.circuit_places.proofs.Places.{Mode, idle, running, answered, returning, asks, acks, SiteMay, all_ask, all_ack, ends, SideMay, GuardedAt, At, TurnAt, BranchesAt, g_rests, g_in, g_past, g_back, rests, at_skip, at_assign, at_send, at_receive, at_turn, at_side, at_body, no_more, and_at, turn_rests, at_last, at_member, at_later, Shown, both_shown, guarded_shown, shown, turn_shown, branches_shown, site_shown, site_moves, SiteFits, port_may, port_shown, port_moves, GuardedFits, Fits, TurnFits, BranchesFit, guarded_moves, moves, turn_moves, branch_moves, at_choice, at_turning, at_closing, control_at, inside_at, ChosenAt, this_one, another, chosen_index, chosen_shown, ChosenFits, chosen_moves, guards_shown}
+use Rattle.circuit_places.proofs.Meets.{HasLine, SiteMeets, PortMeets, Meets, TurnMeets, EachMeets, GuardsMeet, ChoiceMeets}
+use Rattle.circuit_places.proofs.Left.{waits, again, guarded_left, left, turn_left, branches_left, guarded_left_past, inside_stands, some_stands, branch_term, control_left, chosen_left, open_by}
+use Rattle.circuit_places.proofs.Flow.{low_of, or_left, or_right, Clean}
 use Rattle.circuit_places.proofs.LineNames.{self_number, self_line}
 use Rattle.circuit_places.proofs.Begin.{ends_high}
 use Rattle.circuit_places.proofs.Talks.{Beside, beside, or_false_left, or_false_right}
 use Rattle.circuit_places.proofs.Trees.{waits_on}
+use Rattle.function_blocks.specs.Rails.{number_on}
+use Rattle.circuit_places.specs.Cores.{OwnSpot, RoundSpot, of_joined, of_any, of_latch, of_start, of_answer, of_turn, of_leave}
+use Rattle.circuit_places.proofs.HeadFacts.{bit_hot}
+use Rattle.circuit_places.proofs.CoreControl.{Control, uncalled, Way, works, worked, reported, letting, backs, told_all, lets_turn, lets_leave, lets_any, lets_answer, control_ask, control_guards, control_moves, turning_moves, way_moves, way_turning}
+use Rattle.circuit_places.proofs.CoreMoves.{CoreSpot, own, guard, branch, in_control, core_moves}
+use Rattle.circuit_places.proofs.CorePromises.{CoreRest, core_settled, stuck, core_rest}
+use Rattle.circuit_places.proofs.GuardWaves.{guards_of, guards_arrive}
+use Rattle.circuit_places.proofs.Opens.{open_stuck, open_some}
+use Rattle.circuit_places.proofs.ChoiceMoves.{choice_branches, agreed}
 
 -- A site of the line holds a number's rails, and the acknowledge is low.
 pub record Full (P : TypedProgram) (k : Line) (env : Seen) (x : Shown) : Type 0 where
@@ -46,16 +55,33 @@ pub record Releasing (P : TypedProgram) (c v : ℕ) (env : Seen) (x : Shown) : T
   pub all : (i : ℕ) (one : Bool) → x.offer (of_var v) i one ≡ true → env.rail (of_channel c) i one ≡ true
   pub has : x.take c ≡ true → env.ack (of_var v) ≡ true
 
--- a send or a receive that waits
+-- the store has the numbers on the rails of what is read
+abbrev pub AgreesOn : Seen → (read : ℕ → Bool) → (store : ℕ → ℕ) → Type 0
+AgreesOn env read store = (x : ℕ) → read x ≡ true → number_on (env.width (of_var x)) (env.bit x) ≡ store x
+
+-- A selection of which no branch alone is open, and which doesn't end.
+pub record Undecided (again : Bool) (choices : Choices) (env : Seen) (read : ℕ → Bool) : Type 0 where
+  pub one : (store : ℕ → ℕ) → AgreesOn env read store → (p : Process) → open_by store choices ≢ p ∷ []
+  pub some : again ≡ true → (store : ℕ → ℕ) → AgreesOn env read store → open_by store choices ≢ []
+
+pub undecided_wider : (again : Bool) (choices : Choices) (env : Seen) (read more : ℕ → Bool) → ((x : ℕ) → read x ≡ true → more x ≡ true)
+    → Undecided again choices env read → Undecided again choices env more
+undecided_wider again choices env read more within b = record {
+  one = λ store agree. b.one store (λ x h. agree x (within x h));
+  some = λ e store agree. b.some e store (λ x h. agree x (within x h));
+}
+
+-- a send, a receive or a selection that waits
 pub data Blocked (P : TypedProgram) (s : Process) (env : Seen) (x : Shown) : Type 0 where
   a_send : (c : ℕ) (at : Span) (e : Formula) → Full P (of_channel c) env x → s ≡ sending c at e → Blocked P s env x
   a_receive : (c v : ℕ) (at to : Span) → Listening P c v env x → s ≡ receiving c at v to → Blocked P s env x
+  a_choice : (again : Bool) (choices : Choices) → Undecided again choices env x.read → s ≡ choosing again choices → Blocked P s env x
 
 -- each bit of each variable has a rail high
 abbrev pub Valid : TypedProgram → Seen → Type 0
 Valid P env = (v i : ℕ) → i < var_width P.vars v → (env.bit v i true || env.bit v i false) ≡ true
 
--- each statement that the term might go on with is such a send
+-- each statement that the term might go on with is such a one
 pub record Waiting (P : TypedProgram) (t : Term) (env : Seen) (x : Shown) : Type 0 where
   pub going : t ≢ finished
   pub blocked : (at : Place) (s : Process) → statement_at t at ≡ Some s → Blocked P s env x
@@ -251,6 +277,8 @@ module _ {p : Process} {more : Processes} (P : TypedProgram) (env : Seen) (x y :
     all = λ i one h. or_left (x.offer (of_var v) i one) (y.offer (of_var v) i one) (l.all i one h);
     has = λ h. or_left (x.take c) (y.take c) (l.has h);
   }) is
+  this_blocked q (a_choice again choices b is) = a_choice again choices (undecided_wider again choices env x.read (λ v. x.read v || y.read v)
+      (λ v h. or_left (x.read v) (y.read v) h) b) is
 
   others_blocked : (q : Process) → Blocked P q env y → Blocked P q env (both_shown x y)
   others_blocked q (a_send c at e site is) = a_send c at e (others_full (of_channel c) site) is
@@ -262,6 +290,8 @@ module _ {p : Process} {more : Processes} (P : TypedProgram) (env : Seen) (x y :
     all = λ i one h. or_right (x.offer (of_var v) i one) (y.offer (of_var v) i one) (l.all i one h);
     has = λ h. or_right (x.take c) (y.take c) (l.has h);
   }) is
+  others_blocked q (a_choice again choices b is) = a_choice again choices (undecided_wider again choices env y.read (λ v. x.read v || y.read v)
+      (λ v h. or_right (x.read v) (y.read v) h) b) is
 
   this_hangs : Hanging P env x → Hanging P env (both_shown x y)
   this_hangs (unstored v f) = unstored v (this_full (of_var v) f)
@@ -396,69 +426,165 @@ guarded_over {k = running} ack g a e = absurd (cc e)
 guarded_over {k = idle} ack g a e = absurd (cc a)
 guarded_over {k = returning} ack g a e = absurd (cc a)
 
+-- a selection that nothing more happens in, where no branch is under way
+still_choice : (P : TypedProgram) (env : Seen) (again : Bool) (choices : Choices) (x : Shown) → Undecided again choices env x.read
+    → Waiting P (active (choosing again choices)) env x
+still_choice P env again choices x b = record { going = λ e. cc e; blocked = blocked }
+  where
+    blocked : (place : Place) (s : Process) → statement_at (active (choosing again choices)) place ≡ Some s → Blocked P s env x
+    blocked at_here s e = a_choice again choices b (same e)
+      where
+        same : Some (choosing again choices) ≡ Some s → s ≡ choosing again choices
+        same e = cc e
+    blocked (in_first place) s e = absurd (cc e)
+    blocked (in_branch k place) s e = absurd (cc e)
+
+control_rest : (P : TypedProgram) {m : Mode} (env : Seen) (clean : Clean P env) → Valid P env → (again : Bool) (choices : Choices) → 1 ≤ choice_count choices
+    → GuardsMeet P choices → (c : Control again (choice_count choices) (GuardCells choices) (heads choices) m)
+    → guards_good choices env.bit (control_ask c) (control_guards (low_guards choices) c) ≡ true
+    → ((s : OwnSpot (choice_count choices)) → control_moves c s ≡ false)
+    → ((s : GuardSpot choices) → fires (guards_rule choices env.bit (control_ask c) (control_guards (low_guards choices) c) s) ≡ false)
+    → (again ≡ true → (t : RoundSpot) → turning_moves c t ≡ false) → Rest P m (control_left again choices c) env (guards_shown (control_ask c) choices)
+control_rest P {m = m} env clean valid again choices some laws c f s q t =
+    by_core c (core_rest (guards_of P env.bit clean.single choices laws) (choice_branches P env clean choices)
+    (guards_arrive P env.bit clean.single valid choices laws) (in_control c) f moved t)
+  where
+    moved : (p : CoreSpot (choice_count choices) (GuardSpot choices) (ChoiceSpot choices))
+        → core_moves (guards_of P env.bit clean.single choices laws) (choice_branches P env clean choices) (in_control c) p ≡ false
+    moved (own p) = s p
+    moved (guard p) = q p
+    moved (branch p) = refl
+
+    by_core : {m : Mode} (c : Control again (choice_count choices) (GuardCells choices) (heads choices) m)
+        → CoreRest again (guards_of P env.bit clean.single choices laws) (choice_branches P env clean choices) m (in_control c)
+        → Rest P m (control_left again choices c) env (guards_shown (control_ask c) choices)
+    by_core _ (stuck g good full none on) = waiting refl (still_choice P env again choices (guards_shown true choices) (record {
+      one = λ store agree. open_stuck P env.bit clean.single store choices laws
+          (agreed P env clean choices laws (guards_shown true choices).read (λ x h. h) store agree) g good full none;
+      some = λ e store agree. open_some P env.bit clean.single store choices laws
+          (agreed P env clean choices laws (guards_shown true choices).read (λ x h. h) store agree) some g good full (on e);
+    }))
+    by_core c (core_settled e) = settled (sym e)
+
+-- and one where a branch is
+branch_rest : (P : TypedProgram) {m k : Mode} (env : Seen) (again : Bool) (choices : Choices) (a : ChosenAt choices k) (w : Way m k)
+    → ((s : OwnSpot (choice_count choices)) → way_moves w (chosen_index a) s ≡ false) → Rest P k (chosen_left env.ack a) env (chosen_shown a)
+    → Rest P m (branch_term again choices (chosen_left env.ack a)) env (chosen_shown a)
+branch_rest P env false choices a works n r = r
+branch_rest P env true choices a works n r =
+    running_rest P (chosen_left env.ack a) (followed (chosen_left env.ack a) (and_member (choosing true choices) no_members)) env (chosen_shown a)
+    (λ z. waiting_then P (and_member (choosing true choices) no_members) (chosen_left env.ack a) env (chosen_shown a) z) r
+branch_rest P env again choices a worked n r = absurd (cc (n of_joined))
+branch_rest P env again choices a reported n r = settled refl
+branch_rest P env again choices a letting n r = absurd (cc (bit_hot (chosen_index a) true, n (of_latch (chosen_index a))))
+branch_rest P env again choices a (backs true h) n r = absurd (cc (n of_any))
+branch_rest P {k = idle} env again choices a (backs false h) n r = absurd (cc (n of_joined))
+branch_rest P {k = running} env again choices a (backs false h) n r = absurd (cc h)
+branch_rest P {k = answered} env again choices a (backs false h) n r = absurd (cc (bit_hot (chosen_index a) true, n (of_start (chosen_index a))))
+branch_rest P {k = returning} env again choices a (backs false h) n r =
+    returning_rest P returning (chosen_left env.ack a) (branch_term again choices (chosen_left env.ack a)) env (chosen_shown a) r
+
+-- the same of a repetition, whose turn it is
+turning_rest : (P : TypedProgram) (m : Mode) (env : Seen) (choices : Choices) (d : Control true (choice_count choices) (GuardCells choices) (heads choices) m)
+    → ((t : RoundSpot) → turning_moves d t ≡ false) → Rest P m (control_left true choices d) env (guards_shown (control_ask d) choices)
+    → Rest P running (control_left true choices d) env (guards_shown (control_ask d) choices)
+turning_rest P running env choices d t r = r
+turning_rest P idle env choices uncalled t r = absurd (cc (t of_turn))
+turning_rest P answered env choices d t r = elim d [ ]
+turning_rest P returning env choices d t r = elim d [ ]
+
+turned_rest : (P : TypedProgram) {m k : Mode} (env : Seen) (choices : Choices) (a : ChosenAt choices k) (w : Way m k)
+    → ((t : RoundSpot) → way_turning w t ≡ false) → Rest P m (branch_term true choices (chosen_left env.ack a)) env (chosen_shown a)
+    → Rest P running (branch_term true choices (chosen_left env.ack a)) env (chosen_shown a)
+turned_rest P {m = running} env choices a w t r = r
+turned_rest P env choices a reported t r = absurd (cc (t of_turn))
+turned_rest P {m = returning} env choices a w t r =
+    returning_rest P running (branch_term true choices (chosen_left env.ack a)) (branch_term true choices (chosen_left env.ack a)) env (chosen_shown a) r
+
 mutual
-  pub guarded_rest : (P : TypedProgram) {p : Process} {m : Mode} (env : Seen) → Valid P env → (g : GuardedAt p m) → Meets P p → GuardedFits g env
+  pub guarded_rest : (P : TypedProgram) {p : Process} {m : Mode} (env : Seen) → Clean P env → Valid P env → (g : GuardedAt p m) → Meets P p → GuardedFits g env
       → ((s : GuardedSpot p) → guarded_moves env g s ≡ false) → Rest P m (guarded_left env.ack g) env (guarded_shown g)
-  guarded_rest P env valid g_rests meets f n = settled refl
-  guarded_rest P env valid g_past meets f n = settled refl
-  guarded_rest P env valid (g_back true) meets f n = absurd (cc (n latch))
-  guarded_rest P env valid (g_back false) meets f n = absurd (cc (n next))
-  guarded_rest P env valid (g_in {m = idle} false a h) meets f n = absurd (cc (n child))
-  guarded_rest P env valid (g_in {m = running} false a h) meets f n = rest P env valid a meets f (λ s. n (inner s))
-  guarded_rest P env valid (g_in {m = answered} false a h) meets f n = absurd (cc (n latch))
-  guarded_rest P env valid (g_in {m = idle} true a h) meets f n = absurd (cc (n next))
-  guarded_rest P env valid (g_in {m = answered} true a h) meets f n = absurd (cc (n child))
-  guarded_rest P env valid (g_in {m = returning} true a h) meets f n = returning_rest P running (left env.ack a) finished env (shown a)
-      (rest P env valid a meets f (λ s. n (inner s)))
-  guarded_rest P env valid (g_in {m = running} true a h) meets f n = absurd (cc h)
-  guarded_rest P env valid (g_in {m = returning} false a h) meets f n = absurd (cc h)
+  guarded_rest P env clean valid g_rests meets f n = settled refl
+  guarded_rest P env clean valid g_past meets f n = settled refl
+  guarded_rest P env clean valid (g_back true) meets f n = absurd (cc (n latch))
+  guarded_rest P env clean valid (g_back false) meets f n = absurd (cc (n next))
+  guarded_rest P env clean valid (g_in {m = idle} false a h) meets f n = absurd (cc (n child))
+  guarded_rest P env clean valid (g_in {m = running} false a h) meets f n = rest P env clean valid a meets f (λ s. n (inner s))
+  guarded_rest P env clean valid (g_in {m = answered} false a h) meets f n = absurd (cc (n latch))
+  guarded_rest P env clean valid (g_in {m = idle} true a h) meets f n = absurd (cc (n next))
+  guarded_rest P env clean valid (g_in {m = answered} true a h) meets f n = absurd (cc (n child))
+  guarded_rest P env clean valid (g_in {m = returning} true a h) meets f n = returning_rest P running (left env.ack a) finished env (shown a)
+      (rest P env clean valid a meets f (λ s. n (inner s)))
+  guarded_rest P env clean valid (g_in {m = running} true a h) meets f n = absurd (cc h)
+  guarded_rest P env clean valid (g_in {m = returning} false a h) meets f n = absurd (cc h)
 
-  pub rest : (P : TypedProgram) {p : Process} {m : Mode} (env : Seen) → Valid P env → (a : At p m) → Meets P p → Fits a env
+  pub rest : (P : TypedProgram) {p : Process} {m : Mode} (env : Seen) → Clean P env → Valid P env → (a : At p m) → Meets P p → Fits a env
       → ((s : Spot p) → moves env a s ≡ false) → Rest P m (left env.ack a) env (shown a)
-  rest P env valid rests meets f n = settled refl
-  rest P env valid (at_skip idle h) meets f n = absurd (cc h)
-  rest P env valid (at_skip running h) meets f n = absurd (cc (n of_skip))
-  rest P env valid (at_skip answered h) meets f n = settled refl
-  rest P env valid (at_skip returning h) meets f n = absurd (cc (n of_skip))
-  rest P env valid (at_assign {x = x} {at = at} {e = e} m u h) meets f n = assign_rest P env valid x at e m u h meets f (λ s. n (of_assign s))
-  rest P env valid (at_send {c = c} {at = at} {e = e} m u h) meets f n = send_rest P env valid c at e m u h meets f (λ s. n (of_send s))
-  rest P env valid (at_receive {c = c} {x = x} {at = at} {to = to} m l q h) meets f n = receive_rest P env c x at to m l q h meets (λ s. n (of_receive s))
-  rest P env valid (at_turn t) meets f n = turn_rest P env valid t meets f (λ s. n (in_members s))
-  rest P env valid (at_side idle t b h) meets f n = absurd (cc h.awake)
-  rest P env valid (at_side answered t b h) meets f n = settled refl
-  rest P env valid (at_side returning t b h) meets f n = absurd (no_end P env t b returning h n false
+  rest P env clean valid rests meets f n = settled refl
+  rest P env clean valid (at_skip idle h) meets f n = absurd (cc h)
+  rest P env clean valid (at_skip running h) meets f n = absurd (cc (n of_skip))
+  rest P env clean valid (at_skip answered h) meets f n = settled refl
+  rest P env clean valid (at_skip returning h) meets f n = absurd (cc (n of_skip))
+  rest P env clean valid (at_assign {x = x} {at = at} {e = e} m u h) meets f n = assign_rest P env valid x at e m u h meets f (λ s. n (of_assign s))
+  rest P env clean valid (at_send {c = c} {at = at} {e = e} m u h) meets f n = send_rest P env valid c at e m u h meets f (λ s. n (of_send s))
+  rest P env clean valid (at_receive {c = c} {x = x} {at = at} {to = to} m l q h) meets f n = receive_rest P env c x at to m l q h meets (λ s. n (of_receive s))
+  rest P env clean valid (at_turn t) meets f n = turn_rest P env clean valid t meets f (λ s. n (in_members s))
+  rest P env clean valid (at_side idle t b h) meets f n = absurd (cc h.awake)
+  rest P env clean valid (at_side answered t b h) meets f n = settled refl
+  rest P env clean valid (at_side returning t b h) meets f n = absurd (no_end P env t b returning h n false
       (λ i less. ends_gone env b h.asked (λ s. n (of_branch s)) i) refl)
-  rest P env valid (at_side running t b h) meets f n = sides_rest P env t b h n (branches_rest P env valid b meets.2 f h.asked (λ s. n (of_branch s)))
-  rest P env valid (at_body {m = idle} a) meets f n = absurd (cc (n ask))
-  rest P env valid (at_body {p = p} {m = running} a) meets f n = running_rest P (left env.ack a) (followed (left env.ack a) (again p)) env (shown a)
-      (λ r. waiting_then P (again p) (left env.ack a) env (shown a) r) (rest P env valid a meets f (λ s. n (in_body s)))
-  rest P env valid (at_body {m = answered} a) meets f n = absurd (cc (n ask))
-  rest P env valid (at_body {p = p} {m = returning} a) meets f n = returning_rest P running (left env.ack a) (followed (left env.ack a) (again p)) env (shown a)
-      (rest P env valid a meets f (λ s. n (in_body s)))
+  rest P env clean valid (at_side running t b h) meets f n = sides_rest P env t b h n (branches_rest P env clean valid b meets.2 f h.asked (λ s. n (of_branch s)))
+  rest P env clean valid (at_body {m = idle} a) meets f n = absurd (cc (n ask))
+  rest P env clean valid (at_body {p = p} {m = running} a) meets f n = running_rest P (left env.ack a) (followed (left env.ack a) (again p)) env (shown a)
+      (λ r. waiting_then P (again p) (left env.ack a) env (shown a) r) (rest P env clean valid a meets f (λ s. n (in_body s)))
+  rest P env clean valid (at_body {m = answered} a) meets f n = absurd (cc (n ask))
+  rest P env clean valid (at_body {p = p} {m = returning} a) meets f n = returning_rest P running (left env.ack a) (followed (left env.ack a) (again p)) env (shown a)
+      (rest P env clean valid a meets f (λ s. n (in_body s)))
+  rest P env clean valid (at_choice {choices = choices} (control_at c)) meets f n =
+      control_rest P env clean valid false choices meets.0 meets.1 c f (λ s. n (of_core s)) (λ s. n (of_guard s)) (λ y t. absurd (cc y))
+  rest P env clean valid (at_choice {choices = choices} (inside_at a w)) meets f n =
+      branch_rest P env false choices a w (λ s. n (of_core s)) (chosen_rest P env clean valid a meets.2 f (λ s. n (of_choice s)))
+  rest P env clean valid (at_turning {choices = choices} {m = m} (control_at c)) meets f n =
+      turning_rest P m env choices c (λ t. n (of_round t))
+      (control_rest P env clean valid true choices meets.0 meets.1 c f (λ s. n (of_core s)) (λ s. n (of_guard s)) (λ y t. n (of_round t)))
+  rest P env clean valid (at_turning {choices = choices} (inside_at a w)) meets f n =
+      turned_rest P env choices a w (λ t. n (of_round t))
+      (branch_rest P env true choices a w (λ s. n (of_core s)) (chosen_rest P env clean valid a meets.2 f (λ s. n (of_choice s))))
+  rest P env clean valid (at_closing told_all) meets f n = settled refl
+  rest P env clean valid (at_closing lets_turn) meets f n = absurd (cc (n (of_round of_turn)))
+  rest P env clean valid (at_closing lets_leave) meets f n = absurd (cc (n (of_round of_leave)))
+  rest P env clean valid (at_closing lets_any) meets f n = absurd (cc (n (of_core of_any)))
+  rest P env clean valid (at_closing lets_answer) meets f n = absurd (cc (n (of_round of_answer)))
 
-  branches_rest : (P : TypedProgram) {members : Processes} {ks : List Mode} (env : Seen) → Valid P env → (b : BranchesAt members ks) → EachMeets P members
+  chosen_rest : (P : TypedProgram) {choices : Choices} {k : Mode} (env : Seen) → Clean P env → Valid P env → (a : ChosenAt choices k)
+      → ChoiceMeets P choices → ChosenFits a env → ((s : ChoiceSpot choices) → chosen_moves env a s ≡ false)
+      → Rest P k (chosen_left env.ack a) env (chosen_shown a)
+  chosen_rest P env clean valid (this_one a) meets f n = rest P env clean valid a meets.0 f (λ s. n (this_choice s))
+  chosen_rest P env clean valid (another a) meets f n = chosen_rest P env clean valid a meets.1 f (λ s. n (other_choice s))
+
+  branches_rest : (P : TypedProgram) {members : Processes} {ks : List Mode} (env : Seen) → Clean P env → Valid P env → (b : BranchesAt members ks) → EachMeets P members
       → BranchesFit b env → all_ask true ks ≡ true → ((s : BranchSpot members) → branch_moves env b s ≡ false)
       → BranchesRest P ks (branches_left env.ack b) env (branches_shown b)
-  branches_rest P env valid no_more meets f h n = all_ended refl refl
-  branches_rest P env valid (and_at {k = k} {ks = ks} g b) meets f h n =
+  branches_rest P env clean valid no_more meets f h n = all_ended refl refl
+  branches_rest P env clean valid (and_at {k = k} {ks = ks} g b) meets f h n =
       let a : asks k ≡ true = same_value (asks k) true (fst_true (same_bit (asks k) true) (all_ask true ks) h) in
       both_rest P env (guarded_shown g) (branches_shown b) (beside meets.1 g b) k ks (guarded_left env.ack g) (branches_left env.ack b) a
       (guarded_over env.ack g a)
-      (guarded_rest P env valid g meets.0 f.0 (λ s. n (in_this s)))
-      (branches_rest P env valid b meets.2 f.1 (snd_true (same_bit (asks k) true) (all_ask true ks) h) (λ s. n (in_others s)))
+      (guarded_rest P env clean valid g meets.0 f.0 (λ s. n (in_this s)))
+      (branches_rest P env clean valid b meets.2 f.1 (snd_true (same_bit (asks k) true) (all_ask true ks) h) (λ s. n (in_others s)))
 
-  pub turn_rest : (P : TypedProgram) {members : Processes} {m : Mode} (env : Seen) → Valid P env → (t : TurnAt members m) → TurnMeets P members → TurnFits t env
+  pub turn_rest : (P : TypedProgram) {members : Processes} {m : Mode} (env : Seen) → Clean P env → Valid P env → (t : TurnAt members m) → TurnMeets P members → TurnFits t env
       → ((s : TurnSpot members) → turn_moves env t s ≡ false) → Rest P m (turn_left env.ack t) env (turn_shown t)
-  turn_rest P env valid turn_rests meets f n = settled refl
-  turn_rest P env valid (at_last a) meets f n = rest P env valid a meets f (λ s. n (in_last s))
-  turn_rest P env valid (at_member {q = q} {more = more} g) meets f n =
+  turn_rest P env clean valid turn_rests meets f n = settled refl
+  turn_rest P env clean valid (at_last a) meets f n = rest P env clean valid a meets f (λ s. n (in_last s))
+  turn_rest P env clean valid (at_member {q = q} {more = more} g) meets f n =
       running_rest P (guarded_left env.ack g) (followed (guarded_left env.ack g) (and_member q more)) env (guarded_shown g)
       (λ r. waiting_then P (and_member q more) (guarded_left env.ack g) env (guarded_shown g) r)
-      (guarded_rest P env valid g meets.0 f (λ s. n (in_member s)))
-  turn_rest P env valid (at_later {k = answered} {n = running} {m = running} g t h) meets f n = turn_rest P env valid t meets.1 f (λ s. n (in_later s))
-  turn_rest P env valid (at_later {m = answered} g t h) meets f n = settled refl
-  turn_rest P env valid (at_later {k = returning} {n = answered} {m = returning} (g_back true) t h) meets f n = absurd (cc (n (in_member latch)))
-  turn_rest P env valid (at_later {k = returning} {n = answered} {m = returning} (g_back false) t h) meets f n = absurd (cc (n (in_member next)))
-  turn_rest P env valid (at_later {k = idle} {n = returning} {m = returning} g t h) meets f n = returning_rest P returning (turn_left env.ack t)
-      (turn_left env.ack t) env (turn_shown t) (turn_rest P env valid t meets.1 f (λ s. n (in_later s)))
-  turn_rest P env valid (at_later {k = k} {n = n} {m = m} g t h) meets f still = absurd (cc h)
+      (guarded_rest P env clean valid g meets.0 f (λ s. n (in_member s)))
+  turn_rest P env clean valid (at_later {k = answered} {n = running} {m = running} g t h) meets f n = turn_rest P env clean valid t meets.1 f (λ s. n (in_later s))
+  turn_rest P env clean valid (at_later {m = answered} g t h) meets f n = settled refl
+  turn_rest P env clean valid (at_later {k = returning} {n = answered} {m = returning} (g_back true) t h) meets f n = absurd (cc (n (in_member latch)))
+  turn_rest P env clean valid (at_later {k = returning} {n = answered} {m = returning} (g_back false) t h) meets f n = absurd (cc (n (in_member next)))
+  turn_rest P env clean valid (at_later {k = idle} {n = returning} {m = returning} g t h) meets f n = returning_rest P returning (turn_left env.ack t)
+      (turn_left env.ack t) env (turn_shown t) (turn_rest P env clean valid t meets.1 f (λ s. n (in_later s)))
+  turn_rest P env clean valid (at_later {k = k} {n = n} {m = m} g t h) meets f still = absurd (cc h)

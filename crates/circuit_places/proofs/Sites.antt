@@ -2,12 +2,12 @@
 use Rattle.std.proofs.Common.{◌≡◌, ℕ, ◌==◌, Bool, true, false, List, [], ◌∷◌, ◌++◌, refl, sym, ap, ◌∙◌}
 use Rattle.std.specs.Prelude.{not, ◌&&◌, ◌||◌}
 use Rattle.std.specs.List.{list_any, list_all}
-use Rattle.width_check.specs.Processes.{Formula, Process, skipping, assigning, sending, receiving, in_turn, side_by_side, choosing, repeating, Processes, no_members, and_member}
+use Rattle.width_check.specs.Processes.{Formula, Process, skipping, assigning, sending, receiving, in_turn, side_by_side, choosing, repeating, Processes, no_members, and_member, Choices, no_choices, and_choice}
 use Rattle.circuit_places.specs.Lines.{Line, of_channel, of_var, same_line, Rails}
-use Rattle.circuit_places.specs.Circuit.{Port, low_port, rails_of_port, takers_of_port, takers, branch_takers, turn_takers, Site, low_site, rails_of_site, Pairs, low_pairs, gate_count, Cells, TurnCells, BranchCells, low, low_turn, low_branches, fires, is_apart, turns, out_rail, site_rails, turn_rails, branch_rails}
+use Rattle.circuit_places.specs.Circuit.{Port, low_port, rails_of_port, takers_of_port, takers, branch_takers, turn_takers, Site, low_site, rails_of_site, Pairs, low_pairs, gate_count, Cells, TurnCells, BranchCells, low, low_turn, low_branches, fires, is_apart, turns, out_rail, site_rails, turn_rails, branch_rails, ChoiceCells, low_choices, choice_rails, choice_takers}
 use Rattle.circuit_places.specs.Whole.{all_low, merged}
 use Rattle.circuit_places.proofs.RailLemmas.{low_out}
-use Rattle.circuit_places.proofs.Places.{Mode, running, acks, site_of, port_of, GuardedAt, At, TurnAt, BranchesAt, g_rests, g_in, g_past, g_back, rests, at_skip, at_assign, at_send, at_receive, at_turn, at_side, at_body, no_more, and_at, turn_rests, at_last, at_member, at_later, guarded_cells, cells, turn_cells, branch_cells, guarded_shown, shown, turn_shown, branches_shown, not_running}
+use Rattle.circuit_places.proofs.Places.{Mode, running, acks, site_of, port_of, GuardedAt, At, TurnAt, BranchesAt, g_rests, g_in, g_past, g_back, rests, at_skip, at_assign, at_send, at_receive, at_turn, at_side, at_body, no_more, and_at, turn_rests, at_last, at_member, at_later, guarded_cells, cells, turn_cells, branch_cells, guarded_shown, shown, turn_shown, branches_shown, not_running, at_choice, at_turning, at_closing, control_at, inside_at, ChosenAt, this_one, another, chosen_cells, chosen_shown}
 
 abbrev pub any : List Bool → Bool
 any xs = list_any (λ b. b) xs
@@ -71,7 +71,17 @@ mutual
   same_sites skipping x y k i one = refl
   same_sites (receiving c at z to) x y k i one = same_port_rails (same_line (of_var z) k) x y i one
   same_sites (side_by_side members) x y k i one = same_branch_sites members x.branches y.branches k i one
-  same_sites (choosing again _) x y k i one = refl
+  same_sites (choosing false choices) x y k i one = same_choice_sites choices x.branches y.branches k i one
+  same_sites (choosing true choices) x y k i one = same_choice_sites choices x.core.branches y.core.branches k i one
+
+  same_choice_sites : (choices : Choices) (x y : ChoiceCells choices) (k : Line) (i : ℕ) (one : Bool)
+      → is_nil (choice_rails choices x k i one) ≡ is_nil (choice_rails choices y k i one)
+  same_choice_sites no_choices x y k i one = refl
+  same_choice_sites (and_choice g p more) x y k i one =
+      nil_append (site_rails p x.0 k i one) (choice_rails more x.1 k i one)
+      ∙ (ap (λ b. b && is_nil (choice_rails more x.1 k i one)) (same_sites p x.0 y.0 k i one)
+      ∙ (ap (λ b. is_nil (site_rails p y.0 k i one) && b) (same_choice_sites more x.1 y.1 k i one)
+      ∙ sym (nil_append (site_rails p y.0 k i one) (choice_rails more y.1 k i one))))
 
   same_branch_sites : (members : Processes) (x y : BranchCells members) (k : Line) (i : ℕ) (one : Bool)
       → is_nil (branch_rails members x k i one) ≡ is_nil (branch_rails members y k i one)
@@ -117,7 +127,13 @@ mutual
   low_sites skipping k i one = refl
   low_sites (receiving c at z to) k i one = low_port_rails (same_line (of_var z) k) i one
   low_sites (side_by_side members) k i one = low_branch_sites members k i one
-  low_sites (choosing again _) k i one = refl
+  low_sites (choosing false choices) k i one = low_choice_sites choices k i one
+  low_sites (choosing true choices) k i one = low_choice_sites choices k i one
+
+  low_choice_sites : (choices : Choices) (k : Line) (i : ℕ) (one : Bool) → any (choice_rails choices (low_choices choices) k i one) ≡ false
+  low_choice_sites no_choices k i one = refl
+  low_choice_sites (and_choice g p more) k i one = none_both (site_rails p (low p) k i one) (choice_rails more (low_choices more) k i one) false false
+      (low_sites p k i one) (low_choice_sites more k i one)
 
   low_branch_sites : (members : Processes) (k : Line) (i : ℕ) (one : Bool) → any (branch_rails members (low_branches members) k i one) ≡ false
   low_branch_sites no_members k i one = refl
@@ -164,6 +180,21 @@ mutual
   offered (at_turn t) k i one = turn_offered t k i one
   offered (at_side m t b h) k i one = branches_offered b k i one
   offered (at_body a) k i one = offered a k i one
+  offered (at_choice {choices = choices} (control_at c)) k i one = low_choice_sites choices k i one
+  offered (at_choice (inside_at a w)) k i one = chosen_offered a k i one
+  offered (at_turning {choices = choices} (control_at c)) k i one = low_choice_sites choices k i one
+  offered (at_turning (inside_at a w)) k i one = chosen_offered a k i one
+  offered (at_closing {choices = choices} c) k i one = low_choice_sites choices k i one
+
+  chosen_offered : {choices : Choices} {m : Mode} (a : ChosenAt choices m) (k : Line) (i : ℕ) (one : Bool)
+      → any (choice_rails choices (chosen_cells a) k i one) ≡ (chosen_shown a).offer k i one
+  chosen_offered (this_one {p = p} {more = more} a) k i one =
+      none_both (site_rails p (cells a) k i one) (choice_rails more (low_choices more) k i one) ((shown a).offer k i one) false (offered a k i one)
+      (low_choice_sites more k i one)
+      ∙ or_false ((shown a).offer k i one)
+  chosen_offered (another {p = p} {more = more} a) k i one =
+      none_both (site_rails p (low p) k i one) (choice_rails more (chosen_cells a) k i one) false ((chosen_shown a).offer k i one) (low_sites p k i one)
+      (chosen_offered a k i one)
 
   pub branches_offered : {members : Processes} {ks : List Mode} (b : BranchesAt members ks) (k : Line) (i : ℕ) (one : Bool)
       → any (branch_rails members (branch_cells b) k i one) ≡ (branches_shown b).offer k i one
@@ -197,7 +228,17 @@ mutual
   same_takers skipping x y c = refl
   same_takers (assigning z at e) x y c = refl
   same_takers (sending d at e) x y c = refl
-  same_takers (choosing again _) x y c = refl
+  same_takers (choosing false choices) x y c = same_choice_takers choices x.branches y.branches c
+  same_takers (choosing true choices) x y c = same_choice_takers choices x.core.branches y.core.branches c
+
+  same_choice_takers : (choices : Choices) (x y : ChoiceCells choices) (c : ℕ)
+      → is_nil (choice_takers choices x c) ≡ is_nil (choice_takers choices y c)
+  same_choice_takers no_choices x y c = refl
+  same_choice_takers (and_choice g p more) x y c =
+      nil_append (takers p x.0 c) (choice_takers more x.1 c)
+      ∙ (ap (λ b. b && is_nil (choice_takers more x.1 c)) (same_takers p x.0 y.0 c)
+      ∙ (ap (λ b. is_nil (takers p y.0 c) && b) (same_choice_takers more x.1 y.1 c)
+      ∙ sym (nil_append (takers p y.0 c) (choice_takers more y.1 c))))
 
   same_branch_takers : (members : Processes) (x y : BranchCells members) (c : ℕ) → is_nil (branch_takers members x c) ≡ is_nil (branch_takers members y c)
   same_branch_takers no_members x y c = refl
@@ -233,7 +274,13 @@ mutual
   low_takers skipping c = refl
   low_takers (assigning z at e) c = refl
   low_takers (sending d at e) c = refl
-  low_takers (choosing again _) c = refl
+  low_takers (choosing false choices) c = low_choice_takers choices c
+  low_takers (choosing true choices) c = low_choice_takers choices c
+
+  low_choice_takers : (choices : Choices) (c : ℕ) → any (choice_takers choices (low_choices choices) c) ≡ false
+  low_choice_takers no_choices c = refl
+  low_choice_takers (and_choice g p more) c = none_both (takers p (low p) c) (choice_takers more (low_choices more) c) false false (low_takers p c)
+      (low_choice_takers more c)
 
   low_branch_takers : (members : Processes) (c : ℕ) → any (branch_takers members (low_branches members) c) ≡ false
   low_branch_takers no_members c = refl
@@ -268,6 +315,18 @@ mutual
   taken (at_turn t) c = turn_taken t c
   taken (at_side m t b h) c = branches_taken b c
   taken (at_body a) c = taken a c
+  taken (at_choice {choices = choices} (control_at z)) c = low_choice_takers choices c
+  taken (at_choice (inside_at a w)) c = chosen_taken a c
+  taken (at_turning {choices = choices} (control_at z)) c = low_choice_takers choices c
+  taken (at_turning (inside_at a w)) c = chosen_taken a c
+  taken (at_closing {choices = choices} z) c = low_choice_takers choices c
+
+  chosen_taken : {choices : Choices} {m : Mode} (a : ChosenAt choices m) (c : ℕ) → any (choice_takers choices (chosen_cells a) c) ≡ (chosen_shown a).take c
+  chosen_taken (this_one {p = p} {more = more} a) c =
+      none_both (takers p (cells a) c) (choice_takers more (low_choices more) c) ((shown a).take c) false (taken a c) (low_choice_takers more c)
+      ∙ or_false ((shown a).take c)
+  chosen_taken (another {p = p} {more = more} a) c =
+      none_both (takers p (low p) c) (choice_takers more (chosen_cells a) c) false ((chosen_shown a).take c) (low_takers p c) (chosen_taken a c)
 
   branches_taken : {members : Processes} {ks : List Mode} (b : BranchesAt members ks) (c : ℕ)
       → any (branch_takers members (branch_cells b) c) ≡ (branches_shown b).take c

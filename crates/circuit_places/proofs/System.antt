@@ -6,11 +6,11 @@ use Rattle.chp_base.specs.declared.span.Span.{Span}
 use Rattle.env_script.specs.declared.script.Count.{Count}
 use Rattle.env_script.specs.Scripts.{OfferValue, gives, takes, nothing, offer_at, is_over}
 use Rattle.env_script.specs.Runs.{history_at, completed}
-use Rattle.width_check.specs.Processes.{Process, receiving, TypedProgram}
+use Rattle.width_check.specs.Processes.{Process, receiving, TypedProgram, Choices}
 use Rattle.width_check.specs.Typing.{kind_at, channel_width, var_width}
 use Rattle.width_check.specs.declared.typed.Var.{Var}
 use Rattle.function_blocks.specs.Rails.{number_on}
-use Rattle.circuit_places.specs.Lines.{Line, of_channel, of_var, line_width, Seen}
+use Rattle.circuit_places.specs.Lines.{Line, of_channel, of_var, line_width, Seen, Rails}
 use Rattle.chp_meaning.specs.Terms.{Term, finished, opened}
 use Rattle.circuit_places.specs.Circuit.{low, GuardedSpot, turns, fires, site_rails, takers}
 use Rattle.circuit_places.specs.Whole.{first_bits, Wires, seen, line_ack, is_heard, is_merged, bit_rule, wrote_rule, value_on, neutral_on, Node, go_node, own_node, rail_node, ack_node, bit_node, wrote_node, joint_node, wrote_turned, joint_turned, receives, answers, offers, passed, passed_after, wires_after, go_after, root_after}
@@ -19,12 +19,13 @@ use Rattle.circuit_places.proofs.Trees.{node_moves}
 use Rattle.circuit_places.proofs.Blocks.{Block, now_at}
 use Rattle.circuit_places.proofs.BitTable.{single_bit}
 use Rattle.circuit_places.proofs.Places.{Mode, idle, running, answered, returning, asks, is_idle, GuardedAt, guarded_cells, guarded_shown, guarded_writing, GuardedFits, guarded_moves}
-use Rattle.circuit_places.proofs.Meets.{Meets, sends as sends_line, receives as receives_on}
-use Rattle.circuit_places.proofs.Left.{guarded_left, Act, Follows}
+use Rattle.circuit_places.proofs.Meets.{Meets, sends as sends_line, receives as receives_on, uses_within}
+use Rattle.circuit_places.proofs.Left.{guarded_left, Act, Follows, open_by, ToldBy, follows_wider}
 use Rattle.circuit_places.proofs.Flow.{goes, goes_asks, or_map, Clean, GuardedAfter, cases}
 use Rattle.circuit_places.proofs.Begin.{guarded_idle_moves}
 use Rattle.circuit_places.proofs.Sites.{is_nil}
 use Rattle.circuit_places.proofs.Fires.{Passes}
+use Rattle.circuit_places.proofs.Writing.{guarded_reads_uses, guarded_writing_unread}
 
 -- Where the whole is: the root's place fits what is seen, a high acknowledge has its site under way, a rail of a line that
 -- is high over a low acknowledge is held by a site, one that is held over a high acknowledge is high, and a rail that is
@@ -137,11 +138,16 @@ pub data Acks (P : TypedProgram) (busy after : ℕ → Bool) (k : ℕ) (w : Wire
   taken_in : is_heard (kind_at P.channels k) ≡ true → Arrives P busy after k w t y → Acks P busy after k w t y
   let_go_in : is_heard (kind_at P.channels k) ≡ true → w.ack k ≡ true → y ≡ t → ((z : ℕ) → after z ≡ false → busy z ≡ false) → Acks P busy after k w t y
 
+-- which branches are open where the store has the numbers of what isn't being written
+abbrev pub Decided : (P : TypedProgram) → (bits : ℕ → Rails) → (busy : ℕ → Bool) → Choices → List Process → Type 0
+Decided P bits busy choices ps = (store : ℕ → ℕ) → ((x : ℕ) → x < length P.vars → busy x ≡ false → number_on (var_width P.vars x) (bits x) ≡ store x)
+    → open_by store choices ≡ ps
+
 abbrev pub Moves : (P : TypedProgram) → Wires → (busy after : ℕ → Bool) → Term → Term → Node P.body → Type 0
 Moves P w busy after t y (ack_node k) = Acks P busy after k w t y
 Moves P w busy after t y (wrote_node x i) = Others P x w (wrote_turned w x i) × Stored P busy after x w (wrote_turned w x i) t y
 Moves P w busy after t y (joint_node x k) = Others P x w (joint_turned w x k) × Stored P busy after x w (joint_turned w x k) t y
-Moves P w busy after t y _ = Follows t y
+Moves P w busy after t y _ = Follows (Decided P w.bit busy) t y
 
 -- a variable's acknowledge rises
 pub record Rises (P : TypedProgram) (w now : Wires) (x : ℕ) : Type 0 where
@@ -275,11 +281,22 @@ module _ (P : TypedProgram) (script : List OfferValue) {m : Mode} {g : GuardedAt
     stays idle n h ne = absurd (cc h)
     stays answered n h ne = absurd (cc h)
 
-    own_term : m ≢ returning → Follows (root_left (line_ack P w) g) (root_left (line_ack P w) r.to)
-    own_term ne = here m r.mode g r.to r.way ne r.term
+    told : (choices : Choices) (ps : List Process) → ToldBy (seen P w) (guarded_shown g).read choices ps
+        → Decided P w.bit (guarded_writing (line_ack P w) g) choices ps
+    told choices ps t store agree = t store (λ x read. agree x (uses_within P P.body good.meets x (guarded_reads_uses g x read)) (unwritten x read))
+      where
+        unwritten : (x : ℕ) → (guarded_shown g).read x ≡ true → guarded_writing (line_ack P w) g x ≡ false
+        unwritten x read = cases (guarded_writing (line_ack P w) g x)
+            (λ (e : guarded_writing (line_ack P w) g x ≡ true). absurd (cc (guarded_writing_unread P (line_ack P w) g good.meets x e, read)))
+            (λ (e : guarded_writing (line_ack P w) g x ≡ false). e)
+
+    own_term : m ≢ returning → Follows (Decided P w.bit (guarded_writing (line_ack P w) g)) (root_left (line_ack P w) g) (root_left (line_ack P w) r.to)
+    own_term ne = here m r.mode g r.to r.way ne (follows_wider (ToldBy (seen P w) (guarded_shown g).read) (Decided P w.bit (guarded_writing (line_ack P w) g))
+        told (guarded_left (line_ack P w) g) (guarded_left (line_ack P w) r.to) r.term)
       where
         here : (m n : Mode) (a : GuardedAt P.body m) (b : GuardedAt P.body n) → goes m n ≡ true → m ≢ returning
-            → Follows (guarded_left (line_ack P w) a) (guarded_left (line_ack P w) b) → Follows (root_left (line_ack P w) a) (root_left (line_ack P w) b)
+            → Follows (Decided P w.bit (guarded_writing (line_ack P w) g)) (guarded_left (line_ack P w) a) (guarded_left (line_ack P w) b)
+            → Follows (Decided P w.bit (guarded_writing (line_ack P w) g)) (root_left (line_ack P w) a) (root_left (line_ack P w) b)
         here running running a b h ne f = f
         here running answered a b h ne f = f
         here running idle a b h ne f = absurd (cc h)

@@ -1,12 +1,12 @@
 -- What a place shows stands in its statement, and so in one of several branches alone.
 use Rattle.std.proofs.Common.{◌≡◌, ℕ, ◌==◌, Bool, true, false, List, refl, ap, ◌∙◌}
 use Rattle.std.specs.Prelude.{◌||◌}
-use Rattle.width_check.specs.Processes.{Process, Processes, and_member}
+use Rattle.width_check.specs.Processes.{Choices, and_choice, Process, Processes, and_member}
 use Rattle.circuit_places.specs.Lines.{Line, of_channel, of_var, same_line}
 use Rattle.function_blocks.specs.Waves.{out_rail}
 use Rattle.circuit_places.proofs.RailLemmas.{fst_true}
-use Rattle.circuit_places.proofs.Places.{Mode, GuardedAt, At, TurnAt, BranchesAt, g_rests, g_in, g_past, g_back, rests, at_skip, at_assign, at_send, at_receive, at_turn, at_side, at_body, no_more, and_at, turn_rests, at_last, at_member, at_later, Shown, guarded_shown, shown, turn_shown, branches_shown}
-use Rattle.circuit_places.proofs.Meets.{Fair, sends, turn_sends, receives, each_receives}
+use Rattle.circuit_places.proofs.Places.{Mode, GuardedAt, At, TurnAt, BranchesAt, g_rests, g_in, g_past, g_back, rests, at_skip, at_assign, at_send, at_receive, at_turn, at_side, at_body, no_more, and_at, turn_rests, at_last, at_member, at_later, Shown, guarded_shown, shown, turn_shown, branches_shown, at_choice, at_turning, at_closing, ChoiceAt, control_at, inside_at, ChosenAt, this_one, another, choice_shown, chosen_shown}
+use Rattle.circuit_places.proofs.Meets.{Fair, sends, turn_sends, receives, each_receives, choice_sends, choice_receives}
 use Rattle.circuit_places.proofs.Flow.{or_left, or_right, low_of}
 
 -- one of both
@@ -28,8 +28,21 @@ mutual
   offers_talks (at_turn t) k i one e = turn_offers_talks t k i one e
   offers_talks (at_side m t b h) k i one e = branches_offers_talks b k i one e
   offers_talks (at_body a) k i one e = offers_talks a k i one e
+  offers_talks (at_choice x) k i one e = choice_offers_talks x k i one e
+  offers_talks (at_turning x) k i one e = choice_offers_talks x k i one e
+  offers_talks (at_closing c) k i one e = absurd (cc e)
   offers_talks rests k i one e = absurd (cc e)
   offers_talks (at_skip m h) k i one e = absurd (cc e)
+
+  choice_offers_talks : {again : Bool} {choices : Choices} {m : Mode} (x : ChoiceAt again choices m) (k : Line) (i : ℕ) (one : Bool)
+      → (choice_shown x).offer k i one ≡ true → (choice_shown x).talk k ≡ true
+  choice_offers_talks (control_at c) k i one e = absurd (cc e)
+  choice_offers_talks (inside_at a w) k i one e = chosen_offers_talks a k i one e
+
+  pub chosen_offers_talks : {choices : Choices} {m : Mode} (a : ChosenAt choices m) (k : Line) (i : ℕ) (one : Bool) → (chosen_shown a).offer k i one ≡ true
+      → (chosen_shown a).talk k ≡ true
+  chosen_offers_talks (this_one a) k i one e = offers_talks a k i one e
+  chosen_offers_talks (another a) k i one e = chosen_offers_talks a k i one e
 
   pub branches_offers_talks : {members : Processes} {ks : List Mode} (b : BranchesAt members ks) (k : Line) (i : ℕ) (one : Bool)
       → (branches_shown b).offer k i one ≡ true → (branches_shown b).talk k ≡ true
@@ -59,8 +72,20 @@ mutual
   talks_sends (at_turn t) k e = turn_talks_sends t k e
   talks_sends (at_side m t b h) k e = branches_talk_sends b k e
   talks_sends (at_body a) k e = talks_sends a k e
+  talks_sends (at_choice x) k e = choice_talks_sends x k e
+  talks_sends (at_turning x) k e = choice_talks_sends x k e
+  talks_sends (at_closing c) k e = absurd (cc e)
   talks_sends rests k e = absurd (cc e)
   talks_sends (at_skip m h) k e = absurd (cc e)
+
+  choice_talks_sends : {again : Bool} {choices : Choices} {m : Mode} (x : ChoiceAt again choices m) (k : Line) → (choice_shown x).talk k ≡ true
+      → choice_sends choices k ≡ true
+  choice_talks_sends (control_at c) k e = absurd (cc e)
+  choice_talks_sends (inside_at a w) k e = chosen_talks_sends a k e
+
+  pub chosen_talks_sends : {choices : Choices} {m : Mode} (a : ChosenAt choices m) (k : Line) → (chosen_shown a).talk k ≡ true → choice_sends choices k ≡ true
+  chosen_talks_sends (this_one {p = p} {more = more} a) k e = or_left (sends p k) (choice_sends more k) (talks_sends a k e)
+  chosen_talks_sends (another {p = p} {more = more} a) k e = or_right (sends p k) (choice_sends more k) (chosen_talks_sends a k e)
 
   pub branches_talk_sends : {members : Processes} {ks : List Mode} (b : BranchesAt members ks) (k : Line) → (branches_shown b).talk k ≡ true
       → turn_sends members k ≡ true
@@ -89,8 +114,20 @@ mutual
   says_talks (at_turn t) k e = turn_says_talks t k e
   says_talks (at_side m t b h) k e = branches_say_talk b k e
   says_talks (at_body a) k e = says_talks a k e
+  says_talks (at_choice x) k e = choice_says_talks x k e
+  says_talks (at_turning x) k e = choice_says_talks x k e
+  says_talks (at_closing c) k e = absurd (cc e)
   says_talks rests k e = absurd (cc e)
   says_talks (at_skip m h) k e = absurd (cc e)
+
+  choice_says_talks : {again : Bool} {choices : Choices} {m : Mode} (x : ChoiceAt again choices m) (k : Line) → (choice_shown x).says k ≡ true
+      → (choice_shown x).talk k ≡ true
+  choice_says_talks (control_at c) k e = absurd (cc e)
+  choice_says_talks (inside_at a w) k e = chosen_says_talks a k e
+
+  chosen_says_talks : {choices : Choices} {m : Mode} (a : ChosenAt choices m) (k : Line) → (chosen_shown a).says k ≡ true → (chosen_shown a).talk k ≡ true
+  chosen_says_talks (this_one a) k e = says_talks a k e
+  chosen_says_talks (another a) k e = chosen_says_talks a k e
 
   pub branches_say_talk : {members : Processes} {ks : List Mode} (b : BranchesAt members ks) (k : Line) → (branches_shown b).says k ≡ true
       → (branches_shown b).talk k ≡ true
@@ -121,8 +158,20 @@ mutual
   says_is (at_turn t) c = turn_says_is t c
   says_is (at_side m t b h) c = branches_say_is b c
   says_is (at_body a) c = says_is a c
+  says_is (at_choice x) c = choice_says_is x c
+  says_is (at_turning x) c = choice_says_is x c
+  says_is (at_closing z) c = refl
   says_is rests c = refl
   says_is (at_skip m h) c = refl
+
+  choice_says_is : {again : Bool} {choices : Choices} {m : Mode} (x : ChoiceAt again choices m) (c : ℕ)
+      → (choice_shown x).says (of_channel c) ≡ (choice_shown x).talk (of_channel c)
+  choice_says_is (control_at z) c = refl
+  choice_says_is (inside_at a w) c = chosen_says_is a c
+
+  chosen_says_is : {choices : Choices} {m : Mode} (a : ChosenAt choices m) (c : ℕ) → (chosen_shown a).says (of_channel c) ≡ (chosen_shown a).talk (of_channel c)
+  chosen_says_is (this_one a) c = says_is a c
+  chosen_says_is (another a) c = chosen_says_is a c
 
   branches_say_is : {members : Processes} {ks : List Mode} (b : BranchesAt members ks) (c : ℕ)
       → (branches_shown b).says (of_channel c) ≡ (branches_shown b).talk (of_channel c)
@@ -149,10 +198,22 @@ mutual
   takes_listens (at_turn t) c e = turn_takes_listens t c e
   takes_listens (at_side m t b h) c e = branches_take_listen b c e
   takes_listens (at_body a) c e = takes_listens a c e
+  takes_listens (at_choice x) c e = choice_takes_listens x c e
+  takes_listens (at_turning x) c e = choice_takes_listens x c e
+  takes_listens (at_closing z) c e = absurd (cc e)
   takes_listens (at_assign m u h) c e = absurd (cc e)
   takes_listens (at_send m u h) c e = absurd (cc e)
   takes_listens rests c e = absurd (cc e)
   takes_listens (at_skip m h) c e = absurd (cc e)
+
+  choice_takes_listens : {again : Bool} {choices : Choices} {m : Mode} (x : ChoiceAt again choices m) (c : ℕ) → (choice_shown x).take c ≡ true
+      → (choice_shown x).listen c ≡ true
+  choice_takes_listens (control_at z) c e = absurd (cc e)
+  choice_takes_listens (inside_at a w) c e = chosen_takes_listens a c e
+
+  chosen_takes_listens : {choices : Choices} {m : Mode} (a : ChosenAt choices m) (c : ℕ) → (chosen_shown a).take c ≡ true → (chosen_shown a).listen c ≡ true
+  chosen_takes_listens (this_one a) c e = takes_listens a c e
+  chosen_takes_listens (another a) c e = chosen_takes_listens a c e
 
   branches_take_listen : {members : Processes} {ks : List Mode} (b : BranchesAt members ks) (c : ℕ) → (branches_shown b).take c ≡ true
       → (branches_shown b).listen c ≡ true
@@ -181,10 +242,23 @@ mutual
   listens_receives (at_turn t) c e = turn_listens_receives t c e
   listens_receives (at_side m t b h) c e = branches_listen_receive b c e
   listens_receives (at_body a) c e = listens_receives a c e
+  listens_receives (at_choice x) c e = choice_listens_receives x c e
+  listens_receives (at_turning x) c e = choice_listens_receives x c e
+  listens_receives (at_closing z) c e = absurd (cc e)
   listens_receives (at_assign m u h) c e = absurd (cc e)
   listens_receives (at_send m u h) c e = absurd (cc e)
   listens_receives rests c e = absurd (cc e)
   listens_receives (at_skip m h) c e = absurd (cc e)
+
+  choice_listens_receives : {again : Bool} {choices : Choices} {m : Mode} (x : ChoiceAt again choices m) (c : ℕ) → (choice_shown x).listen c ≡ true
+      → choice_receives choices c ≡ true
+  choice_listens_receives (control_at z) c e = absurd (cc e)
+  choice_listens_receives (inside_at a w) c e = chosen_listens_receives a c e
+
+  chosen_listens_receives : {choices : Choices} {m : Mode} (a : ChosenAt choices m) (c : ℕ) → (chosen_shown a).listen c ≡ true
+      → choice_receives choices c ≡ true
+  chosen_listens_receives (this_one {p = p} {more = more} a) c e = or_left (receives p c) (choice_receives more c) (listens_receives a c e)
+  chosen_listens_receives (another {p = p} {more = more} a) c e = or_right (receives p c) (choice_receives more c) (chosen_listens_receives a c e)
 
   pub branches_listen_receive : {members : Processes} {ks : List Mode} (b : BranchesAt members ks) (c : ℕ) → (branches_shown b).listen c ≡ true
       → each_receives members c ≡ true

@@ -8,24 +8,25 @@ use Rattle.std.specs.Prelude.{not, ◌&&◌, ◌||◌, Option, Some, None, slice
 use Rattle.prs_core.specs.Moves.{bit_value, with_bit}
 use Rattle.env_script.specs.Environment.{is_odd}
 use Rattle.width_check.specs.declared.typed.Var.{Var}
-use Rattle.width_check.specs.Processes.{Formula, Process, Processes, and_member, TypedProgram}
+use Rattle.width_check.specs.Processes.{Formula, Process, Processes, and_member, TypedProgram, Choices, and_choice}
 use Rattle.width_check.specs.Typing.{var_width}
 use Rattle.chp_meaning.specs.Halves.{IsSizedVar}
 use Rattle.width_check.specs.Values.{one_if}
 use Rattle.circuit_places.specs.Lines.{Line, of_channel, of_var, same_line, Rails, Seen}
-use Rattle.circuit_places.specs.Circuit.{Pairs, gate_count, same_bit}
+use Rattle.circuit_places.specs.Circuit.{Pairs, gate_count, same_bit, guards_read}
 use Rattle.circuit_places.specs.Whole.{value_on, neutral_on, number_rail, first_bits}
 use Rattle.circuit_places.proofs.LineNames.{same_number, same_line_is}
 use Rattle.width_check.specs.Reads.{reads}
 use Rattle.function_blocks.specs.Rails.{number_on}
 use Rattle.function_blocks.specs.Waves.{out_rail, full, empty}
-use Rattle.circuit_places.proofs.Meets.{sends, turn_sends, uses, each_uses, Meets, TurnMeets, EachMeets}
+use Rattle.circuit_places.proofs.Meets.{sends, turn_sends, uses, each_uses, Meets, TurnMeets, EachMeets, ChoiceMeets, choice_sends, choice_uses}
 use Rattle.circuit_places.proofs.RailLemmas.{fst_true, snd_true, both_true, never_and, empty_low}
-use Rattle.circuit_places.proofs.Places.{Mode, idle, running, answered, returning, wave_may, SiteMay, SiteFits, port_may, PortFits, send_fits, under_way, GuardedAt, At, TurnAt, BranchesAt, g_rests, g_in, g_past, g_back, rests, at_skip, at_assign, at_send, at_receive, at_turn, at_side, at_body, no_more, and_at, turn_rests, at_last, at_member, at_later, guarded_shown, shown, turn_shown, branches_shown, GuardedFits, Fits, TurnFits, BranchesFit, writing, guarded_writing, turn_writing, branches_writing}
+use Rattle.circuit_places.proofs.Places.{Mode, idle, running, answered, returning, wave_may, SiteMay, SiteFits, port_may, PortFits, send_fits, under_way, GuardedAt, At, TurnAt, BranchesAt, g_rests, g_in, g_past, g_back, rests, at_skip, at_assign, at_send, at_receive, at_turn, at_side, at_body, no_more, and_at, turn_rests, at_last, at_member, at_later, guarded_shown, shown, turn_shown, branches_shown, GuardedFits, Fits, TurnFits, BranchesFit, writing, guarded_writing, turn_writing, branches_writing, at_choice, at_turning, at_closing, ChoiceAt, control_at, inside_at, ChosenAt, this_one, another, choice_shown, chosen_shown, ChoiceFits, ChosenFits, choice_writing, chosen_writing}
 use Rattle.circuit_places.proofs.Flow.{neither_left, neither_right, low_of, or_left, or_right, or_free, cases}
 use Rattle.circuit_places.proofs.Begin.{answered_va}
 use Rattle.circuit_places.proofs.PortLeaf.{runs_kept, runs_va, back_none, low_by, port_none}
 use Rattle.circuit_places.proofs.Talks.{either, or_false_left, or_false_right}
+use Rattle.circuit_places.proofs.CoreControl.{control_ask}
 
 -- a site that holds a rail under a low acknowledge runs
 held_runs : (m : Mode) (f n a : Bool) → wave_may m f ≡ true → send_fits m f n a ≡ true → n ≡ false → a ≡ false → under_way m a ≡ true
@@ -88,6 +89,19 @@ mutual
   writing_there env (at_body a) f x i one l e = writing_there env a f x i one l e
   writing_there env rests f x i one l e = absurd (cc e)
   writing_there env (at_skip m h) f x i one l e = absurd (cc e)
+  writing_there env (at_choice z) f x i one l e = choice_writing_there env z f x i one l e
+  writing_there env (at_turning z) f x i one l e = choice_writing_there env z f x i one l e
+  writing_there env (at_closing z) f x i one l e = absurd (cc e)
+
+  choice_writing_there : {again : Bool} {choices : Choices} {m : Mode} (env : Seen) (z : ChoiceAt again choices m) → ChoiceFits z env → (x i : ℕ) (one : Bool)
+      → env.ack (of_var x) ≡ false → (choice_shown z).offer (of_var x) i one ≡ true → choice_writing env.ack z x ≡ true
+  choice_writing_there env (control_at z) f x i one l e = absurd (cc e)
+  choice_writing_there env (inside_at a w) f x i one l e = chosen_writing_there env a f x i one l e
+
+  chosen_writing_there : {choices : Choices} {m : Mode} (env : Seen) (a : ChosenAt choices m) → ChosenFits a env → (x i : ℕ) (one : Bool)
+      → env.ack (of_var x) ≡ false → (chosen_shown a).offer (of_var x) i one ≡ true → chosen_writing env.ack a x ≡ true
+  chosen_writing_there env (this_one a) f x i one l e = writing_there env a f x i one l e
+  chosen_writing_there env (another a) f x i one l e = chosen_writing_there env a f x i one l e
 
   branches_writing_there : {members : Processes} {ks : List Mode} (env : Seen) (b : BranchesAt members ks) → BranchesFit b env → (x i : ℕ) (one : Bool)
       → env.ack (of_var x) ≡ false → (branches_shown b).offer (of_var x) i one ≡ true → branches_writing env.ack b x ≡ true
@@ -140,6 +154,19 @@ mutual
   writing_falls ack now k t high (at_body a) x e = writing_falls ack now k t high a x e
   writing_falls ack now k t high rests x e = refl
   writing_falls ack now k t high (at_skip m h) x e = refl
+  writing_falls ack now k t high (at_choice z) x e = choice_writing_falls ack now k t high z x e
+  writing_falls ack now k t high (at_turning z) x e = choice_writing_falls ack now k t high z x e
+  writing_falls ack now k t high (at_closing z) x e = refl
+
+  choice_writing_falls : {again : Bool} {choices : Choices} {m : Mode} (ack now : Line → Bool) (k : Line) → OneTurned ack now k → ack k ≡ true
+      → (z : ChoiceAt again choices m) (x : ℕ) → choice_writing now z x ≡ false → choice_writing ack z x ≡ false
+  choice_writing_falls ack now k t high (control_at z) x e = refl
+  choice_writing_falls ack now k t high (inside_at a w) x e = chosen_writing_falls ack now k t high a x e
+
+  chosen_writing_falls : {choices : Choices} {m : Mode} (ack now : Line → Bool) (k : Line) → OneTurned ack now k → ack k ≡ true
+      → (a : ChosenAt choices m) (x : ℕ) → chosen_writing now a x ≡ false → chosen_writing ack a x ≡ false
+  chosen_writing_falls ack now k t high (this_one a) x e = writing_falls ack now k t high a x e
+  chosen_writing_falls ack now k t high (another a) x e = chosen_writing_falls ack now k t high a x e
 
   branches_writing_falls : {members : Processes} {ks : List Mode} (ack now : Line → Bool) (k : Line) → OneTurned ack now k → ack k ≡ true
       → (b : BranchesAt members ks) (x : ℕ) → branches_writing now b x ≡ false → branches_writing ack b x ≡ false
@@ -178,6 +205,20 @@ mutual
   writing_other ack now v t (at_body a) x e = writing_other ack now v t a x e
   writing_other ack now v t rests x e = refl
   writing_other ack now v t (at_skip m h) x e = refl
+  writing_other ack now v t (at_choice z) x e = choice_writing_other ack now v t z x e
+  writing_other ack now v t (at_turning z) x e = choice_writing_other ack now v t z x e
+  writing_other ack now v t (at_closing z) x e = refl
+
+  choice_writing_other : {again : Bool} {choices : Choices} {m : Mode} (ack now : Line → Bool) (v : ℕ) → OneTurned ack now (of_var v)
+      → (z : ChoiceAt again choices m) (x : ℕ) → (x == v) ≡ false ⊎ ((choice_shown z).says (of_var x) ≡ false)
+      → choice_writing now z x ≡ choice_writing ack z x
+  choice_writing_other ack now v t (control_at z) x e = refl
+  choice_writing_other ack now v t (inside_at a w) x e = chosen_writing_other ack now v t a x e
+
+  chosen_writing_other : {choices : Choices} {m : Mode} (ack now : Line → Bool) (v : ℕ) → OneTurned ack now (of_var v) → (a : ChosenAt choices m) (x : ℕ)
+      → (x == v) ≡ false ⊎ ((chosen_shown a).says (of_var x) ≡ false) → chosen_writing now a x ≡ chosen_writing ack a x
+  chosen_writing_other ack now v t (this_one a) x e = writing_other ack now v t a x e
+  chosen_writing_other ack now v t (another a) x e = chosen_writing_other ack now v t a x e
 
   branches_writing_other : {members : Processes} {ks : List Mode} (ack now : Line → Bool) (v : ℕ) → OneTurned ack now (of_var v)
       → (b : BranchesAt members ks) (x : ℕ) → (x == v) ≡ false ⊎ ((branches_shown b).says (of_var x) ≡ false)
@@ -223,6 +264,19 @@ mutual
   writing_deaf ack now c t (at_body a) e x = writing_deaf ack now c t a e x
   writing_deaf ack now c t rests e x = refl
   writing_deaf ack now c t (at_skip m h) e x = refl
+  writing_deaf ack now c t (at_choice z) e x = choice_writing_deaf ack now c t z e x
+  writing_deaf ack now c t (at_turning z) e x = choice_writing_deaf ack now c t z e x
+  writing_deaf ack now c t (at_closing z) e x = refl
+
+  choice_writing_deaf : {again : Bool} {choices : Choices} {m : Mode} (ack now : Line → Bool) (c : ℕ) → OneTurned ack now (of_channel c)
+      → (z : ChoiceAt again choices m) → (choice_shown z).listen c ≡ false → (x : ℕ) → choice_writing now z x ≡ choice_writing ack z x
+  choice_writing_deaf ack now c t (control_at z) e x = refl
+  choice_writing_deaf ack now c t (inside_at a w) e x = chosen_writing_deaf ack now c t a e x
+
+  chosen_writing_deaf : {choices : Choices} {m : Mode} (ack now : Line → Bool) (c : ℕ) → OneTurned ack now (of_channel c) → (a : ChosenAt choices m)
+      → (chosen_shown a).listen c ≡ false → (x : ℕ) → chosen_writing now a x ≡ chosen_writing ack a x
+  chosen_writing_deaf ack now c t (this_one a) e x = writing_deaf ack now c t a e x
+  chosen_writing_deaf ack now c t (another a) e x = chosen_writing_deaf ack now c t a e x
 
   branches_writing_deaf : {members : Processes} {ks : List Mode} (ack now : Line → Bool) (c : ℕ) → OneTurned ack now (of_channel c)
       → (b : BranchesAt members ks) → (branches_shown b).listen c ≡ false → (x : ℕ) → branches_writing now b x ≡ branches_writing ack b x
@@ -257,6 +311,20 @@ mutual
   writing_sends ack (at_body a) x e = writing_sends ack a x e
   writing_sends ack rests x e = absurd (cc e)
   writing_sends ack (at_skip m h) x e = absurd (cc e)
+  writing_sends ack (at_choice z) x e = choice_writing_sends ack z x e
+  writing_sends ack (at_turning z) x e = choice_writing_sends ack z x e
+  writing_sends ack (at_closing z) x e = absurd (cc e)
+
+  choice_writing_sends : {again : Bool} {choices : Choices} {m : Mode} (ack : Line → Bool) (z : ChoiceAt again choices m) (x : ℕ)
+      → choice_writing ack z x ≡ true → choice_sends choices (of_var x) ≡ true
+  choice_writing_sends ack (control_at z) x e = absurd (cc e)
+  choice_writing_sends ack (inside_at a w) x e = chosen_writing_sends ack a x e
+
+  chosen_writing_sends : {choices : Choices} {m : Mode} (ack : Line → Bool) (a : ChosenAt choices m) (x : ℕ) → chosen_writing ack a x ≡ true
+      → choice_sends choices (of_var x) ≡ true
+  chosen_writing_sends ack (this_one {p = p} {more = more} a) x e = or_left (sends p (of_var x)) (choice_sends more (of_var x)) (writing_sends ack a x e)
+  chosen_writing_sends ack (another {p = p} {more = more} a) x e = or_right (sends p (of_var x)) (choice_sends more (of_var x))
+      (chosen_writing_sends ack a x e)
 
   branches_writing_sends : {members : Processes} {ks : List Mode} (ack : Line → Bool) (b : BranchesAt members ks) (x : ℕ) → branches_writing ack b x ≡ true
       → turn_sends members (of_var x) ≡ true
@@ -291,6 +359,19 @@ mutual
   reads_uses (at_body a) x e = reads_uses a x e
   reads_uses rests x e = absurd (cc e)
   reads_uses (at_skip m h) x e = absurd (cc e)
+  reads_uses (at_choice z) x e = choice_reads_uses z x e
+  reads_uses (at_turning z) x e = choice_reads_uses z x e
+  reads_uses (at_closing z) x e = absurd (cc e)
+
+  choice_reads_uses : {again : Bool} {choices : Choices} {m : Mode} (z : ChoiceAt again choices m) (x : ℕ) → (choice_shown z).read x ≡ true
+      → (guards_read choices x || choice_uses choices x) ≡ true
+  choice_reads_uses (control_at {choices = choices} z) x e = or_left (guards_read choices x) (choice_uses choices x)
+      (snd_true (control_ask z) (guards_read choices x) e)
+  choice_reads_uses (inside_at {choices = choices} a w) x e = or_right (guards_read choices x) (choice_uses choices x) (chosen_reads_uses a x e)
+
+  chosen_reads_uses : {choices : Choices} {m : Mode} (a : ChosenAt choices m) (x : ℕ) → (chosen_shown a).read x ≡ true → choice_uses choices x ≡ true
+  chosen_reads_uses (this_one {p = p} {more = more} a) x e = or_left (uses p x) (choice_uses more x) (reads_uses a x e)
+  chosen_reads_uses (another {p = p} {more = more} a) x e = or_right (uses p x) (choice_uses more x) (chosen_reads_uses a x e)
 
   branches_read_uses : {members : Processes} {ks : List Mode} (b : BranchesAt members ks) (x : ℕ) → (branches_shown b).read x ≡ true
       → each_uses members x ≡ true
@@ -326,6 +407,19 @@ mutual
   writing_unread P ack (at_body a) meets x e = writing_unread P ack a meets x e
   writing_unread P ack rests meets x e = refl
   writing_unread P ack (at_skip m h) meets x e = refl
+  writing_unread P ack (at_choice z) meets x e = choice_writing_unread P ack z meets.2 x e
+  writing_unread P ack (at_turning z) meets x e = choice_writing_unread P ack z meets.2 x e
+  writing_unread P ack (at_closing z) meets x e = refl
+
+  choice_writing_unread : (P : TypedProgram) {again : Bool} {choices : Choices} {m : Mode} (ack : Line → Bool) (z : ChoiceAt again choices m)
+      → ChoiceMeets P choices → (x : ℕ) → choice_writing ack z x ≡ true → (choice_shown z).read x ≡ false
+  choice_writing_unread P ack (control_at z) meets x e = absurd (cc e)
+  choice_writing_unread P ack (inside_at a w) meets x e = chosen_writing_unread P ack a meets x e
+
+  chosen_writing_unread : (P : TypedProgram) {choices : Choices} {m : Mode} (ack : Line → Bool) (a : ChosenAt choices m) → ChoiceMeets P choices → (x : ℕ)
+      → chosen_writing ack a x ≡ true → (chosen_shown a).read x ≡ false
+  chosen_writing_unread P ack (this_one a) meets x e = writing_unread P ack a meets.0 x e
+  chosen_writing_unread P ack (another a) meets x e = chosen_writing_unread P ack a meets.1 x e
 
   branches_writing_unread : (P : TypedProgram) {members : Processes} {ks : List Mode} (ack : Line → Bool) (b : BranchesAt members ks) → EachMeets P members
       → (x : ℕ) → branches_writing ack b x ≡ true → (branches_shown b).read x ≡ false

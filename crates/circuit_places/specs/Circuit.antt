@@ -1,18 +1,22 @@
 -- The circuit of a process as a tree of cells: the values of its own nodes, and the rule of each. A node here has a
 -- spot in the tree and no number.
-use Rattle.std.specs.Prelude.{ℕ, zero, suc, ◌-◌, ◌==◌, Bool, true, false, not, nat_lt, ◌&&◌, if◌then◌else◌, List, [], ◌∷◌, ◌++◌, length, slice_index_or}
+use Rattle.std.specs.Prelude.{ℕ, zero, suc, ◌-◌, ◌==◌, Bool, true, false, not, nat_lt, ◌&&◌, ◌||◌, if◌then◌else◌, List, [], ◌∷◌, ◌++◌, length, slice_index_or}
 use Rattle.std.specs.List.{range_with_len}
 use Rattle.prs_core.specs.Nets.{NodeRules}
 use Rattle.prs_core.specs.Moves.{guard_holds}
 use Rattle.cell_parallel.specs.Trees.{tree_rules, tree_top}
 use Rattle.chp_base.specs.declared.span.Span.{Span}
-pub use Rattle.function_blocks.specs.Rails.{Pair, side_of, Pairs, low_pairs, turned_side, turned_pairs, Rule, rule_of, no_rule, turns, fires, is_apart, same_bit}
+pub use Rattle.function_blocks.specs.Rails.{Pair, pair_of, side_of, Pairs, low_pairs, turned_side, turned_pairs, Rule, rule_of, no_rule, turns, fires, is_apart, same_bit}
 pub use Rattle.function_blocks.specs.Parts.{gate_count}
-pub use Rattle.function_blocks.specs.Waves.{gate_rule, out_rail}
+pub use Rattle.circuit_places.specs.Heads.{Bits, low_bits}
+pub use Rattle.circuit_places.specs.Cores.{Core, Turning, OwnSpot, RoundSpot}
+use Rattle.circuit_places.specs.Cores.{core_rule, turning_rule, turned_own, turned_turning, core_of, turning_of}
+pub use Rattle.function_blocks.specs.Waves.{gate_rule, out_rail, good}
 use Rattle.circuit_places.specs.Lines.{Line, of_channel, of_var, same_line, Rails, Seen}
 use Rattle.chp_base.specs.declared.channel.Channel.{Channel}
 use Rattle.width_check.specs.Typing.{channel_width}
-use Rattle.width_check.specs.Processes.{Formula, Process, skipping, assigning, sending, receiving, in_turn, side_by_side, repeating, Processes, no_members, and_member, member_count}
+use Rattle.width_check.specs.Processes.{Formula, Process, skipping, assigning, sending, receiving, in_turn, side_by_side, repeating, Processes, no_members, and_member, member_count, choosing, Choices, no_choices, and_choice, choice_count}
+use Rattle.width_check.specs.Reads.{reads}
 
 -- A Q-element's child request, latch and next request, round its child.
 pub record Guarded (A : Type 0) : Type 0 where
@@ -43,11 +47,6 @@ pub record Turn (A B : Type 0) : Type 0 where
   pub member : Guarded A
   pub later : B
 
--- so many truth values, the first one first
-abbrev pub Bits : ℕ → Type 0
-Bits zero = Unit {0}
-Bits (suc n) = Bool × Bits n
-
 -- branches side by side, and the nodes of the completion tree over their ends
 pub record Sides (A : Type 0) (n : ℕ) : Type 0 where
   pub branches : A
@@ -57,8 +56,12 @@ pub record Sides (A : Type 0) (n : ℕ) : Type 0 where
 abbrev pub joint_count : ℕ → ℕ
 joint_count n = length (tree_rules (range_with_len 0 n) n)
 
--- The own nodes of a process. Of a sequence each member but the last has a Q-element. Statements that have no circuit
--- yet have no nodes.
+-- the gates of each guard
+abbrev pub GuardCells : Choices → Type 0
+GuardCells no_choices = Unit {0}
+GuardCells (and_choice g p more) = Pairs (gate_count g) × GuardCells more
+
+-- The own nodes of a process. Of a sequence each member but the last has a Q-element.
 abbrev mutual
   pub Cells : Process → Type 0
   Cells skipping = Bool
@@ -68,7 +71,12 @@ abbrev mutual
   Cells (in_turn members) = TurnCells members
   Cells (side_by_side members) = Sides (BranchCells members) (joint_count (member_count members))
   Cells (repeating p) = Ring (Cells p)
-  Cells _ = Unit {0}
+  Cells (choosing false choices) = Core (choice_count choices) (GuardCells choices) (ChoiceCells choices)
+  Cells (choosing true choices) = Turning (Core (choice_count choices) (GuardCells choices) (ChoiceCells choices))
+
+  pub ChoiceCells : Choices → Type 0
+  ChoiceCells no_choices = Unit {0}
+  ChoiceCells (and_choice g p more) = Cells p × ChoiceCells more
 
   pub BranchCells : Processes → Type 0
   BranchCells no_members = Unit {0}
@@ -78,10 +86,6 @@ abbrev mutual
   TurnCells no_members = Unit {0}
   TurnCells (and_member p no_members) = Cells p
   TurnCells (and_member p (and_member q more)) = Turn (Cells p) (TurnCells (and_member q more))
-
-abbrev pub low_bits : (n : ℕ) → Bits n
-low_bits zero = tt
-low_bits (suc n) = (false, low_bits n)
 
 abbrev pub bit_at : (n : ℕ) → Bits n → ℕ → Bool
 bit_at zero x i = false
@@ -102,6 +106,15 @@ low_site e = record { answer = false; gates = low_pairs (gate_count e) }
 abbrev pub low_port : Port
 low_port = record { answer = false; kept = false; taken = λ i one. false }
 
+abbrev pub low_guards : (choices : Choices) → GuardCells choices
+low_guards no_choices = tt
+low_guards (and_choice g p more) = (low_pairs (gate_count g), low_guards more)
+
+abbrev pub low_core : {B : Type 0} → (choices : Choices) → B → Core (choice_count choices) (GuardCells choices) B
+low_core choices branches =
+    let n = choice_count choices in
+    core_of false false false (low_bits n) (low_bits n) (low_guards choices) branches
+
 -- all of them low
 abbrev mutual
   pub low : (p : Process) → Cells p
@@ -113,7 +126,12 @@ abbrev mutual
   low (side_by_side members) =
       record { branches = low_branches members; tree = low_bits (joint_count (member_count members)) }
   low (repeating p) = record { answer = false; ask = false; inner = low p }
-  low _ = tt
+  low (choosing false choices) = low_core choices (low_choices choices)
+  low (choosing true choices) = turning_of false false false (low_core choices (low_choices choices))
+
+  pub low_choices : (choices : Choices) → ChoiceCells choices
+  low_choices no_choices = tt
+  low_choices (and_choice g p more) = (low p, low_choices more)
 
   pub low_branches : (members : Processes) → BranchCells members
   low_branches no_members = tt
@@ -154,12 +172,23 @@ abbrev mutual
       let n = member_count members in
       tree_answer n (branch_ends members x.branches) (bit_at (joint_count n) x.tree)
   answer (repeating p) x = x.answer
-  answer _ x = false
+  answer (choosing false choices) x = x.answer
+  answer (choosing true choices) x = x.answer
 
   pub turn_answer : (members : Processes) → TurnCells members → Bool
   turn_answer no_members x = false
   turn_answer (and_member p no_members) x = answer p x
   turn_answer (and_member p (and_member q more)) x = turn_answer (and_member q more) x.later
+
+-- what each branch of a selection answers
+abbrev pub choice_answers : (choices : Choices) → ChoiceCells choices → Bits (choice_count choices)
+choice_answers no_choices x = tt
+choice_answers (and_choice g p more) x = (answer p x.0, choice_answers more x.1)
+
+-- the spots of the guards' gates
+pub data GuardSpot : Choices → Type 0 where
+  this_gate : {g : Formula} {p : Process} {more : Choices} (gate : ℕ) (one : Bool) → GuardSpot (and_choice g p more)
+  other_gate : {g : Formula} {p : Process} {more : Choices} → GuardSpot more → GuardSpot (and_choice g p more)
 
 -- the spots of the own nodes: those of a site are its answer and the rails of its gates
 pub data SiteSpot (e : Formula) : Type 0 where
@@ -186,6 +215,14 @@ mutual
     joint : {members : Processes} (k : ℕ) → Spot (side_by_side members)
     of_loop ask : {p : Process} → Spot (repeating p)
     in_body : {p : Process} → Spot p → Spot (repeating p)
+    of_core : {again : Bool} {choices : Choices} → OwnSpot (choice_count choices) → Spot (choosing again choices)
+    of_guard : {again : Bool} {choices : Choices} → GuardSpot choices → Spot (choosing again choices)
+    of_choice : {again : Bool} {choices : Choices} → ChoiceSpot choices → Spot (choosing again choices)
+    of_round : {choices : Choices} → RoundSpot → Spot (choosing true choices)
+
+  pub data ChoiceSpot : Choices → Type 0 where
+    this_choice : {g : Formula} {p : Process} {more : Choices} → Spot p → ChoiceSpot (and_choice g p more)
+    other_choice : {g : Formula} {p : Process} {more : Choices} → ChoiceSpot more → ChoiceSpot (and_choice g p more)
 
   pub data BranchSpot : Processes → Type 0 where
     in_this : {p : Process} {more : Processes} → GuardedSpot p → BranchSpot (and_member p more)
@@ -207,6 +244,10 @@ abbrev pub port_stands : (width : ℕ) → PortSpot → Bool
 port_stands width (taking i one) = nat_lt i width
 port_stands width _ = true
 
+abbrev pub guard_stands : {choices : Choices} → GuardSpot choices → Bool
+guard_stands (this_gate {g = g} k one) = nat_lt k (gate_count g)
+guard_stands (other_gate s) = guard_stands s
+
 abbrev mutual
   pub guarded_stands : {p : Process} → List Channel → GuardedSpot p → Bool
   guarded_stands cs (inner s) = stands cs s
@@ -220,7 +261,13 @@ abbrev mutual
   stands cs (of_branch s) = branch_stands cs s
   stands cs (joint {members = members} k) = nat_lt k (joint_count (member_count members))
   stands cs (in_body s) = stands cs s
+  stands cs (of_guard s) = guard_stands s
+  stands cs (of_choice s) = choice_stands cs s
   stands cs _ = true
+
+  pub choice_stands : {choices : Choices} → List Channel → ChoiceSpot choices → Bool
+  choice_stands cs (this_choice s) = stands cs s
+  choice_stands cs (other_choice s) = choice_stands cs s
 
   pub branch_stands : {members : Processes} → List Channel → BranchSpot members → Bool
   branch_stands cs (in_this s) = guarded_stands cs s
@@ -247,6 +294,34 @@ port_rule rail ack va r x heard = rule_of x.answer (r && ack) (not ack)
 port_rule rail ack va r x stored = rule_of x.kept (r && va) (not va)
 port_rule rail ack va r x (taking i one) = rule_of (x.taken i one) (r && rail i one) (not r && not (rail i one))
 
+-- the head of a guard is the pair of its bit
+abbrev pub guard_head : (e : Formula) → Pairs (gate_count e) → Pair
+guard_head e u = pair_of (out_rail e u 0 true) (out_rail e u 0 false)
+
+-- of all guards: their heads, the rules of their gates under a request, what states of them there are under it, and the
+-- variables that they read
+abbrev pub heads : (choices : Choices) → GuardCells choices → Pairs (choice_count choices)
+heads no_choices x = tt
+heads (and_choice g p more) x = (guard_head g x.0, heads more x.1)
+
+abbrev pub guards_rule : (choices : Choices) → (bits : ℕ → Rails) → Bool → GuardCells choices → GuardSpot choices → Rule
+guards_rule no_choices bits r x s = no_rule false
+guards_rule (and_choice g p more) bits r x (this_gate k one) = gate_rule g bits r x.0 k one
+guards_rule (and_choice g p more) bits r x (other_gate s) = guards_rule more bits r x.1 s
+
+abbrev pub guards_good : (choices : Choices) → (bits : ℕ → Rails) → Bool → GuardCells choices → Bool
+guards_good no_choices bits r x = true
+guards_good (and_choice g p more) bits r x = good r bits g x.0 && guards_good more bits r x.1
+
+abbrev pub guards_read : Choices → ℕ → Bool
+guards_read no_choices v = false
+guards_read (and_choice g p more) v = reads v g || guards_read more v
+
+abbrev pub turned_guards : (choices : Choices) → GuardCells choices → GuardSpot choices → GuardCells choices
+turned_guards no_choices x s = x
+turned_guards (and_choice g p more) x (this_gate k one) = (turned_pairs (gate_count g) x.0 k one, x.1)
+turned_guards (and_choice g p more) x (other_gate s) = (x.0, turned_guards more x.1 s)
+
 -- The rules of the own nodes (Martin; Burns and Martin), under the request's value r:
 --   Q-element, child answer d   d -> u+          ~r -> u-
 --                               r & ~u -> c+     u -> c-
@@ -258,6 +333,7 @@ port_rule rail ack va r x (taking i one) = rule_of (x.taken i one) (r && rail i 
 --     each rail X.t             r & X.t -> q+    ~r & ~X.t -> q-
 --   branches side by side       each Q-element under r; the tree over their next requests
 --   loop, body answer la        r & ~la -> lr+   la -> lr-     and none for its answer
+--   selection, repetition       the core's; guards under its request for them, each branch under its start
 abbrev mutual
   pub guarded_rule : (p : Process) → Seen → Bool → Guarded (Cells p) → GuardedSpot p → Rule
   guarded_rule p w r x child = rule_of x.child (r && not x.latch) x.latch
@@ -279,7 +355,22 @@ abbrev mutual
   rule (repeating p) w r x of_loop = no_rule x.answer
   rule (repeating p) w r x ask = rule_of x.ask (r && not (answer p x.inner)) (answer p x.inner)
   rule (repeating p) w r x (in_body s) = rule p w x.ask x.inner s
-  rule _ w r x s = no_rule false
+  rule (choosing false choices) w r x (of_core s) =
+      core_rule r false (heads choices x.guards) (choice_answers choices x.branches) x s
+  rule (choosing false choices) w r x (of_guard s) = guards_rule choices w.bit x.ask x.guards s
+  rule (choosing false choices) w r x (of_choice s) = choice_rule choices w x.started x.branches s
+  rule (choosing true choices) w r x (of_core s) =
+      core_rule x.turn x.leave (heads choices x.core.guards) (choice_answers choices x.core.branches) x.core s
+  rule (choosing true choices) w r x (of_guard s) = guards_rule choices w.bit x.core.ask x.core.guards s
+  rule (choosing true choices) w r x (of_choice s) = choice_rule choices w x.core.started x.core.branches s
+  rule (choosing true choices) w r x (of_round s) = turning_rule r (heads choices x.core.guards) x s
+
+  -- each branch's request is its start
+  pub choice_rule : (choices : Choices) → Seen → Bits (choice_count choices) → ChoiceCells choices → ChoiceSpot choices
+      → Rule
+  choice_rule no_choices w b x s = no_rule false
+  choice_rule (and_choice g p more) w b x (this_choice s) = rule p w b.0 x.0 s
+  choice_rule (and_choice g p more) w b x (other_choice s) = choice_rule more w b.1 x.1 s
 
   pub branch_rule : (members : Processes) → Seen → Bool → BranchCells members → BranchSpot members → Rule
   branch_rule no_members w r x s = no_rule false
@@ -327,7 +418,20 @@ abbrev mutual
   turned (repeating p) x of_loop = record x { answer = not x.answer }
   turned (repeating p) x ask = record x { ask = not x.ask }
   turned (repeating p) x (in_body s) = record x { inner = turned p x.inner s }
-  turned _ x s = x
+  turned (choosing false choices) x (of_core s) = turned_own x s
+  turned (choosing false choices) x (of_guard s) = record x { guards = turned_guards choices x.guards s }
+  turned (choosing false choices) x (of_choice s) = record x { branches = turned_choice choices x.branches s }
+  turned (choosing true choices) x (of_core s) = record x { core = turned_own x.core s }
+  turned (choosing true choices) x (of_guard s) =
+      record x { core = record (x.core) { guards = turned_guards choices x.core.guards s } }
+  turned (choosing true choices) x (of_choice s) =
+      record x { core = record (x.core) { branches = turned_choice choices x.core.branches s } }
+  turned (choosing true choices) x (of_round s) = turned_turning x s
+
+  pub turned_choice : (choices : Choices) → ChoiceCells choices → ChoiceSpot choices → ChoiceCells choices
+  turned_choice no_choices x s = x
+  turned_choice (and_choice g p more) x (this_choice s) = (turned p x.0 s, x.1)
+  turned_choice (and_choice g p more) x (other_choice s) = (x.0, turned_choice more x.1 s)
 
   pub turned_branches : (members : Processes) → BranchCells members → BranchSpot members → BranchCells members
   turned_branches no_members x s = x
@@ -359,7 +463,13 @@ abbrev mutual
   site_rails (in_turn members) x k i one = turn_rails members x k i one
   site_rails (side_by_side members) x k i one = branch_rails members x.branches k i one
   site_rails (repeating p) x k i one = site_rails p x.inner k i one
-  site_rails _ x k i one = []
+  site_rails (choosing false choices) x k i one = choice_rails choices x.branches k i one
+  site_rails (choosing true choices) x k i one = choice_rails choices x.core.branches k i one
+  site_rails skipping x k i one = []
+
+  pub choice_rails : (choices : Choices) → ChoiceCells choices → Line → (bit : ℕ) → Bool → List Bool
+  choice_rails no_choices x k i one = []
+  choice_rails (and_choice g p more) x k i one = site_rails p x.0 k i one ++ choice_rails more x.1 k i one
 
   pub branch_rails : (members : Processes) → BranchCells members → Line → (bit : ℕ) → Bool → List Bool
   branch_rails no_members x k i one = []
@@ -382,7 +492,13 @@ abbrev mutual
   takers (in_turn members) x c = turn_takers members x c
   takers (side_by_side members) x c = branch_takers members x.branches c
   takers (repeating p) x c = takers p x.inner c
+  takers (choosing false choices) x c = choice_takers choices x.branches c
+  takers (choosing true choices) x c = choice_takers choices x.core.branches c
   takers _ x c = []
+
+  pub choice_takers : (choices : Choices) → ChoiceCells choices → (chan : ℕ) → List Bool
+  choice_takers no_choices x c = []
+  choice_takers (and_choice g p more) x c = takers p x.0 c ++ choice_takers more x.1 c
 
   pub branch_takers : (members : Processes) → BranchCells members → (chan : ℕ) → List Bool
   branch_takers no_members x c = []

@@ -6,8 +6,8 @@ use Rattle.width_check.specs.Processes.{Process, skipping, assigning, sending, r
 use Rattle.width_check.specs.Reads.{reads}
 use Rattle.width_check.specs.Sharing.{MeetsSharing}
 
--- skip, sends, receives, assignments that don't read their own target, sequences, parallel compositions and loops that
--- go on for ever
+-- skip, sends, receives, assignments that don't read their own target, sequences, parallel compositions, selections,
+-- guarded repetitions, and loops that go on for ever
 abbrev mutual
   pub IsCovered : Process → Type 0
   IsCovered skipping = Unit {0}
@@ -16,12 +16,16 @@ abbrev mutual
   IsCovered (receiving chan chan_at var var_at) = Unit {0}
   IsCovered (in_turn members) = AreCovered members
   IsCovered (side_by_side members) = AreCovered members
+  IsCovered (choosing again choices) = EachCovered choices
   IsCovered (repeating p) = IsCovered p
-  IsCovered _ = ⊥
 
   pub AreCovered : Processes → Type 0
   AreCovered no_members = Unit {0}
   AreCovered (and_member p more) = IsCovered p × AreCovered more
+
+  pub EachCovered : Choices → Type 0
+  EachCovered no_choices = Unit {0}
+  EachCovered (and_choice guard p more) = IsCovered p × EachCovered more
 
 -- a statement sends or receives on the channel
 abbrev mutual

@@ -1,4 +1,6 @@
 pub mod Lines
+pub mod Heads
+pub mod Cores
 pub mod Circuit
 pub mod Whole
 pub mod Covered
