@@ -11,7 +11,7 @@ use Rattle.circuit_places.specs.Lines.{of_channel, of_var}
 use Rattle.circuit_places.specs.Circuit.{Spot, child, latch, next, inner, of_skip, done, gate, heard, stored, taking, of_assign, of_send, of_receive, in_members, of_branch, joint, in_this, in_others, in_last, in_member, in_later}
 use Rattle.circuit_places.specs.Whole.{Whole, Node, go_node, own_node, rail_node, ack_node, bit_node, wrote_node, joint_node, value_on, enabled, moved, first_of}
 
-abbrev at : Span
+abbrev pub at : Span
 at = record { from = 0; to = 1 }
 
 -- out X : 2; begin X!2; X!1 end
@@ -24,11 +24,11 @@ twice = record {
 }
 
 -- the first of the nodes that may move does, so many times
-abbrev first_moved : (P : TypedProgram) → List OfferValue → Whole P.body → List (Node P.body) → Whole P.body
+abbrev pub first_moved : (P : TypedProgram) → List OfferValue → Whole P.body → List (Node P.body) → Whole P.body
 first_moved P script x [] = x
 first_moved P script x (n ∷ ns) = if enabled P script x n then moved P x n else first_moved P script x ns
 
-abbrev driven : (P : TypedProgram) → List OfferValue → List (Node P.body) → ℕ → Whole P.body → Whole P.body
+abbrev pub driven : (P : TypedProgram) → List OfferValue → List (Node P.body) → ℕ → Whole P.body → Whole P.body
 driven P script nodes zero x = x
 driven P script nodes (suc n) x = driven P script nodes n (first_moved P script x nodes)
 

@@ -5,6 +5,7 @@ pub mod CoreMoves
 pub mod AgainMoves
 pub mod CorePromises
 pub mod Examples
+pub mod ChoiceExamples
 pub mod CoveredExamples
 pub mod RailLemmas
 pub mod Trees

@@ -12,7 +12,7 @@ use Rattle.env_script.specs.Scripts.{OfferValue, IsScript}
 use Rattle.env_script.specs.Environment.{valid}
 use Rattle.env_script.specs.Phases.{rail_keeps, rails_keep, ack_keeps, phases_keep, phase_fault}
 use Rattle.env_script.specs.Runs.{RunState, history_at, move_enabled, moved as moved_flat, IsRun, after, begin_at, IsAtRest as IsAtRestFlat, IsApart, IsSafeRun}
-use Rattle.width_check.specs.Processes.{Process, skipping, assigning, sending, receiving, in_turn, side_by_side, choosing, repeating, Processes, no_members, and_member, member_count, TypedProgram}
+use Rattle.width_check.specs.Processes.{Process, skipping, assigning, sending, receiving, in_turn, side_by_side, choosing, repeating, Processes, no_members, and_member, member_count, TypedProgram, Choices, no_choices, and_choice}
 use Rattle.width_check.specs.Typing.{IsDeclaredVar, IsTyped, channel_width, var_width}
 use Rattle.width_check.specs.declared.typed.Var.{Var}
 use Rattle.circuit_places.specs.Lines.{of_channel, of_var}
@@ -27,16 +27,17 @@ use Rattle.chp_meaning.specs.Rounds.{round, rounds, rounds_from, step_at, is_ena
 use Rattle.chp_meaning.proofs.HalvedTyping.{typed_sized}
 use Rattle.chp_meaning.specs.Laws.{IsBehind, OneHistory, RoundsHold}
 use Rattle.handshake_expand.specs.Layout.{wires_before, var_from, channel_from, nodes_of, size_of, body_from, root_request, root_latch}
-use Rattle.circuit_places.specs.Covered.{Covered, IsCovered, AreCovered}
-use Rattle.circuit_places.specs.Circuit.{of_receive, heard, stored, taking, low, Spot, TurnSpot, BranchSpot, of_branch, joint, in_this, in_others, joint_count, child, latch, next, inner, of_skip, done, gate, of_assign, of_send, in_members, of_loop, ask, in_body, in_last, in_member, in_later, gate_count, stands, turn_stands, branch_stands}
+use Rattle.circuit_places.specs.Covered.{Covered, IsCovered, AreCovered, EachCovered}
+use Rattle.circuit_places.specs.Circuit.{of_receive, heard, stored, taking, low, Spot, TurnSpot, BranchSpot, of_branch, joint, in_this, in_others, joint_count, child, latch, next, inner, of_skip, done, gate, of_assign, of_send, in_members, of_loop, ask, in_body, in_last, in_member, in_later, gate_count, stands, turn_stands, branch_stands, GuardSpot, this_gate, other_gate, ChoiceSpot, this_choice, other_choice, of_core, of_guard, of_choice, of_round, guard_stands, choice_stands}
 use Rattle.circuit_places.specs.Whole.{first_bits, Whole, Node, go_node, own_node, rail_node, ack_node, bit_node, wrote_node, joint_node, is_node, enabled, moved, first_of, neutral_on, Reaches, at_first, by_move}
 use Rattle.circuit_places.specs.Carried.{IsAtRest, IsCarried, CircuitsCarry}
-use Rattle.net_compose.specs.Translation.{translation, sites_in, sites_in_turn, sites_in_branches, hidden_high, vars_high, first_values, rails_at, ack_at, wires_from}
+use Rattle.net_compose.specs.Translation.{translation, sites_in, sites_in_turn, sites_in_branches, hidden_high, vars_high, first_values, rails_at, ack_at, wires_from, sites_in_bodies}
 use Rattle.cell_variable.specs.Variables.{high_first}
 use Rattle.net_compose.specs.Carries.{IsFollowing, IsSettled, IsCarrying, Carries}
-use Rattle.net_compose.proofs.FlatCells.{length-bits, low_bits, IsFine, IsFineTurn, IsFineBranch, rail_place}
+use Rattle.net_compose.proofs.FlatCells.{length-bits, low_bits, IsFine, IsFineTurn, IsFineBranch, rail_place, IsFineGuard, IsFineChoice}
 use Rattle.net_compose.proofs.FlatWires.{rail_bounds, ack_bounds, value_is, neutral_is, rails_kept, position_none, length-wires_from, wires_are}
 use Rattle.net_compose.proofs.FlatNet.{part_bounds, same_var, same_part, part_value, Given, Shows, number_of, Fine, node_at, enabled_is, apart_is, past_apart, past_end, after_move}
+use Rattle.handshake_expand.specs.Answers.{bodies_from, select_own, again_own}
 
 -- rounds and runs of the program
 
@@ -92,6 +93,10 @@ rounds_behind P script hold n (suc m) =
 below_told : (i n : ℕ) → nat_lt i n ≡ true → i < n
 below_told i n h = grind (arith, nat_tests)
 
+fine_guard : {choices : Choices} (s : GuardSpot choices) → guard_stands s ≡ true → IsFineGuard s
+fine_guard (this_gate {g = g} i one) h = below_told i (gate_count g) h
+fine_guard (other_gate s) h = fine_guard s h
+
 mutual
   fine_spot : (P : TypedProgram) (p : Process) (s : Spot p) → stands P.channels s ≡ true → IsFine P p s
   fine_spot P skipping of_skip h = tt
@@ -108,7 +113,15 @@ mutual
   fine_spot P (receiving k at x to) (of_receive (taking i one)) h = below_told i (channel_width P.channels k) h
   fine_spot P (side_by_side members) (of_branch s) h = fine_branch P members s h
   fine_spot P (side_by_side members) (joint k) h = below_told k (joint_count (member_count members)) h
-  fine_spot P (choosing again choices) s h = elim s [ ]
+  fine_spot P (choosing again choices) (of_core s) h = tt
+  fine_spot P (choosing again choices) (of_guard s) h = fine_guard s h
+  fine_spot P (choosing again choices) (of_choice s) h = fine_choice P choices s h
+  fine_spot P (choosing true choices) (of_round s) h = tt
+
+  fine_choice : (P : TypedProgram) (choices : Choices) (s : ChoiceSpot choices) → choice_stands P.channels s ≡ true → IsFineChoice P choices s
+  fine_choice P no_choices s h = elim s [ ]
+  fine_choice P (and_choice g p more) (this_choice s) h = fine_spot P p s h
+  fine_choice P (and_choice g p more) (other_choice s) h = fine_choice P more s h
 
   fine_branch : (P : TypedProgram) (members : Processes) (s : BranchSpot members) → branch_stands P.channels s ≡ true → IsFineBranch P members s
   fine_branch P no_members s h = elim s [ ]
@@ -164,7 +177,14 @@ mutual
   none_hidden P (assigning x at e) c from = ap (λ b. if b then high_first (var_width P.vars x) 0 from else []) c
   none_hidden P (receiving k at x to) c from = refl
   none_hidden P (side_by_side members) c from = none_hidden_branches P members c from
-  none_hidden P (choosing again choices) c from = absurd c
+  none_hidden P (choosing false choices) c from = none_hidden_choices P choices c (bodies_from choices select_own from)
+  none_hidden P (choosing true choices) c from = none_hidden_choices P choices c (bodies_from choices again_own from)
+
+  none_hidden_choices : (P : TypedProgram) (choices : Choices) → EachCovered choices → (from : ℕ) → sites_in_bodies P (hidden_high P) choices from ≡ []
+  none_hidden_choices P no_choices c from = refl
+  none_hidden_choices P (and_choice g p more) c from =
+      ap (λ l. l ++ sites_in_bodies P (hidden_high P) more (from + size_of P p)) (none_hidden P p c.0 from)
+      ∙ none_hidden_choices P more c.1 (from + size_of P p)
 
   none_hidden_branches : (P : TypedProgram) (members : Processes) → AreCovered members → (from : ℕ) → sites_in_branches P (hidden_high P) members from ≡ []
   none_hidden_branches P no_members c from = refl

@@ -3,16 +3,18 @@ use Rattle.std.proofs.Common.{◌≡◌, ◌≢◌, ℕ, zero, suc, ◌+◌, ◌
 use Rattle.std.specs.Prelude.{not, ◌&&◌, if◌then◌else◌}
 use Rattle.std.proofs.lemmas.Bool.{cases_lt, cases_eq, eq-eqb, ne_eqb}
 use Rattle.std.proofs.lemmas.List.{get_or_append_left, set-append_left, set-append_right, replicate-append-replicate}
-use Rattle.width_check.specs.Processes.{Formula, Process, skipping, assigning, sending, receiving, in_turn, side_by_side, choosing, repeating, Processes, no_members, and_member, member_count, TypedProgram}
+use Rattle.width_check.specs.Processes.{Formula, Process, skipping, assigning, sending, receiving, in_turn, side_by_side, choosing, repeating, Processes, no_members, and_member, member_count, TypedProgram, Choices, no_choices, and_choice, choice_count}
 use Rattle.width_check.specs.Reads.{reads}
 use Rattle.width_check.specs.Typing.{channel_width, var_width}
-use Rattle.handshake_expand.specs.Layout.{formula_size, through_size, assign_size, size_of, turn_size, branches_size}
+use Rattle.handshake_expand.specs.Layout.{formula_size, through_size, assign_size, size_of, turn_size, branches_size, guards_size, bodies_size}
 pub use Rattle.function_blocks.specs.Listed.{rail_place}
 use Rattle.function_blocks.proofs.PartSizes.{count_doubled}
 use Rattle.circuit_places.specs.Lines.{Rails}
-use Rattle.circuit_places.specs.Covered.{IsCovered, AreCovered}
-use Rattle.circuit_places.specs.Circuit.{same_bit, rails_turned, of_receive, heard, stored, taking, Pairs, gate_count, Cells, TurnCells, BranchCells, joint_count, low_pairs, low, low_turn, low_branches, low_bits as low_tree, Spot, TurnSpot, BranchSpot, of_branch, joint, in_this, in_others, child, latch, next, inner, of_skip, done, gate, of_assign, of_send, in_members, of_loop, ask, in_body, in_last, in_member, in_later, turned_pairs, turned, turned_turn, turned_branches}
+use Rattle.circuit_places.specs.Covered.{IsCovered, AreCovered, EachCovered}
+use Rattle.circuit_places.specs.Circuit.{same_bit, rails_turned, of_receive, heard, stored, taking, Pairs, gate_count, Cells, TurnCells, BranchCells, joint_count, low_pairs, low, low_turn, low_branches, low_bits as low_tree, Spot, TurnSpot, BranchSpot, of_branch, joint, in_this, in_others, child, latch, next, inner, of_skip, done, gate, of_assign, of_send, in_members, of_loop, ask, in_body, in_last, in_member, in_later, turned_pairs, turned, turned_turn, turned_branches, GuardCells, ChoiceCells, low_guards, low_choices, GuardSpot, this_gate, other_gate, ChoiceSpot, this_choice, other_choice, of_core, of_guard, of_choice, of_round, turned_guards, turned_choice}
 use Rattle.net_compose.proofs.FlatTrees.{joint_count_is, tree_bits, length-tree_bits, tree_turned, tree_low}
+use Rattle.circuit_places.specs.Cores.{turned_own, turned_turning}
+use Rattle.net_compose.proofs.FlatCore.{own_list, own_place, own_place_lt, own_spot_of, own_turned_is, own_guards, own_branches, length-own_list, low_lists, again_list, again_place, round_place, again_place_lt, round_place_lt, again_turned_is, round_turned_is, round_core, length-again_list, AtAgain, a_round, an_own, again_spot_of, set_first, set_second}
 
 -- the rails of some pairs
 abbrev pub pair_bits : (n : ℕ) → Pairs n → List Bool
@@ -78,6 +80,34 @@ low_rail_bits (suc n) =
     let e : suc (suc (2 * n)) ≡ 2 * suc n = omega arith in
     ap (λ l. false ∷ false ∷ l) (low_rail_bits n) ∙ ap (λ m. replicate m false) e
 
+-- the gates of guards
+abbrev pub guard_bits : (choices : Choices) → GuardCells choices → List Bool
+guard_bits no_choices x = []
+guard_bits (and_choice g p more) x = pair_bits (gate_count g) x.0 ++ guard_bits more x.1
+
+abbrev pub guard_place : {choices : Choices} → GuardSpot choices → ℕ
+guard_place (this_gate i one) = rail_place i one
+guard_place (other_gate {g = g} s) = formula_size g + guard_place s
+
+abbrev pub IsFineGuard : {choices : Choices} → GuardSpot choices → Type 0
+IsFineGuard (this_gate {g = g} i one) = i < gate_count g
+IsFineGuard (other_gate s) = IsFineGuard s
+
+pub length-guard_bits : (choices : Choices) (x : GuardCells choices) → length (guard_bits choices x) ≡ guards_size choices
+length-guard_bits no_choices x = refl
+length-guard_bits (and_choice g p more) x = omega (
+  arith,
+  length-append (pair_bits (gate_count g) x.0) (guard_bits more x.1),
+  length-pair_bits (gate_count g) x.0,
+  count_doubled g,
+  length-guard_bits more x.1,
+)
+
+pub guard_place_lt : (choices : Choices) (s : GuardSpot choices) → IsFineGuard s → guard_place s < guards_size choices
+guard_place_lt (and_choice g p more) (this_gate i one) f = omega (arith, rail_place_lt i (gate_count g) one f, count_doubled g)
+guard_place_lt (and_choice g p more) (other_gate s) f = omega (arith, guard_place_lt more s f)
+guard_place_lt no_choices s f = elim s [ ]
+
 abbrev mutual
   pub bits : TypedProgram → (p : Process) → Cells p → List Bool
   bits P skipping x = x ∷ []
@@ -87,7 +117,12 @@ abbrev mutual
   bits P (side_by_side members) x = branch_bits P members x.branches ++ tree_bits (joint_count (member_count members)) x.tree
   bits P (repeating p) x = x.answer ∷ x.ask ∷ bits P p x.inner
   bits P (receiving chan at y to) x = x.answer ∷ x.kept ∷ rail_bits (channel_width P.channels chan) x.taken
-  bits P _ x = []
+  bits P (choosing false choices) x = own_list x ++ (guard_bits choices x.guards ++ choice_bits P choices x.branches)
+  bits P (choosing true choices) x = again_list x ++ (guard_bits choices x.core.guards ++ choice_bits P choices x.core.branches)
+
+  pub choice_bits : TypedProgram → (choices : Choices) → ChoiceCells choices → List Bool
+  choice_bits P no_choices x = []
+  choice_bits P (and_choice g p more) x = bits P p x.0 ++ choice_bits P more x.1
 
   pub branch_bits : TypedProgram → (members : Processes) → BranchCells members → List Bool
   branch_bits P no_members x = []
@@ -136,7 +171,18 @@ module _ (P : TypedProgram) where
     place (receiving chan at y to) (of_receive heard) = 0
     place (receiving chan at y to) (of_receive stored) = 1
     place (receiving chan at y to) (of_receive (taking i one)) = suc (suc (rail_place i one))
-    place _ s = 0
+    place (choosing false choices) (of_core s) = own_place s
+    place (choosing false choices) (of_guard s) = 3 + (choice_count choices + choice_count choices) + guard_place s
+    place (choosing false choices) (of_choice s) = 3 + (choice_count choices + choice_count choices) + (guards_size choices + choice_place choices s)
+    place (choosing true choices) (of_core s) = again_place s
+    place (choosing true choices) (of_guard s) = 6 + (choice_count choices + choice_count choices) + guard_place s
+    place (choosing true choices) (of_choice s) = 6 + (choice_count choices + choice_count choices) + (guards_size choices + choice_place choices s)
+    place (choosing true choices) (of_round s) = round_place s
+
+    pub choice_place : (choices : Choices) → ChoiceSpot choices → ℕ
+    choice_place no_choices s = 0
+    choice_place (and_choice g p more) (this_choice s) = place p s
+    choice_place (and_choice g p more) (other_choice s) = size_of P p + choice_place more s
 
     pub branch_place : (members : Processes) → BranchSpot members → ℕ
     branch_place no_members s = 0
@@ -165,7 +211,14 @@ module _ (P : TypedProgram) where
     IsFine (side_by_side members) (of_branch s) = IsFineBranch members s
     IsFine (side_by_side members) (joint k) = k < joint_count (member_count members)
     IsFine (repeating p) (in_body s) = IsFine p s
+    IsFine (choosing again choices) (of_guard s) = IsFineGuard s
+    IsFine (choosing again choices) (of_choice s) = IsFineChoice choices s
     IsFine _ s = Unit {0}
+
+    pub IsFineChoice : (choices : Choices) → ChoiceSpot choices → Type 0
+    IsFineChoice (and_choice g p more) (this_choice s) = IsFine p s
+    IsFineChoice (and_choice g p more) (other_choice s) = IsFineChoice more s
+    IsFineChoice _ s = Unit {0}
 
     pub IsFineBranch : (members : Processes) → BranchSpot members → Type 0
     IsFineBranch (and_member p more) (in_this (inner s)) = IsFine p s
@@ -198,7 +251,28 @@ module _ (P : TypedProgram) where
           length-tree_bits (joint_count (member_count members)) x.tree,
           joint_count_is (member_count members),
         )
-    length-bits (choosing again choices) c x = absurd c
+    length-bits (choosing false choices) c x = omega (
+      arith,
+      length-append (own_list x) (guard_bits choices x.guards ++ choice_bits P choices x.branches),
+      length-append (guard_bits choices x.guards) (choice_bits P choices x.branches),
+      length-own_list x,
+      length-guard_bits choices x.guards,
+      length-choice_bits choices c x.branches,
+    )
+    length-bits (choosing true choices) c x = omega (
+      arith,
+      length-append (again_list x) (guard_bits choices x.core.guards ++ choice_bits P choices x.core.branches),
+      length-append (guard_bits choices x.core.guards) (choice_bits P choices x.core.branches),
+      length-again_list x,
+      length-guard_bits choices x.core.guards,
+      length-choice_bits choices c x.core.branches,
+    )
+
+    pub length-choice_bits : (choices : Choices) → EachCovered choices → (x : ChoiceCells choices)
+        → length (choice_bits P choices x) ≡ bodies_size P choices
+    length-choice_bits no_choices c x = refl
+    length-choice_bits (and_choice g p more) c x =
+        omega (arith, length-append (bits P p x.0) (choice_bits P more x.1), length-bits p c.0 x.0, length-choice_bits more c.1 x.1)
 
     pub length-branch_bits : (members : Processes) → AreCovered members → (x : BranchCells members) → length (branch_bits P members x) ≡ branches_size P members
     length-branch_bits no_members c x = refl
@@ -232,7 +306,19 @@ module _ (P : TypedProgram) where
     place_lt (receiving chan at z to) c (of_receive (taking i one)) f = omega (arith, rail_place_lt i (channel_width P.channels chan) one f)
     place_lt (side_by_side members) c (of_branch s) f = omega (arith, branch_place_lt members c s f)
     place_lt (side_by_side members) c (joint k) f = omega (arith, f, joint_count_is (member_count members))
-    place_lt (choosing again choices) c s f = absurd c
+    place_lt (choosing false choices) c (of_core s) f = omega (arith, own_place_lt s)
+    place_lt (choosing false choices) c (of_guard s) f = omega (arith, guard_place_lt choices s f)
+    place_lt (choosing false choices) c (of_choice s) f = omega (arith, choice_place_lt choices c s f)
+    place_lt (choosing true choices) c (of_core s) f = omega (arith, again_place_lt s)
+    place_lt (choosing true choices) c (of_guard s) f = omega (arith, guard_place_lt choices s f)
+    place_lt (choosing true choices) c (of_choice s) f = omega (arith, choice_place_lt choices c s f)
+    place_lt (choosing true choices) c (of_round s) f = omega (arith, round_place_lt (choice_count choices) s)
+
+    pub choice_place_lt : (choices : Choices) → EachCovered choices → (s : ChoiceSpot choices) → IsFineChoice choices s
+        → choice_place choices s < bodies_size P choices
+    choice_place_lt no_choices c s f = elim s [ ]
+    choice_place_lt (and_choice g p more) c (this_choice s) f = omega (arith, place_lt p c.0 s f)
+    choice_place_lt (and_choice g p more) c (other_choice s) f = omega (arith, choice_place_lt more c.1 s f)
 
     pub branch_place_lt : (members : Processes) → AreCovered members → (s : BranchSpot members) → IsFineBranch members s
         → branch_place members s < branches_size P members
@@ -260,17 +346,19 @@ module _ (P : TypedProgram) where
   rail_at_place (suc n) x zero false h y = refl
   rail_at_place (suc n) x (suc i) one h y = ap (λ l. x.0.t ∷ x.0.f ∷ l) (rail_at_place n x.1 i one (omega arith) y)
 
-  -- in a list of two parts
-  set_first : (a b : List Bool) (k : ℕ) → k < length a → set (a ++ b) k (not (get_or (a ++ b) k false)) ≡ set a k (not (get_or a k false)) ++ b
-  set_first a b k h =
-      ap (λ z. set (a ++ b) k (not z)) (get_or_append_left a b false k h) ∙ set-append_left a b k (not (get_or a k false)) h
-
-  set_second : (a b : List Bool) (n k : ℕ) → length a ≡ n → set (a ++ b) (n + k) (not (get_or (a ++ b) (n + k) false)) ≡ a ++ set b k (not (get_or b k false))
-  set_second a b n k e =
-      let g : get_or (a ++ b) (n + k) false ≡ get_or b k false = ap (λ m. get_or (a ++ b) (m + k) false) (sym e) ∙ get_or-append-add a b k false in
-      let d : n + k - n ≡ k = omega arith in
-      ap (λ z. set (a ++ b) (n + k) (not z)) g
-      ∙ (set-append_right a b n (n + k) (not (get_or b k false)) e (omega arith) ∙ ap (λ m. a ++ set b m (not (get_or b k false))) d)
+  turned_guard_is : (choices : Choices) (x : GuardCells choices) (s : GuardSpot choices) → IsFineGuard s
+      → set (guard_bits choices x) (guard_place s) (not (get_or (guard_bits choices x) (guard_place s) false)) ≡ guard_bits choices (turned_guards choices x s)
+  turned_guard_is (and_choice g p more) x (this_gate i one) f =
+      let a = pair_bits (gate_count g) x.0 in
+      let b = guard_bits more x.1 in
+      set_first a b (rail_place i one) (omega (arith, rail_place_lt i (gate_count g) one f, length-pair_bits (gate_count g) x.0))
+      ∙ ap (λ l. l ++ b) (rail_at_place (gate_count g) x.0 i one f true)
+  turned_guard_is (and_choice g p more) x (other_gate s) f =
+      let a = pair_bits (gate_count g) x.0 in
+      let b = guard_bits more x.1 in
+      let long : length a ≡ formula_size g = omega (arith, length-pair_bits (gate_count g) x.0, count_doubled g) in
+      set_second a b (formula_size g) (guard_place s) long ∙ ap (λ l. a ++ l) (turned_guard_is more x.1 s f)
+  turned_guard_is no_choices x s f = elim s [ ]
 
   -- a node turned over in the list is the node turned over in the tree
   mutual
@@ -298,7 +386,63 @@ module _ (P : TypedProgram) where
         let a = branch_bits P members x.branches in
         set_second a (tree_bits (joint_count (member_count members)) x.tree) (branches_size P members) k (length-branch_bits members c x.branches)
         ∙ ap (λ l. a ++ l) (tree_turned (joint_count (member_count members)) x.tree k f)
-    turned_is (choosing again choices) c x s f = absurd c
+    turned_is (choosing false choices) c x (of_core s) f =
+        let rest = guard_bits choices x.guards ++ choice_bits P choices x.branches in
+        set_first (own_list x) rest (own_place s) (omega (arith, own_place_lt s, length-own_list x))
+        ∙ (ap (λ l. l ++ rest) (own_turned_is x s)
+        ∙ (ap (λ g. own_list (turned_own x s) ++ (guard_bits choices g ++ choice_bits P choices x.branches)) (sym (own_guards x s))
+        ∙ ap (λ b. own_list (turned_own x s) ++ (guard_bits choices (turned_own x s).guards ++ choice_bits P choices b)) (sym (own_branches x s))))
+    turned_is (choosing false choices) c x (of_guard s) f =
+        let a = guard_bits choices x.guards in
+        let b = choice_bits P choices x.branches in
+        set_second (own_list x) (a ++ b) (3 + (choice_count choices + choice_count choices)) (guard_place s) (length-own_list x)
+        ∙ ap (λ l. own_list x ++ l) (set_first a b (guard_place s) (omega (arith, guard_place_lt choices s f, length-guard_bits choices x.guards))
+        ∙ ap (λ l. l ++ b) (turned_guard_is choices x.guards s f))
+    turned_is (choosing false choices) c x (of_choice s) f =
+        let a = guard_bits choices x.guards in
+        let b = choice_bits P choices x.branches in
+        set_second (own_list x) (a ++ b) (3 + (choice_count choices + choice_count choices)) (guards_size choices + choice_place choices s) (length-own_list x)
+        ∙ ap (λ l. own_list x ++ l) (set_second a b (guards_size choices) (choice_place choices s) (length-guard_bits choices x.guards)
+        ∙ ap (λ l. a ++ l) (turned_choice_is choices c x.branches s f))
+    turned_is (choosing true choices) c x (of_core s) f =
+        let rest = guard_bits choices x.core.guards ++ choice_bits P choices x.core.branches in
+        set_first (again_list x) rest (again_place s) (omega (arith, again_place_lt s, length-again_list x))
+        ∙ (ap (λ l. l ++ rest) (again_turned_is x s)
+        ∙ (ap (λ g. again_list (record x { core = turned_own x.core s }) ++ (guard_bits choices g ++ choice_bits P choices x.core.branches))
+        (sym (own_guards x.core s))
+        ∙ ap (λ b. again_list (record x { core = turned_own x.core s }) ++ (guard_bits choices (turned_own x.core s).guards ++ choice_bits P choices b))
+        (sym (own_branches x.core s))))
+    turned_is (choosing true choices) c x (of_guard s) f =
+        let a = guard_bits choices x.core.guards in
+        let b = choice_bits P choices x.core.branches in
+        set_second (again_list x) (a ++ b) (6 + (choice_count choices + choice_count choices)) (guard_place s) (length-again_list x)
+        ∙ ap (λ l. again_list x ++ l) (set_first a b (guard_place s) (omega (arith, guard_place_lt choices s f, length-guard_bits choices x.core.guards))
+        ∙ ap (λ l. l ++ b) (turned_guard_is choices x.core.guards s f))
+    turned_is (choosing true choices) c x (of_choice s) f =
+        let a = guard_bits choices x.core.guards in
+        let b = choice_bits P choices x.core.branches in
+        set_second (again_list x) (a ++ b) (6 + (choice_count choices + choice_count choices)) (guards_size choices + choice_place choices s)
+        (length-again_list x)
+        ∙ ap (λ l. again_list x ++ l) (set_second a b (guards_size choices) (choice_place choices s) (length-guard_bits choices x.core.guards)
+        ∙ ap (λ l. a ++ l) (turned_choice_is choices c x.core.branches s f))
+    turned_is (choosing true choices) c x (of_round s) f =
+        let rest = guard_bits choices x.core.guards ++ choice_bits P choices x.core.branches in
+        set_first (again_list x) rest (round_place s) (omega (arith, round_place_lt (choice_count choices) s, length-again_list x))
+        ∙ (ap (λ l. l ++ rest) (round_turned_is x s)
+        ∙ ap (λ z. again_list (turned_turning x s) ++ (guard_bits choices z.guards ++ choice_bits P choices z.branches)) (sym (round_core x s)))
+
+    pub turned_choice_is : (choices : Choices) → EachCovered choices → (x : ChoiceCells choices) (s : ChoiceSpot choices) → IsFineChoice choices s
+        → set (choice_bits P choices x) (choice_place choices s) (not (get_or (choice_bits P choices x) (choice_place choices s) false))
+        ≡ choice_bits P choices (turned_choice choices x s)
+    turned_choice_is no_choices c x s f = elim s [ ]
+    turned_choice_is (and_choice g p more) c x (this_choice s) f =
+        let a = bits P p x.0 in
+        let b = choice_bits P more x.1 in
+        set_first a b (place p s) (omega (arith, place_lt p c.0 s f, length-bits p c.0 x.0)) ∙ ap (λ l. l ++ b) (turned_is p c.0 x.0 s f)
+    turned_choice_is (and_choice g p more) c x (other_choice s) f =
+        let a = bits P p x.0 in
+        let b = choice_bits P more x.1 in
+        set_second a b (size_of P p) (choice_place more s) (length-bits p c.0 x.0) ∙ ap (λ l. a ++ l) (turned_choice_is more c.1 x.1 s f)
 
     pub turned_branch_is : (members : Processes) → AreCovered members → (x : BranchCells members) (s : BranchSpot members) → IsFineBranch members s
         → set (branch_bits P members x) (branch_place members s) (not (get_or (branch_bits P members x) (branch_place members s) false)) ≡ branch_bits P members
@@ -344,6 +488,34 @@ module _ (P : TypedProgram) where
     pub spot : Spot p
     pub fine : IsFine p spot
     pub is : place p spot ≡ n
+
+  record AtGuardPlace (choices : Choices) (n : ℕ) : Type 0 where
+    pub spot : GuardSpot choices
+    pub fine : IsFineGuard spot
+    pub is : guard_place spot ≡ n
+
+  guard_spot_of : (choices : Choices) (n : ℕ) → n < guards_size choices → AtGuardPlace choices n
+  guard_spot_of no_choices n h = absurd (omega arith)
+  guard_spot_of (and_choice g p more) n h =
+      ⊎_elim
+      (λ (lt : n < formula_size g).
+      let r = rail_of (gate_count g) n (omega (arith, lt, count_doubled g)) in
+      let here : AtGuardPlace (and_choice g p more) n = record { spot = this_gate r.bit r.one; fine = r.below; is = r.is } in
+      here)
+      (λ (le : formula_size g ≤ n).
+      let r = guard_spot_of more (n - formula_size g) (omega arith) in
+      let here : AtGuardPlace (and_choice g p more) n = record { spot = other_gate r.spot; fine = r.fine; is = omega (arith, r.is) } in
+      here)
+      (cases_lt n (formula_size g))
+
+  again_spot : (choices : Choices) (n : ℕ) → AtAgain (choice_count choices) n → AtPlace (choosing true choices) n
+  again_spot choices n (a_round s e) = record { spot = of_round s; fine = tt; is = e }
+  again_spot choices n (an_own s e) = record { spot = of_core s; fine = tt; is = e }
+
+  pub record AtChoicePlace (choices : Choices) (n : ℕ) : Type 0 where
+    pub spot : ChoiceSpot choices
+    pub fine : IsFineChoice choices spot
+    pub is : choice_place choices spot ≡ n
 
   pub record AtBranchPlace (members : Processes) (n : ℕ) : Type 0 where
     pub spot : BranchSpot members
@@ -391,7 +563,55 @@ module _ (P : TypedProgram) where
         } in
         here)
         (cases_lt n (branches_size P members))
-    spot_of (choosing again choices) c n h = absurd c
+    spot_of (choosing false choices) c n h =
+        let m = 3 + (choice_count choices + choice_count choices) in
+        ⊎_elim
+        (λ (lt : n < m).
+        let r = own_spot_of (choice_count choices) n lt in
+        let here : AtPlace (choosing false choices) n = record { spot = of_core r.spot; fine = tt; is = r.is } in
+        here)
+        (λ (le : m ≤ n).
+        ⊎_elim
+        (λ (lt : n - m < guards_size choices).
+        let r = guard_spot_of choices (n - m) lt in
+        let here : AtPlace (choosing false choices) n = record { spot = of_guard r.spot; fine = r.fine; is = omega (arith, r.is, le) } in
+        here)
+        (λ (behind : guards_size choices ≤ n - m).
+        let r = choice_spot_of choices c (n - m - guards_size choices) (omega (arith, h, le, behind)) in
+        let here : AtPlace (choosing false choices) n = record { spot = of_choice r.spot; fine = r.fine; is = omega (arith, r.is, le, behind) } in
+        here)
+        (cases_lt (n - m) (guards_size choices)))
+        (cases_lt n m)
+    spot_of (choosing true choices) c n h =
+        let m = 6 + (choice_count choices + choice_count choices) in
+        ⊎_elim
+        (λ (lt : n < m). again_spot choices n (again_spot_of (choice_count choices) n lt))
+        (λ (le : m ≤ n).
+        ⊎_elim
+        (λ (lt : n - m < guards_size choices).
+        let r = guard_spot_of choices (n - m) lt in
+        let here : AtPlace (choosing true choices) n = record { spot = of_guard r.spot; fine = r.fine; is = omega (arith, r.is, le) } in
+        here)
+        (λ (behind : guards_size choices ≤ n - m).
+        let r = choice_spot_of choices c (n - m - guards_size choices) (omega (arith, h, le, behind)) in
+        let here : AtPlace (choosing true choices) n = record { spot = of_choice r.spot; fine = r.fine; is = omega (arith, r.is, le, behind) } in
+        here)
+        (cases_lt (n - m) (guards_size choices)))
+        (cases_lt n m)
+
+    pub choice_spot_of : (choices : Choices) → EachCovered choices → (n : ℕ) → n < bodies_size P choices → AtChoicePlace choices n
+    choice_spot_of no_choices c n h = absurd (omega arith)
+    choice_spot_of (and_choice g p more) c n h =
+        ⊎_elim
+        (λ (lt : n < size_of P p).
+        let r = spot_of p c.0 n lt in
+        let here : AtChoicePlace (and_choice g p more) n = record { spot = this_choice r.spot; fine = r.fine; is = r.is } in
+        here)
+        (λ (le : size_of P p ≤ n).
+        let r = choice_spot_of more c.1 (n - size_of P p) (omega arith) in
+        let here : AtChoicePlace (and_choice g p more) n = record { spot = other_choice r.spot; fine = r.fine; is = omega (arith, r.is) } in
+        here)
+        (cases_lt n (size_of P p))
 
     pub branch_spot_of : (members : Processes) → AreCovered members → (n : ℕ) → n < branches_size P members → AtBranchPlace members n
     branch_spot_of no_members c n h = absurd (omega arith)
@@ -438,6 +658,21 @@ module _ (P : TypedProgram) where
       let e : suc (suc (2 * n)) ≡ 2 * suc n = omega arith in
       ap (λ l. false ∷ false ∷ l) (low_pair_bits n) ∙ ap (λ m. replicate m false) e
 
+  low_guard_bits : (choices : Choices) → guard_bits choices (low_guards choices) ≡ replicate (guards_size choices) false
+  low_guard_bits no_choices = refl
+  low_guard_bits (and_choice g p more) =
+      let m : 2 * gate_count g + guards_size more ≡ formula_size g + guards_size more = omega (arith, count_doubled g) in
+      ap (λ l. l ++ guard_bits more (low_guards more)) (low_pair_bits (gate_count g))
+      ∙ (ap (λ l. replicate (2 * gate_count g) false ++ l) (low_guard_bits more)
+      ∙ (replicate-append-replicate (2 * gate_count g) (guards_size more) false ∙ ap (λ k. replicate k false) m))
+
+  low_behind : (choices : Choices) → choice_bits P choices (low_choices choices) ≡ replicate (bodies_size P choices) false
+      → guard_bits choices (low_guards choices) ++ choice_bits P choices (low_choices choices)
+      ≡ replicate (guards_size choices + bodies_size P choices) false
+  low_behind choices e =
+      ap (λ l. l ++ choice_bits P choices (low_choices choices)) (low_guard_bits choices)
+      ∙ (ap (λ l. replicate (guards_size choices) false ++ l) e ∙ replicate-append-replicate (guards_size choices) (bodies_size P choices) false)
+
   mutual
     pub low_bits : (p : Process) → IsCovered p → bits P p (low p) ≡ replicate (size_of P p) false
     low_bits skipping c = refl
@@ -461,7 +696,27 @@ module _ (P : TypedProgram) where
         ap (λ l. l ++ tree_bits n (low_tree n)) (low_branch_bits members c)
         ∙ (ap (λ l. replicate (branches_size P members) false ++ l) (tree_low n)
         ∙ (replicate-append-replicate (branches_size P members) n false ∙ ap (λ k. replicate k false) m))
-    low_bits (choosing again choices) c = absurd c
+    low_bits (choosing false choices) c =
+        let n = choice_count choices in
+        let m : suc (suc (suc (n + n))) + (guards_size choices + bodies_size P choices) ≡ 3 + 2 * n + guards_size choices + bodies_size P choices = omega arith in
+        ap (λ l. (false ∷ false ∷ false ∷ l) ++ (guard_bits choices (low_guards choices) ++ choice_bits P choices (low_choices choices))) (low_lists n)
+        ∙ (ap (λ l. (false ∷ false ∷ false ∷ replicate (n + n) false) ++ l) (low_behind choices (low_choice_bits choices c))
+        ∙ (replicate-append-replicate (suc (suc (suc (n + n)))) (guards_size choices + bodies_size P choices) false ∙ ap (λ k. replicate k false) m))
+    low_bits (choosing true choices) c =
+        let n = choice_count choices in
+        let m : suc (suc (suc (suc (suc (suc (n + n)))))) + (guards_size choices + bodies_size P choices)
+        ≡ 6 + 2 * n + guards_size choices + bodies_size P choices = omega arith in
+        ap (λ l. (false ∷ false ∷ false ∷ false ∷ false ∷ false ∷ l) ++ (guard_bits choices (low_guards choices) ++ choice_bits P choices (low_choices choices)))
+        (low_lists n)
+        ∙ (ap (λ l. (false ∷ false ∷ false ∷ false ∷ false ∷ false ∷ replicate (n + n) false) ++ l) (low_behind choices (low_choice_bits choices c))
+        ∙ (replicate-append-replicate (suc (suc (suc (suc (suc (suc (n + n)))))) ) (guards_size choices + bodies_size P choices) false
+        ∙ ap (λ k. replicate k false) m))
+
+    pub low_choice_bits : (choices : Choices) → EachCovered choices → choice_bits P choices (low_choices choices) ≡ replicate (bodies_size P choices) false
+    low_choice_bits no_choices c = refl
+    low_choice_bits (and_choice g p more) c =
+        ap (λ l. l ++ choice_bits P more (low_choices more)) (low_bits p c.0)
+        ∙ (ap (λ l. replicate (size_of P p) false ++ l) (low_choice_bits more c.1) ∙ replicate-append-replicate (size_of P p) (bodies_size P more) false)
 
     pub low_branch_bits : (members : Processes) → AreCovered members → branch_bits P members (low_branches members) ≡ replicate (branches_size P members) false
     low_branch_bits no_members c = refl

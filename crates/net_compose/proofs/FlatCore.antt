@@ -1,16 +1,18 @@
 -- The own nodes of a core as a list, by numbers.
-use Rattle.std.proofs.Common.{◌≡◌, ℕ, zero, suc, ◌+◌, ◌-◌, ◌<◌, ◌≤◌, Bool, false, List, [], ◌∷◌, ◌++◌, map, length, get_or, set, refl, sym, ap, ◌∙◌, arith, get_or-append-add, ⊎_elim}
-use Rattle.std.proofs.lemmas.List.{get_or_append_left, set-append_left, set-append_right}
+use Rattle.std.proofs.Common.{◌≡◌, ℕ, zero, suc, ◌+◌, ◌-◌, ◌<◌, ◌≤◌, Bool, false, List, [], ◌∷◌, ◌++◌, map, length, get_or, set, refl, sym, ap, ◌∙◌, arith, get_or-append-add, ⊎_elim, length-append, replicate}
+use Rattle.std.proofs.lemmas.List.{get_or_append_left, set-append_left, set-append_right, replicate-append-replicate}
 use Rattle.std.specs.Prelude.{not}
 use Rattle.std.proofs.lemmas.Bool.{cases_lt}
-use Rattle.circuit_places.specs.Heads.{Index, top, under, Bits, turned_bit, Pairs}
-use Rattle.circuit_places.specs.Cores.{Core, Turning, RoundSpot, of_answer, of_turn, of_leave, turned_turning, turning_rule, OwnSpot, of_joined, of_ask, of_any, of_latch, of_start, turned_own, core_rule, Rule}
+use Rattle.circuit_places.specs.Heads.{Index, top, under, Bits, turned_bit, low_bits, bit_of}
+use Rattle.circuit_places.specs.Cores.{Core, Turning, RoundSpot, of_answer, of_turn, of_leave, turned_turning, turning_rule, OwnSpot, of_joined, of_ask, of_any, of_latch, of_start, turned_own, core_rule}
+use Rattle.function_blocks.specs.Rails.{Pairs, Rule}
 use Rattle.prs_core.specs.Moves.{guard_holds}
-use Rattle.circuit_places.proofs.Templates.{number_of, BitsAt, HeadsAt, SaysSo, joined_told, ask_told, any_told, any_again_told, turn_told, leave_told, answer_told, latch_told, start_told}
+use Rattle.net_compose.proofs.Templates.{number_of, BitsAt, HeadsAt, SaysSo, joined_told, ask_told, any_told, any_again_told, turn_told, leave_told, answer_told, latch_told, start_told}
 use Rattle.prs_core.specs.Nets.{NodeRules}
 use Rattle.prs_core.specs.Pairs.{no_rules, or_of}
 use Rattle.prs_core.specs.Pairs as net
 use Rattle.cell_select.specs.Selections.{Choosing, Repeating, select_rules, again_rules, only_one_true, latches, starts}
+use Rattle.std.specs.List.{range_with_len}
 
 abbrev pub list_of : (n : ℕ) → Bits n → List Bool
 list_of zero x = []
@@ -71,11 +73,11 @@ own_spot_of n (suc (suc (suc k))) h =
     here)
     (cases_lt k n)
 
--- in a list of two parts (as in net_compose)
-set_first : (a b : List Bool) (k : ℕ) → k < length a → set (a ++ b) k (not (get_or (a ++ b) k false)) ≡ set a k (not (get_or a k false)) ++ b
+-- in a list of two parts
+pub set_first : (a b : List Bool) (k : ℕ) → k < length a → set (a ++ b) k (not (get_or (a ++ b) k false)) ≡ set a k (not (get_or a k false)) ++ b
 set_first a b k h = ap (λ z. set (a ++ b) k (not z)) (get_or_append_left a b false k h) ∙ set-append_left a b k (not (get_or a k false)) h
 
-set_second : (a b : List Bool) (n k : ℕ) → length a ≡ n → set (a ++ b) (n + k) (not (get_or (a ++ b) (n + k) false)) ≡ a ++ set b k (not (get_or b k false))
+pub set_second : (a b : List Bool) (n k : ℕ) → length a ≡ n → set (a ++ b) (n + k) (not (get_or (a ++ b) (n + k) false)) ≡ a ++ set b k (not (get_or b k false))
 set_second a b n k e =
     let g : get_or (a ++ b) (n + k) false ≡ get_or b k false = ap (λ m. get_or (a ++ b) (m + k) false) (sym e) ∙ get_or-append-add a b k false in
     let d : n + k - n ≡ k = omega arith in
@@ -92,6 +94,70 @@ own_turned_is {n = n} x (of_latch i) =
 own_turned_is {n = n} x (of_start i) =
     ap (λ l. x.answer ∷ x.ask ∷ x.any ∷ l)
     (set_second (list_of n x.latched) (list_of n x.started) n (number_of i) (length-list_of n x.latched) ∙ ap (λ l. list_of n x.latched ++ l) (bit_turned_is i x.started))
+
+-- the guards and the branches stay
+pub own_guards : {n : ℕ} {G B : Type 0} (x : Core n G B) (s : OwnSpot n) → (turned_own x s).guards ≡ x.guards
+own_guards x of_joined = refl
+own_guards x of_ask = refl
+own_guards x of_any = refl
+own_guards x (of_latch i) = refl
+own_guards x (of_start i) = refl
+
+pub own_branches : {n : ℕ} {G B : Type 0} (x : Core n G B) (s : OwnSpot n) → (turned_own x s).branches ≡ x.branches
+own_branches x of_joined = refl
+own_branches x of_ask = refl
+own_branches x of_any = refl
+own_branches x (of_latch i) = refl
+own_branches x (of_start i) = refl
+
+pub round_core : {A : Type 0} (x : Turning A) (s : RoundSpot) → (turned_turning x s).core ≡ x.core
+round_core x of_answer = refl
+round_core x of_turn = refl
+round_core x of_leave = refl
+
+-- how many own nodes there are, and that they are low at first
+pub length-own_list : {n : ℕ} {G B : Type 0} (x : Core n G B) → length (own_list x) ≡ 3 + (n + n)
+length-own_list {n = n} x = omega (arith, length-append (list_of n x.latched) (list_of n x.started), length-list_of n x.latched, length-list_of n x.started)
+
+low_list : (n : ℕ) → list_of n (low_bits n) ≡ replicate n false
+low_list zero = refl
+low_list (suc n) = ap (λ l. false ∷ l) (low_list n)
+
+pub low_lists : (n : ℕ) → list_of n (low_bits n) ++ list_of n (low_bits n) ≡ replicate (n + n) false
+low_lists n = ap (λ l. l ++ list_of n (low_bits n)) (low_list n) ∙ (ap (λ l. replicate n false ++ l) (low_list n) ∙ replicate-append-replicate n n false)
+
+-- the values of the nodes in the list
+pub list_at : {n : ℕ} (i : Index n) (x : Bits n) → get_or (list_of n x) (number_of i) false ≡ bit_of i x
+list_at top x = refl
+list_at (under i) x = list_at i x.1
+
+two_lists : {n : ℕ} (i : Index n) (a b : Bits n) → (get_or (list_of n a ++ list_of n b) (number_of i) false ≡ bit_of i a)
+    × (get_or (list_of n a ++ list_of n b) (n + number_of i) false ≡ bit_of i b)
+two_lists {n = n} i a b = (
+  get_or_append_left (list_of n a) (list_of n b) false (number_of i) (omega (arith, number_lt i, length-list_of n a)) ∙ list_at i a,
+  ap (λ m. get_or (list_of n a ++ list_of n b) (m + number_of i) false) (sym (length-list_of n a))
+      ∙ (get_or-append-add (list_of n a) (list_of n b) (number_of i) false ∙ list_at i b),
+)
+
+pub own_now : {n : ℕ} {G B : Type 0} (r v : Bool) (hs : Pairs n) (ans : Bits n) (x : Core n G B) (s : OwnSpot n)
+    → get_or (own_list x) (own_place s) false ≡ (core_rule r v hs ans x s).now
+own_now r v hs ans x of_joined = refl
+own_now r v hs ans x of_ask = refl
+own_now r v hs ans x of_any = refl
+own_now r v hs ans x (of_latch i) = (two_lists i x.latched x.started).0
+own_now r v hs ans x (of_start i) = (two_lists i x.latched x.started).1
+
+-- nodes one behind another have these values
+pub bits_at_range : (n a : ℕ) (v : ℕ → Bool) (x : Bits n) → ((k : ℕ) → k < n → v (a + k) ≡ get_or (list_of n x) k false) → BitsAt n v (range_with_len a n) x
+bits_at_range zero a v x h = tt
+bits_at_range (suc n) a v x h = (
+  ap v (let e : a ≡ a + 0 = omega arith in e) ∙ h 0 (omega arith),
+  bits_at_range n (a + 1) v x.1 (λ k less. ap v (let e : a + 1 + k ≡ a + suc k = omega arith in e) ∙ h (suc k) (omega (arith, less))),
+)
+
+pub some_range : (a n : ℕ) → 1 ≤ n → (k : ℕ) × ((ks : List ℕ) × (range_with_len a n ≡ k ∷ ks))
+some_range a zero h = absurd (let g : ⊥ = omega (arith, h) in g)
+some_range a (suc n) h = (a, (range_with_len (a + 1) n, refl))
 
 -- how many latches there are
 length-only : (before hs : List net.Pair) → length (only_one_true before hs) ≡ length hs
@@ -160,6 +226,26 @@ again_turned_is {n = n} x (of_start i) =
     ap (λ l. x.answer ∷ x.turn ∷ x.core.answer ∷ x.core.ask ∷ x.core.any ∷ x.leave ∷ l)
     (set_second (list_of n x.core.latched) (list_of n x.core.started) n (number_of i) (length-list_of n x.core.latched) ∙ ap (λ l. list_of n x.core.latched ++ l) (bit_turned_is i x.core.started))
 
+pub length-again_list : {n : ℕ} {G B : Type 0} (x : Turning (Core n G B)) → length (again_list x) ≡ 6 + (n + n)
+length-again_list {n = n} x = omega (
+  arith,
+  length-append (list_of n x.core.latched) (list_of n x.core.started),
+  length-list_of n x.core.latched,
+  length-list_of n x.core.started,
+)
+
+pub again_place_lt : {n : ℕ} (s : OwnSpot n) → again_place s < 6 + (n + n)
+again_place_lt of_joined = omega arith
+again_place_lt of_ask = omega arith
+again_place_lt of_any = omega arith
+again_place_lt (of_latch i) = omega (arith, number_lt i)
+again_place_lt (of_start i) = omega (arith, number_lt i)
+
+pub round_place_lt : (n : ℕ) (s : RoundSpot) → round_place s < 6 + (n + n)
+round_place_lt n of_answer = omega arith
+round_place_lt n of_turn = omega arith
+round_place_lt n of_leave = omega arith
+
 -- which node a number is
 pub data AtAgain (n k : ℕ) : Type 0 where
   a_round : (s : RoundSpot) → round_place s ≡ k → AtAgain n k
@@ -180,6 +266,20 @@ again_spot_of n (suc (suc (suc (suc (suc (suc k)))))) h =
     let here : AtAgain n (suc (suc (suc (suc (suc (suc k)))))) = an_own (of_start r.index) (omega (arith, r.is, le)) in
     here)
     (cases_lt k n)
+
+pub again_now : {n : ℕ} {G B : Type 0} (r v : Bool) (hs : Pairs n) (ans : Bits n) (x : Turning (Core n G B)) (s : OwnSpot n)
+    → get_or (again_list x) (again_place s) false ≡ (core_rule r v hs ans x.core s).now
+again_now r v hs ans x of_joined = refl
+again_now r v hs ans x of_ask = refl
+again_now r v hs ans x of_any = refl
+again_now r v hs ans x (of_latch i) = (two_lists i x.core.latched x.core.started).0
+again_now r v hs ans x (of_start i) = (two_lists i x.core.latched x.core.started).1
+
+pub round_now : {n : ℕ} {G B : Type 0} (r : Bool) (hs : Pairs n) (x : Turning (Core n G B)) (s : RoundSpot)
+    → get_or (again_list x) (round_place s) false ≡ (turning_rule r hs x s).now
+round_now r hs x of_answer = refl
+round_now r hs x of_turn = refl
+round_now r hs x of_leave = refl
 
 -- each own node of a repetition in its rules
 module _ {n : ℕ} {G B : Type 0} (v : ℕ → Bool) (p : Repeating) (x : Turning (Core (suc n) G B)) (hs : Pairs (suc n)) (ans : Bits (suc n))

@@ -1,17 +1,17 @@
 -- What the guards of a covered circuit's own nodes say, read at their numbers, is what the rules of its cells say.
-use Rattle.std.proofs.Common.{◌≡◌, ℕ, zero, suc, ◌+◌, ◌-◌, ◌*◌, ◌<◌, ◌≤◌, Bool, true, false, List, [], ◌∷◌, ◌++◌, map, length, get_or, refl, sym, ap, ◌∙◌, arith, length-append, get_or-append-add}
+use Rattle.std.proofs.Common.{◌≡◌, ℕ, zero, suc, ◌+◌, ◌-◌, ◌*◌, ◌<◌, ◌≤◌, Bool, true, false, List, [], ◌∷◌, ◌++◌, map, length, get_or, refl, sym, ap, ◌∙◌, arith, length-append, get_or-append-add, subst}
 use Rattle.std.specs.Prelude.{not, ◌&&◌, ◌||◌, if◌then◌else◌}
 use Rattle.std.specs.List.{list_any, list_all, range_with_len}
 use Rattle.std.proofs.lemmas.List.{get_or_append_left}
 use Rattle.prs_core.specs.Nets.{NodeRules, is_high, is_low, one_term}
 use Rattle.prs_core.specs.Pairs.{pair_of, pairs_from, no_rules, or_of, lows}
 use Rattle.prs_core.specs.Moves.{term_holds, guard_holds}
-use Rattle.width_check.specs.Processes.{Formula, Process, skipping, assigning, sending, receiving, in_turn, side_by_side, choosing, repeating, Processes, no_members, and_member, member_count, TypedProgram}
+use Rattle.width_check.specs.Processes.{Formula, Process, skipping, assigning, sending, receiving, in_turn, side_by_side, choosing, repeating, Processes, no_members, and_member, member_count, TypedProgram, Choices, no_choices, and_choice, choice_count}
 use Rattle.chp_base.specs.declared.span.Span.{Span}
-use Rattle.width_check.specs.Typing.{channel_width, var_width, ReadsFrom, IsProcess, AreProcesses}
-use Rattle.width_check.specs.Values.{IsWellFormed}
+use Rattle.width_check.specs.Typing.{channel_width, var_width, ReadsFrom, IsProcess, AreProcesses, AreChoices}
+use Rattle.width_check.specs.Values.{IsWellFormed, width_of}
 use Rattle.width_check.specs.Reads.{reads}
-use Rattle.handshake_expand.specs.Layout.{formula_size, size_of, turn_size, branches_size, channel_from}
+use Rattle.handshake_expand.specs.Layout.{formula_size, size_of, turn_size, branches_size, channel_from, guards_size, bodies_size}
 use Rattle.handshake_expand.specs.Answers as number
 use Rattle.cell_variable.specs.Variables.{write_answer}
 use Rattle.cell_channel.specs.Ends.{taken_rail, port_rules}
@@ -23,14 +23,25 @@ use Rattle.function_blocks.proofs.GatesTold.{listed}
 use Rattle.circuit_places.proofs.Meets.{read_declared}
 use Rattle.cell_parallel.specs.Trees.{tree_rules}
 use Rattle.cell_parallel.specs.Sizes.{tree_length}
-use Rattle.circuit_places.specs.Covered.{IsCovered, AreCovered}
+use Rattle.circuit_places.specs.Covered.{IsCovered, AreCovered, EachCovered}
 use Rattle.circuit_places.specs.Lines.{of_channel, of_var, Rails, Seen}
-use Rattle.circuit_places.specs.Circuit.{of_receive, heard, stored, taking, Pairs, side_of, gate_count, Cells, TurnCells, BranchCells, bit_at, joint_count, tree_value, tree_rule, branch_ends as cell_ends, answer, turn_answer, Spot, TurnSpot, BranchSpot, of_branch, joint, in_this, in_others, child, latch, next, inner, of_skip, done, gate, of_assign, of_send, in_members, of_loop, ask, in_body, in_last, in_member, in_later, Rule, rule_of, gate_rule, rule, turn_rule, branch_rule}
+use Rattle.circuit_places.specs.Circuit.{of_receive, heard, stored, taking, Pairs, side_of, gate_count, Cells, TurnCells, BranchCells, bit_at, joint_count, tree_value, tree_rule, branch_ends as cell_ends, answer, turn_answer, Spot, TurnSpot, BranchSpot, of_branch, joint, in_this, in_others, child, latch, next, inner, of_skip, done, gate, of_assign, of_send, in_members, of_loop, ask, in_body, in_last, in_member, in_later, Rule, rule_of, gate_rule, rule, turn_rule, branch_rule, GuardCells, ChoiceCells, GuardSpot, this_gate, other_gate, ChoiceSpot, this_choice, other_choice, of_core, of_guard, of_choice, of_round, guard_head, heads, guards_rule, choice_answers, choice_rule}
 use Rattle.circuit_places.specs.Whole.{all_low}
-use Rattle.net_compose.specs.Translation.{through_rules, rules_of, turn_rules, branches_rules, branch_ends, branches_end, bits_at, ack_at, written_at}
-use Rattle.net_compose.proofs.Sizes.{has_bits}
+use Rattle.net_compose.specs.Translation.{through_rules, rules_of, turn_rules, branches_rules, branch_ends, branches_end, bits_at, ack_at, written_at, guards_rules as net_guards, bodies_rules, guard_pairs, branch_answers, choosing_at, repeating_at}
+use Rattle.net_compose.proofs.Sizes.{has_bits, Counted, statement_length, latches_and_starts, guards_length}
 use Rattle.net_compose.proofs.FlatTrees.{joint_count_is, tree_bits, length-tree_bits, tree_bit, value_node, value_leaf, answer_value, Alike, tree_alike}
-use Rattle.net_compose.proofs.FlatCells.{plain_size, pair_bits, rail_bits, rail_place, bits, turn_bits, branch_bits, place, turn_place, branch_place, IsFine, IsFineTurn, IsFineBranch, length-bits, length-branch_bits, place_lt, branch_place_lt}
+use Rattle.net_compose.proofs.FlatCells.{plain_size, pair_bits, rail_bits, rail_place, bits, turn_bits, branch_bits, place, turn_place, branch_place, IsFine, IsFineTurn, IsFineBranch, length-bits, length-branch_bits, place_lt, branch_place_lt, guard_bits, choice_bits, guard_place, choice_place, IsFineGuard, IsFineChoice, length-guard_bits, length-choice_bits, guard_place_lt, choice_place_lt, rail_place_lt, length-pair_bits}
+use Rattle.prs_core.specs.Pairs.{Pair as NodePair}
+use Rattle.handshake_expand.specs.Answers.{guards_from, bodies_from, select_own, again_own}
+use Rattle.cell_select.specs.Selections.{select_rules, again_rules}
+use Rattle.function_blocks.specs.Waves.{out_rail}
+use Rattle.function_blocks.specs.Expressions.{formula_result}
+use Rattle.function_blocks.proofs.Sizes.{result_length}
+use Rattle.circuit_places.specs.Heads.{Bits}
+use Rattle.circuit_places.specs.Cores.{OwnSpot, RoundSpot, core_rule, turning_rule}
+use Rattle.net_compose.proofs.Templates.{BitsAt, HeadsAt, SaysSo}
+use Rattle.net_compose.proofs.FlatCore.{list_of, length-list_of, own_list, own_place, own_place_lt, length-own_list, own_now, select_told, again_list, again_place, round_place, again_place_lt, round_place_lt, length-again_list, again_now, round_now, round_told, again_told, bits_at_range, some_range}
+use Rattle.function_blocks.proofs.PartSizes.{count_doubled}
 
 -- the nodes from a number on have these values
 pub record Stands (v : ℕ → Bool) (from : ℕ) (xs : List Bool) : Type 0 where
@@ -162,6 +173,19 @@ port_rule_at r (suc n) from zero false h = refl
 port_rule_at r (suc n) from (suc i) one h = port_rule_at r n (from + 2) i one (omega arith)
     ∙ ap (taken_rail r) (let e : from + 2 + rail_place i one ≡ from + suc (suc (rail_place i one)) = omega arith in e)
 
+pub counted : Counted
+counted = record { rules = rules_length; bits = result_length; tree = tree_length }
+
+-- behind so many rules
+behind_rules : (xs ys : List NodeRules) (m k : ℕ) → length xs ≡ m → get_or (xs ++ ys) (m + k) no_rules ≡ get_or ys k no_rules
+behind_rules xs ys m k e = ap (λ n. get_or (xs ++ ys) (n + k) no_rules) (sym e) ∙ get_or-append-add xs ys k no_rules
+
+-- a result of one bit
+one_pair : (l : List NodePair) → length l ≡ 1 → l ≡ pair_of l 0 ∷ []
+one_pair [] h = absurd (omega (arith, h))
+one_pair (x ∷ []) h = refl
+one_pair (x ∷ y ∷ l) h = absurd (omega (arith, h))
+
 module _ (P : TypedProgram) where
   -- the ends of branches, and where their nodes end
   pub length-branch_ends : (members : Processes) (from : ℕ) → length (branch_ends P members from) ≡ member_count members
@@ -196,7 +220,7 @@ module _ (P : TypedProgram) where
           tree_length (branch_ends P members from) (branches_end P members from),
           length-branch_ends members from,
         )
-    length-rules (choosing again choices) c t r from = absurd c
+    length-rules (choosing again choices) c t r from = statement_length counted P (choosing again choices) r from t
 
     pub length-branches_rules : (members : Processes) → AreCovered members → AreProcesses P.channels P.vars members → (r from : ℕ)
         → length (branches_rules P members r from) ≡ branches_size P members
@@ -320,7 +344,8 @@ module _ (P : TypedProgram) where
           (arith, some) in e)
           ∙ (tree_at members c from x s (n - 2) (omega (arith, some, joint_count_is (member_count members)))
           ∙ sym (answer_value n (cell_ends members x.branches) (bit_at (joint_count (member_count members)) x.tree) some))
-      answer_is (choosing again choices) c t from x s = absurd c
+      answer_is (choosing false choices) c t from x s = stands_head v from x.answer _ s
+      answer_is (choosing true choices) c t from x s = stands_head v from x.answer _ s
 
       pub turn_answer_is : (members : Processes) → AreCovered members → AreProcesses P.channels P.vars members → 1 ≤ member_count members
           → (from : ℕ) (x : TurnCells members) → Stands v from (turn_bits P members x) → v (number.turn_answer P members from) ≡ turn_answer members x
@@ -328,6 +353,204 @@ module _ (P : TypedProgram) where
       turn_answer_is (and_member p no_members) c t some from x s = answer_is p c.0 t.0 from x s
       turn_answer_is (and_member p (and_member q more)) c t some from x s =
           turn_answer_is (and_member q more) c.1 t.1 (omega arith) (from + 3 + size_of P p) x.later (stands_later p q more c.0 from x s)
+
+    -- the parts of a selection and of a guarded repetition
+    stands_guards : (choices : Choices) (from : ℕ) (x : Cells (choosing false choices)) → Stands v from (bits P (choosing false choices) x)
+        → Stands v (guards_from choices select_own from) (guard_bits choices x.guards)
+    stands_guards choices from x s =
+        let a = guard_bits choices x.guards in
+        let b = choice_bits P choices x.branches in
+        stands_before v (guards_from choices select_own from) a b
+        (stands_after v from (guards_from choices select_own from) (own_list x) (a ++ b) s (omega (arith, length-own_list x)))
+
+    pub stands_choices : (choices : Choices) (from : ℕ) (x : Cells (choosing false choices)) → Stands v from (bits P (choosing false choices) x)
+        → Stands v (bodies_from choices select_own from) (choice_bits P choices x.branches)
+    stands_choices choices from x s =
+        let a = guard_bits choices x.guards in
+        let b = choice_bits P choices x.branches in
+        stands_after v (guards_from choices select_own from) (bodies_from choices select_own from) a b
+        (stands_after v from (guards_from choices select_own from) (own_list x) (a ++ b) s (omega (arith, length-own_list x)))
+        (omega (arith, length-guard_bits choices x.guards))
+
+    again_guards : (choices : Choices) (from : ℕ) (x : Cells (choosing true choices)) → Stands v from (bits P (choosing true choices) x)
+        → Stands v (guards_from choices again_own from) (guard_bits choices x.core.guards)
+    again_guards choices from x s =
+        let a = guard_bits choices x.core.guards in
+        let b = choice_bits P choices x.core.branches in
+        stands_before v (guards_from choices again_own from) a b
+        (stands_after v from (guards_from choices again_own from) (again_list x) (a ++ b) s (omega (arith, length-again_list x)))
+
+    pub again_choices : (choices : Choices) (from : ℕ) (x : Cells (choosing true choices)) → Stands v from (bits P (choosing true choices) x)
+        → Stands v (bodies_from choices again_own from) (choice_bits P choices x.core.branches)
+    again_choices choices from x s =
+        let a = guard_bits choices x.core.guards in
+        let b = choice_bits P choices x.core.branches in
+        stands_after v (guards_from choices again_own from) (bodies_from choices again_own from) a b
+        (stands_after v from (guards_from choices again_own from) (again_list x) (a ++ b) s (omega (arith, length-again_list x)))
+        (omega (arith, length-guard_bits choices x.core.guards))
+
+    pub stands_this_choice : (p : Process) (from : ℕ) (g : Formula) (more : Choices) (x : ChoiceCells (and_choice g p more))
+        → Stands v from (choice_bits P (and_choice g p more) x) → Stands v from (bits P p x.0)
+    stands_this_choice p from g more x s = stands_before v from (bits P p x.0) (choice_bits P more x.1) s
+
+    pub stands_other_choice : (p : Process) (from : ℕ) (g : Formula) (more : Choices) (c : IsCovered p) (x : ChoiceCells (and_choice g p more))
+        → Stands v from (choice_bits P (and_choice g p more) x) → Stands v (from + size_of P p) (choice_bits P more x.1)
+    stands_other_choice p from g more c x s =
+        stands_after v from (from + size_of P p) (bits P p x.0) (choice_bits P more x.1) s (omega (arith, length-bits P p c x.0))
+
+    -- the answers of the branches, and the heads of the guards
+    answers_at : (choices : Choices) → EachCovered choices → AreChoices P.channels P.vars choices → (from : ℕ) (x : ChoiceCells choices)
+        → Stands v from (choice_bits P choices x) → BitsAt (choice_count choices) v (branch_answers P choices from) (choice_answers choices x)
+    answers_at no_choices c t from x s = tt
+    answers_at (and_choice g p more) c t from x s = (
+      answer_is p c.0 t.1 from x.0 (stands_this_choice p from g more x s),
+      answers_at more c.1 t.2 (from + size_of P p) x.1 (stands_other_choice p from g more c.0 x s),
+    )
+
+    head_at : (g : Formula) → IsWellFormed g → ReadsFrom P.vars g → 1 ≤ width_of g → (from : ℕ) (u : Pairs (gate_count g))
+        → Stands v from (pair_bits (gate_count g) u) → (one : Bool) → v (node_of (pair_of (formula_result g from) 0) one) ≡ out_rail g u 0 one
+    head_at g formed read some from u s one =
+        (listed P.vars g formed read).outputs (bits_at P) 0 from v (v 0) (λ y k side. v (node_of (pair_of (bits_at P y) k) side)) u
+        (record {
+          asked = refl;
+          gates = λ k side less. gate_value v (gate_count g) u from k side less s;
+          read = λ y k side z less. refl;
+        }) 0 one some
+
+    heads_at : (choices : Choices) → AreChoices P.channels P.vars choices → (from : ℕ) (x : GuardCells choices) → Stands v from (guard_bits choices x)
+        → HeadsAt (choice_count choices) v (guard_pairs choices from) (heads choices x)
+    heads_at no_choices t from x s = tt
+    heads_at (and_choice g p more) t from x s =
+        let l = formula_result g from in
+        let some : 1 ≤ width_of g = omega (arith, t.0.agrees) in
+        let here = head_at g t.0.formed t.0.reads some from x.0 (stands_before v from (pair_bits (gate_count g) x.0) (guard_bits more x.1) s) in
+        subst (λ (ps : List NodePair). HeadsAt (suc (choice_count more)) v (ps ++ guard_pairs more (from + formula_size g)) (heads (and_choice g p more) x))
+        (sym (one_pair l (result_length g from t.0.formed ∙ t.0.agrees))) (
+          here true,
+          here false,
+          heads_at more t.2 (from + formula_size g) x.1 (stands_after v from (from + formula_size g) (pair_bits (gate_count g) x.0) (guard_bits more x.1) s
+              (omega (arith, length-pair_bits (gate_count g) x.0, count_doubled g))),
+        )
+
+    -- the own nodes of a selection
+    select_length : (choices : Choices) → AreChoices P.channels P.vars choices → (r from : ℕ)
+        → length (select_rules (choosing_at P choices r (from + 2) select_own from)) ≡ 3 + (choice_count choices + choice_count choices)
+    select_length choices t r from = omega (arith, latches_and_starts counted P choices r (from + 2) select_own from t)
+
+    again_length : (choices : Choices) → AreChoices P.channels P.vars choices → (r from : ℕ)
+        → length (again_rules (repeating_at P choices r from)) ≡ 6 + (choice_count choices + choice_count choices)
+    again_length choices t r from = omega (arith, latches_and_starts counted P choices (from + 1) (from + 4) again_own from t)
+
+    module _ (choices : Choices) (c : EachCovered choices) (t : AreChoices P.channels P.vars choices) (some : 1 ≤ choice_count choices) (r from : ℕ)
+        (x : Cells (choosing false choices)) (s : Stands v from (bits P (choosing false choices) x)) where
+      own_at : (k : ℕ) → k < 3 + (choice_count choices + choice_count choices) → v (from + k) ≡ get_or (own_list x) k false
+      own_at k less = (stands_before v from (own_list x) (guard_bits choices x.guards ++ choice_bits P choices x.branches) s).at k
+          (omega (arith, less, length-own_list x))
+
+      latched_at : BitsAt (choice_count choices) v (range_with_len (from + 3) (choice_count choices)) x.latched
+      latched_at = bits_at_range (choice_count choices) (from + 3) v x.latched (λ k less.
+          ap v (let e : from + 3 + k ≡ from + suc (suc (suc k)) = omega arith in e)
+          ∙ (own_at (suc (suc (suc k))) (omega (arith, less))
+          ∙ get_or_append_left (list_of (choice_count choices) x.latched) (list_of (choice_count choices) x.started) false k
+          (omega (arith, less, length-list_of (choice_count choices) x.latched))))
+
+      pub started_at : BitsAt (choice_count choices) v (range_with_len (from + select_own + choice_count choices) (choice_count choices)) x.started
+      started_at = bits_at_range (choice_count choices) (from + select_own + choice_count choices) v x.started (λ k less.
+          ap v (let e : from + 3 + choice_count choices + k ≡ from + suc (suc (suc (choice_count choices + k))) = omega arith in e)
+          ∙ (own_at (suc (suc (suc (choice_count choices + k)))) (omega (arith, less))
+          ∙ (ap (λ n. get_or (list_of (choice_count choices) x.latched ++ list_of (choice_count choices) x.started) (n + k) false)
+          (sym (length-list_of (choice_count choices) x.latched))
+          ∙ get_or-append-add (list_of (choice_count choices) x.latched) (list_of (choice_count choices) x.started) k false)))
+
+      select_own_is : (z : OwnSpot (choice_count choices)) → Told v (rules_of P (choosing false choices) r from) from (own_place z)
+          (core_rule (v r) false (heads choices x.guards) (choice_answers choices x.branches) x z)
+      select_own_is z =
+          let k = some_range (from + 3) (choice_count choices) some in
+          let here = select_told v (choosing_at P choices r (from + 2) select_own from) x (heads choices x.guards) (choice_answers choices x.branches) k.0 k.1.0
+          k.1.1 (own_at 2 (omega arith)) latched_at
+          (answers_at choices c t (bodies_from choices select_own from) x.branches (stands_choices choices from x s))
+          (heads_at choices t (guards_from choices select_own from) x.guards (stands_guards choices from x s)) z in
+          let own = select_rules (choosing_at P choices r (from + 2) select_own from) in
+          let same = get_or_append_left own (net_guards P choices (from + 1) (guards_from choices select_own from)
+          ++ bodies_rules P choices (from + select_own + choice_count choices) (bodies_from choices select_own from)) no_rules (own_place z)
+          (omega (arith, own_place_lt z, select_length choices t r from)) in
+          record {
+            now = own_at (own_place z) (own_place_lt z) ∙ own_now (v r) false (heads choices x.guards) (choice_answers choices x.branches) x z;
+            up = ap (λ (y : NodeRules). guard_holds v y.up) same ∙ here.up;
+            down = ap (λ (y : NodeRules). guard_holds v y.down) same ∙ here.down;
+          }
+
+    -- and of a repetition
+    module _ (choices : Choices) (c : EachCovered choices) (t : AreChoices P.channels P.vars choices) (r from : ℕ) (x : Cells (choosing true choices))
+        (s : Stands v from (bits P (choosing true choices) x)) where
+      round_at : (k : ℕ) → k < 6 + (choice_count choices + choice_count choices) → v (from + k) ≡ get_or (again_list x) k false
+      round_at k less = (stands_before v from (again_list x) (guard_bits choices x.core.guards ++ choice_bits P choices x.core.branches) s).at k
+          (omega (arith, less, length-again_list x))
+
+      pub again_latched : BitsAt (choice_count choices) v (range_with_len (from + 6) (choice_count choices)) x.core.latched
+      again_latched = bits_at_range (choice_count choices) (from + 6) v x.core.latched (λ k less.
+          ap v (let e : from + 6 + k ≡ from + suc (suc (suc (suc (suc (suc k))))) = omega arith in e)
+          ∙ (round_at (suc (suc (suc (suc (suc (suc k)))))) (omega (arith, less))
+          ∙ get_or_append_left (list_of (choice_count choices) x.core.latched) (list_of (choice_count choices) x.core.started) false k
+          (omega (arith, less, length-list_of (choice_count choices) x.core.latched))))
+
+      pub again_started : BitsAt (choice_count choices) v (range_with_len (from + again_own + choice_count choices) (choice_count choices)) x.core.started
+      again_started = bits_at_range (choice_count choices) (from + again_own + choice_count choices) v x.core.started (λ k less.
+          ap v (let e : from + 6 + choice_count choices + k ≡ from + suc (suc (suc (suc (suc (suc (choice_count choices + k)))))) = omega arith in e)
+          ∙ (round_at (suc (suc (suc (suc (suc (suc (choice_count choices + k))))))) (omega (arith, less))
+          ∙ (ap (λ n. get_or (list_of (choice_count choices) x.core.latched ++ list_of (choice_count choices) x.core.started) (n + k) false)
+          (sym (length-list_of (choice_count choices) x.core.latched))
+          ∙ get_or-append-add (list_of (choice_count choices) x.core.latched) (list_of (choice_count choices) x.core.started) k false)))
+
+      pub again_within : (k : ℕ) → k < 6 + (choice_count choices + choice_count choices)
+          → get_or (rules_of P (choosing true choices) r from) k no_rules ≡ get_or (again_rules (repeating_at P choices r from)) k no_rules
+      again_within k less = get_or_append_left (again_rules (repeating_at P choices r from)) (net_guards P choices (from + 3) (guards_from choices again_own from)
+          ++ bodies_rules P choices (from + again_own + choice_count choices) (bodies_from choices again_own from)) no_rules k
+          (omega (arith, less, again_length choices t r from))
+
+    module _ (g : Formula) (p : Process) (more : Choices) (c : EachCovered (and_choice g p more))
+        (t : AreChoices P.channels P.vars (and_choice g p more)) (r from : ℕ) (x : Cells (choosing true (and_choice g p more)))
+        (s : Stands v from (bits P (choosing true (and_choice g p more)) x)) where
+      abbrev Arms : Choices
+      Arms = and_choice g p more
+
+      turned_at : v (from + 1) ≡ x.turn
+      turned_at = round_at Arms c t r from x s 1 (omega arith)
+
+      leave_at : v (from + 5) ≡ x.leave
+      leave_at = round_at Arms c t r from x s 5 (omega arith)
+
+      again_own_is : (z : OwnSpot (choice_count Arms)) → Told v (rules_of P (choosing true Arms) r from) from (again_place z)
+          (core_rule x.turn x.leave (heads Arms x.core.guards) (choice_answers Arms x.core.branches) x.core z)
+      again_own_is z =
+          let hs = heads Arms x.core.guards in
+          let ans = choice_answers Arms x.core.branches in
+          let here = again_told v (repeating_at P Arms r from) x hs ans (round_at Arms c t r from x s 2 (omega arith)) leave_at turned_at
+          (round_at Arms c t r from x s 4 (omega arith)) (again_latched Arms c t r from x s)
+          (answers_at Arms c t (bodies_from Arms again_own from) x.core.branches (again_choices Arms from x s))
+          (heads_at Arms t (guards_from Arms again_own from) x.core.guards (again_guards Arms from x s)) z in
+          let same = again_within Arms c t r from x s (again_place z) (again_place_lt z) in
+          told_of v (rules_of P (choosing true Arms) r from) from (again_place z) (core_rule (v (from + 1)) (v (from + 5)) hs ans x.core z)
+          (core_rule x.turn x.leave hs ans x.core z)
+          (ap (λ b. core_rule b (v (from + 5)) hs ans x.core z) turned_at ∙ ap (λ b. core_rule x.turn b hs ans x.core z) leave_at) (record {
+            now = round_at Arms c t r from x s (again_place z) (again_place_lt z) ∙ again_now (v (from + 1)) (v (from + 5)) hs ans x z;
+            up = ap (λ (y : NodeRules). guard_holds v y.up) same ∙ here.up;
+            down = ap (λ (y : NodeRules). guard_holds v y.down) same ∙ here.down;
+          })
+
+      again_round_is : (z : RoundSpot) → Told v (rules_of P (choosing true Arms) r from) from (round_place z) (turning_rule (v r) (heads Arms x.core.guards) x z)
+      again_round_is z =
+          let hs = heads Arms x.core.guards in
+          let here = round_told v (repeating_at P Arms r from) x hs (choice_answers Arms x.core.branches) (round_at Arms c t r from x s 2 (omega arith)) leave_at
+          turned_at (round_at Arms c t r from x s 4 (omega arith)) (again_latched Arms c t r from x s)
+          (answers_at Arms c t (bodies_from Arms again_own from) x.core.branches (again_choices Arms from x s))
+          (heads_at Arms t (guards_from Arms again_own from) x.core.guards (again_guards Arms from x s)) z in
+          let same = again_within Arms c t r from x s (round_place z) (round_place_lt (choice_count Arms) z) in
+          record {
+            now = round_at Arms c t r from x s (round_place z) (round_place_lt (choice_count Arms) z) ∙ round_now (v r) hs x z;
+            up = ap (λ (y : NodeRules). guard_holds v y.up) same ∙ here.up;
+            down = ap (λ (y : NodeRules). guard_holds v y.down) same ∙ here.down;
+          }
 
     -- the rules of the own nodes, where the channels' acknowledges stand at their numbers
     module _ (w : Seen) (acks : (k : ℕ) → k < length P.channels → v (ack_at P k) ≡ w.ack (of_channel k))
@@ -345,6 +568,53 @@ module _ (P : TypedProgram) where
             read = λ x k side z less. bits_are x k side (read_declared P e read x z) less;
           }) i one h in
           record { now = t.now; up = t.up; down = t.down }
+
+      guard_told : (choices : Choices) → AreChoices P.channels P.vars choices → (r from : ℕ) (x : GuardCells choices) (z : GuardSpot choices) → IsFineGuard z
+          → Stands v from (guard_bits choices x) → Told v (net_guards P choices r from) from (guard_place z) (guards_rule choices w.bit (v r) x z)
+      guard_told no_choices t r from x z f s = elim z [ ]
+      guard_told (and_choice g p more) t r from x (this_gate i one) f s =
+          let here = formula_rules (bits_at P) g r from in
+          let rest = net_guards P more r (from + formula_size g) in
+          told_within v here (here ++ rest) from (rail_place i one) from (rail_place i one) (gate_rule g w.bit (v r) x.0 i one)
+          (get_or_append_left here rest no_rules (rail_place i one) (omega (
+            arith,
+            rail_place_lt i (gate_count g) one f,
+            count_doubled g,
+            rules_length P.vars (bits_at P) (has_bits P) g r from t.0.formed t.0.reads,
+          ))) refl
+          (gate_told r from i one g t.0.formed t.0.reads x.0 f (stands_before v from (pair_bits (gate_count g) x.0) (guard_bits more x.1) s))
+      guard_told (and_choice g p more) t r from x (other_gate z) f s =
+          let here = formula_rules (bits_at P) g r from in
+          let rest = net_guards P more r (from + formula_size g) in
+          told_within v rest (here ++ rest) (from + formula_size g) (guard_place z) from (formula_size g + guard_place z)
+          (guards_rule more w.bit (v r) x.1 z)
+          (behind_rules here rest (formula_size g) (guard_place z) (rules_length P.vars (bits_at P) (has_bits P) g r from t.0.formed t.0.reads)) (omega arith)
+          (guard_told more t.2 r (from + formula_size g) x.1 z f
+          (stands_after v from (from + formula_size g) (pair_bits (gate_count g) x.0) (guard_bits more x.1) s
+          (omega (arith, length-pair_bits (gate_count g) x.0, count_doubled g))))
+
+      -- a guard's gate and a branch's node, among the rules of the statement
+      guard_within : (own : List NodeRules) (choices : Choices) → AreChoices P.channels P.vars choices → (bodies : List NodeRules) (m r from to : ℕ) (b : Bool)
+          (x : GuardCells choices) (z : GuardSpot choices) → IsFineGuard z → length own ≡ m → from + m ≡ to → v r ≡ b → Stands v to (guard_bits choices x)
+          → Told v (own ++ (net_guards P choices r to ++ bodies)) from (m + guard_place z) (guards_rule choices w.bit b x z)
+      guard_within own choices t bodies m r from to b x z f long at e s =
+          let here = net_guards P choices r to in
+          told_of v (own ++ (here ++ bodies)) from (m + guard_place z) (guards_rule choices w.bit (v r) x z) (guards_rule choices w.bit b x z)
+          (ap (λ y. guards_rule choices w.bit y x z) e)
+          (told_within v here (own ++ (here ++ bodies)) to (guard_place z) from (m + guard_place z) (guards_rule choices w.bit (v r) x z)
+          (behind_rules own (here ++ bodies) m (guard_place z) long
+          ∙ get_or_append_left here bodies no_rules (guard_place z) (omega (arith, guard_place_lt choices z f, guards_length counted P choices r to t)))
+          (omega (arith, at))
+          (guard_told choices t r to x z f s))
+
+      choice_within : (own : List NodeRules) (choices : Choices) → AreChoices P.channels P.vars choices → (bodies : List NodeRules) (m r from to body k : ℕ)
+          (rule : Rule) → length own ≡ m → from + m ≡ to → to + guards_size choices ≡ body → Told v bodies body k rule
+          → Told v (own ++ (net_guards P choices r to ++ bodies)) from (m + (guards_size choices + k)) rule
+      choice_within own choices t bodies m r from to body k rule long at behind told =
+          let here = net_guards P choices r to in
+          told_within v bodies (own ++ (here ++ bodies)) body k from (m + (guards_size choices + k)) rule
+          (behind_rules own (here ++ bodies) m (guards_size choices + k) long
+          ∙ behind_rules here bodies (guards_size choices) k (guards_length counted P choices r to t)) (omega (arith, at, behind)) told
 
       mutual
         pub rule_is : (p : Process) → IsCovered p → IsProcess P.channels P.vars p → (r from : ℕ) (x : Cells p) (s : Spot p) → IsFine P p s
@@ -427,7 +697,56 @@ module _ (P : TypedProgram) where
             (ap (λ n. get_or (here ++ rest) (n + k) no_rules) (sym (length-branches_rules members c t.1 r from)) ∙ get_or-append-add here rest k no_rules)
             (omega arith)
             (joint_told members c from x k f s)
-        rule_is (choosing again choices) c t r from x z f s = absurd c
+        rule_is (choosing false choices) c t r from x (of_core z) f s = select_own_is choices c t.2 t.0 r from x s z
+        rule_is (choosing false choices) c t r from x (of_guard z) f s =
+            guard_within (select_rules (choosing_at P choices r (from + 2) select_own from)) choices t.2
+            (bodies_rules P choices (from + select_own + choice_count choices) (bodies_from choices select_own from))
+            (3 + (choice_count choices + choice_count choices)) (from + 1) from (guards_from choices select_own from) x.ask x.guards z f
+            (select_length choices t.2 r from) (omega arith) (own_at choices c t.2 t.0 r from x s 1 (omega arith)) (stands_guards choices from x s)
+        rule_is (choosing false choices) c t r from x (of_choice z) f s =
+            choice_within (select_rules (choosing_at P choices r (from + 2) select_own from)) choices t.2
+            (bodies_rules P choices (from + select_own + choice_count choices) (bodies_from choices select_own from))
+            (3 + (choice_count choices + choice_count choices)) (from + 1) from (guards_from choices select_own from) (bodies_from choices select_own from)
+            (choice_place P choices z) (choice_rule choices w x.started x.branches z) (select_length choices t.2 r from) (omega arith) refl
+            (choice_rule_is choices c t.2 (from + select_own + choice_count choices) (bodies_from choices select_own from) x.started x.branches z f
+            (started_at choices c t.2 t.0 r from x s) (stands_choices choices from x s))
+        rule_is (choosing true (and_choice g p more)) c t r from x (of_core z) f s = again_own_is g p more c t.2 r from x s z
+        rule_is (choosing true (and_choice g p more)) c t r from x (of_round z) f s = again_round_is g p more c t.2 r from x s z
+        rule_is (choosing true (and_choice g p more)) c t r from x (of_guard z) f s =
+            let choices : Choices = and_choice g p more in
+            guard_within (again_rules (repeating_at P choices r from)) choices t.2
+            (bodies_rules P choices (from + again_own + choice_count choices) (bodies_from choices again_own from))
+            (6 + (choice_count choices + choice_count choices)) (from + 3) from (guards_from choices again_own from) x.core.ask x.core.guards z f
+            (again_length choices t.2 r from) (omega arith) (round_at choices c t.2 r from x s 3 (omega arith)) (again_guards choices from x s)
+        rule_is (choosing true (and_choice g p more)) c t r from x (of_choice z) f s =
+            let choices : Choices = and_choice g p more in
+            choice_within (again_rules (repeating_at P choices r from)) choices t.2
+            (bodies_rules P choices (from + again_own + choice_count choices) (bodies_from choices again_own from))
+            (6 + (choice_count choices + choice_count choices)) (from + 3) from (guards_from choices again_own from) (bodies_from choices again_own from)
+            (choice_place P choices z) (choice_rule choices w x.core.started x.core.branches z) (again_length choices t.2 r from) (omega arith) refl
+            (choice_rule_is choices c t.2 (from + again_own + choice_count choices) (bodies_from choices again_own from) x.core.started x.core.branches z f
+            (again_started choices c t.2 r from x s) (again_choices choices from x s))
+        rule_is (choosing true no_choices) c t r from x z f s = absurd (let e : 1 ≤ 0 = t.0 in let g : ⊥ = omega (arith, e) in g)
+
+        choice_rule_is : (choices : Choices) → EachCovered choices → AreChoices P.channels P.vars choices → (start from : ℕ) (b : Bits (choice_count choices))
+            (x : ChoiceCells choices) (z : ChoiceSpot choices) → IsFineChoice P choices z
+            → BitsAt (choice_count choices) v (range_with_len start (choice_count choices)) b → Stands v from (choice_bits P choices x)
+            → Told v (bodies_rules P choices start from) from (choice_place P choices z) (choice_rule choices w b x z)
+        choice_rule_is no_choices c t start from b x z f a s = elim z [ ]
+        choice_rule_is (and_choice g p more) c t start from b x (this_choice z) f a s =
+            let here = rules_of P p start from in
+            let rest = bodies_rules P more (start + 1) (from + size_of P p) in
+            told_of v (here ++ rest) from (place P p z) (rule p w (v start) x.0 z) (rule p w b.0 x.0 z) (ap (λ y. rule p w y x.0 z) a.0)
+            (told_within v here (here ++ rest) from (place P p z) from (place P p z) (rule p w (v start) x.0 z)
+            (get_or_append_left here rest no_rules (place P p z) (omega (arith, place_lt P p c.0 z f, length-rules p c.0 t.1 start from))) refl
+            (rule_is p c.0 t.1 start from x.0 z f (stands_this_choice p from g more x s)))
+        choice_rule_is (and_choice g p more) c t start from b x (other_choice z) f a s =
+            let here = rules_of P p start from in
+            let rest = bodies_rules P more (start + 1) (from + size_of P p) in
+            told_within v rest (here ++ rest) (from + size_of P p) (choice_place P more z) from (size_of P p + choice_place P more z)
+            (choice_rule more w b.1 x.1 z)
+            (behind_rules here rest (size_of P p) (choice_place P more z) (length-rules p c.0 t.1 start from)) (omega arith)
+            (choice_rule_is more c.1 t.2 (start + 1) (from + size_of P p) b.1 x.1 z f a.1 (stands_other_choice p from g more c.0 x s))
 
         pub branch_rule_is : (members : Processes) → AreCovered members → AreProcesses P.channels P.vars members
             → (r from : ℕ) (x : BranchCells members) (s : BranchSpot members) → IsFineBranch P members s → Stands v from (branch_bits P members x)

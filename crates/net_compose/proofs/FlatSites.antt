@@ -6,19 +6,20 @@ use Rattle.std.proofs.lemmas.Bool.{eqb-true}
 use Rattle.prs_core.specs.Pairs.{Pair, pair_of, pairs_from}
 use Rattle.function_blocks.specs.Listed.{node_of}
 use Rattle.function_blocks.proofs.GatesTold.{listed}
-use Rattle.width_check.specs.Processes.{Formula, Process, skipping, assigning, sending, receiving, in_turn, side_by_side, choosing, repeating, Processes, no_members, and_member, TypedProgram}
+use Rattle.width_check.specs.Processes.{Formula, Process, skipping, assigning, sending, receiving, in_turn, side_by_side, choosing, repeating, Processes, no_members, and_member, TypedProgram, Choices, no_choices, and_choice}
 use Rattle.width_check.specs.Values.{width_of, IsWellFormed}
 use Rattle.width_check.specs.Reads.{reads}
-use Rattle.width_check.specs.Typing.{ReadsFrom, IsProcess, AreProcesses, channel_width, var_width}
+use Rattle.width_check.specs.Typing.{ReadsFrom, IsProcess, AreProcesses, channel_width, var_width, AreChoices}
 use Rattle.handshake_expand.specs.Layout.{formula_size, size_of}
 use Rattle.function_blocks.specs.Expressions.{formula_result}
-use Rattle.circuit_places.specs.Covered.{IsCovered, AreCovered}
+use Rattle.circuit_places.specs.Covered.{IsCovered, AreCovered, EachCovered}
 use Rattle.circuit_places.specs.Lines.{Line, of_channel, of_var, same_line, line_width}
 use Rattle.chp_base.specs.declared.span.Span.{Span}
-use Rattle.circuit_places.specs.Circuit.{gate_count, Site, rails_of_site, Port, rails_of_port, Cells, TurnCells, BranchCells, site_rails, turn_rails, branch_rails, takers_of_port, takers, turn_takers, branch_takers}
-use Rattle.net_compose.specs.Translation.{Sites, write_site, assigned_rails, read_back, through_at, bits_at, sites_in, sites_in_turn, sites_in_branches, send_site, receive_site}
-use Rattle.net_compose.proofs.FlatCells.{pair_bits, rail_bits, rail_place, bits, turn_bits, branch_bits}
-use Rattle.net_compose.proofs.FlatRules.{Stands, stands_after, gate_value, rail_value, stands_member, stands_later, stands_body, stands_branches, stands_this, stands_others}
+use Rattle.circuit_places.specs.Circuit.{gate_count, Site, rails_of_site, Port, rails_of_port, Cells, TurnCells, BranchCells, site_rails, turn_rails, branch_rails, takers_of_port, takers, turn_takers, branch_takers, ChoiceCells, choice_rails, choice_takers}
+use Rattle.net_compose.specs.Translation.{Sites, write_site, assigned_rails, read_back, through_at, bits_at, sites_in, sites_in_turn, sites_in_branches, send_site, receive_site, sites_in_bodies}
+use Rattle.net_compose.proofs.FlatCells.{pair_bits, rail_bits, rail_place, bits, turn_bits, branch_bits, choice_bits}
+use Rattle.net_compose.proofs.FlatRules.{Stands, stands_after, gate_value, rail_value, stands_member, stands_later, stands_body, stands_branches, stands_this, stands_others, stands_choices, again_choices, stands_this_choice, stands_other_choice}
+use Rattle.handshake_expand.specs.Answers.{bodies_from, select_own, again_own}
 
 -- that of this bit at a site
 abbrev pub at_site : ℕ → Bool → List Pair → ℕ
@@ -117,7 +118,21 @@ module _ (v : ℕ → Bool) where
       sites_are (receiving chan at y to) c t from x s = port_here P i one k chan y at to t.widths within from x
           (stands_after v from (from + 2) (x.answer ∷ x.kept ∷ []) (rail_bits (channel_width P.channels chan) x.taken) s (omega arith))
       sites_are (side_by_side members) c t from x s = branch_sites_are members c t.1 from x.branches (stands_branches P v members from x s)
-      sites_are (choosing again choices) c t from x s = absurd c
+      sites_are (choosing false choices) c t from x s =
+          choice_sites_are choices c t.2 (bodies_from choices select_own from) x.branches (stands_choices P v choices from x s)
+      sites_are (choosing true choices) c t from x s =
+          choice_sites_are choices c t.2 (bodies_from choices again_own from) x.core.branches (again_choices P v choices from x s)
+
+      choice_sites_are : (choices : Choices) → EachCovered choices → AreChoices P.channels P.vars choices → (from : ℕ) (x : ChoiceCells choices)
+          → Stands v from (choice_bits P choices x) → at_sites i one (sites_in_bodies P (line_site P k) choices from) ≡ choice_rails choices x k i one
+      choice_sites_are no_choices c t from x s = refl
+      choice_sites_are (and_choice g p more) c t from x s =
+          let first = sites_in P (line_site P k) p from in
+          let rest = sites_in_bodies P (line_site P k) more (from + size_of P p) in
+          at_append i one first rest
+          ∙ (ap (λ l. l ++ at_sites i one rest) (sites_are p c.0 t.1 from x.0 (stands_this_choice P v p from g more x s))
+          ∙ ap (λ l. site_rails p x.0 k i one ++ l) (choice_sites_are more c.1 t.2 (from + size_of P p) x.1
+          (stands_other_choice P v p from g more c.0 x s)))
 
       branch_sites_are : (members : Processes) → AreCovered members → AreProcesses P.channels P.vars members → (from : ℕ) (x : BranchCells members)
           → Stands v from (branch_bits P members x) → at_sites i one (sites_in_branches P (line_site P k) members from) ≡ branch_rails members x k i one
@@ -161,7 +176,20 @@ module _ (v : ℕ → Bool) where
       takers_are (in_turn members) c t from x s = turn_takers_are members c t.1 from x s
       takers_are (repeating p) c t from x s = takers_are p c t (from + 2) x.inner (stands_body P v p from x s)
       takers_are (side_by_side members) c t from x s = branch_takers_are members c t.1 from x.branches (stands_branches P v members from x s)
-      takers_are (choosing again choices) c t from x s = absurd c
+      takers_are (choosing false choices) c t from x s =
+          choice_takers_are choices c t.2 (bodies_from choices select_own from) x.branches (stands_choices P v choices from x s)
+      takers_are (choosing true choices) c t from x s =
+          choice_takers_are choices c t.2 (bodies_from choices again_own from) x.core.branches (again_choices P v choices from x s)
+
+      choice_takers_are : (choices : Choices) → EachCovered choices → AreChoices P.channels P.vars choices → (from : ℕ) (x : ChoiceCells choices)
+          → Stands v from (choice_bits P choices x) → map v (sites_in_bodies P (receive_site k) choices from) ≡ choice_takers choices x k
+      choice_takers_are no_choices c t from x s = refl
+      choice_takers_are (and_choice g p more) c t from x s =
+          let first = sites_in P (receive_site k) p from in
+          let rest = sites_in_bodies P (receive_site k) more (from + size_of P p) in
+          mapped_append first rest
+          ∙ (ap (λ l. l ++ map v rest) (takers_are p c.0 t.1 from x.0 (stands_this_choice P v p from g more x s))
+          ∙ ap (λ l. takers p x.0 k ++ l) (choice_takers_are more c.1 t.2 (from + size_of P p) x.1 (stands_other_choice P v p from g more c.0 x s)))
 
       branch_takers_are : (members : Processes) → AreCovered members → AreProcesses P.channels P.vars members → (from : ℕ) (x : BranchCells members)
           → Stands v from (branch_bits P members x) → map v (sites_in_branches P (receive_site k) members from) ≡ branch_takers members x k

@@ -3,6 +3,8 @@ pub mod BranchExamples
 pub mod NameLemmas
 pub mod Nothing
 pub mod FlatTrees
+pub mod Templates
+pub mod FlatCore
 pub mod FlatCells
 pub mod FlatRules
 pub mod FlatSites

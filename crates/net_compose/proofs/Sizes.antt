@@ -116,7 +116,7 @@ pairs_of_guards k p (and_choice g s more) from h =
     let all = both (formula_result g from) (guard_pairs more (from + formula_size g)) 1 (choice_count more) one rest in
     omega (arith, all)
 
-latches_and_starts : Counted → (p : TypedProgram) (choices : Choices) (request any own from : ℕ) → AreChoices p.channels p.vars choices
+pub latches_and_starts : Counted → (p : TypedProgram) (choices : Choices) (request any own from : ℕ) → AreChoices p.channels p.vars choices
     → length (latches request (guard_pairs choices (guards_from choices own from)) ++ starts (range_with_len (from + own) (choice_count choices)) (guard_pairs choices (guards_from choices own from))) ≡ 2 * choice_count choices
 latches_and_starts k p choices request any own from h =
     let pairs = pairs_of_guards k p choices (guards_from choices own from) h in
@@ -126,7 +126,7 @@ latches_and_starts k p choices request any own from h =
     let all = both (latches request (guard_pairs choices (guards_from choices own from))) (starts (range_with_len (from + own) (choice_count choices)) (guard_pairs choices (guards_from choices own from))) _ _ ls ss in
     omega (arith, pairs, count, all)
 
-guards_length : Counted → (p : TypedProgram) (choices : Choices) (request from : ℕ) → AreChoices p.channels p.vars choices → length (guards_rules p choices request from) ≡ guards_size choices
+pub guards_length : Counted → (p : TypedProgram) (choices : Choices) (request from : ℕ) → AreChoices p.channels p.vars choices → length (guards_rules p choices request from) ≡ guards_size choices
 guards_length k p no_choices request from h = refl
 guards_length k p (and_choice g s more) request from h =
     both (formula_rules (bits_at p) g request from) (guards_rules p more request (from + formula_size g)) _ _ (k.rules p.vars (bits_at p) (has_bits p) g request from h.0.formed h.0.reads) (guards_length k p more request (from + formula_size g) h.2)
