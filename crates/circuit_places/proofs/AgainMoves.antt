@@ -24,7 +24,8 @@ core_begun again W K y = record { place = in_control called; same = refl; fits =
 
 -- The core as a port.
 module _ {again : Bool} {n : ℕ} {G Q B C S T : Type 0} (W : Guards n G Q) (K : Branches n B C S T) (y : Story T) where
-  pub core_idle_is : (x : CoreAt again n G W.heads K.At idle) → (core_cells W K x ≡ low_core W K) × (core_shown W K x ≡ K.none) × (core_leave W K x ≡ false) × (core_left W K y x ≡ y.wrap K.over)
+  pub core_idle_is : (x : CoreAt again n G W.heads K.At idle)
+      → (core_cells W K x ≡ low_core W K) × (core_shown W K x ≡ K.none) × (core_leave W K x ≡ false) × (core_left W K y x ≡ y.wrap K.over)
   core_idle_is (in_control uncalled) = (refl, K.reading_low, refl, refl)
   core_idle_is (in_branch a w) = elim w [ ]
 
@@ -108,13 +109,18 @@ module _ {n : ℕ} {G Q B C S T : Type 0} (W : Guards n G Q) (K : Branches n B C
   again_can_is (turning x) (round t) = core_turning_is W K x t
   again_can_is (turning x) (in_core s) = core_can_is W K x s
   again_can_is (closing c) (round t) = closing_can_is n W.low (W.heads W.low) K.low W.low_neutral c t
-  again_can_is (closing c) (in_core (own s)) = ap (λ (a : Bits n). fires (core_rule (closing_turn c) (closing_leave c) (W.heads W.low) a (core_of {B = B} false false (closing_any c) (low_bits n) (low_bits n) W.low K.low) s)) K.low_answers ∙ closing_own_is W.low (W.heads W.low) K.low W.low_neutral c s
+  again_can_is (closing c) (in_core (own s)) = ap (λ (a : Bits n). fires (core_rule (closing_turn c) (closing_leave c) (W.heads W.low) a
+      (core_of {B = B} false false (closing_any c) (low_bits n) (low_bits n) W.low K.low)
+      s)) K.low_answers ∙ closing_own_is W.low (W.heads W.low) K.low W.low_neutral c s
   again_can_is (closing c) (in_core (guard q)) = W.low_quiet q
   again_can_is (closing c) (in_core (branch b)) = K.low_quiet b
 
-  low_apart : (r v : Bool) (x : Core n G B) → x.guards ≡ W.low → x.ask ≡ false → x.branches ≡ K.low → x.started ≡ low_bits n → (s : CoreSpot n Q C) → is_apart (whole_rule W K r v x s) ≡ true
-  low_apart r v x g e b t (own s) = core_apart r v (W.heads x.guards) (K.answers x.branches) x (λ z. ap (λ (g : G). all_neutral n (W.heads g)) g ∙ W.low_neutral) s
-  low_apart r v x g e b t (guard q) = ap (λ (g : G). is_apart (W.rule x.ask g q)) g ∙ (ap (λ e. is_apart (W.rule e W.low q)) e ∙ W.apart false W.low q (W.begins false))
+  low_apart : (r v : Bool) (x : Core n G B) → x.guards ≡ W.low → x.ask ≡ false → x.branches ≡ K.low → x.started ≡ low_bits n → (s : CoreSpot n Q C)
+      → is_apart (whole_rule W K r v x s) ≡ true
+  low_apart r v x g e b t (own s) =
+      core_apart r v (W.heads x.guards) (K.answers x.branches) x (λ z. ap (λ (g : G). all_neutral n (W.heads g)) g ∙ W.low_neutral) s
+  low_apart r v x g e b t (guard q) =
+      ap (λ (g : G). is_apart (W.rule x.ask g q)) g ∙ (ap (λ e. is_apart (W.rule e W.low q)) e ∙ W.apart false W.low q (W.begins false))
   low_apart r v x g e b t (branch c) = ap (λ (b : B). is_apart (K.rule x.started b c)) b ∙ (ap (λ (t : Bits n). is_apart (K.rule t K.low c)) t ∙ K.low_apart c)
 
   closing_known : {m : Mode} (c : Closing m) → closing_leave c ≡ true → closing_any c ≡ true
@@ -126,12 +132,15 @@ module _ {n : ℕ} {G Q B C S T : Type 0} (W : Guards n G Q) (K : Branches n B C
 
   -- no node is pulled both ways
   pub again_apart : {m : Mode} (x : AgainAt n G W.heads K.At m) → AgainFits x → (s : AgainSpot n Q C) → is_apart (again_rule (asks m) (again_cells x) s) ≡ true
-  again_apart again_rests f (round t) = turning_apart false (W.heads W.low) (turning_of false false false (low_core W K)) (λ e. W.low_neutral) (λ e z. absurd (cc e)) t
+  again_apart again_rests f (round t) =
+      turning_apart false (W.heads W.low) (turning_of false false false (low_core W K)) (λ e. W.low_neutral) (λ e z. absurd (cc e)) t
   again_apart again_rests f (in_core s) = low_apart false false (low_core W K) refl refl refl refl s
   again_apart (turning x) f (round t) = round_apart W K x t
   again_apart (turning x) f (in_core s) = whole_apart W K x f s
-  again_apart {m = m} (closing c) f (round t) = turning_apart (asks m) (W.heads W.low) (closing_cells W.low K.low c) (λ e. W.low_neutral) (λ e z. closing_known c e) t
-  again_apart (closing c) f (in_core s) = low_apart (closing_turn c) (closing_leave c) (core_of false false (closing_any c) (low_bits n) (low_bits n) W.low K.low) refl refl refl refl s
+  again_apart {m = m} (closing c) f (round t) =
+      turning_apart (asks m) (W.heads W.low) (closing_cells W.low K.low c) (λ e. W.low_neutral) (λ e z. closing_known c e) t
+  again_apart (closing c) f (in_core s) =
+      low_apart (closing_turn c) (closing_leave c) (core_of false false (closing_any c) (low_bits n) (low_bits n) W.low K.low) refl refl refl refl s
 
 module _ {n : ℕ} {G Q B C S T : Type 0} (W : Guards n G Q) (K : Branches n B C S T) (y : Story T) where
   pub record AgainAfter {m : Mode} (x : AgainAt n G W.heads K.At m) (s : AgainSpot n Q C) : Type 0 where
@@ -152,7 +161,9 @@ module _ {n : ℕ} {G Q B C S T : Type 0} (W : Guards n G Q) (K : Branches n B C
   again_core {m = m} x s r = record {
     mode = running;
     to = turning r.to;
-    same = ap (λ b. turning_of false b (core_leave W K r.to) (core_cells W K r.to)) (goes_asks m r.mode r.way) ∙ (ap (λ b. turning_of false (asks m) b (core_cells W K r.to)) r.leave ∙ ap (λ (z : Core n G B). turning_of false (asks m) (core_leave W K x) z) r.same);
+    same = ap (λ b. turning_of false b (core_leave W K r.to) (core_cells W K r.to)) (goes_asks m r.mode r.way)
+        ∙ (ap (λ b. turning_of false (asks m) b (core_cells W K r.to)) r.leave
+        ∙ ap (λ (z : Core n G B). turning_of false (asks m) (core_leave W K x) z) r.same);
     way = refl;
     fits = r.fits;
     flow = r.flow;
@@ -166,7 +177,16 @@ module _ {n : ℕ} {G Q B C S T : Type 0} (W : Guards n G Q) (K : Branches n B C
 
   -- the next turn is called for; what is left of the whole is then the whole
   turn_up : y.wrap K.over ≡ y.whole → AgainAfter (turning (in_control uncalled)) (round of_turn)
-  turn_up z = record { mode = running; to = turning (in_control called); same = refl; way = refl; fits = W.begins false; flow = K.flow_reading _ _; term = subst (λ (t : T). CoreStep true W K y (K.reading false) (y.wrap K.over) t) z stays; keeps = keeps }
+  turn_up z = record {
+    mode = running;
+    to = turning (in_control called);
+    same = refl;
+    way = refl;
+    fits = W.begins false;
+    flow = K.flow_reading _ _;
+    term = subst (λ (t : T). CoreStep true W K y (K.reading false) (y.wrap K.over) t) z stays;
+    keeps = keeps;
+  }
     where
       keeps : Kept (turning (in_control uncalled)) (turning (in_control called)) (round of_turn)
       keeps (round of_turn) ne e = absurd (ne refl)
@@ -178,7 +198,16 @@ module _ {n : ℕ} {G Q B C S T : Type 0} (W : Guards n G Q) (K : Branches n B C
 
   -- and taken back, once its branch has answered
   turn_down : (a : K.At answered) → K.Fits a → AgainAfter (turning (in_branch a reported)) (round of_turn)
-  turn_down a f = record { mode = running; to = turning (in_branch a letting); same = refl; way = refl; fits = f; flow = K.flow_same (K.shown a); term = stays; keeps = keeps }
+  turn_down a f = record {
+    mode = running;
+    to = turning (in_branch a letting);
+    same = refl;
+    way = refl;
+    fits = f;
+    flow = K.flow_same (K.shown a);
+    term = stays;
+    keeps = keeps;
+  }
     where
       keeps : Kept (turning (in_branch a reported)) (turning (in_branch a letting)) (round of_turn)
       keeps (round of_turn) ne e = absurd (ne refl)
@@ -190,7 +219,16 @@ module _ {n : ℕ} {G Q B C S T : Type 0} (W : Guards n G Q) (K : Branches n B C
 
   -- all guards are false
   leave_up : (g : G) → W.good true g ≡ true → over n (W.heads g) ≡ true → AgainAfter (turning (in_control (evaluating g))) (round of_leave)
-  leave_up g f o = record { mode = running; to = turning (in_control (leaving refl noted g may)); same = refl; way = refl; fits = f; flow = K.flow_reading _ _; term = ends refl refl g f o; keeps = keeps }
+  leave_up g f o = record {
+    mode = running;
+    to = turning (in_control (leaving refl noted g may));
+    same = refl;
+    way = refl;
+    fits = f;
+    flow = K.flow_reading _ _;
+    term = ends refl refl g f o;
+    keeps = keeps;
+  }
     where
       may : lock_may noted (over n (W.heads g)) (none_true n (W.heads g)) ≡ true
       may = both_true (none_true n (W.heads g)) (over n (W.heads g)) (false_none n (W.heads g) (W.single g f) (over_false n (W.heads g) o)) o
@@ -208,7 +246,8 @@ module _ {n : ℕ} {G Q B C S T : Type 0} (W : Guards n G Q) (K : Branches n B C
       keeps (in_core (branch c)) ne e = absurd (cc e)
 
   -- and let go: it answers
-  answer_up : (t : true ≡ true) (g : G) (h : lock_may freed (over n (W.heads g)) (none_true n (W.heads g)) ≡ true) → W.good false g ≡ true → all_neutral n (W.heads g) ≡ true → AgainAfter (turning (in_control (leaving t freed g h))) (round of_answer)
+  answer_up : (t : true ≡ true) (g : G) (h : lock_may freed (over n (W.heads g)) (none_true n (W.heads g)) ≡ true) → W.good false g ≡ true
+      → all_neutral n (W.heads g) ≡ true → AgainAfter (turning (in_control (leaving t freed g h))) (round of_answer)
   answer_up t g h f z = record {
     mode = answered;
     to = closing told_all;
@@ -294,7 +333,8 @@ module _ {n : ℕ} {G Q B C S T : Type 0} (W : Guards n G Q) (K : Branches n B C
       keeps (in_core (branch c)) ne e = absurd (cc e)
 
   -- each move round the core, and of the core where no turn is under way
-  pub round_after : {m : Mode} (x : AgainAt n G W.heads K.At m) (t : RoundSpot) → y.wrap K.over ≡ y.whole → AgainFits W K x → again_moves W K x (round t) ≡ true → AgainAfter x (round t)
+  pub round_after : {m : Mode} (x : AgainAt n G W.heads K.At m) (t : RoundSpot) → y.wrap K.over ≡ y.whole → AgainFits W K x
+      → again_moves W K x (round t) ≡ true → AgainAfter x (round t)
   round_after again_rests t z f e = absurd (cc e)
   round_after (turning (in_control uncalled)) of_turn z f e = turn_up z
   round_after (turning (in_control uncalled)) of_leave z f e = absurd (cc e)
@@ -304,8 +344,10 @@ module _ {n : ℕ} {G Q B C S T : Type 0} (W : Guards n G Q) (K : Branches n B C
   round_after (turning (in_control (evaluating g))) of_turn z f e = absurd (cc e)
   round_after (turning (in_control (evaluating g))) of_answer z f e = absurd (cc e)
   round_after (turning (in_control (latched l i g h))) t z f e = absurd (cc e)
-  round_after (turning (in_control (leaving s noted g h))) of_answer z f e = absurd (cc (neutral_over n (W.heads g) e, snd_true (none_true n (W.heads g)) (over n (W.heads g)) h))
-  round_after (turning (in_control (leaving s spread g h))) of_answer z f e = absurd (cc (neutral_over n (W.heads g) e, snd_true (none_true n (W.heads g)) (over n (W.heads g)) h))
+  round_after (turning (in_control (leaving s noted g h))) of_answer z f e =
+      absurd (cc (neutral_over n (W.heads g) e, snd_true (none_true n (W.heads g)) (over n (W.heads g)) h))
+  round_after (turning (in_control (leaving s spread g h))) of_answer z f e =
+      absurd (cc (neutral_over n (W.heads g) e, snd_true (none_true n (W.heads g)) (over n (W.heads g)) h))
   round_after (turning (in_control (leaving s freed g h))) of_answer z f e = answer_up s g h f e
   round_after (turning (in_control (leaving s l g h))) of_turn z f e = absurd (cc e)
   round_after (turning (in_control (leaving s l g h))) of_leave z f e = absurd (cc e)

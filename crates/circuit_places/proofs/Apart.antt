@@ -54,36 +54,48 @@ port_apart rail ack va r x heard = ack_apart r ack
 port_apart rail ack va r x stored = ack_apart r va
 port_apart rail ack va r x (taking i one) = take_apart r (rail i one)
 
-guards_apart : (choices : Choices) (bits : ℕ → Rails) (r : Bool) (x : GuardCells choices) (s : GuardSpot choices) → is_apart (guards_rule choices bits r x s) ≡ true
+guards_apart : (choices : Choices) (bits : ℕ → Rails) (r : Bool) (x : GuardCells choices) (s : GuardSpot choices)
+    → is_apart (guards_rule choices bits r x s) ≡ true
 guards_apart (and_choice g p more) bits r x (this_gate i one) = gate_apart g bits r x.0 i one
 guards_apart (and_choice g p more) bits r x (other_gate s) = guards_apart more bits r x.1 s
 guards_apart no_choices bits r x s = elim s [ ]
 
-low_core_apart : (choices : Choices) (s : OwnSpot (choice_count choices)) → is_apart (core_rule false false (heads choices (low_guards choices)) (choice_answers choices (low_choices choices)) (low_core choices (low_choices choices)) s) ≡ true
-low_core_apart choices s = core_apart false false (heads choices (low_guards choices)) (choice_answers choices (low_choices choices)) (low_core choices (low_choices choices)) (λ e. low_neutral choices) s
+low_core_apart : (choices : Choices) (s : OwnSpot (choice_count choices))
+    → is_apart (core_rule false false (heads choices (low_guards choices)) (choice_answers choices (low_choices choices))
+    (low_core choices (low_choices choices)) s) ≡ true
+low_core_apart choices s = core_apart false false (heads choices (low_guards choices)) (choice_answers choices (low_choices choices))
+    (low_core choices (low_choices choices)) (λ e. low_neutral choices) s
 
 -- where a core isn't called its guards are low
-idle_neutral : {again : Bool} (choices : Choices) {m : Mode} (c : Control again (choice_count choices) (GuardCells choices) (heads choices) m) → asks m ≡ false → all_neutral (choice_count choices) (heads choices (control_guards (low_guards choices) c)) ≡ true
+idle_neutral : {again : Bool} (choices : Choices) {m : Mode} (c : Control again (choice_count choices) (GuardCells choices) (heads choices) m)
+    → asks m ≡ false → all_neutral (choice_count choices) (heads choices (control_guards (low_guards choices) c)) ≡ true
 idle_neutral choices uncalled e = low_neutral choices
 idle_neutral choices called e = absurd (cc e)
 idle_neutral choices (evaluating g) e = absurd (cc e)
 idle_neutral choices (latched l i g h) e = absurd (cc e)
 idle_neutral choices (leaving y l g h) e = absurd (cc e)
 
-left_known : {again : Bool} (choices : Choices) {m : Mode} (c : Control again (choice_count choices) (GuardCells choices) (heads choices) m) → control_leave c ≡ true → all_neutral (choice_count choices) (heads choices (control_guards (low_guards choices) c)) ≡ true → control_any c ≡ true
+left_known : {again : Bool} (choices : Choices) {m : Mode} (c : Control again (choice_count choices) (GuardCells choices) (heads choices) m)
+    → control_leave c ≡ true → all_neutral (choice_count choices) (heads choices (control_guards (low_guards choices) c)) ≡ true → control_any c ≡ true
 left_known choices uncalled e z = absurd (cc e)
 left_known choices called e z = absurd (cc e)
 left_known choices (evaluating g) e z = absurd (cc e)
 left_known choices (latched l i g h) e z = absurd (cc e)
-left_known choices (leaving y noted g h) e z = absurd (cc (lock_alone noted (over (choice_count choices) (heads choices g)) (none_true (choice_count choices) (heads choices g)) h refl, neutral_over (choice_count choices) (heads choices g) z))
+left_known choices (leaving y noted g h) e z = absurd (cc (
+  lock_alone noted (over (choice_count choices) (heads choices g))
+      (none_true (choice_count choices) (heads choices g)) h refl,
+  neutral_over (choice_count choices) (heads choices g) z,
+))
 left_known choices (leaving y spread g h) e z = refl
 left_known choices (leaving y freed g h) e z = refl
 
-choice_neutral : {again : Bool} {choices : Choices} {m : Mode} (x : ChoiceAt again choices m) → asks m ≡ false → all_neutral (choice_count choices) (heads choices (choice_cells x).guards) ≡ true
+choice_neutral : {again : Bool} {choices : Choices} {m : Mode} (x : ChoiceAt again choices m) → asks m ≡ false
+    → all_neutral (choice_count choices) (heads choices (choice_cells x).guards) ≡ true
 choice_neutral {choices = choices} (control_at c) e = idle_neutral choices c e
 choice_neutral {choices = choices} (inside_at a w) e = low_neutral choices
 
-choice_known : {again : Bool} {choices : Choices} {m : Mode} (x : ChoiceAt again choices m) → choice_leave x ≡ true → all_neutral (choice_count choices) (heads choices (choice_cells x).guards) ≡ true → (choice_cells x).any ≡ true
+choice_known : {again : Bool} {choices : Choices} {m : Mode} (x : ChoiceAt again choices m) → choice_leave x ≡ true
+    → all_neutral (choice_count choices) (heads choices (choice_cells x).guards) ≡ true → (choice_cells x).any ≡ true
 choice_known {choices = choices} (control_at c) e z = left_known choices c e z
 choice_known (inside_at a w) e z = absurd (cc e)
 
@@ -119,9 +131,11 @@ mutual
   low_apart (choosing true choices) env (of_core s) = low_core_apart choices s
   low_apart (choosing true choices) env (of_guard s) = guards_apart choices env.bit false (low_guards choices) s
   low_apart (choosing true choices) env (of_choice s) = low_choice_apart choices env s
-  low_apart (choosing true choices) env (of_round s) = turning_apart false (heads choices (low_guards choices)) (turning_of false false false (low_core choices (low_choices choices))) (λ e. low_neutral choices) (λ e z. absurd (cc e)) s
+  low_apart (choosing true choices) env (of_round s) = turning_apart false (heads choices (low_guards choices))
+      (turning_of false false false (low_core choices (low_choices choices))) (λ e. low_neutral choices) (λ e z. absurd (cc e)) s
 
-  pub low_choice_apart : (choices : Choices) (env : Seen) (s : ChoiceSpot choices) → is_apart (choice_rule choices env (low_bits (choice_count choices)) (low_choices choices) s) ≡ true
+  pub low_choice_apart : (choices : Choices) (env : Seen) (s : ChoiceSpot choices)
+      → is_apart (choice_rule choices env (low_bits (choice_count choices)) (low_choices choices) s) ≡ true
   low_choice_apart no_choices env s = refl
   low_choice_apart (and_choice g p more) env (this_choice s) = low_apart p env s
   low_choice_apart (and_choice g p more) env (other_choice s) = low_choice_apart more env s
@@ -168,23 +182,31 @@ mutual
   own_apart env (at_body a) of_loop = refl
   own_apart env (at_body {p = p} a) ask = not_then (answer p (cells a))
   own_apart env (at_body a) (in_body s) = own_apart env a s
-  own_apart env (at_choice {choices = choices} {m = m} x) (of_core s) = core_apart (asks m) false (heads choices (choice_cells x).guards) (choice_answers choices (choice_cells x).branches) (choice_cells x) (choice_neutral x) s
+  own_apart env (at_choice {choices = choices} {m = m} x) (of_core s) =
+      core_apart (asks m) false (heads choices (choice_cells x).guards) (choice_answers choices (choice_cells x).branches) (choice_cells x) (choice_neutral x) s
   own_apart env (at_choice {choices = choices} x) (of_guard s) = guards_apart choices env.bit (choice_cells x).ask (choice_cells x).guards s
   own_apart env (at_choice x) (of_choice s) = choice_apart env x s
-  own_apart env (at_turning {choices = choices} {m = m} x) (of_core s) = core_apart (asks m) (choice_leave x) (heads choices (choice_cells x).guards) (choice_answers choices (choice_cells x).branches) (choice_cells x) (choice_neutral x) s
+  own_apart env (at_turning {choices = choices} {m = m} x) (of_core s) = core_apart (asks m) (choice_leave x) (heads choices (choice_cells x).guards)
+      (choice_answers choices (choice_cells x).branches) (choice_cells x) (choice_neutral x) s
   own_apart env (at_turning {choices = choices} x) (of_guard s) = guards_apart choices env.bit (choice_cells x).ask (choice_cells x).guards s
   own_apart env (at_turning x) (of_choice s) = choice_apart env x s
-  own_apart env (at_turning {choices = choices} {m = m} x) (of_round s) = turning_apart true (heads choices (choice_cells x).guards) (turning_of false (asks m) (choice_leave x) (choice_cells x)) (choice_neutral x) (choice_known x) s
-  own_apart env (at_closing {choices = choices} c) (of_core s) = core_apart (closing_turn c) (closing_leave c) (heads choices (low_guards choices)) (choice_answers choices (low_choices choices)) (core_of false false (closing_any c) (low_bits (choice_count choices)) (low_bits (choice_count choices)) (low_guards choices) (low_choices choices)) (λ e. low_neutral choices) s
+  own_apart env (at_turning {choices = choices} {m = m} x) (of_round s) = turning_apart true (heads choices (choice_cells x).guards)
+      (turning_of false (asks m) (choice_leave x) (choice_cells x)) (choice_neutral x) (choice_known x) s
+  own_apart env (at_closing {choices = choices} c) (of_core s) = core_apart (closing_turn c) (closing_leave c) (heads choices (low_guards choices))
+      (choice_answers choices (low_choices choices)) (core_of false false (closing_any c) (low_bits (choice_count choices)) (low_bits (choice_count choices))
+      (low_guards choices) (low_choices choices)) (λ e. low_neutral choices) s
   own_apart env (at_closing {choices = choices} c) (of_guard s) = guards_apart choices env.bit false (low_guards choices) s
   own_apart env (at_closing {choices = choices} c) (of_choice s) = low_choice_apart choices env s
-  own_apart env (at_closing {choices = choices} {m = m} c) (of_round s) = turning_apart (asks m) (heads choices (low_guards choices)) (closing_cells (low_guards choices) (low_choices choices) c) (λ e. low_neutral choices) (λ e z. closing_known c e) s
+  own_apart env (at_closing {choices = choices} {m = m} c) (of_round s) = turning_apart (asks m) (heads choices (low_guards choices))
+      (closing_cells (low_guards choices) (low_choices choices) c) (λ e. low_neutral choices) (λ e z. closing_known c e) s
 
-  pub choice_apart : {again : Bool} {choices : Choices} {m : Mode} (env : Seen) (x : ChoiceAt again choices m) (s : ChoiceSpot choices) → is_apart (choice_rule choices env (choice_cells x).started (choice_cells x).branches s) ≡ true
+  pub choice_apart : {again : Bool} {choices : Choices} {m : Mode} (env : Seen) (x : ChoiceAt again choices m) (s : ChoiceSpot choices)
+      → is_apart (choice_rule choices env (choice_cells x).started (choice_cells x).branches s) ≡ true
   choice_apart {choices = choices} env (control_at c) s = low_choice_apart choices env s
   choice_apart env (inside_at a w) s = chosen_apart env a s
 
-  pub chosen_apart : {choices : Choices} {k : Mode} (env : Seen) (a : ChosenAt choices k) (s : ChoiceSpot choices) → is_apart (choice_rule choices env (hot (chosen_index a) (asks k)) (chosen_cells a) s) ≡ true
+  pub chosen_apart : {choices : Choices} {k : Mode} (env : Seen) (a : ChosenAt choices k) (s : ChoiceSpot choices)
+      → is_apart (choice_rule choices env (hot (chosen_index a) (asks k)) (chosen_cells a) s) ≡ true
   chosen_apart env (this_one a) (this_choice s) = own_apart env a s
   chosen_apart env (this_one {more = more} a) (other_choice s) = low_choice_apart more env s
   chosen_apart env (another {p = p} a) (this_choice s) = low_apart p env s

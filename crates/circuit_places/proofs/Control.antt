@@ -65,7 +65,8 @@ module _ {p : Process} {m : Mode} (env : Seen) (u : Bool) (a : At p m) (h : inne
     fits = r.fits;
     flow = r.flow;
     frees = r.frees;
-    term = inner_follows (ToldBy env (shown a).read) u m r.mode (opened p) (left env.ack a) (left env.ack r.to) h r.way (λ (e : r.mode ≡ running → ⊥). left_done env.ack r.to e) r.term;
+    term = inner_follows (ToldBy env (shown a).read) u m r.mode (opened p) (left env.ack a) (left env.ack r.to) h r.way
+        (λ (e : r.mode ≡ running → ⊥). left_done env.ack r.to e) r.term;
     keeps = inner_keeps;
   }
 
@@ -256,7 +257,8 @@ module _ (P : TypedProgram) {p q : Process} {more : Processes} (env : Seen) wher
             flow = flow_then env (guarded_shown g) (guarded_shown to) (turn_shown b.place) gone b.offer b.take flow;
             frees = λ x i. frees x (guarded_writing_done env.ack to (λ e. cc e) x);
             term = subst (λ (z : Term). Follows (ToldBy env (guarded_shown g).read) (followed (guarded_left env.ack g) (and_member q more)) z) (sym b.term)
-                (subst (λ (z : Term). Follows (ToldBy env (guarded_shown g).read) (followed (guarded_left env.ack g) (and_member q more)) (followed z (and_member q more)))
+                (subst (λ (z : Term). Follows (ToldBy env (guarded_shown g).read) (followed (guarded_left env.ack g) (and_member q more))
+                (followed z (and_member q more)))
                 (guarded_left_past env.ack to)
                 (followed_follows (ToldBy env (guarded_shown g).read) (and_member q more) (guarded_left env.ack g) (guarded_left env.ack to) term));
             keeps = hands_on to b.place keeps;

@@ -179,7 +179,8 @@ module _ {again : Bool} {n : ℕ} {G : Type 0} {heads : G → Pairs n} where
   control_can_is low b z (latched l i g h) of_ask = lock_asks l
   control_can_is low b z (latched l i g h) of_any = any_hot i (lock_any l)
   control_can_is low b z (latched l i g h) (of_latch k) = latch_told i k (heads g) (lock_told l _ _ h)
-  control_can_is low b z (latched l i g h) (of_start k) = ap (λ x. if x then not (bit_of k (hot i true)) else (bit_of k (hot i true) && all_neutral n (heads g))) (bit_none k)
+  control_can_is low b z (latched l i g h) (of_start k) =
+      ap (λ x. if x then not (bit_of k (hot i true)) else (bit_of k (hot i true) && all_neutral n (heads g))) (bit_none k)
   control_can_is low b z (leaving y l g h) of_joined = some_none n
   control_can_is low b z (leaving y l g h) of_ask = lock_asks l
   control_can_is low b z (leaving y l g h) of_any = if_not (lock_any l)
@@ -241,8 +242,10 @@ start_hot i j z = here (bit_of j (hot i true))
     here true = refl
     here false = refl
 
-start_back : {n : ℕ} (i j : Index n) (s z : Bool) → (if bit_of j (hot i s) then not (bit_of j (hot i false)) else (bit_of j (hot i false) && z)) ≡ bit_of j (hot i s)
-start_back {n = n} i j s z = ap (λ (x : Bits n). if bit_of j (hot i s) then not (bit_of j x) else (bit_of j x && z)) (hot_low i) ∙ (ap (λ b. if bit_of j (hot i s) then not b else (b && z)) (bit_none j) ∙ here (bit_of j (hot i s)))
+start_back : {n : ℕ} (i j : Index n) (s z : Bool)
+    → (if bit_of j (hot i s) then not (bit_of j (hot i false)) else (bit_of j (hot i false) && z)) ≡ bit_of j (hot i s)
+start_back {n = n} i j s z = ap (λ (x : Bits n). if bit_of j (hot i s) then not (bit_of j x) else (bit_of j x && z)) (hot_low i)
+    ∙ (ap (λ b. if bit_of j (hot i s) then not b else (b && z)) (bit_none j) ∙ here (bit_of j (hot i s)))
   where
     here : (b : Bool) → (if b then true else false) ≡ b
     here true = refl
@@ -300,7 +303,8 @@ way_can_is {n = n} low hs b z (backs any h) i of_any = ap (λ s. if any then not
 way_can_is low hs b z (backs any h) i (of_latch j) = latch_back i j hs z
 way_can_is {n = n} low hs b z (backs any {k = k} h) i (of_start j) = start_back i j (asks k) (all_neutral n hs)
 
-pub way_turning_is : {m k : Mode} {n : ℕ} {G B : Type 0} (low : G) (hs : Pairs n) (b : B) → all_neutral n hs ≡ true → (w : Way m k) (i : Index n) (s : RoundSpot)
+pub way_turning_is : {m k : Mode} {n : ℕ} {G B : Type 0} (low : G) (hs : Pairs n) (b : B) → all_neutral n hs ≡ true
+    → (w : Way m k) (i : Index n) (s : RoundSpot)
     → fires (turning_rule true hs (turning_of false (asks m) false (way_cells low i b w)) s) ≡ way_turning w s
 way_turning_is low hs b z works i of_answer = refl
 way_turning_is low hs b z works i of_turn = refl
@@ -328,7 +332,8 @@ closing_own_is low hs b z lets_any of_ask = refl
 closing_own_is low hs b z lets_answer of_ask = refl
 closing_own_is {n = n} low hs b z c of_any = ap (λ s. if closing_any c then not (closing_leave c) && not s else (closing_leave c || s)) (some_none n) ∙ here c
   where
-    here : {m : Mode} (c : Closing m) → (if closing_any c then not (closing_leave c) && true else (closing_leave c || false)) ≡ (closing_any c && not (closing_leave c))
+    here : {m : Mode} (c : Closing m)
+        → (if closing_any c then not (closing_leave c) && true else (closing_leave c || false)) ≡ (closing_any c && not (closing_leave c))
     here told_all = refl
     here lets_turn = refl
     here lets_leave = refl
@@ -387,7 +392,8 @@ turn_apart true true = refl
 turn_apart true false = refl
 turn_apart false d = refl
 
-pub core_apart : {n : ℕ} {G B : Type 0} (r v : Bool) (hs : Pairs n) (answers : Bits n) (x : Core n G B) → (r ≡ false → all_neutral n hs ≡ true) → (s : OwnSpot n) → is_apart (core_rule r v hs answers x s) ≡ true
+pub core_apart : {n : ℕ} {G B : Type 0} (r v : Bool) (hs : Pairs n) (answers : Bits n) (x : Core n G B) → (r ≡ false → all_neutral n hs ≡ true)
+    → (s : OwnSpot n) → is_apart (core_rule r v hs answers x s) ≡ true
 core_apart {n = n} r v hs answers x low of_joined = either (some_bit n answers) x.any
 core_apart r v hs answers x low of_ask = ask_apart r x.any
 core_apart {n = n} r v hs answers x low of_any = any_apart v (some_bit n x.latched)
@@ -395,7 +401,8 @@ core_apart r v hs answers x low (of_latch j) = latch_apart r (alone j hs) (λ e.
 core_apart {n = n} r v hs answers x low (of_start j) = start_apart (bit_of j x.latched) (all_neutral n hs)
 
 -- where the latch of the end is up and the guards are let go, a latch is known to be up
-pub turning_apart : {n : ℕ} {G B : Type 0} (r : Bool) (hs : Pairs n) (x : Turning (Core n G B)) → (x.turn ≡ false → all_neutral n hs ≡ true) → (x.leave ≡ true → all_neutral n hs ≡ true → x.core.any ≡ true) → (s : RoundSpot) → is_apart (turning_rule r hs x s) ≡ true
+pub turning_apart : {n : ℕ} {G B : Type 0} (r : Bool) (hs : Pairs n) (x : Turning (Core n G B)) → (x.turn ≡ false → all_neutral n hs ≡ true)
+    → (x.leave ≡ true → all_neutral n hs ≡ true → x.core.any ≡ true) → (s : RoundSpot) → is_apart (turning_rule r hs x s) ≡ true
 turning_apart {n = n} r hs x low known of_answer = here x.leave (all_neutral n hs) x.core.any known
   where
     here : (v z m : Bool) → (v ≡ true → z ≡ true → m ≡ true) → not ((v && z) && not m) ≡ true

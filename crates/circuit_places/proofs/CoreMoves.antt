@@ -19,7 +19,8 @@ pub record Guards (n : ℕ) (G Q : Type 0) : Type 0 where
   pub low_quiet : (q : Q) → fires (rule false low q) ≡ false
   pub begins : (r : Bool) → good r low ≡ true
   pub own : (r : Bool) (g : G) (q : Q) → good r g ≡ true → fires (rule r g q) ≡ true → good r (turned g q) ≡ true
-  pub firm : (r : Bool) (g : G) (q p : Q) → good r g ≡ true → fires (rule r g q) ≡ true → p ≢ q → fires (rule r g p) ≡ true → fires (rule r (turned g q) p) ≡ true
+  pub firm : (r : Bool) (g : G) (q p : Q) → good r g ≡ true → fires (rule r g q) ≡ true → p ≢ q → fires (rule r g p) ≡ true
+      → fires (rule r (turned g q) p) ≡ true
   pub apart : (r : Bool) (g : G) (q : Q) → good r g ≡ true → is_apart (rule r g q) ≡ true
   pub single : (g : G) → good true g ≡ true → all_single n (heads g) ≡ true
   pub ease : (g : G) → good true g ≡ true → all_valid n (heads g) ≡ true → good false g ≡ true
@@ -159,16 +160,21 @@ module _ {again : Bool} {n : ℕ} {G Q B C S T : Type 0} (W : Guards n G Q) (K :
   core_left y (in_branch a w) = y.wrap (K.left a)
 
   -- the rules allow what a place says
-  pub core_can_is : {m : Mode} (x : CoreAt again n G W.heads K.At m) (s : CoreSpot n Q C) → fires (whole_rule W K (asks m) (core_leave x) (core_cells x) s) ≡ core_moves x s
-  core_can_is {m = m} (in_control c) (own s) = ap (λ (y : Bits n). fires (core_rule (asks m) (control_leave c) (W.heads (control_guards W.low c)) y (control_cells W.low K.low c) s)) K.low_answers ∙ control_can_is W.low K.low W.low_neutral c s
+  pub core_can_is : {m : Mode} (x : CoreAt again n G W.heads K.At m) (s : CoreSpot n Q C)
+      → fires (whole_rule W K (asks m) (core_leave x) (core_cells x) s) ≡ core_moves x s
+  core_can_is {m = m} (in_control c) (own s) = ap (λ (y : Bits n). fires (core_rule (asks m) (control_leave c) (W.heads (control_guards W.low c)) y
+      (control_cells W.low K.low c) s)) K.low_answers ∙ control_can_is W.low K.low W.low_neutral c s
   core_can_is (in_control c) (guard q) = refl
   core_can_is (in_control c) (branch b) = K.low_quiet b
-  core_can_is {m = m} (in_branch a w) (own s) = ap (λ (y : Bits n). fires (core_rule (asks m) false (W.heads W.low) y (way_cells W.low (K.index a) (K.cells a) w) s)) (K.answers_are a) ∙ way_can_is W.low (W.heads W.low) (K.cells a) W.low_neutral w (K.index a) s
+  core_can_is {m = m} (in_branch a w) (own s) = ap (λ (y : Bits n). fires
+      (core_rule (asks m) false (W.heads W.low) y (way_cells W.low (K.index a) (K.cells a) w) s)) (K.answers_are a) ∙ way_can_is W.low (W.heads W.low) (K.cells
+      a) W.low_neutral w (K.index a) s
   core_can_is (in_branch a w) (guard q) = W.low_quiet q
   core_can_is (in_branch a w) (branch b) = K.can_is a b
 
   -- and round it
-  pub core_turning_is : {m : Mode} (x : CoreAt again n G W.heads K.At m) (s : RoundSpot) → fires (turning_rule true (W.heads (core_cells x).guards) (turning_of false (asks m) (core_leave x) (core_cells x)) s) ≡ core_turning x s
+  pub core_turning_is : {m : Mode} (x : CoreAt again n G W.heads K.At m) (s : RoundSpot)
+      → fires (turning_rule true (W.heads (core_cells x).guards) (turning_of false (asks m) (core_leave x) (core_cells x)) s) ≡ core_turning x s
   core_turning_is (in_control c) s = turning_can_is W.low K.low W.low_neutral c s
   core_turning_is (in_branch a w) s = way_turning_is W.low (W.heads W.low) (K.cells a) W.low_neutral w (K.index a) s
 
@@ -180,11 +186,14 @@ module _ {again : Bool} {n : ℕ} {G Q B C S T : Type 0} (W : Guards n G Q) (K :
   idle_low (latched l i g h) e = absurd (cc e)
   idle_low (leaving y l g h) e = absurd (cc e)
 
-  pub whole_apart : {m : Mode} (x : CoreAt again n G W.heads K.At m) → CoreFits x → (s : CoreSpot n Q C) → is_apart (whole_rule W K (asks m) (core_leave x) (core_cells x) s) ≡ true
-  whole_apart {m = m} (in_control c) f (own s) = core_apart (asks m) (control_leave c) (W.heads (control_guards W.low c)) (K.answers K.low) (control_cells W.low K.low c) (idle_low c) s
+  pub whole_apart : {m : Mode} (x : CoreAt again n G W.heads K.At m) → CoreFits x → (s : CoreSpot n Q C)
+      → is_apart (whole_rule W K (asks m) (core_leave x) (core_cells x) s) ≡ true
+  whole_apart {m = m} (in_control c) f (own s) =
+      core_apart (asks m) (control_leave c) (W.heads (control_guards W.low c)) (K.answers K.low) (control_cells W.low K.low c) (idle_low c) s
   whole_apart (in_control c) f (guard q) = W.apart (control_ask c) (control_guards W.low c) q f
   whole_apart (in_control c) f (branch b) = K.low_apart b
-  whole_apart {m = m} (in_branch a w) f (own s) = core_apart (asks m) false (W.heads W.low) (K.answers (K.cells a)) (way_cells W.low (K.index a) (K.cells a) w) (λ e. W.low_neutral) s
+  whole_apart {m = m} (in_branch a w) f (own s) =
+      core_apart (asks m) false (W.heads W.low) (K.answers (K.cells a)) (way_cells W.low (K.index a) (K.cells a) w) (λ e. W.low_neutral) s
   whole_apart (in_branch a w) f (guard q) = W.apart false W.low q (W.begins false)
   whole_apart (in_branch a w) f (branch b) = K.apart a b
 
@@ -197,15 +206,19 @@ module _ {again : Bool} {n : ℕ} {G Q B C S T : Type 0} (W : Guards n G Q) (K :
   known (leaving y spread g h) e z = refl
   known (leaving y freed g h) e z = refl
 
-  pub round_apart : {m : Mode} (x : CoreAt again n G W.heads K.At m) (s : RoundSpot) → is_apart (turning_rule true (W.heads (core_cells x).guards) (turning_of false (asks m) (core_leave x) (core_cells x)) s) ≡ true
-  round_apart {m = m} (in_control c) s = turning_apart true (W.heads (control_guards W.low c)) (turning_of false (asks m) (control_leave c) (control_cells W.low K.low c)) (idle_low c) (known c) s
-  round_apart {m = m} (in_branch a w) s = turning_apart true (W.heads W.low) (turning_of false (asks m) false (way_cells W.low (K.index a) (K.cells a) w)) (λ e. W.low_neutral) (λ e z. absurd (cc e)) s
+  pub round_apart : {m : Mode} (x : CoreAt again n G W.heads K.At m) (s : RoundSpot)
+      → is_apart (turning_rule true (W.heads (core_cells x).guards) (turning_of false (asks m) (core_leave x) (core_cells x)) s) ≡ true
+  round_apart {m = m} (in_control c) s =
+      turning_apart true (W.heads (control_guards W.low c)) (turning_of false (asks m) (control_leave c) (control_cells W.low K.low c)) (idle_low c) (known c) s
+  round_apart {m = m} (in_branch a w) s = turning_apart true (W.heads W.low) (turning_of false (asks m) false (way_cells W.low (K.index a) (K.cells a) w))
+      (λ e. W.low_neutral) (λ e z. absurd (cc e)) s
 
 -- How the statement goes on, where z is shown: not at all; it chooses the branch whose guard is true alone, or ends since all are false, both as
 -- the guards are found full under their request; or its branch goes on.
 pub data CoreStep (again : Bool) {n : ℕ} {G Q B C S T : Type 0} (W : Guards n G Q) (K : Branches n B C S T) (y : Story T) (z : S) : T → T → Type 0 where
   stays : {s : T} → CoreStep again W K y z s s
-  chooses : z ≡ K.reading true → (i : Index n) (g : G) → W.good true g ≡ true → alone i (W.heads g) ≡ true → CoreStep again W K y z y.whole (y.wrap (K.opened i))
+  chooses : z ≡ K.reading true → (i : Index n) (g : G) → W.good true g ≡ true → alone i (W.heads g) ≡ true
+      → CoreStep again W K y z y.whole (y.wrap (K.opened i))
   ends : z ≡ K.reading true → again ≡ true → (g : G) → W.good true g ≡ true → over n (W.heads g) ≡ true → CoreStep again W K y z y.whole y.gone
   goes_on : (s t : T) → K.Follows z s t → CoreStep again W K y z (y.wrap s) (y.wrap t)
 
@@ -215,10 +228,12 @@ goes_back idle e = (refl, refl)
 goes_back running e = absurd (cc e)
 goes_back answered e = absurd (cc e)
 
-pub full_still : {n : ℕ} {G Q : Type 0} (W : Guards n G Q) (g : G) (q : Q) → W.good true g ≡ true → all_valid n (W.heads g) ≡ true → fires (W.rule true g q) ≡ true → ⊥
+pub full_still : {n : ℕ} {G Q : Type 0} (W : Guards n G Q) (g : G) (q : Q) → W.good true g ≡ true → all_valid n (W.heads g) ≡ true
+    → fires (W.rule true g q) ≡ true → ⊥
 full_still W g q f v e = cc (W.full g q f v, e)
 
-pub low_still : {n : ℕ} {G Q : Type 0} (W : Guards n G Q) (g : G) (q : Q) → W.good false g ≡ true → all_neutral n (W.heads g) ≡ true → fires (W.rule false g q) ≡ true → ⊥
+pub low_still : {n : ℕ} {G Q : Type 0} (W : Guards n G Q) (g : G) (q : Q) → W.good false g ≡ true → all_neutral n (W.heads g) ≡ true
+    → fires (W.rule false g q) ≡ true → ⊥
 low_still {G = G} W g q f z e = cc (W.low_quiet q, ap (λ (x : G). fires (W.rule false x q)) (W.empty g f z), e)
 
 module _ {again : Bool} {n : ℕ} {G Q B C S T : Type 0} (W : Guards n G Q) (K : Branches n B C S T) (y : Story T) where
@@ -243,7 +258,18 @@ module _ {again : Bool} {n : ℕ} {G Q B C S T : Type 0} (W : Guards n G Q) (K :
 
   -- the guards are called
   ask_up : CoreAfter (in_control called) (own of_ask)
-  ask_up = record { mode = running; to = in_control (evaluating W.low); same = refl; way = refl; leave = refl; fits = W.begins true; flow = K.flow_reading _ _; term = stays; keeps = keeps; turns = turns }
+  ask_up = record {
+    mode = running;
+    to = in_control (evaluating W.low);
+    same = refl;
+    way = refl;
+    leave = refl;
+    fits = W.begins true;
+    flow = K.flow_reading _ _;
+    term = stays;
+    keeps = keeps;
+    turns = turns;
+  }
     where
       turns : Turns (in_control called) (in_control (evaluating W.low))
       turns t e = absurd (cc e)
@@ -293,8 +319,20 @@ module _ {again : Bool} {n : ℕ} {G Q B C S T : Type 0} (W : Guards n G Q) (K :
       keeps (branch c) ne e = absurd (cc e)
 
   -- that a latch is up is known
-  any_latched : (i : Index n) (g : G) (h : lock_may noted (alone i (W.heads g)) (told i (W.heads g)) ≡ true) → W.good true g ≡ true → CoreAfter (in_control (latched noted i g h)) (own of_any)
-  any_latched i g h f = record { mode = running; to = in_control (latched spread i g h); same = refl; way = refl; leave = refl; fits = f; flow = K.flow_reading _ _; term = stays; keeps = keeps; turns = λ t e. absurd (cc e) }
+  any_latched : (i : Index n) (g : G) (h : lock_may noted (alone i (W.heads g)) (told i (W.heads g)) ≡ true) → W.good true g ≡ true
+      → CoreAfter (in_control (latched noted i g h)) (own of_any)
+  any_latched i g h f = record {
+    mode = running;
+    to = in_control (latched spread i g h);
+    same = refl;
+    way = refl;
+    leave = refl;
+    fits = f;
+    flow = K.flow_reading _ _;
+    term = stays;
+    keeps = keeps;
+    turns = λ t e. absurd (cc e);
+  }
     where
       keeps : Keeps (in_control (latched noted i g h)) (in_control (latched spread i g h)) (own of_any)
       keeps (own of_any) ne e = absurd (ne refl)
@@ -305,8 +343,20 @@ module _ {again : Bool} {n : ℕ} {G Q B C S T : Type 0} (W : Guards n G Q) (K :
       keeps (guard q) ne e = e
       keeps (branch c) ne e = absurd (cc e)
 
-  any_leaving : (y : again ≡ true) (g : G) (h : lock_may noted (over n (W.heads g)) (none_true n (W.heads g)) ≡ true) → W.good true g ≡ true → CoreAfter (in_control (leaving y noted g h)) (own of_any)
-  any_leaving y g h f = record { mode = running; to = in_control (leaving y spread g h); same = refl; way = refl; leave = refl; fits = f; flow = K.flow_reading _ _; term = stays; keeps = keeps; turns = turns }
+  any_leaving : (y : again ≡ true) (g : G) (h : lock_may noted (over n (W.heads g)) (none_true n (W.heads g)) ≡ true) → W.good true g ≡ true
+      → CoreAfter (in_control (leaving y noted g h)) (own of_any)
+  any_leaving y g h f = record {
+    mode = running;
+    to = in_control (leaving y spread g h);
+    same = refl;
+    way = refl;
+    leave = refl;
+    fits = f;
+    flow = K.flow_reading _ _;
+    term = stays;
+    keeps = keeps;
+    turns = turns;
+  }
     where
       turns : Turns (in_control (leaving y noted g h)) (in_control (leaving y spread g h))
       turns of_answer e = e
@@ -323,8 +373,20 @@ module _ {again : Bool} {n : ℕ} {G Q B C S T : Type 0} (W : Guards n G Q) (K :
       keeps (branch c) ne e = absurd (cc e)
 
   -- the guards are let go
-  ask_latched : (i : Index n) (g : G) (h : lock_may spread (alone i (W.heads g)) (told i (W.heads g)) ≡ true) → W.good true g ≡ true → CoreAfter (in_control (latched spread i g h)) (own of_ask)
-  ask_latched i g h f = record { mode = running; to = in_control (latched freed i g may); same = refl; way = refl; leave = refl; fits = W.ease g f valid; flow = K.flow_reading _ _; term = stays; keeps = keeps; turns = λ t e. absurd (cc e) }
+  ask_latched : (i : Index n) (g : G) (h : lock_may spread (alone i (W.heads g)) (told i (W.heads g)) ≡ true) → W.good true g ≡ true
+      → CoreAfter (in_control (latched spread i g h)) (own of_ask)
+  ask_latched i g h f = record {
+    mode = running;
+    to = in_control (latched freed i g may);
+    same = refl;
+    way = refl;
+    leave = refl;
+    fits = W.ease g f valid;
+    flow = K.flow_reading _ _;
+    term = stays;
+    keeps = keeps;
+    turns = λ t e. absurd (cc e);
+  }
     where
       valid : all_valid n (W.heads g) ≡ true
       valid = alone_valid i (W.heads g) (snd_true (told i (W.heads g)) _ h)
@@ -341,8 +403,20 @@ module _ {again : Bool} {n : ℕ} {G Q B C S T : Type 0} (W : Guards n G Q) (K :
       keeps (guard q) ne e = absurd (full_still W g q f valid e)
       keeps (branch c) ne e = absurd (cc e)
 
-  ask_leaving : (y : again ≡ true) (g : G) (h : lock_may spread (over n (W.heads g)) (none_true n (W.heads g)) ≡ true) → W.good true g ≡ true → CoreAfter (in_control (leaving y spread g h)) (own of_ask)
-  ask_leaving y g h f = record { mode = running; to = in_control (leaving y freed g may); same = refl; way = refl; leave = refl; fits = W.ease g f valid; flow = K.flow_reading _ _; term = stays; keeps = keeps; turns = turns }
+  ask_leaving : (y : again ≡ true) (g : G) (h : lock_may spread (over n (W.heads g)) (none_true n (W.heads g)) ≡ true) → W.good true g ≡ true
+      → CoreAfter (in_control (leaving y spread g h)) (own of_ask)
+  ask_leaving y g h f = record {
+    mode = running;
+    to = in_control (leaving y freed g may);
+    same = refl;
+    way = refl;
+    leave = refl;
+    fits = W.ease g f valid;
+    flow = K.flow_reading _ _;
+    term = stays;
+    keeps = keeps;
+    turns = turns;
+  }
     where
       valid : all_valid n (W.heads g) ≡ true
       valid = false_valid n (W.heads g) (over_false n (W.heads g) (snd_true (none_true n (W.heads g)) _ h))
@@ -366,7 +440,18 @@ module _ {again : Bool} {n : ℕ} {G Q B C S T : Type 0} (W : Guards n G Q) (K :
 
   -- a rail of a guard moves, as the guards are evaluated
   guard_rises : (g : G) (q : Q) → W.good true g ≡ true → fires (W.rule true g q) ≡ true → CoreAfter (in_control (evaluating g)) (guard q)
-  guard_rises g q f m = record { mode = running; to = in_control (evaluating (W.turned g q)); same = refl; way = refl; leave = refl; fits = W.own true g q f m; flow = K.flow_reading _ _; term = stays; keeps = keeps; turns = turns }
+  guard_rises g q f m = record {
+    mode = running;
+    to = in_control (evaluating (W.turned g q));
+    same = refl;
+    way = refl;
+    leave = refl;
+    fits = W.own true g q f m;
+    flow = K.flow_reading _ _;
+    term = stays;
+    keeps = keeps;
+    turns = turns;
+  }
     where
       turns : Turns (in_control (evaluating g)) (in_control (evaluating (W.turned g q)))
       turns of_leave e = absurd (full_still W g q f (false_valid n (W.heads g) (over_false n (W.heads g) e)) m)
@@ -383,11 +468,24 @@ module _ {again : Bool} {n : ℕ} {G Q B C S T : Type 0} (W : Guards n G Q) (K :
       keeps (branch c) ne e = absurd (cc e)
 
   -- and as they are let go
-  guard_falls : (i : Index n) (g : G) (q : Q) (h : lock_may freed (alone i (W.heads g)) (told i (W.heads g)) ≡ true) → W.good false g ≡ true → fires (W.rule false g q) ≡ true → CoreAfter (in_control (latched freed i g h)) (guard q)
-  guard_falls i g q h f m = record { mode = running; to = in_control (latched freed i (W.turned g q) may); same = refl; way = refl; leave = refl; fits = W.own false g q f m; flow = K.flow_reading _ _; term = stays; keeps = keeps; turns = λ t e. absurd (cc e) }
+  guard_falls : (i : Index n) (g : G) (q : Q) (h : lock_may freed (alone i (W.heads g)) (told i (W.heads g)) ≡ true) → W.good false g ≡ true
+      → fires (W.rule false g q) ≡ true → CoreAfter (in_control (latched freed i g h)) (guard q)
+  guard_falls i g q h f m = record {
+    mode = running;
+    to = in_control (latched freed i (W.turned g q) may);
+    same = refl;
+    way = refl;
+    leave = refl;
+    fits = W.own false g q f m;
+    flow = K.flow_reading _ _;
+    term = stays;
+    keeps = keeps;
+    turns = λ t e. absurd (cc e);
+  }
     where
       may : lock_may freed (alone i (W.heads (W.turned g q))) (told i (W.heads (W.turned g q))) ≡ true
-      may = both_true (told i (W.heads (W.turned g q))) true (told_falls i (W.heads (W.turned g q)) (W.heads g) (W.falls g q f m) (fst_true (told i (W.heads g)) _ h)) refl
+      may = both_true (told i (W.heads (W.turned g q))) true (told_falls i (W.heads (W.turned g q)) (W.heads g) (W.falls g q f m)
+          (fst_true (told i (W.heads g)) _ h)) refl
 
       keeps : Keeps (in_control (latched freed i g h)) (in_control (latched freed i (W.turned g q) may)) (guard q)
       keeps (own of_ask) ne e = absurd (cc e)
@@ -398,11 +496,24 @@ module _ {again : Bool} {n : ℕ} {G Q B C S T : Type 0} (W : Guards n G Q) (K :
       keeps (guard p) ne e = W.firm false g q p f m (λ (z : p ≡ q). ne (ap (λ x. guard x) z)) e
       keeps (branch c) ne e = absurd (cc e)
 
-  guard_leaves : (y : again ≡ true) (g : G) (q : Q) (h : lock_may freed (over n (W.heads g)) (none_true n (W.heads g)) ≡ true) → W.good false g ≡ true → fires (W.rule false g q) ≡ true → CoreAfter (in_control (leaving y freed g h)) (guard q)
-  guard_leaves y g q h f m = record { mode = running; to = in_control (leaving y freed (W.turned g q) may); same = refl; way = refl; leave = refl; fits = W.own false g q f m; flow = K.flow_reading _ _; term = stays; keeps = keeps; turns = turns }
+  guard_leaves : (y : again ≡ true) (g : G) (q : Q) (h : lock_may freed (over n (W.heads g)) (none_true n (W.heads g)) ≡ true) → W.good false g ≡ true
+      → fires (W.rule false g q) ≡ true → CoreAfter (in_control (leaving y freed g h)) (guard q)
+  guard_leaves y g q h f m = record {
+    mode = running;
+    to = in_control (leaving y freed (W.turned g q) may);
+    same = refl;
+    way = refl;
+    leave = refl;
+    fits = W.own false g q f m;
+    flow = K.flow_reading _ _;
+    term = stays;
+    keeps = keeps;
+    turns = turns;
+  }
     where
       may : lock_may freed (over n (W.heads (W.turned g q))) (none_true n (W.heads (W.turned g q))) ≡ true
-      may = both_true (none_true n (W.heads (W.turned g q))) true (none_falls n (W.heads (W.turned g q)) (W.heads g) (W.falls g q f m) (fst_true (none_true n (W.heads g)) _ h)) refl
+      may = both_true (none_true n (W.heads (W.turned g q))) true (none_falls n (W.heads (W.turned g q)) (W.heads g) (W.falls g q f m)
+          (fst_true (none_true n (W.heads g)) _ h)) refl
 
       turns : Turns (in_control (leaving y freed g h)) (in_control (leaving y freed (W.turned g q) may))
       turns of_answer e = absurd (low_still W g q f e m)
@@ -419,7 +530,8 @@ module _ {again : Bool} {n : ℕ} {G Q B C S T : Type 0} (W : Guards n G Q) (K :
       keeps (branch c) ne e = absurd (cc e)
 
   -- the branch starts
-  start_up : (i : Index n) (g : G) (h : lock_may freed (alone i (W.heads g)) (told i (W.heads g)) ≡ true) → W.good false g ≡ true → all_neutral n (W.heads g) ≡ true → Begun K i → CoreAfter (in_control (latched freed i g h)) (own (of_start i))
+  start_up : (i : Index n) (g : G) (h : lock_may freed (alone i (W.heads g)) (told i (W.heads g)) ≡ true) → W.good false g ≡ true
+      → all_neutral n (W.heads g) ≡ true → Begun K i → CoreAfter (in_control (latched freed i g h)) (own (of_start i))
   start_up i g h f z b = record {
     mode = running;
     to = in_branch b.place works;
@@ -449,11 +561,14 @@ module _ {again : Bool} {n : ℕ} {G Q B C S T : Type 0} (W : Guards n G Q) (K :
   runs : (a : K.At running) (c : C) → Stepped K a c → CoreAfter (in_branch a works) (branch c)
   runs a c r = by_mode r.mode r.to r.which r.same r.way r.fits r.flow r.term r.keeps
     where
-      by_mode : (d : Mode) (to : K.At d) → K.index to ≡ K.index a → K.cells to ≡ K.turned (K.cells a) c → goes running d ≡ true → K.Fits to → K.Flow (K.shown a) (K.shown to) → K.Follows (K.shown a) (K.left a) (K.left to) → ((b : C) → b ≢ c → K.moves a b ≡ true → K.moves to b ≡ true) → CoreAfter (in_branch a works) (branch c)
+      by_mode : (d : Mode) (to : K.At d) → K.index to ≡ K.index a → K.cells to ≡ K.turned (K.cells a) c → goes running d ≡ true → K.Fits to
+          → K.Flow (K.shown a) (K.shown to) → K.Follows (K.shown a) (K.left a) (K.left to) → ((b : C) → b ≢ c → K.moves a b ≡ true → K.moves to b ≡ true)
+          → CoreAfter (in_branch a works) (branch c)
       by_mode running to which same way fits flow term kept = record {
         mode = running;
         to = in_branch to works;
-        same = ap (λ (j : Index n). core_of false false true (hot j true) (hot j true) W.low (K.cells to)) which ∙ ap (λ (x : B). core_of false false true (hot (K.index a) true) (hot (K.index a) true) W.low x) same;
+        same = ap (λ (j : Index n). core_of false false true (hot j true) (hot j true) W.low (K.cells to)) which
+            ∙ ap (λ (x : B). core_of false false true (hot (K.index a) true) (hot (K.index a) true) W.low x) same;
         way = refl;
         leave = refl;
         fits = fits;
@@ -470,7 +585,8 @@ module _ {again : Bool} {n : ℕ} {G Q B C S T : Type 0} (W : Guards n G Q) (K :
       by_mode answered to which same way fits flow term kept = record {
         mode = running;
         to = in_branch to worked;
-        same = ap (λ (j : Index n). core_of false false true (hot j true) (hot j true) W.low (K.cells to)) which ∙ ap (λ (x : B). core_of false false true (hot (K.index a) true) (hot (K.index a) true) W.low x) same;
+        same = ap (λ (j : Index n). core_of false false true (hot j true) (hot j true) W.low (K.cells to)) which
+            ∙ ap (λ (x : B). core_of false false true (hot (K.index a) true) (hot (K.index a) true) W.low x) same;
         way = refl;
         leave = refl;
         fits = fits;
@@ -492,7 +608,8 @@ module _ {again : Bool} {n : ℕ} {G Q B C S T : Type 0} (W : Guards n G Q) (K :
     mode = returning;
     to = in_branch r.to (backs any (goes_back r.mode r.way).1);
     same = ap (λ (b : Bool). core_of true false any (hot (K.index r.to) false) (hot (K.index r.to) b) W.low (K.cells r.to)) (goes_back r.mode r.way).0
-        ∙ (ap (λ (j : Index n). core_of true false any (hot j false) (hot j false) W.low (K.cells r.to)) r.which ∙ ap (λ (x : B). core_of true false any (hot (K.index a) false) (hot (K.index a) false) W.low x) r.same);
+        ∙ (ap (λ (j : Index n). core_of true false any (hot j false) (hot j false) W.low (K.cells r.to)) r.which
+        ∙ ap (λ (x : B). core_of true false any (hot (K.index a) false) (hot (K.index a) false) W.low x) r.same);
     way = refl;
     leave = refl;
     fits = r.fits;
@@ -513,7 +630,18 @@ module _ {again : Bool} {n : ℕ} {G Q B C S T : Type 0} (W : Guards n G Q) (K :
 
   -- the core answers
   joined_up : (a : K.At answered) → K.Fits a → CoreAfter (in_branch a worked) (own of_joined)
-  joined_up a f = record { mode = answered; to = in_branch a reported; same = refl; way = refl; leave = refl; fits = f; flow = K.flow_same (K.shown a); term = stays; keeps = keeps; turns = λ t e. absurd (cc e) }
+  joined_up a f = record {
+    mode = answered;
+    to = in_branch a reported;
+    same = refl;
+    way = refl;
+    leave = refl;
+    fits = f;
+    flow = K.flow_same (K.shown a);
+    term = stays;
+    keeps = keeps;
+    turns = λ t e. absurd (cc e);
+  }
     where
       keeps : Keeps (in_branch a worked) (in_branch a reported) (own of_joined)
       keeps (own of_joined) ne e = absurd (ne refl)
@@ -549,7 +677,18 @@ module _ {again : Bool} {n : ℕ} {G Q B C S T : Type 0} (W : Guards n G Q) (K :
       keeps (branch b) ne e = e
 
   any_down : {k : Mode} (h : isnt_running k ≡ true) (a : K.At k) → K.Fits a → CoreAfter (in_branch a (backs true h)) (own of_any)
-  any_down h a f = record { mode = returning; to = in_branch a (backs false h); same = refl; way = refl; leave = refl; fits = f; flow = K.flow_same (K.shown a); term = stays; keeps = keeps; turns = λ t e. absurd (cc e) }
+  any_down h a f = record {
+    mode = returning;
+    to = in_branch a (backs false h);
+    same = refl;
+    way = refl;
+    leave = refl;
+    fits = f;
+    flow = K.flow_same (K.shown a);
+    term = stays;
+    keeps = keeps;
+    turns = λ t e. absurd (cc e);
+  }
     where
       keeps : Keeps (in_branch a (backs true h)) (in_branch a (backs false h)) (own of_any)
       keeps (own of_joined) ne e = absurd (cc e)
@@ -560,12 +699,14 @@ module _ {again : Bool} {n : ℕ} {G Q B C S T : Type 0} (W : Guards n G Q) (K :
       keeps (guard q) ne e = absurd (cc e)
       keeps (branch b) ne e = e
 
-  start_down : (any : Bool) (h : isnt_running answered ≡ true) (a : K.At answered) → K.Fits a → Lowered K a → CoreAfter (in_branch a (backs any h)) (own (of_start (K.index a)))
+  start_down : (any : Bool) (h : isnt_running answered ≡ true) (a : K.At answered) → K.Fits a → Lowered K a
+      → CoreAfter (in_branch a (backs any h)) (own (of_start (K.index a)))
   start_down any h a f b = record {
     mode = returning;
     to = in_branch b.place (backs any refl);
     same = ap (λ (j : Index n). core_of true false any (hot j false) (hot j false) W.low (K.cells b.place)) b.which
-        ∙ (ap (λ (x : B). core_of true false any (hot (K.index a) false) (hot (K.index a) false) W.low x) b.same ∙ ap (λ (x : Bits n). core_of true false any (hot (K.index a) false) x W.low (K.cells a)) (hot_turned (K.index a) true));
+        ∙ (ap (λ (x : B). core_of true false any (hot (K.index a) false) (hot (K.index a) false) W.low x) b.same
+        ∙ ap (λ (x : Bits n). core_of true false any (hot (K.index a) false) x W.low (K.cells a)) (hot_turned (K.index a) true));
     way = refl;
     leave = refl;
     fits = b.fits;
@@ -588,7 +729,8 @@ module _ {again : Bool} {n : ℕ} {G Q B C S T : Type 0} (W : Guards n G Q) (K :
   joined_down h a = record {
     mode = idle;
     to = in_control uncalled;
-    same = ap (λ (x : Bits n). core_of false false false x x W.low K.low) (sym (hot_low (K.index a))) ∙ ap (λ (x : B). core_of false false false (hot (K.index a) false) (hot (K.index a) false) W.low x) (sym (K.idle_is a));
+    same = ap (λ (x : Bits n). core_of false false false x x W.low K.low) (sym (hot_low (K.index a)))
+        ∙ ap (λ (x : B). core_of false false false (hot (K.index a) false) (hot (K.index a) false) W.low x) (sym (K.idle_is a));
     way = refl;
     leave = refl;
     fits = W.begins false;
@@ -625,16 +767,20 @@ module _ {again : Bool} {n : ℕ} {G Q B C S T : Type 0} (W : Guards n G Q) (K :
   guard_after (in_control (latched noted i g h)) q f e = absurd (full_still W g q f (alone_valid i (W.heads g) (snd_true (told i (W.heads g)) _ h)) e)
   guard_after (in_control (latched spread i g h)) q f e = absurd (full_still W g q f (alone_valid i (W.heads g) (snd_true (told i (W.heads g)) _ h)) e)
   guard_after (in_control (latched freed i g h)) q f e = guard_falls i g q h f e
-  guard_after (in_control (leaving y noted g h)) q f e = absurd (full_still W g q f (false_valid n (W.heads g) (over_false n (W.heads g) (snd_true (none_true n (W.heads g)) _ h))) e)
-  guard_after (in_control (leaving y spread g h)) q f e = absurd (full_still W g q f (false_valid n (W.heads g) (over_false n (W.heads g) (snd_true (none_true n (W.heads g)) _ h))) e)
+  guard_after (in_control (leaving y noted g h)) q f e =
+      absurd (full_still W g q f (false_valid n (W.heads g) (over_false n (W.heads g) (snd_true (none_true n (W.heads g)) _ h))) e)
+  guard_after (in_control (leaving y spread g h)) q f e =
+      absurd (full_still W g q f (false_valid n (W.heads g) (over_false n (W.heads g) (snd_true (none_true n (W.heads g)) _ h))) e)
   guard_after (in_control (leaving y freed g h)) q f e = guard_leaves y g q h f e
   guard_after (in_branch a w) q f e = absurd (cc e)
 
   -- the index of a latch or a start that moves is that of the branch under way
-  at_index : {m : Mode} (x : CoreAt again n G W.heads K.At m) (node : Index n → OwnSpot n) (i j : Index n) → j ≡ i → CoreAfter x (own (node i)) → CoreAfter x (own (node j))
+  at_index : {m : Mode} (x : CoreAt again n G W.heads K.At m) (node : Index n → OwnSpot n) (i j : Index n) → j ≡ i → CoreAfter x (own (node i))
+      → CoreAfter x (own (node j))
   at_index x node i j e r = subst (λ (k : Index n). CoreAfter x (own (node k))) (sym e) r
 
-  pub own_after : {m : Mode} (x : CoreAt again n G W.heads K.At m) (s : OwnSpot n) → CoreFits W K x → (core_shown W K x ≡ K.none → (i : Index n) → Begun K i) → ((a : K.At answered) → K.Fits a → Lowered K a) → core_moves W K x (own s) ≡ true → CoreAfter x (own s)
+  pub own_after : {m : Mode} (x : CoreAt again n G W.heads K.At m) (s : OwnSpot n) → CoreFits W K x → (core_shown W K x ≡ K.none → (i : Index n) → Begun K i)
+      → ((a : K.At answered) → K.Fits a → Lowered K a) → core_moves W K x (own s) ≡ true → CoreAfter x (own s)
   own_after (in_control uncalled) s f b l e = absurd (cc e)
   own_after (in_control called) of_ask f b l e = ask_up
   own_after (in_control called) of_joined f b l e = absurd (cc e)
@@ -651,8 +797,10 @@ module _ {again : Bool} {n : ℕ} {G Q B C S T : Type 0} (W : Guards n G Q) (K :
   own_after (in_control (latched freed i g h)) (of_start j) f b l e =
       at_index (in_control (latched freed i g h)) (λ k. of_start k) i j (hot_is i j true (fst_true (bit_of j (hot i true)) _ e)).0
       (start_up i g h f (snd_true (bit_of j (hot i true)) _ e) (b K.reading_low i))
-  own_after (in_control (latched noted i g h)) (of_start j) f b l e = absurd (cc (neutral_alone i (W.heads g) (snd_true (bit_of j (hot i true)) _ e), snd_true (told i (W.heads g)) (alone i (W.heads g)) h))
-  own_after (in_control (latched spread i g h)) (of_start j) f b l e = absurd (cc (neutral_alone i (W.heads g) (snd_true (bit_of j (hot i true)) _ e), snd_true (told i (W.heads g)) (alone i (W.heads g)) h))
+  own_after (in_control (latched noted i g h)) (of_start j) f b l e =
+      absurd (cc (neutral_alone i (W.heads g) (snd_true (bit_of j (hot i true)) _ e), snd_true (told i (W.heads g)) (alone i (W.heads g)) h))
+  own_after (in_control (latched spread i g h)) (of_start j) f b l e =
+      absurd (cc (neutral_alone i (W.heads g) (snd_true (bit_of j (hot i true)) _ e), snd_true (told i (W.heads g)) (alone i (W.heads g)) h))
   own_after (in_control (latched spread i g h)) of_any f b l e = absurd (cc e)
   own_after (in_control (latched freed i g h)) of_any f b l e = absurd (cc e)
   own_after (in_control (latched noted i g h)) of_ask f b l e = absurd (cc e)
@@ -675,14 +823,16 @@ module _ {again : Bool} {n : ℕ} {G Q B C S T : Type 0} (W : Guards n G Q) (K :
   own_after (in_branch a worked) (of_latch j) f b l e = absurd (cc e)
   own_after (in_branch a worked) (of_start j) f b l e = absurd (cc e)
   own_after (in_branch a reported) s f b l e = absurd (cc e)
-  own_after (in_branch a letting) (of_latch j) f b l e = at_index (in_branch a letting) (λ k. of_latch k) (K.index a) j (hot_is (K.index a) j true e).0 (latch_down a f)
+  own_after (in_branch a letting) (of_latch j) f b l e =
+      at_index (in_branch a letting) (λ k. of_latch k) (K.index a) j (hot_is (K.index a) j true e).0 (latch_down a f)
   own_after (in_branch a letting) of_joined f b l e = absurd (cc e)
   own_after (in_branch a letting) of_any f b l e = absurd (cc e)
   own_after (in_branch a letting) of_ask f b l e = absurd (cc e)
   own_after (in_branch a letting) (of_start j) f b l e = absurd (cc e)
   own_after (in_branch a (backs true h)) of_any f b l e = any_down h a f
   own_after (in_branch a (backs false h)) of_any f b l e = absurd (cc e)
-  own_after (in_branch {k = answered} a (backs any h)) (of_start j) f b l e = at_index (in_branch a (backs any h)) (λ k. of_start k) (K.index a) j (hot_is (K.index a) j true e).0 (start_down any h a f (l a f))
+  own_after (in_branch {k = answered} a (backs any h)) (of_start j) f b l e =
+      at_index (in_branch a (backs any h)) (λ k. of_start k) (K.index a) j (hot_is (K.index a) j true e).0 (start_down any h a f (l a f))
   own_after (in_branch {k = idle} a (backs any h)) (of_start j) f b l e = absurd (cc (hot_is (K.index a) j false e).1)
   own_after (in_branch {k = running} a (backs any h)) (of_start j) f b l e = absurd (cc h)
   own_after (in_branch {k = returning} a (backs any h)) (of_start j) f b l e = absurd (cc (hot_is (K.index a) j false e).1)

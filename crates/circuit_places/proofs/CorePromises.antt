@@ -11,10 +11,12 @@ use Rattle.circuit_places.proofs.AgainMoves.{AgainAt, again_rests, turning, clos
 module _ {again : Bool} {n : ℕ} {G Q B C S T : Type 0} (W : Guards n G Q) (K : Branches n B C S T) where
   -- the guards are called where none of their rails is up, and let go where each has one
   pub ask_promise : {m : Mode} (x : CoreAt again n G W.heads K.At m) → core_moves W K x (own of_ask) ≡ true
-      → ((core_cells W K x).ask ≡ false → (core_cells W K x).guards ≡ W.low) × ((core_cells W K x).ask ≡ true → all_valid n (W.heads (core_cells W K x).guards) ≡ true)
+      → ((core_cells W K x).ask ≡ false → (core_cells W K x).guards ≡ W.low)
+      × ((core_cells W K x).ask ≡ true → all_valid n (W.heads (core_cells W K x).guards) ≡ true)
   ask_promise (in_control called) e = (λ z. refl, λ z. absurd (cc z))
   ask_promise (in_control (latched spread i g h)) e = (λ z. absurd (cc z), λ z. alone_valid i (W.heads g) (snd_true (told i (W.heads g)) _ h))
-  ask_promise (in_control (leaving t spread g h)) e = (λ z. absurd (cc z), λ z. false_valid n (W.heads g) (over_false n (W.heads g) (snd_true (none_true n (W.heads g)) _ h)))
+  ask_promise (in_control (leaving t spread g h)) e =
+      (λ z. absurd (cc z), λ z. false_valid n (W.heads g) (over_false n (W.heads g) (snd_true (none_true n (W.heads g)) _ h)))
   ask_promise (in_control (latched noted i g h)) e = absurd (cc e)
   ask_promise (in_control (latched freed i g h)) e = absurd (cc e)
   ask_promise (in_control (leaving t noted g h)) e = absurd (cc e)
@@ -28,8 +30,10 @@ module _ {again : Bool} {n : ℕ} {G Q B C S T : Type 0} (W : Guards n G Q) (K :
   ask_promise (in_branch a (backs any h)) e = absurd (cc e)
 
   -- the latch that rises is that of the guard that is true alone, where no other is up, under the guards' request
-  pub latch_promise : {m : Mode} (x : CoreAt again n G W.heads K.At m) (j : Index n) → CoreFits W K x → core_moves W K x (own (of_latch j)) ≡ true → bit_of j (core_cells W K x).latched ≡ false
-      → (alone j (W.heads (core_cells W K x).guards) ≡ true) × ((core_cells W K x).latched ≡ low_bits n) × ((core_cells W K x).ask ≡ true) × (W.good true (core_cells W K x).guards ≡ true)
+  pub latch_promise : {m : Mode} (x : CoreAt again n G W.heads K.At m) (j : Index n) → CoreFits W K x → core_moves W K x (own (of_latch j)) ≡ true
+      → bit_of j (core_cells W K x).latched ≡ false
+      → (alone j (W.heads (core_cells W K x).guards) ≡ true) × ((core_cells W K x).latched ≡ low_bits n) × ((core_cells W K x).ask ≡ true)
+      × (W.good true (core_cells W K x).guards ≡ true)
   latch_promise (in_control (evaluating g)) j f e l = (e, refl, refl, f)
   latch_promise (in_control uncalled) j f e l = absurd (cc e)
   latch_promise (in_control called) j f e l = absurd (cc e)
@@ -42,8 +46,10 @@ module _ {again : Bool} {n : ℕ} {G Q B C S T : Type 0} (W : Guards n G Q) (K :
   latch_promise (in_branch a (backs any h)) j f e l = absurd (cc e)
 
   -- a start rises where its latch is up, the guards are let go and no branch is under way; it falls where its branch has answered
-  pub start_rises : {m : Mode} (x : CoreAt again n G W.heads K.At m) (j : Index n) → core_moves W K x (own (of_start j)) ≡ true → bit_of j (core_cells W K x).started ≡ false
-      → (bit_of j (core_cells W K x).latched ≡ true) × (all_neutral n (W.heads (core_cells W K x).guards) ≡ true) × ((core_cells W K x).started ≡ low_bits n) × ((core_cells W K x).branches ≡ K.low)
+  pub start_rises : {m : Mode} (x : CoreAt again n G W.heads K.At m) (j : Index n) → core_moves W K x (own (of_start j)) ≡ true
+      → bit_of j (core_cells W K x).started ≡ false
+      → (bit_of j (core_cells W K x).latched ≡ true) × (all_neutral n (W.heads (core_cells W K x).guards) ≡ true) × ((core_cells W K x).started ≡ low_bits n)
+      × ((core_cells W K x).branches ≡ K.low)
   start_rises (in_control (latched l i g h)) j e s = (fst_true (bit_of j (hot i true)) _ e, snd_true (bit_of j (hot i true)) _ e, refl, refl)
   start_rises (in_control (evaluating g)) j e s = absurd (cc e)
   start_rises (in_control uncalled) j e s = absurd (cc e)
@@ -56,9 +62,11 @@ module _ {again : Bool} {n : ℕ} {G Q B C S T : Type 0} (W : Guards n G Q) (K :
   start_rises (in_branch a (backs any h)) j e s = absurd (cc (e, s))
 
   -- its branch's answer is high then
-  pub start_falls : {m : Mode} (x : CoreAt again n G W.heads K.At m) (j : Index n) → core_moves W K x (own (of_start j)) ≡ true → bit_of j (core_cells W K x).started ≡ true
+  pub start_falls : {m : Mode} (x : CoreAt again n G W.heads K.At m) (j : Index n) → core_moves W K x (own (of_start j)) ≡ true
+      → bit_of j (core_cells W K x).started ≡ true
       → (bit_of j (K.answers (core_cells W K x).branches) ≡ true) × (bit_of j (core_cells W K x).latched ≡ false)
-  start_falls (in_branch {k = answered} a (backs any h)) j e s = (ap (λ (y : Bits n). bit_of j y) (K.answers_are a) ∙ e, ap (λ (y : Bits n). bit_of j y) (hot_low (K.index a)) ∙ bit_none j)
+  start_falls (in_branch {k = answered} a (backs any h)) j e s =
+      (ap (λ (y : Bits n). bit_of j y) (K.answers_are a) ∙ e, ap (λ (y : Bits n). bit_of j y) (hot_low (K.index a)) ∙ bit_none j)
   start_falls (in_branch {k = returning} a (backs any h)) j e s = absurd (cc (hot_is (K.index a) j false e).1)
   start_falls (in_branch {k = idle} a (backs any h)) j e s = absurd (cc (hot_is (K.index a) j false e).1)
   start_falls (in_branch {k = running} a (backs any h)) j e s = absurd (cc h)
@@ -74,16 +82,20 @@ module _ {again : Bool} {n : ℕ} {G Q B C S T : Type 0} (W : Guards n G Q) (K :
 
 -- Where none of a core's nodes moves: it is called and answered alike; or its guards are full and no latch may rise; or a branch is
 -- under way of which no node moves.
-pub data CoreRest {n : ℕ} {G Q B C S T : Type 0} (again : Bool) (W : Guards n G Q) (K : Branches n B C S T) : (m : Mode) → CoreAt again n G W.heads K.At m → Type 0 where
+pub data CoreRest {n : ℕ} {G Q B C S T : Type 0} (again : Bool) (W : Guards n G Q) (K : Branches n B C S T) : (m : Mode) → CoreAt again n G W.heads K.At m →
+    Type 0 where
   core_settled : {m : Mode} {x : CoreAt again n G W.heads K.At m} → asks m ≡ acks m → CoreRest again W K m x
-  stuck : (g : G) → W.good true g ≡ true → all_valid n (W.heads g) ≡ true → ((j : Index n) → alone j (W.heads g) ≡ false) → (again ≡ true → over n (W.heads g) ≡ false) → CoreRest again W K running (in_control (evaluating g))
+  stuck : (g : G) → W.good true g ≡ true → all_valid n (W.heads g) ≡ true → ((j : Index n) → alone j (W.heads g) ≡ false)
+      → (again ≡ true → over n (W.heads g) ≡ false) → CoreRest again W K running (in_control (evaluating g))
   at_work : (a : K.At running) → ((c : C) → K.moves a c ≡ false) → CoreRest again W K running (in_branch a works)
-  falling : {any : Bool} {h : isnt_running returning ≡ true} (a : K.At returning) → ((c : C) → K.moves a c ≡ false) → CoreRest again W K returning (in_branch a (backs any h))
+  falling : {any : Bool} {h : isnt_running returning ≡ true} (a : K.At returning) → ((c : C) → K.moves a c ≡ false)
+      → CoreRest again W K returning (in_branch a (backs any h))
 
 high_moves : (b : Bool) → b ≡ true → b ≡ false → ⊥
 high_moves b e f = cc (e, f)
 
-pub core_rest : {again : Bool} {n : ℕ} {G Q B C S T : Type 0} (W : Guards n G Q) (K : Branches n B C S T) → Arrives W → {m : Mode} (x : CoreAt again n G W.heads K.At m) → CoreFits W K x
+pub core_rest : {again : Bool} {n : ℕ} {G Q B C S T : Type 0} (W : Guards n G Q) (K : Branches n B C S T) → Arrives W
+    → {m : Mode} (x : CoreAt again n G W.heads K.At m) → CoreFits W K x
     → ((s : CoreSpot n Q C) → core_moves W K x s ≡ false) → (again ≡ true → (t : RoundSpot) → core_turning W K x t ≡ false) → CoreRest again W K m x
 core_rest W K R (in_control uncalled) f s t = core_settled refl
 core_rest W K R (in_control called) f s t = absurd (cc (s (own of_ask)))
@@ -91,7 +103,8 @@ core_rest W K R (in_control (evaluating g)) f s t = stuck g f (R.up g f (λ q. s
 core_rest W K R (in_control (latched noted i g h)) f s t = absurd (cc (s (own of_any)))
 core_rest W K R (in_control (latched spread i g h)) f s t = absurd (cc (s (own of_ask)))
 core_rest {n = n} W K R (in_control (latched freed i g h)) f s t =
-    absurd (high_moves (bit_of i (hot i true) && all_neutral n (W.heads g)) (both_true (bit_of i (hot i true)) _ (bit_hot i true) (R.down g f (λ q. s (guard q)))) (s (own (of_start i))))
+    absurd (high_moves (bit_of i (hot i true) && all_neutral n (W.heads g))
+    (both_true (bit_of i (hot i true)) _ (bit_hot i true) (R.down g f (λ q. s (guard q)))) (s (own (of_start i))))
 core_rest W K R (in_control (leaving y noted g h)) f s t = absurd (cc (s (own of_any)))
 core_rest W K R (in_control (leaving y spread g h)) f s t = absurd (cc (s (own of_ask)))
 core_rest W K R (in_control (leaving y freed g h)) f s t = absurd (cc (R.down g f (λ q. s (guard q)), t y of_answer))
@@ -108,11 +121,14 @@ core_rest W K R (in_branch {k = returning} a (backs false h)) f s t = falling a 
 -- and where none of a repetition's nodes moves
 pub data AgainRest {n : ℕ} {G Q B C S T : Type 0} (W : Guards n G Q) (K : Branches n B C S T) : (m : Mode) → AgainAt n G W.heads K.At m → Type 0 where
   again_settled : {m : Mode} {x : AgainAt n G W.heads K.At m} → asks m ≡ acks m → AgainRest W K m x
-  again_stuck : (g : G) → W.good true g ≡ true → all_valid n (W.heads g) ≡ true → ((j : Index n) → alone j (W.heads g) ≡ false) → over n (W.heads g) ≡ false → AgainRest W K running (turning (in_control (evaluating g)))
+  again_stuck : (g : G) → W.good true g ≡ true → all_valid n (W.heads g) ≡ true → ((j : Index n) → alone j (W.heads g) ≡ false) → over n (W.heads g) ≡ false
+      → AgainRest W K running (turning (in_control (evaluating g)))
   again_at_work : (a : K.At running) → ((c : C) → K.moves a c ≡ false) → AgainRest W K running (turning (in_branch a works))
-  again_falling : {any : Bool} {h : isnt_running returning ≡ true} (a : K.At returning) → ((c : C) → K.moves a c ≡ false) → AgainRest W K running (turning (in_branch a (backs any h)))
+  again_falling : {any : Bool} {h : isnt_running returning ≡ true} (a : K.At returning) → ((c : C) → K.moves a c ≡ false)
+      → AgainRest W K running (turning (in_branch a (backs any h)))
 
-turning_rest : {n : ℕ} {G Q B C S T : Type 0} (W : Guards n G Q) (K : Branches n B C S T) → (m : Mode) (x : CoreAt true n G W.heads K.At m) → ((t : RoundSpot) → core_turning W K x t ≡ false) → CoreRest true W K m x → AgainRest W K running (turning x)
+turning_rest : {n : ℕ} {G Q B C S T : Type 0} (W : Guards n G Q) (K : Branches n B C S T) → (m : Mode) (x : CoreAt true n G W.heads K.At m)
+    → ((t : RoundSpot) → core_turning W K x t ≡ false) → CoreRest true W K m x → AgainRest W K running (turning x)
 turning_rest W K idle (in_control uncalled) t r = absurd (cc (t of_turn))
 turning_rest W K idle (in_branch a w) t r = elim w [ ]
 turning_rest W K answered (in_control c) t r = elim c [ ]
@@ -123,7 +139,8 @@ turning_rest W K running _ t (stuck g f v a o) = again_stuck g f v a (o refl)
 turning_rest W K running _ t (at_work a c) = again_at_work a c
 turning_rest W K returning _ t (falling a c) = again_falling a c
 
-pub again_rest : {n : ℕ} {G Q B C S T : Type 0} (W : Guards n G Q) (K : Branches n B C S T) → Arrives W → {m : Mode} (x : AgainAt n G W.heads K.At m) → AgainFits W K x → ((s : AgainSpot n Q C) → again_moves W K x s ≡ false) → AgainRest W K m x
+pub again_rest : {n : ℕ} {G Q B C S T : Type 0} (W : Guards n G Q) (K : Branches n B C S T) → Arrives W → {m : Mode} (x : AgainAt n G W.heads K.At m)
+    → AgainFits W K x → ((s : AgainSpot n Q C) → again_moves W K x s ≡ false) → AgainRest W K m x
 again_rest W K R again_rests f s = again_settled refl
 again_rest W K R (turning {m = m} x) f s = turning_rest W K m x (λ t. s (round t)) (core_rest W K R x f (λ p. s (in_core p)) (λ e t. s (round t)))
 again_rest W K R (closing told_all) f s = again_settled refl

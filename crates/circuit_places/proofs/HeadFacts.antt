@@ -134,11 +134,14 @@ falls false y h k = refl
 
 pub none_falls : (n : ℕ) (x y : Pairs n) → below n x y ≡ true → none_true n y ≡ true → none_true n x ≡ true
 none_falls zero x y b h = refl
-none_falls (suc n) x y b h = both_true _ _ (falls x.0.t y.0.t (fst_true _ _ b) (fst_true _ _ h)) (none_falls n x.1 y.1 (snd_true (implies x.0.f y.0.f) _ (snd_true (implies x.0.t y.0.t) _ b)) (snd_true _ _ h))
+none_falls (suc n) x y b h = both_true _ _ (falls x.0.t y.0.t (fst_true _ _ b) (fst_true _ _ h))
+    (none_falls n x.1 y.1 (snd_true (implies x.0.f y.0.f) _ (snd_true (implies x.0.t y.0.t) _ b)) (snd_true _ _ h))
 
 pub told_falls : {n : ℕ} (i : Index n) (x y : Pairs n) → below n x y ≡ true → told i y ≡ true → told i x ≡ true
-told_falls (top {n = n}) x y b h = both_true _ _ (falls x.0.f y.0.f (fst_true _ _ (snd_true (implies x.0.t y.0.t) _ b)) (fst_true _ _ h)) (none_falls n x.1 y.1 (snd_true (implies x.0.f y.0.f) _ (snd_true (implies x.0.t y.0.t) _ b)) (snd_true _ _ h))
-told_falls (under i) x y b h = both_true _ _ (falls x.0.t y.0.t (fst_true _ _ b) (fst_true _ _ h)) (told_falls i x.1 y.1 (snd_true (implies x.0.f y.0.f) _ (snd_true (implies x.0.t y.0.t) _ b)) (snd_true _ _ h))
+told_falls (top {n = n}) x y b h = both_true _ _ (falls x.0.f y.0.f (fst_true _ _ (snd_true (implies x.0.t y.0.t) _ b)) (fst_true _ _ h))
+    (none_falls n x.1 y.1 (snd_true (implies x.0.f y.0.f) _ (snd_true (implies x.0.t y.0.t) _ b)) (snd_true _ _ h))
+told_falls (under i) x y b h = both_true _ _ (falls x.0.t y.0.t (fst_true _ _ b) (fst_true _ _ h))
+    (told_falls i x.1 y.1 (snd_true (implies x.0.f y.0.f) _ (snd_true (implies x.0.t y.0.t) _ b)) (snd_true _ _ h))
 
 -- no guard is true alone where all are false
 pub over_alone : (n : ℕ) (k : Index n) (hs : Pairs n) → all_single n hs ≡ true → over n hs ≡ true → alone k hs ≡ false

@@ -603,7 +603,8 @@ low_neutral (and_choice g p more) = ap (λ (h : Pair). not h.t && (not h.f && al
 
 -- of a core at rest, as of one that isn't asked
 low_core_quiet : (choices : Choices) (s : OwnSpot (choice_count choices))
-    → fires (core_rule false false (heads choices (low_guards choices)) (choice_answers choices (low_choices choices)) (low_core choices (low_choices choices)) s)
+    → fires (core_rule false false (heads choices (low_guards choices)) (choice_answers choices (low_choices choices)) (low_core choices (low_choices choices))
+    s)
     ≡ false
 low_core_quiet choices s =
     ap (λ (y : Bits (choice_count choices)). fires (core_rule false false (heads choices (low_guards choices)) y (low_core choices (low_choices choices)) s))

@@ -533,12 +533,14 @@ mutual
   rest P env clean valid (at_side answered t b h) meets f n = settled refl
   rest P env clean valid (at_side returning t b h) meets f n = absurd (no_end P env t b returning h n false
       (λ i less. ends_gone env b h.asked (λ s. n (of_branch s)) i) refl)
-  rest P env clean valid (at_side running t b h) meets f n = sides_rest P env t b h n (branches_rest P env clean valid b meets.2 f h.asked (λ s. n (of_branch s)))
+  rest P env clean valid (at_side running t b h) meets f n =
+      sides_rest P env t b h n (branches_rest P env clean valid b meets.2 f h.asked (λ s. n (of_branch s)))
   rest P env clean valid (at_body {m = idle} a) meets f n = absurd (cc (n ask))
   rest P env clean valid (at_body {p = p} {m = running} a) meets f n = running_rest P (left env.ack a) (followed (left env.ack a) (again p)) env (shown a)
       (λ r. waiting_then P (again p) (left env.ack a) env (shown a) r) (rest P env clean valid a meets f (λ s. n (in_body s)))
   rest P env clean valid (at_body {m = answered} a) meets f n = absurd (cc (n ask))
-  rest P env clean valid (at_body {p = p} {m = returning} a) meets f n = returning_rest P running (left env.ack a) (followed (left env.ack a) (again p)) env (shown a)
+  rest P env clean valid (at_body {p = p} {m = returning} a) meets f n =
+      returning_rest P running (left env.ack a) (followed (left env.ack a) (again p)) env (shown a)
       (rest P env clean valid a meets f (λ s. n (in_body s)))
   rest P env clean valid (at_choice {choices = choices} (control_at c)) meets f n =
       control_rest P env clean valid false choices meets.0 meets.1 c f (λ s. n (of_core s)) (λ s. n (of_guard s)) (λ y t. absurd (cc y))
@@ -562,7 +564,8 @@ mutual
   chosen_rest P env clean valid (this_one a) meets f n = rest P env clean valid a meets.0 f (λ s. n (this_choice s))
   chosen_rest P env clean valid (another a) meets f n = chosen_rest P env clean valid a meets.1 f (λ s. n (other_choice s))
 
-  branches_rest : (P : TypedProgram) {members : Processes} {ks : List Mode} (env : Seen) → Clean P env → Valid P env → (b : BranchesAt members ks) → EachMeets P members
+  branches_rest : (P : TypedProgram) {members : Processes} {ks : List Mode} (env : Seen) → Clean P env → Valid P env → (b : BranchesAt members ks)
+      → EachMeets P members
       → BranchesFit b env → all_ask true ks ≡ true → ((s : BranchSpot members) → branch_moves env b s ≡ false)
       → BranchesRest P ks (branches_left env.ack b) env (branches_shown b)
   branches_rest P env clean valid no_more meets f h n = all_ended refl refl
@@ -573,7 +576,8 @@ mutual
       (guarded_rest P env clean valid g meets.0 f.0 (λ s. n (in_this s)))
       (branches_rest P env clean valid b meets.2 f.1 (snd_true (same_bit (asks k) true) (all_ask true ks) h) (λ s. n (in_others s)))
 
-  pub turn_rest : (P : TypedProgram) {members : Processes} {m : Mode} (env : Seen) → Clean P env → Valid P env → (t : TurnAt members m) → TurnMeets P members → TurnFits t env
+  pub turn_rest : (P : TypedProgram) {members : Processes} {m : Mode} (env : Seen) → Clean P env → Valid P env → (t : TurnAt members m) → TurnMeets P members
+      → TurnFits t env
       → ((s : TurnSpot members) → turn_moves env t s ≡ false) → Rest P m (turn_left env.ack t) env (turn_shown t)
   turn_rest P env clean valid turn_rests meets f n = settled refl
   turn_rest P env clean valid (at_last a) meets f n = rest P env clean valid a meets f (λ s. n (in_last s))
@@ -581,7 +585,8 @@ mutual
       running_rest P (guarded_left env.ack g) (followed (guarded_left env.ack g) (and_member q more)) env (guarded_shown g)
       (λ r. waiting_then P (and_member q more) (guarded_left env.ack g) env (guarded_shown g) r)
       (guarded_rest P env clean valid g meets.0 f (λ s. n (in_member s)))
-  turn_rest P env clean valid (at_later {k = answered} {n = running} {m = running} g t h) meets f n = turn_rest P env clean valid t meets.1 f (λ s. n (in_later s))
+  turn_rest P env clean valid (at_later {k = answered} {n = running} {m = running} g t h) meets f n =
+      turn_rest P env clean valid t meets.1 f (λ s. n (in_later s))
   turn_rest P env clean valid (at_later {m = answered} g t h) meets f n = settled refl
   turn_rest P env clean valid (at_later {k = returning} {n = answered} {m = returning} (g_back true) t h) meets f n = absurd (cc (n (in_member latch)))
   turn_rest P env clean valid (at_later {k = returning} {n = answered} {m = returning} (g_back false) t h) meets f n = absurd (cc (n (in_member next)))

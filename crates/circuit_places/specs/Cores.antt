@@ -34,12 +34,16 @@ pub data RoundSpot : Type 0 where
 --   any       v | some l_i -> m+               ~v & no l_i -> m-
 --   latch i   h_i.t & all other h_j.f -> l_i+  ~r -> l_i-
 --   start i   l_i & no rail -> s_i+            ~l_i -> s_i-
-abbrev pub core_rule : {n : ℕ} {G B : Type 0} → (r v : Bool) → (hs : Pairs n) → (answers : Bits n) → Core n G B → OwnSpot n → Rule
-core_rule {n = n} r v hs answers x of_joined = rule_of x.answer (some_bit n answers) (not x.any && not (some_bit n answers))
+abbrev pub core_rule : {n : ℕ} {G B : Type 0} → (r v : Bool) → (hs : Pairs n) → (answers : Bits n) → Core n G B
+    → OwnSpot n → Rule
+core_rule {n = n} r v hs answers x of_joined =
+    rule_of x.answer (some_bit n answers) (not x.any && not (some_bit n answers))
 core_rule {n = n} r v hs answers x of_ask = rule_of x.ask (r && not x.any) x.any
-core_rule {n = n} r v hs answers x of_any = rule_of x.any (v || some_bit n x.latched) (not v && not (some_bit n x.latched))
+core_rule {n = n} r v hs answers x of_any =
+    rule_of x.any (v || some_bit n x.latched) (not v && not (some_bit n x.latched))
 core_rule {n = n} r v hs answers x (of_latch i) = rule_of (bit_of i x.latched) (alone i hs) (not r)
-core_rule {n = n} r v hs answers x (of_start i) = rule_of (bit_of i x.started) (bit_of i x.latched && all_neutral n hs) (not (bit_of i x.latched))
+core_rule {n = n} r v hs answers x (of_start i) =
+    rule_of (bit_of i x.started) (bit_of i x.latched && all_neutral n hs) (not (bit_of i x.latched))
 
 -- Round it, under the request r:
 --   turn      r & ~d -> lr+                    d | ~r -> lr-

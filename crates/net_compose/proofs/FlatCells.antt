@@ -698,7 +698,8 @@ module _ (P : TypedProgram) where
         ∙ (replicate-append-replicate (branches_size P members) n false ∙ ap (λ k. replicate k false) m))
     low_bits (choosing false choices) c =
         let n = choice_count choices in
-        let m : suc (suc (suc (n + n))) + (guards_size choices + bodies_size P choices) ≡ 3 + 2 * n + guards_size choices + bodies_size P choices = omega arith in
+        let m : suc (suc (suc (n + n))) + (guards_size choices + bodies_size P choices) ≡ 3 + 2 * n + guards_size choices + bodies_size P choices =
+        omega arith in
         ap (λ l. (false ∷ false ∷ false ∷ l) ++ (guard_bits choices (low_guards choices) ++ choice_bits P choices (low_choices choices))) (low_lists n)
         ∙ (ap (λ l. (false ∷ false ∷ false ∷ replicate (n + n) false) ++ l) (low_behind choices (low_choice_bits choices c))
         ∙ (replicate-append-replicate (suc (suc (suc (n + n)))) (guards_size choices + bodies_size P choices) false ∙ ap (λ k. replicate k false) m))
@@ -706,10 +707,11 @@ module _ (P : TypedProgram) where
         let n = choice_count choices in
         let m : suc (suc (suc (suc (suc (suc (n + n)))))) + (guards_size choices + bodies_size P choices)
         ≡ 6 + 2 * n + guards_size choices + bodies_size P choices = omega arith in
-        ap (λ l. (false ∷ false ∷ false ∷ false ∷ false ∷ false ∷ l) ++ (guard_bits choices (low_guards choices) ++ choice_bits P choices (low_choices choices)))
+        ap (λ l. (false ∷ false ∷ false ∷ false ∷ false ∷ false ∷ l) ++ (guard_bits choices (low_guards choices) ++ choice_bits P choices
+        (low_choices choices)))
         (low_lists n)
         ∙ (ap (λ l. (false ∷ false ∷ false ∷ false ∷ false ∷ false ∷ replicate (n + n) false) ++ l) (low_behind choices (low_choice_bits choices c))
-        ∙ (replicate-append-replicate (suc (suc (suc (suc (suc (suc (n + n)))))) ) (guards_size choices + bodies_size P choices) false
+        ∙ (replicate-append-replicate (suc (suc (suc (suc (suc (suc (n + n))))))) (guards_size choices + bodies_size P choices) false
         ∙ ap (λ k. replicate k false) m))
 
     pub low_choice_bits : (choices : Choices) → EachCovered choices → choice_bits P choices (low_choices choices) ≡ replicate (bodies_size P choices) false

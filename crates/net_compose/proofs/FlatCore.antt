@@ -35,7 +35,8 @@ index_of zero k h = absurd (let g : ⊥ = omega (arith, h) in g)
 index_of (suc n) zero h = record { index = top; is = refl }
 index_of (suc n) (suc k) h = let r = index_of n k (omega (arith, h)) in record { index = under r.index; is = ap (λ j. suc j) r.is }
 
-pub bit_turned_is : {n : ℕ} (i : Index n) (x : Bits n) → set (list_of n x) (number_of i) (not (get_or (list_of n x) (number_of i) false)) ≡ list_of n (turned_bit i x)
+pub bit_turned_is : {n : ℕ} (i : Index n) (x : Bits n)
+    → set (list_of n x) (number_of i) (not (get_or (list_of n x) (number_of i) false)) ≡ list_of n (turned_bit i x)
 bit_turned_is top x = refl
 bit_turned_is (under i) x = ap (λ l. x.0 ∷ l) (bit_turned_is i x.1)
 
@@ -66,7 +67,8 @@ own_spot_of n (suc zero) h = record { spot = of_ask; is = refl }
 own_spot_of n (suc (suc zero)) h = record { spot = of_any; is = refl }
 own_spot_of n (suc (suc (suc k))) h =
     ⊎_elim
-    (λ (lt : k < n). let r = index_of n k lt in let here : AtOwn n (suc (suc (suc k))) = record { spot = of_latch r.index; is = ap (λ j. suc (suc (suc j))) r.is } in here)
+    (λ (lt : k < n). let r = index_of n k lt in let here : AtOwn n (suc (suc (suc k))) = record
+    { spot = of_latch r.index; is = ap (λ j. suc (suc (suc j))) r.is } in here)
     (λ (le : n ≤ k).
     let r = index_of n (k - n) (omega (arith, h, le)) in
     let here : AtOwn n (suc (suc (suc k))) = record { spot = of_start r.index; is = omega (arith, r.is, le) } in
@@ -84,16 +86,19 @@ set_second a b n k e =
     ap (λ z. set (a ++ b) (n + k) (not z)) g
     ∙ (set-append_right a b n (n + k) (not (get_or b k false)) e (omega arith) ∙ ap (λ m. a ++ set b m (not (get_or b k false))) d)
 
-pub own_turned_is : {n : ℕ} {G B : Type 0} (x : Core n G B) (s : OwnSpot n) → set (own_list x) (own_place s) (not (get_or (own_list x) (own_place s) false)) ≡ own_list (turned_own x s)
+pub own_turned_is : {n : ℕ} {G B : Type 0} (x : Core n G B) (s : OwnSpot n)
+    → set (own_list x) (own_place s) (not (get_or (own_list x) (own_place s) false)) ≡ own_list (turned_own x s)
 own_turned_is x of_joined = refl
 own_turned_is x of_ask = refl
 own_turned_is x of_any = refl
 own_turned_is {n = n} x (of_latch i) =
     ap (λ l. x.answer ∷ x.ask ∷ x.any ∷ l)
-    (set_first (list_of n x.latched) (list_of n x.started) (number_of i) (omega (arith, number_lt i, length-list_of n x.latched)) ∙ ap (λ l. l ++ list_of n x.started) (bit_turned_is i x.latched))
+    (set_first (list_of n x.latched) (list_of n x.started) (number_of i) (omega (arith, number_lt i, length-list_of n x.latched))
+    ∙ ap (λ l. l ++ list_of n x.started) (bit_turned_is i x.latched))
 own_turned_is {n = n} x (of_start i) =
     ap (λ l. x.answer ∷ x.ask ∷ x.any ∷ l)
-    (set_second (list_of n x.latched) (list_of n x.started) n (number_of i) (length-list_of n x.latched) ∙ ap (λ l. list_of n x.latched ++ l) (bit_turned_is i x.started))
+    (set_second (list_of n x.latched) (list_of n x.started) n (number_of i) (length-list_of n x.latched)
+    ∙ ap (λ l. list_of n x.latched ++ l) (bit_turned_is i x.started))
 
 -- the guards and the branches stay
 pub own_guards : {n : ℕ} {G B : Type 0} (x : Core n G B) (s : OwnSpot n) → (turned_own x s).guards ≡ x.guards
@@ -184,14 +189,20 @@ told_at {v = v} e s = record { up = ap (λ (x : NodeRules). guard_holds v x.up) 
 pub select_told : {n : ℕ} {G B : Type 0} (v : ℕ → Bool) (c : Choosing) (x : Core n G B) (hs : Pairs n) (ans : Bits n) (k : ℕ) (ks : List ℕ) → c.latched ≡ k ∷ ks
     → v c.any ≡ x.any → BitsAt n v c.latched x.latched → BitsAt n v c.answers ans → HeadsAt n v c.guards hs
     → (s : OwnSpot n) → SaysSo v (get_or (select_rules c) (own_place s) no_rules) (core_rule (v c.request) false hs ans x s)
-select_told v c x hs ans k ks e at_any at_latched at_answers at_guards of_joined = joined_told v c.request c.any c.latched c.answers c.guards x hs ans at_any at_latched at_answers at_guards (v c.request) false
-select_told v c x hs ans k ks e at_any at_latched at_answers at_guards of_ask = ask_told v c.request c.any c.latched c.answers c.guards x hs ans at_any at_latched at_answers at_guards false
-select_told v c x hs ans k ks e at_any at_latched at_answers at_guards of_any = any_told v c.request c.any c.latched c.answers c.guards x hs ans at_any at_latched at_answers at_guards (v c.request) k ks e
+select_told v c x hs ans k ks e at_any at_latched at_answers at_guards of_joined =
+    joined_told v c.request c.any c.latched c.answers c.guards x hs ans at_any at_latched at_answers at_guards (v c.request) false
+select_told v c x hs ans k ks e at_any at_latched at_answers at_guards of_ask =
+    ask_told v c.request c.any c.latched c.answers c.guards x hs ans at_any at_latched at_answers at_guards false
+select_told v c x hs ans k ks e at_any at_latched at_answers at_guards of_any =
+    any_told v c.request c.any c.latched c.answers c.guards x hs ans at_any at_latched at_answers at_guards (v c.request) k ks e
 select_told {n = n} v c x hs ans k ks e at_any at_latched at_answers at_guards (of_latch i) =
-    told_at (get_or_append_left (latches c.request c.guards) (starts c.latched c.guards) no_rules (number_of i) (omega (arith, number_lt i, length-latches v c.request c.guards hs at_guards)))
+    told_at (get_or_append_left (latches c.request c.guards) (starts c.latched c.guards) no_rules (number_of i)
+    (omega (arith, number_lt i, length-latches v c.request c.guards hs at_guards)))
     (latch_told v c.request c.any c.latched c.answers c.guards x hs ans at_any at_latched at_answers at_guards false i)
 select_told {n = n} v c x hs ans k ks e at_any at_latched at_answers at_guards (of_start i) =
-    told_at (ap (λ m. get_or (latches c.request c.guards ++ starts c.latched c.guards) (m + number_of i) no_rules) (sym (length-latches v c.request c.guards hs at_guards)) ∙ get_or-append-add (latches c.request c.guards) (starts c.latched c.guards) (number_of i) no_rules)
+    told_at (ap (λ m. get_or (latches c.request c.guards ++ starts c.latched c.guards) (m + number_of i) no_rules)
+    (sym (length-latches v c.request c.guards hs at_guards)) ∙ get_or-append-add (latches c.request c.guards) (starts c.latched c.guards) (number_of i)
+    no_rules)
     (start_told v c.request c.any c.latched c.answers c.guards x hs ans at_any at_latched at_answers at_guards (v c.request) false i)
 
 -- Of a repetition.
@@ -210,21 +221,25 @@ again_place of_any = 4
 again_place (of_latch i) = suc (suc (suc (suc (suc (suc (number_of i))))))
 again_place {n = n} (of_start i) = suc (suc (suc (suc (suc (suc (n + number_of i))))))
 
-pub round_turned_is : {n : ℕ} {G B : Type 0} (x : Turning (Core n G B)) (s : RoundSpot) → set (again_list x) (round_place s) (not (get_or (again_list x) (round_place s) false)) ≡ again_list (turned_turning x s)
+pub round_turned_is : {n : ℕ} {G B : Type 0} (x : Turning (Core n G B)) (s : RoundSpot)
+    → set (again_list x) (round_place s) (not (get_or (again_list x) (round_place s) false)) ≡ again_list (turned_turning x s)
 round_turned_is x of_answer = refl
 round_turned_is x of_turn = refl
 round_turned_is x of_leave = refl
 
-pub again_turned_is : {n : ℕ} {G B : Type 0} (x : Turning (Core n G B)) (s : OwnSpot n) → set (again_list x) (again_place s) (not (get_or (again_list x) (again_place s) false)) ≡ again_list (record x { core = turned_own x.core s })
+pub again_turned_is : {n : ℕ} {G B : Type 0} (x : Turning (Core n G B)) (s : OwnSpot n)
+    → set (again_list x) (again_place s) (not (get_or (again_list x) (again_place s) false)) ≡ again_list (record x { core = turned_own x.core s })
 again_turned_is x of_joined = refl
 again_turned_is x of_ask = refl
 again_turned_is x of_any = refl
 again_turned_is {n = n} x (of_latch i) =
     ap (λ l. x.answer ∷ x.turn ∷ x.core.answer ∷ x.core.ask ∷ x.core.any ∷ x.leave ∷ l)
-    (set_first (list_of n x.core.latched) (list_of n x.core.started) (number_of i) (omega (arith, number_lt i, length-list_of n x.core.latched)) ∙ ap (λ l. l ++ list_of n x.core.started) (bit_turned_is i x.core.latched))
+    (set_first (list_of n x.core.latched) (list_of n x.core.started) (number_of i) (omega (arith, number_lt i, length-list_of n x.core.latched))
+    ∙ ap (λ l. l ++ list_of n x.core.started) (bit_turned_is i x.core.latched))
 again_turned_is {n = n} x (of_start i) =
     ap (λ l. x.answer ∷ x.turn ∷ x.core.answer ∷ x.core.ask ∷ x.core.any ∷ x.leave ∷ l)
-    (set_second (list_of n x.core.latched) (list_of n x.core.started) n (number_of i) (length-list_of n x.core.latched) ∙ ap (λ l. list_of n x.core.latched ++ l) (bit_turned_is i x.core.started))
+    (set_second (list_of n x.core.latched) (list_of n x.core.started) n (number_of i) (length-list_of n x.core.latched)
+    ∙ ap (λ l. list_of n x.core.latched ++ l) (bit_turned_is i x.core.started))
 
 pub length-again_list : {n : ℕ} {G B : Type 0} (x : Turning (Core n G B)) → length (again_list x) ≡ 6 + (n + n)
 length-again_list {n = n} x = omega (
@@ -260,7 +275,8 @@ again_spot_of n (suc (suc (suc (suc zero)))) h = an_own of_any refl
 again_spot_of n (suc (suc (suc (suc (suc zero))))) h = a_round of_leave refl
 again_spot_of n (suc (suc (suc (suc (suc (suc k)))))) h =
     ⊎_elim
-    (λ (lt : k < n). let r = index_of n k lt in let here : AtAgain n (suc (suc (suc (suc (suc (suc k)))))) = an_own (of_latch r.index) (ap (λ j. suc (suc (suc (suc (suc (suc j)))))) r.is) in here)
+    (λ (lt : k < n). let r = index_of n k lt in let here : AtAgain n (suc (suc (suc (suc (suc (suc k)))))) = an_own (of_latch r.index)
+    (ap (λ j. suc (suc (suc (suc (suc (suc j)))))) r.is) in here)
     (λ (le : n ≤ k).
     let r = index_of n (k - n) (omega (arith, h, le)) in
     let here : AtAgain n (suc (suc (suc (suc (suc (suc k)))))) = an_own (of_start r.index) (omega (arith, r.is, le)) in
@@ -284,19 +300,27 @@ round_now r hs x of_leave = refl
 -- each own node of a repetition in its rules
 module _ {n : ℕ} {G B : Type 0} (v : ℕ → Bool) (p : Repeating) (x : Turning (Core (suc n) G B)) (hs : Pairs (suc n)) (ans : Bits (suc n))
     (at_joined : v p.joined ≡ x.core.answer) (at_leave : v p.leave ≡ x.leave) (at_turn : v p.turn.request ≡ x.turn) (at_any : v p.turn.any ≡ x.core.any)
-    (at_latched : BitsAt (suc n) v p.turn.latched x.core.latched) (at_answers : BitsAt (suc n) v p.turn.answers ans) (at_guards : HeadsAt (suc n) v p.turn.guards hs) where
+    (at_latched : BitsAt (suc n) v p.turn.latched x.core.latched) (at_answers : BitsAt (suc n) v p.turn.answers ans)
+    (at_guards : HeadsAt (suc n) v p.turn.guards hs) where
   pub round_told : (s : RoundSpot) → SaysSo v (get_or (again_rules p) (round_place s) no_rules) (turning_rule (v p.request) hs x s)
   round_told of_answer = answer_told v p.request p.joined p.leave p.turn.request p.turn.any p.turn.guards x hs at_joined at_leave at_turn at_any at_guards
   round_told of_turn = turn_told v p.request p.joined p.leave p.turn.request p.turn.any p.turn.guards x hs at_joined at_leave at_turn at_any at_guards
   round_told of_leave = leave_told v p.request p.joined p.leave p.turn.request p.turn.any p.turn.guards x hs at_joined at_leave at_turn at_any at_guards
 
   pub again_told : (s : OwnSpot (suc n)) → SaysSo v (get_or (again_rules p) (again_place s) no_rules) (core_rule (v p.turn.request) (v p.leave) hs ans x.core s)
-  again_told of_joined = joined_told v p.turn.request p.turn.any p.turn.latched p.turn.answers p.turn.guards x.core hs ans at_any at_latched at_answers at_guards (v p.turn.request) (v p.leave)
-  again_told of_ask = ask_told v p.turn.request p.turn.any p.turn.latched p.turn.answers p.turn.guards x.core hs ans at_any at_latched at_answers at_guards (v p.leave)
-  again_told of_any = any_again_told v p.turn.request p.turn.any p.turn.latched p.turn.answers p.turn.guards x.core hs ans at_any at_latched at_answers at_guards (v p.turn.request) p.leave
+  again_told of_joined = joined_told v p.turn.request p.turn.any p.turn.latched p.turn.answers p.turn.guards x.core hs ans at_any at_latched at_answers
+      at_guards (v p.turn.request) (v p.leave)
+  again_told of_ask =
+      ask_told v p.turn.request p.turn.any p.turn.latched p.turn.answers p.turn.guards x.core hs ans at_any at_latched at_answers at_guards (v p.leave)
+  again_told of_any = any_again_told v p.turn.request p.turn.any p.turn.latched p.turn.answers p.turn.guards x.core hs ans at_any at_latched at_answers
+      at_guards (v p.turn.request) p.leave
   again_told (of_latch i) =
-      told_at (get_or_append_left (latches p.turn.request p.turn.guards) (starts p.turn.latched p.turn.guards) no_rules (number_of i) (omega (arith, number_lt i, length-latches {n = suc n} v p.turn.request p.turn.guards hs at_guards)))
+      told_at (get_or_append_left (latches p.turn.request p.turn.guards) (starts p.turn.latched p.turn.guards) no_rules (number_of i)
+      (omega (arith, number_lt i, length-latches {n = suc n} v p.turn.request p.turn.guards hs at_guards)))
       (latch_told v p.turn.request p.turn.any p.turn.latched p.turn.answers p.turn.guards x.core hs ans at_any at_latched at_answers at_guards (v p.leave) i)
   again_told (of_start i) =
-      told_at (ap (λ m. get_or (latches p.turn.request p.turn.guards ++ starts p.turn.latched p.turn.guards) (m + number_of i) no_rules) (sym (length-latches {n = suc n} v p.turn.request p.turn.guards hs at_guards)) ∙ get_or-append-add (latches p.turn.request p.turn.guards) (starts p.turn.latched p.turn.guards) (number_of i) no_rules)
-      (start_told v p.turn.request p.turn.any p.turn.latched p.turn.answers p.turn.guards x.core hs ans at_any at_latched at_answers at_guards (v p.turn.request) (v p.leave) i)
+      told_at (ap (λ m. get_or (latches p.turn.request p.turn.guards ++ starts p.turn.latched p.turn.guards) (m + number_of i) no_rules)
+      (sym (length-latches {n = suc n} v p.turn.request p.turn.guards hs at_guards))
+      ∙ get_or-append-add (latches p.turn.request p.turn.guards) (starts p.turn.latched p.turn.guards) (number_of i) no_rules)
+      (start_told v p.turn.request p.turn.any p.turn.latched p.turn.answers p.turn.guards x.core hs ans at_any at_latched at_answers at_guards
+      (v p.turn.request) (v p.leave) i)

@@ -504,7 +504,8 @@ module _ (P : TypedProgram) where
 
       pub again_within : (k : ℕ) → k < 6 + (choice_count choices + choice_count choices)
           → get_or (rules_of P (choosing true choices) r from) k no_rules ≡ get_or (again_rules (repeating_at P choices r from)) k no_rules
-      again_within k less = get_or_append_left (again_rules (repeating_at P choices r from)) (net_guards P choices (from + 3) (guards_from choices again_own from)
+      again_within k less =
+          get_or_append_left (again_rules (repeating_at P choices r from)) (net_guards P choices (from + 3) (guards_from choices again_own from)
           ++ bodies_rules P choices (from + again_own + choice_count choices) (bodies_from choices again_own from)) no_rules k
           (omega (arith, less, again_length choices t r from))
 
@@ -538,10 +539,12 @@ module _ (P : TypedProgram) where
             down = ap (λ (y : NodeRules). guard_holds v y.down) same ∙ here.down;
           })
 
-      again_round_is : (z : RoundSpot) → Told v (rules_of P (choosing true Arms) r from) from (round_place z) (turning_rule (v r) (heads Arms x.core.guards) x z)
+      again_round_is : (z : RoundSpot)
+          → Told v (rules_of P (choosing true Arms) r from) from (round_place z) (turning_rule (v r) (heads Arms x.core.guards) x z)
       again_round_is z =
           let hs = heads Arms x.core.guards in
-          let here = round_told v (repeating_at P Arms r from) x hs (choice_answers Arms x.core.branches) (round_at Arms c t r from x s 2 (omega arith)) leave_at
+          let here =
+          round_told v (repeating_at P Arms r from) x hs (choice_answers Arms x.core.branches) (round_at Arms c t r from x s 2 (omega arith)) leave_at
           turned_at (round_at Arms c t r from x s 4 (omega arith)) (again_latched Arms c t r from x s)
           (answers_at Arms c t (bodies_from Arms again_own from) x.core.branches (again_choices Arms from x s))
           (heads_at Arms t (guards_from Arms again_own from) x.core.guards (again_guards Arms from x s)) z in

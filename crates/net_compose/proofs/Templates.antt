@@ -58,7 +58,8 @@ module _ (v : ℕ → Bool) where
   -- over all nodes of a list
   some_is : (n : ℕ) (ks : List ℕ) (x : Bits n) → BitsAt n v ks x → guard_holds v (map (λ k. is_high k ∷ []) ks) ≡ some_bit n x
   some_is zero [] x h = refl
-  some_is (suc n) (k ∷ ks) x h = ap (λ b. (b && true) || guard_holds v (map (λ k. is_high k ∷ []) ks)) h.0 ∙ (ap (λ b. b || guard_holds v (map (λ k. is_high k ∷ []) ks)) (and_true x.0) ∙ ap (λ b. x.0 || b) (some_is n ks x.1 h.1))
+  some_is (suc n) (k ∷ ks) x h = ap (λ b. (b && true) || guard_holds v (map (λ k. is_high k ∷ []) ks)) h.0
+      ∙ (ap (λ b. b || guard_holds v (map (λ k. is_high k ∷ []) ks)) (and_true x.0) ∙ ap (λ b. x.0 || b) (some_is n ks x.1 h.1))
   some_is zero (k ∷ ks) x h = absurd h
   some_is (suc n) [] x h = absurd h
 
@@ -80,7 +81,8 @@ module _ (v : ℕ → Bool) where
 
   neutral_is : (n : ℕ) (hs : List net.Pair) (x : Pairs n) → HeadsAt n v hs x → term_holds v (lows (rails_of hs)) ≡ all_neutral n x
   neutral_is zero [] x h = refl
-  neutral_is (suc n) (k ∷ hs) x h = ap (λ b. not b && (not (v k.f) && term_holds v (lows (rails_of hs)))) h.0 ∙ (ap (λ b. not x.0.t && (not b && term_holds v (lows (rails_of hs)))) h.1 ∙ ap (λ b. not x.0.t && (not x.0.f && b)) (neutral_is n hs x.1 h.2))
+  neutral_is (suc n) (k ∷ hs) x h = ap (λ b. not b && (not (v k.f) && term_holds v (lows (rails_of hs)))) h.0
+      ∙ (ap (λ b. not x.0.t && (not b && term_holds v (lows (rails_of hs)))) h.1 ∙ ap (λ b. not x.0.t && (not x.0.f && b)) (neutral_is n hs x.1 h.2))
   neutral_is zero (k ∷ hs) x h = absurd h
   neutral_is (suc n) [] x h = absurd h
 
@@ -90,19 +92,26 @@ module _ (v : ℕ → Bool) where
   shifted false b c d e = ap (λ z. z && c) (sym e)
 
   latch_is : {n : ℕ} (request : ℕ) (i : Index n) (before hs : List net.Pair) (x : Pairs n) → HeadsAt n v hs x
-      → (guard_holds v (get_or (map (λ (wanted : List Literal). record { up = one_term wanted; down = one_term (is_low request ∷ []) }) (only_one_true before hs)) (number_of i) no_rules).up ≡ (term_holds v (template.all_false before) && alone i x))
-      × (guard_holds v (get_or (map (λ (wanted : List Literal). record { up = one_term wanted; down = one_term (is_low request ∷ []) }) (only_one_true before hs)) (number_of i) no_rules).down ≡ not (v request))
-  latch_is request (top {n = n}) before (k ∷ hs) x h =
-      (one_is (template.all_false before ++ is_high k.t ∷ template.all_false hs)
-      ∙ (joined_terms (template.all_false before) (is_high k.t ∷ template.all_false hs)
-      ∙ (ap (λ b. term_holds v (template.all_false before) && (b && term_holds v (template.all_false hs))) h.0
-      ∙ ap (λ b. term_holds v (template.all_false before) && (x.0.t && b)) (false_is n hs x.1 h.2))),
-      low_is request)
+      → (guard_holds v (get_or (map (λ (wanted : List Literal). record { up = one_term wanted; down = one_term (is_low request ∷ []) })
+      (only_one_true before hs)) (number_of i) no_rules).up ≡ (term_holds v (template.all_false before) && alone i x))
+      × (guard_holds v (get_or (map (λ (wanted : List Literal). record { up = one_term wanted; down = one_term (is_low request ∷ []) })
+      (only_one_true before hs)) (number_of i) no_rules).down ≡ not (v request))
+  latch_is request (top {n = n}) before (k ∷ hs) x h = (
+    one_is (template.all_false before ++ is_high k.t ∷ template.all_false hs)
+        ∙ (joined_terms (template.all_false before) (is_high k.t ∷ template.all_false hs)
+        ∙ (ap (λ b. term_holds v (template.all_false before) && (b && term_holds v (template.all_false hs))) h.0
+        ∙ ap (λ b. term_holds v (template.all_false before) && (x.0.t && b)) (false_is n hs x.1 h.2))),
+    low_is request,
+  )
   latch_is request (under i) before (k ∷ hs) x h =
-      let r = latch_is request i (before ++ k ∷ []) hs x.1 h.2 in
-      (r.0 ∙ shifted (term_holds v (template.all_false before)) (term_holds v (template.all_false (before ++ k ∷ []))) (alone i x.1) x.0.f (sym (false_then before k x.0.f h.1)), r.1)
+      let r = latch_is request i (before ++ k ∷ []) hs x.1 h.2 in (
+        r.0 ∙ shifted (term_holds v (template.all_false before)) (term_holds v (template.all_false (before ++ k ∷ []))) (alone i x.1) x.0.f
+            (sym (false_then before k x.0.f h.1)),
+        r.1,
+      )
     where
-      false_then : (before : List net.Pair) (k : net.Pair) (f : Bool) → v k.f ≡ f → term_holds v (template.all_false (before ++ k ∷ [])) ≡ (term_holds v (template.all_false before) && f)
+      false_then : (before : List net.Pair) (k : net.Pair) (f : Bool) → v k.f ≡ f
+          → term_holds v (template.all_false (before ++ k ∷ [])) ≡ (term_holds v (template.all_false before) && f)
       false_then [] k f e = and_true (v k.f) ∙ e
       false_then (b ∷ bs) k f e = ap (λ z. v b.f && z) (false_then bs k f e) ∙ here (v b.f) (term_holds v (template.all_false bs)) f
         where
@@ -128,7 +137,8 @@ module _ (v : ℕ → Bool) where
     pub joined_told : (r l : Bool) → SaysSo v (joined_answer any answers) (core_rule r l hs ans x of_joined)
     joined_told r l = record {
       up = some_is n answers ans at_answers;
-      down = one_is (is_low any ∷ lows answers) ∙ (ap (λ b. not b && term_holds v (lows answers)) at_any ∙ ap (λ b. not x.any && b) (none_is n answers ans at_answers));
+      down = one_is (is_low any ∷ lows answers) ∙ (ap (λ b. not b && term_holds v (lows answers)) at_any
+          ∙ ap (λ b. not x.any && b) (none_is n answers ans at_answers));
     }
 
     pub ask_told : (l : Bool) → SaysSo v (evaluation request any) (core_rule (v request) l hs ans x of_ask)
@@ -140,29 +150,38 @@ module _ (v : ℕ → Bool) where
     -- of a selection, and of a repetition
     pub any_told : (r : Bool) (k : ℕ) (ks : List ℕ) → latched ≡ k ∷ ks → SaysSo v (or_of latched) (core_rule r false hs ans x of_any)
     any_told r k ks e = record {
-      up = ap (λ (l : List ℕ). guard_holds v (or_of l).up) e ∙ (sym (ap (λ (l : List ℕ). guard_holds v (map (λ j. is_high j ∷ []) l)) e) ∙ some_is n latched x.latched at_latched);
-      down = ap (λ (l : List ℕ). guard_holds v (or_of l).down) e ∙ (one_is (lows (k ∷ ks)) ∙ (sym (ap (λ (l : List ℕ). term_holds v (lows l)) e) ∙ none_is n latched x.latched at_latched));
+      up = ap (λ (l : List ℕ). guard_holds v (or_of l).up) e ∙ (sym (ap (λ (l : List ℕ). guard_holds v (map (λ j. is_high j ∷ []) l)) e)
+          ∙ some_is n latched x.latched at_latched);
+      down = ap (λ (l : List ℕ). guard_holds v (or_of l).down) e ∙ (one_is (lows (k ∷ ks))
+          ∙ (sym (ap (λ (l : List ℕ). term_holds v (lows l)) e) ∙ none_is n latched x.latched at_latched));
     }
 
     pub any_again_told : (r : Bool) (leave : ℕ) → SaysSo v (or_of (leave ∷ latched)) (core_rule r (v leave) hs ans x of_any)
     any_again_told r leave = record {
-      up = ap (λ b. b || guard_holds v (map (λ j. is_high j ∷ []) latched)) (and_true (v leave)) ∙ ap (λ b. v leave || b) (some_is n latched x.latched at_latched);
+      up = ap (λ b. b || guard_holds v (map (λ j. is_high j ∷ []) latched)) (and_true (v leave))
+          ∙ ap (λ b. v leave || b) (some_is n latched x.latched at_latched);
       down = one_is (lows (leave ∷ latched)) ∙ ap (λ b. not (v leave) && b) (none_is n latched x.latched at_latched);
     }
 
-    pub latch_told : (l : Bool) (i : Index n) → SaysSo v (get_or (latches request guards) (number_of i) no_rules) (core_rule (v request) l hs ans x (of_latch i))
+    pub latch_told : (l : Bool) (i : Index n)
+        → SaysSo v (get_or (latches request guards) (number_of i) no_rules) (core_rule (v request) l hs ans x (of_latch i))
     latch_told l i = let r = latch_is request i [] guards hs at_guards in record { up = r.0; down = r.1 }
 
     pub start_told : (r l : Bool) (i : Index n) → SaysSo v (get_or (starts latched guards) (number_of i) no_rules) (core_rule r l hs ans x (of_start i))
-    start_told r l i = let s = start_at i latched guards x.latched (all_neutral n hs) at_latched (neutral_is n guards hs at_guards) in record { up = s.up; down = s.down }
+    start_told r l i = let s = start_at i latched guards x.latched (all_neutral n hs) at_latched (neutral_is n guards hs at_guards) in record {
+      up = s.up;
+      down = s.down;
+    }
 
   -- What stands round it, where there is a guard.
   module _ {n : ℕ} {G B : Type 0} (request joined leave turn any : ℕ) (guards : List net.Pair) (x : Turning (Core (suc n) G B)) (hs : Pairs (suc n))
-      (at_joined : v joined ≡ x.core.answer) (at_leave : v leave ≡ x.leave) (at_turn : v turn ≡ x.turn) (at_any : v any ≡ x.core.any) (at_guards : HeadsAt (suc n) v guards hs) where
+      (at_joined : v joined ≡ x.core.answer) (at_leave : v leave ≡ x.leave) (at_turn : v turn ≡ x.turn) (at_any : v any ≡ x.core.any)
+      (at_guards : HeadsAt (suc n) v guards hs) where
     pub turn_told : SaysSo v (turn_request request joined) (turning_rule (v request) hs x of_turn)
     turn_told = record {
       up = one_is (is_high request ∷ is_low joined ∷ []) ∙ (ap (λ b. v request && b) (and_true (not (v joined))) ∙ ap (λ b. v request && not b) at_joined);
-      down = ap (λ b. b || guard_holds v ((is_low request ∷ []) ∷ [])) (and_true (v joined)) ∙ (ap (λ b. v joined || b) (low_is request) ∙ ap (λ b. b || not (v request)) at_joined);
+      down = ap (λ b. b || guard_holds v ((is_low request ∷ []) ∷ [])) (and_true (v joined))
+          ∙ (ap (λ b. v joined || b) (low_is request) ∙ ap (λ b. b || not (v request)) at_joined);
     }
 
     pub leave_told : SaysSo v (leave_latch turn guards) (turning_rule (v request) hs x of_leave)
@@ -170,6 +189,7 @@ module _ (v : ℕ → Bool) where
 
     pub answer_told : SaysSo v (leave_answer leave any guards) (turning_rule (v request) hs x of_answer)
     answer_told = record {
-      up = one_is (is_high leave ∷ lows (rails_of guards)) ∙ (ap (λ b. b && term_holds v (lows (rails_of guards))) at_leave ∙ ap (λ b. x.leave && b) (neutral_is (suc n) guards hs at_guards));
+      up = one_is (is_high leave ∷ lows (rails_of guards)) ∙ (ap (λ b. b && term_holds v (lows (rails_of guards))) at_leave
+          ∙ ap (λ b. x.leave && b) (neutral_is (suc n) guards hs at_guards));
       down = low_is any ∙ ap not at_any;
     }
