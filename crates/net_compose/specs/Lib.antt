@@ -7,5 +7,6 @@ pub mod Sized
 pub mod Begins
 pub mod EverySite
 pub mod RailLists
+pub mod SiteLists
 pub use Rattle.chp_syntax.specs.View
 pub use Rattle.prs_core.specs.Nets
