@@ -38,3 +38,4 @@ pub mod MergesWritten
 pub mod Raised
 pub mod ReadBack
 pub mod GuardsWritten
+pub mod BodyWritten
