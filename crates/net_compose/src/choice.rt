@@ -12,7 +12,7 @@ ghost use Rattle.cell_select.specs.Selections.{select_rules, again_rules};
 ghost use Rattle.net_compose.specs.Begins.{var_firsts};
 ghost use Rattle.net_compose.specs.Translation.{branch_answers, guards_rules, choosing_at, repeating_at};
 
-use crate::select::{emit_repetition, emit_selection};
+use crate::select::{emit_guarded_repetition, emit_selection};
 use prs_core::Rules;
 use std::alloc::{AllocError, Global};
 use width_check::{TArm, Typed};
@@ -48,7 +48,7 @@ pub(crate) fn emit_choice(
     ensures nodes { length rules.new.up ≡ length rules.old.up }
 {
     if again {
-        emit_repetition(alloc, program, arms, answers, request, from, vars, rules)
+        emit_guarded_repetition(alloc, program, arms, answers, request, from, vars, rules)
     } else {
         emit_selection(alloc, program, arms, answers, request, from, vars, rules)
     }

