@@ -1,16 +1,15 @@
-use Rattle.std.proofs.Common.{◌≡◌, ◌+◌, ◌-◌, ◌<◌, ◌≤◌, List, ℕ, Bool, true, false, [], ◌∷◌, ◌++◌, length, get_or, drop, All, refl, sym, ap, ◌∙◌, subst, rules, arith}
-use Rattle.std.specs.Prelude.{OnOk}
+use Rattle.std.proofs.Common.{◌≡◌, ◌+◌, ◌-◌, ◌<◌, ◌≤◌, List, ℕ, [], ◌∷◌, ◌++◌, length, get_or, drop, All, refl, sym, ap, ◌∙◌, subst, rules, arith}
 use Rattle.std.proofs.lemmas.List.{get_or_read, append-nil}
 use Rattle.prs_core.specs.Parts.{owned_from, with_owned}
 use Rattle.width_check.specs.declared.typed.TStmt.{TStmt, the_lemmas}
-use Rattle.width_check.specs.Processes.{Process, skipping, assigning, sending, receiving, in_turn, side_by_side, choosing, repeating, choice_count, TypedProgram}
+use Rattle.width_check.specs.Processes.{skipping, assigning, sending, receiving, in_turn, side_by_side, choosing, repeating, choice_count, TypedProgram}
 use Rattle.width_check.specs.Typed.{program_of}
 use Rattle.width_check.specs.Typing.{IsProcess}
 use Rattle.width_check.specs.View.{formula_of, process_of}
-use Rattle.handshake_expand.specs.Layout.{size_of, turn_size}
+use Rattle.handshake_expand.specs.Layout.{size_of}
 use Rattle.handshake_expand.specs.Answers.{answer_of, bodies_from}
 use Rattle.handshake_expand.specs.PartTree.{members_of, arms_of, own_before}
-use Rattle.handshake_expand.proofs.Branches.{branch_size_here, branch_size_end, body_size_here, body_size_end, arm_typed, choosing_size, guards_formed, three_each, sites_more, sites_done}
+use Rattle.handshake_expand.proofs.Branches.{branch_size_here, branch_size_end, body_size_here, arm_typed, choosing_size, guards_formed, sites_more, sites_done}
 use Rattle.handshake_expand.proofs.Rows.{then_is, beside_is, select_is, members_counted, arms_counted}
 use Rattle.handshake_expand.proofs.Turns.{this_typed, size_here, size_last}
 use Rattle.net_compose.specs.EverySite.{every_site}

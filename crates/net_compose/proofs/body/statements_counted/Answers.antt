@@ -1,4 +1,4 @@
-use Rattle.net_compose.proofs.Sizes.{Counted, statement_length, branches_length, bodies_length}
+use Rattle.net_compose.proofs.Sizes.{statement_length, branches_length, bodies_length}
 use Rattle.net_compose.proofs.body.statements_counted.Goals as goal
 
 pub returns-clause-statements : goal.returns-clause-statements

@@ -1,6 +1,4 @@
 use Rattle.std.proofs.Common.{◌+◌, refl, ap, ◌∙◌, arith}
-use Rattle.width_check.specs.Typed.{program_of}
-use Rattle.width_check.specs.Typing.{channel_width}
 use Rattle.prs_core.specs.Pairs.{pairs_from}
 use Rattle.cell_select.specs.PortNodes.{pairs_of}
 use Rattle.net_compose.specs.EverySite.{written}
