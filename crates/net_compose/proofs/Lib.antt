@@ -38,3 +38,5 @@ pub mod MergesWritten
 pub mod Raised
 pub mod ReadBack
 pub mod GuardsWritten
+pub mod RailsApart
+pub mod SelectionReady

@@ -12,6 +12,7 @@ pub mod laws;
 mod merges;
 mod names;
 mod plain;
+mod select;
 mod through;
 mod translate;
 mod wires;
