@@ -39,3 +39,5 @@ pub mod Raised
 pub mod ReadBack
 pub mod GuardsWritten
 pub mod BodyWritten
+pub mod RailsApart
+pub mod SelectionReady

@@ -102,10 +102,10 @@ ones_length : (before behind : List Pair) → length (only_one_true before behin
 ones_length before [] = refl
 ones_length before (h ∷ behind) = ap suc (ones_length (before ++ h ∷ []) behind)
 
-latches_length : (request : ℕ) (hs : List Pair) → length (latches request hs) ≡ length hs
+pub latches_length : (request : ℕ) (hs : List Pair) → length (latches request hs) ≡ length hs
 latches_length request hs = length-map _ _ ∙ ones_length [] hs
 
-starts_length : (ls : List ℕ) (hs : List Pair) → length (starts ls hs) ≡ length ls
+pub starts_length : (ls : List ℕ) (hs : List Pair) → length (starts ls hs) ≡ length ls
 starts_length ls hs = length-map _ _
 
 pub pairs_of_guards : Counted → (p : TypedProgram) (choices : Choices) (from : ℕ) → AreChoices p.channels p.vars choices → length (guard_pairs choices from) ≡ choice_count choices

@@ -19,6 +19,18 @@ use prs_core::Rules;
 use std::alloc::{AllocError, Global};
 use width_check::{TArm, Typed};
 
+/// So many nodes, numbered from `from` on.
+fn numbered_nodes(alloc: Global, from: u32, count: u32) -> Result<Vec<u32>, AllocError>
+    requires room { from + count < 2 ^ 32 }
+    ensures { IfOk result (λ nodes. nodes.items ≡ range_with_len from count) }
+{
+    let mut nodes = Vec::new(alloc);
+    for place in 0..count {
+        nodes.push(from + place)?;
+    }
+    Ok(nodes)
+}
+
 /// Writes the rules of a selection's own nodes, numbered from `from` on, and of its guards behind them. These are its
 /// answer, the guards' request, the node that says that a latch is up, and a latch and a start for each guard. `answers`
 /// are the nodes that answer the branches, which stand behind the guards.
@@ -45,7 +57,36 @@ pub(crate) fn emit_selection(
         (guards_from (arms_of arms.now) select_own from))) rules.old) }
     ensures nodes { length rules.new.up ≡ length rules.old.up }
 {
-    Err(AllocError)
+    // tells the proof that there are fewer than 2^32 nodes
+    let _count = rules.nodes();
+    let guards = arms.len() as u32;
+    let latched = from + 3;
+    let started = latched + guards;
+    let rails = emit_guards(
+        alloc,
+        program,
+        arms,
+        from + 1,
+        started + guards,
+        vars,
+        rules,
+    )?;
+    let latches = numbered_nodes(alloc, latched, guards)?;
+    let starts = numbered_nodes(alloc, started, guards)?;
+    let mut branches = Vec::new(alloc);
+    branches.extend_from_slice(answers)?;
+    let ports = SelectPorts {
+        request,
+        answer: from,
+        eval: from + 1,
+        any: from + 2,
+        latches,
+        starts,
+        answers: branches,
+        guard_rails: rails,
+    };
+    emit_select(alloc, &ports, rules)?;
+    Ok(())
 }
 
 /// Writes the rules of a guarded repetition's own nodes, numbered from `from` on, and of its guards behind them. These
@@ -75,5 +116,37 @@ pub(crate) fn emit_guarded_repetition(
         (guards_from (arms_of arms.now) again_own from))) rules.old) }
     ensures nodes { length rules.new.up ≡ length rules.old.up }
 {
-    Err(AllocError)
+    // tells the proof that there are fewer than 2^32 nodes
+    let _count = rules.nodes();
+    let guards = arms.len() as u32;
+    let latched = from + 6;
+    let started = latched + guards;
+    let rails = emit_guards(
+        alloc,
+        program,
+        arms,
+        from + 3,
+        started + guards,
+        vars,
+        rules,
+    )?;
+    let latches = numbered_nodes(alloc, latched, guards)?;
+    let starts = numbered_nodes(alloc, started, guards)?;
+    let mut branches = Vec::new(alloc);
+    branches.extend_from_slice(answers)?;
+    let ports = AgainPorts {
+        request,
+        answer: from,
+        loop_request: from + 1,
+        joined: from + 2,
+        eval: from + 3,
+        any: from + 4,
+        leave: from + 5,
+        latches,
+        starts,
+        answers: branches,
+        guard_rails: rails,
+    };
+    emit_again(alloc, &ports, rules)?;
+    Ok(())
 }
