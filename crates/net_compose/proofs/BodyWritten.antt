@@ -31,7 +31,8 @@ use Rattle.net_compose.proofs.Writes.{then_wrote, left_to_write}
 -- sites
 
 -- one site more
-pub site_added : (sites new : List Site) (site : Site) (value : SiteValue) → new ≡ sites ++ site ∷ [] → site_value site ≡ value → site_values new ≡ site_values sites ++ value ∷ []
+pub site_added : (sites new : List Site) (site : Site) (value : SiteValue) → new ≡ sites ++ site ∷ [] → site_value site ≡ value
+    → site_values new ≡ site_values sites ++ value ∷ []
 site_added sites new site value pushed is = ap site_values pushed ∙ (map-append site_value sites (site ∷ []) ∙ ap (λ v. site_values sites ++ v ∷ []) is)
 
 -- two sites more
@@ -44,7 +45,8 @@ two_added sites mid new a b u v first is then that =
 
 -- first values
 
-pub raised_more : (now new all : List Bool) (first rest before : List ℕ) → new ≡ with_raised now first → before ≡ first ++ rest → with_raised now before ≡ all → with_raised new rest ≡ all
+pub raised_more : (now new all : List Bool) (first rest before : List ℕ) → new ≡ with_raised now first → before ≡ first ++ rest
+    → with_raised now before ≡ all → with_raised new rest ≡ all
 raised_more now new all first rest before raised step so_far =
     ap (λ vs. with_raised vs rest) raised
     ∙ (sym (fold-append (λ vs node. slice_set vs node true) now first rest)
@@ -54,7 +56,8 @@ pub raised_done : (now all : List Bool) (rest : List ℕ) → rest ≡ [] → wi
 raised_done now all rest none so_far = ap (with_raised now) (sym none) ∙ so_far
 
 -- what is left to write once the first of some rules are written
-left_behind : (from next then : ℕ) (xs ys behind : List NodeRules) (now new all : RulesValue) → then ≡ from + length xs → new ≡ with_owned (owned_from from xs) now
+left_behind : (from next then : ℕ) (xs ys behind : List NodeRules) (now new all : RulesValue) → then ≡ from + length xs
+    → new ≡ with_owned (owned_from from xs) now
     → behind ≡ xs ++ ys → with_owned (owned_from from behind) now ≡ all → next ≡ then → with_owned (owned_from next ys) new ≡ all
 left_behind from next then xs ys behind now new all at wrote step so_far same =
     ap (λ n. with_owned (owned_from n ys) new) same
@@ -62,8 +65,10 @@ left_behind from next then xs ys behind now new all at wrote step so_far same =
     ∙ (ap (λ rs. with_owned (owned_from from rs) now) (sym step) ∙ so_far))
 
 -- a Q-element with its child
-module _ (p : TypedProgram) (s : Process) (request from answer : ℕ) (counted : length (rules_of p s from (from + 3)) ≡ size_of p s) (answers : answer ≡ answer_of p s (from + 3))
-    (now mid new : RulesValue) (element : mid ≡ with_owned (owned_from from (q_rules request answer from)) now) (child : new ≡ with_owned (owned_from (from + 3) (rules_of p s from (from + 3))) mid) where
+module _ (p : TypedProgram) (s : Process) (request from answer : ℕ) (counted : length (rules_of p s from (from + 3)) ≡ size_of p s)
+    (answers : answer ≡ answer_of p s (from + 3))
+    (now mid new : RulesValue) (element : mid ≡ with_owned (owned_from from (q_rules request answer from)) now)
+    (child : new ≡ with_owned (owned_from (from + 3) (rules_of p s from (from + 3))) mid) where
   abbrev both : List NodeRules
   both = q_rules request (answer_of p s (from + 3)) from ++ rules_of p s from (from + 3)
 
@@ -75,51 +80,66 @@ module _ (p : TypedProgram) (s : Process) (request from answer : ℕ) (counted :
   both_end : from + 3 + size_of p s ≡ from + length both
   both_end = omega (arith, counted)
 
-  pub behind_element : (next : ℕ) (ys behind : List NodeRules) (all : RulesValue) → next ≡ from + 3 + size_of p s → behind ≡ both ++ ys → with_owned (owned_from from behind) now ≡ all
+  pub behind_element : (next : ℕ) (ys behind : List NodeRules) (all : RulesValue) → next ≡ from + 3 + size_of p s → behind ≡ both ++ ys
+      → with_owned (owned_from from behind) now ≡ all
       → with_owned (owned_from next ys) new ≡ all
-  behind_element next ys behind all at step so_far = left_behind from next (from + 3 + size_of p s) both ys behind now new all both_end both_wrote step so_far at
+  behind_element next ys behind all at step so_far = left_behind from next
+      (from + 3 + size_of p s) both ys behind now new all both_end both_wrote step so_far at
 
 -- a member of a sequence that isn't the last, and the last one
 module _ (p : TypedProgram) (ss : List TStmt) (i : ℕ) (s : TStmt) (is : s ≡ get_or ss i s) where
-  pub turn_step : (within : i + 1 < length ss) (asked from next answer : ℕ) (now mid new all : RulesValue) → length (rules_of p (process_of s) from (from + 3)) ≡ size_of p (process_of s)
+  pub turn_step : (within : i + 1 < length ss) (asked from next answer : ℕ) (now mid new all : RulesValue)
+      → length (rules_of p (process_of s) from (from + 3)) ≡ size_of p (process_of s)
       → answer ≡ answer_of p (process_of s) (from + 3) → next ≡ from + 3 + size_of p (process_of s)
-      → mid ≡ with_owned (owned_from from (q_rules asked answer from)) now → new ≡ with_owned (owned_from (from + 3) (rules_of p (process_of s) from (from + 3))) mid
+      → mid ≡ with_owned (owned_from from (q_rules asked answer from)) now
+      → new ≡ with_owned (owned_from (from + 3) (rules_of p (process_of s) from (from + 3))) mid
       → with_owned (owned_from from (turn_rules p (members_of (drop i ss)) asked from)) now ≡ all
       → with_owned (owned_from next (turn_rules p (members_of (drop (i + 1) ss)) (from + 2) next)) new ≡ all
   turn_step within asked from next answer now mid new all counted answers at element child so_far =
       behind_element p (process_of s) asked from answer counted answers now mid new element child next
       (turn_rules p (members_of (drop (i + 1) ss)) (from + 2) next) (turn_rules p (members_of (drop i ss)) asked from) all at
       (turn_rules_here p ss i s is asked from within
-      ∙ ap (λ n. q_rules asked (answer_of p (process_of s) (from + 3)) from ++ (rules_of p (process_of s) from (from + 3) ++ turn_rules p (members_of (drop (i + 1) ss)) (from + 2) n)) (sym at))
+      ∙ ap (λ n. q_rules asked (answer_of p (process_of s) (from + 3)) from ++
+      (rules_of p (process_of s) from (from + 3) ++ turn_rules p (members_of (drop (i + 1) ss)) (from + 2) n)) (sym at))
       so_far
 
-  pub turn_end : (end : i + 1 ≡ length ss) (asked from : ℕ) (now new all : RulesValue) → new ≡ with_owned (owned_from from (rules_of p (process_of s) asked from)) now
+  pub turn_end : (end : i + 1 ≡ length ss) (asked from : ℕ) (now new all : RulesValue)
+      → new ≡ with_owned (owned_from from (rules_of p (process_of s) asked from)) now
       → with_owned (owned_from from (turn_rules p (members_of (drop i ss)) asked from)) now ≡ all → new ≡ all
-  turn_end end asked from now new all wrote so_far = wrote ∙ (ap (λ rs. with_owned (owned_from from rs) now) (sym (turn_rules_last p ss i s is asked from end)) ∙ so_far)
+  turn_end end asked from now new all wrote so_far = wrote ∙ (ap (λ rs. with_owned (owned_from from rs) now)
+      (sym (turn_rules_last p ss i s is asked from end)) ∙ so_far)
 
 -- a branch, and the tree over all of them
-pub branch_step : (p : TypedProgram) (ss : List TStmt) (i : ℕ) (s : TStmt) (within : i < length ss) (is : s ≡ get_or ss i s) (request from next answer : ℕ) (now mid new all : RulesValue)
-    → length (rules_of p (process_of s) from (from + 3)) ≡ size_of p (process_of s) → answer ≡ answer_of p (process_of s) (from + 3) → next ≡ from + 3 + size_of p (process_of s)
-    → mid ≡ with_owned (owned_from from (q_rules request answer from)) now → new ≡ with_owned (owned_from (from + 3) (rules_of p (process_of s) from (from + 3))) mid
+pub branch_step : (p : TypedProgram) (ss : List TStmt) (i : ℕ) (s : TStmt) (within : i < length ss) (is : s ≡ get_or ss i s) (request from next answer : ℕ)
+    (now mid new all : RulesValue)
+    → length (rules_of p (process_of s) from (from + 3)) ≡ size_of p (process_of s) → answer ≡ answer_of p (process_of s) (from + 3)
+    → next ≡ from + 3 + size_of p (process_of s)
+    → mid ≡ with_owned (owned_from from (q_rules request answer from)) now
+    → new ≡ with_owned (owned_from (from + 3) (rules_of p (process_of s) from (from + 3))) mid
     → with_owned (owned_from from (branches_rules p (members_of (drop i ss)) request from)) now ≡ all
     → with_owned (owned_from next (branches_rules p (members_of (drop (i + 1) ss)) request next)) new ≡ all
 branch_step p ss i s within is request from next answer now mid new all counted answers at element child so_far =
     behind_element p (process_of s) request from answer counted answers now mid new element child next
     (branches_rules p (members_of (drop (i + 1) ss)) request next) (branches_rules p (members_of (drop i ss)) request from) all at
     (branch_rules_here p ss i s within is request from
-    ∙ ap (λ n. q_rules request (answer_of p (process_of s) (from + 3)) from ++ (rules_of p (process_of s) from (from + 3) ++ branches_rules p (members_of (drop (i + 1) ss)) request n)) (sym at))
+    ∙ ap (λ n. q_rules request (answer_of p (process_of s) (from + 3)) from ++
+    (rules_of p (process_of s) from (from + 3) ++ branches_rules p (members_of (drop (i + 1) ss)) request n)) (sym at))
     so_far
 
 pub branches_done : (p : TypedProgram) (ss : List TStmt) (i : ℕ) (over : length ss ≤ i) (request from : ℕ) (now all : RulesValue)
     → with_owned (owned_from from (branches_rules p (members_of (drop i ss)) request from)) now ≡ all → now ≡ all
-branches_done p ss i over request from now all so_far = ap (λ rs. with_owned (owned_from from rs) now) (sym (branch_rules_end p ss i over request from)) ∙ so_far
+branches_done p ss i over request from now all so_far = ap (λ rs. with_owned (owned_from from rs) now) (sym (branch_rules_end p ss i over request from))
+    ∙ so_far
 
-pub parallel_wrote : (p : TypedProgram) (ms : Processes) (request from next : ℕ) (ends : List ℕ) (old mid new : RulesValue) → length (branches_rules p ms request from) ≡ branches_size p ms
-    → next ≡ from + branches_size p ms → ends ≡ branch_ends p ms from → mid ≡ with_owned (owned_from from (branches_rules p ms request from)) old → new ≡ with_owned (tree_owned ends next) mid
+pub parallel_wrote : (p : TypedProgram) (ms : Processes) (request from next : ℕ) (ends : List ℕ) (old mid new : RulesValue)
+    → length (branches_rules p ms request from) ≡ branches_size p ms
+    → next ≡ from + branches_size p ms → ends ≡ branch_ends p ms from → mid ≡ with_owned (owned_from from (branches_rules p ms request from)) old
+    → new ≡ with_owned (tree_owned ends next) mid
     → new ≡ with_owned (owned_from from (rules_of p (side_by_side ms) request from)) old
 parallel_wrote p ms request from next ends old mid new counted at are branches tree =
     let end : next ≡ branches_end p ms from = at ∙ sym (branches_end_is p ms from) in
-    then_wrote from next (branches_rules p ms request from) (tree_rules (branch_ends p ms from) (branches_end p ms from)) old mid new (omega (arith, at, counted)) branches
+    then_wrote from next (branches_rules p ms request from) (tree_rules (branch_ends p ms from) (branches_end p ms from)) old mid new
+    (omega (arith, at, counted)) branches
     (tree
     ∙ (ap (λ es. with_owned (tree_owned es next) mid) are
     ∙ ap (λ n. with_owned (owned_from next (tree_rules (branch_ends p ms from) n)) mid) end))
@@ -128,18 +148,22 @@ parallel_wrote p ms request from next ends old mid new counted at are branches t
 pub ends_before : (p : TypedProgram) (ms : Processes) (from high : ℕ) → from + branches_size p ms ≤ high → All (λ leaf. leaf < high) (branch_ends p ms from)
 ends_before p no_members from high room = All-nil (λ leaf. leaf < high)
 ends_before p (and_member s more) from high room =
-    All-cons (λ leaf. leaf < high) (from + 2) (branch_ends p more (from + 3 + size_of p s)) (omega (arith, room)) (ends_before p more (from + 3 + size_of p s) high (omega (arith, room)))
+    All-cons (λ leaf. leaf < high) (from + 2) (branch_ends p more (from + 3 + size_of p s)) (omega (arith, room))
+    (ends_before p more (from + 3 + size_of p s) high (omega (arith, room)))
 
 -- the bodies of arms
-pub body_step : (p : TypedProgram) (arms : List TArm) (i : ℕ) (a : TArm) (within : i < length arms) (is : a ≡ get_or arms i a) (start from next : ℕ) (now new all : RulesValue)
+pub body_step : (p : TypedProgram) (arms : List TArm) (i : ℕ) (a : TArm) (within : i < length arms) (is : a ≡ get_or arms i a) (start from next : ℕ)
+    (now new all : RulesValue)
     → length (rules_of p (process_of a.body) start from) ≡ size_of p (process_of a.body) → next ≡ from + size_of p (process_of a.body)
     → new ≡ with_owned (owned_from from (rules_of p (process_of a.body) start from)) now
     → with_owned (owned_from from (bodies_rules p (arms_of (drop i arms)) start from)) now ≡ all
     → with_owned (owned_from next (bodies_rules p (arms_of (drop (i + 1) arms)) (start + 1) next)) new ≡ all
 body_step p arms i a within is start from next now new all counted at wrote so_far =
-    left_behind from next (from + size_of p (process_of a.body)) (rules_of p (process_of a.body) start from) (bodies_rules p (arms_of (drop (i + 1) arms)) (start + 1) next)
+    left_behind from next (from + size_of p (process_of a.body)) (rules_of p (process_of a.body) start from)
+    (bodies_rules p (arms_of (drop (i + 1) arms)) (start + 1) next)
     (bodies_rules p (arms_of (drop i arms)) start from) now new all (omega (arith, counted)) wrote
-    (body_rules_here p arms i a within is start from ∙ ap (λ n. rules_of p (process_of a.body) start from ++ bodies_rules p (arms_of (drop (i + 1) arms)) (start + 1) n) (sym at))
+    (body_rules_here p arms i a within is start from ∙ ap (λ n. rules_of p (process_of a.body) start from ++ bodies_rules p (arms_of (drop (i + 1) arms))
+    (start + 1) n) (sym at))
     so_far at
 
 pub bodies_done : (p : TypedProgram) (arms : List TArm) (i : ℕ) (over : length arms ≤ i) (start from : ℕ) (now all : RulesValue)
@@ -148,15 +172,19 @@ bodies_done p arms i over start from now all so_far = ap (λ rs. with_owned (own
 
 -- a loop
 pub repeated_wrote : (p : TypedProgram) (s : Process) (request from answer : ℕ) (old mid new : RulesValue) → answer ≡ answer_of p s (from + 2)
-    → mid ≡ with_owned (owned_from from (no_rules ∷ loop_request request answer ∷ [])) old → new ≡ with_owned (owned_from (from + 2) (rules_of p s (from + 1) (from + 2))) mid
+    → mid ≡ with_owned (owned_from from (no_rules ∷ loop_request request answer ∷ [])) old
+    → new ≡ with_owned (owned_from (from + 2) (rules_of p s (from + 1) (from + 2))) mid
     → new ≡ with_owned (owned_from from (rules_of p (repeating s) request from)) old
 repeated_wrote p s request from answer old mid new answers first then =
-    then_wrote from (from + 2) (no_rules ∷ loop_request request (answer_of p s (from + 2)) ∷ []) (rules_of p s (from + 1) (from + 2)) old mid new (omega arith)
+    then_wrote from (from + 2) (no_rules ∷ loop_request request (answer_of p s (from + 2)) ∷ []) (rules_of p s (from + 1) (from + 2)) old mid new
+    (omega arith)
     (first ∙ ap (λ a. with_owned (owned_from from (no_rules ∷ loop_request request a ∷ [])) old) answers) then
 
 -- the node that answers a statement is one of its own
-pub answer_inside : (p : TypedProgram) (s : Process) (from answer : ℕ) → IsProcess p.channels p.vars s → answer ≡ answer_of p s from → (from ≤ answer) × (answer < from + size_of p s)
-answer_inside p s from answer typed is = let inside = answer_within p s from typed in let low = inside.0 in let high = inside.1 in (omega (arith, low, is), omega (arith, high, is))
+pub answer_inside : (p : TypedProgram) (s : Process) (from answer : ℕ) → IsProcess p.channels p.vars s → answer ≡ answer_of p s from
+    → (from ≤ answer) × (answer < from + size_of p s)
+answer_inside p s from answer typed is = let inside = answer_within p s from typed in let low = inside.0 in let high = inside.1 in
+    (omega (arith, low, is), omega (arith, high, is))
 
 -- what is known of a call that succeeded
 pub on_ok : {T E P Q : Type 0} (r : Result T E) → (P → Q) → OnOk r P → OnOk r Q
@@ -168,8 +196,10 @@ pub choosing_left : (p : TypedProgram) (again : Bool) (cs : Choices) (request fr
     → length (rules_of p (choosing again cs) request from) ≡ size_of p (choosing again cs)
     → length (bodies_rules p cs (from + own_before again + choice_count cs) (bodies_from cs (own_before again) from)) ≡ bodies_size p cs
     → start ≡ from + own_before again + choice_count cs → next ≡ bodies_from cs (own_before again) from
-    → (again ≡ false → now ≡ with_owned (owned_from from (select_rules (choosing_at p cs request (from + 2) select_own from) ++ guards_rules p cs (from + 1) (guards_from cs select_own from))) old)
-    → (again ≡ true → now ≡ with_owned (owned_from from (again_rules (repeating_at p cs request from) ++ guards_rules p cs (from + 3) (guards_from cs again_own from))) old)
+    → (again ≡ false → now ≡ with_owned (owned_from from (select_rules (choosing_at p cs request (from + 2) select_own from) ++ guards_rules p cs (from + 1)
+    (guards_from cs select_own from))) old)
+    → (again ≡ true → now ≡ with_owned (owned_from from (again_rules (repeating_at p cs request from) ++ guards_rules p cs (from + 3)
+    (guards_from cs again_own from))) old)
     → with_owned (owned_from next (bodies_rules p cs start next)) now ≡ with_owned (owned_from from (rules_of p (choosing again cs) request from)) old
 choosing_left p false cs request from start next old now counted bodies starts at once repeated =
     let own = select_rules (choosing_at p cs request (from + 2) select_own from) in

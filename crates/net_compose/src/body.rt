@@ -118,7 +118,8 @@ fn parallel(
     requires process { IsProcess program.now.channels program.now.vars (side_by_side (members_of branches.now)) }
     requires asked { root_request (program_of program.now) ≤ request }
     requires before { request < from }
-    requires own { from + size_of (program_of program.now) (side_by_side (members_of branches.now)) ≤ length rules.old.up }
+    requires own { from + size_of (program_of program.now) (side_by_side (members_of branches.now))
+        ≤ length rules.old.up }
     requires values { length first.old ≡ length rules.old.up }
     ensures made { OnOk result (rules.new ≡ with_owned (owned_from from
         (rules_of (program_of program.now) (side_by_side (members_of branches.now)) request from)) rules.old) }

@@ -17,7 +17,8 @@ loop-arm-init c = record {
 }
 
 pub statement_nodes-size-requires : goal.statement_nodes-size-requires
-statement_nodes-size-requires c = (arm_typed (program_of c.args.program.now) c.args.arms.now c.loop-arm.arm-index _ c.loop-arm-test.true c.arm-item.is _ _ c.loop-arm.invariant.formed).0
+statement_nodes-size-requires c = (arm_typed (program_of c.args.program.now) c.args.arms.now c.loop-arm.arm-index _ c.loop-arm-test.true c.arm-item.is _ _
+    c.loop-arm.invariant.formed).0
 
 pub overflow_cast-size : goal.overflow_cast-size
 overflow_cast-size c =
@@ -47,10 +48,13 @@ loop-arm-preserved c =
     let next = c.loop-arm.next in
     let s = process_of a.body in
     let size = body_size_here p arms i a c.loop-arm-test.true c.arm-item.is in
-    let to : next + size_of p s ≡ next + c.statement_nodes-size.result = omega (arith, size, c.statement_nodes-size.ensures, c.loop-arm.invariant.size, c.requires.room) in
+    let to : next + size_of p s ≡ next + c.statement_nodes-size.result = omega
+    (arith, size, c.statement_nodes-size.ensures, c.loop-arm.invariant.size, c.requires.room) in
     record {
-      answers = sites_more c.loop-arm.answers.items _ (answer_of p s next ∷ []) _ _ _ (c.in_ok-push.ensures.items ∙ ap (λ n. c.loop-arm.answers.items ++ n ∷ []) c.answer_node-answer.ensures)
-          (body_answers_here p arms i a c.loop-arm-test.true c.arm-item.is next ∙ ap (λ n. answer_of p s next ∷ branch_answers p (arms_of (drop (i + 1) arms)) n) to)
+      answers = sites_more c.loop-arm.answers.items _ (answer_of p s next ∷ []) _ _ _
+          (c.in_ok-push.ensures.items ∙ ap (λ n. c.loop-arm.answers.items ++ n ∷ []) c.answer_node-answer.ensures)
+          (body_answers_here p arms i a c.loop-arm-test.true c.arm-item.is next
+          ∙ ap (λ n. answer_of p s next ∷ branch_answers p (arms_of (drop (i + 1) arms)) n) to)
           c.loop-arm.invariant.answers;
       size = omega (arith, size, to, c.loop-arm.invariant.size);
       formed = (arm_typed p arms i a c.loop-arm-test.true c.arm-item.is _ _ c.loop-arm.invariant.formed).1;
@@ -59,4 +63,5 @@ loop-arm-preserved c =
 pub returns : goal.returns
 returns c =
     let p = program_of c.args.program.now in
-    sites_done c.loop-arm.answers.items _ _ (body_answers_end p c.args.arms.now c.loop-arm.arm-index c.loop-arm-test.false c.loop-arm.next) c.loop-arm.invariant.answers
+    sites_done c.loop-arm.answers.items _ _ (body_answers_end p c.args.arms.now c.loop-arm.arm-index c.loop-arm-test.false c.loop-arm.next)
+    c.loop-arm.invariant.answers

@@ -7,10 +7,12 @@ use Rattle.handshake_expand.specs.PartTree.{arms_of, HasFormedGuards}
 use Rattle.handshake_expand.proofs.Rows.{arm_at, no_more_arms}
 use Rattle.net_compose.proofs.arms.guards_nodes.Goals as goal
 
-guard_here : (arms : List TArm) (i : ℕ) (a : TArm) → i < length arms → a ≡ get_or arms i a → guards_size (arms_of (drop i arms)) ≡ formula_size (formula_of a.guard) + guards_size (arms_of (drop (i + 1) arms))
+guard_here : (arms : List TArm) (i : ℕ) (a : TArm) → i < length arms → a ≡ get_or arms i a
+    → guards_size (arms_of (drop i arms)) ≡ formula_size (formula_of a.guard) + guards_size (arms_of (drop (i + 1) arms))
 guard_here arms i a within is = ap guards_size (arm_at arms i a within is)
 
-guard_formed : (arms : List TArm) (i : ℕ) (a : TArm) → i < length arms → a ≡ get_or arms i a → HasFormedGuards (arms_of (drop i arms)) → IsWellFormed (formula_of a.guard) × HasFormedGuards (arms_of (drop (i + 1) arms))
+guard_formed : (arms : List TArm) (i : ℕ) (a : TArm) → i < length arms → a ≡ get_or arms i a → HasFormedGuards (arms_of (drop i arms))
+    → IsWellFormed (formula_of a.guard) × HasFormedGuards (arms_of (drop (i + 1) arms))
 guard_formed arms i a within is h = subst HasFormedGuards (arm_at arms i a within is) h
 
 pub loop-arm-init : goal.loop-arm-init
@@ -39,5 +41,6 @@ loop-arm-preserved c =
 
 pub returns : goal.returns
 returns c =
-    let left : guards_size (arms_of (drop c.loop-arm.arm-index c.args.arms.now)) ≡ 0 = ap guards_size (no_more_arms c.args.arms.now c.loop-arm.arm-index c.loop-arm-test.false) in
+    let left : guards_size (arms_of (drop c.loop-arm.arm-index c.args.arms.now)) ≡ 0 = ap guards_size
+    (no_more_arms c.args.arms.now c.loop-arm.arm-index c.loop-arm-test.false) in
     omega (arith, c.loop-arm.invariant.counted, left)

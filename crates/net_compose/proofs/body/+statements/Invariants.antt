@@ -17,9 +17,12 @@ invariant-sequence-loop-place l =
     let p = program_of l.program in
     let behind = members_of (drop l.place l.members) in
     record {
-      rules : with_owned (owned_from l.next (turn_rules p behind l.asked l.next)) l.rules ≡ with_owned (owned_from l.fn.from (turn_rules p (members_of l.members) l.fn.request l.fn.from)) l.fn.rules;
-      sites : site_values l.sites.items ++ sites_in_turn p (every_site p) behind l.next ≡ site_values l.fn.sites.items ++ sites_in_turn p (every_site p) (members_of l.members) l.fn.from;
-      first : with_raised l.first (sites_in_turn p (hidden_high p) behind l.next) ≡ with_raised l.fn.first (sites_in_turn p (hidden_high p) (members_of l.members) l.fn.from);
+      rules : with_owned (owned_from l.next (turn_rules p behind l.asked l.next)) l.rules ≡ with_owned
+          (owned_from l.fn.from (turn_rules p (members_of l.members) l.fn.request l.fn.from)) l.fn.rules;
+      sites : site_values l.sites.items ++ sites_in_turn p (every_site p) behind l.next ≡ site_values l.fn.sites.items ++ sites_in_turn p (every_site p)
+          (members_of l.members) l.fn.from;
+      first : with_raised l.first (sites_in_turn p (hidden_high p) behind l.next) ≡ with_raised l.fn.first
+          (sites_in_turn p (hidden_high p) (members_of l.members) l.fn.from);
       nodes : length l.rules.up ≡ length l.fn.rules.up;
       values : length l.first ≡ length l.fn.first;
       size : l.next + turn_size p behind ≡ l.fn.from + turn_size p (members_of l.members);
@@ -34,9 +37,12 @@ invariant-parallel-loop-branch l =
     let p = program_of l.program in
     let behind = members_of (drop l.branch-index l.branches) in
     record {
-      rules : with_owned (owned_from l.next (branches_rules p behind l.request l.next)) l.rules ≡ with_owned (owned_from l.fn.from (branches_rules p (members_of l.branches) l.request l.fn.from)) l.fn.rules;
-      sites : site_values l.sites.items ++ sites_in_branches p (every_site p) behind l.next ≡ site_values l.fn.sites.items ++ sites_in_branches p (every_site p) (members_of l.branches) l.fn.from;
-      first : with_raised l.first (sites_in_branches p (hidden_high p) behind l.next) ≡ with_raised l.fn.first (sites_in_branches p (hidden_high p) (members_of l.branches) l.fn.from);
+      rules : with_owned (owned_from l.next (branches_rules p behind l.request l.next)) l.rules ≡ with_owned
+          (owned_from l.fn.from (branches_rules p (members_of l.branches) l.request l.fn.from)) l.fn.rules;
+      sites : site_values l.sites.items ++ sites_in_branches p (every_site p) behind l.next ≡ site_values l.fn.sites.items ++ sites_in_branches p
+          (every_site p) (members_of l.branches) l.fn.from;
+      first : with_raised l.first (sites_in_branches p (hidden_high p) behind l.next) ≡ with_raised l.fn.first
+          (sites_in_branches p (hidden_high p) (members_of l.branches) l.fn.from);
       ends : l.ends.items ++ branch_ends p behind l.next ≡ branch_ends p (members_of l.branches) l.fn.from;
       nodes : length l.rules.up ≡ length l.fn.rules.up;
       values : length l.first ≡ length l.fn.first;
@@ -52,9 +58,12 @@ invariant-selection-loop-arm l =
     let behind = arms_of (drop l.arm-index l.arms) in
     let bodies = bodies_from choices (own_before l.again) l.fn.from in
     record {
-      rules : with_owned (owned_from l.next (bodies_rules p behind l.start l.next)) l.rules ≡ with_owned (owned_from l.fn.from (rules_of p (choosing l.again choices) l.request l.fn.from)) l.fn.rules;
-      sites : site_values l.sites.items ++ sites_in_bodies p (every_site p) behind l.next ≡ site_values l.fn.sites.items ++ sites_in_bodies p (every_site p) choices bodies;
-      first : with_raised l.first (sites_in_bodies p (hidden_high p) behind l.next) ≡ with_raised l.fn.first (sites_in_bodies p (hidden_high p) choices bodies);
+      rules : with_owned (owned_from l.next (bodies_rules p behind l.start l.next)) l.rules ≡ with_owned
+          (owned_from l.fn.from (rules_of p (choosing l.again choices) l.request l.fn.from)) l.fn.rules;
+      sites : site_values l.sites.items ++ sites_in_bodies p (every_site p) behind l.next ≡ site_values l.fn.sites.items ++ sites_in_bodies p
+          (every_site p) choices bodies;
+      first : with_raised l.first (sites_in_bodies p (hidden_high p) behind l.next) ≡ with_raised l.fn.first
+          (sites_in_bodies p (hidden_high p) choices bodies);
       nodes : length l.rules.up ≡ length l.fn.rules.up;
       values : length l.first ≡ length l.fn.first;
       size : l.next + bodies_size p behind ≡ l.fn.from + size_of p (choosing l.again choices);

@@ -52,7 +52,15 @@ returns-clause-made c =
     let p = program_of c.args.program.now in
     let is : process_of c.body-body.result.now ≡ p.body = ap process_of c.body-body.ensures.body in
     let from = c.count_nodes.result - c.statement_nodes.result in
-    let at : from ≡ body_from p = omega (arith, ap (size_of p) is, c.count_nodes.ensures, c.statement_nodes.ensures, c.requires.own, c.nodes-count.ensures, c.nodes-count.type_inv) in
+    let at : from ≡ body_from p = omega (
+      arith,
+      ap (size_of p) is,
+      c.count_nodes.ensures,
+      c.statement_nodes.ensures,
+      c.requires.own,
+      c.nodes-count.ensures,
+      c.nodes-count.type_inv,
+    ) in
     let asked : from - 2 ≡ root_request p = omega (arith, at) in
     c.in_ok-statement.ensures.made
     ∙ (ap (λ q. with_owned (owned_from from (rules_of p q (from - 2) from)) c.args.rules.now) is
@@ -64,7 +72,15 @@ returns-clause-sites c =
     let p = program_of c.args.program.now in
     let is : process_of c.body-body.result.now ≡ p.body = ap process_of c.body-body.ensures.body in
     let from = c.count_nodes.result - c.statement_nodes.result in
-    let at : from ≡ body_from p = omega (arith, ap (size_of p) is, c.count_nodes.ensures, c.statement_nodes.ensures, c.requires.own, c.nodes-count.ensures, c.nodes-count.type_inv) in
+    let at : from ≡ body_from p = omega (
+      arith,
+      ap (size_of p) is,
+      c.count_nodes.ensures,
+      c.statement_nodes.ensures,
+      c.requires.own,
+      c.nodes-count.ensures,
+      c.nodes-count.type_inv,
+    ) in
     c.in_ok-statement.ensures.sites
     ∙ (ap (λ xs. site_values xs ++ sites_in p (every_site p) (process_of c.body-body.result.now) from) c.new-sites.ensures.items
     ∙ (ap (λ q. sites_in p (every_site p) q from) is
@@ -75,7 +91,15 @@ returns-clause-first c =
     let p = program_of c.args.program.now in
     let is : process_of c.body-body.result.now ≡ p.body = ap process_of c.body-body.ensures.body in
     let from = c.count_nodes.result - c.statement_nodes.result in
-    let at : from ≡ body_from p = omega (arith, ap (size_of p) is, c.count_nodes.ensures, c.statement_nodes.ensures, c.requires.own, c.nodes-count.ensures, c.nodes-count.type_inv) in
+    let at : from ≡ body_from p = omega (
+      arith,
+      ap (size_of p) is,
+      c.count_nodes.ensures,
+      c.statement_nodes.ensures,
+      c.requires.own,
+      c.nodes-count.ensures,
+      c.nodes-count.type_inv,
+    ) in
     c.in_ok-statement.ensures.first
     ∙ (ap (λ q. with_raised c.args.first.now (sites_in p (hidden_high p) q from)) is
     ∙ ap (λ n. with_raised c.args.first.now (sites_in p (hidden_high p) p.body n)) at)

@@ -53,7 +53,8 @@ returns-then-reads-clause-made c =
     let from = c.args.from in
     let is : reads x e ≡ true = sym c.reads.ensures ∙ c.if-reads.true in
     on_ok c.emit_through.result
-    (λ f. f ∙ ap (λ b. with_owned (owned_from from (if b then through_rules p x e r from else write_answer r (written_at p x) ∷ formula_rules (bits_at p) e r (from + 1))) c.args.rules.now) (sym is))
+    (λ f. f ∙ ap (λ b. with_owned (owned_from from (if b then through_rules p x e r from else write_answer r (written_at p x) ∷ formula_rules (bits_at p) e r
+    (from + 1))) c.args.rules.now) (sym is))
     c.emit_through.ensures.made
 
 pub returns-then-reads-clause-rails : goal.returns-then-reads-clause-rails
@@ -88,7 +89,8 @@ returns-else-reads-clause-made c =
     let from = c.args.from in
     let is : reads x e ≡ false = sym c.reads.ensures ∙ c.if-reads.false in
     on_ok c.emit_assign.result
-    (λ f. f ∙ ap (λ b. with_owned (owned_from from (if b then through_rules p x e r from else write_answer r (written_at p x) ∷ formula_rules (bits_at p) e r (from + 1))) c.args.rules.now) (sym is))
+    (λ f. f ∙ ap (λ b. with_owned (owned_from from (if b then through_rules p x e r from else write_answer r (written_at p x) ∷ formula_rules (bits_at p) e r
+    (from + 1))) c.args.rules.now) (sym is))
     c.emit_assign.ensures.made
 
 pub returns-else-reads-clause-rails : goal.returns-else-reads-clause-rails
