@@ -27,7 +27,7 @@ use std::alloc::{AllocError, Global};
 use width_check::{TArm, TStmt, Typed};
 
 /// Law: a statement, some branches and some bodies have a pair of guards for each node that the layout counts.
-pub(crate) fn statements_counted()
+fn statements_counted()
     ensures statements { (p : TypedProgram) (s : Process) (request from : ℕ)
         → IsProcess p.channels p.vars s → length (rules_of p s request from) ≡ size_of p s }
     ensures branches { (p : TypedProgram) (members : Processes) (request from : ℕ)

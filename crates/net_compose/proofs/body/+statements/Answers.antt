@@ -6,7 +6,7 @@ use Rattle.width_check.specs.Processes.{skipping, assigning, sending, receiving,
 use Rattle.width_check.specs.Typed.{program_of}
 use Rattle.width_check.specs.Typing.{IsProcess}
 use Rattle.width_check.specs.View.{formula_of, process_of}
-use Rattle.handshake_expand.specs.Layout.{size_of}
+use Rattle.handshake_expand.specs.Layout.{size_of, root_request}
 use Rattle.handshake_expand.specs.Answers.{answer_of, bodies_from}
 use Rattle.handshake_expand.specs.PartTree.{members_of, arms_of, own_before}
 use Rattle.handshake_expand.proofs.Branches.{branch_size_here, branch_size_end, body_size_here, arm_typed, choosing_size, guards_formed, sites_more, sites_done}
@@ -60,28 +60,18 @@ sequence-emit_element-requires t c =
 pub sequence-statement-requires : goal.sequence-statement-requires
 sequence-statement-requires t c =
     let p = program_of c.args.program.now in
-    let size = size_here p c.args.members.now c.loop-place.place _ c.index-members-place.is (omega arith) in (
-      search (rules, the_lemmas, get_or_read),
-      (
-        c.requires.channels,
-        (
-          c.requires.vars,
-          (
-            (this_typed _ _ c.args.members.now c.loop-place.place _ c.index-members-place.is (omega arith) c.loop-place.invariant.formed).0,
-            (
-              omega (arith, c.requires.asked, c.requires.before, c.loop-place.invariant.low),
-              (
-                omega arith,
-                (
-                  omega (arith, size, c.loop-place.invariant.size, c.loop-place.invariant.nodes, c.emit_element.ensures.nodes, c.requires.own),
-                  omega (arith, c.loop-place.invariant.values, c.loop-place.invariant.nodes, c.emit_element.ensures.nodes, c.requires.values),
-                ),
-              ),
-            ),
-          ),
-        ),
-      ),
-    )
+    let next = c.loop-place.next in
+    let s = process_of c.index-members-place.result in
+    let count = length c.emit_element.new.rules.up in
+    let size = size_here p c.args.members.now c.loop-place.place _ c.index-members-place.is (omega arith) in
+    let typed = (this_typed _ _ c.args.members.now c.loop-place.place _ c.index-members-place.is (omega arith) c.loop-place.invariant.formed).0 in
+    let asked : root_request p ≤ next = omega (arith, c.requires.asked, c.requires.before, c.loop-place.invariant.low) in
+    let before : next < next + 3 = omega arith in
+    let room : next + 3 + size_of p s ≤ count =
+    omega (arith, size, c.loop-place.invariant.size, c.loop-place.invariant.nodes, c.emit_element.ensures.nodes, c.requires.own) in
+    let values : length c.loop-place.first ≡ count =
+    omega (arith, c.loop-place.invariant.values, c.loop-place.invariant.nodes, c.emit_element.ensures.nodes, c.requires.values) in
+    (search (rules, the_lemmas, get_or_read), (c.requires.channels, (c.requires.vars, (typed, (asked, (before, (room, values)))))))
 
 pub sequence-overflow_add-asked : goal.sequence-overflow_add-asked
 sequence-overflow_add-asked t c =
@@ -144,32 +134,18 @@ sequence-statement-requires-2 t c =
     let members = c.args.members.now in
     let i = c.loop-place.place in
     let m = c.index-members-last.result in
+    let count = length c.loop-place.rules.up in
     let end : length members - 1 ≡ i = omega arith in
     let whole : i + 1 ≡ length members = omega (arith, end, c.requires.process.0, members_counted members) in
     let at : m ≡ get_or members i m = c.index-members-last.is ∙ ap (λ n. get_or members n m) end in
-    let size = size_last p members i m at whole in (
-      search (rules, the_lemmas, get_or_read),
-      (
-        c.requires.channels,
-        (
-          c.requires.vars,
-          (
-            (this_typed _ _ members i m at (omega (arith, whole)) c.loop-place.invariant.formed).0,
-            (
-              c.loop-place.invariant.asked,
-              (
-                c.loop-place.invariant.before,
-                (
-                  omega (arith, size, c.loop-place.invariant.size, c.loop-place.invariant.nodes, c.requires.own),
-                  omega
-                      (arith, c.loop-place.invariant.values, c.loop-place.invariant.nodes, c.requires.values),
-                ),
-              ),
-            ),
-          ),
-        ),
-      ),
-    )
+    let size = size_last p members i m at whole in
+    let typed = (this_typed _ _ members i m at (omega (arith, whole)) c.loop-place.invariant.formed).0 in
+    let asked = c.loop-place.invariant.asked in
+    let before = c.loop-place.invariant.before in
+    let room : c.loop-place.next + size_of p (process_of m) ≤ count =
+    omega (arith, size, c.loop-place.invariant.size, c.loop-place.invariant.nodes, c.requires.own) in
+    let values : length c.loop-place.first ≡ count = omega (arith, c.loop-place.invariant.values, c.loop-place.invariant.nodes, c.requires.values) in
+    (search (rules, the_lemmas, get_or_read), (c.requires.channels, (c.requires.vars, (typed, (asked, (before, (room, values)))))))
 
 pub sequence-returns-clause-made : goal.sequence-returns-clause-made
 sequence-returns-clause-made t c =
@@ -272,28 +248,18 @@ parallel-emit_element-requires t c =
 pub parallel-statement-requires : goal.parallel-statement-requires
 parallel-statement-requires t c =
     let p = program_of c.args.program.now in
-    let size = branch_size_here p c.args.branches.now c.loop-branch.branch-index _ c.loop-branch-test.true c.branch-item.is in (
-      search (rules, the_lemmas, get_or_read),
-      (
-        c.requires.channels,
-        (
-          c.requires.vars,
-          (
-            (this_typed _ _ c.args.branches.now c.loop-branch.branch-index _ c.branch-item.is c.loop-branch-test.true c.loop-branch.invariant.formed).0,
-            (
-              omega (arith, c.requires.asked, c.loop-branch.invariant.before),
-              (
-                omega arith,
-                (
-                  omega (arith, size, c.loop-branch.invariant.size, c.loop-branch.invariant.nodes, c.emit_element.ensures.nodes, c.requires.own),
-                  omega (arith, c.loop-branch.invariant.values, c.loop-branch.invariant.nodes, c.emit_element.ensures.nodes, c.requires.values),
-                ),
-              ),
-            ),
-          ),
-        ),
-      ),
-    )
+    let next = c.loop-branch.next in
+    let s = process_of c.branch-item.result in
+    let count = length c.emit_element.new.rules.up in
+    let size = branch_size_here p c.args.branches.now c.loop-branch.branch-index _ c.loop-branch-test.true c.branch-item.is in
+    let typed = (this_typed _ _ c.args.branches.now c.loop-branch.branch-index _ c.branch-item.is c.loop-branch-test.true c.loop-branch.invariant.formed).0 in
+    let asked : root_request p ≤ next = omega (arith, c.requires.asked, c.loop-branch.invariant.before) in
+    let before : next < next + 3 = omega arith in
+    let room : next + 3 + size_of p s ≤ count =
+    omega (arith, size, c.loop-branch.invariant.size, c.loop-branch.invariant.nodes, c.emit_element.ensures.nodes, c.requires.own) in
+    let values : length c.loop-branch.first ≡ count =
+    omega (arith, c.loop-branch.invariant.values, c.loop-branch.invariant.nodes, c.emit_element.ensures.nodes, c.requires.values) in
+    (search (rules, the_lemmas, get_or_read), (c.requires.channels, (c.requires.vars, (typed, (asked, (before, (room, values)))))))
 
 pub parallel-overflow_add-next : goal.parallel-overflow_add-next
 parallel-overflow_add-next t c =
@@ -535,30 +501,15 @@ selection-overflow_cast-size t c =
 pub selection-statement-requires : goal.selection-statement-requires
 selection-statement-requires t c =
     let p = program_of c.args.program.now in
-    let size = body_size_here p c.args.arms.now c.loop-arm.arm-index _ c.loop-arm-test.true c.arm-item.is in (
-      search (rules, the_lemmas, get_or_read),
-      (
-        c.requires.channels,
-        (
-          c.requires.vars,
-          (
-            (arm_typed (program_of c.args.program.now) c.args.arms.now c.loop-arm.arm-index _ c.loop-arm-test.true c.arm-item.is _ _
-                c.loop-arm.invariant.formed).0,
-            (
-              c.loop-arm.invariant.asked,
-              (
-                omega (arith, c.loop-arm.invariant.starts, c.loop-arm-test.true),
-                (
-                  omega (arith, size, c.loop-arm.invariant.size, c.loop-arm.invariant.nodes, c.requires.own),
-                  omega
-                      (arith, c.loop-arm.invariant.values, c.loop-arm.invariant.nodes, c.requires.values),
-                ),
-              ),
-            ),
-          ),
-        ),
-      ),
-    )
+    let count = length c.loop-arm.rules.up in
+    let size = body_size_here p c.args.arms.now c.loop-arm.arm-index _ c.loop-arm-test.true c.arm-item.is in
+    let typed = (arm_typed p c.args.arms.now c.loop-arm.arm-index _ c.loop-arm-test.true c.arm-item.is _ _ c.loop-arm.invariant.formed).0 in
+    let asked = c.loop-arm.invariant.asked in
+    let before : c.loop-arm.start < c.loop-arm.next = omega (arith, c.loop-arm.invariant.starts, c.loop-arm-test.true) in
+    let room : c.loop-arm.next + size_of p (process_of c.arm-item.result.body) ≤ count =
+    omega (arith, size, c.loop-arm.invariant.size, c.loop-arm.invariant.nodes, c.requires.own) in
+    let values : length c.loop-arm.first ≡ count = omega (arith, c.loop-arm.invariant.values, c.loop-arm.invariant.nodes, c.requires.values) in
+    (search (rules, the_lemmas, get_or_read), (c.requires.channels, (c.requires.vars, (typed, (asked, (before, (room, values)))))))
 
 pub selection-overflow_add-start-in-loop-arm : goal.selection-overflow_add-start-in-loop-arm
 selection-overflow_add-start-in-loop-arm t c =
@@ -789,20 +740,17 @@ statement-emit_skip-requires-clause-distinct t c =
 pub statement-sequence-requires : goal.statement-sequence-requires
 statement-sequence-requires t c =
     let p = program_of c.args.program.now in
-    let is : process_of c.args.s.now ≡ in_turn (members_of c.deref.result.now) = then_is _ c.in-Then.parts c.in-Then.is
-    ∙ ap (λ xs. in_turn (members_of xs)) (sym c.deref.ensures.value) in (
+    let is : process_of c.args.s.now ≡ in_turn (members_of c.deref.result.now) =
+    then_is _ c.in-Then.parts c.in-Then.is ∙ ap (λ xs. in_turn (members_of xs)) (sym c.deref.ensures.value) in
+    let typed = subst (IsProcess p.channels p.vars) is c.requires.process in
+    let room : c.args.from + size_of p (in_turn (members_of c.deref.result.now)) ≤ length c.args.rules.now.up = omega
+    (arith, ap (size_of p) is, c.requires.own) in (
       search (rules, the_lemmas, get_or_read),
       (
         c.requires.channels,
         (
           c.requires.vars,
-          (
-            subst (IsProcess p.channels p.vars) is c.requires.process,
-            (
-              c.requires.asked,
-              (c.requires.before, (omega (arith, ap (size_of p) is, c.requires.own), c.requires.values)),
-            ),
-          ),
+          (typed, (c.requires.asked, (c.requires.before, (room, c.requires.values)))),
         ),
       ),
     )
@@ -833,20 +781,17 @@ statement-returns-in-Then-clause-first t c =
 pub statement-parallel-requires : goal.statement-parallel-requires
 statement-parallel-requires t c =
     let p = program_of c.args.program.now in
-    let is : process_of c.args.s.now ≡ side_by_side (members_of c.deref-in-Beside.result.now) = beside_is _ c.in-Beside.parts c.in-Beside.is
-    ∙ ap (λ xs. side_by_side (members_of xs)) (sym c.deref-in-Beside.ensures.value) in (
+    let is : process_of c.args.s.now ≡ side_by_side (members_of c.deref-in-Beside.result.now) =
+    beside_is _ c.in-Beside.parts c.in-Beside.is ∙ ap (λ xs. side_by_side (members_of xs)) (sym c.deref-in-Beside.ensures.value) in
+    let typed = subst (IsProcess p.channels p.vars) is c.requires.process in
+    let room : c.args.from + size_of p (side_by_side (members_of c.deref-in-Beside.result.now)) ≤ length c.args.rules.now.up = omega
+    (arith, ap (size_of p) is, c.requires.own) in (
       search (rules, the_lemmas, get_or_read),
       (
         c.requires.channels,
         (
           c.requires.vars,
-          (
-            subst (IsProcess p.channels p.vars) is c.requires.process,
-            (
-              c.requires.asked,
-              (c.requires.before, (omega (arith, ap (size_of p) is, c.requires.own), c.requires.values)),
-            ),
-          ),
+          (typed, (c.requires.asked, (c.requires.before, (room, c.requires.values)))),
         ),
       ),
     )
@@ -877,20 +822,18 @@ statement-returns-in-Beside-clause-first t c =
 pub statement-selection-requires : goal.statement-selection-requires
 statement-selection-requires t c =
     let p = program_of c.args.program.now in
-    let is : process_of c.args.s.now ≡ choosing c.in-Select.again (arms_of c.deref-in-Select.result.now) = select_is _ c.in-Select.again c.in-Select.arms
-    c.in-Select.is ∙ ap (λ xs. choosing c.in-Select.again (arms_of xs)) (sym c.deref-in-Select.ensures.value) in (
+    let is : process_of c.args.s.now ≡ choosing c.in-Select.again (arms_of c.deref-in-Select.result.now) =
+    select_is _ c.in-Select.again c.in-Select.arms c.in-Select.is ∙ ap (λ xs. choosing c.in-Select.again (arms_of xs))
+    (sym c.deref-in-Select.ensures.value) in
+    let typed = subst (IsProcess p.channels p.vars) is c.requires.process in
+    let room : c.args.from + size_of p (choosing c.in-Select.again (arms_of c.deref-in-Select.result.now)) ≤ length c.args.rules.now.up = omega
+    (arith, ap (size_of p) is, c.requires.own) in (
       search (rules, the_lemmas, get_or_read),
       (
         c.requires.channels,
         (
           c.requires.vars,
-          (
-            subst (IsProcess p.channels p.vars) is c.requires.process,
-            (
-              c.requires.asked,
-              (c.requires.before, (omega (arith, ap (size_of p) is, c.requires.own), c.requires.values)),
-            ),
-          ),
+          (typed, (c.requires.asked, (c.requires.before, (room, c.requires.values)))),
         ),
       ),
     )
@@ -954,29 +897,14 @@ statement-statement-requires t c =
     let p = program_of c.args.program.now in
     let s = process_of c.deref-in-Repeat-2.result.now in
     let from = c.args.from in
-    let is : process_of c.args.s.now ≡ repeating s = ap process_of c.in-Repeat.is ∙ ap (λ b. repeating (process_of b)) (sym c.deref-in-Repeat-2.ensures) in (
-      search (rules, the_lemmas, get_or_read),
-      (
-        c.requires.channels,
-        (
-          c.requires.vars,
-          (
-            subst (IsProcess p.channels p.vars) is c.requires.process,
-            (
-              omega (arith, c.requires.asked, c.requires.before),
-              (
-                omega arith,
-                (
-                  omega (arith, ap (size_of p) is, c.emit_repeated.ensures.nodes, c.requires.own),
-                  omega
-                      (arith, c.emit_repeated.ensures.nodes, c.requires.values),
-                ),
-              ),
-            ),
-          ),
-        ),
-      ),
-    )
+    let count = length c.emit_repeated.new.rules.up in
+    let is : process_of c.args.s.now ≡ repeating s = ap process_of c.in-Repeat.is ∙ ap (λ b. repeating (process_of b)) (sym c.deref-in-Repeat-2.ensures) in
+    let typed : IsProcess p.channels p.vars s = subst (IsProcess p.channels p.vars) is c.requires.process in
+    let asked : root_request p ≤ from + 1 = omega (arith, c.requires.asked, c.requires.before) in
+    let before : from + 1 < from + 2 = omega arith in
+    let room : from + 2 + size_of p s ≤ count = omega (arith, ap (size_of p) is, c.emit_repeated.ensures.nodes, c.requires.own) in
+    let values : length c.args.first.now ≡ count = omega (arith, c.emit_repeated.ensures.nodes, c.requires.values) in
+    (search (rules, the_lemmas, get_or_read), (c.requires.channels, (c.requires.vars, (typed, (asked, (before, (room, values)))))))
 
 pub statement-returns-in_ok-statement-in-Repeat-clause-made : goal.statement-returns-in_ok-statement-in-Repeat-clause-made
 statement-returns-in_ok-statement-in-Repeat-clause-made t c =
