@@ -1,25 +1,14 @@
 -- Programs that are covered, by a test that decides it for programs without parallel composition.
-use Rattle.std.proofs.Common.{◌≡◌, ℕ, suc, Bool, true, false, List, [], ◌∷◌, refl, inl, inr}
-use Rattle.std.specs.Prelude.{not, ◌&&◌, ◌||◌}
+use Rattle.std.proofs.Common.{◌≡◌, Bool, true, false, [], ◌∷◌, refl, inl, inr}
+use Rattle.std.specs.Prelude.{not, ◌&&◌}
 use Rattle.chp_base.specs.declared.span.Span.{Span}
-use Rattle.chp_base.specs.declared.channel.Channel.{Channel}
-use Rattle.chp_base.specs.declared.channel.Kind.{Kind}
 use Rattle.chp_base.specs.declared.channel.Kind.TheVariants.{In, Out, Chan}
 use Rattle.chp_syntax.specs.declared.tree.Op.TheVariants.{Add, Lt}
 use Rattle.width_check.specs.Processes.{constant, reading, chained, compared, no_operations, and_operation, Process, skipping, assigning, sending, receiving, in_turn, side_by_side, choosing, repeating, Processes, no_members, and_member, TypedProgram}
 use Rattle.width_check.specs.Reads.{reads}
 use Rattle.width_check.specs.Sharing.{Occurrence, Parallel, ParallelInside}
-use Rattle.circuit_places.specs.Covered.{IsCovered, AreCovered, talks_on, InternalUnused, Covered}
+use Rattle.circuit_places.specs.Covered.{IsCovered, AreCovered, Covered}
 use Rattle.circuit_places.proofs.RailLemmas.{fst_true, snd_true}
-
--- at the other end of each channel that is used is the environment
-abbrev is_open : Kind → Bool
-is_open Chan = false
-is_open _ = true
-
-abbrev all_open : ℕ → List Channel → Process → Bool
-all_open n [] p = true
-all_open n (c ∷ cs) p = (is_open c.kind || not (talks_on n p)) && all_open (suc n) cs p
 
 -- one process alone, of covered statements
 abbrev mutual
@@ -39,17 +28,6 @@ abbrev mutual
 plain : (b : Bool) → not b ≡ true → b ≡ false
 plain true h = absurd (cc h)
 plain false h = refl
-
-open_kind : (k : Kind) (used : Bool) → (is_open k || not used) ≡ true → k ≡ Chan → used ≡ false
-open_kind Chan used h e = plain used h
-open_kind In used h e = absurd (cc e)
-open_kind Out used h e = absurd (cc e)
-
-opens : (n : ℕ) (cs : List Channel) (p : Process) → all_open n cs p ≡ true → InternalUnused n cs p
-opens n [] p h = tt
-opens n (c ∷ cs) p h =
-    let here = is_open c.kind || not (talks_on n p) in
-    (open_kind c.kind (talks_on n p) (fst_true here (all_open (suc n) cs p) h), opens (suc n) cs p (snd_true here (all_open (suc n) cs p) h))
 
 mutual
   covers : (p : Process) → is_alone p ≡ true → IsCovered p
@@ -82,18 +60,15 @@ mutual
   all_alone (and_member p more) h a b (inl x) = alone p (fst_true (is_alone p) (are_alone more) h) a b x
   all_alone (and_member p more) h a b (inr x) = all_alone more (snd_true (is_alone p) (are_alone more) h) a b x
 
-pub decided : (P : TypedProgram) → (all_open 0 P.channels P.body && is_alone P.body) ≡ true → Covered P
-decided P h =
-    let single = snd_true (all_open 0 P.channels P.body) (is_alone P.body) h in
-    record {
-      channels = opens 0 P.channels P.body (fst_true (all_open 0 P.channels P.body) (is_alone P.body) h);
-      body = covers P.body single;
-      sharing = record {
-        variables = λ a b x c. alone P.body single a b x;
-        sends = λ a b x c. alone P.body single a b x;
-        receives = λ a b x c. alone P.body single a b x;
-      };
-    }
+pub decided : (P : TypedProgram) → is_alone P.body ≡ true → Covered P
+decided P h = record {
+  body = covers P.body h;
+  sharing = record {
+    variables = λ a b x c. alone P.body h a b x;
+    sends = λ a b x c. alone P.body h a b x;
+    receives = λ a b x c. alone P.body h a b x;
+  };
+}
 
 abbrev at : Span
 at = record { from = 0; to = 1 }

@@ -19,6 +19,7 @@ pub mod Exchange
 pub mod Fires
 pub mod Hears
 pub mod Rest
+pub mod Held
 pub mod Writing
 pub mod BitTable
 pub mod Blocks
