@@ -1,5 +1,6 @@
 pub mod Examples
 pub mod CoveredExamples
+pub mod InternalExamples
 pub mod RailLemmas
 pub mod Trees
 pub mod Places
