@@ -82,7 +82,7 @@ meets_covered : Covered meets
 meets_covered = decided meets refl
 
 abbrev met : Whole meets.body
-met = driven meets (nothing ∷ []) (all_nodes meets) 60 (first_of meets)
+met = driven meets (nothing ∷ []) (all_nodes meets) 39 (first_of meets)
 
 -- the value passes once, it is stored, done rises, and nothing is left to move
 it_passes : met.histories ≡ (1 ∷ []) ∷ []
@@ -113,7 +113,7 @@ merges_covered : Covered merges
 merges_covered = decided merges refl
 
 abbrev merged_at_last : Whole merges.body
-merged_at_last = driven merges (nothing ∷ takes All ∷ []) (all_nodes merges) 160 (first_of merges)
+merged_at_last = driven merges (nothing ∷ takes All ∷ []) (all_nodes merges) 108 (first_of merges)
 
 both_pass : merged_at_last.histories ≡ (1 ∷ 0 ∷ []) ∷ (1 ∷ []) ∷ []
 both_pass = refl
@@ -142,7 +142,7 @@ abbrev relay_script : List OfferValue
 relay_script = gives (1 ∷ 0 ∷ []) ∷ nothing ∷ takes All ∷ []
 
 abbrev relayed : Whole relays.body
-relayed = driven relays relay_script (all_nodes relays) 200 (first_of relays)
+relayed = driven relays relay_script (all_nodes relays) 128 (first_of relays)
 
 all_relayed : relayed.histories ≡ (1 ∷ 0 ∷ []) ∷ (1 ∷ 0 ∷ []) ∷ (1 ∷ 0 ∷ []) ∷ []
 all_relayed = refl
@@ -161,7 +161,7 @@ alone_covered : Covered alone
 alone_covered = decided alone refl
 
 abbrev stuck : Whole alone.body
-stuck = driven alone (nothing ∷ []) (all_nodes alone) 20 (first_of alone)
+stuck = driven alone (nothing ∷ []) (all_nodes alone) 4 (first_of alone)
 
 none_passes : stuck.histories ≡ [] ∷ []
 none_passes = refl
