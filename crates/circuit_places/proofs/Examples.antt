@@ -28,7 +28,7 @@ abbrev first_moved : (P : TypedProgram) → List OfferValue → Whole P.body →
 first_moved P script x [] = x
 first_moved P script x (n ∷ ns) = if enabled P script x n then moved P x n else first_moved P script x ns
 
-abbrev driven : (P : TypedProgram) → List OfferValue → List (Node P.body) → ℕ → Whole P.body → Whole P.body
+abbrev pub driven : (P : TypedProgram) → List OfferValue → List (Node P.body) → ℕ → Whole P.body → Whole P.body
 driven P script nodes zero x = x
 driven P script nodes (suc n) x = driven P script nodes n (first_moved P script x nodes)
 

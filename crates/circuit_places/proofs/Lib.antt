@@ -1,5 +1,6 @@
 pub mod Examples
 pub mod CoveredExamples
+pub mod InternalExamples
 pub mod RailLemmas
 pub mod Trees
 pub mod Places
@@ -19,6 +20,7 @@ pub mod Exchange
 pub mod Fires
 pub mod Hears
 pub mod Rest
+pub mod Held
 pub mod Writing
 pub mod BitTable
 pub mod Blocks

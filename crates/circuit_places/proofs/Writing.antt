@@ -224,7 +224,7 @@ mutual
   writing_deaf ack now c t rests e x = refl
   writing_deaf ack now c t (at_skip m h) e x = refl
 
-  branches_writing_deaf : {members : Processes} {ks : List Mode} (ack now : Line → Bool) (c : ℕ) → OneTurned ack now (of_channel c)
+  pub branches_writing_deaf : {members : Processes} {ks : List Mode} (ack now : Line → Bool) (c : ℕ) → OneTurned ack now (of_channel c)
       → (b : BranchesAt members ks) → (branches_shown b).listen c ≡ false → (x : ℕ) → branches_writing now b x ≡ branches_writing ack b x
   branches_writing_deaf ack now c t no_more e x = refl
   branches_writing_deaf ack now c t (and_at g b) e x =

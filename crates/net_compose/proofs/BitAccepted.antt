@@ -254,7 +254,6 @@ bit_typed name at b is = record {
 
 pub bit_covered : (name : List ℕ) (at : Span) (b : Bool) → Covered (bit_program name at b)
 bit_covered name at b = record {
-  channels = (λ e. absurd (cc e), tt);
   body = tt;
   sharing = record { variables = λ a b apart. absurd apart; sends = λ a b apart. absurd apart; receives = λ a b apart. absurd apart };
 }

@@ -93,7 +93,6 @@ idle_typed = record {
 
 idle_covered : Covered idle
 idle_covered = record {
-  channels = tt;
   body = tt;
   sharing =
       record { variables = λ a b apart. absurd apart; sends = λ a b apart. absurd apart; receives = λ a b apart. absurd apart };
