@@ -26,7 +26,7 @@ use Rattle.circuit_places.proofs.Hears.{Hearing}
 use Rattle.circuit_places.proofs.Fires.{Sent, passes_of}
 use Rattle.circuit_places.proofs.Writing.{OneTurned, guarded_writing_falls, guarded_writing_deaf}
 use Rattle.circuit_places.proofs.Sites.{is_nil, any_not_nil, same_takers, guarded_taken}
-use Rattle.circuit_places.proofs.System.{Good, clean_of, can, driven, heard_turns, sent_turns, root_left, Passing, Arrival, Lands, Arrives, Exchanges, Acks, taken_out, taken_in, taken_over, let_go, Freed, Next, Fitted, takes_of, may_low, may_high, passed_far}
+use Rattle.circuit_places.proofs.System.{Good, clean_of, can, driven, heard_turns, sent_turns, root_left, Passing, Arrival, Lands, Arrives, Exchanges, Acks, taken_out, taken_in, taken_over, released, Freed, Next, Fitted, takes_of, may_low, may_high, passed_far}
 use Rattle.circuit_places.proofs.LineMoves.{same_channel, talks, gives_of, drives_up, brings_below, SeenChanged, sent_rises, line_fires, line_falls, line_stays}
 
 -- the environment reads the acknowledge and the rails of the channel alone
@@ -252,7 +252,7 @@ module _ (P : TypedProgram) (script : List OfferValue) {m : Mode} {g : GuardedAt
     in_falls high gone =
         let lows = good.neutral k heard high gone in
         let x = line_falls P script hs good (of_channel k) acked ack_is refl high lows free in
-        acked_by x there (let_go heard high (line_stays P script hs good (of_channel k) acked ack_is refl high lows free)
+        acked_by x there (released heard high (line_stays P script hs good (of_channel k) acked ack_is refl high lows free)
         (λ z y. guarded_writing_falls (line_ack P w) (line_ack P acked) (of_channel k) one_turned high g z y))
         (λ z y. (refl, inl (guarded_writing_falls (line_ack P w) (line_ack P acked) (of_channel k) one_turned high g z y))) (quiet_high high lows)
       where

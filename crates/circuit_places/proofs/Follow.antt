@@ -20,7 +20,7 @@ use Rattle.circuit_places.proofs.Left.{Act, skips, goes_on, Follows}
 use Rattle.circuit_places.proofs.Flow.{cases}
 use Rattle.circuit_places.proofs.LineNames.{self_number, same_number}
 use Rattle.circuit_places.proofs.Fires.{Passes}
-use Rattle.circuit_places.proofs.System.{Passing, Others, Arrival, Lands, Arrives, Exchanges, Acks, taken_out, taken_in, taken_over, let_go, Freed, Rises, Stored, no_store, cleared, stores, takes_in, Moves, Fitted, takes_of, may_low}
+use Rattle.circuit_places.proofs.System.{Passing, Others, Arrival, Lands, Arrives, Exchanges, Acks, taken_out, taken_in, taken_over, released, Freed, Rises, Stored, no_store, cleared, stores, takes_in, Moves, Fitted, takes_of, may_low}
 use Rattle.circuit_places.proofs.Arriving.{Arriving, next_value}
 
 -- what is left of an offer when so many values have passed
@@ -269,7 +269,8 @@ module _ {P : TypedProgram} {script : List OfferValue} {most : ℕ} {hs : List (
     arrival = an_arrival (ap (λ x. statement_at x a.act.at) r.term ∙ a.act.stands) here_rest
 
     here_long : completed here_histories k ≡ suc (completed hs k)
-    here_long = ap length (get_or-set_same hs k (history_at hs k ++ v ∷ []) [] (let g : k < length hs = subst (λ (n : ℕ). k < n) (sym r.as_long) a.lands.within in g))
+    here_long = ap length (get_or-set_same hs k (history_at hs k ++ v ∷ []) []
+        (let g : k < length hs = subst (λ (n : ℕ). k < n) (sym r.as_long) a.lands.within in g))
         ∙ one_longer (history_at hs k) v
 
     rest_here : (c : ℕ) → offer_at here_rests c ≡ left_over (offer_at script c) (completed here_histories c)
@@ -316,11 +317,14 @@ module _ {P : TypedProgram} {script : List OfferValue} {most : ℕ} {hs : List (
     communication = a_communication a.act.other (ap (λ x. statement_at x a.act.at) r.term ∙ a.act.gives)
         (ap (λ x. statement_at x a.act.other) r.term ∙ a.act.takes) (r.rests k ∙ none_left (completed hs k))
 
-    same_rest : (c : ℕ) → offer_at r.to.rests c ≡ left_over (offer_at script c) (completed (set hs k (history_at hs k ++ sent ∷ [])) c)
+    abbrev longer : List (List ℕ)
+    longer = set hs k (history_at hs k ++ sent ∷ [])
+
+    same_rest : (c : ℕ) → offer_at r.to.rests c ≡ left_over (offer_at script c) (completed longer c)
     same_rest c = r.rests c ∙ cases (c == k)
         (λ (e : (c == k) ≡ true).
-        subst (λ (i : ℕ). left_over (offer_at script i) (completed hs i) ≡ left_over (offer_at script i) (completed (set hs k (history_at hs k ++ sent ∷ [])) i))
-        (sym (same_number c k e)) (none_left (completed hs k) ∙ sym (none_left (completed (set hs k (history_at hs k ++ sent ∷ [])) k))))
+        subst (λ (i : ℕ). left_over (offer_at script i) (completed hs i) ≡ left_over (offer_at script i) (completed longer i))
+        (sym (same_number c k e)) (none_left (completed hs k) ∙ sym (none_left (completed longer k))))
         (λ (e : (c == k) ≡ false).
         let ne : c ≡ k → ⊥ = λ (same : c ≡ k). absurd (cc (e, ap (λ x. x == k) same, self_number k)) in
         sym (ap (λ h. left_over (offer_at script c) (length h)) (get_or-set_other hs k c (history_at hs k ++ sent ∷ []) [] ne)))
@@ -426,7 +430,7 @@ acks : {P : TypedProgram} {script : List OfferValue} {most : ℕ} {hs : List (Li
     → Followed P script (suc most) (if w.ack k then hs else passed hs k (value_on (channel_width P.channels k) (w.rail (of_channel k)))) y w.bit after
 acks w busy after fitted r y k e brought (taken_out out move free) = acknowledged w fitted r w.bit after (λ x f. (refl, free x f)) k y (e out)
     (w.ack k) refl move
-acks {P = P} {script = script} {most = most} {hs = hs} w busy after fitted r y k e brought (let_go heard high same free) =
+acks {P = P} {script = script} {most = most} {hs = hs} w busy after fitted r y k e brought (released heard high same free) =
     subst (λ (b : Bool). Followed P script (suc most) (if b then hs else passed hs k
     (value_on (channel_width P.channels k) (w.rail (of_channel k)))) y w.bit after) (sym high) (stays r w.bit after (λ x f. (refl, free x f)) y same)
 acks {P = P} {script = script} {most = most} {hs = hs} w busy after fitted r y k e brought (taken_in heard alone a) =

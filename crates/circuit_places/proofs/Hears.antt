@@ -88,9 +88,11 @@ module _ (P : TypedProgram) (env : Seen) (c : Line) (x y : Shown) (a b e f : ℕ
 module _ (P : TypedProgram) (env now : Seen) (c : Line) (low : env.ack c ≡ false) (high : now.ack c ≡ true) where
   pub port_hears : (d x : ℕ) (at to : Span) (m : Mode) (l : Bool) (q : Rails) → port_may m l ≡ true → PortMeets P d x → PortFits d x m l q env
       → same_line (of_channel d) c ≡ true → l ≡ true
-      → One (Hearing P env c (port_shown d x l q) (λ z. (x == z) && under_way m (env.ack (of_channel d))) (λ z. (x == z) && under_way m (now.ack (of_channel d))))
+      → One (Hearing P env c (port_shown d x l q) (λ z. (x == z) && under_way m (env.ack (of_channel d)))
+      (λ z. (x == z) && under_way m (now.ack (of_channel d))))
       (waits m (env.ack (of_channel d)) (active (receiving d at x to))) (waits m (now.ack (of_channel d)) (active (receiving d at x to)))
-  port_hears d x at to m l q h meets f z kept = by m h f (ap env.ack (same_line_is (of_channel d) c z) ∙ low) (ap now.ack (same_line_is (of_channel d) c z) ∙ high)
+  port_hears d x at to m l q h meets f z kept =
+      let on = same_line_is (of_channel d) c z in by m h f (ap env.ack on ∙ low) (ap now.ack on ∙ high)
     where
       other : (m : Mode) (z : ℕ) → (z ≡ x → ⊥) → (b : Bool) → ((x == z) && b) ≡ false
       other m z ne b = cases (x == z)

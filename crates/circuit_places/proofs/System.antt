@@ -155,7 +155,7 @@ pub data Acks (P : TypedProgram) (busy after : ℕ → Bool) (k : ℕ) (w : Wire
       → Acks P busy after k w t y
   taken_in : is_heard (kind_at P.channels k) ≡ true → is_merged P (of_channel k) ≡ false → Arrives P busy after k w t y → Acks P busy after k w t y
   taken_over : is_heard (kind_at P.channels k) ≡ true → is_merged P (of_channel k) ≡ true → Exchanges P busy after k w t y → Acks P busy after k w t y
-  let_go : is_heard (kind_at P.channels k) ≡ true → w.ack k ≡ true → y ≡ t → ((z : ℕ) → after z ≡ false → busy z ≡ false) → Acks P busy after k w t y
+  released : is_heard (kind_at P.channels k) ≡ true → w.ack k ≡ true → y ≡ t → ((z : ℕ) → after z ≡ false → busy z ≡ false) → Acks P busy after k w t y
 
 abbrev pub Moves : (P : TypedProgram) → Wires → (busy after : ℕ → Bool) → Term → Term → Node P.body → Type 0
 Moves P w busy after t y (ack_node k) = Acks P busy after k w t y
