@@ -1,7 +1,9 @@
 //! The composition of a program's circuit.
 #![tactic(auto)]
 
-mod bit;
+mod body;
+mod compose;
+mod declared;
 mod elements;
 mod ends;
 mod first;
@@ -11,10 +13,10 @@ mod guards;
 pub mod laws;
 mod merges;
 mod names;
-mod plain;
+mod net;
 mod site;
+mod sorted;
 mod through;
-mod translate;
 mod wires;
 
-pub use translate::{PlainNetError, translate_plain};
+pub use net::{NetError, translate};
