@@ -1,6 +1,6 @@
 -- The rules of channels and variables, one after another.
 use Rattle.std.proofs.Common.{◌≡◌, ◌≢◌, ℕ, zero, suc, ◌+◌, ◌-◌, ◌*◌, ◌<◌, ◌≤◌, List, [], ◌∷◌, ◌++◌, length, get_or, drop, map, All, refl, sym, ap, subst, ◌∙◌, arith}
-use Rattle.std.specs.Prelude.{slice_index_or, replicate, Result, Ok, Err, OnOk}
+use Rattle.std.specs.Prelude.{replicate}
 use Rattle.std.specs.List.{flat_map}
 use Rattle.std.specs.declared.alloc.Global.{Global}
 use Rattle.std.specs.declared.vec.Vec.{Vec}
@@ -102,10 +102,6 @@ module _ (cs declared : List Channel) (k : ℕ) (c : Channel) (same : cs ≡ dec
 
 pub var_wide : (vs declared : List Var) (x : ℕ) (v : Var) → vs ≡ declared → x < length declared → v ≡ get_or vs x v → v.width ≡ var_width declared x
 var_wide vs declared x v same within is = var_found declared x v within (is ∙ ap (λ us. get_or us x v) same)
-
-pub on_ok : {X E P Q : Type 0} (r : Result X E) → OnOk r P → (P → Q) → OnOk r Q
-on_ok (Ok x) h f = f h
-on_ok (Err e) h f = tt
 
 pub block_same : (from start w width : ℕ) (b bits : List (List Pair)) (old : RulesValue) → from ≡ start → w ≡ width → b ≡ bits
     → with_owned (owned_from from (variable_rules w from b)) old ≡ with_owned (owned_from start (variable_rules width start bits)) old

@@ -37,3 +37,6 @@ pub mod SitesOwn
 pub mod Sorting
 pub mod DeclaredRules
 pub mod Composed
+pub mod BodyWritten
+pub mod RailsApart
+pub mod SelectionReady

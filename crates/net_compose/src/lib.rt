@@ -1,7 +1,9 @@
 //! The composition of a program's circuit.
 #![tactic(auto)]
 
+mod arms;
 mod body;
+mod choice;
 mod compose;
 mod declared;
 mod elements;
@@ -11,9 +13,11 @@ mod firsts;
 mod formula;
 mod guards;
 pub mod laws;
+mod leaves;
 mod merges;
 mod names;
 mod net;
+mod select;
 mod site;
 mod sorted;
 mod through;

@@ -4,7 +4,7 @@ use Rattle.width_check.specs.View.{process_of}
 use Rattle.handshake_expand.specs.Layout.{body_from}
 use Rattle.handshake_expand.specs.Answers.{answer_of}
 use Rattle.net_compose.specs.Translation.{body_answer}
-use Rattle.net_compose.proofs.DeclaredRules.{on_ok}
+use Rattle.net_compose.proofs.BodyWritten.{on_ok}
 use Rattle.net_compose.proofs.Composed.{root_ports, root_wrote, body_start, root_answer}
 use Rattle.net_compose.proofs.compose.emit_root.Goals as goal
 
@@ -20,7 +20,8 @@ pub returns : goal.returns
 returns c =
     let p = program_of c.args.program.now in
     let start = body_start p (process_of c.body-body.result.now) c.nodes-count.result c.statement_nodes.result (ap process_of c.body-body.ensures.body) (c.nodes-count.ensures ∙ c.requires) c.nodes-count.type_inv c.statement_nodes.ensures in
-    on_ok c.emit_q.result c.emit_q.ensures.made
+    on_ok c.emit_q.result
     (root_wrote p c.answer_node.result (c.nodes-count.result - c.statement_nodes.result) c.body-body.ensures.typed.body_is start
     (root_answer p (process_of c.body-body.result.now) (c.nodes-count.result - c.statement_nodes.result) c.answer_node.result (ap process_of c.body-body.ensures.body) start c.answer_node.ensures)
     c.args.rules.now c.emit_q.new.rules)
+    c.emit_q.ensures.made

@@ -2,7 +2,8 @@ use Rattle.std.proofs.Common.{◌≡◌, ◌+◌, ◌*◌, ◌∙◌, length, ge
 use Rattle.width_check.specs.Typed.{program_of}
 use Rattle.handshake_expand.specs.Layout.{body_from, nodes_of}
 use Rattle.net_compose.specs.RailLists.{rails_in}
-use Rattle.net_compose.proofs.DeclaredRules.{channel_starts, each_wide, each_behind, each_within, channel_here, inputs_within, inputs_apart, in_made, out_made, chan_made, on_ok}
+use Rattle.net_compose.proofs.BodyWritten.{on_ok}
+use Rattle.net_compose.proofs.DeclaredRules.{channel_starts, each_wide, each_behind, each_within, channel_here, inputs_within, inputs_apart, in_made, out_made, chan_made}
 use Rattle.net_compose.proofs.declared.emit_channel.Goals as goal
 
 pub bounds-firsts-chan : goal.bounds-firsts-chan
@@ -132,21 +133,24 @@ returns-in_ok-emit_silent-in-In-clause-made c =
     let p = program_of c.args.program.now in
     let h = channel_here p c.body-kept.ensures.typed c.args.sorted.now c.requires.sorted c.args.chan c.requires.within c.args.firsts.now c.requires.firsts c.channels-channels.result.now c.index-channels-chan.result
     c.channels-channels.ensures c.index-channels-chan.is c.index.result.now c.deref-sent.result.now c.index.ensures c.deref-sent.ensures.value c.index-2.result.now c.deref-taken.result.now c.index-2.ensures c.deref-taken.ensures.value in
-    on_ok c.emit_or.result c.emit_or.ensures.made
+    on_ok c.emit_or.result
     (λ made. in_made p c.args.chan (get_or c.args.firsts.now c.args.chan 0) c.index-channels-chan.result.width c.index-channels-chan.result.kind c.deref-sent.result.now c.deref-taken.result.now h (2 * c.from-in-In.result) (get_or c.args.firsts.now c.args.chan 0 + 2 * c.from.result) c.args.rules.now c.emit_silent.new.rules c.emit_or.new.rules c.in-In.is (omega (arith, c.from-in-In.ensures)) (omega (arith, c.from.ensures)) c.in_ok-emit_silent-in-In.ensures.made made)
+    c.emit_or.ensures.made
 
 pub returns-in_ok-emit_rails-in-Out-clause-made : goal.returns-in_ok-emit_rails-in-Out-clause-made
 returns-in_ok-emit_rails-in-Out-clause-made c =
     let p = program_of c.args.program.now in
     let h = channel_here p c.body-kept.ensures.typed c.args.sorted.now c.requires.sorted c.args.chan c.requires.within c.args.firsts.now c.requires.firsts c.channels-channels.result.now c.index-channels-chan.result
     c.channels-channels.ensures c.index-channels-chan.is c.index.result.now c.deref-sent.result.now c.index.ensures c.deref-sent.ensures.value c.index-2.result.now c.deref-taken.result.now c.index-2.ensures c.deref-taken.ensures.value in
-    on_ok c.emit_or-in-Out.result c.emit_or-in-Out.ensures.made
+    on_ok c.emit_or-in-Out.result
     (λ made. out_made p c.args.chan (get_or c.args.firsts.now c.args.chan 0) c.index-channels-chan.result.width c.index-channels-chan.result.kind c.deref-sent.result.now c.deref-taken.result.now h (get_or c.args.firsts.now c.args.chan 0 + 2 * c.from.result) c.args.rules.now c.emit_rails.new.rules c.emit_or-in-Out.new.rules c.in-Out.is (omega (arith, c.from.ensures)) c.in_ok-emit_rails-in-Out.ensures.made made)
+    c.emit_or-in-Out.ensures.made
 
 pub returns-in_ok-emit_rails-in-Chan-clause-made : goal.returns-in_ok-emit_rails-in-Chan-clause-made
 returns-in_ok-emit_rails-in-Chan-clause-made c =
     let p = program_of c.args.program.now in
     let h = channel_here p c.body-kept.ensures.typed c.args.sorted.now c.requires.sorted c.args.chan c.requires.within c.args.firsts.now c.requires.firsts c.channels-channels.result.now c.index-channels-chan.result
     c.channels-channels.ensures c.index-channels-chan.is c.index.result.now c.deref-sent.result.now c.index.ensures c.deref-sent.ensures.value c.index-2.result.now c.deref-taken.result.now c.index-2.ensures c.deref-taken.ensures.value in
-    on_ok c.emit_or-in-Chan.result c.emit_or-in-Chan.ensures.made
+    on_ok c.emit_or-in-Chan.result
     (λ made. chan_made p c.args.chan (get_or c.args.firsts.now c.args.chan 0) c.index-channels-chan.result.width c.index-channels-chan.result.kind c.deref-sent.result.now c.deref-taken.result.now h (get_or c.args.firsts.now c.args.chan 0 + 2 * c.from.result) c.args.rules.now c.emit_rails-in-Chan.new.rules c.emit_or-in-Chan.new.rules c.in-Chan.is (omega (arith, c.from.ensures)) c.in_ok-emit_rails-in-Chan.ensures.made made)
+    c.emit_or-in-Chan.ensures.made

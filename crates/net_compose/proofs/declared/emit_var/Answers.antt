@@ -5,9 +5,10 @@ use Rattle.width_check.specs.Typing.{var_width}
 use Rattle.net_compose.specs.RailLists.{rails_in, bits_in}
 use Rattle.std.specs.Prelude.{slice_index_or}
 use Rattle.std.proofs.Common.{ap, length, ◌+◌}
+use Rattle.net_compose.proofs.BodyWritten.{on_ok}
 use Rattle.net_compose.proofs.EndsReady.{var_some}
 use Rattle.net_compose.proofs.SitesOwn.{AreRails}
-use Rattle.net_compose.proofs.DeclaredRules.{var_wide, var_at_most, var_start, var_starts, block_before_body, each_wide, each_behind, each_within, written_bits, written_are, block_same, on_ok}
+use Rattle.net_compose.proofs.DeclaredRules.{var_wide, var_at_most, var_start, var_starts, block_before_body, each_wide, each_behind, each_within, written_bits, written_are, block_same}
 use Rattle.net_compose.proofs.declared.emit_var.Goals as goal
 
 pub bounds-firsts-var : goal.bounds-firsts-var
@@ -67,5 +68,5 @@ returns-clause-made c =
     let wide = var_wide c.vars-vars.result.now p.vars c.args.var c.index-vars-var.result c.vars-vars.ensures c.requires.within c.index-vars-var.is in
     let start = var_start p c.args.firsts.now c.args.var 0 c.requires.firsts c.requires.within in
     let bits = ap bits_in c.deref.ensures.value ∙ written_bits p c.body-kept.ensures.typed c.args.sorted.now c.requires.sorted c.args.var c.index-written.result.now c.requires.within c.index-written.ensures in
-    on_ok c.emit_block.result c.emit_block.ensures.made
-    (λ made. made ∙ block_same _ (var_from p c.args.var) _ (var_width p.vars c.args.var) _ _ c.args.rules.now start wide bits)
+    on_ok c.emit_block.result (λ made. made ∙ block_same _ (var_from p c.args.var) _ (var_width p.vars c.args.var) _ _ c.args.rules.now start wide bits)
+    c.emit_block.ensures.made
