@@ -1,22 +1,21 @@
 -- The parts of a program's circuit make all of its rules, and these with names, first values and wires its net.
-use Rattle.std.proofs.Common.{◌≡◌, ◌≢◌, ℕ, zero, suc, ◌+◌, ◌-◌, ◌*◌, ◌<◌, ◌≤◌, Bool, true, false, List, [], ◌∷◌, ◌++◌, length, get_or, take, drop, map, All, refl, sym, ap, subst, ◌∙◌, arith, append_assoc}
-use Rattle.std.specs.Prelude.{replicate, slice_set, fold, Option, None}
+use Rattle.std.proofs.Common.{◌≡◌, ◌≢◌, ℕ, zero, suc, ◌+◌, ◌-◌, ◌*◌, ◌<◌, ◌≤◌, Bool, true, false, List, [], ◌∷◌, ◌++◌, length, get_or, take, drop, refl, sym, ap, subst, ◌∙◌, arith, append_assoc}
+use Rattle.std.specs.Prelude.{replicate, slice_set, None}
 use Rattle.std.proofs.lemmas.List.{drop_more, drop_all, take_at, length-append}
 use Rattle.std.proofs.lemmas.List.Elements.{All-nil, All-cons}
 use Rattle.std.proofs.lemmas.List.Sums.{fold-append}
 use Rattle.prs_core.specs.declared.wires.Wires.{Wires}
-use Rattle.prs_core.specs.Nets.{RulesValue, NodeRules, NetValue, IsNet, IsRules, with_rules, net_of}
+use Rattle.prs_core.specs.Nets.{RulesValue, NodeRules, IsNet, with_rules, net_of}
 use Rattle.prs_core.specs.Pairs.{no_rules}
 use Rattle.prs_core.specs.Parts.{owned_from, with_owned}
 use Rattle.width_check.specs.declared.typed.Var.{Var}
 use Rattle.width_check.specs.Processes.{Process, TypedProgram}
-use Rattle.width_check.specs.Typing.{IsProcess, IsTyped}
-use Rattle.handshake_expand.specs.Layout.{capped, block_size, blocks_before, go_node, done_node, channel_from, vars_from, var_from, root_request, root_latch, body_from, nodes_of, size_of}
+use Rattle.width_check.specs.Typing.{IsProcess}
+use Rattle.handshake_expand.specs.Layout.{capped, blocks_before, go_node, done_node, vars_from, var_from, root_request, root_latch, body_from, nodes_of, size_of}
 use Rattle.handshake_expand.specs.Answers.{answer_of}
 use Rattle.handshake_expand.specs.Named.{node_names}
 use Rattle.handshake_expand.proofs.Ranges.{answer_within}
 use Rattle.handshake_expand.proofs.Rows.{var_found}
-use Rattle.cell_sequence.specs.declared.emit.QPorts.{QPorts}
 use Rattle.cell_sequence.specs.Sequence.{q_child, q_latch, q_next, with_q, IsPorts}
 use Rattle.cell_variable.specs.Variables.{high_first}
 use Rattle.net_compose.specs.Translation.{rules_of, channels_rules, vars_rules, all_rules, composed, body_answer, vars_high, in_body, hidden_high, first_values, wires_from, translation}

@@ -1,7 +1,6 @@
 -- The rules of channels and variables, one after another.
 use Rattle.std.proofs.Common.{◌≡◌, ◌≢◌, ℕ, zero, suc, ◌+◌, ◌-◌, ◌*◌, ◌<◌, ◌≤◌, List, [], ◌∷◌, ◌++◌, length, get_or, drop, map, All, refl, sym, ap, subst, ◌∙◌, arith}
 use Rattle.std.specs.Prelude.{replicate}
-use Rattle.std.specs.List.{flat_map}
 use Rattle.std.specs.declared.alloc.Global.{Global}
 use Rattle.std.specs.declared.vec.Vec.{Vec}
 use Rattle.std.proofs.lemmas.List.{drop_all, get_or-map, length-replicate}
@@ -9,13 +8,13 @@ use Rattle.std.proofs.lemmas.List.FromFn.{get_or-map-range_with_len, length-map-
 use Rattle.chp_base.specs.declared.channel.Channel.{Channel}
 use Rattle.chp_base.specs.declared.channel.Kind.{Kind}
 use Rattle.chp_base.specs.declared.channel.Kind.TheVariants.{In, Out, Chan}
-use Rattle.prs_core.specs.Nets.{RulesValue, NodeRules, with_rules}
+use Rattle.prs_core.specs.Nets.{RulesValue, with_rules}
 use Rattle.prs_core.specs.Pairs.{Pair, no_rules, rails_of, or_of}
 use Rattle.prs_core.specs.Parts.{owned_from, with_owned}
 use Rattle.width_check.specs.declared.typed.Var.{Var}
 use Rattle.width_check.specs.Processes.{TypedProgram}
 use Rattle.width_check.specs.Typing.{channel_width, kind_at, var_width, IsTyped, IsDeclaredVar}
-use Rattle.handshake_expand.specs.Layout.{block_size, wires_size, wires_before, blocks_before, channel_from, vars_from, var_from, root_request, body_from, nodes_of}
+use Rattle.handshake_expand.specs.Layout.{block_size, wires_size, wires_before, blocks_before, channel_from, vars_from, var_from, body_from, nodes_of}
 use Rattle.handshake_expand.proofs.NameLists.{no_wires_before, no_blocks_before}
 use Rattle.handshake_expand.proofs.Rows.{channel_found, var_found}
 use Rattle.cell_select.specs.PortNodes.{pairs_of}
@@ -24,13 +23,12 @@ use Rattle.net_compose.specs.declared.sorted.Sorted.{Sorted}
 use Rattle.net_compose.specs.Begins.{channel_firsts, var_firsts}
 use Rattle.net_compose.specs.EverySite.{every_site}
 use Rattle.net_compose.specs.RailLists.{rails_in, bits_in}
-use Rattle.net_compose.specs.SortedSites.{sent_on, taken_on, written_to, AreSorted}
+use Rattle.net_compose.specs.SortedSites.{AreSorted}
 use Rattle.net_compose.specs.Translation.{in_body, send_site, receive_site, write_site, rail_rules, channel_rules, channels_rules, vars_rules}
 use Rattle.net_compose.proofs.FlatBlocks.{blocks_below, length-variable_rules}
 use Rattle.net_compose.proofs.FlatWires.{wires_below}
-use Rattle.net_compose.proofs.EndsReady.{var_some}
 use Rattle.net_compose.proofs.ReadBack.{pairs_again}
-use Rattle.net_compose.proofs.SitesOwn.{IsSite, AreRails, all_own, sent_own, taken_own, written_own}
+use Rattle.net_compose.proofs.SitesOwn.{AreRails, all_own, sent_own, taken_own, written_own}
 use Rattle.net_compose.proofs.SitesPicked.{sends_picked, takes_picked, writes_picked}
 use Rattle.net_compose.proofs.Sizes.{wires_length, rails_length}
 use Rattle.net_compose.proofs.Writes.{then_wrote, left_to_write}

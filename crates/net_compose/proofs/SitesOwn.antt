@@ -1,14 +1,14 @@
 -- The sites of a program: their channels and variables are declared, and their rails and nodes are among the body's.
-use Rattle.std.proofs.Common.{◌≡◌, ℕ, zero, suc, ◌+◌, ◌*◌, ◌<◌, ◌≤◌, ◌==◌, Bool, true, false, List, [], ◌∷◌, ◌++◌, length, get_or, map, All, refl, sym, ap, subst, ◌∙◌, arith}
+use Rattle.std.proofs.Common.{◌≡◌, ℕ, ◌+◌, ◌*◌, ◌<◌, ◌≤◌, ◌==◌, Bool, true, false, List, [], ◌∷◌, ◌++◌, length, get_or, All, refl, sym, ap, subst, ◌∙◌, arith}
 use Rattle.std.specs.Prelude.{if◌then◌else◌}
 use Rattle.std.specs.List.{flat_map}
 use Rattle.std.proofs.lemmas.Bool.{eqb-true}
 use Rattle.std.proofs.lemmas.List.Elements.{All-nil, All-cons, All-head, All-tail, All-append}
 use Rattle.prs_core.specs.Pairs.{Pair, pairs_from, rails_of}
-use Rattle.width_check.specs.Processes.{Formula, Process, skipping, assigning, sending, receiving, in_turn, side_by_side, choosing, repeating, Processes, no_members, and_member, Choices, no_choices, and_choice, choice_count, TypedProgram}
+use Rattle.width_check.specs.Processes.{Formula, Process, skipping, assigning, sending, receiving, in_turn, side_by_side, choosing, repeating, Processes, no_members, and_member, Choices, no_choices, and_choice, TypedProgram}
 use Rattle.width_check.specs.Reads.{reads}
 use Rattle.width_check.specs.Typing.{channel_width, var_width, IsOfWidth, IsProcess, AreProcesses, AreChoices}
-use Rattle.handshake_expand.specs.Layout.{formula_size, block_size, through_size, size_of, turn_size, branches_size, guards_size, bodies_size, body_from, nodes_of}
+use Rattle.handshake_expand.specs.Layout.{formula_size, block_size, through_size, size_of, turn_size, branches_size, bodies_size, body_from, nodes_of}
 use Rattle.handshake_expand.specs.Answers.{bodies_from, select_own, again_own}
 use Rattle.function_blocks.specs.Expressions.{formula_result}
 use Rattle.function_blocks.proofs.Sizes.{result_length}
@@ -89,9 +89,11 @@ module _ (p : TypedProgram) where
         one_site from (from + size_of p (assigning x at e)) (written x (rails_of (assigned_rails p x e from))) (h.0, assigned_own (reads x e) x e from h.1)
     sites_own (sending chan at e) from h =
         let w = channel_width p.channels chan in
-        one_site from (from + (1 + formula_size e)) (sent chan (rails_of (formula_result e (from + 1))))
-        (h.within, rails_wider w (from + 1) (from + 1 + formula_size e) from (from + (1 + formula_size e)) (rails_of (formula_result e (from + 1))) (omega arith) (omega arith)
-        (value_rails w (from + 1) e h.sent))
+        one_site from (from + (1 + formula_size e)) (sent chan (rails_of (formula_result e (from + 1)))) (
+          h.within,
+          rails_wider w (from + 1) (from + 1 + formula_size e) from (from + (1 + formula_size e)) (rails_of (formula_result e (from + 1))) (omega arith) (omega arith)
+              (value_rails w (from + 1) e h.sent),
+        )
     sites_own (receiving chan chan_at x var_at) from h =
         let w = channel_width p.channels chan in
         let rails = rails_of (pairs_from w (from + 2)) in

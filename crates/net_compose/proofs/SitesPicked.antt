@@ -5,11 +5,11 @@ use Rattle.std.specs.List.{flat_map}
 use Rattle.std.proofs.lemmas.Bool.{eqb-true}
 use Rattle.std.proofs.lemmas.List.{map-append, map-id}
 use Rattle.std.proofs.lemmas.List.Concat.{flat_map-append}
-use Rattle.prs_core.specs.Pairs.{Pair, rails_of}
+use Rattle.prs_core.specs.Pairs.{rails_of}
 use Rattle.width_check.specs.Processes.{Formula, Process, skipping, assigning, sending, receiving, in_turn, side_by_side, choosing, repeating, Processes, no_members, and_member, Choices, no_choices, and_choice, TypedProgram}
 use Rattle.handshake_expand.specs.Layout.{size_of}
 use Rattle.handshake_expand.specs.Answers.{bodies_from, select_own, again_own}
-use Rattle.net_compose.specs.EverySite.{SiteValue, sent, taken, written, every_site}
+use Rattle.net_compose.specs.EverySite.{every_site}
 use Rattle.net_compose.specs.SortedSites.{sent_on, taken_on, written_to}
 use Rattle.net_compose.specs.Translation.{Sites, sites_in, sites_in_turn, sites_in_branches, sites_in_bodies, send_site, receive_site, write_site, assigned_rails}
 

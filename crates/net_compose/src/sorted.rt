@@ -47,11 +47,7 @@ fn no_nodes(alloc: Global, count: usize) -> Result<Vec<Vec<u32>>, AllocError>
 }
 
 /// Appends rails to the list of a number.
-fn add_rails(
-    lists: &mut [Vec<Vec<u32>>],
-    number: u32,
-    rails: Vec<u32>,
-) -> Result<(), AllocError>
+fn add_rails(lists: &mut [Vec<Vec<u32>>], number: u32, rails: Vec<u32>) -> Result<(), AllocError>
     requires { number < length lists.old }
     ensures added { OnOk result ((k : ℕ) → rails_listed lists.new k
         ≡ rails_listed lists.old k ++ (if number == k then rails.items ∷ [] else [])) }

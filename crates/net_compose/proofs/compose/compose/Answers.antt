@@ -1,4 +1,4 @@
-use Rattle.std.proofs.Common.{◌≡◌, ◌∙◌, length, ap, subst, arith}
+use Rattle.std.proofs.Common.{◌∙◌, length, ap, subst, arith}
 use Rattle.prs_core.specs.Nets.{IsRules}
 use Rattle.width_check.specs.Typed.{program_of}
 use Rattle.net_compose.specs.Translation.{in_body, hidden_high}

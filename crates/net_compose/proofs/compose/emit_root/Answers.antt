@@ -1,9 +1,6 @@
-use Rattle.std.proofs.Common.{◌≡◌, ◌-◌, length, ap, ◌∙◌, arith}
+use Rattle.std.proofs.Common.{◌-◌, length, ap, ◌∙◌}
 use Rattle.width_check.specs.Typed.{program_of}
 use Rattle.width_check.specs.View.{process_of}
-use Rattle.handshake_expand.specs.Layout.{body_from}
-use Rattle.handshake_expand.specs.Answers.{answer_of}
-use Rattle.net_compose.specs.Translation.{body_answer}
 use Rattle.net_compose.proofs.BodyWritten.{on_ok}
 use Rattle.net_compose.proofs.Composed.{root_ports, root_wrote, body_start, root_answer}
 use Rattle.net_compose.proofs.compose.emit_root.Goals as goal

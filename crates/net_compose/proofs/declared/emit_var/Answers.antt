@@ -1,4 +1,4 @@
-use Rattle.std.proofs.Common.{◌≡◌, ◌∙◌, sym, subst, All, arith}
+use Rattle.std.proofs.Common.{◌∙◌, sym, subst, All, arith}
 use Rattle.width_check.specs.Typed.{program_of}
 use Rattle.handshake_expand.specs.Layout.{block_size, body_from, nodes_of, var_from}
 use Rattle.width_check.specs.Typing.{var_width}

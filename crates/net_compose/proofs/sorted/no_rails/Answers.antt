@@ -1,4 +1,4 @@
-use Rattle.std.proofs.Common.{◌≡◌, ◌+◌, [], ◌∷◌, length, ap, arith, length-append}
+use Rattle.std.proofs.Common.{[], ◌∷◌, length, ap, arith, length-append}
 use Rattle.net_compose.proofs.Sorting.{no_rails_more}
 use Rattle.net_compose.proofs.sorted.no_rails.Goals as goal
 
