@@ -2,9 +2,10 @@
 #![tactic(auto)]
 
 mod arms;
-mod bit;
 mod body;
 mod choice;
+mod compose;
+mod declared;
 mod elements;
 mod ends;
 mod first;
@@ -15,11 +16,11 @@ pub mod laws;
 mod leaves;
 mod merges;
 mod names;
-mod plain;
+mod net;
 mod select;
 mod site;
+mod sorted;
 mod through;
-mod translate;
 mod wires;
 
-pub use translate::{PlainNetError, translate_plain};
+pub use net::{NetError, translate};

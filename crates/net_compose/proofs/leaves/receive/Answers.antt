@@ -1,9 +1,7 @@
 use Rattle.std.proofs.Common.{◌+◌, refl, ap, ◌∙◌, arith}
-use Rattle.prs_core.specs.Pairs.{pairs_from}
-use Rattle.cell_select.specs.PortNodes.{pairs_of}
+use Rattle.prs_core.specs.Pairs.{pairs_from, rails_of}
 use Rattle.net_compose.specs.EverySite.{written}
 use Rattle.net_compose.proofs.BodyWritten.{two_added}
-use Rattle.net_compose.proofs.ReadBack.{pairs_again}
 use Rattle.net_compose.proofs.leaves.receive.Goals as goal
 
 pub rails_from-requires : goal.rails_from-requires
@@ -11,6 +9,4 @@ rails_from-requires c = omega (arith, c.channel_bits-width.ensures, c.requires.o
 
 pub returns-clause-sites : goal.returns-clause-sites
 returns-clause-sites c = λ chan_at var_at. two_added c.args.sites.now.items _ _ _ _ _ _ c.in_ok-push.ensures.items refl c.in_ok-push-2.ensures.items
-    (ap (λ rails. written c.args.var (pairs_of rails)) c.in_ok-rails.ensures
-    ∙ (ap (written c.args.var) (pairs_again (pairs_from c.channel_bits-width.result (c.args.from + 2)))
-    ∙ ap (λ w. written c.args.var (pairs_from w (c.args.from + 2))) c.channel_bits-width.ensures))
+    (ap (written c.args.var) c.in_ok-rails.ensures ∙ ap (λ w. written c.args.var (rails_of (pairs_from w (c.args.from + 2)))) c.channel_bits-width.ensures)
