@@ -9,4 +9,3 @@ pub mod EverySite
 pub mod RailLists
 pub use Rattle.chp_syntax.specs.View
 pub use Rattle.prs_core.specs.Nets
-pub mod Wanting

@@ -11,11 +11,9 @@ mod guards;
 pub mod laws;
 mod merges;
 mod names;
-mod net;
 mod plain;
-mod plain_calls;
 mod through;
+mod translate;
 mod wires;
 
-pub use net::{NetError, translate};
-pub use plain_calls::{PlainNetError, translate_plain};
+pub use translate::{PlainNetError, translate_plain};
