@@ -46,7 +46,8 @@ silent_step count place from now new all more wrote so_far =
     ∙ (ap (λ k. with_owned (owned_from (from + place) (replicate k no_rules)) now) (sym left)
     ∙ so_far))
 
-pub silent_end : (count place from : ℕ) (now all : RulesValue) → count ≤ place → with_owned (owned_from (from + place) (replicate (count - place) no_rules)) now ≡ all → now ≡ all
+pub silent_end : (count place from : ℕ) (now all : RulesValue) → count ≤ place → with_owned (owned_from (from + place) (replicate
+    (count - place) no_rules)) now ≡ all → now ≡ all
 silent_end count place from now all end so_far =
     let none : count - place ≡ 0 = omega (arith, end) in
     ap (λ k. with_owned (owned_from (from + place) (replicate k no_rules)) now) (sym none) ∙ so_far
@@ -139,12 +140,15 @@ module _ (p : TypedProgram) where
       let step = wires_next p.channels k within in
       let one : k + 1 ≡ suc k = omega arith in
       ap (λ n. with_owned (owned_from (channel_from p (k + 1)) (channels_rules p n (drop (k + 1) p.channels))) new) one
-      ∙ (left_to_write (channel_from p k) (channel_from p (k + 1)) own (channels_rules p (suc k) (drop (k + 1) p.channels)) now new (omega (arith, count, step)) wrote
+      ∙ (left_to_write (channel_from p k) (channel_from p (k + 1)) own (channels_rules p (suc k) (drop (k + 1) p.channels)) now new (omega
+      (arith, count, step)) wrote
       ∙ (ap (λ rs. with_owned (owned_from (channel_from p k) rs) now) (sym (channels_here p p.channels k k within))
       ∙ so_far))
 
-  pub channels_end : (k : ℕ) (now all : RulesValue) → length p.channels ≤ k → with_owned (owned_from (channel_from p k) (channels_rules p k (drop k p.channels))) now ≡ all → now ≡ all
-  channels_end k now all end so_far = ap (λ cs. with_owned (owned_from (channel_from p k) (channels_rules p k cs)) now) (sym (drop_all k p.channels end)) ∙ so_far
+  pub channels_end : (k : ℕ) (now all : RulesValue) → length p.channels ≤ k → with_owned (owned_from (channel_from p k) (channels_rules p k
+      (drop k p.channels))) now ≡ all → now ≡ all
+  channels_end k now all end so_far = ap (λ cs. with_owned (owned_from (channel_from p k) (channels_rules p k cs)) now) (sym (drop_all k p.channels end))
+      ∙ so_far
 
   pub first_channel : channel_from p 0 ≡ 2
   first_channel = ap (λ n. 2 + n) (no_wires_before p.channels)
@@ -163,7 +167,8 @@ module _ (p : TypedProgram) where
       ∙ (ap (λ rs. with_owned (owned_from (var_from p x) rs) now) (sym (vars_here p p.vars x x within))
       ∙ so_far))
 
-  pub vars_end : (x : ℕ) (now all : RulesValue) → length p.vars ≤ x → with_owned (owned_from (var_from p x) (vars_rules p x (drop x p.vars))) now ≡ all → now ≡ all
+  pub vars_end : (x : ℕ) (now all : RulesValue) → length p.vars ≤ x → with_owned (owned_from (var_from p x) (vars_rules p x (drop x p.vars))) now ≡ all
+      → now ≡ all
   vars_end x now all end so_far = ap (λ vs. with_owned (owned_from (var_from p x) (vars_rules p x vs)) now) (sym (drop_all x p.vars end)) ∙ so_far
 
   pub first_var : var_from p 0 ≡ vars_from p
@@ -172,7 +177,8 @@ module _ (p : TypedProgram) where
   -- where they begin
 
   pub channel_start : (firsts : List ℕ) (k : ℕ) (d : ℕ) → firsts ≡ channel_firsts p → k < length p.channels → get_or firsts k d ≡ channel_from p k
-  channel_start firsts k d are within = ap (λ xs. get_or xs k d) are ∙ get_or-map-range_with_len (channel_from p) 0 (length p.channels) k k d within (omega arith)
+  channel_start firsts k d are within = ap (λ xs. get_or xs k d) are ∙ get_or-map-range_with_len (channel_from p) 0 (length p.channels) k k d within
+      (omega arith)
 
   pub channel_starts : (firsts : List ℕ) → firsts ≡ channel_firsts p → length firsts ≡ length p.channels
   channel_starts firsts are = ap length are ∙ length-map-range_with_len (channel_from p) 0 (length p.channels)
@@ -250,21 +256,25 @@ module _ (p : TypedProgram) (typed : IsTyped p.channels p.vars p.body) (sorted :
 
 -- the wires of a channel of each kind
 module _ (p : TypedProgram) (k from w : ℕ) (old mid new : RulesValue) where
-  pub in_wrote : (taken : List ℕ) (node : ℕ) → taken ≡ in_body p (receive_site k) → node ≡ from + 2 * w → mid ≡ with_owned (owned_from from (replicate (2 * w) no_rules)) old → new ≡ with_rules node (or_of taken) mid
+  pub in_wrote : (taken : List ℕ) (node : ℕ) → taken ≡ in_body p (receive_site k) → node ≡ from + 2 * w → mid ≡ with_owned (owned_from from (replicate
+      (2 * w) no_rules)) old → new ≡ with_rules node (or_of taken) mid
       → new ≡ with_owned (owned_from from (channel_rules p k w In)) old
   in_wrote taken node are at first then =
       let n : length (replicate (2 * w) no_rules) ≡ 2 * w = length-replicate (2 * w) no_rules in
       then_wrote from node (replicate (2 * w) no_rules) (or_of (in_body p (receive_site k)) ∷ []) old mid new (omega (arith, at, n)) first
       (then ∙ ap (λ ns. with_rules node (or_of ns) mid) are)
 
-  pub out_wrote : (bits : List (List Pair)) (node : ℕ) → bits ≡ in_body p (send_site k) → node ≡ from + 2 * w → mid ≡ with_owned (owned_from from (rail_rules bits 0 w)) old → new ≡ with_rules node no_rules mid
+  pub out_wrote : (bits : List (List Pair)) (node : ℕ) → bits ≡ in_body p (send_site k) → node ≡ from + 2 * w → mid ≡ with_owned (owned_from from
+      (rail_rules bits 0 w)) old → new ≡ with_rules node no_rules mid
       → new ≡ with_owned (owned_from from (channel_rules p k w Out)) old
   out_wrote bits node are at first then =
       let sites = in_body p (send_site k) in
       let n = rails_length sites 0 w in
-      then_wrote from node (rail_rules sites 0 w) (no_rules ∷ []) old mid new (omega (arith, at, n)) (first ∙ ap (λ bs. with_owned (owned_from from (rail_rules bs 0 w)) old) are) then
+      then_wrote from node (rail_rules sites 0 w) (no_rules ∷ []) old mid new (omega (arith, at, n)) (first ∙ ap (λ bs. with_owned (owned_from from
+      (rail_rules bs 0 w)) old) are) then
 
-  pub chan_wrote : (bits : List (List Pair)) (taken : List ℕ) (node : ℕ) → bits ≡ in_body p (send_site k) → taken ≡ in_body p (receive_site k) → node ≡ from + 2 * w
+  pub chan_wrote : (bits : List (List Pair)) (taken : List ℕ) (node : ℕ) → bits ≡ in_body p (send_site k) → taken ≡ in_body p (receive_site k)
+      → node ≡ from + 2 * w
       → mid ≡ with_owned (owned_from from (rail_rules bits 0 w)) old → new ≡ with_rules node (or_of taken) mid
       → new ≡ with_owned (owned_from from (channel_rules p k w Chan)) old
   chan_wrote bits taken node are nodes at first then =
@@ -313,7 +323,8 @@ channel_here p typed sorted are k within firsts starts cs c same is sends sent s
       within = subst (All (λ node. (body_from p ≤ node) × (node < nodes_of p))) (sym taken_is) (taken_are p typed sorted are k takes within takes_is);
     }
 
-module _ (p : TypedProgram) (k from width : ℕ) (kind : Kind) (sent : List (Vec ℕ Global)) (taken : List ℕ) (h : ChannelHere p k from width kind sent taken) where
+module _ (p : TypedProgram) (k from width : ℕ) (kind : Kind) (sent : List (Vec ℕ Global)) (taken : List ℕ)
+    (h : ChannelHere p k from width kind sent taken) where
   pub inputs_within : (count : ℕ) → count ≡ nodes_of p → All (λ node. node < count) taken
   inputs_within count same = λ i d l. let b = (h.within i d l).1 in omega (arith, b, same)
 
@@ -322,18 +333,23 @@ module _ (p : TypedProgram) (k from width : ℕ) (kind : Kind) (sent : List (Vec
 
   channel_whole : (other : Kind) (old new : RulesValue) → kind ≡ other → new ≡ with_owned (owned_from from (channel_rules p k width other)) old
       → new ≡ with_owned (owned_from (channel_from p k) (channel_rules p k (channel_width p.channels k) (kind_at p.channels k))) old
-  channel_whole other old new same wrote = wrote ∙ channel_same p k from (channel_from p k) width (channel_width p.channels k) other (kind_at p.channels k) old h.at h.wide (sym same ∙ h.is)
+  channel_whole other old new same wrote = wrote ∙ channel_same p k from (channel_from p k) width (channel_width p.channels k) other
+      (kind_at p.channels k) old h.at h.wide (sym same ∙ h.is)
 
-  pub in_made : (count node : ℕ) (old mid new : RulesValue) → kind ≡ In → count ≡ 2 * width → node ≡ from + 2 * width → mid ≡ with_owned (owned_from from (replicate count no_rules)) old → new ≡ with_rules node (or_of taken) mid
+  pub in_made : (count node : ℕ) (old mid new : RulesValue) → kind ≡ In → count ≡ 2 * width → node ≡ from + 2 * width → mid ≡ with_owned (owned_from from
+      (replicate count no_rules)) old → new ≡ with_rules node (or_of taken) mid
       → new ≡ with_owned (owned_from (channel_from p k) (channel_rules p k (channel_width p.channels k) (kind_at p.channels k))) old
   in_made count node old mid new same many is first then =
       channel_whole In old new same
       (in_wrote p k from width old mid new taken node h.nodes is (first ∙ ap (λ n. with_owned (owned_from from (replicate n no_rules)) old) many) then)
 
-  pub out_made : (node : ℕ) (old mid new : RulesValue) → kind ≡ Out → node ≡ from + 2 * width → mid ≡ with_owned (owned_from from (rail_rules (bits_in sent) 0 width)) old → new ≡ with_rules node no_rules mid
+  pub out_made : (node : ℕ) (old mid new : RulesValue) → kind ≡ Out → node ≡ from + 2 * width → mid ≡ with_owned (owned_from from (rail_rules
+      (bits_in sent) 0 width)) old → new ≡ with_rules node no_rules mid
       → new ≡ with_owned (owned_from (channel_from p k) (channel_rules p k (channel_width p.channels k) (kind_at p.channels k))) old
   out_made node old mid new same is first then = channel_whole Out old new same (out_wrote p k from width old mid new (bits_in sent) node h.bits is first then)
 
-  pub chan_made : (node : ℕ) (old mid new : RulesValue) → kind ≡ Chan → node ≡ from + 2 * width → mid ≡ with_owned (owned_from from (rail_rules (bits_in sent) 0 width)) old → new ≡ with_rules node (or_of taken) mid
+  pub chan_made : (node : ℕ) (old mid new : RulesValue) → kind ≡ Chan → node ≡ from + 2 * width → mid ≡ with_owned (owned_from from (rail_rules
+      (bits_in sent) 0 width)) old → new ≡ with_rules node (or_of taken) mid
       → new ≡ with_owned (owned_from (channel_from p k) (channel_rules p k (channel_width p.channels k) (kind_at p.channels k))) old
-  chan_made node old mid new same is first then = channel_whole Chan old new same (chan_wrote p k from width old mid new (bits_in sent) taken node h.bits h.nodes is first then)
+  chan_made node old mid new same is first then = channel_whole Chan old new same (chan_wrote p k from width old mid new
+      (bits_in sent) taken node h.bits h.nodes is first then)

@@ -13,7 +13,7 @@ use Rattle.handshake_expand.specs.Answers.{bodies_from, select_own, again_own}
 use Rattle.function_blocks.specs.Expressions.{formula_result}
 use Rattle.function_blocks.proofs.Sizes.{result_length}
 use Rattle.net_compose.specs.EverySite.{SiteValue, sent, taken, written, every_site}
-use Rattle.net_compose.specs.SortedSites.{sent_on, taken_on, written_to, IsOf}
+use Rattle.net_compose.specs.SortedSites.{sent_on, taken_on, written_to, IsDeclaredSite}
 use Rattle.net_compose.specs.Translation.{read_back, through_at, assigned_rails, sites_in, sites_in_turn, sites_in_branches, sites_in_bodies, in_body}
 use Rattle.net_compose.proofs.ResultsOwn.{LieIn, lie_from, result_own, rails_lie}
 use Rattle.net_compose.proofs.Sizes.{pairs_length}
@@ -66,7 +66,8 @@ module _ (p : TypedProgram) where
   two_parts low high vs ws h k = All-append (IsSite low high) vs ws h k
 
   value_rails : (width from : ℕ) (e : Formula) → IsOfWidth p.vars width e → AreRails width from (from + formula_size e) (rails_of (formula_result e from))
-  value_rails width from e h = rails_of_pairs (formula_result e from) width from (from + formula_size e) (result_length e from h.formed ∙ h.agrees) (result_own e from h.formed)
+  value_rails width from e h = rails_of_pairs (formula_result e from) width from (from + formula_size e) (result_length e from h.formed ∙ h.agrees)
+      (result_own e from h.formed)
 
   plain_rails : (width from : ℕ) → AreRails width from (from + 2 * width) (rails_of (pairs_from width from))
   plain_rails width from = rails_of_pairs (pairs_from width from) width from (from + 2 * width) (pairs_length width from) (lie_from width from)
@@ -79,7 +80,8 @@ module _ (p : TypedProgram) where
       let at = from + block_size w + 4 + formula_size e + 1 in
       rails_wider w at (at + 2 * w) from (from + through_size w e) (rails_of (pairs_from w at)) (omega arith) (omega arith) (plain_rails w at)
   assigned_own false x e from h =
-      rails_wider (var_width p.vars x) (from + 1) (from + 1 + formula_size e) from (from + (1 + formula_size e)) (rails_of (formula_result e (from + 1))) (omega arith) (omega arith)
+      rails_wider (var_width p.vars x) (from + 1) (from + 1 + formula_size e) from (from + (1 + formula_size e)) (rails_of (formula_result e (from + 1)))
+      (omega arith) (omega arith)
       (value_rails (var_width p.vars x) (from + 1) e h)
 
   mutual
@@ -91,7 +93,8 @@ module _ (p : TypedProgram) where
         let w = channel_width p.channels chan in
         one_site from (from + (1 + formula_size e)) (sent chan (rails_of (formula_result e (from + 1)))) (
           h.within,
-          rails_wider w (from + 1) (from + 1 + formula_size e) from (from + (1 + formula_size e)) (rails_of (formula_result e (from + 1))) (omega arith) (omega arith)
+          rails_wider w (from + 1) (from + 1 + formula_size e) from (from + (1 + formula_size e)) (rails_of (formula_result e (from + 1))) (omega arith)
+              (omega arith)
               (value_rails w (from + 1) e h.sent),
         )
     sites_own (receiving chan chan_at x var_at) from h =
@@ -102,48 +105,60 @@ module _ (p : TypedProgram) where
         (one_site from (from + (2 + 2 * w)) (written x rails) (h.target, subst (λ n. AreRails n from (from + (2 + 2 * w)) rails) (sym h.widths) own))
     sites_own (in_turn members) from h = turn_own members from h.1
     sites_own (side_by_side members) from h =
-        sites_wider from (from + branches_size p members) from (from + size_of p (side_by_side members)) (sites_in_branches p (every_site p) members from) (omega arith) (omega arith) (branches_own members from h.1)
+        sites_wider from (from + branches_size p members) from (from + size_of p (side_by_side members)) (sites_in_branches p (every_site p) members from)
+        (omega arith) (omega arith) (branches_own members from h.1)
     sites_own (choosing false choices) from h =
         let to = bodies_from choices select_own from in
-        sites_wider to (to + bodies_size p choices) from (from + size_of p (choosing false choices)) (sites_in_bodies p (every_site p) choices to) (omega arith) (omega arith) (bodies_own choices to h.2)
+        sites_wider to (to + bodies_size p choices) from (from + size_of p (choosing false choices)) (sites_in_bodies p (every_site p) choices to)
+        (omega arith) (omega arith) (bodies_own choices to h.2)
     sites_own (choosing true choices) from h =
         let to = bodies_from choices again_own from in
-        sites_wider to (to + bodies_size p choices) from (from + size_of p (choosing true choices)) (sites_in_bodies p (every_site p) choices to) (omega arith) (omega arith) (bodies_own choices to h.2)
+        sites_wider to (to + bodies_size p choices) from (from + size_of p (choosing true choices)) (sites_in_bodies p (every_site p) choices to)
+        (omega arith) (omega arith) (bodies_own choices to h.2)
     sites_own (repeating s) from h =
-        sites_wider (from + 2) (from + 2 + size_of p s) from (from + (2 + size_of p s)) (sites_in p (every_site p) s (from + 2)) (omega arith) (omega arith) (sites_own s (from + 2) h)
+        sites_wider (from + 2) (from + 2 + size_of p s) from (from + (2 + size_of p s)) (sites_in p (every_site p) s (from + 2)) (omega arith) (omega arith)
+        (sites_own s (from + 2) h)
 
-    turn_own : (members : Processes) (from : ℕ) → AreProcesses p.channels p.vars members → AreSites from (from + turn_size p members) (sites_in_turn p (every_site p) members from)
+    turn_own : (members : Processes) (from : ℕ) → AreProcesses p.channels p.vars members → AreSites from (from + turn_size p members) (sites_in_turn p
+        (every_site p) members from)
     turn_own no_members from h = All-nil (IsSite from (from + 0))
     turn_own (and_member s no_members) from h = sites_own s from h.0
     turn_own (and_member s (and_member t more)) from h =
         let to = from + 3 + size_of p s in
         let end = from + turn_size p (and_member s (and_member t more)) in
         two_parts from end (sites_in p (every_site p) s (from + 3)) (sites_in_turn p (every_site p) (and_member t more) to)
-        (sites_wider (from + 3) (from + 3 + size_of p s) from end (sites_in p (every_site p) s (from + 3)) (omega arith) (omega arith) (sites_own s (from + 3) h.0))
-        (sites_wider to (to + turn_size p (and_member t more)) from end (sites_in_turn p (every_site p) (and_member t more) to) (omega arith) (omega arith) (turn_own (and_member t more) (from + 3 + size_of p s) h.1))
+        (sites_wider (from + 3) (from + 3 + size_of p s) from end (sites_in p (every_site p) s (from + 3)) (omega arith) (omega arith) (sites_own s
+        (from + 3) h.0))
+        (sites_wider to (to + turn_size p (and_member t more)) from end (sites_in_turn p (every_site p) (and_member t more) to) (omega arith) (omega arith)
+        (turn_own (and_member t more) (from + 3 + size_of p s) h.1))
 
-    branches_own : (members : Processes) (from : ℕ) → AreProcesses p.channels p.vars members → AreSites from (from + branches_size p members) (sites_in_branches p (every_site p) members from)
+    branches_own : (members : Processes) (from : ℕ) → AreProcesses p.channels p.vars members → AreSites from (from + branches_size p members)
+        (sites_in_branches p (every_site p) members from)
     branches_own no_members from h = All-nil (IsSite from (from + 0))
     branches_own (and_member s more) from h =
         let to = from + 3 + size_of p s in
         let end = from + branches_size p (and_member s more) in
         two_parts from end (sites_in p (every_site p) s (from + 3)) (sites_in_branches p (every_site p) more to)
-        (sites_wider (from + 3) (from + 3 + size_of p s) from end (sites_in p (every_site p) s (from + 3)) (omega arith) (omega arith) (sites_own s (from + 3) h.0))
-        (sites_wider to (to + branches_size p more) from end (sites_in_branches p (every_site p) more to) (omega arith) (omega arith) (branches_own more (from + 3 + size_of p s) h.1))
+        (sites_wider (from + 3) (from + 3 + size_of p s) from end (sites_in p (every_site p) s (from + 3)) (omega arith) (omega arith) (sites_own s
+        (from + 3) h.0))
+        (sites_wider to (to + branches_size p more) from end (sites_in_branches p (every_site p) more to) (omega arith) (omega arith) (branches_own more
+        (from + 3 + size_of p s) h.1))
 
-    bodies_own : (choices : Choices) (from : ℕ) → AreChoices p.channels p.vars choices → AreSites from (from + bodies_size p choices) (sites_in_bodies p (every_site p) choices from)
+    bodies_own : (choices : Choices) (from : ℕ) → AreChoices p.channels p.vars choices → AreSites from (from + bodies_size p choices) (sites_in_bodies p
+        (every_site p) choices from)
     bodies_own no_choices from h = All-nil (IsSite from (from + 0))
     bodies_own (and_choice g s more) from h =
         let to = from + size_of p s in
         let end = from + bodies_size p (and_choice g s more) in
         two_parts from end (sites_in p (every_site p) s from) (sites_in_bodies p (every_site p) more to)
         (sites_wider from (from + size_of p s) from end (sites_in p (every_site p) s from) (omega arith) (omega arith) (sites_own s from h.1))
-        (sites_wider to (to + bodies_size p more) from end (sites_in_bodies p (every_site p) more to) (omega arith) (omega arith) (bodies_own more (from + size_of p s) h.2))
+        (sites_wider to (to + bodies_size p more) from end (sites_in_bodies p (every_site p) more to) (omega arith) (omega arith) (bodies_own more
+        (from + size_of p s) h.2))
 
   pub all_own : IsProcess p.channels p.vars p.body → All (IsSite (body_from p) (nodes_of p)) (in_body p (every_site p))
   all_own h = sites_own p.body (body_from p) h
 
-  pub site_of : (low high : ℕ) (v : SiteValue) → IsSite low high v → IsOf (length p.channels) (length p.vars) v
+  pub site_of : (low high : ℕ) (v : SiteValue) → IsSite low high v → IsDeclaredSite (length p.channels) (length p.vars) v
   site_of low high (sent k rails) h = h.0
   site_of low high (taken k node) h = h.0
   site_of low high (written x rails) h = h.0
@@ -154,9 +169,11 @@ module _ (p : TypedProgram) where
     abbrev RailsOf : ℕ → List ℕ → Type 0
     RailsOf width rails = AreRails width low high rails
 
-    sent_if : (chan : ℕ) (rails : List ℕ) (b : Bool) → (chan == k) ≡ b → RailsOf (channel_width p.channels chan) rails → All (RailsOf (channel_width p.channels k)) (if b then rails ∷ [] else [])
+    sent_if : (chan : ℕ) (rails : List ℕ) (b : Bool) → (chan == k) ≡ b → RailsOf (channel_width p.channels chan) rails → All (RailsOf
+        (channel_width p.channels k)) (if b then rails ∷ [] else [])
     sent_if chan rails true is h =
-        All-cons (RailsOf (channel_width p.channels k)) rails [] (subst (λ c. RailsOf (channel_width p.channels c) rails) (eqb-true chan k is) h) (All-nil (RailsOf (channel_width p.channels k)))
+        All-cons (RailsOf (channel_width p.channels k)) rails [] (subst (λ c. RailsOf (channel_width p.channels c) rails) (eqb-true chan k is) h) (All-nil
+        (RailsOf (channel_width p.channels k)))
     sent_if chan rails false is h = All-nil (RailsOf (channel_width p.channels k))
 
     sent_one : (v : SiteValue) → IsSite low high v → All (RailsOf (channel_width p.channels k)) (sent_on k v)
@@ -167,11 +184,14 @@ module _ (p : TypedProgram) where
     pub sent_own : (vs : List SiteValue) → AreSites low high vs → All (RailsOf (channel_width p.channels k)) (flat_map (sent_on k) vs)
     sent_own [] h = All-nil (RailsOf (channel_width p.channels k))
     sent_own (v ∷ vs) h =
-        All-append (RailsOf (channel_width p.channels k)) (sent_on k v) (flat_map (sent_on k) vs) (sent_one v (All-head (IsSite low high) v vs h)) (sent_own vs (All-tail (IsSite low high) v vs h))
+        All-append (RailsOf (channel_width p.channels k)) (sent_on k v) (flat_map (sent_on k) vs) (sent_one v (All-head (IsSite low high) v vs h))
+        (sent_own vs (All-tail (IsSite low high) v vs h))
 
-    written_if : (x : ℕ) (rails : List ℕ) (b : Bool) → (x == k) ≡ b → RailsOf (var_width p.vars x) rails → All (RailsOf (var_width p.vars k)) (if b then rails ∷ [] else [])
+    written_if : (x : ℕ) (rails : List ℕ) (b : Bool) → (x == k) ≡ b → RailsOf (var_width p.vars x) rails → All (RailsOf (var_width p.vars k))
+        (if b then rails ∷ [] else [])
     written_if x rails true is h =
-        All-cons (RailsOf (var_width p.vars k)) rails [] (subst (λ c. RailsOf (var_width p.vars c) rails) (eqb-true x k is) h) (All-nil (RailsOf (var_width p.vars k)))
+        All-cons (RailsOf (var_width p.vars k)) rails [] (subst (λ c. RailsOf (var_width p.vars c) rails) (eqb-true x k is) h) (All-nil (RailsOf
+        (var_width p.vars k)))
     written_if x rails false is h = All-nil (RailsOf (var_width p.vars k))
 
     written_one : (v : SiteValue) → IsSite low high v → All (RailsOf (var_width p.vars k)) (written_to k v)
@@ -182,7 +202,8 @@ module _ (p : TypedProgram) where
     pub written_own : (vs : List SiteValue) → AreSites low high vs → All (RailsOf (var_width p.vars k)) (flat_map (written_to k) vs)
     written_own [] h = All-nil (RailsOf (var_width p.vars k))
     written_own (v ∷ vs) h =
-        All-append (RailsOf (var_width p.vars k)) (written_to k v) (flat_map (written_to k) vs) (written_one v (All-head (IsSite low high) v vs h)) (written_own vs (All-tail (IsSite low high) v vs h))
+        All-append (RailsOf (var_width p.vars k)) (written_to k v) (flat_map (written_to k) vs) (written_one v (All-head (IsSite low high) v vs h))
+        (written_own vs (All-tail (IsSite low high) v vs h))
 
     abbrev LiesHere : ℕ → Type 0
     LiesHere node = (low ≤ node) × (node < high)
@@ -198,4 +219,5 @@ module _ (p : TypedProgram) where
 
     pub taken_own : (vs : List SiteValue) → AreSites low high vs → All (λ node. (low ≤ node) × (node < high)) (flat_map (taken_on k) vs)
     taken_own [] h = All-nil LiesHere
-    taken_own (v ∷ vs) h = All-append LiesHere (taken_on k v) (flat_map (taken_on k) vs) (taken_one v (All-head (IsSite low high) v vs h)) (taken_own vs (All-tail (IsSite low high) v vs h))
+    taken_own (v ∷ vs) h = All-append LiesHere (taken_on k v) (flat_map (taken_on k) vs) (taken_one v (All-head (IsSite low high) v vs h)) (taken_own vs
+        (All-tail (IsSite low high) v vs h))

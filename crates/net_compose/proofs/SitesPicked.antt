@@ -38,13 +38,15 @@ module _ {A B C : Type 0} (p : TypedProgram) (pick : B → List C) (f : A → C)
     picked_turn (and_member s no_members) from = picked s from
     picked_turn (and_member s (and_member t more)) from =
         two (sites_in p every s (from + 3)) (sites_in_turn p every (and_member t more) (from + 3 + size_of p s))
-        (sites_in p site s (from + 3)) (sites_in_turn p site (and_member t more) (from + 3 + size_of p s)) (picked s (from + 3)) (picked_turn (and_member t more) (from + 3 + size_of p s))
+        (sites_in p site s (from + 3)) (sites_in_turn p site (and_member t more) (from + 3 + size_of p s)) (picked s (from + 3)) (picked_turn
+        (and_member t more) (from + 3 + size_of p s))
 
     picked_branches : (members : Processes) (from : ℕ) → flat_map pick (sites_in_branches p every members from) ≡ map f (sites_in_branches p site members from)
     picked_branches no_members from = refl
     picked_branches (and_member s more) from =
         two (sites_in p every s (from + 3)) (sites_in_branches p every more (from + 3 + size_of p s))
-        (sites_in p site s (from + 3)) (sites_in_branches p site more (from + 3 + size_of p s)) (picked s (from + 3)) (picked_branches more (from + 3 + size_of p s))
+        (sites_in p site s (from + 3)) (sites_in_branches p site more (from + 3 + size_of p s)) (picked s (from + 3)) (picked_branches more
+        (from + 3 + size_of p s))
 
     picked_bodies : (choices : Choices) (from : ℕ) → flat_map pick (sites_in_bodies p every choices from) ≡ map f (sites_in_bodies p site choices from)
     picked_bodies no_choices from = refl
@@ -58,7 +60,8 @@ alone f false a = refl
 
 -- the sends and the receives on a channel, and the writes of a variable
 
-pub sends_picked : (p : TypedProgram) (k : ℕ) (s : Process) (from : ℕ) → flat_map (sent_on k) (sites_in p (every_site p) s from) ≡ map rails_of (sites_in p (send_site k) s from)
+pub sends_picked : (p : TypedProgram) (k : ℕ) (s : Process) (from : ℕ) → flat_map (sent_on k) (sites_in p (every_site p) s from) ≡ map rails_of (sites_in p
+    (send_site k) s from)
 sends_picked p k = picked p (sent_on k) rails_of (every_site p) (send_site k) leaf
   where
     leaf : (s : Process) (from : ℕ) → flat_map (sent_on k) (every_site p s from) ≡ map rails_of (send_site k s from)
@@ -71,7 +74,8 @@ sends_picked p k = picked p (sent_on k) rails_of (every_site p) (send_site k) le
     leaf (choosing again choices) from = refl
     leaf (repeating s) from = refl
 
-pub takes_picked : (p : TypedProgram) (k : ℕ) (s : Process) (from : ℕ) → flat_map (taken_on k) (sites_in p (every_site p) s from) ≡ sites_in p (receive_site k) s from
+pub takes_picked : (p : TypedProgram) (k : ℕ) (s : Process) (from : ℕ) → flat_map (taken_on k) (sites_in p (every_site p) s from) ≡ sites_in p
+    (receive_site k) s from
 takes_picked p k s from = picked p (taken_on k) (λ (n : ℕ). n) (every_site p) (receive_site k) leaf s from ∙ map-id (sites_in p (receive_site k) s from)
   where
     leaf : (s : Process) (from : ℕ) → flat_map (taken_on k) (every_site p s from) ≡ map (λ (n : ℕ). n) (receive_site k s from)
@@ -90,7 +94,8 @@ one_variable : (p : TypedProgram) (x y : ℕ) (e : Formula) (from : ℕ) (b : Bo
 one_variable p x y e from true is = ap (λ z. rails_of (assigned_rails p z e from) ∷ []) (eqb-true y x is)
 one_variable p x y e from false is = refl
 
-pub writes_picked : (p : TypedProgram) (x : ℕ) (s : Process) (from : ℕ) → flat_map (written_to x) (sites_in p (every_site p) s from) ≡ map rails_of (sites_in p (write_site p x) s from)
+pub writes_picked : (p : TypedProgram) (x : ℕ) (s : Process) (from : ℕ) → flat_map (written_to x) (sites_in p (every_site p) s from) ≡ map rails_of
+    (sites_in p (write_site p x) s from)
 writes_picked p x = picked p (written_to x) rails_of (every_site p) (write_site p x) leaf
   where
     leaf : (s : Process) (from : ℕ) → flat_map (written_to x) (every_site p s from) ≡ map rails_of (write_site p x s from)

@@ -23,10 +23,10 @@ written_to x (written var rails) = if var == x then rails ∷ [] else []
 written_to x v = []
 
 -- the channel or the variable of a site is one of so many
-abbrev pub IsOf : (channels vars : ℕ) → SiteValue → Type 0
-IsOf channels vars (sent chan rails) = chan < channels
-IsOf channels vars (taken chan node) = chan < channels
-IsOf channels vars (written var rails) = var < vars
+abbrev pub IsDeclaredSite : (channels vars : ℕ) → SiteValue → Type 0
+IsDeclaredSite channels vars (sent chan rails) = chan < channels
+IsDeclaredSite channels vars (taken chan node) = chan < channels
+IsDeclaredSite channels vars (written var rails) = var < vars
 
 -- what stands at a number, in lists of rails and in lists of nodes
 abbrev pub rails_listed : List (Vec (Vec ℕ Global) Global) → ℕ → List (List ℕ)

@@ -4,7 +4,8 @@ ghost use Rattle.std.specs.Prelude.{◌≡◌, ℕ, ◌<◌, ◌==◌, ◌++◌,
 ghost use Rattle.width_check.specs.Typed.{program_of};
 ghost use Rattle.net_compose.specs.EverySite.{every_site};
 ghost use Rattle.net_compose.specs.SiteLists.{site_value, site_values};
-ghost use Rattle.net_compose.specs.SortedSites.{sent_on, taken_on, written_to, IsOf, rails_listed, nodes_listed, HasLists, AreSorted};
+ghost use Rattle.net_compose.specs.SortedSites.{sent_on, taken_on, written_to, rails_listed, nodes_listed};
+ghost use Rattle.net_compose.specs.SortedSites.{IsDeclaredSite, HasLists, AreSorted};
 ghost use Rattle.net_compose.specs.Translation.{in_body};
 
 use crate::site::Site;
@@ -71,7 +72,7 @@ fn add_node(lists: &mut [Vec<u32>], number: u32, node: u32) -> Result<(), AllocE
 /// Appends a site to its list.
 fn add_site(sorted: &mut Sorted, site: Site) -> Result<(), AllocError>
     requires taken { length sorted.old.taken.items ≡ length sorted.old.sent.items }
-    requires number { IsOf (length sorted.old.sent.items) (length sorted.old.written.items) (site_value site) }
+    requires number { IsDeclaredSite (length sorted.old.sent.items) (length sorted.old.written.items) (site_value site) }
     ensures sent { OnOk result ((k : ℕ) → rails_listed sorted.new.sent.items k
         ≡ rails_listed sorted.old.sent.items k ++ sent_on k (site_value site)) }
     ensures taken { OnOk result ((k : ℕ) → nodes_listed sorted.new.taken.items k

@@ -12,9 +12,11 @@ loop-chan-init c =
 
 pub loop-chan-preserved : goal.loop-chan-preserved
 loop-chan-preserved c = record {
-  rules = channels_step (program_of c.args.program.now) c.loop-chan.chan c.loop-chan.rules _ _ (omega (arith, c.loop-chan-test.true, ap length c.channels-chan-end.ensures)) c.in_ok-emit_channel.ensures.made c.loop-chan.invariant.rules;
+  rules = channels_step (program_of c.args.program.now) c.loop-chan.chan c.loop-chan.rules _ _ (omega
+      (arith, c.loop-chan-test.true, ap length c.channels-chan-end.ensures)) c.in_ok-emit_channel.ensures.made c.loop-chan.invariant.rules;
   nodes = c.emit_channel.ensures.nodes ∙ c.loop-chan.invariant.nodes;
 }
 
 pub returns-clause-made : goal.returns-clause-made
-returns-clause-made c = channels_end (program_of c.args.program.now) c.loop-chan.chan c.loop-chan.rules _ (omega (arith, c.loop-chan-test.false, ap length c.channels-chan-end.ensures)) c.loop-chan.invariant.rules
+returns-clause-made c = channels_end (program_of c.args.program.now) c.loop-chan.chan c.loop-chan.rules _ (omega
+    (arith, c.loop-chan-test.false, ap length c.channels-chan-end.ensures)) c.loop-chan.invariant.rules

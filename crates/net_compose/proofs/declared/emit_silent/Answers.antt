@@ -17,9 +17,11 @@ loop-place-init c =
 
 pub loop-place-preserved : goal.loop-place-preserved
 loop-place-preserved c = record {
-  rules = silent_step c.args.count c.loop-place.place c.args.from c.loop-place.rules _ _ c.loop-place-test.true c.in_ok-emit_or.ensures.made c.loop-place.invariant.rules;
+  rules = silent_step c.args.count c.loop-place.place c.args.from c.loop-place.rules _ _ c.loop-place-test.true c.in_ok-emit_or.ensures.made
+      c.loop-place.invariant.rules;
   nodes = omega (arith, c.emit_or.ensures.nodes, c.loop-place.invariant.nodes);
 }
 
 pub returns-clause-made : goal.returns-clause-made
-returns-clause-made c = silent_end c.args.count c.loop-place.place c.args.from c.loop-place.rules _ (omega (arith, c.loop-place-test.false)) c.loop-place.invariant.rules
+returns-clause-made c = silent_end c.args.count c.loop-place.place c.args.from c.loop-place.rules _ (omega
+    (arith, c.loop-place-test.false)) c.loop-place.invariant.rules

@@ -6,6 +6,7 @@ use Rattle.net_compose.proofs.declared.emit_silent.Given as goal
 
 abbrev pub invariant-loop-place : goal.invariant-loop-place
 invariant-loop-place l = record {
-  rules : with_owned (owned_from (l.from + l.place) (replicate (l.count - l.place) no_rules)) l.rules ≡ with_owned (owned_from l.from (replicate l.count no_rules)) l.fn.rules;
+  rules : with_owned (owned_from (l.from + l.place) (replicate (l.count - l.place) no_rules)) l.rules ≡ with_owned (owned_from l.from
+      (replicate l.count no_rules)) l.fn.rules;
   nodes : length l.rules.up ≡ length l.fn.rules.up;
 }

@@ -32,7 +32,8 @@ pub emit_block-requires-clause-wide : goal.emit_block-requires-clause-wide
 emit_block-requires-clause-wide c =
     let p = program_of c.args.program.now in
     let wide = var_wide c.vars-vars.result.now p.vars c.args.var c.index-vars-var.result c.vars-vars.ensures c.requires.within c.index-vars-var.is in
-    let are = written_are p c.body-kept.ensures.typed c.args.sorted.now c.requires.sorted c.args.var c.index-written.result.now c.requires.within c.index-written.ensures in
+    let are = written_are p c.body-kept.ensures.typed c.args.sorted.now c.requires.sorted c.args.var c.index-written.result.now c.requires.within
+    c.index-written.ensures in
     let here = subst (λ xs. All (AreRails (var_width p.vars c.args.var) (body_from p) (nodes_of p)) (rails_in xs)) (sym c.deref.ensures.value) are in
     λ i d l. let e = each_wide (var_width p.vars c.args.var) (body_from p) (nodes_of p) (rails_in c.deref.result.now) here i d l in omega (arith, e, wide)
 
@@ -42,7 +43,8 @@ emit_block-requires-clause-behind c =
     let wide = var_wide c.vars-vars.result.now p.vars c.args.var c.index-vars-var.result c.vars-vars.ensures c.requires.within c.index-vars-var.is in
     let start = var_start p c.args.firsts.now c.args.var 0 c.requires.firsts c.requires.within in
     let before = block_before_body p c.args.var c.requires.within in
-    let are = written_are p c.body-kept.ensures.typed c.args.sorted.now c.requires.sorted c.args.var c.index-written.result.now c.requires.within c.index-written.ensures in
+    let are = written_are p c.body-kept.ensures.typed c.args.sorted.now c.requires.sorted c.args.var c.index-written.result.now c.requires.within
+    c.index-written.ensures in
     let here = subst (λ xs. All (AreRails (var_width p.vars c.args.var) (body_from p) (nodes_of p)) (rails_in xs)) (sym c.deref.ensures.value) are in
     each_behind (var_width p.vars c.args.var) (body_from p) (nodes_of p) (rails_in c.deref.result.now) here
     (slice_index_or c.args.firsts.now c.args.var 0 + block_size c.index-vars-var.result.width) (omega (arith, wide, start, before))
@@ -50,7 +52,8 @@ emit_block-requires-clause-behind c =
 pub emit_block-requires-clause-within : goal.emit_block-requires-clause-within
 emit_block-requires-clause-within c =
     let p = program_of c.args.program.now in
-    let are = written_are p c.body-kept.ensures.typed c.args.sorted.now c.requires.sorted c.args.var c.index-written.result.now c.requires.within c.index-written.ensures in
+    let are = written_are p c.body-kept.ensures.typed c.args.sorted.now c.requires.sorted c.args.var c.index-written.result.now c.requires.within
+    c.index-written.ensures in
     let here = subst (λ xs. All (AreRails (var_width p.vars c.args.var) (body_from p) (nodes_of p)) (rails_in xs)) (sym c.deref.ensures.value) are in
     each_within (var_width p.vars c.args.var) (body_from p) (nodes_of p) (rails_in c.deref.result.now) here (length c.args.rules.now.up) c.requires.nodes
 
@@ -67,6 +70,7 @@ returns-clause-made c =
     let p = program_of c.args.program.now in
     let wide = var_wide c.vars-vars.result.now p.vars c.args.var c.index-vars-var.result c.vars-vars.ensures c.requires.within c.index-vars-var.is in
     let start = var_start p c.args.firsts.now c.args.var 0 c.requires.firsts c.requires.within in
-    let bits = ap bits_in c.deref.ensures.value ∙ written_bits p c.body-kept.ensures.typed c.args.sorted.now c.requires.sorted c.args.var c.index-written.result.now c.requires.within c.index-written.ensures in
+    let bits = ap bits_in c.deref.ensures.value ∙ written_bits p c.body-kept.ensures.typed c.args.sorted.now c.requires.sorted c.args.var
+    c.index-written.result.now c.requires.within c.index-written.ensures in
     on_ok c.emit_block.result (λ made. made ∙ block_same _ (var_from p c.args.var) _ (var_width p.vars c.args.var) _ _ c.args.rules.now start wide bits)
     c.emit_block.ensures.made

@@ -12,9 +12,11 @@ loop-var-init c =
 
 pub loop-var-preserved : goal.loop-var-preserved
 loop-var-preserved c = record {
-  rules = vars_step (program_of c.args.program.now) c.loop-var.var c.loop-var.rules _ _ (omega (arith, c.loop-var-test.true, ap length c.vars-var-end.ensures)) c.in_ok-emit_var.ensures.made c.loop-var.invariant.rules;
+  rules = vars_step (program_of c.args.program.now) c.loop-var.var c.loop-var.rules _ _ (omega
+      (arith, c.loop-var-test.true, ap length c.vars-var-end.ensures)) c.in_ok-emit_var.ensures.made c.loop-var.invariant.rules;
   nodes = c.emit_var.ensures.nodes ∙ c.loop-var.invariant.nodes;
 }
 
 pub returns-clause-made : goal.returns-clause-made
-returns-clause-made c = vars_end (program_of c.args.program.now) c.loop-var.var c.loop-var.rules _ (omega (arith, c.loop-var-test.false, ap length c.vars-var-end.ensures)) c.loop-var.invariant.rules
+returns-clause-made c = vars_end (program_of c.args.program.now) c.loop-var.var c.loop-var.rules _ (omega
+    (arith, c.loop-var-test.false, ap length c.vars-var-end.ensures)) c.loop-var.invariant.rules
