@@ -8,7 +8,7 @@ use Rattle.width_check.specs.Accepted.{IsAccepted}
 use Rattle.width_check.specs.Calls.{IsCallFree}
 use Rattle.width_check.specs.Faults.{naming_faults, HasNone, IsFirstFault}
 use Rattle.width_check.specs.Form.{typed_form}
-use Rattle.width_check.specs.Processes.{Process, TypedProgram}
+use Rattle.width_check.specs.Processes.{TypedProgram}
 use Rattle.width_check.specs.Sharing.{MeetsSharing, sharing_faults, IsFirstSharedFault}
 use Rattle.chp_cli.specs.Steps.{IsFaulty, of_names, of_sharing}
 

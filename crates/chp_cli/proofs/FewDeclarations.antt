@@ -1,7 +1,7 @@
 -- A program without procedures declares no more than its text has bytes.
-use Rattle.std.proofs.Common.{◌≡◌, ℕ, ◌+◌, ◌<◌, ◌≤◌, List, [], ◌∷◌, length, drop, arith, length-drop}
+use Rattle.std.proofs.Common.{◌≡◌, ℕ, ◌+◌, ◌≤◌, List, [], length, drop, arith, length-drop}
 use Rattle.chp_syntax.specs.declared.token.Token.{Token}
-use Rattle.chp_syntax.specs.Grammar.{Declared, Item, valued, defined, Declaration, a_channel, a_variable, a_variable_with_first, a_procedure, Declarations, no_declaration, one_more_declaration, Derives, the_program}
+use Rattle.chp_syntax.specs.Grammar.{Declared, a_channel, a_variable, a_variable_with_first, a_procedure, Declarations, no_declaration, one_more_declaration, Derives, the_program}
 use Rattle.chp_syntax.specs.Reading.{Reads}
 use Rattle.chp_syntax.specs.Tokens.{Cuts, so_far, a_gap, a_token}
 use Rattle.chp_syntax.specs.Trees.{ProgramTree}

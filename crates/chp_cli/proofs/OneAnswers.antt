@@ -1,5 +1,5 @@
 -- Each step, and so each command, has at most one answer.
-use Rattle.std.proofs.Common.{◌≡◌, ◌∙◌, ℕ, ◌+◌, ◌<◌, ◌≤◌, List, length, true, Option, Some, None, refl, sym, ap, subst, arith}
+use Rattle.std.proofs.Common.{◌≡◌, ◌∙◌, ℕ, ◌+◌, ◌<◌, ◌≤◌, Bool, List, length, true, Option, Some, None, refl, sym, ap, subst, arith}
 use Rattle.chp_base.specs.declared.span.Span.{Span}
 use Rattle.chp_base.specs.declared.fault.Fault.{Fault}
 use Rattle.chp_base.specs.declared.fault.FaultCode.{FaultCode}
@@ -12,17 +12,18 @@ use Rattle.prs_file.specs.Reading.{IsRefused}
 use Rattle.width_check.specs.Accepted.{IsAccepted}
 use Rattle.width_check.specs.Faults.{naming_faults, HasNone, IsFirstFault}
 use Rattle.width_check.specs.Form.{typed_form}
-use Rattle.width_check.specs.Processes.{Process}
+use Rattle.width_check.specs.Processes.{Process, TypedProgram}
 use Rattle.width_check.specs.Sharing.{MeetsSharing, IsFirstSharedFault, sharing_faults}
 use Rattle.chp_cli.specs.declared.answer.Ending.TheVariants.{Done}
 use Rattle.chp_cli.specs.declared.status.Status.TheVariants.{RefusedText, BadFile}
 use Rattle.chp_cli.specs.Answers.{Given, Answer, writes, refuses, OneAnswer}
 use Rattle.chp_cli.specs.Checking.{AcceptedReport, ChecksProgram}
-use Rattle.chp_cli.specs.Commands.{Asked, compiles, migrates, checks, IsAnswer}
-use Rattle.chp_cli.specs.Compiling.{CompilesAccepted, CompilesProgram, unbuilt, compiled}
+use Rattle.chp_cli.specs.Commands.{Asked, compiles, migrates, checks, expands, IsAnswer}
+use Rattle.chp_cli.specs.Compiling.{CompilesNet, CompilesProgram, compiled}
+use Rattle.chp_cli.specs.Expanding.{ExpandsProgram, TreeReport}
 use Rattle.chp_cli.specs.Lines.{refused_line, bad_net_line}
 use Rattle.chp_cli.specs.Migrating.{MigratesNet, taken, migrated}
-use Rattle.chp_cli.specs.Steps.{FromFile, no_file, long_file, a_file, FromProgram, no_program, a_program, IsFaulty, of_names, of_sharing, FromChecks, has_calls, faulty, accepted, FromNet, no_net, a_net}
+use Rattle.chp_cli.specs.Steps.{FromFile, no_file, long_file, a_file, FromProgram, no_program, a_program, IsFaulty, of_names, of_sharing, FromChecks, has_calls, faulty, accepted, FromNodes, too_many, few_enough, FromNet, no_net, a_net}
 
 pub same_text : {held : Option (List ℕ)} {a b : List ℕ} → held ≡ Some a → held ≡ Some b → a ≡ b
 same_text e f = cc (e, f)
@@ -71,6 +72,13 @@ module _ (text : List ℕ) (Next : NetValue → Answer → Type 0) (next : (net 
   net_once a b (a_net {net = p} is n) (no_net m) = absurd (m.never p is.kept is.spelled)
   net_once a b (a_net {net = p} is n) (a_net {net = q} are m) = next p a b n (subst (λ r. Next r b) (is.only q are.kept are.spelled) m)
 
+module _ (p : TypedProgram) (Next : TypedProgram → Answer → Type 0) (next : OneAnswer (Next p)) where
+  pub nodes_once : (a b : Answer) → FromNodes p Next a → FromNodes p Next b → a ≡ b
+  nodes_once a b (too_many m) (too_many n) = refl
+  nodes_once a b (too_many m) (few_enough f n) = absurd (omega arith)
+  nodes_once a b (few_enough f n) (too_many m) = absurd (omega arith)
+  nodes_once a b (few_enough f n) (few_enough g m) = next a b n m
+
 -- a program has at most one fault, and none where it is accepted
 module _ (named : (p : ProgramTree) (c d : FaultCode) (s t : Span) → IsFirstFault p naming_faults c s → IsFirstFault p naming_faults d t → c ≡ d)
     (placed : (p : ProgramTree) (c d : FaultCode) (s t : Span) → IsFirstFault p naming_faults c s → IsFirstFault p naming_faults d t → s ≡ t)
@@ -104,11 +112,8 @@ module _ (named : (p : ProgramTree) (c d : FaultCode) (s t : Span) → IsFirstFa
 
 -- ---- the commands
 
-compile_once : (program : ProgramTree) (a b : Answer) → CompilesAccepted program a → CompilesAccepted program b → a ≡ b
-compile_once program a b (unbuilt n) (unbuilt m) = refl
-compile_once program a b (unbuilt n) (compiled is c) = absurd (cc (n, is))
-compile_once program a b (compiled is c) (unbuilt m) = absurd (cc (m, is))
-compile_once program a b (compiled is c) (compiled are d) = ap (λ file. writes Done file) (c.spells ∙ sym d.spells)
+compile_once : (reset : Bool) (p : TypedProgram) (a b : Answer) → CompilesNet reset p a → CompilesNet reset p b → a ≡ b
+compile_once reset p a b (compiled c) (compiled d) = ap (λ file. writes Done file) (c.spells ∙ sym d.spells)
 
 migrate_once : (net : NetValue) (a b : Answer) → MigratesNet net a → MigratesNet net b → a ≡ b
 migrate_once net a b (taken {node = k} plain is) (taken {node = l} same are) = let e : k ≡ l = cc (is, are) in ap (λ node. refuses BadFile (bad_net_line DoubleName (node + 2))) e
@@ -121,8 +126,14 @@ module _ (cause : (text : List ℕ) (k j : FaultCode) (s t : Span) → IsRefused
     (once : (text : List ℕ) (f g : NetFault) (l m : ℕ) → IsRefused text f l → IsRefused text g m → (f ≡ g) × (l ≡ m))
     (checked : (program : ProgramTree) (Next : Answer → Type 0) → OneAnswer Next → OneAnswer (FromChecks program Next)) where
   pub command_once : (command : Asked) (given : Given) → given.tells ≡ true → OneAnswer (IsAnswer command given)
-  command_once (compiles file) given told = file_once given file _ _ told
-      (λ text. program_once text CompilesProgram (λ program. checked program (CompilesAccepted program) (compile_once program)) (cause text) (place text))
+  command_once (compiles file reset) given told = file_once given file _ _ told
+      (λ text. program_once text (CompilesProgram reset)
+      (λ program. checked program (FromNodes (typed_form program) (CompilesNet reset)) (nodes_once (typed_form program) (CompilesNet reset) (compile_once reset (typed_form program))))
+      (cause text) (place text))
   command_once (migrates file) given told = file_once given file _ _ told (λ text. net_once text MigratesNet migrate_once (once text))
   command_once (checks file) given told = file_once given file _ _ told
       (λ text. program_once text ChecksProgram (λ program. checked program (AcceptedReport program) (λ a b is are. is ∙ sym are)) (cause text) (place text))
+  command_once (expands file) given told = file_once given file _ _ told
+      (λ text. program_once text ExpandsProgram
+      (λ program. checked program (FromNodes (typed_form program) TreeReport) (nodes_once (typed_form program) TreeReport (λ a b is are. is ∙ sym are)))
+      (cause text) (place text))

@@ -18,12 +18,12 @@ use Rattle.chp_cli.specs.Forms.{texts_of}
 -- ---- what a word is
 
 -- a word that is no flag, and so goes to the positional
-record IsPlain (word : Text) : Type 0 where
-  ends : bytes_eq word (45 ∷ 45 ∷ []) ≡ false
-  long : long_of word ≡ None
-  short : short_of word ≡ None
+pub record IsPlain (word : Text) : Type 0 where
+  pub ends : bytes_eq word (45 ∷ 45 ∷ []) ≡ false
+  pub long : long_of word ≡ None
+  pub short : short_of word ≡ None
 
-plain_word : (word : Text) → is_flag word ≡ false → IsPlain word
+pub plain_word : (word : Text) → is_flag word ≡ false → IsPlain word
 plain_word [] e = record { ends = refl; long = refl; short = refl }
 plain_word (x ∷ []) e = go (x == 45) refl
   where
@@ -41,7 +41,7 @@ shape name = (built (file_form name)).top
 -- ---- flags, of which the form has none
 
 -- a text that isn't empty has a first character
-first_char : (x : ℕ) (rest : List ℕ) → IsUtf8 (x ∷ rest) → (c : ℕ) × (slice_get (chars (x ∷ rest)) 0 ≡ Some c)
+pub first_char : (x : ℕ) (rest : List ℕ) → IsUtf8 (x ∷ rest) → (c : ℕ) × (slice_get (chars (x ∷ rest)) 0 ≡ Some c)
 first_char x rest u = go (chars (x ∷ rest)) (encodes-chars (x ∷ rest) u)
   where
     go : (cs : List ℕ) → encode_utf8_all cs ≡ x ∷ rest → (c : ℕ) × (slice_get cs 0 ≡ Some c)
@@ -54,7 +54,7 @@ bundle_refused again x rest h u =
     let first = first_char x rest u in
     rw first.1 refl
 
-behind_hyphen : (x : ℕ) (rest : List ℕ) → (x == 45) ≡ true → IsUtf8 (x ∷ rest) → IsUtf8 rest
+pub behind_hyphen : (x : ℕ) (rest : List ℕ) → (x == 45) ≡ true → IsUtf8 (x ∷ rest) → IsUtf8 rest
 behind_hyphen x rest e u =
     IsUtf8-past_char (x ∷ rest) rest 45 u (ap (λ n. n ∷ rest) (eqb-true x 45 e) ∙ sym (ap (λ l. l ++ rest) (encode_ascii 45 (lit< tt))))
 
@@ -84,7 +84,7 @@ held_with word = record { rows = []; pending = Some (codes "FILE", word ∷ []);
 abbrev has_file : Text → Bool → Walk
 has_file word tail = record { held = held_with word; waiting = idle; position = 2; is_trailing = tail; stopped = None }
 
-abbrev dashes : Text
+abbrev pub dashes : Text
 dashes = 45 ∷ 45 ∷ []
 
 -- a flag is refused at both places

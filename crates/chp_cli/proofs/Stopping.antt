@@ -1,11 +1,12 @@
 -- Steps by themselves, and within the commands that are made of them.
-use Rattle.std.proofs.Common.{◌≡◌, ℕ, ◌+◌, ◌<◌, ◌≤◌, List, [], ◌∷◌, ◌++◌, length, ◌⊎◌, inl, inr, true, Result, Ok, Err, refl, arith, length-append}
+use Rattle.std.proofs.Common.{◌≡◌, ℕ, ◌+◌, ◌<◌, ◌≤◌, List, [], ◌∷◌, ◌++◌, length, ◌⊎◌, inl, inr, true, Result, Ok, Err, refl, subst, arith, length-append}
 use Rattle.std.specs.Prelude.{Contains, IfOk, IfErr}
 use Rattle.chp_edge.specs.Faults.{Rose, IsReadFault}
 use Rattle.chp_edge.specs.Reading.{IsLeft}
 use Rattle.chp_syntax.specs.Trees.{ProgramTree}
 use Rattle.prs_core.specs.Nets.{NetValue}
 use Rattle.width_check.specs.Accepted.{IsAccepted}
+use Rattle.width_check.specs.Processes.{TypedProgram}
 use Rattle.chp_cli.specs.declared.status.Status.TheVariants.{TooLarge}
 use Rattle.chp_cli.specs.declared.answer.Output.{Output}
 use Rattle.chp_cli.specs.declared.answer.Stop.{Stop}
@@ -13,7 +14,7 @@ use Rattle.chp_cli.specs.declared.answer.Stop.TheVariants.{Refused, Unread, NoMe
 use Rattle.chp_cli.specs.Answers.{Given, Gives, Answer, misses, refuses}
 use Rattle.chp_cli.specs.Lines.{too_long_line}
 use Rattle.chp_cli.specs.Replies.{Halts, IsUnread, Stops, written}
-use Rattle.chp_cli.specs.Steps.{FromFile, no_file, long_file, a_file, FromProgram, no_program, a_program, FromChecks, has_calls, faulty, accepted, FromNet, no_net, a_net, IsTextOf, IsFileOf, Never}
+use Rattle.chp_cli.specs.Steps.{FromFile, no_file, long_file, a_file, FromProgram, no_program, a_program, FromChecks, has_calls, faulty, accepted, FromNodes, too_many, few_enough, FromNet, no_net, a_net, IsTextOf, IsFileOf, Never}
 
 -- ---- a step by itself is the same step of a command
 
@@ -29,6 +30,10 @@ program_goes (a_program is never) = absurd never
 pub net_goes : {text : List ℕ} {Next : NetValue → Answer → Type 0} {a : Answer} → FromNet text Never a → FromNet text Next a
 net_goes (no_net none) = no_net none
 net_goes (a_net is never) = absurd never
+
+pub nodes_go : {p : TypedProgram} {Next : TypedProgram → Answer → Type 0} {a : Answer} → FromNodes p Never a → FromNodes p Next a
+nodes_go (too_many many) = too_many many
+nodes_go (few_enough few never) = absurd never
 
 pub checks_go : {program : ProgramTree} {Next : Answer → Type 0} {a : Answer} → FromChecks program (Never program) a → FromChecks program Next a
 checks_go (has_calls some) = has_calls some
@@ -72,7 +77,7 @@ module _ (I J : Answer → Type 0) (is : (a : Answer) → I a → J a) where
 
 -- ---- what goes on behind a step answers and stops for the command
 
-ok_in : {T E : Type 0} (r : Result T E) (P Q : T → Type 0) → ((value : T) → P value → Q value) → IfOk r P → IfOk r Q
+pub ok_in : {T E : Type 0} (r : Result T E) (P Q : T → Type 0) → ((value : T) → P value → Q value) → IfOk r P → IfOk r Q
 ok_in (Ok value) P Q is p = is value p
 ok_in (Err e) P Q is p = tt
 
@@ -87,12 +92,15 @@ module _ (text : List ℕ) (program : ProgramTree) (Next : ProgramTree → Answe
   pub program_stops : IfErr r (Halts (Next program)) → IfErr r (Halts (FromProgram text Next))
   program_stops = err_in r (Halts (Next program)) (Halts (FromProgram text Next)) (halts_in (Next program) (FromProgram text Next) (λ answer is. a_program read is))
 
-module _ (program : ProgramTree) (Next : Answer → Type 0) (is_accepted : IsAccepted program) (r : Result Output Stop) where
-  pub checks_answer : IfOk r (λ output. Next (written output)) → IfOk r (λ output. FromChecks program Next (written output))
-  checks_answer = ok_in r (λ output. Next (written output)) (λ output. FromChecks program Next (written output)) (λ output is. accepted is_accepted is)
+-- the checks, of whose program this is the typed form
+module _ (program : ProgramTree) (typed form : TypedProgram) (Next : TypedProgram → Answer → Type 0) (same : typed ≡ form) (is_accepted : IsAccepted program) (r : Result Output Stop) where
+  pub form_answers : IfOk r (λ output. Next typed (written output)) → IfOk r (λ output. FromChecks program (Next form) (written output))
+  form_answers = ok_in r (λ output. Next typed (written output)) (λ output. FromChecks program (Next form) (written output))
+      (λ output is. accepted is_accepted (subst (λ p. Next p (written output)) same is))
 
-  pub checks_stop : IfErr r (Halts Next) → IfErr r (Halts (FromChecks program Next))
-  checks_stop = err_in r (Halts Next) (Halts (FromChecks program Next)) (halts_in Next (FromChecks program Next) (λ answer is. accepted is_accepted is))
+  pub form_stops : IfErr r (Halts (Next typed)) → IfErr r (Halts (FromChecks program (Next form)))
+  form_stops = err_in r (Halts (Next typed)) (Halts (FromChecks program (Next form)))
+      (halts_in (Next typed) (FromChecks program (Next form)) (λ answer is. accepted is_accepted (subst (λ p. Next p answer) same is)))
 
 module _ (text : List ℕ) (net : NetValue) (Next : NetValue → Answer → Type 0) (read : IsFileOf text net) (r : Result Output Stop) where
   pub net_answers : IfOk r (λ output. Next net (written output)) → IfOk r (λ output. FromNet text Next (written output))

@@ -1,5 +1,5 @@
 -- The words of a command, what they ask for, and the list of all commands.
-use Rattle.std.specs.Prelude.{◌==◌, Bool, true, false, List, [], ◌∷◌, Option, Some, None, codes, option_map}
+use Rattle.std.specs.Prelude.{◌==◌, ◌&&◌, ◌||◌, Bool, true, false, not, List, [], ◌∷◌, Option, Some, None, codes, option_map}
 use Rattle.std.specs.Prelude.{if◌then◌else◌, option_and_then}
 use Rattle.std.specs.Str.{bytes_eq}
 use Rattle.std.specs.declared.alloc.Global.{Global}
@@ -7,13 +7,14 @@ use Rattle.std.specs.declared.string.String.{String}
 use Rattle.chp_cli.specs.Answers.{Given, Answer}
 use Rattle.chp_cli.specs.Checking.{Checks}
 use Rattle.chp_cli.specs.Compiling.{Compiles}
+use Rattle.chp_cli.specs.Expanding.{Expands}
 use Rattle.chp_cli.specs.Migrating.{Migrates}
 use Rattle.chp_cli.specs.Forms.{texts_of}
 use Rattle.clap.specs.Words.{App, Rule, Text, first_of, matches_of, new_app, new_rule, takes, with_rule}
 use Rattle.clap.specs.Simple.{on_top}
-use Rattle.clap.specs.declared.builder.ArgAction.TheVariants.{Set}
+use Rattle.clap.specs.declared.builder.ArgAction.TheVariants.{Set, SetTrue}
 use Rattle.chp_cli.specs.declared.command.Command.{Command}
-use Rattle.chp_cli.specs.declared.command.Command.TheVariants.{Compile, Migrate, Check}
+use Rattle.chp_cli.specs.declared.command.Command.TheVariants.{Compile, Migrate, Check, Expand}
 use Rattle.chp_cli.specs.declared.command.Verb.{Verb}
 use Rattle.chp_cli.specs.declared.command.Verb.TheVariants as verb
 
@@ -34,6 +35,19 @@ abbrev pub file_of : Text → List Text → Option Text
 file_of name words = if takes (file_form name) words
     then first_of (codes "FILE") (matches_of (file_form name) words) else None
 
+-- ---- the form of `compile`: one file, and the flag `--reset`
+
+abbrev pub reset_rule : Rule
+reset_rule = record (new_rule (codes "reset")) { long = Some (codes "reset"); action = Some SetTrue }
+
+abbrev pub compile_form : Text → App
+compile_form name = with_rule (file_form name) reset_rule
+
+-- the text that `clap` keeps for a flag says that it was given
+abbrev pub is_set : Option Text → Bool
+is_set None = false
+is_set (Some text) = bytes_eq text (codes "true")
+
 -- ---- the commands
 
 -- the command that a word names
@@ -41,29 +55,42 @@ abbrev pub verb_of : Text → Option Verb
 verb_of word = if bytes_eq word (codes "compile") then Some verb.Compile
     else if bytes_eq word (codes "migrate") then Some verb.Migrate
     else if bytes_eq word (codes "check") then Some verb.Check
+    else if bytes_eq word (codes "expand") then Some verb.Expand
     else None
 
--- a command and its file, as its bytes
+-- a command and its file, as its bytes; `compile` with or without a reset node
 pub data Asked : Type 0 where
-  compiles : Text → Asked
+  compiles : Text → (reset : Bool) → Asked
   migrates : Text → Asked
   checks : Text → Asked
+  expands : Text → Asked
 
 abbrev pub asked : Command → Asked
-asked (Compile file) = compiles file.now
+asked (Compile file reset) = compiles file.now reset
 asked (Migrate net) = migrates net.now
 asked (Check file) = checks file.now
+asked (Expand file) = expands file.now
 
-abbrev pub asked_with : Verb → Text → Asked
-asked_with verb.Compile file = compiles file
-asked_with verb.Migrate net = migrates net
-asked_with verb.Check file = checks file
+abbrev pub compile_with : (file reset : Option Text) → Option Asked
+compile_with file reset = option_map (λ name. compiles name (is_set reset)) file
+
+-- what the words behind `compile` ask for, where its form takes them
+abbrev pub compile_of : Text → List Text → Option Asked
+compile_of name words = if takes (compile_form name) words
+    then compile_with (first_of (codes "FILE") (matches_of (compile_form name) words)) (first_of (codes "reset") (matches_of (compile_form name) words))
+    else None
+
+-- what the words behind this word ask for
+abbrev pub command_with : Verb → Text → List Text → Option Asked
+command_with verb.Compile word rest = compile_of word rest
+command_with verb.Migrate word rest = option_map migrates (file_of word rest)
+command_with verb.Check word rest = option_map checks (file_of word rest)
+command_with verb.Expand word rest = option_map expands (file_of word rest)
 
 -- what the words ask for, where they are a command's name and words that its form takes
 abbrev pub command_of : List Text → Option Asked
 command_of [] = None
-command_of (word ∷ rest) =
-    option_and_then (λ v. option_map (asked_with v) (file_of word rest)) (verb_of word)
+command_of (word ∷ rest) = option_and_then (λ v. command_with v word rest) (verb_of word)
 
 -- ---- the same in plain words
 
@@ -81,10 +108,31 @@ plain_file (first ∷ second ∷ []) = if bytes_eq first (codes "--") then Some 
     else None
 plain_file _ = None
 
+-- `--reset` stands among the words, and no `--` before it
+abbrev pub has_reset : List Text → Bool
+has_reset [] = false
+has_reset (word ∷ rest) = not (bytes_eq word (codes "--")) && (bytes_eq word (codes "--reset") || has_reset rest)
+
+-- the words without the first `--reset`
+abbrev pub without_reset : List Text → List Text
+without_reset [] = []
+without_reset (word ∷ rest) = if bytes_eq word (codes "--reset") then rest else word ∷ without_reset rest
+
+-- the words of `compile`: those of a file, and `--reset` once at most at any place before `--`
+abbrev pub plain_compile : List Text → Option Asked
+plain_compile words = if has_reset words
+    then option_map (λ file. compiles file true) (plain_file (without_reset words))
+    else option_map (λ file. compiles file false) (plain_file words)
+
+abbrev pub plain_with : Verb → List Text → Option Asked
+plain_with verb.Compile rest = plain_compile rest
+plain_with verb.Migrate rest = option_map migrates (plain_file rest)
+plain_with verb.Check rest = option_map checks (plain_file rest)
+plain_with verb.Expand rest = option_map expands (plain_file rest)
+
 abbrev pub plain_command : List Text → Option Asked
 plain_command [] = None
-plain_command (word ∷ rest) =
-    option_and_then (λ v. option_map (asked_with v) (plain_file rest)) (verb_of word)
+plain_command (word ∷ rest) = option_and_then (λ v. plain_with v rest) (verb_of word)
 
 -- ---- the command of the words
 
@@ -94,12 +142,14 @@ asked_by words = command_of (texts_of words)
 -- ---- what each command reads and answers
 
 abbrev pub IsAnswer : Asked → Given → Answer → Type 0
-IsAnswer (compiles file) given = Compiles given file
+IsAnswer (compiles file reset) given = Compiles reset given file
 IsAnswer (migrates net) given = Migrates given net
 IsAnswer (checks file) given = Checks given file
+IsAnswer (expands file) given = Expands given file
 
 -- the names of its files
 abbrev pub files_of : Asked → List Text
-files_of (compiles file) = file ∷ []
+files_of (compiles file reset) = file ∷ []
 files_of (migrates net) = net ∷ []
 files_of (checks file) = file ∷ []
+files_of (expands file) = file ∷ []

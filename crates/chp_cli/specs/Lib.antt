@@ -5,6 +5,7 @@ pub mod Steps
 pub mod Compiling
 pub mod Migrating
 pub mod Checking
+pub mod Expanding
 pub mod Forms
 pub mod Commands
 pub mod Replies

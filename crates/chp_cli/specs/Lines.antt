@@ -68,11 +68,15 @@ refused_line f = concat (
     codes "chp: " ∷ decimal (number_of f.code) ∷ codes " " ∷ fault_name f.code ∷ codes " at " ∷ span_text f.at
     ∷ (if has_two_places f.code then codes " and " ++ span_text f.other else []) ∷ codes "\n" ∷ [])
 
--- the program is read, and the command doesn't serve it yet
+-- the program has procedures or calls, which aren't served yet
 abbrev pub not_built_line : List ℕ
 not_built_line = codes "chp: 19 not built\n"
 
--- ---- of a file that is too long, and of a refused rule file
+-- ---- of a circuit and a file that are too large, and of a refused rule file
+
+-- the circuit of the program has so many nodes
+abbrev pub nodes_line : (count : ℕ) → List ℕ
+nodes_line count = concat (codes "chp: 7 nodes " ∷ decimal count ∷ codes "\n" ∷ [])
 
 abbrev pub too_long_line : (name : List ℕ) → (most : ℕ) → List ℕ
 too_long_line name most = concat (codes "chp: 7 bytes " ∷ name ∷ codes " over " ∷ decimal most ∷ codes "\n" ∷ [])

@@ -11,14 +11,16 @@ use Rattle.prs_core.specs.Nets.{NetValue, IsNet}
 use Rattle.prs_file.specs.declared.fault.NetFault.{NetFault}
 use Rattle.prs_file.specs.Reading.{IsRefused}
 use Rattle.prs_file.specs.Spelling.{NetText}
+use Rattle.handshake_expand.specs.Layout.{node_count}
 use Rattle.width_check.specs.Accepted.{IsAccepted}
 use Rattle.width_check.specs.Calls.{IsCallFree}
 use Rattle.width_check.specs.Faults.{naming_faults, HasNone, IsFirstFault}
 use Rattle.width_check.specs.Form.{typed_form}
+use Rattle.width_check.specs.Processes.{TypedProgram}
 use Rattle.width_check.specs.Sharing.{sharing_faults, IsFirstSharedFault}
 use Rattle.chp_cli.specs.declared.status.Status.TheVariants.{RefusedText, TooLarge, BadFile, NotBuilt}
 use Rattle.chp_cli.specs.Answers.{Given, Gives, Lacks, Answer, refuses, misses}
-use Rattle.chp_cli.specs.Lines.{too_long_line, refused_line, bad_net_line, not_built_line}
+use Rattle.chp_cli.specs.Lines.{too_long_line, refused_line, bad_net_line, nodes_line, not_built_line}
 
 -- a command that never answers: what a step by itself goes on with
 abbrev pub Never : {X : Type 0} → X → Answer → Type 0
@@ -75,6 +77,17 @@ pub data FromChecks (program : ProgramTree) (Next : Answer → Type 0) : Answer 
   has_calls : ¬ IsCallFree program → FromChecks program Next (refuses NotBuilt not_built_line)
   faulty : {fault : Fault} → IsCallFree program → IsFaulty program fault → FromChecks program Next (refuses RefusedText (refused_line fault))
   accepted : {answer : Answer} → IsAccepted program → Next answer → FromChecks program Next answer
+
+-- ---- from a program to one whose circuit isn't too large
+
+-- the most nodes of a circuit
+abbrev pub most_of_nodes : ℕ
+most_of_nodes = 65536
+
+-- it counts the nodes of the program's circuit
+pub data FromNodes (program : TypedProgram) (Next : TypedProgram → Answer → Type 0) : Answer → Type 0 where
+  too_many : most_of_nodes < node_count program → FromNodes program Next (refuses TooLarge (nodes_line (node_count program)))
+  few_enough : {answer : Answer} → node_count program ≤ most_of_nodes → Next program answer → FromNodes program Next answer
 
 -- ---- from a text to a net
 

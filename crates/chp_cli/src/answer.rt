@@ -38,9 +38,11 @@ pub enum Refusal<'a> {
     Text(Fault),
     /// The file of this name has more bytes than this limit.
     TooLong { name: &'a str, limit: usize },
+    /// The circuit of the program has so many nodes, which are more than it may have.
+    TooManyNodes(u64),
     /// A rule file is refused at this line.
     BadNet { fault: NetFault, line: u32 },
-    /// The program is read, and the command doesn't serve it yet.
+    /// The program has procedures or calls, which aren't served yet.
     NotBuilt,
 }
 
@@ -50,7 +52,7 @@ impl Refusal<'_> {
     {
         match self {
             Refusal::Text(_) => Status::RefusedText,
-            Refusal::TooLong { .. } => Status::TooLarge,
+            Refusal::TooLong { .. } | Refusal::TooManyNodes(_) => Status::TooLarge,
             Refusal::BadNet { .. } => Status::BadFile,
             Refusal::NotBuilt => Status::NotBuilt,
         }

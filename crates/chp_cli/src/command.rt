@@ -2,7 +2,7 @@
 
 ghost use Rattle.std.specs.Prelude.{◌≡◌, IfOk, IfSome, Some, is_some, option_map, true};
 ghost use Rattle.clap.specs.Words.{app_of, found_of, matches_of, rows_of, takes};
-ghost use Rattle.chp_cli.specs.Commands.{asked, command_of, file_of, plain_command, plain_file, verb_of};
+ghost use Rattle.chp_cli.specs.Commands.{asked, command_of, compile_form, compile_of, file_form, file_of, is_set, plain_command, plain_compile, plain_file, verb_of};
 ghost use Rattle.chp_cli.specs.Forms.{is_form, texts_of};
 
 use clap::error::ErrorKind;
@@ -12,12 +12,15 @@ use std::alloc::{AllocError, Global};
 /// What the words ask for. The commands are this project's own.
 #[derive(Clone, Copy, Debug, PartialEq, Eq)]
 pub enum Command<'a> {
-    /// `compile FILE`: write the rule file of the program text in this file.
-    Compile { file: &'a str },
+    /// `compile FILE [--reset]`: write the rule file of the program text in this file, with a reset node where that is
+    /// asked for.
+    Compile { file: &'a str, reset: bool },
     /// `migrate FILE`: write the rule file of this name as one of version 2.
     Migrate { net: &'a str },
     /// `check FILE`: write that the program text in this file is accepted.
     Check { file: &'a str },
+    /// `expand FILE`: write the tree of parts of the program text in this file.
+    Expand { file: &'a str },
 }
 
 /// The first word of a command.
@@ -26,14 +29,16 @@ enum Verb {
     Compile,
     Migrate,
     Check,
+    Expand,
 }
 
 /// The command that the words ask for, or `None` where they aren't a command's form. The words are those behind the
 /// program's name.
 ///
-/// The first word names the command. The words behind it are read by `clap`, by the form of that command: one file and no
-/// flag. So they are one word, which may be empty or `-`. A word that begins with a hyphen and has more is taken for a
-/// flag and refused, a call for help too, but behind `--` any word may stand; `--` may also end the words.
+/// The first word names the command. The words behind it are read by `clap`, by the form of that command: one file and,
+/// for `compile`, the flag `--reset`, which may stand once, before the file or behind it. The file is one word, which may
+/// be empty or `-`. Any other word that begins with a hyphen and has more is taken for a flag and refused, a call for help
+/// too, but behind `--` any word may stand; `--` may also end the words.
 ///
 /// `Err` stands for want of memory, and it is left open when that comes.
 pub fn command_in<'a>(alloc: Global, words: &'a [String]) -> Result<Option<Command<'a>>, AllocError>
@@ -48,14 +53,12 @@ pub fn command_in<'a>(alloc: Global, words: &'a [String]) -> Result<Option<Comma
     let Some(verb) = verb_in(first.as_str()) else {
         return Ok(None);
     };
-    match file_in(alloc, first.as_str(), rest) {
-        Ok(Some(file)) => Ok(Some(match verb {
-            Verb::Compile => Command::Compile { file },
-            Verb::Migrate => Command::Migrate { net: file },
-            Verb::Check => Command::Check { file },
-        })),
-        Ok(None) => Ok(None),
-        Err(error) => Err(error),
+    let word = first.as_str();
+    match verb {
+        Verb::Compile => compile_in(alloc, word, rest),
+        Verb::Migrate => Ok(file_in(alloc, word, rest)?.map(|net| Command::Migrate { net })),
+        Verb::Check => Ok(file_in(alloc, word, rest)?.map(|file| Command::Check { file })),
+        Verb::Expand => Ok(file_in(alloc, word, rest)?.map(|file| Command::Expand { file })),
     }
 }
 
@@ -67,7 +70,46 @@ fn verb_in(word: &str) -> Option<Verb>
         "compile" => Some(Verb::Compile),
         "migrate" => Some(Verb::Migrate),
         "check" => Some(Verb::Check),
+        "expand" => Some(Verb::Expand),
         _ => None,
+    }
+}
+
+/// What the words behind `compile` ask for, where they are its form.
+fn compile_in<'a>(
+    alloc: Global,
+    name: &'a str,
+    words: &'a [String],
+) -> Result<Option<Command<'a>>, AllocError>
+    ensures form { IfOk result (λ found.
+        option_map asked found ≡ compile_of name.entry.now (texts_of words.entry.now)) }
+    ensures plain { IfOk result (λ found.
+        option_map asked found ≡ plain_compile (texts_of words.entry.now)) }
+{
+    let reset = Arg::new(alloc, "reset")
+        .long("reset")
+        .action(ArgAction::SetTrue);
+    let form = file_form(alloc, name)?.arg(reset)?;
+    match matches_in(form, words) {
+        Ok(Some(matches)) => match matches.get_str("FILE") {
+            Some(file) => Ok(Some(Command::Compile {
+                file,
+                reset: is_set(matches.get_str("reset")),
+            })),
+            None => Ok(None),
+        },
+        Ok(None) => Ok(None),
+        Err(error) => Err(error),
+    }
+}
+
+/// Whether the text that `clap` keeps for a flag says that it was given.
+fn is_set(text: Option<&str>) -> bool
+    ensures { result ≡ is_set (option_map (λ t. t.now) text.entry) }
+{
+    match text {
+        Some(text) => text == "true",
+        None => false,
     }
 }
 
@@ -82,18 +124,25 @@ fn file_in<'a>(
     ensures plain { IfOk result (λ found. option_map (λ file. file.now) found
         ≡ plain_file (texts_of words.entry.now)) }
 {
-    let file = Arg::new(alloc, "FILE")
-        .required(true)
-        .action(ArgAction::Set);
-    let form = clap::Command::new(alloc, name)
-        .no_binary_name(true)
-        .disable_help_flag(true)
-        .arg(file)?;
+    let form = file_form(alloc, name)?;
     match matches_in(form, words) {
         Ok(Some(matches)) => Ok(matches.get_str("FILE")),
         Ok(None) => Ok(None),
         Err(error) => Err(error),
     }
+}
+
+/// The form of a command of this name with one file and no flag, not even for help.
+fn file_form<'a>(alloc: Global, name: &'a str) -> Result<clap::Command<'a>, AllocError>
+    ensures { IfOk result (λ form. app_of form ≡ file_form name.entry.now) }
+{
+    let file = Arg::new(alloc, "FILE")
+        .required(true)
+        .action(ArgAction::Set);
+    clap::Command::new(alloc, name)
+        .no_binary_name(true)
+        .disable_help_flag(true)
+        .arg(file)
 }
 
 /// What the words give each argument of the form, or `None` where the form doesn't take them, for whatever cause. It

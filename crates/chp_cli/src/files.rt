@@ -3,25 +3,30 @@
 ghost use Rattle.std.specs.Prelude.{◌≡◌, ◌-◌, ◌<◌, ◌≤◌, ◌^◌, ◌∷◌, [], length, IfOk, IfErr, OnOk};
 ghost use Rattle.chp_syntax.specs.Shape.{IsShaped};
 ghost use Rattle.chp_syntax.specs.View.{program_of};
+ghost use Rattle.handshake_expand.specs.Layout.{node_count};
 ghost use Rattle.width_check.specs.Accepted.{IsAccepted};
 ghost use Rattle.width_check.specs.Form.{typed_form};
 ghost use Rattle.width_check.specs.Typed.{program_of as typed_of};
 ghost use Rattle.chp_cli.specs.Answers.{Gives, given_by};
 ghost use Rattle.chp_cli.specs.Replies.{Halts, Stops};
-ghost use Rattle.chp_cli.specs.Steps.{FromChecks, FromFile, FromNet, FromProgram, IsFileOf, IsTextOf, Never, most_of_net, most_of_text};
+ghost use Rattle.chp_cli.specs.Steps.{FromChecks, FromFile, FromNet, FromNodes, FromProgram, IsFileOf, IsTextOf, Never, most_of_net, most_of_nodes, most_of_text};
 
 use crate::answer::{Refusal, Stop};
 use chp_base::TextError;
 use chp_edge::{ReadEnd, Shelf, read_all};
 use chp_syntax::{Program, parse};
+use handshake_expand::count_nodes;
 use prs_core::Net;
 use prs_file::{NetReadError, read_net};
 use sharing_check::{Disjoint, share};
 use std::alloc::Global;
-use width_check::{is_call_free, resolve};
+use width_check::{Typed, is_call_free, resolve};
 
 /// The most bytes of a program text.
 pub const MOST_OF_TEXT: usize = 262_144;
+
+/// The most nodes of a circuit.
+const MOST_OF_NODES: u64 = 65_536;
 
 /// The most bytes of a rule file.
 pub const MOST_OF_NET: usize = 268_435_456;
@@ -86,6 +91,18 @@ pub fn checked_program<'a>(alloc: Global, program: &Program) -> Result<Disjoint,
         Err(TextError::Refused(fault)) => Err(Stop::Refused(Refusal::Text(fault))),
         Err(TextError::NoMemory(_)) => Err(Stop::NoMemory),
     }
+}
+
+/// Counts the nodes of the program's circuit, and refuses one with too many.
+pub fn counted<'a>(program: &Typed) -> Result<(), Stop<'a>>
+    ensures few { OnOk result (node_count (typed_of program.now) ≤ most_of_nodes) }
+    ensures stopped { IfErr result (Halts (FromNodes (typed_of program.now) Never)) }
+{
+    let count = count_nodes(program);
+    if count > MOST_OF_NODES {
+        return Err(Stop::Refused(Refusal::TooManyNodes(count)));
+    }
+    Ok(())
 }
 
 /// The net of which the text is the rule file.

@@ -5,6 +5,7 @@ mod answer;
 mod check;
 mod command;
 mod compile;
+mod expand;
 mod files;
 pub mod laws;
 mod main_call;

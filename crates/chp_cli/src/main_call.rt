@@ -12,6 +12,7 @@ use crate::answer::{End, Output, Stop};
 use crate::check::check;
 use crate::command::{Command, command_in};
 use crate::compile::compile;
+use crate::expand::expand;
 use crate::laws::one_answer;
 use crate::migrate::migrate;
 use crate::say::tell;
@@ -32,9 +33,10 @@ fn answer<'a, S: Shelf>(
     ensures faults { S.faults shelf.old ≤ S.faults shelf.new }
 {
     match command {
-        Command::Compile { file } => compile(alloc, shelf, file),
+        Command::Compile { file, reset } => compile(alloc, shelf, file, *reset),
         Command::Migrate { net } => migrate(alloc, shelf, net),
         Command::Check { file } => check(alloc, shelf, file),
+        Command::Expand { file } => expand(alloc, shelf, file),
     }
 }
 

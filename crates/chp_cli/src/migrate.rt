@@ -1,6 +1,6 @@
 //! `migrate FILE`: from a rule file to one of version 2.
 
-ghost use Rattle.std.specs.Prelude.{◌≡◌, ◌≤◌, ◌∷◌, [], Some, None, bytes_eq, codes, length, IfOk, IfErr};
+ghost use Rattle.std.specs.Prelude.{◌≡◌, ◌≢◌, ◌≤◌, ◌∷◌, [], All, Some, None, bytes_eq, codes, length, IfOk, IfErr};
 ghost use Rattle.prs_file.specs.Spelling.{NetText};
 ghost use Rattle.reset_net.specs.Resets.{reset_of};
 ghost use Rattle.chp_cli.specs.Answers.{given_by};
@@ -31,9 +31,9 @@ fn reset_place(names: &[Name]) -> Option<usize>
 }
 
 /// The text of the net with a reset node.
-fn reset_text(alloc: Global, net: Net) -> Result<Vec<u8>, AllocError>
+pub fn reset_text(alloc: Global, net: Net) -> Result<Vec<u8>, AllocError>
     requires plain { net.reset ≡ None }
-    requires free { named_reset net.names ≡ None }
+    requires free { All (λ name. name ≢ codes "reset") net.names }
     ensures { IfOk result (λ text. NetText text.items (reset_of net)) }
 {
     let net = with_reset(alloc, net)?;

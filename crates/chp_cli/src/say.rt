@@ -5,7 +5,7 @@ ghost use Rattle.std.specs.Prelude.{◌≡◌, ◌≤◌, ◌++◌, true, OnOk, 
 ghost use Rattle.std.specs.List.{flat_map};
 ghost use Rattle.chp_base.specs.Faults.{number_of};
 ghost use Rattle.chp_edge.specs.Faults.{Rose};
-ghost use Rattle.chp_cli.specs.Lines.{refused_line, bad_net_line, too_long_line, fault_name, net_fault_name, has_two_places};
+ghost use Rattle.chp_cli.specs.Lines.{refused_line, bad_net_line, too_long_line, nodes_line, fault_name, net_fault_name, has_two_places};
 ghost use Rattle.chp_cli.specs.Replies.{refusal_line, stop_line, end_line};
 
 use crate::answer::{End, Ending, Refusal, Stop};
@@ -169,6 +169,17 @@ fn say_too_long<W: Sink>(say: &mut W, name: &str, limit: usize)
     say_pieces(say, &["chp: 7 bytes ", name, " over ", most, "\n"]);
 }
 
+/// Says the line of a circuit with more nodes than it may have.
+fn say_nodes<W: Sink>(say: &mut W, count: u64)
+    ensures faults { W.faults say.old ≤ W.faults say.new }
+    ensures same { W.tells say.new ≡ W.tells say.old }
+    ensures said { W.tells say.old ≡ true → ¬ Rose (W.faults say.old) (W.faults say.new) → W.written say.new ≡ W.written say.old ++ nodes_line count }
+{
+    let mut number = Buffer::new();
+    let number = number.format(count);
+    say_pieces(say, &["chp: 7 nodes ", number, "\n"]);
+}
+
 /// Says the line of a refusal.
 fn say_refusal<W: Sink>(say: &mut W, refusal: &Refusal)
     ensures faults { W.faults say.old ≤ W.faults say.new }
@@ -178,6 +189,7 @@ fn say_refusal<W: Sink>(say: &mut W, refusal: &Refusal)
     match refusal {
         Refusal::Text(fault) => say_refused_text(say, fault),
         Refusal::TooLong { name, limit } => say_too_long(say, name, *limit),
+        Refusal::TooManyNodes(count) => say_nodes(say, *count),
         Refusal::BadNet { fault, line } => say_bad_net(say, *fault, *line),
         Refusal::NotBuilt => say_pieces(say, &["chp: 19 not built\n"]),
     }

@@ -18,11 +18,11 @@ pub enum Status {
     Write,
     /// Memory ran out.
     NoMemory,
-    /// A file has more bytes than it may have.
+    /// A file has more bytes than it may have, or a circuit more nodes.
     TooLarge,
     /// A rule file isn't in its grammar or limits, or can't be migrated.
     BadFile,
-    /// The program isn't compiled yet.
+    /// The program has procedures or calls, which aren't served yet.
     NotBuilt,
 }
 

@@ -12,7 +12,7 @@ pub struct Plan {
     failing: Vec<u64>,
 }
 
-const WIDE: usize = 1 << 22;
+const WIDE: usize = 1 << 23;
 
 impl Plan {
     /// A sink that takes all at once.

@@ -3,7 +3,7 @@
 use crate::bench::Bench;
 use crate::edge::{read, read_disk, read_surely, write, write_narrowly};
 use crate::reading::{show, show_tokens};
-use crate::run::{run, run_cuts, run_surely};
+use crate::run::{run, run_count, run_cuts, run_surely};
 use case_text::{bytes_of, numbers_of};
 use std::alloc::{AllocError, Global};
 use std::fmt::Write;
@@ -83,6 +83,7 @@ fn act<R: Files + AllocGlobal>(
     let limit = usize::try_from(number).unwrap_or(0);
     match word {
         "run" => run(alloc, bench, rest, page)?,
+        "run-count" => run_count(alloc, bench, first, more, page)?,
         "run-surely" => run_surely(alloc, bench, rest, page)?,
         "run-cuts" => run_cuts(alloc, bench, rest, page)?,
         "show" => show(alloc, bench.last(), page)?,

@@ -13,7 +13,7 @@ use bench::Bench;
 use cases::obey;
 use std::{fs, io};
 
-const TOPICS: [&str; 5] = ["texts", "compile", "check", "migrate", "edge"];
+const TOPICS: [&str; 6] = ["texts", "compile", "check", "expand", "migrate", "edge"];
 
 fn main(rt: HostRuntime) -> io::Result<()> {
     let mut page = String::new(rt.alloc());

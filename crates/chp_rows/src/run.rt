@@ -51,6 +51,25 @@ pub fn run(alloc: Global, bench: &Bench, line: &str, page: &mut String) -> Resul
     put_all(page, line, &ran)
 }
 
+/// Runs the words, and tells how many of the lines that were written begin with the front.
+pub fn run_count(
+    alloc: Global,
+    bench: &Bench,
+    front: &str,
+    line: &str,
+    page: &mut String,
+) -> Result<(), AllocError> {
+    let mut shelf = bench.shelf(alloc, usize::MAX)?;
+    let ran = command(alloc, bench, line, &mut shelf)?;
+    writeln!(page, "> {line}")?;
+    put_end(page, &ran)?;
+    let lines = ran.out.written().split(|byte| *byte == b'\n');
+    let count = lines
+        .filter(|line| line.starts_with(front.as_bytes()))
+        .count();
+    writeln!(page, "{front}: {count}")
+}
+
 /// Runs the words over a shelf that has the last file under every name, and never fails.
 pub fn run_surely(
     alloc: Global,

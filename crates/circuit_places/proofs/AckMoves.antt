@@ -4,9 +4,9 @@ use Rattle.std.proofs.Common.{◌≡◌, ◌≢◌, ℕ, ◌==◌, ◌≤◌, Bo
 use Rattle.std.specs.Prelude.{not, ◌&&◌, if◌then◌else◌, slice_get, is_some}
 use Rattle.env_script.specs.Scripts.{OfferValue, gives, takes, nothing, offer_at, is_over}
 use Rattle.env_script.specs.Runs.{completed}
-use Rattle.width_check.specs.Processes.{receiving, TypedProgram}
+use Rattle.width_check.specs.Processes.{Process, sending, receiving, TypedProgram}
 use Rattle.width_check.specs.Typing.{kind_at, channel_width, var_width}
-use Rattle.chp_meaning.specs.Terms.{Term, finished}
+use Rattle.chp_meaning.specs.Terms.{finished}
 use Rattle.function_blocks.specs.RailFacts.{covered}
 use Rattle.circuit_places.specs.Lines.{Line, of_channel, of_var, same_line, Rails}
 use Rattle.circuit_places.specs.Circuit.{low as low_cells, GuardedSpot, turns, takers}
@@ -15,17 +15,19 @@ use Rattle.circuit_places.proofs.RailLemmas.{fst_true, snd_true, neutral_low, ea
 use Rattle.circuit_places.proofs.LineNames.{self_number, same_number}
 use Rattle.circuit_places.proofs.BitTable.{legal, held_t, held_f}
 use Rattle.circuit_places.proofs.Blocks.{now_at}
-use Rattle.circuit_places.proofs.Places.{Mode, idle, running, answered, returning, GuardedAt, g_rests, guarded_cells, guarded_shown, guarded_writing, guarded_moves}
-use Rattle.circuit_places.proofs.Meets.{receives, sends_merged, receives_heard, receives_within}
-use Rattle.circuit_places.proofs.Left.{guarded_left, Act}
+use Rattle.circuit_places.proofs.Places.{Mode, GuardedAt, guarded_cells, guarded_shown, guarded_writing, guarded_moves}
+use Rattle.circuit_places.proofs.Meets.{PortMeets, receives, sends_merged, receives_heard, receives_within}
+use Rattle.circuit_places.proofs.Left.{Act}
+use Rattle.circuit_places.proofs.Exchange.{Exchange, One, Two}
 use Rattle.circuit_places.proofs.Flow.{low_of, or_map, cases}
-use Rattle.circuit_places.proofs.Talks.{either, guarded_offers_talks, guarded_talks_sends, guarded_says_is, guarded_takes_listens, guarded_listens_receives}
-use Rattle.circuit_places.proofs.Change.{AckTurned, Ready}
-use Rattle.circuit_places.proofs.Hears.{Rising, Hears, guarded_hears}
+use Rattle.circuit_places.proofs.Talks.{either, guarded_talks_sends, guarded_says_is, guarded_takes_listens, guarded_listens_receives}
+use Rattle.circuit_places.proofs.Change.{AckTurned}
+use Rattle.circuit_places.proofs.Hears.{Hearing}
+use Rattle.circuit_places.proofs.Fires.{Sent, passes_of}
 use Rattle.circuit_places.proofs.Writing.{OneTurned, guarded_writing_falls, guarded_writing_deaf}
 use Rattle.circuit_places.proofs.Sites.{is_nil, any_not_nil, same_takers, guarded_taken}
-use Rattle.circuit_places.proofs.System.{Good, clean_of, can, driven, heard_turns, sent_turns, root_left, Passing, Arrival, Arrives, Acks, taken_out, taken_in, let_go_in, Freed, Next, Fitted, takes_of, may_low, may_high, passed_far}
-use Rattle.circuit_places.proofs.LineMoves.{calm, talks, gives_of, drives_up, brings_below, SeenChanged, line_rises, sent_rises, line_passes, line_falls, line_stays}
+use Rattle.circuit_places.proofs.System.{Good, clean_of, can, driven, heard_turns, sent_turns, root_left, Passing, Arrival, Lands, Arrives, Exchanges, Acks, taken_out, taken_in, taken_over, released, Freed, Next, Fitted, takes_of, may_low, may_high, passed_far}
+use Rattle.circuit_places.proofs.LineMoves.{same_channel, talks, gives_of, drives_up, brings_below, SeenChanged, sent_rises, line_fires, line_falls, line_stays}
 
 -- the environment reads the acknowledge and the rails of the channel alone
 pub same_answers : (w now : Wires) (c : ℕ) → now.ack c ≡ w.ack c → now.rail (of_channel c) ≡ w.rail (of_channel c) → (offer : OfferValue) (n done : ℕ)
@@ -187,17 +189,22 @@ module _ (P : TypedProgram) (script : List OfferValue) {m : Mode} {g : GuardedAt
         (λ z y. (refl, inl (free kinds.1 z y))) quiet)
         (λ (h : w.ack k ≡ false).
         let some = (may_low (channel_width P.channels k) w k (is_over t.count (completed hs k)) h t.may).0 in
-        acked_by (sent_rises P script hs good (of_channel k) acked ack_is refl h some (unheard kinds.1) kinds.0 wide) (others kinds.1)
+        acked_by (sent_rises P script hs good (of_channel k) acked ack_is refl h some (untaken kinds.1) wide) (others kinds.1)
         (taken_out kinds.1 (subst (λ (b : Bool). Passing P (seen P w) (guarded_writing (line_ack P w) g) (of_channel k) b (root_left (line_ack P w) g)
         (root_left (line_ack P acked) g)) (sym h)
-        (line_passes P script hs good (of_channel k) acked ack_is refl h some (unheard kinds.1) kinds.0 wide
-        (guarded_says_is g k ∙ talks P script hs good (of_channel k) kinds.0 h some wide))) (λ z y. free kinds.1 z y))
+        (passes_of P (seen P w) (guarded_writing (line_ack P w) g) (of_channel k) (root_left (line_ack P w) g) (root_left (line_ack P acked) g)
+        (line_fires P script hs good (of_channel k) acked ack_is refl h some (untaken kinds.1) wide true false
+        (guarded_says_is g k ∙ talks P script hs good (of_channel k) kinds.0 h some wide) (deaf kinds.1 k (self_number k))))) (λ z y. free kinds.1 z y))
         (λ z y. (refl, inl (free kinds.1 z y))) quiet)
       where
         unheard : is_heard (kind_at P.channels k) ≡ false → (d : ℕ) → is_heard (kind_at P.channels d) ≡ true → (d == k) ≡ false
         unheard out d h = cases (d == k)
             (λ (z : (d == k) ≡ true). absurd (cc (out, ap (λ n. is_heard (kind_at P.channels n)) (same_number d k z), h)))
             (λ (z : (d == k) ≡ false). z)
+
+        untaken : is_heard (kind_at P.channels k) ≡ false → (d : ℕ) → same_line (of_channel d) (of_channel k) ≡ true → receives P.body d ≡ true
+            → (guarded_shown g).take d ≡ true
+        untaken out d e u = absurd (cc (unheard out d (receives_heard P P.body good.meets d u), e))
 
         no_listen : is_heard (kind_at P.channels k) ≡ false → (guarded_shown g).listen k ≡ false
         no_listen out = low_of ((guarded_shown g).listen k) (λ z. receives_heard P P.body good.meets k (guarded_listens_receives g k z)) out
@@ -244,13 +251,13 @@ module _ (P : TypedProgram) (script : List OfferValue) {m : Mode} {g : GuardedAt
     in_falls : w.ack k ≡ true → (guarded_shown g).take k ≡ false → Next P script m g w hs (ack_node k)
     in_falls high gone =
         let lows = good.neutral k heard high gone in
-        let x = line_falls P script hs good (of_channel k) acked ack_is refl high lows let_go in
-        acked_by x there (let_go_in heard high (line_stays P script hs good (of_channel k) acked ack_is refl high lows let_go)
+        let x = line_falls P script hs good (of_channel k) acked ack_is refl high lows free in
+        acked_by x there (released heard high (line_stays P script hs good (of_channel k) acked ack_is refl high lows free)
         (λ z y. guarded_writing_falls (line_ack P w) (line_ack P acked) (of_channel k) one_turned high g z y))
         (λ z y. (refl, inl (guarded_writing_falls (line_ack P w) (line_ack P acked) (of_channel k) one_turned high g z y))) (quiet_high high lows)
       where
-        let_go : (d : ℕ) → (d == k) ≡ true → (guarded_shown g).take d ≡ false
-        let_go d z = ap (guarded_shown g).take (same_number d k z) ∙ gone
+        free : (d : ℕ) → (d == k) ≡ true → (guarded_shown g).take d ≡ false
+        free d z = ap (guarded_shown g).take (same_number d k z) ∙ gone
 
         there : Heard
         there = record {
@@ -258,7 +265,7 @@ module _ (P : TypedProgram) (script : List OfferValue) {m : Mode} {g : GuardedAt
               (λ (e : (c == k) ≡ true). absurd (cc (near_ack c e, high, h)))
               (λ (e : (c == k) ≡ false). good.listen c u (sym (far_ack c e) ∙ h));
           full = λ c u h t. cases (c == k)
-              (λ (e : (c == k) ≡ true). absurd (cc (let_go c e, t)))
+              (λ (e : (c == k) ≡ true). absurd (cc (free c e, t)))
               (λ (e : (c == k) ≡ false). good.valid c u (sym (far_ack c e) ∙ h) t);
           gone = λ c u h t. cases (c == k)
               (λ (e : (c == k) ≡ true). absurd (cc (near_ack c e, high, h)))
@@ -271,29 +278,25 @@ module _ (P : TypedProgram) (script : List OfferValue) {m : Mode} {g : GuardedAt
     in_rises : w.ack k ≡ false → (guarded_shown g).take k ≡ true → Next P script m g w hs (ack_node k)
     in_rises low take =
         let some = good.valid k heard low take in
-        let x = line_rises P script hs good (of_channel k) acked ack_is refl low some ready (λ u. absurd (alone u))
-        (λ j b o. absurd (not_sent (guarded_offers_talks g (of_channel k) j b o))) in
-        acked_by x there (taken_in heard (arrives some)) (λ z y. (refl, inr (inr (heard, low)))) (quiet_low low some)
+        acked_by (sent_rises P script hs good (of_channel k) acked ack_is refl low some took_it wide) there
+        (cases (is_merged P (of_channel k))
+        (λ (u : is_merged P (of_channel k) ≡ true). taken_over heard u (exchanges some
+        (line_fires P script hs good (of_channel k) acked ack_is refl low some took_it wide true true
+        (guarded_says_is g k ∙ talks P script hs good (of_channel k) u low some wide) take)))
+        (λ (u : is_merged P (of_channel k) ≡ false). taken_in heard u (arrives some
+        (line_fires P script hs good (of_channel k) acked ack_is refl low some took_it wide false true
+        (guarded_says_is g k ∙ low_of ((guarded_shown g).talk (of_channel k)) (λ z. sends_merged P P.body good.meets (of_channel k)
+        (guarded_talks_sends g (of_channel k) z)) u) take))))
+        (λ z y. (refl, inr (inr (heard, low)))) (quiet_low low some)
       where
-        used : receives P.body k ≡ true
-        used = guarded_listens_receives g k (guarded_takes_listens g k take)
-
-        alone : is_merged P (of_channel k) ≡ true → ⊥
-        alone u = fitted.heard_alone k (receives_within P P.body good.meets k used) used u
-
-        not_sent : (guarded_shown g).talk (of_channel k) ≡ true → ⊥
-        not_sent z = alone (sends_merged P P.body good.meets (of_channel k) (guarded_talks_sends g (of_channel k) z))
+        wide : 1 ≤ channel_width P.channels k
+        wide = fitted.wide k (receives_within P P.body good.meets k (guarded_listens_receives g k (guarded_takes_listens g k take)))
 
         took : (d : ℕ) → (d == k) ≡ true → (guarded_shown g).take d ≡ true
         took d z = ap (guarded_shown g).take (same_number d k z) ∙ take
 
-        ready : Ready (of_channel k) (w.rail (of_channel k)) (guarded_writing (line_ack P w) g) P.body (guarded_shown g)
-        ready = record {
-          send = λ e. absurd (alone (sends_merged P P.body good.meets
-              (of_channel k) e));
-          receive = λ d z e. took d z;
-          calm = calm P script hs good;
-        }
+        took_it : (d : ℕ) → same_line (of_channel d) (of_channel k) ≡ true → receives P.body d ≡ true → (guarded_shown g).take d ≡ true
+        took_it d z e = took d z
 
         there : Heard
         there = record {
@@ -312,63 +315,75 @@ module _ (P : TypedProgram) (script : List OfferValue) {m : Mode} {g : GuardedAt
               (λ (e : (c == k) ≡ false). good.heard_sited c (sym (far_ack c e) ∙ h) u);
         }
 
-        rising : Rising (seen P w) (seen P acked) k
-        rising = record { low = low; high = ack_is.here ∙ ap not low; far = ack_is.far }
+        Receiver : Process → Type 0
+        Receiver = Hearing P (seen P w) (of_channel k) (guarded_shown g) (guarded_writing (line_ack P w) g) (guarded_writing (line_ack P acked) g)
 
-        hears : Hears P (seen P w) k (guarded_shown g) (guarded_writing (line_ack P w) g) (guarded_writing (line_ack P acked) g) (guarded_left (line_ack P w) g)
-            (guarded_left (line_ack P acked) g)
-        hears = guarded_hears P (seen P w) (seen P acked) k rising g good.meets good.fits
-            (record {
-              take = take;
-              talk = cases ((guarded_shown g).talk (of_channel k))
-                  (λ (z : (guarded_shown g).talk (of_channel k) ≡ true). absurd (not_sent z)) (λ (z : (guarded_shown g).talk (of_channel k) ≡ false). z);
-            })
-
-        root : (m : Mode) (a : GuardedAt P.body m) (x y : Term) → (guarded_shown a).take k ≡ true → x ≡ guarded_left (line_ack P w) a
-            → y ≡ guarded_left (line_ack P acked) a → (x ≡ root_left (line_ack P w) a) × (y ≡ root_left (line_ack P acked) a)
-        root idle g_rests x y t e f = absurd (cc t)
-        root running a x y t e f = (e, f)
-        root answered a x y t e f = (e, f)
-        root returning a x y t e f = (e, f)
+        Sender : Process → Type 0
+        Sender = Sent P (seen P w) (guarded_writing (line_ack P w) g) (of_channel k)
 
         -- each rail that came is one that the variable's bits have
-        has : (i : ℕ) (one : Bool) → w.rail (of_channel k) i one ≡ true → w.bit hears.var i one ≡ true
-        has i one z =
-            let v = hears.var in
-            let up = good.falling (of_var v) i one hears.done (hears.all i one z) in
+        has : (q : Process) (r : Receiver q) (i : ℕ) (one : Bool) → w.rail (of_channel k) i one ≡ true → w.bit r.var i one ≡ true
+        has q r i one z =
+            let v = r.var in
+            let up = good.falling (of_var v) i one r.done (r.all i one z) in
             let less = good.wide (of_var v) i one up in
             by one up ((good.block v (let g : 1 ≤ var_width P.vars v = omega (arith, less) in g)).bits i less)
           where
-            by : (one : Bool) → w.rail (of_var hears.var) i one ≡ true → legal
-                (now_at (w.bit hears.var) (w.rail (of_var hears.var)) (w.wrote hears.var) (line_ack P w (of_var hears.var)) i) ≡ true
-                → w.bit hears.var i one ≡ true
-            by true up l = held_t (now_at (w.bit hears.var) (w.rail (of_var hears.var)) (w.wrote hears.var) (line_ack P w (of_var hears.var)) i) l hears.done up
-            by false up l = held_f (now_at (w.bit hears.var) (w.rail (of_var hears.var)) (w.wrote hears.var)
-                (line_ack P w (of_var hears.var)) i) l hears.done up
+            by : (one : Bool) → w.rail (of_var r.var) i one ≡ true → legal
+                (now_at (w.bit r.var) (w.rail (of_var r.var)) (w.wrote r.var) (line_ack P w (of_var r.var)) i) ≡ true
+                → w.bit r.var i one ≡ true
+            by true up l = held_t (now_at (w.bit r.var) (w.rail (of_var r.var)) (w.wrote r.var) (line_ack P w (of_var r.var)) i) l r.done up
+            by false up l = held_f (now_at (w.bit r.var) (w.rail (of_var r.var)) (w.wrote r.var) (line_ack P w (of_var r.var)) i) l r.done up
+
+        lands : is_some (value_on (channel_width P.channels k) (w.rail (of_channel k))) ≡ true → (q : Process) (r : Receiver q)
+            → Lands P (guarded_writing (line_ack P w) g) (guarded_writing (line_ack P acked) g) k r.var w
+        lands some q r = record {
+          within = meets.within;
+          into = meets.into;
+          widths = meets.widths;
+          told = covered (channel_width P.channels k) (w.rail (of_channel k)) (w.bit r.var) (has q r) (λ i t f. one i t f) some;
+          low = low;
+          some = some;
+          frees = r.frees;
+        }
+          where
+            meets : PortMeets P k r.var
+            meets = subst (λ (n : ℕ). PortMeets P n r.var) (same_channel r.channel k r.on) r.meets
+
+            one : (i : ℕ) → w.bit r.var i true ≡ true → w.bit r.var i false ≡ true → ⊥
+            one i t f = cc ((clean_of good).single r.var i, ap (λ b. not (b && w.bit r.var i false)) t, ap (λ b. not b) f)
+
+        statement : (q : Process) (r : Receiver q) → q ≡ receiving k r.at r.var r.to
+        statement q r = r.is ∙ ap (λ n. receiving n r.at r.var r.to) (same_channel r.channel k r.on)
 
         arrives : is_some (value_on (channel_width P.channels k) (w.rail (of_channel k))) ≡ true
+            → One Receiver (root_left (line_ack P w) g) (root_left (line_ack P acked) g)
             → Arrives P (guarded_writing (line_ack P w) g) (guarded_writing (line_ack P acked) g) k w (root_left (line_ack P w) g)
             (root_left (line_ack P acked) g)
-        arrives some =
-            let r = root m g (guarded_left (line_ack P w) g) (guarded_left (line_ack P acked) g) take refl refl in
-            record {
-              at = hears.at;
-              var = hears.var;
-              to = hears.to;
-              act = subst (λ (x : Term). Act x (receiving k hears.at hears.var hears.to) finished (root_left (line_ack P acked) g)) r.0
-                  (subst (λ (y : Term). Act (guarded_left (line_ack P w) g) (receiving k hears.at hears.var hears.to) finished y) r.1 hears.act);
-              within = hears.meets.within;
-              used = used;
-              into = hears.meets.into;
-              widths = hears.meets.widths;
-              told = covered (channel_width P.channels k) (w.rail (of_channel k)) (w.bit hears.var) has (λ i t f. one i t f) some;
-              low = low;
-              some = some;
-              frees = hears.frees;
-            }
-          where
-            one : (i : ℕ) → w.bit hears.var i true ≡ true → w.bit hears.var i false ≡ true → ⊥
-            one i t f = cc ((clean_of good).single hears.var i, ap (λ b. not (b && w.bit hears.var i false)) t, ap (λ b. not b) f)
+        arrives some r = record {
+          at = r.is.at;
+          var = r.is.var;
+          to = r.is.to;
+          act = subst (λ (q : Process). Act (root_left (line_ack P w) g) q finished (root_left (line_ack P acked) g)) (statement r.p r.is) r.act;
+          lands = lands some r.p r.is;
+        }
+
+        exchanges : is_some (value_on (channel_width P.channels k) (w.rail (of_channel k))) ≡ true
+            → Two Sender Receiver (root_left (line_ack P w) g) (root_left (line_ack P acked) g)
+            → Exchanges P (guarded_writing (line_ack P w) g) (guarded_writing (line_ack P acked) g) k w (root_left (line_ack P w) g)
+            (root_left (line_ack P acked) g)
+        exchanges some r = record {
+          from = r.is.span;
+          expression = r.is.expression;
+          at = r.other.at;
+          var = r.other.var;
+          to = r.other.to;
+          act = subst (λ (q : Process). Exchange (root_left (line_ack P w) g) (sending k r.is.span r.is.expression) q (root_left (line_ack P acked) g))
+              (statement r.q r.other)
+              (subst (λ (p : Process). Exchange (root_left (line_ack P w) g) p r.q (root_left (line_ack P acked) g)) r.is.is r.act);
+          read = r.is.read;
+          lands = lands some r.q r.other;
+        }
 
     in_next : heard_turns P w k ((guarded_shown g).take k) ≡ true → Next P script m g w hs (ack_node k)
     in_next e = here (w.ack k) ((guarded_shown g).take k) refl refl (snd_true (is_heard (kind_at P.channels k))

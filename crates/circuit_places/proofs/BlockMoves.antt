@@ -19,11 +19,12 @@ use Rattle.circuit_places.proofs.Flow.{or_map, cases}
 use Rattle.circuit_places.proofs.Control.{guarded_advance}
 use Rattle.circuit_places.proofs.Change.{GuardedChanged, guarded_changed, AckTurned, Unread, unread_down, bit_leaves}
 use Rattle.circuit_places.proofs.Talks.{either}
-use Rattle.circuit_places.proofs.Meets.{sends_merged, receives_heard}
+use Rattle.circuit_places.proofs.Meets.{receives, sends_merged, receives_heard}
 use Rattle.circuit_places.proofs.Blocks.{now_at, bit_can, moves_written, Block, Acked, ack_stays, ack_turns, bit_moved, wrote_turns, joint_turns, joint_some, ready_valid, ready_neutral}
 use Rattle.circuit_places.proofs.System.{Good, clean_of, can, driven, sent_turns, heard_turns, root_left, Others, Rises, Stored, no_store, cleared, stores, takes_in, Next, Fitted, own_next}
 use Rattle.circuit_places.proofs.AckMoves.{same_answers, same_driven, ack_next}
-use Rattle.circuit_places.proofs.LineMoves.{freed, still_left, SeenChanged, seen_by, seen_still, rail_next, sent_rises, line_passes, line_silent, line_falls, line_stays}
+use Rattle.circuit_places.proofs.LineMoves.{freed, still_left, SeenChanged, seen_by, seen_still, rail_next, sent_rises, line_fires, line_falls, line_stays}
+use Rattle.circuit_places.proofs.Fires.{passes_of}
 
 pub some_of : {i n : ℕ} → i < n → 1 ≤ n
 some_of less = omega (arith, less)
@@ -206,19 +207,23 @@ module _ (P : TypedProgram) (script : List OfferValue) {m : Mode} {g : GuardedAt
       rises h =
           let valid = ready_valid (var_width P.vars x) (w.bit x) (w.rail (of_var x)) (w.wrote x) (line_ack P w (of_var x)) h ready in
           record {
-            changed = sent_rises P script hs good (of_var x) now here rails h valid.0 (λ d e. refl) refl some;
+            changed = sent_rises P script hs good (of_var x) now here rails h valid.0 unheard some;
             term = cases ((guarded_shown g).says (of_var x))
                 (λ (s : (guarded_shown g).says (of_var x) ≡ true). stores h (over ∙ ap not h) valid.1
-                (line_passes P script hs good (of_var x) now here rails h valid.0 (λ d e. refl) refl some s))
+                (passes_of P (seen P w) (guarded_writing (line_ack P w) g) (of_var x) (root_left (line_ack P w) g) (root_left (line_ack P now) g)
+                (line_fires P script hs good (of_var x) now here rails h valid.0 unheard some true false s refl)))
                 (λ (s : (guarded_shown g).says (of_var x) ≡ false). takes_in h (over ∙ ap not h)
                 (still_writing s (each_bit (var_width P.vars x) (w.rail (of_var x)) valid.0 0 (let z : 0 < var_width P.vars x = omega (arith, some) in z)))
-                (line_silent P script hs good (of_var x) now here rails h valid.0 (λ d e. refl) refl some s));
+                (line_fires P script hs good (of_var x) now here rails h valid.0 unheard some false false s refl));
             frees = λ y e. cases (y == x)
                 (λ (z : (y == x) ≡ true). let same = same_number y x z in inr
                 (inl (record { low = ap (λ v. line_ack P w (of_var v)) same ∙ h; high = ap (λ v. line_ack P now (of_var v)) same ∙ (over ∙ ap not h) })))
                 (λ (z : (y == x) ≡ false). inl (sym (guarded_writing_other (line_ack P w) (line_ack P now) x one_turned g y (inl z)) ∙ e));
           }
         where
+          unheard : (d : ℕ) → same_line (of_channel d) (of_var x) ≡ true → receives P.body d ≡ true → (guarded_shown g).take d ≡ true
+          unheard d e u = absurd (cc e)
+
           still_writing : (guarded_shown g).says (of_var x) ≡ false → (side : Bool) × (w.rail (of_var x) 0 side ≡ true)
               → guarded_writing (line_ack P now) g x ≡ true
           still_writing s (side, up) = guarded_writing_other (line_ack P w) (line_ack P now) x one_turned g x (inr s)

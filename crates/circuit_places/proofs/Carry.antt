@@ -1,5 +1,5 @@
 -- Each covered program's circuit carries it.
-use Rattle.std.proofs.Common.{◌≡◌, ◌≢◌, ℕ, zero, suc, ◌+◌, ◌/◌, ◌^◌, ◌<◌, ◌≤◌, ◌⊎◌, inl, inr, Bool, true, false, List, [], ◌∷◌, length, refl, sym, ap, ◌∙◌, subst, arith}
+use Rattle.std.proofs.Common.{◌≡◌, ◌≢◌, ℕ, zero, suc, ◌/◌, ◌^◌, ◌<◌, ◌≤◌, ◌⊎◌, inl, inr, Bool, true, false, List, [], ◌∷◌, length, refl, sym, ap, ◌∙◌, subst, arith}
 use Rattle.std.proofs.Math.ListN.{get_or-eq_default}
 use Rattle.std.proofs.lemmas.Bool.Decides.{nat_tests}
 use Rattle.std.proofs.lemmas.List.Elements.{All-head, All-tail}
@@ -10,7 +10,7 @@ use Rattle.chp_base.specs.declared.channel.Kind.TheVariants.{In, Out, Chan}
 use Rattle.env_script.specs.declared.script.Count.{Count}
 use Rattle.env_script.specs.Scripts.{OfferValue, gives, takes, nothing, offer_at, IsScript, Suits}
 use Rattle.env_script.specs.Runs.{completed}
-use Rattle.width_check.specs.Processes.{Process, TypedProgram}
+use Rattle.width_check.specs.Processes.{TypedProgram}
 use Rattle.width_check.specs.Typing.{kind_at, channel_width, var_width, IsDeclaredChannel}
 use Rattle.width_check.specs.declared.typed.Var.{Var}
 use Rattle.width_check.specs.Sharing.{Occurrence, Parallel}
@@ -22,11 +22,10 @@ use Rattle.circuit_places.specs.Lines.{Line, of_channel, of_var, line_width}
 use Rattle.circuit_places.specs.Circuit.{low, joint_count, tree_answer, same_bit, Guarded, Cells, turns, fires, no_rule, is_apart, guarded_rule, site_rails, takers}
 use Rattle.circuit_places.specs.Whole.{seen, line_ack, is_sent, is_heard, is_merged, merged, brings, drives, offers, bit_rule, wrote_rule, number_rail, first_bits, Whole, Node, go_node, own_node, rail_node, ack_node, bit_node, wrote_node, joint_node, is_node, rule_in, answers, enabled, wires_after, go_after, root_after, moved, first_of, Reaches, at_first, by_move}
 use Rattle.chp_meaning.specs.Halves.{IsSized, IsSizedVar}
-use Rattle.circuit_places.specs.Covered.{talks_on, InternalUnused, Covered}
 use Rattle.circuit_places.specs.Carried.{IsSafe, IsCarried, CircuitsCarry}
 use Rattle.circuit_places.proofs.Places.{Mode, idle, running, answered, returning, asks, is_idle, GuardedAt, g_rests, guarded_cells, guarded_shown, guarded_writing, guarded_can_is}
 use Rattle.circuit_places.proofs.Writing.{first_numbers}
-use Rattle.circuit_places.proofs.Meets.{ExpressionsHold, Meets, Clash, meets, sends_merged, receives_heard, receives_within, sends_talks, receives_talks}
+use Rattle.circuit_places.proofs.Meets.{ExpressionsHold, Meets, Clash, meets, receives_within}
 use Rattle.circuit_places.proofs.Trees.{TreesSettle, tree_over, all_low_value, settling_low, joint_apart, joint_absent}
 use Rattle.circuit_places.proofs.BitTable.{valid, legal_at_first}
 use Rattle.circuit_places.proofs.Blocks.{Block, now_at, bit_apart, wrote_apart}
@@ -51,19 +50,26 @@ suited (c ∷ cs) [] s k below = absurd s
 suited (c ∷ cs) (o ∷ os) s zero below = s.0
 suited (c ∷ cs) (o ∷ os) s (suc k) below = suited cs os s.1 k (let g : k < length cs = omega (arith, below) in g)
 
-sent_takes : (k : Kind) (n : ℕ) (o : OfferValue) → k ≢ Chan → Suits k n o → is_sent k ≡ true → (count : Count) × (o ≡ takes count)
-sent_takes In n o ne s h = absurd (cc h)
-sent_takes Chan n o ne s h = absurd (ne refl)
-sent_takes Out n (takes count) ne s h = (count, refl)
-sent_takes Out n (gives values) ne s h = absurd s
-sent_takes Out n nothing ne s h = absurd s
+sent_takes : (k : Kind) (n : ℕ) (o : OfferValue) → Suits k n o → is_sent k ≡ true → is_heard k ≡ false → (count : Count) × (o ≡ takes count)
+sent_takes In n o s h u = absurd (cc h)
+sent_takes Chan n o s h u = absurd (cc u)
+sent_takes Out n (takes count) s h u = (count, refl)
+sent_takes Out n (gives values) s h u = absurd s
+sent_takes Out n nothing s h u = absurd s
 
-heard_gives : (k : Kind) (n : ℕ) (o : OfferValue) → k ≢ Chan → Suits k n o → is_heard k ≡ true → (values : List ℕ) × (o ≡ gives values)
-heard_gives Out n o ne s h = absurd (cc h)
-heard_gives Chan n o ne s h = absurd (ne refl)
-heard_gives In n (gives values) ne s h = (values, refl)
-heard_gives In n (takes count) ne s h = absurd s
-heard_gives In n nothing ne s h = absurd s
+heard_gives : (k : Kind) (n : ℕ) (o : OfferValue) → Suits k n o → is_sent k ≡ false → is_heard k ≡ true → (values : List ℕ) × (o ≡ gives values)
+heard_gives Out n o s u h = absurd (cc h)
+heard_gives Chan n o s u h = absurd (cc u)
+heard_gives In n (gives values) s u h = (values, refl)
+heard_gives In n (takes count) s u h = absurd s
+heard_gives In n nothing s u h = absurd s
+
+inside_nothing : (k : Kind) (n : ℕ) (o : OfferValue) → Suits k n o → is_sent k ≡ true → is_heard k ≡ true → o ≡ nothing
+inside_nothing In n o s u h = absurd (cc u)
+inside_nothing Out n o s u h = absurd (cc h)
+inside_nothing Chan n nothing s u h = refl
+inside_nothing Chan n (gives values) s u h = absurd s
+inside_nothing Chan n (takes count) s u h = absurd s
 
 takes_kind : (k : Kind) (n : ℕ) (count : Count) → Suits k n (takes count) → (is_sent k ≡ true) × (is_heard k ≡ false)
 takes_kind In n count s = absurd s
@@ -106,24 +112,7 @@ var_bits [] each x below = absurd (let g : ⊥ = omega (arith, below) in g)
 var_bits (v ∷ vs) each zero below = (All-head IsSizedVar v vs each).some
 var_bits (v ∷ vs) each (suc x) below = var_bits vs (All-tail IsSizedVar v vs each) x (let g : x < length vs = omega (arith, below) in g)
 
--- an internal channel isn't used
-unused_at : (channels : List Channel) (p : Process) (n k : ℕ) → InternalUnused n channels p → k < length channels → kind_at channels k ≡ Chan
-    → talks_on (n + k) p ≡ false
-unused_at [] p n k each below e = absurd (let g : ⊥ = omega (arith, below) in g)
-unused_at (c ∷ cs) p n zero each below e = ap (λ m. talks_on m p) (let g : n + 0 ≡ n = omega arith in g) ∙ each.0 e
-unused_at (c ∷ cs) p n (suc k) each below e = ap (λ m. talks_on m p) (let g : n + suc k ≡ suc n + k = omega arith in g)
-    ∙ unused_at cs p (suc n) k each.1 (let g : k < length cs = omega (arith, below) in g) e
-
-module _ (P : TypedProgram) (script : List OfferValue) (typed : IsSized P.channels P.vars P.body) (covered : Covered P) (meets : Meets P P.body)
-    (s : IsScript P.channels script) where
-  used_kind : (k : ℕ) → k < length P.channels → talks_on k P.body ≡ true → kind_at P.channels k ≢ Chan
-  used_kind k below t e = cc (unused_at P.channels P.body 0 k covered.channels below e, ap (λ m. talks_on m P.body) (let g : 0 + k ≡ k = omega arith in g), t)
-
-  not_both : (kind : Kind) → kind ≢ Chan → is_sent kind ≡ true → is_heard kind ≡ true → ⊥
-  not_both In ne s h = cc s
-  not_both Out ne s h = cc h
-  not_both Chan ne s h = ne refl
-
+module _ (P : TypedProgram) (script : List OfferValue) (typed : IsSized P.channels P.vars P.body) (s : IsScript P.channels script) where
   within : (k : ℕ) → offer_at script k ≢ nothing → k < length P.channels
   within k e = subst (λ (n : ℕ). k < n) (as_many P.channels script s) (offers_within script k e)
 
@@ -134,12 +123,9 @@ module _ (P : TypedProgram) (script : List OfferValue) (typed : IsSized P.channe
   fits = record {
     within = within;
     wide = has_bits P.channels typed.each_channel;
-    sent_alone = λ k below t h. not_both (kind_at P.channels k) (used_kind k below (sends_talks P.body k t)) (sends_merged P P.body meets (of_channel k) t) h;
-    heard_alone = λ k below t h. not_both (kind_at P.channels k) (used_kind k below (receives_talks P.body k t)) h (receives_heard P P.body meets k t);
-    sends = λ k below t. sent_takes (kind_at P.channels k) (channel_width P.channels k) (offer_at script k) (used_kind k below (sends_talks P.body k t))
-        (suited P.channels script s k below) (sends_merged P P.body meets (of_channel k) t);
-    hears = λ k below t. heard_gives (kind_at P.channels k) (channel_width P.channels k) (offer_at script k) (used_kind k below (receives_talks P.body k t))
-        (suited P.channels script s k below) (receives_heard P P.body meets k t);
+    sends = λ k below. sent_takes (kind_at P.channels k) (channel_width P.channels k) (offer_at script k) (suited P.channels script s k below);
+    hears = λ k below. heard_gives (kind_at P.channels k) (channel_width P.channels k) (offer_at script k) (suited P.channels script s k below);
+    inside = λ k below. inside_nothing (kind_at P.channels k) (channel_width P.channels k) (offer_at script k) (suited P.channels script s k below);
     out = λ k count e. takes_kind (kind_at P.channels k) (channel_width P.channels k) count (suits k (takes count) e (λ z. cc z));
     brought = λ k values e. let x = gives_kind (kind_at P.channels k) (channel_width P.channels k) values (suits k (gives values) e (λ z. cc z)) in (x.0, x.1);
     bounded = λ k values e n v. all_at (λ v. v < 2 ^ channel_width P.channels k) values
@@ -492,7 +478,7 @@ carried P script fitted x r = record {
 pub circuits_carry : TreesSettle → ExpressionsHold → CircuitsCarry
 circuits_carry law hold P typed covered script s moves x run =
     let there = meets law hold P (var_bits P.vars typed.each_var) P.body unshared typed.body_is covered.body in
-    let fitted = fits P script typed covered there s in
+    let fitted = fits P script typed s in
     carried P script fitted x (reach law P script fitted there moves x run)
   where
     unshared : (a b : Occurrence) → Parallel P.body a b → ¬ Clash a.deed b.deed

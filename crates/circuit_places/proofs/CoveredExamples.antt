@@ -1,116 +1,157 @@
--- Programs that are covered, by a test that decides it for programs without parallel composition.
-use Rattle.std.proofs.Common.{◌≡◌, ℕ, suc, Bool, true, false, List, [], ◌∷◌, refl, inl, inr}
-use Rattle.std.specs.Prelude.{not, ◌&&◌, ◌||◌}
+-- Programs that are covered, by a test.
+use Rattle.std.proofs.Common.{◌≡◌, ℕ, zero, suc, ◌<◌, ◌==◌, Bool, true, false, List, [], ◌∷◌, length, Contains, refl, sym, ap, ◌∙◌, inl, inr, arith}
+use Rattle.std.specs.Prelude.{not, ◌&&◌, slice_index_or}
+use Rattle.std.specs.List.{list_all}
 use Rattle.chp_base.specs.declared.span.Span.{Span}
-use Rattle.chp_base.specs.declared.channel.Channel.{Channel}
-use Rattle.chp_base.specs.declared.channel.Kind.{Kind}
 use Rattle.chp_base.specs.declared.channel.Kind.TheVariants.{In, Out, Chan}
 use Rattle.chp_syntax.specs.declared.tree.Op.TheVariants.{Add, Lt, Ge}
 use Rattle.width_check.specs.Processes.{constant, reading, chained, compared, no_operations, and_operation, Process, skipping, assigning, sending, receiving, in_turn, side_by_side, choosing, repeating, Processes, no_members, and_member, TypedProgram, Choices, no_choices, and_choice}
 use Rattle.width_check.specs.Reads.{reads}
-use Rattle.width_check.specs.Sharing.{Occurrence, Parallel, ParallelInside, ParallelInChoices}
-use Rattle.circuit_places.specs.Covered.{IsCovered, AreCovered, talks_on, InternalUnused, Covered, EachCovered}
+use Rattle.width_check.specs.Sharing.{Deed, reads_var, writes_var, sends_on, receives_on, Occurrence, occurrences, occurrences_of_each, IsAcross, Parallel, ParallelInside, ParallelAcross, Clashes, ParallelInChoices}
+use Rattle.chp_base.specs.declared.fault.FaultCode.TheVariants as code
+use Rattle.circuit_places.specs.Covered.{IsCovered, AreCovered, Covered, EachCovered}
 use Rattle.circuit_places.proofs.RailLemmas.{fst_true, snd_true}
+use Rattle.circuit_places.proofs.LineNames.{self_number}
+use Rattle.circuit_places.proofs.Meets.{Clash}
 
--- at the other end of each channel that is used is the environment
-abbrev is_open : Kind → Bool
-is_open Chan = false
-is_open _ = true
+-- two deeds that the sharing rule keeps apart
+abbrev clashing : Deed → Deed → Bool
+clashing (writes_var x) (writes_var y) = x == y
+clashing (writes_var x) (reads_var y) = x == y
+clashing (reads_var x) (writes_var y) = x == y
+clashing (sends_on x) (sends_on y) = x == y
+clashing (receives_on x) (receives_on y) = x == y
+clashing _ _ = false
 
-abbrev all_open : ℕ → List Channel → Process → Bool
-all_open n [] p = true
-all_open n (c ∷ cs) p = (is_open c.kind || not (talks_on n p)) && all_open (suc n) cs p
+abbrev fair_to : Occurrence → Occurrence → Bool
+fair_to a b = not (clashing a.deed b.deed) && not (clashing b.deed a.deed)
 
--- one process alone, of covered statements
+abbrev all_fair : List Occurrence → List Occurrence → Bool
+all_fair xs ys = list_all (λ a. list_all (fair_to a) ys) xs
+
+abbrev each_fair : Processes → Bool
+each_fair no_members = true
+each_fair (and_member p more) = all_fair (occurrences p) (occurrences_of_each more) && each_fair more
+
+-- covered statements, of which parallel ones don't clash
 abbrev mutual
-  is_alone : Process → Bool
-  is_alone skipping = true
-  is_alone (assigning x at e) = not (reads x e)
-  is_alone (sending c at e) = true
-  is_alone (receiving c at x to) = true
-  is_alone (in_turn members) = are_alone members
-  is_alone (repeating p) = is_alone p
-  is_alone (choosing again choices) = each_alone choices
-  is_alone _ = false
+  is_fair : Process → Bool
+  is_fair skipping = true
+  is_fair (assigning x at e) = not (reads x e)
+  is_fair (sending c at e) = true
+  is_fair (receiving c at x to) = true
+  is_fair (in_turn members) = are_fair members
+  is_fair (side_by_side members) = are_fair members && each_fair members
+  is_fair (repeating p) = is_fair p
+  is_fair (choosing again choices) = choices_fair choices
 
-  each_alone : Choices → Bool
-  each_alone no_choices = true
-  each_alone (and_choice g p more) = is_alone p && each_alone more
+  choices_fair : Choices → Bool
+  choices_fair no_choices = true
+  choices_fair (and_choice g p more) = is_fair p && choices_fair more
 
-  are_alone : Processes → Bool
-  are_alone no_members = true
-  are_alone (and_member p more) = is_alone p && are_alone more
+  are_fair : Processes → Bool
+  are_fair no_members = true
+  are_fair (and_member p more) = is_fair p && are_fair more
 
 plain : (b : Bool) → not b ≡ true → b ≡ false
 plain true h = absurd (cc h)
 plain false h = refl
 
-open_kind : (k : Kind) (used : Bool) → (is_open k || not used) ≡ true → k ≡ Chan → used ≡ false
-open_kind Chan used h e = plain used h
-open_kind In used h e = absurd (cc e)
-open_kind Out used h e = absurd (cc e)
-
-opens : (n : ℕ) (cs : List Channel) (p : Process) → all_open n cs p ≡ true → InternalUnused n cs p
-opens n [] p h = tt
-opens n (c ∷ cs) p h =
-    let here = is_open c.kind || not (talks_on n p) in
-    (open_kind c.kind (talks_on n p) (fst_true here (all_open (suc n) cs p) h), opens (suc n) cs p (snd_true here (all_open (suc n) cs p) h))
-
 mutual
-  covers : (p : Process) → is_alone p ≡ true → IsCovered p
+  covers : (p : Process) → is_fair p ≡ true → IsCovered p
   covers skipping h = tt
   covers (assigning x at e) h = plain (reads x e) h
   covers (sending c at e) h = tt
   covers (receiving c at x to) h = tt
   covers (in_turn members) h = cover members h
   covers (repeating p) h = covers p h
-  covers (side_by_side members) h = absurd (cc h)
+  covers (side_by_side members) h = cover members (fst_true (are_fair members) (each_fair members) h)
   covers (choosing again choices) h = cover_each choices h
 
-  cover_each : (choices : Choices) → each_alone choices ≡ true → EachCovered choices
+  cover_each : (choices : Choices) → choices_fair choices ≡ true → EachCovered choices
   cover_each no_choices h = tt
-  cover_each (and_choice g p more) h = (
-    covers p (fst_true (is_alone p) (each_alone more) h),
-    cover_each more (snd_true (is_alone p) (each_alone more) h),
-  )
+  cover_each (and_choice g p more) h =
+      (covers p (fst_true (is_fair p) (choices_fair more) h), cover_each more (snd_true (is_fair p) (choices_fair more) h))
 
-  cover : (members : Processes) → are_alone members ≡ true → AreCovered members
+  cover : (members : Processes) → are_fair members ≡ true → AreCovered members
   cover no_members h = tt
-  cover (and_member p more) h = (covers p (fst_true (is_alone p) (are_alone more) h), cover more (snd_true (is_alone p) (are_alone more) h))
+  cover (and_member p more) h = (covers p (fst_true (is_fair p) (are_fair more) h), cover more (snd_true (is_fair p) (are_fair more) h))
+
+sends_clash : (d g : Deed) → Clashes code.SharedSend d g → clashing d g ≡ true
+sends_clash (sends_on x) (sends_on y) e = ap (λ n. n == y) e ∙ self_number y
+sends_clash _ _ e = absurd e
+
+receives_clash : (d g : Deed) → Clashes code.SharedReceive d g → clashing d g ≡ true
+receives_clash (receives_on x) (receives_on y) e = ap (λ n. n == y) e ∙ self_number y
+receives_clash _ _ e = absurd e
+
+variables_clash : (d g : Deed) → Clashes code.SharedVariable d g → clashing d g ≡ true
+variables_clash (writes_var x) (writes_var y) e = ap (λ n. n == y) e ∙ self_number y
+variables_clash (writes_var x) (reads_var y) e = ap (λ n. n == y) e ∙ self_number y
+variables_clash (reads_var x) (writes_var y) e = ap (λ n. n == y) e ∙ self_number y
+variables_clash _ _ e = absurd e
+
+all_clash : (d g : Deed) → Clash d g → clashing d g ≡ true
+all_clash d g (inl c) = sends_clash d g c
+all_clash d g (inr (inl c)) = variables_clash d g c
+all_clash d g (inr (inr c)) = receives_clash d g c
+
+-- what each of a list is, one of it is
+one_is : (p : Occurrence → Bool) (xs : List Occurrence) (x : Occurrence) → list_all p xs ≡ true → Contains xs x → p x ≡ true
+one_is p xs x h (k, less, is) = at_place xs k h less is
+  where
+    at_place : (xs : List Occurrence) (k : ℕ) → list_all p xs ≡ true → k < length xs → slice_index_or xs k x ≡ x → p x ≡ true
+    at_place [] k h less is = absurd (let g : ⊥ = omega (arith, less) in g)
+    at_place (y ∷ ys) zero h less is = ap p (sym is) ∙ fst_true (p y) (list_all p ys) h
+    at_place (y ∷ ys) (suc k) h less is = at_place ys k (snd_true (p y) (list_all p ys) h) (let g : k < length ys = omega (arith, less) in g) is
+
+two_fair : (xs ys : List Occurrence) → all_fair xs ys ≡ true → (a b : Occurrence) → IsAcross xs ys a b → Clash a.deed b.deed → ⊥
+two_fair xs ys h a b (inl (x, y)) c = cc (
+  all_clash a.deed b.deed c,
+  fst_true (not (clashing a.deed b.deed)) (not (clashing b.deed a.deed)) (one_is (fair_to a) ys b (one_is (λ o. list_all (fair_to o) ys) xs a h x) y),
+)
+two_fair xs ys h a b (inr (y, x)) c = cc (
+  all_clash a.deed b.deed c,
+  snd_true (not (clashing b.deed a.deed)) (not (clashing a.deed b.deed)) (one_is (fair_to b) ys a (one_is (λ o. list_all (fair_to o) ys) xs b h x) y),
+)
+
+across : (members : Processes) → each_fair members ≡ true → (a b : Occurrence) → ParallelAcross members a b → Clash a.deed b.deed → ⊥
+across no_members h a b x c = x
+across (and_member p more) h a b (inl x) c = two_fair (occurrences p) (occurrences_of_each more)
+    (fst_true (all_fair (occurrences p) (occurrences_of_each more)) (each_fair more) h) a b x c
+across (and_member p more) h a b (inr x) c = across more (snd_true (all_fair (occurrences p) (occurrences_of_each more)) (each_fair more) h) a b x c
 
 mutual
-  alone : (p : Process) → is_alone p ≡ true → (a b : Occurrence) → Parallel p a b → ⊥
-  alone skipping h a b x = x
-  alone (assigning y at e) h a b x = x
-  alone (sending c at e) h a b x = x
-  alone (receiving c at y to) h a b x = x
-  alone (in_turn members) h a b x = all_alone members h a b x
-  alone (repeating p) h a b x = alone p h a b x
-  alone (side_by_side members) h a b x = cc h
-  alone (choosing again choices) h a b x = choices_alone choices h a b x
+  unshared : (p : Process) → is_fair p ≡ true → (a b : Occurrence) → Parallel p a b → Clash a.deed b.deed → ⊥
+  unshared skipping h a b x c = x
+  unshared (assigning y at e) h a b x c = x
+  unshared (sending k at e) h a b x c = x
+  unshared (receiving k at y to) h a b x c = x
+  unshared (in_turn members) h a b x c = all_unshared members h a b x c
+  unshared (repeating p) h a b x c = unshared p h a b x c
+  unshared (side_by_side members) h a b (inl x) c = all_unshared members (fst_true (are_fair members) (each_fair members) h) a b x c
+  unshared (side_by_side members) h a b (inr x) c = across members (snd_true (are_fair members) (each_fair members) h) a b x c
+  unshared (choosing again choices) h a b x c = choices_unshared choices h a b x c
 
-  choices_alone : (choices : Choices) → each_alone choices ≡ true → (a b : Occurrence) → ParallelInChoices choices a b → ⊥
-  choices_alone no_choices h a b x = x
-  choices_alone (and_choice g p more) h a b (inl x) = alone p (fst_true (is_alone p) (each_alone more) h) a b x
-  choices_alone (and_choice g p more) h a b (inr x) = choices_alone more (snd_true (is_alone p) (each_alone more) h) a b x
+  choices_unshared : (choices : Choices) → choices_fair choices ≡ true → (a b : Occurrence) → ParallelInChoices choices a b → Clash a.deed b.deed → ⊥
+  choices_unshared no_choices h a b x c = x
+  choices_unshared (and_choice g p more) h a b (inl x) c = unshared p (fst_true (is_fair p) (choices_fair more) h) a b x c
+  choices_unshared (and_choice g p more) h a b (inr x) c = choices_unshared more (snd_true (is_fair p) (choices_fair more) h) a b x c
 
-  all_alone : (members : Processes) → are_alone members ≡ true → (a b : Occurrence) → ParallelInside members a b → ⊥
-  all_alone no_members h a b x = x
-  all_alone (and_member p more) h a b (inl x) = alone p (fst_true (is_alone p) (are_alone more) h) a b x
-  all_alone (and_member p more) h a b (inr x) = all_alone more (snd_true (is_alone p) (are_alone more) h) a b x
+  all_unshared : (members : Processes) → are_fair members ≡ true → (a b : Occurrence) → ParallelInside members a b → Clash a.deed b.deed → ⊥
+  all_unshared no_members h a b x c = x
+  all_unshared (and_member p more) h a b (inl x) c = unshared p (fst_true (is_fair p) (are_fair more) h) a b x c
+  all_unshared (and_member p more) h a b (inr x) c = all_unshared more (snd_true (is_fair p) (are_fair more) h) a b x c
 
-pub decided : (P : TypedProgram) → (all_open 0 P.channels P.body && is_alone P.body) ≡ true → Covered P
-decided P h =
-    let single = snd_true (all_open 0 P.channels P.body) (is_alone P.body) h in
-    record {
-      channels = opens 0 P.channels P.body (fst_true (all_open 0 P.channels P.body) (is_alone P.body) h);
-      body = covers P.body single;
-      sharing = record {
-        variables = λ a b x c. alone P.body single a b x;
-        sends = λ a b x c. alone P.body single a b x;
-        receives = λ a b x c. alone P.body single a b x;
-      };
-    }
+pub decided : (P : TypedProgram) → is_fair P.body ≡ true → Covered P
+decided P h = record {
+  body = covers P.body h;
+  sharing = record {
+    variables = λ a b x c. unshared P.body h a b x (inr (inl c));
+    sends = λ a b x c. unshared P.body h a b x (inl c);
+    receives = λ a b x c. unshared P.body h a b x (inr (inr c));
+  };
+}
 
 abbrev at : Span
 at = record { from = 0; to = 1 }

@@ -1,6 +1,6 @@
 -- Where nothing moves in the whole circuit, the program has no step.
 use Rattle.std.proofs.Common.{◌≡◌, ◌≢◌, ℕ, ◌<◌, ◌≤◌, Bool, true, false, List, [], ◌∷◌, refl, sym, ap, ◌∙◌, subst, arith}
-use Rattle.std.specs.Prelude.{not, ◌&&◌, ◌||◌, if◌then◌else◌, slice_get, slice_index, Option, Some, None, is_some}
+use Rattle.std.specs.Prelude.{not, ◌&&◌, ◌||◌, if◌then◌else◌, length, slice_get, slice_index, Option, Some, None, is_some}
 use Rattle.chp_base.specs.declared.span.Span.{Span}
 use Rattle.env_script.specs.declared.script.Count.{Count}
 use Rattle.env_script.specs.Scripts.{OfferValue, gives, takes, nothing, offer_at, is_over}
@@ -14,13 +14,14 @@ use Rattle.circuit_places.specs.Circuit.{turns}
 use Rattle.circuit_places.specs.Whole.{Wires, seen, line_ack, is_heard, is_merged, number_rail, brings, drives, offers, value_on, neutral_on, Node, go_node, own_node, rail_node, ack_node, bit_node, wrote_node, joint_node, answers}
 use Rattle.circuit_places.proofs.RailLemmas.{lows_neutral, value_same, each_bit}
 use Rattle.circuit_places.proofs.Flow.{low_of, cases, or_left, or_right, neither_left, neither_right}
-use Rattle.circuit_places.proofs.Talks.{either, guarded_talks_sends, guarded_listens_receives}
+use Rattle.circuit_places.proofs.Talks.{either}
 use Rattle.circuit_places.proofs.Arriving.{number_some}
 use Rattle.circuit_places.proofs.BitTable.{Now, may, write_t, write_f, some_bit}
 use Rattle.circuit_places.proofs.Blocks.{now_at, block_waits}
 use Rattle.circuit_places.proofs.Places.{Mode, running, returning, GuardedAt, g_rests, g_in, g_past, g_back, guarded_cells, guarded_shown, guarded_writing}
 use Rattle.circuit_places.proofs.Left.{guarded_left}
-use Rattle.circuit_places.proofs.Rest.{Listening, Releasing, Valid, Blocked, a_send, a_receive, Waiting, Hanging, let_go, unstored, holding, Rest, settled, waiting, hanging, guarded_rest, a_choice}
+use Rattle.circuit_places.proofs.Rest.{Full, Listening, Releasing, Valid, Blocked, a_send, a_receive, Waiting, Hanging, let_go, unstored, holding, Rest, settled, waiting, hanging, guarded_rest, a_choice}
+use Rattle.circuit_places.proofs.Held.{Held, guarded_held}
 use Rattle.circuit_places.proofs.Fires.{guarded_site}
 use Rattle.circuit_places.proofs.System.{Good, clean_of, can, driven, sent_turns, heard_turns, root_left, Fitted}
 use Rattle.circuit_places.proofs.Follow.{fewer, left_over, behind_none, Followed, over_before, open_is}
@@ -28,11 +29,14 @@ use Rattle.circuit_places.proofs.Meets.{uses_within}
 use Rattle.circuit_places.proofs.Writing.{guarded_reads_uses, guarded_writing_unread}
 use Rattle.function_blocks.specs.Rails.{number_on}
 
--- a send that no acceptance is left for, a receive that no value is left for, a selection of which no branch alone is open
+-- a send that no acceptance is left for, and a receive that no value is left for; either one on a channel on which the
+-- environment has no part; and a selection of which no branch alone is open
 pub data Refused (c : Configuration) (s : Process) : Type 0 where
   no_taker : (channel : ℕ) (at : Span) (e : Formula) (count : Count) → s ≡ sending channel at e → offer_at c.rests channel ≡ takes count
       → is_over count 0 ≡ false → Refused c s
   no_value : (channel x : ℕ) (at to : Span) → s ≡ receiving channel at x to → offer_at c.rests channel ≡ gives [] → Refused c s
+  no_receiver : (channel : ℕ) (at : Span) (e : Formula) → s ≡ sending channel at e → offer_at c.rests channel ≡ nothing → Refused c s
+  no_sender : (channel x : ℕ) (at to : Span) → s ≡ receiving channel at x to → offer_at c.rests channel ≡ nothing → Refused c s
   no_choice : (again : Bool) (choices : Choices) → s ≡ choosing again choices → ((p : Process) → open_branches c choices ≢ p ∷ [])
       → (again ≡ true → open_branches c choices ≢ []) → Refused c s
 
@@ -46,38 +50,40 @@ may_wait _ = false
 refused_waits : (c : Configuration) (s : Process) → Refused c s → may_wait s ≡ true
 refused_waits c s (no_taker k at e count is o z) = ap may_wait is
 refused_waits c s (no_value k x at to is o) = ap may_wait is
+refused_waits c s (no_receiver k at e is o) = ap may_wait is
+refused_waits c s (no_sender k x at to is o) = ap may_wait is
 refused_waits c s (no_choice again choices is one some) = ap may_wait is
 
 not_chosen : (c : Configuration) (again : Bool) (choices : Choices) (p : Process) → Refused c (choosing again choices) → open_branches c choices ≡ p ∷ [] → ⊥
 not_chosen c again choices p (no_taker channel at e count is o z) found = cc is
 not_chosen c again choices p (no_value channel x at to is o) found = cc is
+not_chosen c again choices p (no_receiver channel at e is o) found = cc is
+not_chosen c again choices p (no_sender channel x at to is o) found = cc is
 not_chosen c again choices p (no_choice a cs is one some) found =
     let same : choices ≡ cs = cc is in one p (sym (ap (open_branches c) same) ∙ found)
 
 not_ended : (c : Configuration) (choices : Choices) → Refused c (choosing true choices) → open_branches c choices ≡ [] → ⊥
 not_ended c choices (no_taker channel at e count is o z) found = cc is
 not_ended c choices (no_value channel x at to is o) found = cc is
+not_ended c choices (no_receiver channel at e is o) found = cc is
+not_ended c choices (no_sender channel x at to is o) found = cc is
 not_ended c choices (no_choice a cs is one some) found =
     let same : choices ≡ cs = cc is in
     let t : true ≡ a = cc is in
     some (sym t) (sym (ap (open_branches c) same) ∙ found)
 
--- a configuration in which there are only such statements has no step
-pub no_step : (c : Configuration) → ((at : Place) (s : Process) → statement_at c.term at ≡ Some s → Refused c s) → (at : Place) (d : Configuration)
-    → ¬ Step c at d
-no_step c all at d (a_skip e) = absurd (cc (refused_waits c _ (all at _ e)))
-no_step c all at d (an_assignment e) = absurd (cc (refused_waits c _ (all at _ e)))
-no_step c all at d (a_selection e g) = not_chosen c false _ _ (all at _ e) g
-no_step c all at d (a_turn e g) = not_chosen c true _ _ (all at _ e) g
-no_step c all at d (an_end e g) = not_ended c _ (all at _ e) g
-no_step c all at d (a_repetition e) = absurd (cc (refused_waits c _ (all at _ e)))
-no_step c all at d (a_communication other e f offered) = absurd (here (all at _ e) offered)
-  where
-    here : {k : ℕ} {s : Span} {x : Formula} → Refused c (sending k s x) → offer_at c.rests k ≡ nothing → ⊥
-    here {k = k} (no_taker channel at e count is o z) offered = let same : k ≡ channel = cc is in cc (ap (offer_at c.rests) same, offered, o)
-    here (no_value channel x at to is o) offered = cc is
-    here (no_choice again choices is one some) offered = cc is
-no_step c all at d (a_delivery e offered more) = absurd (here (all at _ e) offered more)
+-- a configuration in which there are only such statements, and no two of them meet on a channel, has no step
+pub no_step : (c : Configuration) → ((at : Place) (s : Process) → statement_at c.term at ≡ Some s → Refused c s)
+    → ((at other : Place) (k x : ℕ) (s t u : Span) (e : Formula) → statement_at c.term at ≡ Some (sending k s e)
+    → statement_at c.term other ≡ Some (receiving k t x u) → ⊥) → (at : Place) (d : Configuration) → ¬ Step c at d
+no_step c all apart at d (a_skip e) = absurd (cc (refused_waits c _ (all at _ e)))
+no_step c all apart at d (an_assignment e) = absurd (cc (refused_waits c _ (all at _ e)))
+no_step c all apart at d (a_selection e g) = not_chosen c false _ _ (all at _ e) g
+no_step c all apart at d (a_turn e g) = not_chosen c true _ _ (all at _ e) g
+no_step c all apart at d (an_end e g) = not_ended c _ (all at _ e) g
+no_step c all apart at d (a_repetition e) = absurd (cc (refused_waits c _ (all at _ e)))
+no_step c all apart at d (a_communication other e f offered) = absurd (apart at other _ _ _ _ _ _ e f)
+no_step c all apart at d (a_delivery e offered more) = absurd (here (all at _ e) offered more)
   where
     here : {k : ℕ} {s : Span} {x : Formula} {count : Count} → Refused c (sending k s x) → offer_at c.rests k ≡ takes count → is_over count 0 ≡ true → ⊥
     here {k = k} {count = count} (no_taker channel at e most is o z) offered more =
@@ -85,13 +91,17 @@ no_step c all at d (a_delivery e offered more) = absurd (here (all at _ e) offer
         let both : takes count ≡ takes most = sym offered ∙ (ap (offer_at c.rests) same ∙ o) in
         let counts : count ≡ most = cc both in
         cc (ap (λ i. is_over i 0) counts, more, z)
+    here {k = k} (no_receiver channel at e is o) offered more = let same : k ≡ channel = cc is in cc (ap (offer_at c.rests) same, offered, o)
     here (no_value channel x at to is o) offered more = cc is
+    here (no_sender channel x at to is o) offered more = cc is
     here (no_choice again choices is one some) offered more = cc is
-no_step c all at d (an_arrival e offered) = absurd (here (all at _ e) offered)
+no_step c all apart at d (an_arrival e offered) = absurd (here (all at _ e) offered)
   where
     here : {k x v : ℕ} {s t : Span} {more : List ℕ} → Refused c (receiving k s x t) → offer_at c.rests k ≡ gives (v ∷ more) → ⊥
     here (no_taker channel at e count is o z) offered = cc is
+    here (no_receiver channel at e is o) offered = cc is
     here (no_choice again choices is one some) offered = cc is
+    here {k = k} (no_sender channel x at to is o) offered = let same : k ≡ channel = cc is in cc (ap (offer_at c.rests) same, offered, o)
     here {k = k} {v = v} {more = more} (no_value channel x at to is o) offered =
         let same : k ≡ channel = cc is in
         let both : gives (v ∷ more) ≡ gives [] = sym offered ∙ (ap (offer_at c.rests) same ∙ o) in
@@ -166,6 +176,20 @@ module _ (P : TypedProgram) {script : List OfferValue} (fitted : Fitted P script
   some_side n i (true, h) = or_left (n i true) (n i false) h
   some_side n i (false, h) = or_right (n i true) (n i false) h
 
+  -- over a high acknowledge of a channel on which the program receives all rails are low
+  held : (c : ℕ) → w.ack c ≡ true → Held P c (seen P w) (guarded_shown g)
+  held c high = guarded_held P (seen P w) c high g good.meets good.fits (λ s. none (own_node s))
+
+  quiet : (c : ℕ) → c < length P.channels → is_heard (kind_at P.channels c) ≡ true → w.ack c ≡ true → (i : ℕ) (one : Bool)
+      → w.rail (of_channel c) i one ≡ false
+  quiet c within heard high i one = cases (is_merged P (of_channel c))
+      (λ (u : is_merged P (of_channel c) ≡ true). rails_are (of_channel c) i one u ∙ (held c high).gone i one)
+      (λ (u : is_merged P (of_channel c) ≡ false).
+      let o = fitted.hears c within u heard in
+      sym (ap (λ b. if b then w.rail (of_channel c) i one else brings (channel_width P.channels c) (slice_get o.0 (completed hs c)) i one &&
+      (not (w.rail (of_channel c) i true) && not (w.rail (of_channel c) i false))) high)
+      ∙ not_driven c o.0 o.1 i one)
+
   -- a receive that has let go doesn't hang
   not_held : (c v : ℕ) → Releasing P c v (seen P w) (guarded_shown g) → ⊥
   not_held c v r = cases (line_ack P w (of_var v))
@@ -177,27 +201,22 @@ module _ (P : TypedProgram) {script : List OfferValue} (fitted : Fitted P script
       let free : (guarded_shown g).take c ≡ false = low_of ((guarded_shown g).take c) r.has h in
       cc (not_turned c r.meets.heard, ap (λ b. turns b ((guarded_shown g).take c) (not ((guarded_shown g).take c))) r.high, ap not free))
     where
-      quiet : (i : ℕ) (one : Bool) → w.rail (of_channel c) i one ≡ false
-      quiet i one =
-          let o = fitted.hears c r.meets.within (guarded_listens_receives g c r.hears) in
-          sym (ap (λ b. if b then w.rail (of_channel c) i one else brings (channel_width P.channels c) (slice_get o.0 (completed hs c)) i one &&
-          (not (w.rail (of_channel c) i true) && not (w.rail (of_channel c) i false))) r.high)
-          ∙ not_driven c o.0 o.1 i one
-
       gone : (i : ℕ) (one : Bool) → (guarded_shown g).offer (of_var v) i one ≡ false
-      gone i one = low_of ((guarded_shown g).offer (of_var v) i one) (r.all i one) (quiet i one)
+      gone i one = low_of ((guarded_shown g).offer (of_var v) i one) (r.all i one) (quiet c r.meets.within r.meets.heard r.high i one)
 
   no_hanging : Hanging P (seen P w) (guarded_shown g) → ⊥
-  no_hanging (let_go (of_channel c) high talks gone) =
+  no_hanging (let_go (of_channel c) high talks gone) = cases (is_heard (kind_at P.channels c))
+      (λ (u : is_heard (kind_at P.channels c) ≡ true). let r = (held c high).lets_go (good.listen c u high) in not_held c r.0 r.1)
+      (λ (u : is_heard (kind_at P.channels c) ≡ false).
       let x = guarded_site P (seen P w) (clean_of good) g good.meets good.fits (of_channel c) talks in
-      let o = fitted.sends c x.within (guarded_talks_sends g (of_channel c) talks) in
+      let o = fitted.sends c x.within x.merged u in
       let neutral : neutral_on (channel_width P.channels c) (w.rail (of_channel c)) ≡ true = lows_neutral (channel_width P.channels c) (w.rail (of_channel c))
       (λ i one. rails_are (of_channel c) i one x.merged ∙ gone i one) in
       let may : answers (channel_width P.channels c) w c (completed hs c) (offer_at script c) ≡ true =
       ap (answers (channel_width P.channels c) w c (completed hs c)) o.1
       ∙ (ap (λ b. if b then neutral_on (channel_width P.channels c) (w.rail (of_channel c)) else is_some
       (value_on (channel_width P.channels c) (w.rail (of_channel c))) && is_over o.0 (completed hs c)) high ∙ neutral) in
-      cc (may, not_answered c)
+      cc (may, not_answered c))
   no_hanging (let_go (of_var v) high talks gone) =
       let x = guarded_site P (seen P w) (clean_of good) g good.meets good.fits (of_var v) talks in
       let (i, less, e) = block_rest v x.some in
@@ -220,11 +239,29 @@ module _ (P : TypedProgram) {script : List OfferValue} (fitted : Fitted P script
       some_of : {i n : ℕ} → i < n → 1 ≤ n
       some_of less = omega (arith, less)
 
-  -- a receive that waits has no value left
+  -- where a receive waits, not each bit of its channel has a rail high
+  not_there : (c v : ℕ) → Listening P c v (seen P w) (guarded_shown g)
+      → ((i : ℕ) → i < channel_width P.channels c → (w.rail (of_channel c) i true || w.rail (of_channel c) i false) ≡ true) → ⊥
+  not_there c v l brought = cases (line_ack P w (of_var v)) stored waits
+    where
+      taken : (i : ℕ) → i < var_width P.vars v → (w.rail (of_var v) i true || w.rail (of_var v) i false) ≡ true
+      taken i less = either (w.rail (of_channel c) i true) (w.rail (of_channel c) i false) (brought i (subst (λ (n : ℕ). i < n) l.meets.widths less))
+          (λ z. or_left (w.rail (of_var v) i true) (w.rail (of_var v) i false) (rails_are (of_var v) i true refl ∙ l.all i true z))
+          (λ z. or_right (w.rail (of_var v) i true) (w.rail (of_var v) i false) (rails_are (of_var v) i false refl ∙ l.all i false z))
+
+      stored : line_ack P w (of_var v) ≡ true → ⊥
+      stored h = cc (not_turned c l.meets.heard, ap (λ b. turns b ((guarded_shown g).take c) (not ((guarded_shown g).take c))) l.low, l.has h)
+
+      waits : line_ack P w (of_var v) ≡ false → ⊥
+      waits h =
+          let (i, less, e) = block_rest v l.meets.some in
+          low_waits (now_at (w.bit v) (w.rail (of_var v)) (w.wrote v) (line_ack P w (of_var v)) i) h (taken i less) e
+
+  -- so no value is left for it
   none_left : (c v : ℕ) → Listening P c v (seen P w) (guarded_shown g) → (values : List ℕ) → offer_at script c ≡ gives values → (o : Option ℕ)
       → slice_get values (completed hs c) ≡ o → o ≡ None
   none_left c v l values is None e = refl
-  none_left c v l values is (Some x) e = absurd (cases (line_ack P w (of_var v)) stored waits)
+  none_left c v l values is (Some x) e = absurd (not_there c v l brought)
     where
       low_both : (i : ℕ) (one : Bool) → number_rail (channel_width P.channels c) x i one ≡ true
           → (w.rail (of_channel c) i true || w.rail (of_channel c) i false) ≡ true
@@ -242,18 +279,23 @@ module _ (P : TypedProgram) {script : List OfferValue} (fitted : Fitted P script
       brought : (i : ℕ) → i < channel_width P.channels c → (w.rail (of_channel c) i true || w.rail (of_channel c) i false) ≡ true
       brought i less = let (one, h) = number_some (channel_width P.channels c) x i less in low_both i one h
 
-      taken : (i : ℕ) → i < var_width P.vars v → (w.rail (of_var v) i true || w.rail (of_var v) i false) ≡ true
-      taken i less = either (w.rail (of_channel c) i true) (w.rail (of_channel c) i false) (brought i (subst (λ (n : ℕ). i < n) l.meets.widths less))
-          (λ z. or_left (w.rail (of_var v) i true) (w.rail (of_var v) i false) (rails_are (of_var v) i true refl ∙ l.all i true z))
-          (λ z. or_right (w.rail (of_var v) i true) (w.rail (of_var v) i false) (rails_are (of_var v) i false refl ∙ l.all i false z))
+  -- each bit of a channel on which a send waits has a rail high
+  sent_there : (c : ℕ) → Full P (of_channel c) (seen P w) (guarded_shown g) → is_some (value_on (channel_width P.channels c) (w.rail (of_channel c))) ≡ true
+  sent_there c b = ap is_some (value_same (channel_width P.channels c) (w.rail (of_channel c)) ((guarded_shown g).offer (of_channel c))
+      (λ i one. rails_are (of_channel c) i one b.merged)) ∙ b.whole
 
-      stored : line_ack P w (of_var v) ≡ true → ⊥
-      stored h = cc (not_turned c l.meets.heard, ap (λ b. turns b ((guarded_shown g).take c) (not ((guarded_shown g).take c))) l.low, l.has h)
-
-      waits : line_ack P w (of_var v) ≡ false → ⊥
-      waits h =
-          let (i, less, e) = block_rest v l.meets.some in
-          low_waits (now_at (w.bit v) (w.rail (of_var v)) (w.wrote v) (line_ack P w (of_var v)) i) h (taken i less) e
+  -- so no receive waits beside it
+  no_meeting : (k x : ℕ) (s t u : Span) (e : Formula) → Blocked P (sending k s e) (seen P w) (guarded_shown g)
+      → Blocked P (receiving k t x u) (seen P w) (guarded_shown g) → ⊥
+  no_meeting k x s t u e (a_receive c v at to l is) q = cc is
+  no_meeting k x s t u e p (a_send c at d b is) = cc is
+  no_meeting k x s t u e (a_choice again choices b is) q = cc is
+  no_meeting k x s t u e p (a_choice again choices b is) = cc is
+  no_meeting k x s t u e (a_send c at d b is) (a_receive n v from to l its) =
+      let one : k ≡ c = cc is in
+      let other : k ≡ n = cc its in
+      let here = subst (λ (i : ℕ). Full P (of_channel i) (seen P w) (guarded_shown g)) (sym one ∙ other) b in
+      not_there n v l (λ i less. some_side (w.rail (of_channel n)) i (each_bit (channel_width P.channels n) (w.rail (of_channel n)) (sent_there n here) i less))
 
   -- what waits has no acceptance left, or no value
   refused : {most : ℕ} {t : Term} (r : Followed P script most hs t w.bit (guarded_writing (line_ack P w) g)) (s : Process)
@@ -269,21 +311,25 @@ module _ (P : TypedProgram) {script : List OfferValue} (fitted : Fitted P script
 
       agree : (x : ℕ) → (guarded_shown g).read x ≡ true → number_on (var_width P.vars x) (w.bit x) ≡ slice_index r.to.store x
       agree x read = r.stored x (uses_within P P.body good.meets x (guarded_reads_uses g x read)) (unwritten x read)
-  refused r s (a_receive c v at to l is) =
-      let o = fitted.hears c l.meets.within (guarded_listens_receives g c l.hears) in
+  refused r s (a_receive c v at to l is) = cases (is_merged P (of_channel c))
+      (λ (u : is_merged P (of_channel c) ≡ true).
+      no_sender c v at to is (r.rests c ∙ ap (λ x. left_over x (completed hs c)) (fitted.inside c l.meets.within u l.meets.heard)))
+      (λ (u : is_merged P (of_channel c) ≡ false).
+      let o = fitted.hears c l.meets.within u l.meets.heard in
       no_value c v at to is (r.rests c ∙ (ap (λ x. left_over x (completed hs c)) o.1
-      ∙ ap (λ x. gives x) (behind_none o.0 (completed hs c) (none_left c v l o.0 o.1 (slice_get o.0 (completed hs c)) refl))))
-  refused r s (a_send c at x b is) =
-      let o = fitted.sends c b.within (guarded_talks_sends g (of_channel c) b.talks) in
-      let some : is_some (value_on (channel_width P.channels c) (w.rail (of_channel c))) ≡ true =
-      ap is_some (value_same (channel_width P.channels c) (w.rail (of_channel c)) ((guarded_shown g).offer (of_channel c))
-      (λ i one. rails_are (of_channel c) i one b.merged)) ∙ b.whole in
+      ∙ ap (λ x. gives x) (behind_none o.0 (completed hs c) (none_left c v l o.0 o.1 (slice_get o.0 (completed hs c)) refl)))))
+  refused r s (a_send c at x b is) = cases (is_heard (kind_at P.channels c))
+      (λ (u : is_heard (kind_at P.channels c) ≡ true).
+      no_receiver c at x is (r.rests c ∙ ap (λ x. left_over x (completed hs c)) (fitted.inside c b.within b.merged u)))
+      (λ (u : is_heard (kind_at P.channels c) ≡ false).
+      let o = fitted.sends c b.within b.merged u in
+      let some = sent_there c b in
       let over : is_over o.0 (completed hs c) ≡ false =
       no_more (is_some (value_on (channel_width P.channels c) (w.rail (of_channel c)))) (is_over o.0 (completed hs c)) some
       (sym (ap (λ b. if b then neutral_on (channel_width P.channels c) (w.rail (of_channel c)) else is_some
       (value_on (channel_width P.channels c) (w.rail (of_channel c))) && is_over o.0 (completed hs c)) b.low)
       ∙ (sym (ap (answers (channel_width P.channels c) w c (completed hs c)) o.1) ∙ not_answered c)) in
-      no_taker c at x (fewer o.0 (completed hs c)) is (r.rests c ∙ ap (λ x. left_over x (completed hs c)) o.1) (not_over o.0 (completed hs c) over)
+      no_taker c at x (fewer o.0 (completed hs c)) is (r.rests c ∙ ap (λ x. left_over x (completed hs c)) o.1) (not_over o.0 (completed hs c) over))
     where
       no_more : (s m : Bool) → s ≡ true → (s && m) ≡ false → m ≡ false
       no_more true m e f = f
@@ -301,10 +347,14 @@ waits : (P : TypedProgram) {script : List OfferValue} (fitted : Fitted P script)
     → {most : ℕ} (r : Followed P script most hs (guarded_left (line_ack P w) g) w.bit (guarded_writing (line_ack P w) g))
     → Waiting P (guarded_left (line_ack P w) g) (seen P w) (guarded_shown g) → AtEnd g r.to
 waits P fitted w hs g low good none r x = record {
-  still = no_step r.to (λ at s e. refused P fitted w hs g good none r s (x.blocked at s (sym (ap (λ x. statement_at x at) r.term) ∙ e)));
+  still = no_step r.to (λ at s e. refused P fitted w hs g good none r s (stands at s e))
+      (λ at other k v s t u e f h. no_meeting P fitted w hs g good none k v s t u e (stands at (sending k s e) f) (stands other (receiving k t v u) h));
   ended = λ e. absurd (cc (e, low));
   going = λ e z. x.going (sym r.term ∙ z);
 }
+  where
+    stands : (at : Place) (s : Process) → statement_at r.to.term at ≡ Some s → Blocked P s (seen P w) (guarded_shown g)
+    stands at s e = x.blocked at s (sym (ap (λ x. statement_at x at) r.term) ∙ e)
 
 pub at_end : (P : TypedProgram) {script : List OfferValue} (fitted : Fitted P script) (w : Wires) (hs : List (List ℕ)) {m : Mode} (g : GuardedAt P.body m)
     → m ≢ returning → Good P m g w → ((n : Node P.body) → can P script g w hs n ≡ false)
@@ -318,7 +368,8 @@ at_end P {script = script} fitted w hs (g_in u a h) ne good none r = here
     here (waiting e x) = waits P fitted w hs (g_in u a h) refl good none r x
     here (hanging x) = absurd (no_hanging P fitted w hs (g_in u a h) good none x)
 at_end P fitted w hs g_past ne good none r = record {
-  still = no_step r.to (λ at s e. absurd (cc (e, ap (λ x. statement_at x at) r.term)));
+  still = no_step r.to (λ at s e. absurd (cc (e, ap (λ x. statement_at x at) r.term)))
+      (λ at other k v s t u e f g. cc (f, ap (λ x. statement_at x at) r.term));
   ended = λ e. r.term;
   going = λ e. absurd (cc e);
 }

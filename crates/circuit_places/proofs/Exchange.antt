@@ -1,4 +1,4 @@
--- A trial for channels inside of a program: what a rising acknowledge does to a term whose branches may hold both ends.
+-- What a rising acknowledge does to a term, which may hold one end of the channel or both, in any of its branches.
 use Rattle.std.proofs.Common.{◌≡◌, ℕ, zero, suc, Bool, true, false, refl, sym, ap, ◌∙◌, subst}
 use Rattle.std.specs.Prelude.{◌||◌, if◌then◌else◌, Some}
 use Rattle.width_check.specs.Processes.{Process, Processes}
@@ -115,43 +115,45 @@ together_exchange ts p q us a =
       then_is = ap together a.then_is ∙ sym (ap (λ t. with_left t (in_branch a.second a.other) finished) here);
     })
 
+-- one end: a statement of such a kind is done
+pub record One (E : Process → Type 0) (x y : Term) : Type 0 where
+  pub p : Process
+  pub is : E p
+  pub act : Act x p finished y
+
+pub record OneInside (E : Process → Type 0) (ts us : Terms) : Type 0 where
+  pub p : Process
+  pub is : E p
+  pub act : ActInside ts p finished us
+
+-- both ends
+pub record Two (G T : Process → Type 0) (x y : Term) : Type 0 where
+  pub p : Process
+  pub q : Process
+  pub is : G p
+  pub other : T q
+  pub act : Exchange x p q y
+
+pub record TwoInside (G T : Process → Type 0) (ts us : Terms) : Type 0 where
+  pub p : Process
+  pub q : Process
+  pub is : G p
+  pub other : T q
+  pub act : ExchangeInside ts p q us
+
 -- An acknowledge rises: which ends of the channel a statement holds. G says what a sender is, T what a receiver is.
 module _ (G T : Process → Type 0) where
-  pub record One (E : Process → Type 0) (x y : Term) : Type 0 where
-    pub p : Process
-    pub is : E p
-    pub act : Act x p finished y
-
-  pub record OneInside (E : Process → Type 0) (ts us : Terms) : Type 0 where
-    pub p : Process
-    pub is : E p
-    pub act : ActInside ts p finished us
-
-  pub record Two (x y : Term) : Type 0 where
-    pub p : Process
-    pub q : Process
-    pub is : G p
-    pub other : T q
-    pub act : Exchange x p q y
-
-  pub record TwoInside (ts us : Terms) : Type 0 where
-    pub p : Process
-    pub q : Process
-    pub is : G p
-    pub other : T q
-    pub act : ExchangeInside ts p q us
-
   abbrev pub Fired : (gives takes : Bool) → Term → Term → Type 0
   Fired false false x y = y ≡ x
   Fired true false x y = One G x y
   Fired false true x y = One T x y
-  Fired true true x y = Two x y
+  Fired true true x y = Two G T x y
 
   abbrev pub FiredInside : (gives takes : Bool) → Terms → Terms → Type 0
   FiredInside false false ts us = us ≡ ts
   FiredInside true false ts us = OneInside G ts us
   FiredInside false true ts us = OneInside T ts us
-  FiredInside true true ts us = TwoInside ts us
+  FiredInside true true ts us = TwoInside G T ts us
 
   pub fired_then : (more : Processes) (a b : Bool) (x y : Term) → Fired a b x y → Fired a b (followed x more) (followed y more)
   fired_then more false false x y f = ap (λ t. followed t more) f
@@ -164,6 +166,13 @@ module _ (G T : Process → Type 0) where
   fired_together true false ts us f = record { p = f.p; is = f.is; act = together_act ts f.p finished us f.act }
   fired_together false true ts us f = record { p = f.p; is = f.is; act = together_act ts f.p finished us f.act }
   fired_together true true ts us f = record { p = f.p; q = f.q; is = f.is; other = f.other; act = together_exchange ts f.p f.q us f.act }
+
+  -- a term that is over holds none
+  pub none_fired : (a b : Bool) (x y s : Term) → x ≡ finished → Fired a b x y → Fired a b s s
+  none_fired false false x y s e f = refl
+  none_fired true false x y s e f = absurd (cc (ap (λ t. statement_at t f.act.at) e, f.act.stands))
+  none_fired false true x y s e f = absurd (cc (ap (λ t. statement_at t f.act.at) e, f.act.stands))
+  none_fired true true x y s e f = absurd (cc (ap (λ t. statement_at t f.act.at) e, f.act.gives))
 
   this_one : (E : Process → Type 0) (x y : Term) (ts us : Terms) → us ≡ ts → One E x y → OneInside E (and_branch x ts) (and_branch y us)
   this_one E x y ts us e f = subst (λ (z : Terms). OneInside E (and_branch x ts) (and_branch y z)) (sym e)
@@ -179,13 +188,27 @@ module _ (G T : Process → Type 0) where
   fired_both false false false false x y ts us s r f g = ap (λ t. and_branch t us) f ∙ ap (λ t. and_branch x t) g
   fired_both true false false false x y ts us s r f g = this_one G x y ts us g f
   fired_both false true false false x y ts us s r f g = this_one T x y ts us g f
-  fired_both true true false false x y ts us s r f g = subst (λ (z : Terms). TwoInside (and_branch x ts) (and_branch y z)) (sym g)
+  fired_both true true false false x y ts us s r f g = subst (λ (z : Terms). TwoInside G T (and_branch x ts) (and_branch y z)) (sym g)
       (record { p = f.p; q = f.q; is = f.is; other = f.other; act = this_exchange ts x f.p f.q y f.act })
   fired_both false false true false x y ts us s r f g = other_one G x y ts us f g
   fired_both false false false true x y ts us s r f g = other_one T x y ts us f g
-  fired_both false false true true x y ts us s r f g = subst (λ (z : Term). TwoInside (and_branch x ts) (and_branch z us)) (sym f)
+  fired_both false false true true x y ts us s r f g = subst (λ (z : Term). TwoInside G T (and_branch x ts) (and_branch z us)) (sym f)
       (record { p = g.p; q = g.q; is = g.is; other = g.other; act = other_exchange x ts g.p g.q us g.act })
   fired_both true false false true x y ts us s r f g = record { p = f.p; q = g.p; is = f.is; other = g.is; act = gives_first x ts f.p g.p y us f.act g.act }
   fired_both false true true false x y ts us s r f g = record { p = g.p; q = f.p; is = g.is; other = f.is; act = takes_first x ts g.p f.p y us f.act g.act }
   fired_both true b true d x y ts us s r f g = absurd (cc (s refl))
   fired_both a true c true x y ts us s r f g = absurd (cc (r refl))
+
+-- what is known of a receiver may be said in other words
+module _ (G T S : Process → Type 0) (f : (q : Process) → T q → S q) where
+  pub fired_map : (a b : Bool) (x y : Term) → Fired G T a b x y → Fired G S a b x y
+  fired_map false false x y r = r
+  fired_map true false x y r = r
+  fired_map false true x y r = record { p = r.p; is = f r.p r.is; act = r.act }
+  fired_map true true x y r = record { p = r.p; q = r.q; is = r.is; other = f r.q r.other; act = r.act }
+
+  pub fired_map_inside : (a b : Bool) (ts us : Terms) → FiredInside G T a b ts us → FiredInside G S a b ts us
+  fired_map_inside false false ts us r = r
+  fired_map_inside true false ts us r = r
+  fired_map_inside false true ts us r = record { p = r.p; is = f r.p r.is; act = r.act }
+  fired_map_inside true true ts us r = record { p = r.p; q = r.q; is = r.is; other = f r.q r.other; act = r.act }

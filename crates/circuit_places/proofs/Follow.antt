@@ -12,7 +12,7 @@ use Rattle.width_check.specs.Typing.{kind_at, channel_width, var_width}
 use Rattle.width_check.specs.declared.typed.Var.{Var}
 use Rattle.circuit_places.proofs.Writing.{number_told}
 use Rattle.chp_meaning.specs.Terms.{Term, finished, opened, Place, statement_at, with_left}
-use Rattle.chp_meaning.specs.Steps.{Configuration, one_fewer, leaving, value_in, storing, an_assignment, passing, offering, Step, a_skip, a_repetition, a_delivery, an_arrival, Leads, no_step, one_step, start_of, open_branches, a_selection, a_turn, an_end}
+use Rattle.chp_meaning.specs.Steps.{Configuration, one_fewer, leaving, value_in, storing, an_assignment, passing, offering, Step, a_skip, a_repetition, a_communication, a_delivery, an_arrival, Leads, no_step, one_step, start_of, open_branches, a_selection, a_turn, an_end}
 use Rattle.function_blocks.specs.Rails.{number_on}
 use Rattle.circuit_places.specs.Lines.{of_channel, of_var, Rails}
 use Rattle.circuit_places.specs.Whole.{seen, line_ack, is_heard, first_bits, wires_after, rail_turned, bit_turned, Wires, wrote_turned, joint_turned, value_on, Node, go_node, own_node, rail_node, ack_node, bit_node, wrote_node, joint_node, answers, passed, passed_after}
@@ -20,7 +20,7 @@ use Rattle.circuit_places.proofs.Left.{Act, skips, goes_on, Follows, open_by, Go
 use Rattle.circuit_places.proofs.Flow.{cases}
 use Rattle.circuit_places.proofs.LineNames.{self_number, same_number}
 use Rattle.circuit_places.proofs.Fires.{Passes}
-use Rattle.circuit_places.proofs.System.{Passing, Others, Arrival, Arrives, Acks, taken_out, taken_in, let_go_in, Freed, Rises, Stored, no_store, cleared, stores, takes_in, Moves, Fitted, takes_of, may_low, Decided}
+use Rattle.circuit_places.proofs.System.{Passing, Others, Arrival, Lands, Arrives, Exchanges, Acks, taken_out, taken_in, taken_over, released, Freed, Rises, Stored, no_store, cleared, stores, takes_in, Moves, Fitted, takes_of, may_low, Decided}
 use Rattle.circuit_places.proofs.Arriving.{Arriving, next_value}
 use Rattle.width_check.specs.Values.{value}
 
@@ -256,6 +256,20 @@ module _ {P : TypedProgram} {script : List OfferValue} {most : ℕ} {hs : List (
 
 module _ {P : TypedProgram} {script : List OfferValue} {most : ℕ} {hs : List (List ℕ)} {t : Term} (w : Wires) {busy : ℕ → Bool} (fitted : Fitted P script)
     (r : Followed P script most hs t w.bit busy) (now : ℕ → Rails) (after : ℕ → Bool) (k : ℕ) where
+  -- a value lands in a variable
+  landed : (var v : ℕ) → Lands P busy after k var w → value_on (channel_width P.channels k) (w.rail (of_channel k)) ≡ Some v
+      → ((x : ℕ) → after x ≡ false → now x ≡ w.bit x) → (z : ℕ) → z < length P.vars → after z ≡ false
+      → number_on (var_width P.vars z) (now z) ≡ slice_index (set r.to.store var v) z
+  landed var v a told bits z less f = ap (number_on (var_width P.vars z)) (bits z f) ∙ cases (z == var)
+      (λ (h : (z == var) ≡ true). let e = same_number z var h in
+      ap (λ x. number_on (var_width P.vars x) (w.bit x)) e
+      ∙ (number_told (var_width P.vars var) (w.bit var) v (ap (λ n. value_on n (w.bit var)) a.widths ∙ (a.told ∙ told))
+      ∙ sym (ap (slice_index (set r.to.store var v)) e ∙ get_or-set_same r.to.store var v 0
+      (let g : var < length r.to.store = subst (λ (n : ℕ). var < n) (sym r.as_stored) a.into in g))))
+      (λ (h : (z == var) ≡ false).
+      let ne : z ≡ var → ⊥ = λ (e : z ≡ var). absurd (cc (h, ap (λ x. x == var) e, self_number var)) in
+      r.stored z less (a.frees z ne f) ∙ sym (get_or-set_other r.to.store var z v 0 ne))
+
   -- a value arrives
   module _ (y : Term) (values : List ℕ) (offered : offer_at script k ≡ gives values) (a : Arrives P busy after k w t y) (v : ℕ)
       (next : slice_get values (completed hs k) ≡ Some v) (told : value_on (channel_width P.channels k) (w.rail (of_channel k)) ≡ Some v)
@@ -273,7 +287,8 @@ module _ {P : TypedProgram} {script : List OfferValue} {most : ℕ} {hs : List (
     arrival = an_arrival (ap (λ x. statement_at x a.act.at) r.term ∙ a.act.stands) here_rest
 
     here_long : completed here_histories k ≡ suc (completed hs k)
-    here_long = ap length (get_or-set_same hs k (history_at hs k ++ v ∷ []) [] (let g : k < length hs = subst (λ (n : ℕ). k < n) (sym r.as_long) a.within in g))
+    here_long = ap length (get_or-set_same hs k (history_at hs k ++ v ∷ []) []
+        (let g : k < length hs = subst (λ (n : ℕ). k < n) (sym r.as_long) a.lands.within in g))
         ∙ one_longer (history_at hs k) v
 
     rest_here : (c : ℕ) → offer_at here_rests c ≡ left_over (offer_at script c) (completed here_histories c)
@@ -282,23 +297,12 @@ module _ {P : TypedProgram} {script : List OfferValue} {most : ℕ} {hs : List (
         let same : c ≡ k = same_number c k e in
         subst (λ (i : ℕ). offer_at here_rests i ≡ left_over (offer_at script i) (completed here_histories i)) (sym same)
         (get_or-set_same r.to.rests k (gives (behind values (suc (completed hs k)))) nothing
-        (let g : k < length r.to.rests = subst (λ (n : ℕ). k < n) (sym r.as_many) a.within in g)
+        (let g : k < length r.to.rests = subst (λ (n : ℕ). k < n) (sym r.as_many) a.lands.within in g)
         ∙ (ap (λ n. gives (behind values n)) (sym here_long) ∙ sym (ap (λ o. left_over o (completed here_histories k)) offered))))
         (λ (e : (c == k) ≡ false).
         let ne : c ≡ k → ⊥ = λ (same : c ≡ k). absurd (cc (e, ap (λ x. x == k) same, self_number k)) in
         get_or-set_other r.to.rests k c (gives (behind values (suc (completed hs k)))) nothing ne
         ∙ (r.rests c ∙ sym (ap (λ h. left_over (offer_at script c) (length h)) (get_or-set_other hs k c (history_at hs k ++ v ∷ []) [] ne))))
-
-    here_stored : (z : ℕ) → z < length P.vars → after z ≡ false → number_on (var_width P.vars z) (now z) ≡ slice_index (set r.to.store a.var v) z
-    here_stored z less f = ap (number_on (var_width P.vars z)) (bits z f) ∙ cases (z == a.var)
-        (λ (h : (z == a.var) ≡ true). let e = same_number z a.var h in
-        ap (λ x. number_on (var_width P.vars x) (w.bit x)) e
-        ∙ (number_told (var_width P.vars a.var) (w.bit a.var) v (ap (λ n. value_on n (w.bit a.var)) a.widths ∙ (a.told ∙ told))
-        ∙ sym (ap (slice_index (set r.to.store a.var v)) e ∙ get_or-set_same r.to.store a.var v 0
-        (let g : a.var < length r.to.store = subst (λ (n : ℕ). a.var < n) (sym r.as_stored) a.into in g))))
-        (λ (h : (z == a.var) ≡ false).
-        let ne : z ≡ a.var → ⊥ = λ (e : z ≡ a.var). absurd (cc (h, ap (λ x. x == a.var) e, self_number a.var)) in
-        r.stored z less (a.frees z ne f) ∙ sym (get_or-set_other r.to.store a.var z v 0 ne))
 
     arrives_on : Followed P script (suc most) (passed hs k (value_on (channel_width P.channels k) (w.rail (of_channel k)))) y now after
     arrives_on = subst (λ (o : Option ℕ). Followed P script (suc most) (passed hs k o) y now after) (sym told) (record {
@@ -312,7 +316,50 @@ module _ {P : TypedProgram} {script : List OfferValue} {most : ℕ} {hs : List (
       as_many = length-set r.to.rests k (gives (behind values (suc (completed hs k)))) ∙ r.as_many;
       as_long = length-set hs k (history_at hs k ++ v ∷ []) ∙ r.as_long;
       as_stored = length-set r.to.store a.var v ∙ r.as_stored;
-      stored = here_stored;
+      stored = landed a.var v a.lands told bits;
+    })
+
+  -- a value passes inside of the program
+  module _ (y : Term) (offered : offer_at script k ≡ nothing) (a : Exchanges P busy after k w t y)
+      (bits : (x : ℕ) → after x ≡ false → now x ≡ w.bit x) where
+    abbrev sent : ℕ
+    sent = value_in r.to a.expression
+
+    given : value_on (channel_width P.channels k) (w.rail (of_channel k)) ≡ Some sent
+    given = a.read (slice_index r.to.store) (λ v less calm. r.stored v less calm)
+
+    none_left : (n : ℕ) → left_over (offer_at script k) n ≡ nothing
+    none_left n = ap (λ o. left_over o n) offered
+
+    communication : Step r.to a.act.at (passing (storing (leaving (leaving r.to a.act.at finished) a.act.other finished) a.var sent) k sent)
+    communication = a_communication a.act.other (ap (λ x. statement_at x a.act.at) r.term ∙ a.act.gives)
+        (ap (λ x. statement_at x a.act.other) r.term ∙ a.act.takes) (r.rests k ∙ none_left (completed hs k))
+
+    abbrev longer : List (List ℕ)
+    longer = set hs k (history_at hs k ++ sent ∷ [])
+
+    same_rest : (c : ℕ) → offer_at r.to.rests c ≡ left_over (offer_at script c) (completed longer c)
+    same_rest c = r.rests c ∙ cases (c == k)
+        (λ (e : (c == k) ≡ true).
+        subst (λ (i : ℕ). left_over (offer_at script i) (completed hs i) ≡ left_over (offer_at script i) (completed longer i))
+        (sym (same_number c k e)) (none_left (completed hs k) ∙ sym (none_left (completed longer k))))
+        (λ (e : (c == k) ≡ false).
+        let ne : c ≡ k → ⊥ = λ (same : c ≡ k). absurd (cc (e, ap (λ x. x == k) same, self_number k)) in
+        sym (ap (λ h. left_over (offer_at script c) (length h)) (get_or-set_other hs k c (history_at hs k ++ sent ∷ []) [] ne)))
+
+    exchanges_on : Followed P script (suc most) (passed hs k (value_on (channel_width P.channels k) (w.rail (of_channel k)))) y now after
+    exchanges_on = subst (λ (o : Option ℕ). Followed P script (suc most) (passed hs k o) y now after) (sym given) (record {
+      to = passing (storing (leaving (leaving r.to a.act.at finished) a.act.other finished) a.var sent) k sent;
+      steps = suc r.steps;
+      within = omega (arith, r.within);
+      leads = leads_on r.leads communication;
+      term = ap (λ x. with_left (with_left x a.act.at finished) a.act.other finished) r.term ∙ sym a.act.then_is;
+      passed = ap (λ h. set h k (history_at h k ++ sent ∷ [])) r.passed;
+      rests = same_rest;
+      as_many = r.as_many;
+      as_long = length-set hs k (history_at hs k ++ sent ∷ []) ∙ r.as_long;
+      as_stored = length-set r.to.store a.var sent ∙ r.as_stored;
+      stored = landed a.var sent a.lands given bits;
     })
 
 -- where no variable's acknowledge rises
@@ -401,16 +448,20 @@ acks : {P : TypedProgram} {script : List OfferValue} {most : ℕ} {hs : List (Li
     → Followed P script (suc most) (if w.ack k then hs else passed hs k (value_on (channel_width P.channels k) (w.rail (of_channel k)))) y w.bit after
 acks w busy after fitted r y k e brought (taken_out out move free) = acknowledged w fitted r w.bit after (λ x f. (refl, free x f)) k y (e out)
     (w.ack k) refl move
-acks {P = P} {script = script} {most = most} {hs = hs} w busy after fitted r y k e brought (let_go_in heard high same free) =
+acks {P = P} {script = script} {most = most} {hs = hs} w busy after fitted r y k e brought (released heard high same free) =
     subst (λ (b : Bool). Followed P script (suc most) (if b then hs else passed hs k
     (value_on (channel_width P.channels k) (w.rail (of_channel k)))) y w.bit after) (sym high) (stays r w.bit after (λ x f. (refl, free x f)) y same)
-acks {P = P} {script = script} {most = most} {hs = hs} w busy after fitted r y k e brought (taken_in heard a) =
-    let o = fitted.hears k a.within a.used in
-    let v = next_value (channel_width P.channels k) (completed hs k) (w.rail (of_channel k)) o.0 (fitted.wide k a.within) (fitted.bounded k o.0 o.1)
-    (brought k o.0 o.1 a.low) a.some in
+acks {P = P} {script = script} {most = most} {hs = hs} w busy after fitted r y k e brought (taken_in heard alone a) =
+    let o = fitted.hears k a.lands.within alone heard in
+    let v = next_value (channel_width P.channels k) (completed hs k) (w.rail (of_channel k)) o.0 (fitted.wide k a.lands.within) (fitted.bounded k o.0 o.1)
+    (brought k o.0 o.1 a.lands.low) a.lands.some in
     subst (λ (b : Bool). Followed P script (suc most) (if b then hs else passed hs k
-    (value_on (channel_width P.channels k) (w.rail (of_channel k)))) y w.bit after) (sym a.low)
+    (value_on (channel_width P.channels k) (w.rail (of_channel k)))) y w.bit after) (sym a.lands.low)
     (arrives_on w fitted r w.bit after k y o.0 o.1 a v.next v.is v.told (λ x f. refl))
+acks {P = P} {script = script} {most = most} {hs = hs} w busy after fitted r y k e brought (taken_over heard merged a) =
+    subst (λ (b : Bool). Followed P script (suc most) (if b then hs else passed hs k
+    (value_on (channel_width P.channels k) (w.rail (of_channel k)))) y w.bit after) (sym a.lands.low)
+    (exchanges_on w fitted r w.bit after k y (fitted.inside k a.lands.within merged heard) a (λ x f. refl))
 
 -- each move of the circuit is a step of the program or none
 pub follows : {P : TypedProgram} {script : List OfferValue} {most : ℕ} {hs : List (List ℕ)} {t : Term} (w : Wires) (busy after : ℕ → Bool) → Fitted P script

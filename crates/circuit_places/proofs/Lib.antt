@@ -7,6 +7,7 @@ pub mod CorePromises
 pub mod Examples
 pub mod ChoiceExamples
 pub mod CoveredExamples
+pub mod InternalExamples
 pub mod RailLemmas
 pub mod Trees
 pub mod Places
@@ -29,6 +30,7 @@ pub mod Exchange
 pub mod Fires
 pub mod Hears
 pub mod Rest
+pub mod Held
 pub mod Writing
 pub mod BitTable
 pub mod Blocks

@@ -1,13 +1,13 @@
 -- What a move of a line's rail or acknowledge does to the whole circuit.
-use Rattle.std.proofs.Common.{◌≡◌, ◌≢◌, ℕ, zero, suc, ◌/◌, ◌==◌, ◌<◌, ◌≤◌, Bool, true, false, List, [], ◌∷◌, refl, sym, ap, ◌∙◌, subst, inl, arith}
-use Rattle.std.specs.Prelude.{not, ◌&&◌, if◌then◌else◌, length, Option, Some, None, slice_get, is_some}
+use Rattle.std.proofs.Common.{◌≡◌, ◌≢◌, ℕ, zero, suc, ◌/◌, ◌==◌, ◌<◌, ◌≤◌, Bool, true, false, List, refl, sym, ap, ◌∙◌, subst, inl, arith}
+use Rattle.std.specs.Prelude.{not, ◌&&◌, if◌then◌else◌, Option, Some, None, slice_get, is_some}
 use Rattle.std.proofs.Math.Path.{fun_ext}
-use Rattle.chp_base.specs.declared.channel.Channel.{Channel}
 use Rattle.env_script.specs.Environment.{is_odd}
 use Rattle.env_script.specs.declared.script.Count.{Count}
 use Rattle.env_script.specs.Scripts.{OfferValue, gives, takes, nothing, offer_at, is_over}
 use Rattle.env_script.specs.Runs.{completed}
-use Rattle.width_check.specs.Processes.{TypedProgram}
+use Rattle.width_check.specs.Processes.{Process, TypedProgram}
+use Rattle.chp_meaning.specs.Terms.{opened}
 use Rattle.width_check.specs.Typing.{kind_at, channel_width, var_width}
 use Rattle.circuit_places.specs.Lines.{Line, of_channel, of_var, same_line, line_width, Rails}
 use Rattle.circuit_places.specs.Circuit.{low, GuardedSpot, turns, fires, same_bit, rails_turned, site_rails}
@@ -15,15 +15,17 @@ use Rattle.circuit_places.specs.Whole.{Wires, seen, line_ack, is_heard, is_merge
 use Rattle.function_blocks.specs.RailFacts.{covers}
 use Rattle.circuit_places.proofs.RailLemmas.{fst_true, snd_true, both_true, not_true, same_value, neutral_low, each_bit}
 use Rattle.circuit_places.proofs.LineNames.{same_number, self_line, same_line_is}
-use Rattle.circuit_places.proofs.Places.{Mode, idle, running, answered, returning, GuardedAt, g_rests, guarded_cells, guarded_shown, GuardedFits, guarded_writing, guarded_moves}
+use Rattle.circuit_places.proofs.Places.{Mode, idle, running, answered, returning, GuardedAt, guarded_cells, guarded_shown, GuardedFits, guarded_writing, guarded_moves}
 use Rattle.circuit_places.proofs.Writing.{guarded_writing_unread}
-use Rattle.circuit_places.proofs.Left.{guarded_left}
+use Rattle.circuit_places.proofs.Left.{guarded_left, guarded_left_done}
+use Rattle.circuit_places.proofs.Exchange.{Fired, none_fired}
+use Rattle.circuit_places.proofs.Hears.{heard_on, Hearing}
 use Rattle.circuit_places.proofs.Flow.{or_map, cases}
 use Rattle.circuit_places.proofs.Change.{GuardedChanged, guarded_changed, AckTurned, Ready, ready_down, Kept, kept_down, Free, free_down, Any, any_down, Received, still_leaves, raise_leaves, lower_leaves, RailMoved, rail_up_leaves, rail_down_leaves}
 use Rattle.circuit_places.proofs.Sites.{is_nil, any_not_nil, same_sites, guarded_offered}
-use Rattle.circuit_places.proofs.Fires.{Passes, Fired, guarded_fires, guarded_still, OneSite, guarded_site}
-use Rattle.circuit_places.proofs.Talks.{either, guarded_offers_talks, guarded_says_talks, guarded_talks_sends}
-use Rattle.circuit_places.proofs.Meets.{sends, receives_heard}
+use Rattle.circuit_places.proofs.Fires.{Sent, guarded_fires, guarded_still, OneSite, guarded_site}
+use Rattle.circuit_places.proofs.Talks.{either, guarded_offers_talks, guarded_talks_sends, guarded_takes_listens, guarded_listens_receives}
+use Rattle.circuit_places.proofs.Meets.{receives, sends_merged, receives_heard}
 use Rattle.circuit_places.proofs.BitTable.{may}
 use Rattle.circuit_places.proofs.Blocks.{Block, now_at, write_role, WriteMoved, write_moved}
 use Rattle.circuit_places.proofs.System.{Good, clean_of, can, driven, sent_turns, heard_turns, root_left, Next, Freed, Fitted, takes_of, may_low, may_high, up_low, down_high}
@@ -62,12 +64,6 @@ write_falls : (x w : Rails) (wrote : ℕ → Bool) (va : Bool) (i : ℕ) (one : 
     → may (write_role one) (now_at x w wrote va i) ≡ true
 write_falls x w wrote va i true a c = ap (λ z. if z then va else not va && not (w i false)) a ∙ c
 write_falls x w wrote va i false a c = ap (λ z. if z then va else not va && not (w i true)) a ∙ c
-
--- a channel that has a bit is declared
-pub channel_there : (channels : List Channel) (c i : ℕ) → i < channel_width channels c → c < length channels
-channel_there [] c i less = absurd (let g : ⊥ = omega (arith, less) in g)
-channel_there (x ∷ xs) zero i less = omega arith
-channel_there (x ∷ xs) (suc c) i less = let g : c < length xs = channel_there xs c i less in omega (arith, g)
 
 -- who drives rails gives values
 pub gives_of : (n : ℕ) (w : Wires) (c done : ℕ) (offer : OfferValue) (i : ℕ) (one : Bool) → offers n w c done offer i one ≡ true
@@ -161,6 +157,29 @@ module _ (P : TypedProgram) (script : List OfferValue) {m : Mode} {g : GuardedAt
   all_high k n low some i side o =
       covers (line_width P k) (w.rail k) ((guarded_shown g).offer k) (λ j b h. good.rising k j b n low h) (λ j p q. one k j p q) some i side
       (offered_below k i side o) o
+
+  rail_moved : (c i : ℕ) (side : Bool) → RailMoved P (seen P w) (seen P (rail_turned w (of_channel c) i side)) c i side
+  rail_moved c i side = record {
+    acks = rail_acks P w (of_channel c) i side;
+    bits = refl;
+    widths = refl;
+    here = ap (λ (b : Bool). if b then rails_turned (w.rail (of_channel c)) i side else w.rail (of_channel c)) (self_line (of_channel c));
+    far = λ d e. ap (λ (b : Bool). if b then rails_turned (w.rail (of_channel c)) i side else w.rail (of_channel d)) e;
+  }
+
+  -- what a rail's move does to the statements
+  rail_up_changed : (k : Line) (i : ℕ) (side : Bool) → w.rail k i side ≡ false → ((c : ℕ) → of_channel c ≡ k → (guarded_shown g).take c ≡ false)
+      → GuardedChanged P.body m (seen P w) (seen P (rail_turned w k i side)) g
+  rail_up_changed (of_var v) i side r free = still_changed (rail_turned w (of_var v) i side) (rail_acks P w (of_var v) i side) refl (λ c h. refl)
+  rail_up_changed (of_channel c) i side r free = guarded_changed P (seen P w) (seen P (rail_turned w (of_channel c) i side)) (Free c) (free_down c)
+      (rail_up_leaves P (seen P w) (seen P (rail_turned w (of_channel c) i side)) c i side (rail_moved c i side) r) g good.meets
+      (record { take = free c refl }) good.fits
+
+  rail_down_changed : (k : Line) (i : ℕ) (side : Bool) → w.rail k i side ≡ true → line_ack P w k ≡ true
+      → GuardedChanged P.body m (seen P w) (seen P (rail_turned w k i side)) g
+  rail_down_changed (of_var v) i side r high = still_changed (rail_turned w (of_var v) i side) (rail_acks P w (of_var v) i side) refl (λ c h. refl)
+  rail_down_changed (of_channel c) i side r high = guarded_changed P (seen P w) (seen P (rail_turned w (of_channel c) i side)) Any any_down
+      (rail_down_leaves P (seen P w) (seen P (rail_turned w (of_channel c) i side)) c i side (rail_moved c i side) r high) g good.meets tt good.fits
 
   -- a rail moves
   module _ (k : Line) (i : ℕ) (side : Bool) where
@@ -261,13 +280,9 @@ module _ (P : TypedProgram) (script : List OfferValue) {m : Mode} {g : GuardedAt
         some : {n : ℕ} → i < n → 1 ≤ n
         some less = omega (arith, less)
 
-    -- no rail moves of a channel on which the program receives
-    heard_stay : Fitted P script → sends P.body k ≡ true → i < line_width P k → Received P (seen P w) (seen P (rail_turned w k i side))
-    heard_stay fitted n less c h = cases (same_line (of_channel c) k)
-        (λ (e : same_line (of_channel c) k ≡ true).
-        let same : of_channel c ≡ k = same_line_is (of_channel c) k e in
-        absurd (fitted.sent_alone c (channel_there P.channels c i (subst (λ (l : Line). i < line_width P l) (sym same) less)) (ap (sends P.body) same ∙ n) h))
-        (λ (e : same_line (of_channel c) k ≡ false). ap (λ (b : Bool). if b then rails_turned (w.rail k) i side else w.rail (of_channel c)) e)
+    -- other channels' rails stay
+    far_rails : (c : ℕ) → same_line (of_channel c) k ≡ false → (rail_turned w k i side).rail (of_channel c) ≡ w.rail (of_channel c)
+    far_rails c e = ap (λ (b : Bool). if b then rails_turned (w.rail k) i side else w.rail (of_channel c)) e
 
     -- the environment drives no rail of a line that has sites
     no_drive : Fitted P script → is_merged P k ≡ true → (c : ℕ) → k ≡ of_channel c → (j : ℕ) (s : Bool) → driven P script w hs (of_channel c) j s ≡ true → ⊥
@@ -275,11 +290,32 @@ module _ (P : TypedProgram) (script : List OfferValue) {m : Mode} {g : GuardedAt
         let o = gives_of (channel_width P.channels c) w c (completed hs c) (offer_at script c) j s z in
         cc (ap (is_merged P) e, n, (fitted.brought c o.0 o.1).0)
 
+    -- who receives on the line sees it: where a rail rises nobody has stored, and where it falls the acknowledge is high
+    abbrev Unstored : Type 0
+    Unstored = (c : ℕ) → of_channel c ≡ k → (guarded_shown g).take c ≡ false
+
+    unstored : is_merged P k ≡ true → w.rail k i side ≡ false → (guarded_shown g).offer k i side ≡ true → Unstored
+    unstored n r o c e = cases ((guarded_shown g).take c)
+        (λ (t : (guarded_shown g).take c ≡ true).
+        let heard = receives_heard P P.body good.meets c (guarded_listens_receives g c (guarded_takes_listens g c t)) in
+        let low = up_low P script hs good k i side r o in
+        let valid : is_some (value_on (line_width P k) (w.rail k)) ≡ true = subst (λ (l : Line). is_some (value_on (line_width P l) (w.rail l)) ≡ true) e
+        (good.valid c heard (ap (λ l. line_ack P w l) e ∙ low) t) in
+        absurd (by side r (other_low k i side n low o) (each_bit (line_width P k) (w.rail k) valid i (offered_below k i side o))))
+        (λ (t : (guarded_shown g).take c ≡ false). t)
+      where
+        by : (side : Bool) → w.rail k i side ≡ false → w.rail k i (not side) ≡ false → (b : Bool) × (w.rail k i b ≡ true) → ⊥
+        by true l h (true, z) = cc (l, z)
+        by true l h (false, z) = cc (h, z)
+        by false l h (true, z) = cc (h, z)
+        by false l h (false, z) = cc (l, z)
+
     rail_rises : Fitted P script → is_merged P k ≡ true → w.rail k i side ≡ false → (guarded_shown g).offer k i side ≡ true
         → Next P script m g w hs (rail_node k i side)
     rail_rises fitted n r o =
-        let rec = heard_stay fitted (guarded_talks_sends g k (guarded_offers_talks g k i side o)) (offered_below k i side o) in
         let low = up_low P script hs good k i side r o in
+        let free = unstored n r o in
+        let x = rail_up_changed k i side r free in
         let b = write_block (offered_below k i side o) (λ x e. write_rises (w.bit x) (w.rail (of_var x)) (w.wrote x) (line_ack P w (of_var x)) i side
         (subst (λ (l : Line). w.rail l i side ≡ false) e r)
         (subst (λ (l : Line). w.rail l i (not side) ≡ false) e (other_low k i side n low o))
@@ -292,7 +328,7 @@ module _ (P : TypedProgram) (script : List OfferValue) {m : Mode} {g : GuardedAt
           way = λ ne. ne;
           good = record {
             meets = good.meets;
-            fits = (still_changed (rail_turned w k i side) (rail_acks P w k i side) refl rec).fits;
+            fits = x.fits;
             talk = λ c u h. good.talk c u (sym (rail_acks P w k i side c) ∙ h);
             rising = λ c j b u h z. rises c j b u (sym (rail_acks P w k i side c) ∙ h) z (turned_at w k i side c j b);
             falling = λ c j b h z. more c j b (good.falling c j b (sym (rail_acks P w k i side c) ∙ h) z) (turned_at w k i side c j b);
@@ -303,13 +339,19 @@ module _ (P : TypedProgram) (script : List OfferValue) {m : Mode} {g : GuardedAt
             no_wrote = good.no_wrote;
             single = λ c j p q. single c j p q (turned_at w k i side (of_channel c) j true) (turned_at w k i side (of_channel c) j false);
             listen = good.listen;
-            valid = λ c u h z. subst (λ (r : Rails). is_some (value_on (channel_width P.channels c) r) ≡ true) (sym (rec c u)) (good.valid c u h z);
-            neutral = λ c u h z. subst (λ (r : Rails). neutral_on (channel_width P.channels c) r ≡ true) (sym (rec c u)) (good.neutral c u h z);
+            valid = λ c u h z. cases (same_line (of_channel c) k)
+                (λ (e : same_line (of_channel c) k ≡ true). absurd (cc (free c (same_line_is (of_channel c) k e), z)))
+                (λ (e : same_line (of_channel c) k ≡ false). subst (λ (r : Rails). is_some (value_on (channel_width P.channels c) r) ≡ true)
+                (sym (far_rails c e)) (good.valid c u h z));
+            neutral = λ c u h z. cases (same_line (of_channel c) k)
+                (λ (e : same_line (of_channel c) k ≡ true). absurd (cc (ap (line_ack P w) (same_line_is (of_channel c) k e), low, h)))
+                (λ (e : same_line (of_channel c) k ≡ false). subst (λ (r : Rails). neutral_on (channel_width P.channels c) r ≡ true)
+                (sym (far_rails c e)) (good.neutral c u h z));
             heard_sited = good.heard_sited;
           };
           term = λ ne. inl (still_left (rail_turned w k i side) (rail_acks P w k i side));
           frees = λ x. freed (rail_turned w k i side) x ⊥ refl (rail_acks P w k i side);
-          keeps = λ q ne z. rail_others q ne (still_changed (rail_turned w k i side) (rail_acks P w k i side) refl rec).keeps
+          keeps = λ q ne z. rail_others q ne x.keeps
               (λ c e z. no_ack c (subst (λ (l : Line). line_ack P w l ≡ false) e low) (subst (λ (l : Line). is_merged P l ≡ true) e n)
               (subst (λ (l : Line). (guarded_shown g).offer l i side ≡ true) e o) (subst (λ (l : Line). w.rail l i side ≡ false) e r) z)
               (λ c e j s apart z. absurd (no_drive fitted n c e j s z)) b z;
@@ -370,7 +412,7 @@ module _ (P : TypedProgram) (script : List OfferValue) {m : Mode} {g : GuardedAt
         → Next P script m g w hs (rail_node k i side)
     rail_falls fitted n r o =
         let high = down_high P script hs good k i side n r o in
-        let rec = heard_stay fitted (guarded_talks_sends g k (good.talk k n high)) (good.wide k i side r) in
+        let x = rail_down_changed k i side r high in
         let b = write_block (good.wide k i side r) (λ x e. write_falls (w.bit x) (w.rail (of_var x)) (w.wrote x) (line_ack P w (of_var x)) i side
         (subst (λ (l : Line). w.rail l i side ≡ true) e r)
         (subst (λ (l : Line). line_ack P w l ≡ true) e high)) in
@@ -382,7 +424,7 @@ module _ (P : TypedProgram) (script : List OfferValue) {m : Mode} {g : GuardedAt
           way = λ ne. ne;
           good = record {
             meets = good.meets;
-            fits = (still_changed (rail_turned w k i side) (rail_acks P w k i side) refl rec).fits;
+            fits = x.fits;
             talk = λ c u h. good.talk c u (sym (rail_acks P w k i side c) ∙ h);
             rising = λ c j b u h z. good.rising c j b u (sym (rail_acks P w k i side c) ∙ h) (fewer c j b z (turned_at w k i side c j b));
             falling = λ c j b h z. falls c j b z (good.falling c j b (sym (rail_acks P w k i side c) ∙ h) z) (turned_at w k i side c j b);
@@ -394,17 +436,28 @@ module _ (P : TypedProgram) (script : List OfferValue) {m : Mode} {g : GuardedAt
             single = λ c j p q. good.single c j (fewer (of_channel c) j true p (turned_at w k i side (of_channel c) j true))
                 (fewer (of_channel c) j false q (turned_at w k i side (of_channel c) j false));
             listen = good.listen;
-            valid = λ c u h z. subst (λ (r : Rails). is_some (value_on (channel_width P.channels c) r) ≡ true) (sym (rec c u)) (good.valid c u h z);
-            neutral = λ c u h z. subst (λ (r : Rails). neutral_on (channel_width P.channels c) r ≡ true) (sym (rec c u)) (good.neutral c u h z);
+            valid = λ c u h z. cases (same_line (of_channel c) k)
+                (λ (e : same_line (of_channel c) k ≡ true). absurd (cc (ap (line_ack P w) (same_line_is (of_channel c) k e), high, h)))
+                (λ (e : same_line (of_channel c) k ≡ false). subst (λ (r : Rails). is_some (value_on (channel_width P.channels c) r) ≡ true)
+                (sym (far_rails c e)) (good.valid c u h z));
+            neutral = λ c u h z. cases (same_line (of_channel c) k)
+                (λ (e : same_line (of_channel c) k ≡ true). absurd (full c u h z (same_line_is (of_channel c) k e)))
+                (λ (e : same_line (of_channel c) k ≡ false). subst (λ (r : Rails). neutral_on (channel_width P.channels c) r ≡ true)
+                (sym (far_rails c e)) (good.neutral c u h z));
             heard_sited = good.heard_sited;
           };
           term = λ ne. inl (still_left (rail_turned w k i side) (rail_acks P w k i side));
           frees = λ x. freed (rail_turned w k i side) x ⊥ refl (rail_acks P w k i side);
-          keeps = λ q ne z. rail_others q ne (still_changed (rail_turned w k i side) (rail_acks P w k i side) refl rec).keeps
+          keeps = λ q ne z. rail_others q ne x.keeps
               (λ c e z. no_ack c (subst (λ (l : Line). line_ack P w l ≡ true) e high) (subst (λ (l : Line). w.rail l i side ≡ true) e r) z)
               (λ c e j s apart z. absurd (no_drive fitted n c e j s z)) b z;
         }
       where
+        full : (c : ℕ) → is_heard (kind_at P.channels c) ≡ true → w.ack c ≡ true → (guarded_shown g).take c ≡ false → of_channel c ≡ k → ⊥
+        full c u h z e =
+            let up : w.rail (of_channel c) i side ≡ true = ap (λ l. w.rail l i side) e ∙ r in
+            cc (neutral_low (channel_width P.channels c) (w.rail (of_channel c)) (good.neutral c u h z) i side (good.wide (of_channel c) i side up), up)
+
         fewer : (c : Line) (j : ℕ) (b : Bool) → (rail_turned w k i side).rail c j b ≡ true → Turned w k i side c j b → w.rail c j b ≡ true
         fewer c j b z (this e f s t) = absurd (cc (t, z, r))
         fewer c j b z (that t) = sym t ∙ z
@@ -452,20 +505,11 @@ module _ (P : TypedProgram) (script : List OfferValue) {m : Mode} {g : GuardedAt
     abbrev acks_stay : (l : Line) → line_ack P brought l ≡ line_ack P w l
     acks_stay = rail_acks P w (of_channel c) i side
 
-    moved_rail : RailMoved P (seen P w) (seen P brought) c i side
-    moved_rail = record {
-      acks = acks_stay;
-      bits = refl;
-      widths = refl;
-      here = ap (λ (b : Bool). if b then rails_turned (w.rail (of_channel c)) i side else w.rail (of_channel c)) (self_line (of_channel c));
-      far = λ d e. ap (λ (b : Bool). if b then rails_turned (w.rail (of_channel c)) i side else w.rail (of_channel d)) e;
-    }
-
     far_rail : (l : Line) → same_line l (of_channel c) ≡ false → brought.rail l ≡ w.rail l
     far_rail l e = ap (λ (b : Bool). if b then rails_turned (w.rail (of_channel c)) i side else w.rail l) e
 
     far_bit : (j : ℕ) (b : Bool) → (j == i) ≡ false → brought.rail (of_channel c) j b ≡ w.rail (of_channel c) j b
-    far_bit j b e = ap (λ (r : Rails). r j b) moved_rail.here ∙ ap (λ z. if z && same_bit b side then not (w.rail (of_channel c) i side) else w.rail
+    far_bit j b e = ap (λ (r : Rails). r j b) (rail_moved c i side).here ∙ ap (λ z. if z && same_bit b side then not (w.rail (of_channel c) i side) else w.rail
         (of_channel c) j b) e
 
     stays_at : (j : ℕ) (s : Bool) → (j ≡ i → s ≡ side → ⊥) → brought.rail (of_channel c) j s ≡ w.rail (of_channel c) j s
@@ -585,8 +629,7 @@ module _ (P : TypedProgram) (script : List OfferValue) {m : Mode} {g : GuardedAt
       where
         falls : is_heard (kind_at P.channels c) ≡ true → w.ack c ≡ true → w.rail (of_channel c) i side ≡ true → Brought
         falls heard h top = record {
-          changed = guarded_changed P (seen P w) (seen P brought) Any any_down
-              (rail_down_leaves P (seen P w) (seen P brought) c i side moved_rail top h) g good.meets tt good.fits;
+          changed = rail_down_changed (of_channel c) i side top h;
           below = λ j b z. good.wide (of_channel c) j b (fewer j b z);
           lone = λ j p q. good.single c j (fewer j true p) (fewer j false q);
           full = λ l t. absurd (cc (h, l));
@@ -603,8 +646,7 @@ module _ (P : TypedProgram) (script : List OfferValue) {m : Mode} {g : GuardedAt
         rises : is_heard (kind_at P.channels c) ≡ true → w.ack c ≡ false → w.rail (of_channel c) i true ≡ false → w.rail (of_channel c) i false ≡ false
             → i < wide → Brought
         rises heard h lt lf less = record {
-          changed = guarded_changed P (seen P w) (seen P brought) (Free c) (free_down c)
-              (rail_up_leaves P (seen P w) (seen P brought) c i side moved_rail (low side)) g good.meets (record { take = free }) good.fits;
+          changed = rail_up_changed (of_channel c) i side (low side) (λ d e. ap (guarded_shown g).take (same_channel d c e) ∙ free);
           below = λ j b z. below j b z (turned_at w (of_channel c) i side (of_channel c) j b);
           lone = λ j p q. lone j p q (turned_at w (of_channel c) i side (of_channel c) j true) (turned_at w (of_channel c) i side (of_channel c) j false);
           full = λ l t. absurd (cc (t, free));
@@ -709,41 +751,42 @@ module _ (P : TypedProgram) (script : List OfferValue) {m : Mode} {g : GuardedAt
                 (λ (e : same_line c k ≡ false). good.falling c j b (sym (t.far c e) ∙ h) z);
           }
 
-      -- of a line on which the program doesn't receive
-      module _ (unheard : (d : ℕ) → is_heard (kind_at P.channels d) ≡ true → same_line (of_channel d) k ≡ false) (merged : is_merged P k ≡ true)
+      -- where each receive on the line has stored
+      module _ (took : (d : ℕ) → same_line (of_channel d) k ≡ true → receives P.body d ≡ true → (guarded_shown g).take d ≡ true)
           (wide : 1 ≤ line_width P k) where
         ready : Ready k (w.rail k) (guarded_writing (line_ack P w) g) P.body (guarded_shown g)
         ready = record {
-          send = λ e i b h. good.rising k i b merged low h;
-          receive = λ d z e. absurd
-              (cc (unheard d (receives_heard P P.body good.meets d e), z));
+          send = λ e i b h. good.rising k i b (sends_merged P P.body good.meets k e) low h;
+          receive = took;
           calm = calm;
         }
 
         pub sent_rises : SeenChanged now
-        sent_rises = line_rises ready (λ u. talks k merged low some wide) (λ j b o. all_high k merged low some j b o)
+        sent_rises = line_rises ready (λ u. talks k u low some wide)
+            (λ j b o. all_high k (sends_merged P P.body good.meets k (guarded_talks_sends g k (guarded_offers_talks g k j b o))) low some j b o)
 
-        fired : Fired P (seen P w) (guarded_writing (line_ack P w) g) k ((guarded_shown g).says k) (guarded_left (line_ack P w) g)
-            (guarded_left (line_ack P now) g)
-        fired = guarded_fires P (seen P w) (seen P now) (clean_of good) (guarded_writing (line_ack P w) g) k unheard t low some g good.meets ready good.fits
+        -- the step of those ends of the line that are under way
+        abbrev pub Heard : Process → Type 0
+        Heard = Hearing P (seen P w) k (guarded_shown g) (guarded_writing (line_ack P w) g) (guarded_writing (line_ack P now) g)
 
-        pub line_passes : (guarded_shown g).says k ≡ true → Passes P (seen P w) (guarded_writing (line_ack P w) g) k (root_left (line_ack P w) g)
-            (root_left (line_ack P now) g)
-        line_passes says = talking m g (guarded_writing (line_ack P w) g) (guarded_says_talks g k says)
-            (subst (λ (b : Bool). Fired P (seen P w) (guarded_writing (line_ack P w) g) k b (guarded_left (line_ack P w) g)
-            (guarded_left (line_ack P now) g)) says fired)
+        pub line_fires : (s h : Bool) → (guarded_shown g).says k ≡ s → heard_on k (guarded_shown g) ≡ h
+            → Fired (Sent P (seen P w) (guarded_writing (line_ack P w) g) k) Heard s h (root_left (line_ack P w) g) (root_left (line_ack P now) g)
+        line_fires s h e f =
+            subst (λ (b : Bool). Fired Sender Heard b h (root_left (line_ack P w) g) (root_left (line_ack P now) g)) e
+            (subst (λ (b : Bool). Fired Sender Heard ((guarded_shown g).says k) b (root_left (line_ack P w) g) (root_left (line_ack P now) g)) f
+            (root m g ((guarded_shown g).says k) (heard_on k (guarded_shown g))
+            (guarded_fires P (seen P w) (seen P now) (clean_of good) (guarded_writing (line_ack P w) g) k t low some g good.meets ready good.fits)))
           where
-            talking : (m : Mode) (a : GuardedAt P.body m) (busy : ℕ → Bool) → (guarded_shown a).talk k ≡ true
-                → Passes P (seen P w) busy k (guarded_left (line_ack P w) a) (guarded_left (line_ack P now) a)
-                → Passes P (seen P w) busy k (root_left (line_ack P w) a) (root_left (line_ack P now) a)
-            talking idle g_rests busy e h = absurd (cc e)
-            talking running a busy e h = h
-            talking answered a busy e h = h
-            talking returning a busy e h = h
+            Sender : Process → Type 0
+            Sender = Sent P (seen P w) (guarded_writing (line_ack P w) g) k
 
-        pub line_silent : (guarded_shown g).says k ≡ false → root_left (line_ack P now) g ≡ root_left (line_ack P w) g
-        line_silent says = root_still now m g (subst (λ (b : Bool). Fired P (seen P w) (guarded_writing (line_ack P w) g) k b (guarded_left (line_ack P w) g)
-            (guarded_left (line_ack P now) g)) says fired)
+            root : (m : Mode) (a : GuardedAt P.body m) (s h : Bool) → Fired Sender Heard s h (guarded_left (line_ack P w) a) (guarded_left (line_ack P now) a)
+                → Fired Sender Heard s h (root_left (line_ack P w) a) (root_left (line_ack P now) a)
+            root idle a s h f = none_fired Sender Heard s h (guarded_left (line_ack P w) a) (guarded_left (line_ack P now) a) (opened P.body)
+                (guarded_left_done (line_ack P w) a (λ e. cc e)) f
+            root running a s h f = f
+            root answered a s h f = f
+            root returning a s h f = f
 
     module _ (high : line_ack P w k ≡ true) (lows : neutral_on (line_width P k) (w.rail k) ≡ true)
         (let_go : (d : ℕ) → same_line (of_channel d) k ≡ true → (guarded_shown g).take d ≡ false) where

@@ -19,7 +19,7 @@ use Rattle.circuit_places.specs.Lines.{Line, of_channel, of_var, same_line, site
 use Rattle.circuit_places.specs.Whole.{is_sent, is_heard, is_merged}
 use Rattle.circuit_places.proofs.LineNames.{same_number, same_line_is}
 use Rattle.std.proofs.lemmas.Bool.{cases_lt}
-use Rattle.circuit_places.specs.Covered.{IsCovered, AreCovered, talks_on, one_talks_on, branch_talks_on, EachCovered}
+use Rattle.circuit_places.specs.Covered.{IsCovered, AreCovered, EachCovered}
 use Rattle.circuit_places.proofs.Trees.{TreeOver, TreesSettle, tree_over}
 use Rattle.circuit_places.specs.Circuit.{guards_read}
 
@@ -551,53 +551,6 @@ mutual
   each_receives_within P no_members h c e = absurd (cc e)
   each_receives_within P (and_member p more) h c e = one_of (receives p c) (each_receives more c) e (λ z. receives_within P p h.0 c z)
       (λ z. each_receives_within P more h.2 c z)
-
-either_talks : (a b c d : Bool) → (a ≡ true → c ≡ true) → (b ≡ true → d ≡ true) → (a || b) ≡ true → (c || d) ≡ true
-either_talks true b c d f g h = ap (λ z. z || d) (f refl)
-either_talks false b true d f g h = refl
-either_talks false b false d f g h = g h
-
--- what sends or receives on a channel talks on it
-mutual
-  pub sends_talks : (p : Process) (c : ℕ) → sends p (of_channel c) ≡ true → talks_on c p ≡ true
-  sends_talks (sending k at f) c e = e
-  sends_talks (in_turn members) c e = each_sends_talks members c e
-  sends_talks (side_by_side members) c e = each_sends_talks members c e
-  sends_talks (repeating p) c e = sends_talks p c e
-  sends_talks skipping c e = absurd (cc e)
-  sends_talks (assigning x at f) c e = absurd (cc e)
-  sends_talks (receiving k at x to) c e = absurd (cc e)
-  sends_talks (choosing again choices) c e = choice_sends_talks choices c e
-
-  choice_sends_talks : (choices : Choices) (c : ℕ) → choice_sends choices (of_channel c) ≡ true → branch_talks_on c choices ≡ true
-  choice_sends_talks no_choices c e = absurd (cc e)
-  choice_sends_talks (and_choice g p more) c e = either_talks (sends p (of_channel c)) (choice_sends more (of_channel c)) (talks_on c p)
-      (branch_talks_on c more) (sends_talks p c) (choice_sends_talks more c) e
-
-  each_sends_talks : (members : Processes) (c : ℕ) → turn_sends members (of_channel c) ≡ true → one_talks_on c members ≡ true
-  each_sends_talks no_members c e = absurd (cc e)
-  each_sends_talks (and_member p more) c e = either_talks (sends p (of_channel c)) (turn_sends more (of_channel c)) (talks_on c p) (one_talks_on c more)
-      (sends_talks p c) (each_sends_talks more c) e
-
-  pub receives_talks : (p : Process) (c : ℕ) → receives p c ≡ true → talks_on c p ≡ true
-  receives_talks (receiving k at x to) c e = e
-  receives_talks (in_turn members) c e = each_receives_talks members c e
-  receives_talks (side_by_side members) c e = each_receives_talks members c e
-  receives_talks (repeating p) c e = receives_talks p c e
-  receives_talks skipping c e = absurd (cc e)
-  receives_talks (assigning x at f) c e = absurd (cc e)
-  receives_talks (sending k at f) c e = absurd (cc e)
-  receives_talks (choosing again choices) c e = choice_receives_talks choices c e
-
-  choice_receives_talks : (choices : Choices) (c : ℕ) → choice_receives choices c ≡ true → branch_talks_on c choices ≡ true
-  choice_receives_talks no_choices c e = absurd (cc e)
-  choice_receives_talks (and_choice g p more) c e = either_talks (receives p c) (choice_receives more c) (talks_on c p) (branch_talks_on c more)
-      (receives_talks p c) (choice_receives_talks more c) e
-
-  each_receives_talks : (members : Processes) (c : ℕ) → each_receives members c ≡ true → one_talks_on c members ≡ true
-  each_receives_talks no_members c e = absurd (cc e)
-  each_receives_talks (and_member p more) c e = either_talks (receives p c) (each_receives more c) (talks_on c p) (one_talks_on c more) (receives_talks p c)
-      (each_receives_talks more c) e
 
 -- what a statement reads is declared
 mutual

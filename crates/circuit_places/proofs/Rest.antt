@@ -206,7 +206,7 @@ module _ (P : TypedProgram) (env : Seen) (c x : ℕ) (l : Bool) (q : Rails) (mee
       kept true z h = refl
       kept false z h = absurd (cc (z, h))
 
-  port_holds : ((s : PortSpot) → port_moves env c x returning l q s ≡ false) → Releasing P c x env (port_shown c x l q)
+  pub port_holds : ((s : PortSpot) → port_moves env c x returning l q s ≡ false) → Releasing P c x env (port_shown c x l q)
   port_holds n = record {
     meets = meets;
     high = flip (env.ack (of_channel c)) (n heard);
@@ -293,12 +293,8 @@ module _ {p : Process} {more : Processes} (P : TypedProgram) (env : Seen) (x y :
   others_blocked q (a_choice again choices b is) = a_choice again choices (undecided_wider again choices env y.read (λ v. x.read v || y.read v)
       (λ v h. or_right (x.read v) (y.read v) h) b) is
 
-  this_hangs : Hanging P env x → Hanging P env (both_shown x y)
-  this_hangs (unstored v f) = unstored v (this_full (of_var v) f)
-  this_hangs (let_go k high talks none) = let_go k high
-      (or_left (x.talk k) (y.talk k) talks)
-      (λ i one. or_false_left (x.offer k i one) (y.offer k i one) (none i one) ∙ s.none_theirs k i one (s.mine k talks))
-  this_hangs (holding c v r) = holding c v (record {
+  pub this_releasing : (c v : ℕ) → Releasing P c v env x → Releasing P c v env (both_shown x y)
+  this_releasing c v r = record {
     meets = r.meets;
     high = r.high;
     talks = or_left (x.talk (of_var v)) (y.talk (of_var v)) r.talks;
@@ -306,14 +302,10 @@ module _ {p : Process} {more : Processes} (P : TypedProgram) (env : Seen) (x y :
     all = λ i one h. r.all i one (sym (or_false_right (x.offer (of_var v) i one) (y.offer (of_var v) i one)
         (s.none_theirs (of_var v) i one (s.mine (of_var v) r.talks))) ∙ h);
     has = λ h. r.has (sym (or_false_right (x.take c) (y.take c) (low_of (y.take c) (s.taken_theirs c) (s.deaf_theirs c (s.hears_mine c r.hears)))) ∙ h);
-  })
+  }
 
-  others_hang : Hanging P env y → Hanging P env (both_shown x y)
-  others_hang (unstored v f) = unstored v (others_full (of_var v) f)
-  others_hang (let_go k high talks none) = let_go k high
-      (or_right (x.talk k) (y.talk k) talks)
-      (λ i one. or_false_left (x.offer k i one) (y.offer k i one) (s.none_mine k i one (s.theirs k talks)) ∙ none i one)
-  others_hang (holding c v r) = holding c v (record {
+  pub others_releasing : (c v : ℕ) → Releasing P c v env y → Releasing P c v env (both_shown x y)
+  others_releasing c v r = record {
     meets = r.meets;
     high = r.high;
     talks = or_right (x.talk (of_var v)) (y.talk (of_var v)) r.talks;
@@ -321,7 +313,21 @@ module _ {p : Process} {more : Processes} (P : TypedProgram) (env : Seen) (x y :
     all = λ i one h. r.all i one (sym (or_false_left (x.offer (of_var v) i one) (y.offer (of_var v) i one)
         (s.none_mine (of_var v) i one (s.theirs (of_var v) r.talks))) ∙ h);
     has = λ h. r.has (sym (or_false_left (x.take c) (y.take c) (low_of (x.take c) (s.taken_mine c) (s.deaf_mine c (s.hears_theirs c r.hears)))) ∙ h);
-  })
+  }
+
+  this_hangs : Hanging P env x → Hanging P env (both_shown x y)
+  this_hangs (unstored v f) = unstored v (this_full (of_var v) f)
+  this_hangs (let_go k high talks none) = let_go k high
+      (or_left (x.talk k) (y.talk k) talks)
+      (λ i one. or_false_left (x.offer k i one) (y.offer k i one) (none i one) ∙ s.none_theirs k i one (s.mine k talks))
+  this_hangs (holding c v r) = holding c v (this_releasing c v r)
+
+  others_hang : Hanging P env y → Hanging P env (both_shown x y)
+  others_hang (unstored v f) = unstored v (others_full (of_var v) f)
+  others_hang (let_go k high talks none) = let_go k high
+      (or_right (x.talk k) (y.talk k) talks)
+      (λ i one. or_false_left (x.offer k i one) (y.offer k i one) (s.none_mine k i one (s.theirs k talks)) ∙ none i one)
+  others_hang (holding c v r) = holding c v (others_releasing c v r)
 
 -- Branches in which nothing moves, under the request: all have ended, or some wait and the others have ended, or one
 -- hangs.

@@ -6,7 +6,9 @@ use Rattle.chp_base.specs.declared.span.Span.{Span}
 use Rattle.env_script.specs.declared.script.Count.{Count}
 use Rattle.env_script.specs.Scripts.{OfferValue, gives, takes, nothing, offer_at, is_over}
 use Rattle.env_script.specs.Runs.{history_at, completed}
-use Rattle.width_check.specs.Processes.{Process, receiving, TypedProgram, Choices}
+use Rattle.width_check.specs.Processes.{Formula, Process, sending, receiving, TypedProgram, Choices}
+use Rattle.width_check.specs.Values.{value}
+use Rattle.function_blocks.specs.Waves.{store_of}
 use Rattle.width_check.specs.Typing.{kind_at, channel_width, var_width}
 use Rattle.width_check.specs.declared.typed.Var.{Var}
 use Rattle.function_blocks.specs.Rails.{number_on}
@@ -19,11 +21,12 @@ use Rattle.circuit_places.proofs.Trees.{node_moves}
 use Rattle.circuit_places.proofs.Blocks.{Block, now_at}
 use Rattle.circuit_places.proofs.BitTable.{single_bit}
 use Rattle.circuit_places.proofs.Places.{Mode, idle, running, answered, returning, asks, is_idle, GuardedAt, guarded_cells, guarded_shown, guarded_writing, GuardedFits, guarded_moves}
-use Rattle.circuit_places.proofs.Meets.{Meets, sends as sends_line, receives as receives_on, uses_within}
+use Rattle.circuit_places.proofs.Meets.{Meets, uses_within}
 use Rattle.circuit_places.proofs.Left.{guarded_left, Act, Follows, open_by, ToldBy, follows_wider}
 use Rattle.circuit_places.proofs.Flow.{goes, goes_asks, or_map, Clean, GuardedAfter, cases}
 use Rattle.circuit_places.proofs.Begin.{guarded_idle_moves}
 use Rattle.circuit_places.proofs.Sites.{is_nil}
+use Rattle.circuit_places.proofs.Exchange.{Exchange}
 use Rattle.circuit_places.proofs.Fires.{Passes}
 use Rattle.circuit_places.proofs.Writing.{guarded_reads_uses, guarded_writing_unread}
 
@@ -116,14 +119,10 @@ pub data Stored (P : TypedProgram) (busy after : ℕ → Bool) (x : ℕ) (w now 
 abbrev pub Others : TypedProgram → ℕ → Wires → Wires → Type 0
 Others P x w now = (y : ℕ) → (y == x) ≡ false → line_ack P now (of_var y) ≡ line_ack P w (of_var y)
 
--- An acknowledge on which the program receives: a value arrives in a variable whose bits have it.
-pub record Arrives (P : TypedProgram) (busy after : ℕ → Bool) (c : ℕ) (w : Wires) (t y : Term) : Type 0 where
-  pub at : Span
-  pub var : ℕ
-  pub to : Span
-  pub act : Act t (receiving c at var to) finished y
+-- The acknowledge of a channel rises on which the program receives: the bits of a variable have what is on its rails, and
+-- no other variable ceases to be written.
+pub record Lands (P : TypedProgram) (busy after : ℕ → Bool) (c var : ℕ) (w : Wires) : Type 0 where
   pub within : c < length P.channels
-  pub used : receives_on P.body c ≡ true
   pub into : var < length P.vars
   pub widths : var_width P.vars var ≡ channel_width P.channels c
   pub told : value_on (channel_width P.channels c) (w.bit var) ≡ value_on (channel_width P.channels c) (w.rail (of_channel c))
@@ -131,12 +130,33 @@ pub record Arrives (P : TypedProgram) (busy after : ℕ → Bool) (c : ℕ) (w :
   pub some : is_some (value_on (channel_width P.channels c) (w.rail (of_channel c))) ≡ true
   pub frees : (z : ℕ) → (z ≡ var → ⊥) → after z ≡ false → busy z ≡ false
 
+-- the environment's value arrives in it
+pub record Arrives (P : TypedProgram) (busy after : ℕ → Bool) (c : ℕ) (w : Wires) (t y : Term) : Type 0 where
+  pub at : Span
+  pub var : ℕ
+  pub to : Span
+  pub act : Act t (receiving c at var to) finished y
+  pub lands : Lands P busy after c var w
+
+-- or one of the program itself, whose two ends go on at once
+pub record Exchanges (P : TypedProgram) (busy after : ℕ → Bool) (c : ℕ) (w : Wires) (t y : Term) : Type 0 where
+  pub from : Span
+  pub expression : Formula
+  pub at : Span
+  pub var : ℕ
+  pub to : Span
+  pub act : Exchange t (sending c from expression) (receiving c at var to) y
+  pub read : (store : ℕ → ℕ) → ((v : ℕ) → v < length P.vars → busy v ≡ false → store_of P.vars w.bit v ≡ store v)
+      → value_on (channel_width P.channels c) (w.rail (of_channel c)) ≡ Some (value store expression)
+  pub lands : Lands P busy after c var w
+
 -- the environment acknowledges, or the program does
 pub data Acks (P : TypedProgram) (busy after : ℕ → Bool) (k : ℕ) (w : Wires) (t y : Term) : Type 0 where
   taken_out : is_heard (kind_at P.channels k) ≡ false → Passing P (seen P w) busy (of_channel k) (w.ack k) t y → ((z : ℕ) → after z ≡ false → busy z ≡ false)
       → Acks P busy after k w t y
-  taken_in : is_heard (kind_at P.channels k) ≡ true → Arrives P busy after k w t y → Acks P busy after k w t y
-  let_go_in : is_heard (kind_at P.channels k) ≡ true → w.ack k ≡ true → y ≡ t → ((z : ℕ) → after z ≡ false → busy z ≡ false) → Acks P busy after k w t y
+  taken_in : is_heard (kind_at P.channels k) ≡ true → is_merged P (of_channel k) ≡ false → Arrives P busy after k w t y → Acks P busy after k w t y
+  taken_over : is_heard (kind_at P.channels k) ≡ true → is_merged P (of_channel k) ≡ true → Exchanges P busy after k w t y → Acks P busy after k w t y
+  released : is_heard (kind_at P.channels k) ≡ true → w.ack k ≡ true → y ≡ t → ((z : ℕ) → after z ≡ false → busy z ≡ false) → Acks P busy after k w t y
 
 -- which branches are open where the store has the numbers of what isn't being written
 abbrev pub Decided : (P : TypedProgram) → (bits : ℕ → Rails) → (busy : ℕ → Bool) → Choices → List Process → Type 0
@@ -199,14 +219,15 @@ pub may_high : (n : ℕ) (env : Wires) (k : ℕ) (more : Bool) → env.ack k ≡
 may_high n env k more high e = sym (ap (λ b. if b then neutral_on n (env.rail (of_channel k)) else is_some (value_on n (env.rail (of_channel k))) && more) high)
     ∙ e
 
--- The script fits the channels, each of which is `in` or `out`, or isn't used.
+-- The script fits the channels: an offer for each that the program and the environment share, and none for the others.
 pub record Fitted (P : TypedProgram) (script : List OfferValue) : Type 0 where
   pub within : (k : ℕ) → offer_at script k ≢ nothing → k < length P.channels
   pub wide : (k : ℕ) → k < length P.channels → 1 ≤ channel_width P.channels k
-  pub sent_alone : (k : ℕ) → k < length P.channels → sends_line P.body (of_channel k) ≡ true → is_heard (kind_at P.channels k) ≡ true → ⊥
-  pub heard_alone : (k : ℕ) → k < length P.channels → receives_on P.body k ≡ true → is_merged P (of_channel k) ≡ true → ⊥
-  pub sends : (k : ℕ) → k < length P.channels → sends_line P.body (of_channel k) ≡ true → (count : Count) × (offer_at script k ≡ takes count)
-  pub hears : (k : ℕ) → k < length P.channels → receives_on P.body k ≡ true → (values : List ℕ) × (offer_at script k ≡ gives values)
+  pub sends : (k : ℕ) → k < length P.channels → is_merged P (of_channel k) ≡ true → is_heard (kind_at P.channels k) ≡ false
+      → (count : Count) × (offer_at script k ≡ takes count)
+  pub hears : (k : ℕ) → k < length P.channels → is_merged P (of_channel k) ≡ false → is_heard (kind_at P.channels k) ≡ true
+      → (values : List ℕ) × (offer_at script k ≡ gives values)
+  pub inside : (k : ℕ) → k < length P.channels → is_merged P (of_channel k) ≡ true → is_heard (kind_at P.channels k) ≡ true → offer_at script k ≡ nothing
   pub out : (k : ℕ) (count : Count) → offer_at script k ≡ takes count → (is_merged P (of_channel k) ≡ true) × (is_heard (kind_at P.channels k) ≡ false)
   pub brought : (k : ℕ) (values : List ℕ) → offer_at script k ≡ gives values → (is_merged P (of_channel k) ≡ false) × (is_heard (kind_at P.channels k) ≡ true)
   pub bounded : (k : ℕ) (values : List ℕ) → offer_at script k ≡ gives values → (n v : ℕ) → slice_get values n ≡ Some v → v < 2 ^ channel_width P.channels k

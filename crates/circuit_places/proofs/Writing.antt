@@ -278,7 +278,7 @@ mutual
   chosen_writing_deaf ack now c t (this_one a) e x = writing_deaf ack now c t a e x
   chosen_writing_deaf ack now c t (another a) e x = chosen_writing_deaf ack now c t a e x
 
-  branches_writing_deaf : {members : Processes} {ks : List Mode} (ack now : Line → Bool) (c : ℕ) → OneTurned ack now (of_channel c)
+  pub branches_writing_deaf : {members : Processes} {ks : List Mode} (ack now : Line → Bool) (c : ℕ) → OneTurned ack now (of_channel c)
       → (b : BranchesAt members ks) → (branches_shown b).listen c ≡ false → (x : ℕ) → branches_writing now b x ≡ branches_writing ack b x
   branches_writing_deaf ack now c t no_more e x = refl
   branches_writing_deaf ack now c t (and_at g b) e x =

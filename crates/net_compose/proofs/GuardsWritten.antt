@@ -18,7 +18,7 @@ use Rattle.net_compose.specs.Translation.{bits_at, guard_pairs, guards_rules}
 use Rattle.net_compose.proofs.RulesInTurn.{guard_rules_here, guard_pairs_here, guard_rules_end, guard_pairs_end}
 use Rattle.net_compose.proofs.Writes.{left_to_write}
 
-rails_append : (ps qs : List Pair) → rails_of (ps ++ qs) ≡ rails_of ps ++ rails_of qs
+pub rails_append : (ps qs : List Pair) → rails_of (ps ++ qs) ≡ rails_of ps ++ rails_of qs
 rails_append [] qs = refl
 rails_append (p ∷ ps) qs = ap (λ ns. p.t ∷ p.f ∷ ns) (rails_append ps qs)
 

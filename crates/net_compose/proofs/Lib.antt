@@ -1,7 +1,6 @@
 pub mod Examples
 pub mod BranchExamples
 pub mod NameLemmas
-pub mod Nothing
 pub mod FlatTrees
 pub mod Templates
 pub mod FlatCore
@@ -13,10 +12,6 @@ pub mod FlatBlocks
 pub mod FlatFirst
 pub mod FlatNet
 pub mod CoveredCarried
-pub mod BitNames
-pub mod BitNet
-pub mod BitAccepted
-pub mod Forms
 pub mod Sizes
 pub mod GuardCosts
 pub mod NetLiterals
@@ -40,3 +35,10 @@ pub mod MergesWritten
 pub mod Raised
 pub mod ReadBack
 pub mod GuardsWritten
+pub mod SitesOwn
+pub mod Sorting
+pub mod DeclaredRules
+pub mod Composed
+pub mod BodyWritten
+pub mod RailsApart
+pub mod SelectionReady

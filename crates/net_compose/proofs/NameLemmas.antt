@@ -1,14 +1,15 @@
--- The names of numbered nodes are names of nodes.
-use Rattle.std.proofs.Common.{◌≡◌, ℕ, ◌+◌, ◌-◌, ◌<◌, ◌≤◌, ◌^◌, Bool, true, false, List, [], ◌∷◌, ◌++◌, map, refl, sym, ap, ◌∙◌, arith}
-use Rattle.std.specs.Prelude.{◌&&◌, ◌||◌, decimal, codes}
-use Rattle.std.specs.List.{list_all, range_with_len}
-use Rattle.std.proofs.lemmas.List.FromFn.{map-range_with_len_more}
+-- The names of nodes are names of nodes.
+use Rattle.std.proofs.Common.{◌≡◌, ℕ, ◌<◌, ◌≤◌, ◌^◌, Bool, true, false, List, [], ◌∷◌, ◌++◌, length, refl, arith, length-append, lit≤}
+use Rattle.std.specs.Prelude.{◌&&◌, ◌||◌, ◌==◌, decimal, codes}
+use Rattle.std.specs.List.{list_all}
+use Rattle.std.proofs.lemmas.Bool as bool
+use Rattle.std.proofs.lemmas.Bool.{and_from, and_parts}
 use Rattle.std.specs.Str.Parse.{AllDigits}
 use Rattle.std.specs.Int.{IsInRange}
 use Rattle.std.proofs.lemmas.Bool.Decides.{nat_tests}
 use Rattle.std.proofs.lemmas.Str.Parse.{tells_digits}
 use Rattle.std.proofs.lemmas.Fmt.{decimal_is_IsNumeral, length-decimal-le}
-use Rattle.chp_base.specs.Names.{IsNodeName, letter, digit, node_part}
+use Rattle.chp_base.specs.Names.{IsName, IsNodeName, letter, digit, word_part, node_part, begins_with_letter}
 use Rattle.handshake_expand.specs.Named.{numbered}
 
 in_order : (c : ℕ) → 48 ≤ c → c ≤ 57 → digit c ≡ true
@@ -40,13 +41,33 @@ numbered_is_name node small = record {
   parts = digits_are_parts (decimal node) (decimal_is_IsNumeral node (omega arith)).0.1;
 }
 
--- the names of the nodes below a number
-abbrev pub names_below : ℕ → List (List ℕ)
-names_below node = codes "go" ∷ codes "done" ∷ map numbered (range_with_len 2 (node - 2))
+-- names of wires, and of go and done
 
-pub one_more_name : (names more : List (List ℕ)) (name : List ℕ) (node : ℕ) → 2 ≤ node → names ≡ names_below node → name ≡ numbered node → more ≡ names ++ name ∷ [] → more ≡ names_below (node + 1)
-one_more_name names more name node low before is after =
-    let count : node + 1 - 2 ≡ node - 2 + 1 = omega arith in
-    let longer : map numbered (range_with_len 2 (node - 2 + 1)) ≡ map numbered (range_with_len 2 (node - 2)) ++ numbered node ∷ [] = map-range_with_len_more numbered 2 (node - 2) node (omega arith) in
-    after ∙ (ap (λ xs. xs ++ name ∷ []) before ∙ (ap (λ x. names_below node ++ x ∷ []) is
-    ∙ sym (ap (λ xs. codes "go" ∷ codes "done" ∷ xs) (ap (λ k. map numbered (range_with_len 2 k)) count ∙ longer))))
+pub parts_are : (xs : List ℕ) → list_all word_part xs ≡ true → list_all node_part xs ≡ true
+parts_are [] h = refl
+parts_are (b ∷ bs) h =
+    let t = and_parts (word_part b) (list_all word_part bs) h in
+    and_from (node_part b) (list_all node_part bs) (bool.or_left (word_part b) (b == 46) t.0) (parts_are bs t.1)
+
+pub all_append : (p : ℕ → Bool) (xs ys : List ℕ) → list_all p xs ≡ true → list_all p ys ≡ true → list_all p (xs ++ ys) ≡ true
+all_append p [] ys h k = k
+all_append p (x ∷ xs) ys h k =
+    let t = and_parts (p x) (list_all p xs) h in
+    and_from (p x) (list_all p (xs ++ ys)) t.0 (all_append p xs ys t.1 k)
+
+first_append : (xs ys : List ℕ) → begins_with_letter xs ≡ true → begins_with_letter (xs ++ ys) ≡ true
+first_append [] ys h = absurd (cc h)
+first_append (x ∷ xs) ys h = h
+
+pub wire_is_name : (name tail : List ℕ) → IsName name → list_all node_part tail ≡ true → length tail ≤ 8 → IsNodeName (name ++ tail)
+wire_is_name name tail is parts short = record {
+  short = omega (arith, length-append name tail, is.short, short);
+  first = first_append name tail is.first;
+  parts = all_append node_part name tail (parts_are name is.parts) parts;
+}
+
+pub go_is_name : IsNodeName (codes "go")
+go_is_name = record { short = lit≤ tt; first = refl; parts = refl }
+
+pub done_is_name : IsNodeName (codes "done")
+done_is_name = record { short = lit≤ tt; first = refl; parts = refl }

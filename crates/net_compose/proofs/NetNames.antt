@@ -25,8 +25,7 @@ use Rattle.net_compose.proofs.FlatWires.{Wire, a_rail, an_ack, wire_of}
 use Rattle.net_compose.proofs.FlatBlocks.{Owner, owner, Part, PartAt, part_of, IsPart, offset, blocks_below}
 use Rattle.net_compose.proofs.FlatBlocks as b
 use Rattle.net_compose.proofs.FlatTrees.{joint_count_is}
-use Rattle.net_compose.proofs.NameLemmas.{numbered_is_name}
-use Rattle.net_compose.proofs.BitNames.{parts_are, all_append, wire_is_name, go_is_name, done_is_name}
+use Rattle.net_compose.proofs.NameLemmas.{numbered_is_name, parts_are, all_append, wire_is_name, go_is_name, done_is_name}
 
 -- what stands before the first mark, and what stands behind it
 spans : (p : ℕ → Bool) (mark : ℕ) → p mark ≡ false → (xs ys s t : List ℕ) → list_all p xs ≡ true → list_all p ys ≡ true → xs ++ mark ∷ s ≡ ys ++ mark ∷ t → (xs ≡ ys) × (s ≡ t)

@@ -1,22 +1,28 @@
 -- What is picked of all sites is what the statements contribute of that kind.
-use Rattle.std.proofs.Common.{◌≡◌, ℕ, ◌+◌, ◌==◌, Bool, true, false, List, [], ◌∷◌, ◌++◌, refl, ap, ◌∙◌}
+use Rattle.std.proofs.Common.{◌≡◌, ℕ, ◌+◌, ◌==◌, Bool, true, false, List, [], ◌∷◌, ◌++◌, map, refl, sym, ap, ◌∙◌}
 use Rattle.std.specs.Prelude.{if◌then◌else◌}
 use Rattle.std.specs.List.{flat_map}
 use Rattle.std.proofs.lemmas.Bool.{eqb-true}
+use Rattle.std.proofs.lemmas.List.{map-append, map-id}
 use Rattle.std.proofs.lemmas.List.Concat.{flat_map-append}
-use Rattle.prs_core.specs.Pairs.{Pair}
+use Rattle.prs_core.specs.Pairs.{rails_of}
 use Rattle.width_check.specs.Processes.{Formula, Process, skipping, assigning, sending, receiving, in_turn, side_by_side, choosing, repeating, Processes, no_members, and_member, Choices, no_choices, and_choice, TypedProgram}
 use Rattle.handshake_expand.specs.Layout.{size_of}
 use Rattle.handshake_expand.specs.Answers.{bodies_from, select_own, again_own}
-use Rattle.net_compose.specs.EverySite.{SiteValue, sent, taken, written, every_site}
+use Rattle.net_compose.specs.EverySite.{every_site}
+use Rattle.net_compose.specs.SortedSites.{sent_on, taken_on, written_to}
 use Rattle.net_compose.specs.Translation.{Sites, sites_in, sites_in_turn, sites_in_branches, sites_in_bodies, send_site, receive_site, write_site, assigned_rails}
 
-module _ {A B : Type 0} (p : TypedProgram) (pick : B → List A) (every : Sites B) (site : Sites A) (leaf : (s : Process) (from : ℕ) → flat_map pick (every s from) ≡ site s from) where
-  two : (xs ys : List B) (us vs : List A) → flat_map pick xs ≡ us → flat_map pick ys ≡ vs → flat_map pick (xs ++ ys) ≡ us ++ vs
-  two xs ys us vs h k = flat_map-append pick xs ys ∙ (ap (λ zs. zs ++ flat_map pick ys) h ∙ ap (λ zs. us ++ zs) k)
+-- where they are written in another way, as f
+module _ {A B C : Type 0} (p : TypedProgram) (pick : B → List C) (f : A → C) (every : Sites B) (site : Sites A)
+    (leaf : (s : Process) (from : ℕ) → flat_map pick (every s from) ≡ map f (site s from)) where
+  two : (xs ys : List B) (us vs : List A) → flat_map pick xs ≡ map f us → flat_map pick ys ≡ map f vs → flat_map pick (xs ++ ys) ≡ map f (us ++ vs)
+  two xs ys us vs h k =
+      flat_map-append pick xs ys
+      ∙ (ap (λ zs. zs ++ flat_map pick ys) h ∙ (ap (λ zs. map f us ++ zs) k ∙ sym (map-append f us vs)))
 
   mutual
-    pub picked : (s : Process) (from : ℕ) → flat_map pick (sites_in p every s from) ≡ sites_in p site s from
+    pub picked : (s : Process) (from : ℕ) → flat_map pick (sites_in p every s from) ≡ map f (sites_in p site s from)
     picked skipping from = leaf skipping from
     picked (assigning x at e) from = leaf (assigning x at e) from
     picked (sending chan at e) from = leaf (sending chan at e) from
@@ -27,60 +33,56 @@ module _ {A B : Type 0} (p : TypedProgram) (pick : B → List A) (every : Sites 
     picked (choosing true choices) from = picked_bodies choices (bodies_from choices again_own from)
     picked (repeating s) from = picked s (from + 2)
 
-    picked_turn : (members : Processes) (from : ℕ) → flat_map pick (sites_in_turn p every members from) ≡ sites_in_turn p site members from
+    picked_turn : (members : Processes) (from : ℕ) → flat_map pick (sites_in_turn p every members from) ≡ map f (sites_in_turn p site members from)
     picked_turn no_members from = refl
     picked_turn (and_member s no_members) from = picked s from
     picked_turn (and_member s (and_member t more)) from =
-        two (sites_in p every s (from + 3)) (sites_in_turn p every (and_member t more) (from + 3 + size_of p s)) _ _ (picked s (from + 3)) (picked_turn (and_member t more) (from + 3 + size_of p s))
+        two (sites_in p every s (from + 3)) (sites_in_turn p every (and_member t more) (from + 3 + size_of p s))
+        (sites_in p site s (from + 3)) (sites_in_turn p site (and_member t more) (from + 3 + size_of p s)) (picked s (from + 3)) (picked_turn
+        (and_member t more) (from + 3 + size_of p s))
 
-    picked_branches : (members : Processes) (from : ℕ) → flat_map pick (sites_in_branches p every members from) ≡ sites_in_branches p site members from
+    picked_branches : (members : Processes) (from : ℕ) → flat_map pick (sites_in_branches p every members from) ≡ map f (sites_in_branches p site members from)
     picked_branches no_members from = refl
     picked_branches (and_member s more) from =
-        two (sites_in p every s (from + 3)) (sites_in_branches p every more (from + 3 + size_of p s)) _ _ (picked s (from + 3)) (picked_branches more (from + 3 + size_of p s))
+        two (sites_in p every s (from + 3)) (sites_in_branches p every more (from + 3 + size_of p s))
+        (sites_in p site s (from + 3)) (sites_in_branches p site more (from + 3 + size_of p s)) (picked s (from + 3)) (picked_branches more
+        (from + 3 + size_of p s))
 
-    picked_bodies : (choices : Choices) (from : ℕ) → flat_map pick (sites_in_bodies p every choices from) ≡ sites_in_bodies p site choices from
+    picked_bodies : (choices : Choices) (from : ℕ) → flat_map pick (sites_in_bodies p every choices from) ≡ map f (sites_in_bodies p site choices from)
     picked_bodies no_choices from = refl
     picked_bodies (and_choice g s more) from =
-        two (sites_in p every s from) (sites_in_bodies p every more (from + size_of p s)) _ _ (picked s from) (picked_bodies more (from + size_of p s))
+        two (sites_in p every s from) (sites_in_bodies p every more (from + size_of p s))
+        (sites_in p site s from) (sites_in_bodies p site more (from + size_of p s)) (picked s from) (picked_bodies more (from + size_of p s))
+
+alone : {A C : Type 0} (f : A → C) (b : Bool) (a : A) → (if b then f a ∷ [] else []) ++ [] ≡ map f (if b then a ∷ [] else [])
+alone f true a = refl
+alone f false a = refl
 
 -- the sends and the receives on a channel, and the writes of a variable
-abbrev pub sent_on : ℕ → SiteValue → List (List Pair)
-sent_on k (sent chan rails) = if chan == k then rails ∷ [] else []
-sent_on k v = []
 
-abbrev pub taken_on : ℕ → SiteValue → List ℕ
-taken_on k (taken chan node) = if chan == k then node ∷ [] else []
-taken_on k v = []
-
-abbrev pub written_to : ℕ → SiteValue → List (List Pair)
-written_to x (written var rails) = if var == x then rails ∷ [] else []
-written_to x v = []
-
-alone : {A : Type 0} (b : Bool) (a : A) → (if b then a ∷ [] else []) ++ [] ≡ (if b then a ∷ [] else [])
-alone true a = refl
-alone false a = refl
-
-pub sends_picked : (p : TypedProgram) (k : ℕ) (s : Process) (from : ℕ) → flat_map (sent_on k) (sites_in p (every_site p) s from) ≡ sites_in p (send_site k) s from
-sends_picked p k = picked p (sent_on k) (every_site p) (send_site k) leaf
+pub sends_picked : (p : TypedProgram) (k : ℕ) (s : Process) (from : ℕ) → flat_map (sent_on k) (sites_in p (every_site p) s from) ≡ map rails_of (sites_in p
+    (send_site k) s from)
+sends_picked p k = picked p (sent_on k) rails_of (every_site p) (send_site k) leaf
   where
-    leaf : (s : Process) (from : ℕ) → flat_map (sent_on k) (every_site p s from) ≡ send_site k s from
+    leaf : (s : Process) (from : ℕ) → flat_map (sent_on k) (every_site p s from) ≡ map rails_of (send_site k s from)
     leaf skipping from = refl
     leaf (assigning x at e) from = refl
-    leaf (sending chan at e) from = alone (chan == k) _
+    leaf (sending chan at e) from = alone rails_of (chan == k) _
     leaf (receiving chan chan_at x var_at) from = refl
     leaf (in_turn members) from = refl
     leaf (side_by_side members) from = refl
     leaf (choosing again choices) from = refl
     leaf (repeating s) from = refl
 
-pub takes_picked : (p : TypedProgram) (k : ℕ) (s : Process) (from : ℕ) → flat_map (taken_on k) (sites_in p (every_site p) s from) ≡ sites_in p (receive_site k) s from
-takes_picked p k = picked p (taken_on k) (every_site p) (receive_site k) leaf
+pub takes_picked : (p : TypedProgram) (k : ℕ) (s : Process) (from : ℕ) → flat_map (taken_on k) (sites_in p (every_site p) s from) ≡ sites_in p
+    (receive_site k) s from
+takes_picked p k s from = picked p (taken_on k) (λ (n : ℕ). n) (every_site p) (receive_site k) leaf s from ∙ map-id (sites_in p (receive_site k) s from)
   where
-    leaf : (s : Process) (from : ℕ) → flat_map (taken_on k) (every_site p s from) ≡ receive_site k s from
+    leaf : (s : Process) (from : ℕ) → flat_map (taken_on k) (every_site p s from) ≡ map (λ (n : ℕ). n) (receive_site k s from)
     leaf skipping from = refl
     leaf (assigning x at e) from = refl
     leaf (sending chan at e) from = refl
-    leaf (receiving chan chan_at x var_at) from = alone (chan == k) _
+    leaf (receiving chan chan_at x var_at) from = alone (λ (n : ℕ). n) (chan == k) _
     leaf (in_turn members) from = refl
     leaf (side_by_side members) from = refl
     leaf (choosing again choices) from = refl
@@ -88,18 +90,19 @@ takes_picked p k = picked p (taken_on k) (every_site p) (receive_site k) leaf
 
 -- the variable that is written is this one
 one_variable : (p : TypedProgram) (x y : ℕ) (e : Formula) (from : ℕ) (b : Bool) → (y == x) ≡ b
-    → (if b then assigned_rails p y e from ∷ [] else []) ≡ (if b then assigned_rails p x e from ∷ [] else [])
-one_variable p x y e from true is = ap (λ z. assigned_rails p z e from ∷ []) (eqb-true y x is)
+    → map rails_of (if b then assigned_rails p y e from ∷ [] else []) ≡ map rails_of (if b then assigned_rails p x e from ∷ [] else [])
+one_variable p x y e from true is = ap (λ z. rails_of (assigned_rails p z e from) ∷ []) (eqb-true y x is)
 one_variable p x y e from false is = refl
 
-pub writes_picked : (p : TypedProgram) (x : ℕ) (s : Process) (from : ℕ) → flat_map (written_to x) (sites_in p (every_site p) s from) ≡ sites_in p (write_site p x) s from
-writes_picked p x = picked p (written_to x) (every_site p) (write_site p x) leaf
+pub writes_picked : (p : TypedProgram) (x : ℕ) (s : Process) (from : ℕ) → flat_map (written_to x) (sites_in p (every_site p) s from) ≡ map rails_of
+    (sites_in p (write_site p x) s from)
+writes_picked p x = picked p (written_to x) rails_of (every_site p) (write_site p x) leaf
   where
-    leaf : (s : Process) (from : ℕ) → flat_map (written_to x) (every_site p s from) ≡ write_site p x s from
+    leaf : (s : Process) (from : ℕ) → flat_map (written_to x) (every_site p s from) ≡ map rails_of (write_site p x s from)
     leaf skipping from = refl
-    leaf (assigning y at e) from = alone (y == x) _ ∙ one_variable p x y e from (y == x) refl
+    leaf (assigning y at e) from = alone rails_of (y == x) _ ∙ one_variable p x y e from (y == x) refl
     leaf (sending chan at e) from = refl
-    leaf (receiving chan chan_at y var_at) from = alone (y == x) _
+    leaf (receiving chan chan_at y var_at) from = alone rails_of (y == x) _
     leaf (in_turn members) from = refl
     leaf (side_by_side members) from = refl
     leaf (choosing again choices) from = refl

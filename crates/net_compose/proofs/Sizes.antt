@@ -102,10 +102,10 @@ ones_length : (before behind : List Pair) → length (only_one_true before behin
 ones_length before [] = refl
 ones_length before (h ∷ behind) = ap suc (ones_length (before ++ h ∷ []) behind)
 
-latches_length : (request : ℕ) (hs : List Pair) → length (latches request hs) ≡ length hs
+pub latches_length : (request : ℕ) (hs : List Pair) → length (latches request hs) ≡ length hs
 latches_length request hs = length-map _ _ ∙ ones_length [] hs
 
-starts_length : (ls : List ℕ) (hs : List Pair) → length (starts ls hs) ≡ length ls
+pub starts_length : (ls : List ℕ) (hs : List Pair) → length (starts ls hs) ≡ length ls
 starts_length ls hs = length-map _ _
 
 pub pairs_of_guards : Counted → (p : TypedProgram) (choices : Choices) (from : ℕ) → AreChoices p.channels p.vars choices → length (guard_pairs choices from) ≡ choice_count choices
@@ -183,7 +183,7 @@ mutual
       let all = both (rules_of p s from (from + 3)) (turn_rules p (and_member t more) (from + 2) (from + 3 + size_of p s)) _ _ one rest in
       omega (arith, all)
 
-  branches_length : Counted → (p : TypedProgram) (members : Processes) (request from : ℕ) → AreProcesses p.channels p.vars members → length (branches_rules p members request from) ≡ branches_size p members
+  pub branches_length : Counted → (p : TypedProgram) (members : Processes) (request from : ℕ) → AreProcesses p.channels p.vars members → length (branches_rules p members request from) ≡ branches_size p members
   branches_length k p no_members request from h = refl
   branches_length k p (and_member s more) request from h =
       let one = statement_length k p s from (from + 3) h.0 in
@@ -191,7 +191,7 @@ mutual
       let all = both (rules_of p s from (from + 3)) (branches_rules p more request (from + 3 + size_of p s)) _ _ one rest in
       omega (arith, all)
 
-  bodies_length : Counted → (p : TypedProgram) (choices : Choices) (start from : ℕ) → AreChoices p.channels p.vars choices → length (bodies_rules p choices start from) ≡ bodies_size p choices
+  pub bodies_length : Counted → (p : TypedProgram) (choices : Choices) (start from : ℕ) → AreChoices p.channels p.vars choices → length (bodies_rules p choices start from) ≡ bodies_size p choices
   bodies_length k p no_choices start from h = refl
   bodies_length k p (and_choice g s more) start from h =
       both (rules_of p s start from) (bodies_rules p more (start + 1) (from + size_of p s)) _ _ (statement_length k p s start from h.1) (bodies_length k p more (start + 1) (from + size_of p s) h.2)

@@ -1,13 +1,13 @@
 -- What it is for a net to carry a program: whatever the environment offers and in whatever order the gates switch.
 -- How the net was made plays no part in it.
-use Rattle.std.specs.Prelude.{◌≡◌, ◌↔◌, ◌≤◌, ℕ, Bool, true, List, [], ◌++◌, map, length, All, ◌≢◌, codes, Some, None}
+use Rattle.std.specs.Prelude.{◌≡◌, ◌↔◌, ◌≤◌, ℕ, Bool, true, List, ◌++◌, map, length, All, ◌≢◌, codes, Some, None}
 use Rattle.prs_core.specs.declared.wires.Wires.{Wires}
 use Rattle.prs_core.specs.Nets.{NetValue, IsNet}
 use Rattle.prs_core.specs.Moves.{high}
 use Rattle.reset_net.specs.Resets.{reset_of}
 use Rattle.env_script.specs.Scripts.{OfferValue, IsScript}
 use Rattle.env_script.specs.Runs.{RunState, history_at, begin_at, after, IsRun, IsSafeRun, IsAtRest, IsPowered, until_reset, moves_since_reset, IsOnceEach}
-use Rattle.width_check.specs.Processes.{TypedProgram, skipping}
+use Rattle.width_check.specs.Processes.{TypedProgram}
 use Rattle.handshake_expand.specs.Layout.{done_node}
 use Rattle.chp_meaning.specs.Terms.{Place, finished}
 use Rattle.chp_meaning.specs.Steps.{Configuration, Step}
@@ -29,10 +29,6 @@ pub record IsCarrying (net : NetValue) (p : TypedProgram) (script : List OfferVa
   pub safe : IsSafeRun net script (begin_at net values) moves
   pub prefix : IsFollowing (after net (begin_at net values) moves) (rounds p script counted)
   pub rest : IsAtRest net script (after net (begin_at net values) moves) → IsSettled (after net (begin_at net values) moves) (rounds p script counted)
-
--- the program that declares nothing and does nothing
-abbrev pub idle : TypedProgram
-idle = record { channels = []; vars = []; body = skipping }
 
 -- the net's channels are the program's, in order
 abbrev pub HasChannels : NetValue → TypedProgram → Type 0

@@ -1,8 +1,9 @@
 -- Why there is no net.
-use Rattle.net_compose.specs.declared.translate.PlainNetError.{PlainNetError}
-use Rattle.net_compose.specs.declared.translate.PlainNetError.TheVariants.{NotBuilt, NoMemory}
+use Rattle.std.specs.Prelude.{ℕ}
+use Rattle.net_compose.specs.declared.net.NetError.{NetError}
+use Rattle.net_compose.specs.declared.net.NetError.TheVariants.{TooManyNodes, NoMemory}
 
--- what holds where the program isn't compiled yet
-abbrev pub WhenNotBuilt : PlainNetError → Type 0 → Type 0
-WhenNotBuilt NotBuilt P = P
-WhenNotBuilt (NoMemory e) P = Unit {0}
+-- what holds of the number of nodes, where there are too many
+abbrev pub IfTooMany : (ℕ → Type 0) → NetError → Type 0
+IfTooMany P (TooManyNodes count) = P count
+IfTooMany P (NoMemory e) = Unit {0}

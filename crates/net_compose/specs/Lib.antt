@@ -1,11 +1,12 @@
 pub mod Errors
 pub mod Translation
-pub mod Built
 pub mod Carries
 pub mod Points
 pub mod Sized
 pub mod Begins
 pub mod EverySite
 pub mod RailLists
+pub mod SiteLists
+pub mod SortedSites
 pub use Rattle.chp_syntax.specs.View
 pub use Rattle.prs_core.specs.Nets

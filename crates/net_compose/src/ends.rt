@@ -50,7 +50,7 @@ fn first_of(firsts: &[u32], place: u32) -> u32
 
 /// The number of bits of a channel.
 #[tactic(auto, using(crate::proofs::EndsReady::channel_declared, crate::proofs::EndsReady::channel_missing))]
-fn channel_bits(program: &Typed, chan: u32) -> u8
+pub(crate) fn channel_bits(program: &Typed, chan: u32) -> u8
     ensures { result ≡ channel_width program.now.channels chan }
 {
     match program.channels().get(chan as usize) {

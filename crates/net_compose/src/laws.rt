@@ -17,12 +17,12 @@ use reset_runs::reset_runs;
 
 /// Law: the net of a covered program carries it. Covered are skip, sends of any expression over variables, receives,
 /// assignments of any expression that doesn't read their own target, sequences, parallel compositions and loops that go
-/// on for ever, on `in` and `out` channels, under the sharing rule; any number of sites on a channel or a variable, of any
-/// width, and whatever channels and variables are declared besides and not used. In every
-/// run of the net, under every script and in whatever order the nodes switch, no enabled move is taken away, no node is
-/// pulled both ways and no channel leaves its phases; what has passed on a channel after some moves is a front of what
-/// has passed there after as many rounds of the program; and at rest it is all of it, the program goes no further, and
-/// `done` is high exactly where it has ended.
+/// on for ever, on `in`, `out` and internal channels, under the sharing rule; any number of sites at each end of a
+/// channel and of a variable, in whatever branches, of any width, and whatever channels and variables are declared
+/// besides and not used. In every run of the net, under every script and in whatever order the nodes switch, no enabled
+/// move is taken away, no node is pulled both ways and no channel leaves its phases; what has passed on a channel after
+/// some moves is a front of what has passed there after as many rounds of the program; and at rest it is all of it, the
+/// program goes no further, and `done` is high exactly where it has ended.
 pub fn covered_carried()
     ensures { (p : TypedProgram) → IsTyped p.channels p.vars p.body → Covered p → Carries (translation p) p }
 {

@@ -1,7 +1,11 @@
 //! The composition of a program's circuit.
 #![tactic(auto)]
 
-mod bit;
+mod arms;
+mod body;
+mod choice;
+mod compose;
+mod declared;
 mod elements;
 mod ends;
 mod first;
@@ -9,11 +13,14 @@ mod firsts;
 mod formula;
 mod guards;
 pub mod laws;
+mod leaves;
 mod merges;
 mod names;
-mod plain;
+mod net;
+mod select;
+mod site;
+mod sorted;
 mod through;
-mod translate;
 mod wires;
 
-pub use translate::{PlainNetError, translate_plain};
+pub use net::{NetError, translate};

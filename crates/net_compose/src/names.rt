@@ -7,11 +7,21 @@ ghost use Rattle.handshake_expand.specs.Layout.{nodes_of};
 ghost use Rattle.handshake_expand.specs.Named.{name_of_node, node_names};
 
 use crate::laws::all_counted;
-use crate::plain::name_from;
-use chp_base::Name;
+use chp_base::{Name, node_name_of};
 use handshake_expand::{count_nodes, node_name};
 use std::alloc::{AllocError, Global};
 use width_check::Typed;
+
+/// The node's name that these bytes are.
+fn name_from(alloc: Global, text: &[u8]) -> Result<Name, AllocError>
+    requires { IsNodeName text.now }
+    ensures { IfOk result (λ name. name ≡ text.now) }
+{
+    match node_name_of(alloc, text)? {
+        Some(name) => Ok(name),
+        None => unreachable!(),
+    }
+}
 
 /// Writes the name of a node to the front of the buffer, and answers its length.
 fn written_name(program: &Typed, node: u32, buffer: &mut [u8; 32]) -> usize

@@ -17,3 +17,9 @@ returns-in-Check-clause-answered g c = rw c.in-Check.is c.check.ensures.answered
 
 pub returns-in-Check-clause-stopped : goal.returns-in-Check-clause-stopped
 returns-in-Check-clause-stopped g c = rw c.in-Check.is c.check.ensures.stopped
+
+pub returns-in-Expand-clause-answered : goal.returns-in-Expand-clause-answered
+returns-in-Expand-clause-answered g c = rw c.in-Expand.is c.expand.ensures.answered
+
+pub returns-in-Expand-clause-stopped : goal.returns-in-Expand-clause-stopped
+returns-in-Expand-clause-stopped g c = rw c.in-Expand.is c.expand.ensures.stopped

@@ -1,7 +1,7 @@
 use Rattle.std.proofs.Common.{◌≡◌, ◌∙◌, None, Some, ap, sym}
 use Rattle.std.specs.Prelude.{is_some}
 use Rattle.chp_cli.specs.Migrating.{named_reset, taken}
-use Rattle.chp_cli.proofs.NamedReset.{none_is, stays, reset_writes}
+use Rattle.chp_cli.proofs.NamedReset.{free_names, none_is, stays, reset_writes}
 use Rattle.chp_cli.proofs.migrate.migrate_net.Goals as goal
 
 pub returns-then-is_some-clause-answered : goal.returns-then-is_some-clause-answered
@@ -21,3 +21,7 @@ returns-in-Ok-clause-answered c =
     let none : net.reset ≡ None = none_is net.reset (ap (λ o. is_some o) (sym c.reset.ensures.reset) ∙ sym c.is_some.ensures ∙ c.if-is_some.false) in
     let free : named_reset net.names ≡ None = ap named_reset (sym c.names.ensures.names) ∙ sym c.reset_place.ensures ∙ c.in_default.is in
     reset_writes net _ none free c.in-Ok.ensures
+
+pub reset_text-requires-clause-free : goal.reset_text-requires-clause-free
+reset_text-requires-clause-free c =
+    free_names c.args.net.names (ap named_reset (sym c.names.ensures.names) ∙ sym c.reset_place.ensures ∙ c.in_default.is)

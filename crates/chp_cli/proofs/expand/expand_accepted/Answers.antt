@@ -1,0 +1,16 @@
+use Rattle.std.proofs.Common.{ap}
+use Rattle.width_check.specs.Typed.{program_of as typed_of}
+use Rattle.chp_cli.specs.declared.answer.Ending.TheVariants.{Done}
+use Rattle.chp_cli.specs.Answers.{writes}
+use Rattle.chp_cli.specs.Expanding.{TreeReport}
+use Rattle.chp_cli.specs.Steps.{FromNodes, Never, few_enough}
+use Rattle.chp_cli.proofs.Stopping.{halts_in, nodes_go}
+use Rattle.chp_cli.proofs.expand.expand_accepted.Goals as goal
+
+pub returns-in-Err-clause-stopped : goal.returns-in-Err-clause-stopped
+returns-in-Err-clause-stopped c =
+    let program = typed_of c.args.program.now in
+    halts_in (FromNodes program Never) (FromNodes program TreeReport) (λ answer is. nodes_go is) c.in-Err.stop c.in-Err.ensures.stopped
+
+pub returns-in-Ok-clause-answered : goal.returns-in-Ok-clause-answered
+returns-in-Ok-clause-answered c = few_enough c.in_default.ensures.few (ap (λ text. writes Done text) c.in-Ok.ensures)
