@@ -23,6 +23,8 @@ pub mod NetFilled
 pub mod NetHolds
 pub mod HalvedNumbers
 pub mod HalvedCarried
+pub mod HalvedNodes
+pub mod SameValues
 pub mod ResetCarried
 pub mod FirstsMade
 pub mod FormulaReady
