@@ -30,7 +30,7 @@ line_site P (of_channel k) = send_site k
 line_site P (of_var x) = write_site P x
 
 -- the number of a rail
-pair_place : (n from i : ℕ) (one : Bool) → i < n → node_of (pair_of (pairs_from n from) i) one ≡ from + rail_place i one
+pub pair_place : (n from i : ℕ) (one : Bool) → i < n → node_of (pair_of (pairs_from n from) i) one ≡ from + rail_place i one
 pair_place zero from i one h = absurd (omega arith)
 pair_place (suc n) from zero true h = omega arith
 pair_place (suc n) from zero false h = refl
@@ -41,7 +41,7 @@ module _ (v : ℕ → Bool) where
   abbrev pub at_sites : ℕ → Bool → List (List Pair) → List Bool
   at_sites i one sites = map v (map (at_site i one) sites)
 
-  at_append : (i : ℕ) (one : Bool) (xs ys : List (List Pair)) → at_sites i one (xs ++ ys) ≡ at_sites i one xs ++ at_sites i one ys
+  pub at_append : (i : ℕ) (one : Bool) (xs ys : List (List Pair)) → at_sites i one (xs ++ ys) ≡ at_sites i one xs ++ at_sites i one ys
   at_append i one [] ys = refl
   at_append i one (x ∷ xs) ys = ap (λ l. v (at_site i one x) ∷ l) (at_append i one xs ys)
 
@@ -142,7 +142,7 @@ module _ (v : ℕ → Bool) where
           (stands_later P v p q more c.0 from x s)))
 
   -- the nodes by which receives on a channel have stored
-  mapped_append : (xs ys : List ℕ) → map v (xs ++ ys) ≡ map v xs ++ map v ys
+  pub mapped_append : (xs ys : List ℕ) → map v (xs ++ ys) ≡ map v xs ++ map v ys
   mapped_append [] ys = refl
   mapped_append (x ∷ xs) ys = ap (λ l. v x ∷ l) (mapped_append xs ys)
 

@@ -169,7 +169,7 @@ module _ (counted : Counted) (P : TypedProgram) where
       ∙ (ap (λ l. numbered from q ++ l) (numbered_append (from + 3) rs rest)
       ∙ ap (λ k. numbered from q ++ (numbered (from + 3) rs ++ numbered (from + 3 + k) rest)) long)))
 
-  branches_long : (members : Processes) → AreProcesses P.channels P.vars members → (request from : ℕ)
+  pub branches_long : (members : Processes) → AreProcesses P.channels P.vars members → (request from : ℕ)
       → length (branches_rules P members request from) ≡ branches_size P members
   branches_long no_members t request from = refl
   branches_long (and_member s more) t request from =
@@ -212,7 +212,7 @@ module _ (counted : Counted) (P : TypedProgram) where
         (own_all s h t (from + 1) (from + 2))))
     own_all (choosing again choices) h t request from = absurd h
 
-    turn_all : (members : Processes) → AreHalvable members → AreProcesses P.channels P.vars members → (request from : ℕ)
+    pub turn_all : (members : Processes) → AreHalvable members → AreProcesses P.channels P.vars members → (request from : ℕ)
         → IsPermutation (own_turn P members request from ++ hidden_turn P members from) (numbered from (turn_rules P members request from))
     turn_all no_members h t request from = IsPermutation-refl []
     turn_all (and_member s no_members) h t request from = own_all s h.0 t.0 request from
@@ -226,7 +226,7 @@ module _ (counted : Counted) (P : TypedProgram) where
         (hidden_turn P (and_member u more) (from + 3 + size_of P s)) (numbered (from + 3) rs) (numbered (from + 3 + size_of P s) rest)
         (own_all s h.0 t.0 from (from + 3)) (turn_all (and_member u more) h.1 t.1 (from + 2) (from + 3 + size_of P s)))
 
-    branches_all : (members : Processes) → AreHalvable members → AreProcesses P.channels P.vars members → (request from : ℕ)
+    pub branches_all : (members : Processes) → AreHalvable members → AreProcesses P.channels P.vars members → (request from : ℕ)
         → IsPermutation (own_branches P members request from ++ hidden_branches P members from) (numbered from (branches_rules P members request from))
     branches_all no_members h t request from = IsPermutation-refl []
     branches_all (and_member s more) h t request from =

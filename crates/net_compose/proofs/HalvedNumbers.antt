@@ -29,7 +29,7 @@ abbrev pub blocks : List Var → ℕ
 blocks [] = 0
 blocks (v ∷ vs) = block_size v.width + blocks vs
 
-blocks_append : (xs ys : List Var) → blocks (xs ++ ys) ≡ blocks xs + blocks ys
+pub blocks_append : (xs ys : List Var) → blocks (xs ++ ys) ≡ blocks xs + blocks ys
 blocks_append [] ys = omega arith
 blocks_append (x ∷ xs) ys = let e = blocks_append xs ys in omega arith
 
@@ -49,7 +49,7 @@ assign_halved P Q n x at e true self wide some plain =
     let same : block_size (width_of e) ≡ block_size (var_width P.vars x) = ap block_size wide in
     omega arith
 
-each_count : (n : ℕ) (members : Processes) → member_count (halved_each n members) ≡ member_count members
+pub each_count : (n : ℕ) (members : Processes) → member_count (halved_each n members) ≡ member_count members
 each_count n no_members = refl
 each_count n (and_member p more) = ap suc (each_count (n + length (hidden_vars p)) more)
 
@@ -86,7 +86,7 @@ mutual
       omega arith
   halved_size P Q same n (repeating p) typed plain = let e = halved_size P Q same n p typed plain in omega arith
 
-  turn_halved : (P Q : TypedProgram) → P.channels ≡ Q.channels → (n : ℕ) (members : Processes) → AreProcesses P.channels P.vars members
+  pub turn_halved : (P Q : TypedProgram) → P.channels ≡ Q.channels → (n : ℕ) (members : Processes) → AreProcesses P.channels P.vars members
       → EachReadsNoTarget (halved_each n members) → turn_size P members ≡ turn_size Q (halved_each n members) + blocks (hidden_in_each members)
   turn_halved P Q same n no_members typed plain = omega arith
   turn_halved P Q same n (and_member p no_members) typed plain =
@@ -99,7 +99,7 @@ mutual
       let l = blocks_append (hidden_vars p) (hidden_in_each (and_member q more)) in
       omega arith
 
-  branches_halved : (P Q : TypedProgram) → P.channels ≡ Q.channels → (n : ℕ) (members : Processes) → AreProcesses P.channels P.vars members
+  pub branches_halved : (P Q : TypedProgram) → P.channels ≡ Q.channels → (n : ℕ) (members : Processes) → AreProcesses P.channels P.vars members
       → EachReadsNoTarget (halved_each n members) → branches_size P members ≡ branches_size Q (halved_each n members) + blocks (hidden_in_each members)
   branches_halved P Q same n no_members typed plain = omega arith
   branches_halved P Q same n (and_member p more) typed plain =

@@ -25,6 +25,8 @@ pub mod HalvedNumbers
 pub mod HalvedCarried
 pub mod HalvedNodes
 pub mod SameValues
+pub mod HalvedAlike
+pub mod HalvedSites
 pub mod ResetCarried
 pub mod FirstsMade
 pub mod FormulaReady
