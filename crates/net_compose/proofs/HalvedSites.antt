@@ -45,7 +45,7 @@ module _ (counted : Counted) (P : TypedProgram) where
   Q = halved_program P
 
   -- how many nodes the halves have behind the Q-element before the second answer
-  behind_long : (x : ℕ) (e : Formula) → IsOfWidth P.vars (var_width P.vars x) e → (r from : ℕ)
+  pub behind_long : (x : ℕ) (e : Formula) → IsOfWidth P.vars (var_width P.vars x) e → (r from : ℕ)
       → length (behind_block P x e r from) ≡ 3 + (1 + formula_size e) + (1 + 2 * var_width P.vars x)
   behind_long x e typed r from =
       let element = from + block_size (var_width P.vars x) in
@@ -62,7 +62,7 @@ module _ (counted : Counted) (P : TypedProgram) where
 
   module _ (v u : ℕ → Bool) (i : ℕ) (one : Bool) where
     -- the rails of an expression
-    result_here : (w : ℕ) (e : Formula) → IsOfWidth P.vars w e → i < w → (from to : ℕ) → ((j : ℕ) → j < formula_size e → v (from + j) ≡ u (to + j))
+    pub result_here : (w : ℕ) (e : Formula) → IsOfWidth P.vars w e → i < w → (from to : ℕ) → ((j : ℕ) → j < formula_size e → v (from + j) ≡ u (to + j))
         → at_sites v i one (formula_result e from ∷ []) ≡ at_sites u i one (formula_result e to ∷ [])
     result_here w e t h from to same =
         let z = t.agrees in

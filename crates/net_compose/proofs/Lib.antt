@@ -27,6 +27,8 @@ pub mod HalvedNodes
 pub mod SameValues
 pub mod HalvedAlike
 pub mod HalvedSites
+pub mod HiddenBlocks
+pub mod Renamed
 pub mod ResetCarried
 pub mod FirstsMade
 pub mod FormulaReady
