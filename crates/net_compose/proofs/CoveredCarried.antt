@@ -156,7 +156,7 @@ fine_node P given (joint_node x k) h = let lt = below_told k (joint_count (var_w
 -- the first state
 
 mutual
-  none_hidden : (P : TypedProgram) (p : Process) → IsCovered p → (from : ℕ) → sites_in P (hidden_high P) p from ≡ []
+  pub none_hidden : (P : TypedProgram) (p : Process) → IsCovered p → (from : ℕ) → sites_in P (hidden_high P) p from ≡ []
   none_hidden P skipping c from = refl
   none_hidden P (sending k at e) c from = refl
   none_hidden P (in_turn members) c from = none_hidden_turn P members c from

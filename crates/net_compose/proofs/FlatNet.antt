@@ -33,12 +33,12 @@ use Rattle.net_compose.proofs.FlatSites.{at_site, sites_are, takers_are}
 use Rattle.net_compose.proofs.FlatWires.{Wire, a_rail, an_ack, wire_of, rail_same, ack_same, rail_no_ack, rail_bounds, ack_bounds, length-channels_rules, rail_guards, ack_guards, rail_rules_at, ack_rules_at, value_is, neutral_is, not_listed, is_listed, not_raised, raised_is, wires_at, moves_none, moves_some, quiet_offer, values_none, values_some}
 
 -- the two guards of a node of the net are those of its rules
-up_told : (xs : List NodeRules) (n : ℕ) → get_or (map (λ (r : NodeRules). r.up) xs) n [] ≡ (get_or xs n no_rules).up
+pub up_told : (xs : List NodeRules) (n : ℕ) → get_or (map (λ (r : NodeRules). r.up) xs) n [] ≡ (get_or xs n no_rules).up
 up_told [] n = refl
 up_told (x ∷ xs) zero = refl
 up_told (x ∷ xs) (suc n) = up_told xs n
 
-down_told : (xs : List NodeRules) (n : ℕ) → get_or (map (λ (r : NodeRules). r.down) xs) n [] ≡ (get_or xs n no_rules).down
+pub down_told : (xs : List NodeRules) (n : ℕ) → get_or (map (λ (r : NodeRules). r.down) xs) n [] ≡ (get_or xs n no_rules).down
 down_told [] n = refl
 down_told (x ∷ xs) zero = refl
 down_told (x ∷ xs) (suc n) = down_told xs n

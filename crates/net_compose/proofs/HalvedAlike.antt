@@ -37,7 +37,7 @@ use Rattle.net_compose.proofs.HalvedNodes.{IsHalvable, AreHalvable, Numbered, nu
 use Rattle.net_compose.proofs.SameValues.{same_high, same_low, same_highs, same_lows, same_mixed, answers_alike, elements_alike, formulas_alike, same_written, same_bit_rails, reads_alike, ports_alike}
 
 -- nodes in order, and those that are numbered from a number on elsewhere, have the same values
-abbrev pub Values : (v u : ℕ → Bool) → (to : ℕ) → List Numbered → Type 0
+abbrev pub Values : {A : Type 0} → (v u : ℕ → A) → (to : ℕ) → List Numbered → Type 0
 Values v u to [] = Unit {0}
 Values v u to (x ∷ xs) = (v x.node ≡ u to) × Values v u (suc to) xs
 
@@ -53,17 +53,17 @@ pub rules_numbered : (from : ℕ) (rs : List NodeRules) → rules_in (numbered f
 rules_numbered from [] = refl
 rules_numbered from (r ∷ rs) = ap (λ l. r ∷ l) (rules_numbered (suc from) rs)
 
-pub values_left : (v u : ℕ → Bool) (to : ℕ) (xs ys : List Numbered) → Values v u to (xs ++ ys) → Values v u to xs
+pub values_left : {A : Type 0} (v u : ℕ → A) (to : ℕ) (xs ys : List Numbered) → Values v u to (xs ++ ys) → Values v u to xs
 values_left v u to [] ys h = tt
 values_left v u to (x ∷ xs) ys h = (h.0, values_left v u (suc to) xs ys h.1)
 
-pub values_right : (v u : ℕ → Bool) (to n : ℕ) (xs ys : List Numbered) → length xs ≡ n → Values v u to (xs ++ ys) → Values v u (to + n) ys
+pub values_right : {A : Type 0} (v u : ℕ → A) (to n : ℕ) (xs ys : List Numbered) → length xs ≡ n → Values v u to (xs ++ ys) → Values v u (to + n) ys
 values_right v u to n [] ys e h = let z : to ≡ to + n = omega (arith, e) in subst (λ k. Values v u k ys) z h
 values_right v u to n (x ∷ xs) ys e h =
     let z : suc to + length xs ≡ to + n = omega (arith, e) in
     subst (λ k. Values v u k ys) z (values_right v u (suc to) (length xs) xs ys refl h.1)
 
-pub values_at : (v u : ℕ → Bool) (from to : ℕ) (rs : List NodeRules) → Values v u to (numbered from rs) → (i : ℕ) → i < length rs → v (from + i) ≡ u (to + i)
+pub values_at : {A : Type 0} (v u : ℕ → A) (from to : ℕ) (rs : List NodeRules) → Values v u to (numbered from rs) → (i : ℕ) → i < length rs → v (from + i) ≡ u (to + i)
 values_at v u from to [] h i l = absurd (omega (arith, l))
 values_at v u from to (r ∷ rs) h zero l = ap v (let e : from + 0 ≡ from = omega arith in e) ∙ (h.0 ∙ ap u (let e : to ≡ to + 0 = omega arith in e))
 values_at v u from to (r ∷ rs) h (suc i) l =

@@ -29,6 +29,8 @@ pub mod HalvedAlike
 pub mod HalvedSites
 pub mod HiddenBlocks
 pub mod Renamed
+pub mod NumberedOnce
+pub mod HalvedNet
 pub mod ResetCarried
 pub mod FirstsMade
 pub mod FormulaReady
