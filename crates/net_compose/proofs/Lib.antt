@@ -31,6 +31,7 @@ pub mod HiddenBlocks
 pub mod Renamed
 pub mod NumberedOnce
 pub mod HalvedNet
+pub mod HalvedRenamed
 pub mod ResetCarried
 pub mod FirstsMade
 pub mod FormulaReady
