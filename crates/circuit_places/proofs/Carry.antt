@@ -1,4 +1,4 @@
--- Each covered program's circuit carries it.
+-- The circuit of each covered program whose assignments don't read their own target carries it.
 use Rattle.std.proofs.Common.{◌≡◌, ◌≢◌, ℕ, zero, suc, ◌+◌, ◌/◌, ◌^◌, ◌<◌, ◌≤◌, ◌⊎◌, inl, inr, Bool, true, false, List, [], ◌∷◌, length, refl, sym, ap, ◌∙◌, subst, arith}
 use Rattle.std.proofs.Math.ListN.{get_or-eq_default}
 use Rattle.std.proofs.lemmas.Bool.Decides.{nat_tests}
@@ -10,7 +10,7 @@ use Rattle.chp_base.specs.declared.channel.Kind.TheVariants.{In, Out, Chan}
 use Rattle.env_script.specs.declared.script.Count.{Count}
 use Rattle.env_script.specs.Scripts.{OfferValue, gives, takes, nothing, offer_at, IsScript, Suits}
 use Rattle.env_script.specs.Runs.{completed}
-use Rattle.width_check.specs.Processes.{Process, TypedProgram}
+use Rattle.width_check.specs.Processes.{Process, skipping, assigning, sending, receiving, in_turn, side_by_side, choosing, repeating, Processes, no_members, and_member, TypedProgram}
 use Rattle.width_check.specs.Typing.{kind_at, channel_width, var_width, IsDeclaredChannel}
 use Rattle.width_check.specs.declared.typed.Var.{Var}
 use Rattle.width_check.specs.Sharing.{Occurrence, Parallel}
@@ -21,8 +21,8 @@ use Rattle.std.proofs.lemmas.Bool.{cases_lt}
 use Rattle.circuit_places.specs.Lines.{Line, of_channel, of_var, line_width}
 use Rattle.circuit_places.specs.Circuit.{low, joint_count, tree_answer, same_bit, Guarded, Cells, turns, fires, no_rule, is_apart, guarded_rule, site_rails, takers}
 use Rattle.circuit_places.specs.Whole.{seen, line_ack, is_sent, is_heard, is_merged, merged, brings, drives, offers, bit_rule, wrote_rule, number_rail, first_bits, Whole, Node, go_node, own_node, rail_node, ack_node, bit_node, wrote_node, joint_node, is_node, rule_in, answers, enabled, wires_after, go_after, root_after, moved, first_of, Reaches, at_first, by_move}
-use Rattle.chp_meaning.specs.Halves.{IsSized, IsSizedVar}
-use Rattle.circuit_places.specs.Covered.{talks_on, InternalUnused, Covered}
+use Rattle.chp_meaning.specs.Halves.{IsSized, IsSizedVar, ReadsNoTarget, EachReadsNoTarget}
+use Rattle.circuit_places.specs.Covered.{IsHalvable, AreHalvable, IsCovered, AreCovered, talks_on, InternalUnused, Covered}
 use Rattle.circuit_places.specs.Carried.{IsSafe, IsCarried, CircuitsCarry}
 use Rattle.circuit_places.proofs.Places.{Mode, idle, running, answered, returning, asks, is_idle, GuardedAt, g_rests, guarded_cells, guarded_shown, guarded_writing, guarded_can_is}
 use Rattle.circuit_places.proofs.Writing.{first_numbers}
@@ -489,9 +489,24 @@ carried P script fitted x r = record {
       };
 }
 
+mutual
+  pub plainly_covered : (p : Process) → IsHalvable p → ReadsNoTarget p → IsCovered p
+  plainly_covered skipping h plain = tt
+  plainly_covered (assigning x at e) h plain = plain
+  plainly_covered (sending chan at e) h plain = tt
+  plainly_covered (receiving chan at x to) h plain = tt
+  plainly_covered (in_turn members) h plain = each_covered members h plain
+  plainly_covered (side_by_side members) h plain = each_covered members h plain
+  plainly_covered (repeating p) h plain = plainly_covered p h plain
+  plainly_covered (choosing again choices) h plain = absurd h
+
+  each_covered : (members : Processes) → AreHalvable members → EachReadsNoTarget members → AreCovered members
+  each_covered no_members h plain = tt
+  each_covered (and_member p more) h plain = (plainly_covered p h.0 plain.0, each_covered more h.1 plain.1)
+
 pub circuits_carry : TreesSettle → ExpressionsHold → CircuitsCarry
-circuits_carry law hold P typed covered script s moves x run =
-    let there = meets law hold P (var_bits P.vars typed.each_var) P.body unshared typed.body_is covered.body in
+circuits_carry law hold P typed covered plain script s moves x run =
+    let there = meets law hold P (var_bits P.vars typed.each_var) P.body unshared typed.body_is (plainly_covered P.body covered.body plain) in
     let fitted = fits P script typed covered there s in
     carried P script fitted x (reach law P script fitted there moves x run)
   where

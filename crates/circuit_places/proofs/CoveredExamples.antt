@@ -7,9 +7,8 @@ use Rattle.chp_base.specs.declared.channel.Kind.{Kind}
 use Rattle.chp_base.specs.declared.channel.Kind.TheVariants.{In, Out, Chan}
 use Rattle.chp_syntax.specs.declared.tree.Op.TheVariants.{Add, Lt}
 use Rattle.width_check.specs.Processes.{constant, reading, chained, compared, no_operations, and_operation, Process, skipping, assigning, sending, receiving, in_turn, side_by_side, choosing, repeating, Processes, no_members, and_member, TypedProgram}
-use Rattle.width_check.specs.Reads.{reads}
 use Rattle.width_check.specs.Sharing.{Occurrence, Parallel, ParallelInside}
-use Rattle.circuit_places.specs.Covered.{IsCovered, AreCovered, talks_on, InternalUnused, Covered}
+use Rattle.circuit_places.specs.Covered.{IsHalvable, AreHalvable, talks_on, InternalUnused, Covered}
 use Rattle.circuit_places.proofs.RailLemmas.{fst_true, snd_true}
 
 -- at the other end of each channel that is used is the environment
@@ -25,7 +24,7 @@ all_open n (c ∷ cs) p = (is_open c.kind || not (talks_on n p)) && all_open (su
 abbrev mutual
   is_alone : Process → Bool
   is_alone skipping = true
-  is_alone (assigning x at e) = not (reads x e)
+  is_alone (assigning x at e) = true
   is_alone (sending c at e) = true
   is_alone (receiving c at x to) = true
   is_alone (in_turn members) = are_alone members
@@ -52,9 +51,9 @@ opens n (c ∷ cs) p h =
     (open_kind c.kind (talks_on n p) (fst_true here (all_open (suc n) cs p) h), opens (suc n) cs p (snd_true here (all_open (suc n) cs p) h))
 
 mutual
-  covers : (p : Process) → is_alone p ≡ true → IsCovered p
+  covers : (p : Process) → is_alone p ≡ true → IsHalvable p
   covers skipping h = tt
-  covers (assigning x at e) h = plain (reads x e) h
+  covers (assigning x at e) h = tt
   covers (sending c at e) h = tt
   covers (receiving c at x to) h = tt
   covers (in_turn members) h = cover members h
@@ -62,7 +61,7 @@ mutual
   covers (side_by_side members) h = absurd (cc h)
   covers (choosing again _) h = absurd (cc h)
 
-  cover : (members : Processes) → are_alone members ≡ true → AreCovered members
+  cover : (members : Processes) → are_alone members ≡ true → AreHalvable members
   cover no_members h = tt
   cover (and_member p more) h = (covers p (fst_true (is_alone p) (are_alone more) h), cover more (snd_true (is_alone p) (are_alone more) h))
 
@@ -153,3 +152,15 @@ unused = record {
 
 unused_covered : Covered unused
 unused_covered = decided unused refl
+
+-- out R : 4; var x : 4 = 15; begin *[x := x + 1; R!x] end
+abbrev counts : TypedProgram
+counts = record {
+  channels = record { name = []; kind = Out; width = 4 } ∷ [];
+  vars = record { name = []; width = 4; first = 15 } ∷ [];
+  body = repeating (in_turn (and_member (assigning 0 at (chained (reading 0 3 0 at) (and_operation Add (constant 4 1) no_operations)))
+      (and_member (sending 0 at (reading 0 3 0 at)) no_members)));
+}
+
+counts_covered : Covered counts
+counts_covered = decided counts refl

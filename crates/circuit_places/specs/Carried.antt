@@ -3,7 +3,7 @@ use Rattle.std.specs.Prelude.{◌≡◌, ◌≢◌, ◌≤◌, ℕ, Bool, true, 
 use Rattle.env_script.specs.Scripts.{OfferValue, IsScript}
 use Rattle.width_check.specs.Processes.{TypedProgram}
 use Rattle.width_check.specs.Typing.{channel_width}
-use Rattle.chp_meaning.specs.Halves.{IsSized}
+use Rattle.chp_meaning.specs.Halves.{IsSized, ReadsNoTarget}
 use Rattle.chp_meaning.specs.Terms.{Place, finished}
 use Rattle.chp_meaning.specs.Steps.{Configuration, Step, Leads, start_of}
 use Rattle.circuit_places.specs.Lines.{of_channel}
@@ -50,6 +50,7 @@ abbrev pub Carries : TypedProgram → Type 0
 Carries P = (script : List OfferValue) → IsScript P.channels script → (moves : ℕ) (x : Whole P.body)
     → Reaches P script moves x → IsCarried P script moves x
 
--- each covered program's circuit carries it
+-- the circuit of each covered program carries it where no assignment reads its own target: that of each covered program
+-- in halves, so
 abbrev pub CircuitsCarry : Type 0
-CircuitsCarry = (P : TypedProgram) → IsSized P.channels P.vars P.body → Covered P → Carries P
+CircuitsCarry = (P : TypedProgram) → IsSized P.channels P.vars P.body → Covered P → ReadsNoTarget P.body → Carries P

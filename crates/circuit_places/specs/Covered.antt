@@ -6,8 +6,24 @@ use Rattle.width_check.specs.Processes.{Process, skipping, assigning, sending, r
 use Rattle.width_check.specs.Reads.{reads}
 use Rattle.width_check.specs.Sharing.{MeetsSharing}
 
--- skip, sends, receives, assignments that don't read their own target, sequences, parallel compositions and loops that
--- go on for ever
+-- skip, sends, receives, assignments, sequences, parallel compositions and loops that go on for ever
+abbrev mutual
+  pub IsHalvable : Process → Type 0
+  IsHalvable skipping = Unit {0}
+  IsHalvable (assigning var at e) = Unit {0}
+  IsHalvable (sending chan at e) = Unit {0}
+  IsHalvable (receiving chan chan_at var var_at) = Unit {0}
+  IsHalvable (in_turn members) = AreHalvable members
+  IsHalvable (side_by_side members) = AreHalvable members
+  IsHalvable (repeating p) = IsHalvable p
+  IsHalvable _ = ⊥
+
+  pub AreHalvable : Processes → Type 0
+  AreHalvable no_members = Unit {0}
+  AreHalvable (and_member p more) = IsHalvable p × AreHalvable more
+
+-- the same, where no assignment reads its own target: so are they once each that does is in two halves, through a
+-- variable of its own
 abbrev mutual
   pub IsCovered : Process → Type 0
   IsCovered skipping = Unit {0}
@@ -50,5 +66,5 @@ InternalUnused k (c ∷ cs) p = (c.kind ≡ Chan → talks_on k p ≡ false) × 
 -- over channels at whose other end is the environment, under the sharing rule
 pub record Covered (P : TypedProgram) : Type 0 where
   pub channels : InternalUnused 0 P.channels P.body
-  pub body : IsCovered P.body
+  pub body : IsHalvable P.body
   pub sharing : MeetsSharing P.body

@@ -28,7 +28,6 @@ use Rattle.circuit_places.specs.Whole.{first_bits, Whole, Node, go_node, own_nod
 use Rattle.circuit_places.specs.Carried.{IsAtRest, IsCarried, CircuitsCarry}
 use Rattle.net_compose.specs.Translation.{translation, sites_in, sites_in_turn, sites_in_branches, hidden_high, vars_high, first_values, rails_at, ack_at, wires_from}
 use Rattle.cell_variable.specs.Variables.{high_first}
-use Rattle.net_compose.specs.Carries.{HasChannels}
 use Rattle.net_compose.proofs.Passing.{IsPassing, IsPassingRun, Passes}
 use Rattle.net_compose.proofs.FlatCells.{length-bits, low_bits, IsFine, IsFineTurn, IsFineBranch, rail_place}
 use Rattle.net_compose.proofs.FlatWires.{rail_bounds, ack_bounds, value_is, neutral_is, rails_kept, position_none, length-wires_from, wires_are}
@@ -215,10 +214,6 @@ module _ (P : TypedProgram) (given : Given P) where
     channels = length-histories (length P.channels);
   }
 
-  same_channels : (k : ℕ) (cs : List Channel) → map (λ (w : NetWires). w.channel) (wires_from P k cs) ≡ cs
-  same_channels k [] = refl
-  same_channels k (c ∷ cs) = ap (λ l. c ∷ l) (same_channels (suc k) cs)
-
   module _ (script : List OfferValue) (fits : IsScript P.channels script) where
     -- a state of the net, as one of the cells that as many moves lead to
     record Reached (st : RunState) (moves : ℕ) : Type 0 where
@@ -396,9 +391,6 @@ module _ (P : TypedProgram) (given : Given P) where
             safe = safe_run ns (begin_at (translation P) (translation P).first) 0 first run;
             passing = passing (after (translation P) (begin_at (translation P) (translation P).first) ns) (length ns) last;
           }
-
-pub same_channels_of : (P : TypedProgram) → Given P → HasChannels (translation P) P
-same_channels_of P given = same_channels P given 0 P.channels
 
 -- the net of a program whose assignments don't read their own target passes what the program does
 pub covered_passes : CircuitsCarry → (P : TypedProgram) → Given P → IsSized P.channels P.vars P.body → Covered P → ReadsNoTarget P.body

@@ -25,6 +25,7 @@ use Rattle.function_blocks.specs.Expressions.{HasBits, read_bits, bits_between, 
 use Rattle.function_blocks.specs.Listed.{node_of, rail_place}
 use Rattle.function_blocks.proofs.Sizes.{rules_length}
 use Rattle.chp_meaning.specs.Halves.{hidden_var, hidden_of, hidden_vars, hidden_in_each, read_back, in_halves, halved_assign, halved, halved_each, halved_program, ReadsNoTarget, EachReadsNoTarget}
+use Rattle.circuit_places.specs.Covered.{IsHalvable, AreHalvable}
 use Rattle.net_compose.specs.Translation.{bits_at, block_bits, written_at, ack_at, q_rules, rules_of, turn_rules, branches_rules, branch_ends, branches_end}
 use Rattle.net_compose.proofs.Sizes.{Counted, block_length, has_bits, statement_length}
 use Rattle.net_compose.proofs.FlatTrees.{Alike, RulesAlike, rules_append, tree_rules_alike}
@@ -33,7 +34,7 @@ use Rattle.net_compose.proofs.FlatCells.{rail_place_lt}
 use Rattle.net_compose.proofs.FlatWires.{ack_bounds, rail_bounds}
 use Rattle.net_compose.proofs.FlatBlocks.{blocks_below, length-variable_rules}
 use Rattle.net_compose.proofs.HalvedNumbers.{blocks, blocks_append, halved_size, turn_halved, branches_halved, each_count}
-use Rattle.net_compose.proofs.HalvedNodes.{IsHalvable, AreHalvable, Numbered, numbered, length-numbered, own, own_turn, own_branches, own_assign, hidden, hidden_turn, hidden_branches, hidden_assign, behind_block, hidden_rules, own_all, turn_all, branches_all, branches_long}
+use Rattle.net_compose.proofs.HalvedNodes.{Numbered, numbered, length-numbered, own, own_turn, own_branches, own_assign, hidden, hidden_turn, hidden_branches, hidden_assign, behind_block, hidden_rules, own_all, turn_all, branches_all, branches_long}
 use Rattle.net_compose.proofs.SameValues.{same_high, same_low, same_highs, same_lows, same_mixed, answers_alike, elements_alike, formulas_alike, same_written, same_bit_rails, reads_alike, ports_alike}
 
 -- nodes in order, and those that are numbered from a number on elsewhere, have the same values

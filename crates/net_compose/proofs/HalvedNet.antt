@@ -23,7 +23,7 @@ use Rattle.handshake_expand.specs.Named.{node_names}
 use Rattle.cell_sequence.specs.Sequence.{q_child, q_latch, q_next}
 use Rattle.cell_variable.specs.Variables.{high_first, variable_rules}
 use Rattle.circuit_places.specs.Lines.{of_channel, of_var}
-use Rattle.circuit_places.specs.Covered.{IsCovered}
+use Rattle.circuit_places.specs.Covered.{IsHalvable, AreHalvable, IsCovered}
 use Rattle.chp_meaning.specs.Halves.{hidden_var, hidden_of, hidden_vars, hidden_in_each, halved, halved_each, halved_assign, halved_program, ReadsNoTarget}
 use Rattle.net_compose.specs.Translation.{translation, composed, all_rules, channel_rules, channels_rules, vars_rules, rail_rules, rules_of, body_answer, in_body, sites_in, sites_in_turn, sites_in_branches, send_site, receive_site, write_site, hidden_high, vars_high, first_values, wires_from, rails_at, ack_at}
 use Rattle.net_compose.proofs.Sizes.{Counted, all_length}
@@ -35,7 +35,7 @@ use Rattle.net_compose.proofs.FlatFirst.{member, member_append, raised, raised_i
 use Rattle.net_compose.proofs.FlatNet.{up_told, down_told}
 use Rattle.net_compose.proofs.CoveredCarried.{none_hidden}
 use Rattle.net_compose.proofs.HalvedNumbers.{blocks, blocks_append, halved_size}
-use Rattle.net_compose.proofs.HalvedNodes.{IsHalvable, AreHalvable, Numbered, numbered, length-numbered, numbered_append, own, hidden, hidden_turn, hidden_branches, hidden_assign, hidden_rules, own_all}
+use Rattle.net_compose.proofs.HalvedNodes.{Numbered, numbered, length-numbered, numbered_append, own, hidden, hidden_turn, hidden_branches, hidden_assign, hidden_rules, own_all}
 use Rattle.net_compose.proofs.NumberedOnce.{nowhere, IsNode, Standing, as_long, node_in, standing, one_place}
 use Rattle.net_compose.proofs.SameValues.{same_high, same_low, same_mixed, merges_alike, blocks_alike}
 use Rattle.net_compose.proofs.HalvedAlike.{Values, rules_in, rules_in_append, rules_numbered, values_left, values_right, values_at, blocks_front, declared_from, HiddenAt, hidden_at_left, hidden_at_right, hidden_long, same_block, answers_same, own_alike}

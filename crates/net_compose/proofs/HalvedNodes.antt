@@ -18,27 +18,12 @@ use Rattle.cell_parallel.specs.Trees.{tree_rules}
 use Rattle.cell_variable.specs.Variables.{all_written, variable_rules, write_answer}
 use Rattle.function_blocks.specs.Expressions.{read_bits, formula_rules, formula_result}
 use Rattle.chp_meaning.specs.Halves.{hidden_of, hidden_vars, hidden_in_each}
+use Rattle.circuit_places.specs.Covered.{IsHalvable, AreHalvable}
 use Rattle.net_compose.specs.Translation.{bits_at, block_bits, written_at, q_rules, through_at, rules_of, turn_rules, branches_rules, branch_ends, branches_end}
 use Rattle.net_compose.proofs.Sizes.{Counted, statement_length}
 use Rattle.net_compose.proofs.FlatBlocks.{length-variable_rules}
 use Rattle.net_compose.proofs.FlatRules.{branches_end_is}
 use Rattle.net_compose.proofs.HalvedNumbers.{blocks}
-
--- skip, assignments, sends, receives, sequences, parallel compositions and loops that go on for ever
-abbrev mutual
-  pub IsHalvable : Process → Type 0
-  IsHalvable skipping = Unit {0}
-  IsHalvable (assigning x at e) = Unit {0}
-  IsHalvable (sending chan at e) = Unit {0}
-  IsHalvable (receiving chan at x to) = Unit {0}
-  IsHalvable (in_turn members) = AreHalvable members
-  IsHalvable (side_by_side members) = AreHalvable members
-  IsHalvable (repeating p) = IsHalvable p
-  IsHalvable _ = ⊥
-
-  pub AreHalvable : Processes → Type 0
-  AreHalvable no_members = Unit {0}
-  AreHalvable (and_member p more) = IsHalvable p × AreHalvable more
 
 -- a node with its rules
 pub record Numbered : Type 0 where

@@ -20,7 +20,7 @@ use Rattle.handshake_expand.specs.Layout.{block_size, size_of, wires_before, wir
 use Rattle.handshake_expand.specs.Named.{node_names}
 use Rattle.cell_variable.specs.Variables.{high_first}
 use Rattle.function_blocks.specs.Expressions.{formula_result}
-use Rattle.circuit_places.specs.Covered.{IsCovered}
+use Rattle.circuit_places.specs.Covered.{IsHalvable, AreHalvable, IsCovered}
 use Rattle.chp_meaning.specs.Halves.{hidden_var, hidden_of, hidden_vars, hidden_in_each, halved, halved_each, halved_assign, halved_program, ReadsNoTarget}
 use Rattle.net_compose.specs.Translation.{translation, composed, all_rules, in_body, sites_in, sites_in_turn, sites_in_branches, hidden_high, vars_high, first_values, wires_from, rails_at, ack_at}
 use Rattle.net_compose.proofs.Sizes.{Counted, all_length}
@@ -31,7 +31,7 @@ use Rattle.net_compose.proofs.FlatFirst.{member, member_append, raised, raised_i
 use Rattle.net_compose.proofs.FlatNet.{up_told, down_told}
 use Rattle.net_compose.proofs.CoveredCarried.{none_hidden}
 use Rattle.net_compose.proofs.HalvedNumbers.{blocks, blocks_append}
-use Rattle.net_compose.proofs.HalvedNodes.{IsHalvable, AreHalvable, Numbered, numbered, length-numbered, own, hidden, hidden_turn, hidden_branches, hidden_assign, hidden_rules}
+use Rattle.net_compose.proofs.HalvedNodes.{Numbered, numbered, length-numbered, own, hidden, hidden_turn, hidden_branches, hidden_assign, hidden_rules}
 use Rattle.net_compose.proofs.NumberedOnce.{nowhere, IsNode, Standing, as_long, node_in, standing, one_place}
 use Rattle.net_compose.proofs.HalvedAlike.{Values, rules_in, values_left, values_right, values_at, blocks_front, declared_from, HiddenAt, hidden_at_left, hidden_at_right, hidden_long}
 use Rattle.net_compose.proofs.HalvedNet.{rules_in_at, node_there, values_from, order, order_all, all_long, order_long, renamed, root_there, nodes_there, where_hidden, below_root, in_hidden, order_alike}
@@ -54,15 +54,16 @@ highs_renamed f (suc n) value from to h =
 -- a number among others, and among others that are numbered otherwise
 member_there : (f : ℕ → ℕ) (n : ℕ) (xs : List ℕ) → member n xs ≡ true → member (f n) (map f xs) ≡ true
 member_there f n [] h = absurd (cc h)
-member_there f n (x ∷ xs) h = by (x == n) refl h
+member_there f n (x ∷ xs) h = by (x == n) refl h (λ g. member_there f n xs g)
   where
     or_true : (b : Bool) → (b || true) ≡ true
     or_true true = refl
     or_true false = refl
 
-    by : (b : Bool) → (x == n) ≡ b → (b || member n xs) ≡ true → member (f n) (f x ∷ map f xs) ≡ true
-    by true e h = ap (λ z. z || member (f n) (map f xs)) (eq-eqb (f x) (f n) (ap f (eqb-true x n e)))
-    by false e h = ap (λ z. (f x == f n) || z) (member_there f n xs h) ∙ or_true (f x == f n)
+    by : (b : Bool) → (x == n) ≡ b → (b || member n xs) ≡ true → (member n xs ≡ true → member (f n) (map f xs) ≡ true)
+        → member (f n) (f x ∷ map f xs) ≡ true
+    by true e h later = ap (λ z. z || member (f n) (map f xs)) (eq-eqb (f x) (f n) (ap f (eqb-true x n e)))
+    by false e h later = ap (λ z. (f x == f n) || z) (later h) ∙ or_true (f x == f n)
 
 record Before (f : ℕ → ℕ) (m : ℕ) (xs : List ℕ) : Type 0 where
   pub number : ℕ
@@ -71,7 +72,7 @@ record Before (f : ℕ → ℕ) (m : ℕ) (xs : List ℕ) : Type 0 where
 
 member_back : (f : ℕ → ℕ) (m : ℕ) (xs : List ℕ) → member m (map f xs) ≡ true → Before f m xs
 member_back f m [] h = absurd (cc h)
-member_back f m (x ∷ xs) h = by (f x == m) refl h
+member_back f m (x ∷ xs) h = by (f x == m) refl h (λ g. member_back f m xs g)
   where
     or_true : (b : Bool) → (b || true) ≡ true
     or_true true = refl
@@ -80,9 +81,9 @@ member_back f m (x ∷ xs) h = by (f x == m) refl h
     later : Before f m xs → Before f m (x ∷ xs)
     later r = record { number = r.number; among = ap (λ z. (x == r.number) || z) r.among ∙ or_true (x == r.number); is = r.is }
 
-    by : (b : Bool) → (f x == m) ≡ b → (b || member m (map f xs)) ≡ true → Before f m (x ∷ xs)
-    by true e h = record { number = x; among = ap (λ z. z || member x xs) (eq-eqb x x refl); is = eqb-true (f x) m e }
-    by false e h = later (member_back f m xs h)
+    by : (b : Bool) → (f x == m) ≡ b → (b || member m (map f xs)) ≡ true → (member m (map f xs) ≡ true → Before f m xs) → Before f m (x ∷ xs)
+    by true e h before = record { number = x; among = ap (λ z. z || member x xs) (eq-eqb x x refl); is = eqb-true (f x) m e }
+    by false e h before = later (before h)
 
 same_truth : (a b : Bool) → (a ≡ true → b ≡ true) → (b ≡ true → a ≡ true) → a ≡ b
 same_truth true b f g = sym (f refl)

@@ -24,6 +24,7 @@ use Rattle.function_blocks.specs.Listed.{node_of, rail_place}
 use Rattle.function_blocks.proofs.Sizes.{rules_length}
 use Rattle.circuit_places.specs.Lines.{Line, of_channel, of_var, line_width}
 use Rattle.chp_meaning.specs.Halves.{hidden_var, hidden_of, hidden_vars, hidden_in_each, read_back, in_halves, halved_assign, halved, halved_each, halved_program, ReadsNoTarget, EachReadsNoTarget}
+use Rattle.circuit_places.specs.Covered.{IsHalvable, AreHalvable}
 use Rattle.net_compose.specs.Translation.{bits_at, q_rules, sites_in, sites_in_turn, sites_in_branches, Sites, branch_ends, branches_end, block_bits, ack_at, rules_of, send_site, receive_site, write_site, assigned_rails, through_at, in_body, vars_rules}
 use Rattle.net_compose.specs.Translation as net
 use Rattle.net_compose.proofs.Sizes.{Counted, block_length, has_bits}
@@ -31,7 +32,7 @@ use Rattle.net_compose.proofs.FlatTrees.{RulesAlike}
 use Rattle.net_compose.proofs.FlatSites.{at_site, at_sites, at_append, mapped_append, line_site, pair_place}
 use Rattle.net_compose.proofs.FlatCells.{rail_place_lt}
 use Rattle.net_compose.proofs.HalvedNumbers.{blocks}
-use Rattle.net_compose.proofs.HalvedNodes.{IsHalvable, AreHalvable, Numbered, numbered, own, own_turn, own_branches, own_assign, hidden, hidden_turn, hidden_branches, hidden_assign, behind_block, hidden_rules}
+use Rattle.net_compose.proofs.HalvedNodes.{Numbered, numbered, own, own_turn, own_branches, own_assign, hidden, hidden_turn, hidden_branches, hidden_assign, behind_block, hidden_rules}
 use Rattle.net_compose.proofs.SameValues.{results_alike, blocks_alike}
 use Rattle.net_compose.proofs.HalvedAlike.{Values, rules_in, values_left, values_right, values_at, own_long, declared_width}
 

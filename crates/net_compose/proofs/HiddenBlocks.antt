@@ -18,13 +18,14 @@ use Rattle.cell_parallel.specs.Trees.{tree_rules}
 use Rattle.cell_variable.specs.Variables.{variable_rules}
 use Rattle.function_blocks.specs.Expressions.{formula_result}
 use Rattle.chp_meaning.specs.Halves.{hidden_var, hidden_of, hidden_vars, hidden_in_each, read_back, in_halves, halved_assign, halved, halved_each, halved_program, ReadsNoTarget, EachReadsNoTarget}
+use Rattle.circuit_places.specs.Covered.{IsHalvable, AreHalvable}
 use Rattle.net_compose.specs.Translation.{q_rules, branch_ends, branches_end, sites_in, sites_in_turn, sites_in_branches, write_site, assigned_rails, through_at, read_back as read_rails, in_body, vars_rules}
 use Rattle.net_compose.proofs.Sizes.{Counted}
 use Rattle.net_compose.proofs.FlatTrees.{RulesAlike, rules_append}
 use Rattle.net_compose.proofs.FlatSites.{at_site}
 use Rattle.net_compose.proofs.FlatBlocks.{length-variable_rules}
 use Rattle.net_compose.proofs.HalvedNumbers.{blocks}
-use Rattle.net_compose.proofs.HalvedNodes.{IsHalvable, AreHalvable, Numbered, numbered, own, own_turn, own_branches, own_assign, hidden, hidden_turn, hidden_branches, hidden_assign, behind_block, hidden_rules}
+use Rattle.net_compose.proofs.HalvedNodes.{Numbered, numbered, own, own_turn, own_branches, own_assign, hidden, hidden_turn, hidden_branches, hidden_assign, behind_block, hidden_rules}
 use Rattle.net_compose.proofs.SameValues.{blocks_alike}
 use Rattle.net_compose.proofs.HalvedAlike.{Values, rules_in, rules_in_append, rules_numbered, values_left, values_right, values_at, own_long, hidden_long, HiddenAt, hidden_at_left, hidden_at_right}
 use Rattle.net_compose.proofs.HalvedSites.{behind_long, result_here}

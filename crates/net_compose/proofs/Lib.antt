@@ -29,6 +29,7 @@ pub mod HalvedAlike
 pub mod HalvedSites
 pub mod HiddenBlocks
 pub mod Renamed
+pub mod Passing
 pub mod NumberedOnce
 pub mod HalvedNet
 pub mod HalvedRenamed

@@ -11,13 +11,13 @@ ghost use Rattle.net_compose.specs.Carries.{Carries, ResetCarries};
 ghost use Rattle.net_compose.specs.Points.{HasPoints};
 ghost use Rattle.net_compose.specs.Sized.{IsOfSize};
 
-use chp_meaning::{one_history, rounds_hold, runs_append, steps_taken};
+use chp_meaning::{halves_are_plain, halves_follow, one_history, rounds_hold, runs_append, steps_taken};
 use circuit_places::circuits_carry;
 use reset_runs::reset_runs;
 
 /// Law: the net of a covered program carries it. Covered are skip, sends of any expression over variables, receives,
-/// assignments of any expression that doesn't read their own target, sequences, parallel compositions and loops that go
-/// on for ever, on `in` and `out` channels, under the sharing rule; any number of sites on a channel or a variable, of any
+/// assignments of any expression, also one that reads their own target, sequences, parallel compositions and loops that
+/// go on for ever, on `in` and `out` channels, under the sharing rule; any number of sites on a channel or a variable, of any
 /// width, and whatever channels and variables are declared besides and not used. In every
 /// run of the net, under every script and in whatever order the nodes switch, no enabled move is taken away, no node is
 /// pulled both ways and no channel leaves its phases; what has passed on a channel after some moves is a front of what
@@ -30,6 +30,8 @@ pub fn covered_carried()
     runs_append();
     one_history();
     rounds_hold();
+    halves_follow();
+    halves_are_plain();
     circuits_carry();
 }
 
