@@ -466,9 +466,15 @@ module _ (counted : Counted) (P : TypedProgram) where
           let body = values_right v u to 2 (numbered from first) inner refl nodes in
           let one = values_at v u from to first start 1 (omega arith) in
           let d = answers_same n p h t plain (from + 1) (from + 2) (to + 1) (to + 2) block where_hidden one stored body in
-          joined (numbered from first) inner (no_rules ∷ loop_request s (answer_of Q (halved n p) (to + 2)) ∷ []) (rules_of Q (halved n p) (to + 1) (to + 2))
-          (refl, refl, (same_mixed v u r (answer_of P p (from + 2)) s (answer_of Q (halved n p) (to + 2)) asked d,
-          same_high v u (answer_of P p (from + 2)) (answer_of Q (halved n p) (to + 2)) d, tt))
+          joined (numbered from first) inner (no_rules ∷ loop_request s (answer_of Q (halved n p) (to + 2)) ∷ []) (rules_of Q (halved n p) (to + 1) (to + 2)) (
+            refl,
+            refl,
+            (
+              same_mixed v u r (answer_of P p (from + 2)) s (answer_of Q (halved n p) (to + 2)) asked d,
+              same_high v u (answer_of P p (from + 2)) (answer_of Q (halved n p) (to + 2)) d,
+              tt,
+            ),
+          )
           (own_alike n p h t plain (from + 1) (from + 2) (to + 1) (to + 2) block where_hidden one stored body)
       own_alike n (choosing again choices) h t plain r from s to block where_hidden asked stored nodes = absurd h
 

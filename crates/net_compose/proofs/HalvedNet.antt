@@ -310,17 +310,25 @@ module _ (counted : Counted) (P : TypedProgram) (halvable : IsHalvable P.body) (
         let zero_more : (j : ℕ) → 0 + j ≡ j = λ j. omega arith in
         subst (λ l. RulesAlike v u (rules_in order) l) (sym whole_there)
         (joined (numbered 0 front_rules) (h ++ (r ++ o)) front_of_q (vars_rules Q (length P.vars) hs ++ (root_of_q ++ there))
-        (as_numbered 0 front_rules front_of_q
-        (refl, refl, (same_mixed v u (root_latch P) (body_answer P) (root_latch Q) (body_answer Q) latch answer, same_low v u (root_latch P) (root_latch Q) latch,
-        rules_append v u (channels_rules P 0 P.channels) (channels_rules Q 0 P.channels) (vars_rules P 0 P.vars) (vars_rules Q 0 P.vars)
-        (channels_alike 0 P.channels (λ j l. ap (channel_width P.channels) (sym (zero_more j))))
-        (vars_alike 0 P.vars (zero_more (length P.vars)) (λ j l. ap (var_width P.vars) (sym (zero_more j)))))))
+        (as_numbered 0 front_rules front_of_q (
+          refl,
+          refl,
+          (
+            same_mixed v u (root_latch P) (body_answer P) (root_latch Q) (body_answer Q) latch answer,
+            same_low v u (root_latch P) (root_latch Q) latch,
+            rules_append v u (channels_rules P 0 P.channels) (channels_rules Q 0 P.channels) (vars_rules P 0 P.vars) (vars_rules Q 0 P.vars)
+                (channels_alike 0 P.channels (λ j l. ap (channel_width P.channels) (sym (zero_more j))))
+                (vars_alike 0 P.vars (zero_more (length P.vars)) (λ j l. ap (var_width P.vars) (sym (zero_more j)))),
+          ),
+        ))
         (joined h (r ++ o) (vars_rules Q (length P.vars) hs) (root_of_q ++ there)
         (hidden_alike counted P v u (length P.vars) P.body halvable typed plain (omega arith) (root_request P) (body_from P) (body_from Q) (root_request P)
         where_hidden (in_hidden v u values) (in_own v u values) (λ y a b. refl))
         (joined r o root_of_q there
-        (as_numbered (root_request P) root_rules root_of_q
-        (same_mixed v u go_node (root_latch P) go_node (root_latch Q) go_same latch, same_high v u (root_latch P) (root_latch Q) latch,
-        (same_high v u (body_answer P) (body_answer Q) answer, same_low v u go_node go_node go_same, tt)))
+        (as_numbered (root_request P) root_rules root_of_q (
+          same_mixed v u go_node (root_latch P) go_node (root_latch Q) go_same latch,
+          same_high v u (root_latch P) (root_latch Q) latch,
+          (same_high v u (body_answer P) (body_answer Q) answer, same_low v u go_node go_node go_same, tt),
+        ))
         (own_alike counted P v u low some (length P.vars) P.body halvable typed plain (root_request P) (body_from P) (root_request Q) (body_from Q)
         (root_request P) where_hidden start (in_hidden v u values) (in_own v u values)))))

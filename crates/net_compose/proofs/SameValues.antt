@@ -216,8 +216,11 @@ module _ (v u : ℕ → Bool) where
   reads_alike (suc n) from to r s e h = (
     same_highs r from s to e (h 0 true (omega arith)),
     same_low r s e,
-    (same_highs r (from + 1) s (to + 1) e (h 0 false (omega arith)), same_low r s e,
-    reads_alike n (from + 5) (to + 5) r s e (λ i one l. h (suc i) one (omega (arith, l)))),
+    (
+      same_highs r (from + 1) s (to + 1) e (h 0 false (omega arith)),
+      same_low r s e,
+      reads_alike n (from + 5) (to + 5) r s e (λ i one l. h (suc i) one (omega (arith, l))),
+    ),
   )
 
   -- the rails of a receive
@@ -230,8 +233,11 @@ module _ (v u : ℕ → Bool) where
       let second : v (from + 1) ≡ u (from + 1) = h 0 false (omega arith) in (
         same_highs r from s from e first,
         same_lows r from s from e first,
-        (same_highs r (from + 1) s (from + 1) e second, same_lows r (from + 1) s (from + 1) e second,
-        ports_alike n (from + 2) r s e (λ i one l.
-            let q : from + suc (suc (rail_place i one)) ≡ from + 2 + rail_place i one = omega arith in
-            subst (λ k. v k ≡ u k) q (h (suc i) one (omega (arith, l))))),
+        (
+          same_highs r (from + 1) s (from + 1) e second,
+          same_lows r (from + 1) s (from + 1) e second,
+          ports_alike n (from + 2) r s e (λ i one l.
+              let q : from + suc (suc (rail_place i one)) ≡ from + 2 + rail_place i one = omega arith in
+              subst (λ k. v k ≡ u k) q (h (suc i) one (omega (arith, l)))),
+        ),
       )

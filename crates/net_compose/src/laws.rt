@@ -11,7 +11,9 @@ ghost use Rattle.net_compose.specs.Carries.{Carries, ResetCarries};
 ghost use Rattle.net_compose.specs.Points.{HasPoints};
 ghost use Rattle.net_compose.specs.Sized.{IsOfSize};
 
-use chp_meaning::{halves_are_plain, halves_follow, one_history, rounds_hold, runs_append, steps_taken};
+use chp_meaning::{
+    halves_are_plain, halves_follow, one_history, rounds_hold, runs_append, steps_taken,
+};
 use circuit_places::circuits_carry;
 use reset_runs::reset_runs;
 
