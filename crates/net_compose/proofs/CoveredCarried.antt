@@ -1,6 +1,6 @@
 -- The net of a covered program whose assignments don't read their own target passes what the program does.
-use Rattle.std.proofs.Common.{◌≡◌, ◌≢◌, ℕ, zero, suc, ◌+◌, ◌-◌, ◌<◌, ◌≤◌, ◌==◌, Bool, true, false, List, [], ◌∷◌, ◌++◌, map, length, get_or, replicate, Option, Some, None, inl, inr, refl, sym, ap, ◌∙◌, subst, arith, ◌⊎◌, ◌*◌, ⊎_elim, append-nil, append_assoc}
-use Rattle.std.specs.Prelude.{not, ◌&&◌, ◌||◌, if◌then◌else◌, is_some, nat_lt, All, fold, filter}
+use Rattle.std.proofs.Common.{◌≡◌, ◌≢◌, ℕ, zero, suc, ◌+◌, ◌<◌, ◌≤◌, ◌==◌, Bool, true, false, List, [], ◌∷◌, ◌++◌, length, get_or, replicate, None, inl, inr, refl, sym, ap, ◌∙◌, subst, arith, ◌⊎◌, ◌*◌, ⊎_elim, append-nil}
+use Rattle.std.specs.Prelude.{not, ◌&&◌, ◌||◌, if◌then◌else◌, is_some, nat_lt}
 use Rattle.std.proofs.lemmas.Bool.{cases_lt, eqb-true, and_from}
 use Rattle.std.proofs.lemmas.Bool.Decides.{nat_tests}
 use Rattle.chp_base.specs.declared.channel.Channel.{Channel}
@@ -11,12 +11,11 @@ use Rattle.prs_core.specs.Moves.{high, both_ways, neutral}
 use Rattle.env_script.specs.Scripts.{OfferValue, IsScript}
 use Rattle.env_script.specs.Environment.{valid}
 use Rattle.env_script.specs.Phases.{rail_keeps, rails_keep, ack_keeps, phases_keep, phase_fault}
-use Rattle.env_script.specs.Runs.{RunState, history_at, move_enabled, moved as moved_flat, IsRun, after, begin_at, IsAtRest as IsAtRestFlat, IsApart, IsSafeRun}
+use Rattle.env_script.specs.Runs.{RunState, move_enabled, moved as moved_flat, IsRun, after, begin_at, IsAtRest as IsAtRestFlat, IsApart, IsSafeRun}
 use Rattle.width_check.specs.Processes.{Process, skipping, assigning, sending, receiving, in_turn, side_by_side, choosing, repeating, Processes, no_members, and_member, member_count, TypedProgram}
-use Rattle.width_check.specs.Typing.{IsDeclaredVar, IsTyped, channel_width, var_width}
+use Rattle.width_check.specs.Typing.{channel_width, var_width}
 use Rattle.width_check.specs.declared.typed.Var.{Var}
 use Rattle.circuit_places.specs.Lines.{of_channel, of_var}
-use Rattle.std.proofs.lemmas.List.Elements.{All-head, All-tail}
 use Rattle.net_compose.proofs.FlatTrees.{joint_count_is}
 use Rattle.net_compose.proofs.FlatBlocks.{Part, a_bit, a_put, a_mark, a_joint, IsPart, offset, side}
 use Rattle.net_compose.proofs.FlatFirst.{member, raised, raised_is, length-raised, HighRail, high_at, high_member, high_there}

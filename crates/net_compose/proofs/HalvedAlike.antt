@@ -1,6 +1,6 @@
 -- Where the nodes of a program's net have the values that those of the net of the program in halves have, the rules of its
 -- statements say the same.
-use Rattle.std.proofs.Common.{◌≡◌, ℕ, zero, suc, ◌+◌, ◌-◌, ◌*◌, ◌<◌, ◌≤◌, Bool, true, false, List, [], ◌∷◌, ◌++◌, length, take, refl, sym, ap, ◌∙◌, subst, arith, length-append}
+use Rattle.std.proofs.Common.{◌≡◌, ℕ, zero, suc, ◌+◌, ◌-◌, ◌<◌, ◌≤◌, Bool, true, false, List, [], ◌∷◌, ◌++◌, length, take, refl, sym, ap, ◌∙◌, subst, arith, length-append}
 use Rattle.std.specs.Prelude.{if◌then◌else◌}
 use Rattle.std.proofs.Math.Seq.{take-length}
 use Rattle.std.proofs.lemmas.List.Sorted.{length_permutation}
@@ -15,27 +15,26 @@ use Rattle.width_check.specs.Reads.{reads}
 use Rattle.width_check.specs.Values.{width_of}
 use Rattle.width_check.proofs.Bounds.{width_some}
 use Rattle.width_check.specs.Typing.{channel_width, var_width, IsOfWidth, IsProcess, AreProcesses}
-use Rattle.handshake_expand.specs.Layout.{formula_size, block_size, blocks_before, wires_before, size_of, turn_size, branches_size, channel_from, vars_from, var_from, root_request, through_size}
+use Rattle.handshake_expand.specs.Layout.{formula_size, block_size, blocks_before, size_of, branches_size, channel_from, vars_from, var_from, root_request, through_size}
 use Rattle.handshake_expand.specs.Answers.{answer_of, turn_answer, second_answer}
 use Rattle.cell_sequence.specs.Sequence.{loop_request}
 use Rattle.cell_parallel.specs.Trees.{tree_rules}
 use Rattle.cell_parallel.specs.Sizes.{tree_length}
-use Rattle.cell_variable.specs.Variables.{all_written, variable_rules, write_answer}
+use Rattle.cell_variable.specs.Variables.{all_written, write_answer}
 use Rattle.function_blocks.specs.Expressions.{HasBits, read_bits, bits_between, formula_rules, formula_result}
 use Rattle.function_blocks.specs.Listed.{node_of, rail_place}
 use Rattle.function_blocks.proofs.Sizes.{rules_length}
-use Rattle.chp_meaning.specs.Halves.{hidden_var, hidden_of, hidden_vars, hidden_in_each, read_back, in_halves, halved_assign, halved, halved_each, halved_program, ReadsNoTarget, EachReadsNoTarget}
+use Rattle.chp_meaning.specs.Halves.{hidden_of, hidden_vars, hidden_in_each, read_back, in_halves, halved_assign, halved, halved_each, halved_program, ReadsNoTarget, EachReadsNoTarget}
 use Rattle.circuit_places.specs.Covered.{IsHalvable, AreHalvable}
 use Rattle.net_compose.specs.Translation.{bits_at, block_bits, written_at, ack_at, q_rules, rules_of, turn_rules, branches_rules, branch_ends, branches_end}
 use Rattle.net_compose.proofs.Sizes.{Counted, block_length, has_bits, statement_length}
 use Rattle.net_compose.proofs.FlatTrees.{Alike, RulesAlike, rules_append, tree_rules_alike}
 use Rattle.net_compose.proofs.FlatRules.{branches_end_is, plain_rules, length-branch_ends}
-use Rattle.net_compose.proofs.FlatCells.{rail_place_lt}
 use Rattle.net_compose.proofs.FlatWires.{ack_bounds, rail_bounds}
 use Rattle.net_compose.proofs.FlatBlocks.{blocks_below, length-variable_rules}
-use Rattle.net_compose.proofs.HalvedNumbers.{blocks, blocks_append, halved_size, turn_halved, branches_halved, each_count}
-use Rattle.net_compose.proofs.HalvedNodes.{Numbered, numbered, length-numbered, own, own_turn, own_branches, own_assign, hidden, hidden_turn, hidden_branches, hidden_assign, behind_block, hidden_rules, own_all, turn_all, branches_all, branches_long}
-use Rattle.net_compose.proofs.SameValues.{same_high, same_low, same_highs, same_lows, same_mixed, answers_alike, elements_alike, formulas_alike, same_written, same_bit_rails, reads_alike, ports_alike}
+use Rattle.net_compose.proofs.HalvedNumbers.{blocks, blocks_append, halved_size, branches_halved, each_count}
+use Rattle.net_compose.proofs.HalvedNodes.{Numbered, numbered, length-numbered, own, own_turn, own_branches, own_assign, hidden, hidden_turn, hidden_branches, hidden_assign, behind_block, hidden_rules, own_all, branches_all, branches_long}
+use Rattle.net_compose.proofs.SameValues.{same_high, same_low, same_mixed, answers_alike, elements_alike, formulas_alike, same_written, same_bit_rails, reads_alike, ports_alike}
 
 -- nodes in order, and those that are numbered from a number on elsewhere, have the same values
 abbrev pub Values : {A : Type 0} → (v u : ℕ → A) → (to : ℕ) → List Numbered → Type 0

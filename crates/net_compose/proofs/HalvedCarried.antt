@@ -1,6 +1,6 @@
 -- The net of each covered program carries it: that of the program in halves passes what that does, so what the program does;
 -- and it is the program's own net with its nodes numbered otherwise.
-use Rattle.std.proofs.Common.{◌≡◌, ℕ, zero, suc, ◌+◌, ◌<◌, ◌≤◌, Bool, true, false, List, [], ◌∷◌, map, length, Option, Some, refl, sym, ap, ◌∙◌, subst, arith}
+use Rattle.std.proofs.Common.{◌≡◌, ℕ, zero, suc, ◌+◌, ◌<◌, ◌≤◌, Bool, true, false, List, [], ◌∷◌, map, length, Some, refl, ap, ◌∙◌, subst, arith}
 use Rattle.std.specs.Prelude.{◌||◌, All}
 use Rattle.std.proofs.lemmas.List.Elements.{All-head, All-tail}
 use Rattle.chp_base.specs.declared.span.Span.{Span}
@@ -20,12 +20,12 @@ use Rattle.chp_meaning.specs.Terms.{Place}
 use Rattle.chp_meaning.specs.Steps.{Configuration, Step, Leads}
 use Rattle.chp_meaning.specs.Rounds.{step_at}
 use Rattle.chp_meaning.specs.Laws.{IsBehind, OneHistory, RoundsHold}
-use Rattle.chp_meaning.specs.Halves.{hidden_vars, halved_assign, halved, halved_each, halved_program, ReadsNoTarget, EachReadsNoTarget, IsSizedVar, HalvesFollow, HalvesArePlain}
-use Rattle.circuit_places.specs.Covered.{IsHalvable, AreHalvable, IsCovered, AreCovered, talks_on, one_talks_on, InternalUnused, Covered}
+use Rattle.chp_meaning.specs.Halves.{hidden_vars, halved_assign, halved, halved_each, halved_program, IsSizedVar, HalvesFollow, HalvesArePlain}
+use Rattle.circuit_places.specs.Covered.{IsHalvable, AreHalvable, talks_on, one_talks_on, InternalUnused, Covered}
 use Rattle.circuit_places.specs.Carried.{CircuitsCarry}
 use Rattle.circuit_places.proofs.Carry.{plainly_covered}
 use Rattle.net_compose.specs.Translation.{translation, composed, first_values, wires_from}
-use Rattle.net_compose.specs.Carries.{HasChannels, Carries}
+use Rattle.net_compose.specs.Carries.{Carries}
 use Rattle.net_compose.proofs.Sizes.{Counted}
 use Rattle.net_compose.proofs.Passing.{Passes, halves_pass, renamed_passes, passes_carry}
 use Rattle.net_compose.proofs.CoveredCarried.{covered_passes}

@@ -1,47 +1,34 @@
 -- The net of a program is that of the program in halves with its nodes numbered otherwise.
-use Rattle.std.proofs.Common.{◌≡◌, ◌≢◌, ℕ, zero, suc, ◌+◌, ◌-◌, ◌*◌, ◌/◌, ◌<◌, ◌≤◌, ◌==◌, Bool, true, false, List, [], ◌∷◌, ◌++◌, map, length, get_or, replicate, None, refl, sym, ap, ◌∙◌, subst, arith, length-append, append-nil, append_assoc, ⊎_elim}
-use Rattle.std.specs.Prelude.{◌||◌, if◌then◌else◌}
+use Rattle.std.proofs.Common.{◌≡◌, ℕ, zero, suc, ◌+◌, ◌*◌, ◌<◌, ◌≤◌, Bool, true, false, List, [], ◌∷◌, ◌++◌, map, length, get_or, replicate, refl, sym, ap, ◌∙◌, subst, arith, length-append, append_assoc}
 use Rattle.std.specs.List.Sorted.{IsPermutation}
-use Rattle.std.proofs.lemmas.Bool.{cases_lt, eqb-true, eq-eqb}
-use Rattle.std.proofs.lemmas.List.{map-append, get_or_append_left, get_or_past, get_or-replicate, length-replicate}
 use Rattle.std.proofs.lemmas.List.Sorted.{IsPermutation-append_comm, IsPermutation-append_right, IsPermutation-trans}
 use Rattle.chp_base.specs.declared.channel.Channel.{Channel}
 use Rattle.chp_base.specs.declared.channel.Kind.{Kind}
 use Rattle.chp_base.specs.declared.channel.Kind.TheVariants.{In, Out, Chan}
-use Rattle.chp_base.specs.declared.span.Span.{Span}
-use Rattle.prs_core.specs.declared.wires.Wires.{Wires}
-use Rattle.prs_core.specs.Nets.{NodeRules, NetValue, net_of, up_of, down_of}
-use Rattle.prs_core.specs.Pairs.{Pair, pair_of, pairs_from, rails_of, no_rules, or_of}
-use Rattle.prs_core.specs.Moves.{high, guard_holds}
+use Rattle.prs_core.specs.Nets.{NodeRules}
+use Rattle.prs_core.specs.Pairs.{no_rules, or_of}
 use Rattle.width_check.specs.declared.typed.Var.{Var}
-use Rattle.width_check.specs.Processes.{Formula, Process, skipping, assigning, sending, receiving, in_turn, side_by_side, choosing, repeating, Processes, no_members, and_member, TypedProgram}
-use Rattle.width_check.specs.Reads.{reads}
-use Rattle.width_check.specs.Values.{width_of}
-use Rattle.width_check.specs.Typing.{channel_width, var_width, IsOfWidth, IsProcess, AreProcesses}
-use Rattle.handshake_expand.specs.Layout.{block_size, size_of, wires_before, wires_size, blocks_before, channel_from, vars_from, var_from, root_request, root_latch, body_from, nodes_of, go_node}
-use Rattle.handshake_expand.specs.Named.{node_names}
+use Rattle.width_check.specs.Processes.{TypedProgram}
+use Rattle.width_check.specs.Typing.{channel_width, var_width, IsProcess}
+use Rattle.handshake_expand.specs.Layout.{block_size, blocks_before, vars_from, var_from, root_request, root_latch, body_from, nodes_of, go_node}
 use Rattle.cell_sequence.specs.Sequence.{q_child, q_latch, q_next}
-use Rattle.cell_variable.specs.Variables.{high_first, variable_rules}
+use Rattle.cell_variable.specs.Variables.{variable_rules}
 use Rattle.circuit_places.specs.Lines.{of_channel, of_var}
-use Rattle.circuit_places.specs.Covered.{IsHalvable, AreHalvable, IsCovered}
-use Rattle.chp_meaning.specs.Halves.{hidden_var, hidden_of, hidden_vars, hidden_in_each, halved, halved_each, halved_assign, halved_program, ReadsNoTarget}
-use Rattle.net_compose.specs.Translation.{translation, composed, all_rules, channel_rules, channels_rules, vars_rules, rail_rules, rules_of, body_answer, in_body, sites_in, sites_in_turn, sites_in_branches, send_site, receive_site, write_site, hidden_high, vars_high, first_values, wires_from, rails_at, ack_at}
+use Rattle.circuit_places.specs.Covered.{IsHalvable}
+use Rattle.chp_meaning.specs.Halves.{hidden_vars, halved, halved_program, ReadsNoTarget}
+use Rattle.net_compose.specs.Translation.{all_rules, channel_rules, channels_rules, vars_rules, rail_rules, rules_of, body_answer, in_body, send_site, receive_site, write_site}
 use Rattle.net_compose.proofs.Sizes.{Counted, all_length}
-use Rattle.net_compose.proofs.FlatTrees.{RulesAlike, rules_append, rules_at}
+use Rattle.net_compose.proofs.FlatTrees.{RulesAlike, rules_append}
 use Rattle.net_compose.proofs.FlatSites.{at_site, at_sites}
-use Rattle.net_compose.proofs.FlatWires.{wires_below, length-channels_rules}
-use Rattle.net_compose.proofs.FlatBlocks.{length-vars_rules, side}
-use Rattle.net_compose.proofs.FlatFirst.{member, member_append, raised, raised_is, length-raised, HighRail, high_member, high_at}
-use Rattle.net_compose.proofs.FlatNet.{up_told, down_told}
-use Rattle.net_compose.proofs.CoveredCarried.{none_hidden}
-use Rattle.net_compose.proofs.HalvedNumbers.{blocks, blocks_append, halved_size}
-use Rattle.net_compose.proofs.HalvedNodes.{Numbered, numbered, length-numbered, numbered_append, own, hidden, hidden_turn, hidden_branches, hidden_assign, hidden_rules, own_all}
-use Rattle.net_compose.proofs.NumberedOnce.{nowhere, IsNode, Standing, as_long, node_in, standing, one_place}
+use Rattle.net_compose.proofs.FlatWires.{length-channels_rules}
+use Rattle.net_compose.proofs.FlatBlocks.{length-vars_rules}
+use Rattle.net_compose.proofs.HalvedNumbers.{blocks, halved_size}
+use Rattle.net_compose.proofs.HalvedNodes.{Numbered, numbered, length-numbered, numbered_append, own, hidden, own_all}
+use Rattle.net_compose.proofs.NumberedOnce.{nowhere, as_long}
 use Rattle.net_compose.proofs.SameValues.{same_high, same_low, same_mixed, merges_alike, blocks_alike}
-use Rattle.net_compose.proofs.HalvedAlike.{Values, rules_in, rules_in_append, rules_numbered, values_left, values_right, values_at, blocks_front, declared_from, HiddenAt, hidden_at_left, hidden_at_right, hidden_long, same_block, answers_same, own_alike}
+use Rattle.net_compose.proofs.HalvedAlike.{Values, rules_in, rules_in_append, rules_numbered, values_left, values_right, values_at, blocks_front, declared_from, HiddenAt, hidden_long, same_block, answers_same, own_alike}
 use Rattle.net_compose.proofs.HalvedSites.{lines_same, takers_same}
 use Rattle.net_compose.proofs.HiddenBlocks.{vars_rules_append, hidden_alike}
-use Rattle.net_compose.proofs.Renamed.{AreBelow, WiresBelow, IsRenaming}
 
 -- variables behind others
 blocks_whole : (vs hs : List Var) → blocks_before (vs ++ hs) (length (vs ++ hs)) ≡ blocks_before vs (length vs) + blocks hs

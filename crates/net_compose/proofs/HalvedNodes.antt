@@ -1,29 +1,24 @@
 -- The nodes of a statement, first those of the statement in halves in their order, and then the blocks of its hidden
 -- variables: together they are all of its nodes.
-use Rattle.std.proofs.Common.{◌≡◌, ℕ, suc, ◌+◌, ◌-◌, ◌*◌, ◌<◌, ◌≤◌, Bool, true, false, List, [], ◌∷◌, ◌++◌, length, refl, sym, ap, ◌∙◌, subst, arith, length-append, append-nil, append_assoc}
+use Rattle.std.proofs.Common.{◌≡◌, ℕ, suc, ◌+◌, Bool, true, false, List, [], ◌∷◌, ◌++◌, length, refl, sym, ap, ◌∙◌, subst, arith, length-append, append-nil, append_assoc}
 use Rattle.std.specs.Prelude.{if◌then◌else◌}
 use Rattle.std.specs.List.Sorted.{IsPermutation}
-use Rattle.std.proofs.lemmas.List.Sorted.{IsPermutation-refl, IsPermutation-trans, IsPermutation-append, IsPermutation-append_comm, IsPermutation-append_left, IsPermutation-append_right, length_permutation}
+use Rattle.std.proofs.lemmas.List.Sorted.{IsPermutation-refl, IsPermutation-trans, IsPermutation-append, IsPermutation-append_comm, IsPermutation-append_left, IsPermutation-append_right}
 use Rattle.prs_core.specs.Nets.{NodeRules}
 use Rattle.prs_core.specs.Pairs.{no_rules}
-use Rattle.width_check.specs.declared.typed.Var.{Var}
-use Rattle.width_check.specs.Processes.{Formula, Process, skipping, assigning, sending, receiving, in_turn, side_by_side, choosing, repeating, Processes, no_members, and_member, member_count, TypedProgram}
+use Rattle.width_check.specs.Processes.{Formula, Process, skipping, assigning, sending, receiving, in_turn, side_by_side, choosing, repeating, Processes, no_members, and_member, TypedProgram}
 use Rattle.width_check.specs.Reads.{reads}
-use Rattle.width_check.specs.Values.{width_of}
 use Rattle.width_check.specs.Typing.{var_width, IsProcess, AreProcesses}
-use Rattle.handshake_expand.specs.Layout.{formula_size, block_size, size_of, turn_size, branches_size}
+use Rattle.handshake_expand.specs.Layout.{formula_size, block_size, size_of, branches_size}
 use Rattle.handshake_expand.specs.Answers.{answer_of}
 use Rattle.cell_sequence.specs.Sequence.{loop_request}
 use Rattle.cell_parallel.specs.Trees.{tree_rules}
 use Rattle.cell_variable.specs.Variables.{all_written, variable_rules, write_answer}
 use Rattle.function_blocks.specs.Expressions.{read_bits, formula_rules, formula_result}
-use Rattle.chp_meaning.specs.Halves.{hidden_of, hidden_vars, hidden_in_each}
 use Rattle.circuit_places.specs.Covered.{IsHalvable, AreHalvable}
 use Rattle.net_compose.specs.Translation.{bits_at, block_bits, written_at, q_rules, through_at, rules_of, turn_rules, branches_rules, branch_ends, branches_end}
 use Rattle.net_compose.proofs.Sizes.{Counted, statement_length}
 use Rattle.net_compose.proofs.FlatBlocks.{length-variable_rules}
-use Rattle.net_compose.proofs.FlatRules.{branches_end_is}
-use Rattle.net_compose.proofs.HalvedNumbers.{blocks}
 
 -- a node with its rules
 pub record Numbered : Type 0 where

@@ -1,27 +1,15 @@
 -- How many nodes a statement has: as many as in halves, and those of the blocks of its hidden variables.
-use Rattle.std.proofs.Common.{◌≡◌, ℕ, suc, ◌+◌, ◌-◌, ◌*◌, ◌<◌, ◌≤◌, Bool, true, false, List, [], ◌∷◌, ◌++◌, length, take, refl, sym, ap, ◌∙◌, subst, arith}
-use Rattle.std.specs.Prelude.{if◌then◌else◌, nat_lt, slice_index}
-use Rattle.std.proofs.lemmas.Bool.Decides.{nat_tests}
-use Rattle.std.proofs.Math.Seq.{take-length}
-use Rattle.std.proofs.lemmas.List.{length-append}
+use Rattle.std.proofs.Common.{◌≡◌, ℕ, suc, ◌+◌, ◌-◌, ◌*◌, ◌≤◌, Bool, true, false, List, [], ◌∷◌, ◌++◌, length, refl, ap, arith}
+use Rattle.std.specs.Prelude.{if◌then◌else◌}
 use Rattle.chp_base.specs.declared.span.Span.{Span}
-use Rattle.prs_core.specs.Nets.{NodeRules}
-use Rattle.prs_core.specs.Pairs.{Pair}
 use Rattle.width_check.specs.declared.typed.Var.{Var}
-use Rattle.width_check.specs.Processes.{Formula, constant, reading, joined, inverted, chained, compared, Formulas, no_parts, and_part, Operations, no_operations, and_operation, Process, skipping, assigning, sending, receiving, in_turn, side_by_side, choosing, repeating, Processes, no_members, and_member, member_count, Choices, no_choices, and_choice, choice_count, TypedProgram}
+use Rattle.width_check.specs.Processes.{Formula, Process, skipping, assigning, sending, receiving, in_turn, side_by_side, choosing, repeating, Processes, no_members, and_member, member_count, Choices, no_choices, and_choice, choice_count, TypedProgram}
 use Rattle.width_check.specs.Values.{width_of}
 use Rattle.width_check.proofs.Bounds.{width_some}
-use Rattle.width_check.specs.Typing.{channel_width, var_width, ReadsFrom, EachReadsFrom, AllReadFrom, IsOfWidth, IsProcess, AreProcesses, AreChoices}
+use Rattle.width_check.specs.Typing.{channel_width, var_width, IsProcess, AreProcesses, AreChoices}
 use Rattle.width_check.specs.Reads.{reads}
-use Rattle.handshake_expand.specs.Layout.{formula_size, operator_size, block_size, through_size, size_of, turn_size, branches_size, guards_size, bodies_size, var_from}
-use Rattle.handshake_expand.specs.Answers.{select_own, again_own, bodies_from}
-use Rattle.cell_variable.specs.Variables.{all_written, variable_rules, write_answer}
-use Rattle.function_blocks.specs.Expressions.{read_bits, bits_between, formula_rules, joined_rules, chained_rules, formula_result}
-use Rattle.function_blocks.specs.Gates.{operator_rules}
-use Rattle.function_blocks.specs.Gates.{operator_result}
+use Rattle.handshake_expand.specs.Layout.{formula_size, block_size, through_size, size_of, turn_size, branches_size, guards_size, bodies_size}
 use Rattle.chp_meaning.specs.Halves.{hidden_of, hidden_vars, hidden_in_each, hidden_in_choices, read_back, halved_assign, halved, halved_each, halved_choices, ReadsNoTarget, EachReadsNoTarget, ChoicesReadNoTarget}
-use Rattle.net_compose.specs.Translation.{bits_at, block_bits, written_at, q_rules, through_rules, Sites, in_body, sites_in, sites_in_turn, sites_in_branches, sites_in_bodies}
-use Rattle.net_compose.proofs.Sizes.{block_length}
 
 -- how many nodes the blocks of some variables have
 abbrev pub blocks : List Var → ℕ

@@ -1,12 +1,10 @@
 -- So the net of a program is that of the program in halves, numbered otherwise: node by node, in its first values and in its
 -- rules.
-use Rattle.std.proofs.Common.{◌≡◌, ◌≢◌, ℕ, zero, suc, ◌+◌, ◌-◌, ◌*◌, ◌/◌, ◌%◌, ◌<◌, ◌≤◌, ◌==◌, Bool, true, false, List, [], ◌∷◌, ◌++◌, map, length, get_or, replicate, None, refl, sym, ap, ◌∙◌, subst, arith, length-append, append-nil, append_assoc, ⊎_elim}
+use Rattle.std.proofs.Common.{◌≡◌, ℕ, zero, suc, ◌+◌, ◌*◌, ◌/◌, ◌%◌, ◌<◌, ◌≤◌, ◌==◌, Bool, true, false, List, [], ◌∷◌, ◌++◌, map, length, replicate, None, refl, sym, ap, ◌∙◌, arith, append-nil, append_assoc}
 use Rattle.std.specs.Prelude.{◌||◌, if◌then◌else◌}
-use Rattle.std.proofs.lemmas.Bool.{cases_lt, eqb-true, eq-eqb}
-use Rattle.std.proofs.lemmas.List.{map-append, get_or_append_left, get_or_past, get_or-replicate, length-replicate}
+use Rattle.std.proofs.lemmas.Bool.{eqb-true, eq-eqb}
+use Rattle.std.proofs.lemmas.List.{map-append, get_or_past, get_or-replicate, length-replicate}
 use Rattle.chp_base.specs.declared.channel.Channel.{Channel}
-use Rattle.chp_base.specs.declared.span.Span.{Span}
-use Rattle.prs_core.specs.declared.wires.Wires.{Wires}
 use Rattle.prs_core.specs.Nets.{NodeRules, NetValue, net_of, up_of, down_of}
 use Rattle.prs_core.specs.Pairs.{pairs_from, rails_of, no_rules}
 use Rattle.prs_core.specs.Moves.{high, guard_holds}
@@ -16,25 +14,25 @@ use Rattle.width_check.specs.Reads.{reads}
 use Rattle.width_check.specs.Values.{width_of}
 use Rattle.width_check.proofs.Bounds.{width_some}
 use Rattle.width_check.specs.Typing.{channel_width, var_width, IsOfWidth, IsProcess, AreProcesses}
-use Rattle.handshake_expand.specs.Layout.{block_size, size_of, wires_before, wires_size, blocks_before, channel_from, vars_from, var_from, root_request, body_from, nodes_of}
+use Rattle.handshake_expand.specs.Layout.{block_size, size_of, channel_from, var_from, root_request, body_from, nodes_of}
 use Rattle.handshake_expand.specs.Named.{node_names}
 use Rattle.cell_variable.specs.Variables.{high_first}
 use Rattle.function_blocks.specs.Expressions.{formula_result}
 use Rattle.circuit_places.specs.Covered.{IsHalvable, AreHalvable, IsCovered}
-use Rattle.chp_meaning.specs.Halves.{hidden_var, hidden_of, hidden_vars, hidden_in_each, halved, halved_each, halved_assign, halved_program, ReadsNoTarget}
+use Rattle.chp_meaning.specs.Halves.{hidden_of, hidden_vars, hidden_in_each, halved, halved_program, ReadsNoTarget}
 use Rattle.net_compose.specs.Translation.{translation, composed, all_rules, in_body, sites_in, sites_in_turn, sites_in_branches, hidden_high, vars_high, first_values, wires_from, rails_at, ack_at}
 use Rattle.net_compose.proofs.Sizes.{Counted, all_length}
 use Rattle.net_compose.proofs.FlatTrees.{rules_at}
 use Rattle.net_compose.proofs.FlatWires.{wires_below}
 use Rattle.net_compose.proofs.FlatBlocks.{blocks_below, length-variable_rules, side}
-use Rattle.net_compose.proofs.FlatFirst.{member, member_append, raised, raised_is, length-raised, HighRail, high_member, high_at}
+use Rattle.net_compose.proofs.FlatFirst.{member, raised_is, length-raised, high_member, high_at}
 use Rattle.net_compose.proofs.FlatNet.{up_told, down_told}
 use Rattle.net_compose.proofs.CoveredCarried.{none_hidden}
-use Rattle.net_compose.proofs.HalvedNumbers.{blocks, blocks_append}
-use Rattle.net_compose.proofs.HalvedNodes.{Numbered, numbered, length-numbered, own, hidden, hidden_turn, hidden_branches, hidden_assign, hidden_rules}
-use Rattle.net_compose.proofs.NumberedOnce.{nowhere, IsNode, Standing, as_long, node_in, standing, one_place}
-use Rattle.net_compose.proofs.HalvedAlike.{Values, rules_in, values_left, values_right, values_at, blocks_front, declared_from, HiddenAt, hidden_at_left, hidden_at_right, hidden_long}
-use Rattle.net_compose.proofs.HalvedNet.{rules_in_at, node_there, values_from, order, order_all, all_long, order_long, renamed, root_there, nodes_there, where_hidden, below_root, in_hidden, order_alike}
+use Rattle.net_compose.proofs.HalvedNumbers.{blocks}
+use Rattle.net_compose.proofs.HalvedNodes.{Numbered, hidden, hidden_turn, hidden_branches, hidden_assign, hidden_rules}
+use Rattle.net_compose.proofs.NumberedOnce.{node_in, standing, one_place}
+use Rattle.net_compose.proofs.HalvedAlike.{Values, rules_in, values_left, values_right, values_at, declared_from, HiddenAt, hidden_at_left, hidden_at_right, hidden_long}
+use Rattle.net_compose.proofs.HalvedNet.{rules_in_at, values_from, order, order_all, all_long, order_long, renamed, nodes_there, where_hidden, below_root, in_hidden, order_alike}
 use Rattle.net_compose.proofs.Renamed.{AreBelow, WiresBelow, IsRenaming}
 
 -- the rails that are high at first of a block, where the block is numbered otherwise

@@ -1,40 +1,35 @@
 -- Where the nodes of two nets have the same values as in HalvedAlike, so have the sites of each channel and of each declared
 -- variable; and a hidden variable has one site, the expression of its assignment.
-use Rattle.std.proofs.Common.{◌≡◌, ◌≢◌, ℕ, zero, suc, ◌+◌, ◌-◌, ◌*◌, ◌<◌, ◌≤◌, ◌==◌, Bool, true, false, List, [], ◌∷◌, ◌++◌, map, length, refl, sym, ap, ◌∙◌, subst, arith, length-append, append-nil}
+use Rattle.std.proofs.Common.{◌≡◌, ℕ, zero, suc, ◌+◌, ◌-◌, ◌*◌, ◌<◌, ◌≤◌, ◌==◌, Bool, true, false, List, [], ◌∷◌, ◌++◌, map, length, refl, sym, ap, ◌∙◌, arith, length-append}
 use Rattle.std.specs.Prelude.{if◌then◌else◌}
-use Rattle.std.proofs.lemmas.Bool.{eqb-true, eq-eqb, ne_eqb}
-use Rattle.prs_core.specs.Nets.{NodeRules}
-use Rattle.prs_core.specs.Pairs.{Pair, pair_of, pairs_from, no_rules}
+use Rattle.std.proofs.lemmas.Bool.{eqb-true, ne_eqb}
+use Rattle.prs_core.specs.Pairs.{Pair, pairs_from, no_rules}
 use Rattle.cell_sequence.specs.Sequence.{loop_request}
 use Rattle.cell_channel.specs.Ends.{port_rules}
 use Rattle.cell_parallel.specs.Trees.{tree_rules}
 use Rattle.prs_core.specs.Sites.{site_answer}
 use Rattle.chp_base.specs.declared.span.Span.{Span}
-use Rattle.width_check.specs.declared.typed.Var.{Var}
-use Rattle.width_check.specs.Processes.{Formula, Process, skipping, assigning, sending, receiving, in_turn, side_by_side, choosing, repeating, Processes, no_members, and_member, member_count, TypedProgram}
+use Rattle.width_check.specs.Processes.{Formula, Process, skipping, assigning, sending, receiving, in_turn, side_by_side, choosing, repeating, Processes, no_members, and_member, TypedProgram}
 use Rattle.width_check.specs.Reads.{reads}
 use Rattle.width_check.specs.Values.{width_of}
 use Rattle.width_check.proofs.Bounds.{width_some}
 use Rattle.width_check.specs.Typing.{channel_width, var_width, IsOfWidth, IsProcess, AreProcesses}
-use Rattle.handshake_expand.specs.Layout.{formula_size, block_size, size_of, branches_size, channel_from, root_request, var_from, through_size, body_from}
+use Rattle.handshake_expand.specs.Layout.{formula_size, block_size, size_of, branches_size, channel_from, through_size}
 use Rattle.handshake_expand.specs.Answers.{answer_of}
-use Rattle.cell_variable.specs.Variables.{variable_rules}
 use Rattle.function_blocks.specs.Expressions.{read_bits, formula_rules, formula_result}
-use Rattle.function_blocks.specs.Listed.{node_of, rail_place}
+use Rattle.function_blocks.specs.Listed.{rail_place}
 use Rattle.function_blocks.proofs.Sizes.{rules_length}
 use Rattle.circuit_places.specs.Lines.{Line, of_channel, of_var, line_width}
-use Rattle.chp_meaning.specs.Halves.{hidden_var, hidden_of, hidden_vars, hidden_in_each, read_back, in_halves, halved_assign, halved, halved_each, halved_program, ReadsNoTarget, EachReadsNoTarget}
+use Rattle.chp_meaning.specs.Halves.{hidden_vars, read_back, in_halves, halved_assign, halved, halved_each, halved_program, ReadsNoTarget, EachReadsNoTarget}
 use Rattle.circuit_places.specs.Covered.{IsHalvable, AreHalvable}
 use Rattle.net_compose.specs.Translation.{bits_at, q_rules, sites_in, sites_in_turn, sites_in_branches, Sites, branch_ends, branches_end, block_bits, ack_at, rules_of, send_site, receive_site, write_site, assigned_rails, through_at, in_body, vars_rules}
 use Rattle.net_compose.specs.Translation as net
 use Rattle.net_compose.proofs.Sizes.{Counted, block_length, has_bits}
-use Rattle.net_compose.proofs.FlatTrees.{RulesAlike}
-use Rattle.net_compose.proofs.FlatSites.{at_site, at_sites, at_append, mapped_append, line_site, pair_place}
+use Rattle.net_compose.proofs.FlatSites.{at_sites, at_append, mapped_append, line_site, pair_place}
 use Rattle.net_compose.proofs.FlatCells.{rail_place_lt}
-use Rattle.net_compose.proofs.HalvedNumbers.{blocks}
-use Rattle.net_compose.proofs.HalvedNodes.{Numbered, numbered, own, own_turn, own_branches, own_assign, hidden, hidden_turn, hidden_branches, hidden_assign, behind_block, hidden_rules}
-use Rattle.net_compose.proofs.SameValues.{results_alike, blocks_alike}
-use Rattle.net_compose.proofs.HalvedAlike.{Values, rules_in, values_left, values_right, values_at, own_long, declared_width}
+use Rattle.net_compose.proofs.HalvedNodes.{numbered, own, own_turn, own_branches, own_assign, behind_block}
+use Rattle.net_compose.proofs.SameValues.{results_alike}
+use Rattle.net_compose.proofs.HalvedAlike.{Values, values_left, values_right, values_at, own_long}
 
 -- a line of the program: a channel, or a declared variable
 abbrev pub IsLine : TypedProgram → Line → Type 0

@@ -1,6 +1,6 @@
 -- The blocks of hidden variables: the rules within a program's statements are those that the program in halves has for its
 -- last variables.
-use Rattle.std.proofs.Common.{◌≡◌, ◌≢◌, ℕ, zero, suc, ◌+◌, ◌-◌, ◌*◌, ◌<◌, ◌≤◌, ◌==◌, Bool, true, false, List, [], ◌∷◌, ◌++◌, map, length, refl, sym, ap, ◌∙◌, subst, arith, length-append, append-nil, append_assoc}
+use Rattle.std.proofs.Common.{◌≡◌, ℕ, suc, ◌+◌, ◌<◌, ◌≤◌, ◌==◌, Bool, true, false, List, [], ◌∷◌, ◌++◌, map, length, refl, sym, ap, ◌∙◌, subst, arith, length-append, append-nil, append_assoc}
 use Rattle.std.specs.Prelude.{if◌then◌else◌}
 use Rattle.std.proofs.lemmas.Bool.{eq-eqb, ne_eqb}
 use Rattle.prs_core.specs.Nets.{NodeRules}
@@ -11,13 +11,13 @@ use Rattle.width_check.specs.Processes.{Formula, Process, skipping, assigning, s
 use Rattle.width_check.specs.Reads.{reads}
 use Rattle.width_check.specs.Values.{width_of}
 use Rattle.width_check.specs.Typing.{channel_width, var_width, IsOfWidth, IsProcess, AreProcesses}
-use Rattle.handshake_expand.specs.Layout.{formula_size, block_size, size_of, branches_size, var_from, through_size}
+use Rattle.handshake_expand.specs.Layout.{formula_size, block_size, size_of, branches_size, var_from}
 use Rattle.handshake_expand.specs.Answers.{answer_of}
 use Rattle.cell_sequence.specs.Sequence.{loop_request}
 use Rattle.cell_parallel.specs.Trees.{tree_rules}
 use Rattle.cell_variable.specs.Variables.{variable_rules}
 use Rattle.function_blocks.specs.Expressions.{formula_result}
-use Rattle.chp_meaning.specs.Halves.{hidden_var, hidden_of, hidden_vars, hidden_in_each, read_back, in_halves, halved_assign, halved, halved_each, halved_program, ReadsNoTarget, EachReadsNoTarget}
+use Rattle.chp_meaning.specs.Halves.{hidden_of, hidden_vars, hidden_in_each, read_back, in_halves, halved_assign, halved, halved_each, halved_program, ReadsNoTarget, EachReadsNoTarget}
 use Rattle.circuit_places.specs.Covered.{IsHalvable, AreHalvable}
 use Rattle.net_compose.specs.Translation.{q_rules, branch_ends, branches_end, sites_in, sites_in_turn, sites_in_branches, write_site, assigned_rails, through_at, read_back as read_rails, in_body, vars_rules}
 use Rattle.net_compose.proofs.Sizes.{Counted}

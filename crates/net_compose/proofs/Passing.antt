@@ -16,8 +16,8 @@ use Rattle.chp_meaning.specs.Steps.{Configuration, Step, Leads, no_step, one_ste
 use Rattle.chp_meaning.specs.Rounds.{round, rounds, rounds_from, step_at, is_enabled, taken}
 use Rattle.chp_meaning.specs.Laws.{IsBehind, OneHistory, RoundsHold}
 use Rattle.chp_meaning.specs.Halves.{halved_program, HalvesFollow}
-use Rattle.net_compose.specs.Carries.{IsFollowing, IsSettled, IsCarrying, Carries, HasChannels}
-use Rattle.net_compose.proofs.Renamed.{IsRenaming, Mirrors, Mirrored, mirror, mirrors_first, rest_there}
+use Rattle.net_compose.specs.Carries.{IsFollowing, IsSettled, Carries, HasChannels}
+use Rattle.net_compose.proofs.Renamed.{IsRenaming, mirror, mirrors_first, rest_there}
 
 -- the program goes no further, and done is high exactly where it has ended
 pub record IsOver (st : RunState) (c : Configuration) : Type 0 where

@@ -1,14 +1,14 @@
 -- Two nets of which one is the other with its nodes numbered otherwise: each run of the one is a run of the other.
-use Rattle.std.proofs.Common.{◌≡◌, ◌≢◌, ℕ, zero, suc, ◌+◌, ◌<◌, ◌≤◌, ◌==◌, ◌/◌, Bool, true, false, List, [], ◌∷◌, length, replicate, Option, Some, None, refl, sym, ap, ◌∙◌, subst, arith, length-set, get_or-set_same, get_or-set_other, ⊎_elim}
-use Rattle.std.specs.Prelude.{not, ◌&&◌, ◌||◌, if◌then◌else◌, cond, nat_lt, is_some, position, slice_get, slice_index_or}
-use Rattle.std.specs.List.{list_any, list_all, position_or_len}
+use Rattle.std.proofs.Common.{◌≡◌, ◌≢◌, ℕ, suc, ◌+◌, ◌<◌, ◌≤◌, ◌==◌, ◌/◌, Bool, true, false, List, [], ◌∷◌, length, Option, Some, None, refl, sym, ap, ◌∙◌, subst, arith, length-set, get_or-set_same, get_or-set_other, ⊎_elim}
+use Rattle.std.specs.Prelude.{not, ◌&&◌, ◌||◌, if◌then◌else◌, cond, nat_lt, is_some, position, slice_get}
+use Rattle.std.specs.List.{list_any, position_or_len}
 use Rattle.std.proofs.lemmas.Bool.{cases_lt, cases_eq, eq-eqb, ne_eqb}
 use Rattle.prs_core.specs.declared.wires.Wires.{Wires}
 use Rattle.prs_core.specs.Nets.{RulesValue, NetValue, net_of, up_of, down_of}
 use Rattle.prs_core.specs.Moves.{high, guard_holds, rule_enabled, both_ways, fired, bit_value, with_bit, rail_value_of, neutral}
 use Rattle.env_script.specs.Scripts.{OfferValue, gives, takes, nothing, offer_at, is_over}
 use Rattle.env_script.specs.Environment.{env_enabled, raises_go, channels_move, offer_moves, lowers, raises_bit, raises_value, raises_next, valid, is_odd}
-use Rattle.env_script.specs.Phases.{rail_keeps, pair_keeps, rails_keep, ack_keeps, phases_keep, phase_fault}
+use Rattle.env_script.specs.Phases.{rail_keeps, pair_keeps, rails_keep, ack_keeps, phases_keep}
 use Rattle.env_script.specs.Runs.{RunState, completed, move_enabled, completes, with_value, with_values, moved, IsRun, after, begin_at, IsAtRest, IsApart, IsSafeMove, IsSafeRun}
 
 -- wires whose numbers are below a number

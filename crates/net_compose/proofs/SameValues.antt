@@ -1,12 +1,11 @@
 -- Two circuits whose nodes have the same values, one by one: what the guards say is the same in both.
-use Rattle.std.proofs.Common.{◌≡◌, ℕ, zero, suc, ◌+◌, ◌*◌, ◌<◌, ◌≤◌, Bool, true, false, List, [], ◌∷◌, ◌++◌, map, length, get_or, refl, sym, ap, ◌∙◌, subst, arith}
+use Rattle.std.proofs.Common.{◌≡◌, ℕ, zero, suc, ◌+◌, ◌<◌, ◌≤◌, Bool, true, false, List, [], ◌∷◌, map, length, get_or, refl, sym, ap, ◌∙◌, subst, arith}
 use Rattle.std.specs.Prelude.{not, ◌&&◌, ◌||◌}
 use Rattle.std.specs.List.{list_any}
 use Rattle.prs_core.specs.Nets.{NodeRules, is_high, is_low, one_term}
 use Rattle.prs_core.specs.Pairs.{Pair, pair_of, pairs_from, no_rules, or_of}
 use Rattle.prs_core.specs.Sites.{site_answer}
 use Rattle.prs_core.specs.Moves.{guard_holds}
-use Rattle.width_check.specs.declared.typed.Var.{Var}
 use Rattle.width_check.specs.Processes.{Formula, TypedProgram}
 use Rattle.width_check.specs.Values.{IsWellFormed, width_of}
 use Rattle.width_check.specs.Typing.{ReadsFrom, var_width}
@@ -15,13 +14,13 @@ use Rattle.cell_channel.specs.Ends.{port_rules}
 use Rattle.cell_variable.specs.Variables.{all_written, variable_rules}
 use Rattle.function_blocks.specs.Rails.{Pairs, side_of, pair_in}
 use Rattle.function_blocks.specs.Expressions.{HasBits, read_bits, formula_rules, formula_result}
-use Rattle.function_blocks.specs.Listed.{node_of, rail_place, Valued}
+use Rattle.function_blocks.specs.Listed.{node_of, rail_place}
 use Rattle.function_blocks.proofs.Sizes.{rules_length}
 use Rattle.function_blocks.proofs.PartSizes.{count_doubled}
 use Rattle.function_blocks.proofs.GatesTold.{listed}
 use Rattle.circuit_places.proofs.Meets.{read_declared}
 use Rattle.circuit_places.specs.Lines.{Rails}
-use Rattle.circuit_places.specs.Circuit.{gate_count, joint_count}
+use Rattle.circuit_places.specs.Circuit.{gate_count}
 use Rattle.circuit_places.specs.Whole.{all_low}
 use Rattle.net_compose.specs.Translation.{block_bits, q_rules}
 use Rattle.net_compose.proofs.FlatTrees.{RulesAlike}
