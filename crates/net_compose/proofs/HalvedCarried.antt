@@ -115,9 +115,9 @@ covered_carried steps_taken append one hold follow halves circuits P typed cover
     let plainly = plainly_covered (halved (length P.vars) P.body) halvable h.plain in
     let passes = covered_passes circuits Q (record { typed = h.sized.body_is; covered = plainly; some = sized_bits Q.vars h.sized.each_var }) h.sized there h.plain in
     let some = declared_bits P.vars typed.each_var in
-    let renaming = is_renaming counted P covered.body typed.body_is h.plain some plainly h.sized.body_is in
-    let numbered : Passes (net_there counted P covered.body typed.body_is h.plain some plainly) Q = subst (λ net. Passes net Q)
-    (translation_there counted P covered.body typed.body_is h.plain some plainly) passes in
+    let renaming = is_renaming counted P typed.body_is h.plain some plainly h.sized.body_is in
+    let numbered : Passes (net_there counted P typed.body_is h.plain some plainly) Q = subst (λ net. Passes net Q)
+    (translation_there counted P typed.body_is h.plain some plainly) passes in
     let mine : Passes (translation P) Q = renamed_passes (node_names P) (node_names Q) (first_values P) (first_values Q) (composed P) (composed Q)
-    (wires_from P 0 P.channels) (renamed counted P covered.body typed.body_is h.plain some) (nodes_of P) (root_request P) renaming (omega arith) Q numbered in
+    (wires_from P 0 P.channels) (renamed counted P typed.body_is h.plain some) (nodes_of P) (root_request P) renaming (omega arith) Q numbered in
     passes_carry steps_taken append one hold (translation P) P meets (same_channels P 0 P.channels) (halves_pass follow (translation P) P typed meets mine)

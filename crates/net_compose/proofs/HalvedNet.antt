@@ -14,7 +14,6 @@ use Rattle.handshake_expand.specs.Layout.{block_size, blocks_before, vars_from, 
 use Rattle.cell_sequence.specs.Sequence.{q_child, q_latch, q_next}
 use Rattle.cell_variable.specs.Variables.{variable_rules}
 use Rattle.circuit_places.specs.Lines.{of_channel, of_var}
-use Rattle.circuit_places.specs.Covered.{IsHalvable}
 use Rattle.chp_meaning.specs.Halves.{hidden_vars, halved, halved_program, ReadsNoTarget}
 use Rattle.net_compose.specs.Translation.{all_rules, channel_rules, channels_rules, vars_rules, rail_rules, rules_of, body_answer, in_body, send_site, receive_site, write_site}
 use Rattle.net_compose.proofs.Sizes.{Counted, all_length}
@@ -57,7 +56,7 @@ values_from v u to (x ∷ xs) h = (
   values_from v u (suc to) xs (λ i l. h (suc i) (omega (arith, l)) ∙ ap u (let z : to + suc i ≡ suc to + i = omega arith in z)),
 )
 
-module _ (counted : Counted) (P : TypedProgram) (halvable : IsHalvable P.body) (typed : IsProcess P.channels P.vars P.body)
+module _ (counted : Counted) (P : TypedProgram) (typed : IsProcess P.channels P.vars P.body)
     (plain : ReadsNoTarget (halved (length P.vars) P.body)) (some : (y : ℕ) → y < length P.vars → 1 ≤ var_width P.vars y) where
   abbrev Q : TypedProgram
   Q = halved_program P
@@ -98,7 +97,7 @@ module _ (counted : Counted) (P : TypedProgram) (halvable : IsHalvable P.body) (
       let rest : IsPermutation (h ++ (r ++ o)) (r ++ numbered (body_from P) body) =
       IsPermutation-trans (h ++ (r ++ o)) ((r ++ o) ++ h) (r ++ numbered (body_from P) body) (IsPermutation-append_comm h (r ++ o))
       (subst (λ l. IsPermutation l (r ++ numbered (body_from P) body)) (sym (append_assoc r o h))
-      (IsPermutation-append_right r (o ++ h) (numbered (body_from P) body) (own_all counted P P.body halvable typed (root_request P) (body_from P)))) in
+      (IsPermutation-append_right r (o ++ h) (numbered (body_from P) body) (own_all counted P P.body typed (root_request P) (body_from P)))) in
       let number : 0 + length front_rules ≡ root_request P = omega (arith, front_long) in
       let split : front ++ (r ++ numbered (body_from P) body) ≡ numbered 0 (all_rules P) =
       ap (λ l. front ++ l) (sym (numbered_append (root_request P) root_rules body))
@@ -171,7 +170,7 @@ module _ (counted : Counted) (P : TypedProgram) (halvable : IsHalvable P.body) (
     behind_hidden : Values v u (root_request Q) (numbered (root_request P) root_rules ++ own P P.body (root_request P) (body_from P))
     behind_hidden = subst (λ k. Values v u k (numbered (root_request P) root_rules ++ own P P.body (root_request P) (body_from P))) (sym root_there)
         (values_right v u (root_request P) (blocks hs) (hidden P P.body (body_from P))
-        (numbered (root_request P) root_rules ++ own P P.body (root_request P) (body_from P)) (hidden_long counted P P.body halvable typed (body_from P))
+        (numbered (root_request P) root_rules ++ own P P.body (root_request P) (body_from P)) (hidden_long counted P P.body typed (body_from P))
         behind_front)
 
     in_root : (i : ℕ) → i < 2 → v (root_request P + i) ≡ u (root_request Q + i)
@@ -194,20 +193,20 @@ module _ (counted : Counted) (P : TypedProgram) (halvable : IsHalvable P.body) (
     latch = in_root v u values 1 (omega arith)
 
     answer : v (body_answer P) ≡ u (body_answer Q)
-    answer = answers_same counted P v u low some (length P.vars) P.body halvable typed plain (root_request P) (body_from P) (root_request Q) (body_from Q)
+    answer = answers_same counted P v u low some (length P.vars) P.body typed plain (root_request P) (body_from P) (root_request Q) (body_from Q)
         (root_request P) where_hidden start (in_hidden v u values) (in_own v u values)
 
     sends : (k i : ℕ) (one : Bool) → i < channel_width P.channels k → at_sites v i one (in_body P (send_site k)) ≡ at_sites u i one (in_body Q (send_site k))
-    sends k i one l = lines_same counted P v u (of_channel k) tt i one l (length P.vars) P.body halvable typed plain (omega arith) (root_request P) (body_from P)
+    sends k i one l = lines_same counted P v u (of_channel k) tt i one l (length P.vars) P.body typed plain (omega arith) (root_request P) (body_from P)
         (body_from Q) (in_own v u values)
 
     writes : (x i : ℕ) (one : Bool) → x < length P.vars → i < var_width P.vars x
         → at_sites v i one (in_body P (write_site P x)) ≡ at_sites u i one (in_body Q (write_site Q x))
-    writes x i one h l = lines_same counted P v u (of_var x) h i one l (length P.vars) P.body halvable typed plain (omega arith) (root_request P) (body_from P)
+    writes x i one h l = lines_same counted P v u (of_var x) h i one l (length P.vars) P.body typed plain (omega arith) (root_request P) (body_from P)
         (body_from Q) (in_own v u values)
 
     takes_all : (k : ℕ) → map v (in_body P (receive_site k)) ≡ map u (in_body Q (receive_site k))
-    takes_all k = takers_same counted P v u k (length P.vars) P.body halvable typed plain (omega arith) (root_request P) (body_from P)
+    takes_all k = takers_same counted P v u k (length P.vars) P.body typed plain (omega arith) (root_request P) (body_from P)
         (body_from Q) (in_own v u values)
 
     rails_alike : (k place n : ℕ) → place + n ≤ channel_width P.channels k
@@ -309,7 +308,7 @@ module _ (counted : Counted) (P : TypedProgram) (halvable : IsHalvable P.body) (
           ),
         ))
         (joined h (r ++ o) (vars_rules Q (length P.vars) hs) (root_of_q ++ there)
-        (hidden_alike counted P v u (length P.vars) P.body halvable typed plain (omega arith) (root_request P) (body_from P) (body_from Q) (root_request P)
+        (hidden_alike counted P v u (length P.vars) P.body typed plain (omega arith) (root_request P) (body_from P) (body_from Q) (root_request P)
         where_hidden (in_hidden v u values) (in_own v u values) (λ y a b. refl))
         (joined r o root_of_q there
         (as_numbered (root_request P) root_rules root_of_q (
@@ -317,5 +316,5 @@ module _ (counted : Counted) (P : TypedProgram) (halvable : IsHalvable P.body) (
           same_high v u (root_latch P) (root_latch Q) latch,
           (same_high v u (body_answer P) (body_answer Q) answer, same_low v u go_node go_node go_same, tt),
         ))
-        (own_alike counted P v u low some (length P.vars) P.body halvable typed plain (root_request P) (body_from P) (root_request Q) (body_from Q)
+        (own_alike counted P v u low some (length P.vars) P.body typed plain (root_request P) (body_from P) (root_request Q) (body_from Q)
         (root_request P) where_hidden start (in_hidden v u values) (in_own v u values)))))

@@ -40,11 +40,11 @@ pub each_count : (n : ℕ) (members : Processes) → member_count (halved_each n
 each_count n no_members = refl
 each_count n (and_member p more) = ap suc (each_count (n + length (hidden_vars p)) more)
 
-choices_count : (n : ℕ) (choices : Choices) → choice_count (halved_choices n choices) ≡ choice_count choices
+pub choices_count : (n : ℕ) (choices : Choices) → choice_count (halved_choices n choices) ≡ choice_count choices
 choices_count n no_choices = refl
 choices_count n (and_choice g p more) = ap suc (choices_count (n + length (hidden_vars p)) more)
 
-guards_same : (n : ℕ) (choices : Choices) → guards_size (halved_choices n choices) ≡ guards_size choices
+pub guards_same : (n : ℕ) (choices : Choices) → guards_size (halved_choices n choices) ≡ guards_size choices
 guards_same n no_choices = refl
 guards_same n (and_choice g p more) = ap (λ k. formula_size g + k) (guards_same (n + length (hidden_vars p)) more)
 
@@ -95,7 +95,7 @@ mutual
       let l = blocks_append (hidden_vars p) (hidden_in_each more) in
       omega arith
 
-  bodies_halved : (P Q : TypedProgram) → P.channels ≡ Q.channels → (n : ℕ) (choices : Choices) → AreChoices P.channels P.vars choices
+  pub bodies_halved : (P Q : TypedProgram) → P.channels ≡ Q.channels → (n : ℕ) (choices : Choices) → AreChoices P.channels P.vars choices
       → ChoicesReadNoTarget (halved_choices n choices) → bodies_size P choices ≡ bodies_size Q (halved_choices n choices) + blocks (hidden_in_choices choices)
   bodies_halved P Q same n no_choices typed plain = omega arith
   bodies_halved P Q same n (and_choice g p more) typed plain =

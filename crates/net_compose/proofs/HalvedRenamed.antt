@@ -9,18 +9,19 @@ use Rattle.prs_core.specs.Nets.{NodeRules, NetValue, net_of, up_of, down_of}
 use Rattle.prs_core.specs.Pairs.{pairs_from, rails_of, no_rules}
 use Rattle.prs_core.specs.Moves.{high, guard_holds}
 use Rattle.width_check.specs.declared.typed.Var.{Var}
-use Rattle.width_check.specs.Processes.{Formula, Process, skipping, assigning, sending, receiving, in_turn, side_by_side, choosing, repeating, Processes, no_members, and_member, TypedProgram}
+use Rattle.width_check.specs.Processes.{Formula, Process, skipping, assigning, sending, receiving, in_turn, side_by_side, choosing, repeating, Processes, no_members, and_member, TypedProgram, Choices, no_choices, and_choice, choice_count}
 use Rattle.width_check.specs.Reads.{reads}
 use Rattle.width_check.specs.Values.{width_of}
 use Rattle.width_check.proofs.Bounds.{width_some}
-use Rattle.width_check.specs.Typing.{channel_width, var_width, IsOfWidth, IsProcess, AreProcesses}
-use Rattle.handshake_expand.specs.Layout.{block_size, size_of, channel_from, var_from, root_request, body_from, nodes_of}
+use Rattle.width_check.specs.Typing.{channel_width, var_width, IsOfWidth, IsProcess, AreProcesses, AreChoices}
+use Rattle.handshake_expand.specs.Layout.{block_size, size_of, channel_from, var_from, root_request, body_from, nodes_of, guards_size}
 use Rattle.handshake_expand.specs.Named.{node_names}
 use Rattle.cell_variable.specs.Variables.{high_first}
 use Rattle.function_blocks.specs.Expressions.{formula_result}
-use Rattle.circuit_places.specs.Covered.{IsHalvable, AreHalvable, IsCovered}
-use Rattle.chp_meaning.specs.Halves.{hidden_of, hidden_vars, hidden_in_each, halved, halved_program, ReadsNoTarget}
-use Rattle.net_compose.specs.Translation.{translation, composed, all_rules, in_body, sites_in, sites_in_turn, sites_in_branches, hidden_high, vars_high, first_values, wires_from, rails_at, ack_at}
+use Rattle.circuit_places.specs.Covered.{IsCovered}
+use Rattle.chp_meaning.specs.Halves.{hidden_of, hidden_vars, hidden_in_each, halved, halved_program, ReadsNoTarget, hidden_in_choices, halved_choices, ChoicesReadNoTarget}
+use Rattle.handshake_expand.specs.Answers.{guards_from, bodies_from, select_own, again_own}
+use Rattle.net_compose.specs.Translation.{translation, composed, all_rules, in_body, sites_in, sites_in_turn, sites_in_branches, hidden_high, vars_high, first_values, wires_from, rails_at, ack_at, sites_in_bodies}
 use Rattle.net_compose.proofs.Sizes.{Counted, all_length}
 use Rattle.net_compose.proofs.FlatTrees.{rules_at}
 use Rattle.net_compose.proofs.FlatWires.{wires_below}
@@ -29,7 +30,7 @@ use Rattle.net_compose.proofs.FlatFirst.{member, raised_is, length-raised, high_
 use Rattle.net_compose.proofs.FlatNet.{up_told, down_told}
 use Rattle.net_compose.proofs.CoveredCarried.{none_hidden}
 use Rattle.net_compose.proofs.HalvedNumbers.{blocks}
-use Rattle.net_compose.proofs.HalvedNodes.{Numbered, hidden, hidden_turn, hidden_branches, hidden_assign, hidden_rules}
+use Rattle.net_compose.proofs.HalvedNodes.{Numbered, hidden, hidden_turn, hidden_branches, hidden_assign, hidden_rules, hidden_bodies}
 use Rattle.net_compose.proofs.NumberedOnce.{node_in, standing, one_place}
 use Rattle.net_compose.proofs.HalvedAlike.{Values, rules_in, values_left, values_right, values_at, declared_from, HiddenAt, hidden_at_left, hidden_at_right, hidden_long}
 use Rattle.net_compose.proofs.HalvedNet.{rules_in_at, values_from, order, order_all, all_long, order_long, renamed, nodes_there, where_hidden, below_root, in_hidden, order_alike}
@@ -114,34 +115,34 @@ pub same_wires : (P : TypedProgram) (k : ℕ) (cs : List Channel) → wires_from
 same_wires P k [] = refl
 same_wires P k (c ∷ cs) = ap (λ l. record { channel = c; rails = rails_of (rails_at P k); ack = ack_at P k } ∷ l) (same_wires P (suc k) cs)
 
-module _ (counted : Counted) (P : TypedProgram) (halvable : IsHalvable P.body) (typed : IsProcess P.channels P.vars P.body)
+module _ (counted : Counted) (P : TypedProgram) (typed : IsProcess P.channels P.vars P.body)
     (plain : ReadsNoTarget (halved (length P.vars) P.body)) (some : (y : ℕ) → y < length P.vars → 1 ≤ var_width P.vars y) where
   abbrev Q : TypedProgram
   Q = halved_program P
 
   abbrev f : ℕ → ℕ
-  f = renamed counted P halvable typed plain some
+  f = renamed counted P typed plain some
 
   abbrev nodes : List Numbered
-  nodes = order counted P halvable typed plain some
+  nodes = order counted P typed plain some
 
   f_below : (n : ℕ) → n < nodes_of P → f n < nodes_of P
   f_below n l =
-      let o = order_long counted P halvable typed plain some in
-      let a = all_long counted P halvable typed plain some in
-      let w = (node_in nodes (all_rules P) (order_all counted P halvable typed plain some) n (omega (arith, l, o))).within in
+      let o = order_long counted P typed plain some in
+      let a = all_long counted P typed plain some in
+      let w = (node_in nodes (all_rules P) (order_all counted P typed plain some) n (omega (arith, l, o))).within in
       omega (arith, w, a)
 
   f_apart : (n m : ℕ) → n < nodes_of P → m < nodes_of P → f n ≡ f m → n ≡ m
   f_apart n m h l e =
-      let o = order_long counted P halvable typed plain some in
-      one_place nodes (all_rules P) (order_all counted P halvable typed plain some) n m (omega (arith, h, o)) (omega (arith, l, o)) e
+      let o = order_long counted P typed plain some in
+      one_place nodes (all_rules P) (order_all counted P typed plain some) n m (omega (arith, h, o)) (omega (arith, l, o)) e
 
   f_back : (m : ℕ) → m < nodes_of P → (n : ℕ) × (n < nodes_of P) × (f n ≡ m)
   f_back m l =
-      let o = order_long counted P halvable typed plain some in
-      let a = all_long counted P halvable typed plain some in
-      let r = standing nodes (all_rules P) (order_all counted P halvable typed plain some) m (omega (arith, l, a)) in
+      let o = order_long counted P typed plain some in
+      let a = all_long counted P typed plain some in
+      let r = standing nodes (all_rules P) (order_all counted P typed plain some) m (omega (arith, l, a)) in
       let w = r.within in
       (r.place, omega (arith, w, o), r.is)
 
@@ -150,11 +151,11 @@ module _ (counted : Counted) (P : TypedProgram) (halvable : IsHalvable P.body) (
   numbers = values_from (λ n. n) f 0 nodes (λ i l. ap f (let z : i ≡ 0 + i = omega arith in z))
 
   f_still : (n : ℕ) → n < root_request P → f n ≡ n
-  f_still n l = sym (below_root counted P halvable typed plain some (λ n. n) f numbers n l)
+  f_still n l = sym (below_root counted P typed plain some (λ n. n) f numbers n l)
 
   values_of : (v u : ℕ → Bool) → ((n : ℕ) → n < nodes_of P → v (f n) ≡ u n) → Values v u 0 nodes
   values_of v u h = values_from v u 0 nodes
-      (λ i l. let o = order_long counted P halvable typed plain some in
+      (λ i l. let o = order_long counted P typed plain some in
       h i (omega (arith, l, o)) ∙ ap u (let z : i ≡ 0 + i = omega arith in z))
 
   -- the guards
@@ -162,9 +163,9 @@ module _ (counted : Counted) (P : TypedProgram) (halvable : IsHalvable P.body) (
       → (guard_holds v (up_of (translation P) (f n)) ≡ guard_holds u (up_of (translation Q) n)) ×
       (guard_holds v (down_of (translation P) (f n)) ≡ guard_holds u (down_of (translation Q) n))
   guards_same v u h n l =
-      let o = order_long counted P halvable typed plain some in
-      let at = rules_at v u (rules_in nodes) (all_rules Q) (order_alike counted P halvable typed plain some v u (values_of v u h)) n in
-      let here = (node_in nodes (all_rules P) (order_all counted P halvable typed plain some) n (omega (arith, l, o))).is ∙ sym (rules_in_at nodes n) in (
+      let o = order_long counted P typed plain some in
+      let at = rules_at v u (rules_in nodes) (all_rules Q) (order_alike counted P typed plain some v u (values_of v u h)) n in
+      let here = (node_in nodes (all_rules P) (order_all counted P typed plain some) n (omega (arith, l, o))).is ∙ sym (rules_in_at nodes n) in (
         ap (guard_holds v) (up_told (all_rules P) (f n) ∙ ap (λ (r : NodeRules). r.up) here) ∙ (at.0 ∙ ap (guard_holds u) (sym (up_told (all_rules Q) n))),
         ap (guard_holds v) (down_told (all_rules P) (f n) ∙ ap (λ (r : NodeRules). r.down) here) ∙ (at.1 ∙ ap (guard_holds u) (sym (down_told (all_rules Q) n))),
       )
@@ -210,25 +211,26 @@ module _ (counted : Counted) (P : TypedProgram) (halvable : IsHalvable P.body) (
       hidden_rules_long x e from = length-variable_rules (var_width P.vars x) from (formula_result e (from + block_size (var_width P.vars x) + 3 + 1) ∷ [])
 
   mutual
-    hidden_highs : (n : ℕ) (p : Process) → IsHalvable p → IsProcess P.channels P.vars p → (from block : ℕ) → HiddenAt counted P n (hidden_vars p) block
+    hidden_highs : (n : ℕ) (p : Process) → IsProcess P.channels P.vars p → (from block : ℕ) → HiddenAt counted P n (hidden_vars p) block
         → Values (λ n. n) f block (hidden P p from) → map f (vars_high Q n (hidden_vars p)) ≡ sites_in P (hidden_high P) p from
-    hidden_highs n skipping h t from block at stored = refl
-    hidden_highs n (assigning x s e) h t from block at stored = hidden_assign_highs n x e (reads x e) t.1 from block at stored
-    hidden_highs n (sending chan s e) h t from block at stored = refl
-    hidden_highs n (receiving chan s x to) h t from block at stored = refl
-    hidden_highs n (in_turn members) h t from block at stored = turn_highs n members h t.1 from block at stored
-    hidden_highs n (side_by_side members) h t from block at stored = branches_highs n members h t.1 from block at stored
-    hidden_highs n (repeating p) h t from block at stored = hidden_highs n p h t (from + 2) block at stored
-    hidden_highs n (choosing again choices) h t from block at stored = absurd h
+    hidden_highs n skipping t from block at stored = refl
+    hidden_highs n (assigning x s e) t from block at stored = hidden_assign_highs n x e (reads x e) t.1 from block at stored
+    hidden_highs n (sending chan s e) t from block at stored = refl
+    hidden_highs n (receiving chan s x to) t from block at stored = refl
+    hidden_highs n (in_turn members) t from block at stored = turn_highs n members t.1 from block at stored
+    hidden_highs n (side_by_side members) t from block at stored = branches_highs n members t.1 from block at stored
+    hidden_highs n (repeating p) t from block at stored = hidden_highs n p t (from + 2) block at stored
+    hidden_highs n (choosing false choices) t from block at stored = bodies_highs n choices t.2 (bodies_from choices select_own from) block at stored
+    hidden_highs n (choosing true choices) t from block at stored = bodies_highs n choices t.2 (bodies_from choices again_own from) block at stored
 
-    turn_highs : (n : ℕ) (members : Processes) → AreHalvable members → AreProcesses P.channels P.vars members → (from block : ℕ)
+    turn_highs : (n : ℕ) (members : Processes) → AreProcesses P.channels P.vars members → (from block : ℕ)
         → HiddenAt counted P n (hidden_in_each members) block → Values (λ n. n) f block (hidden_turn P members from)
         → map f (vars_high Q n (hidden_in_each members)) ≡ sites_in_turn P (hidden_high P) members from
-    turn_highs n no_members h t from block at stored = refl
-    turn_highs n (and_member p no_members) h t from block at stored =
+    turn_highs n no_members t from block at stored = refl
+    turn_highs n (and_member p no_members) t from block at stored =
         ap (λ l. map f (vars_high Q n l)) (append-nil (hidden_vars p))
-        ∙ hidden_highs n p h.0 t.0 from block (hidden_at_left counted P n (hidden_vars p) [] block at) stored
-    turn_highs n (and_member p (and_member q more)) h t from block at stored =
+        ∙ hidden_highs n p t.0 from block (hidden_at_left counted P n (hidden_vars p) [] block at) stored
+    turn_highs n (and_member p (and_member q more)) t from block at stored =
         let mine = hidden P p (from + 3) in
         let others = hidden_turn P (and_member q more) (from + 3 + size_of P p) in
         let rest = hidden_in_each (and_member q more) in
@@ -236,17 +238,17 @@ module _ (counted : Counted) (P : TypedProgram) (halvable : IsHalvable P.body) (
         ap (λ l. map f l) (vars_high_append Q n (hidden_vars p) rest)
         ∙ (map-append f (vars_high Q n (hidden_vars p)) (vars_high Q k rest)
         ∙ (ap (λ l. l ++ map f (vars_high Q k rest))
-        (hidden_highs n p h.0 t.0 (from + 3) block (hidden_at_left counted P n (hidden_vars p) rest block at) (values_left (λ n. n) f block mine others stored))
+        (hidden_highs n p t.0 (from + 3) block (hidden_at_left counted P n (hidden_vars p) rest block at) (values_left (λ n. n) f block mine others stored))
         ∙ ap (λ l. sites_in P (hidden_high P) p (from + 3) ++ l)
-        (turn_highs k (and_member q more) h.1 t.1 (from + 3 + size_of P p) (block + blocks (hidden_vars p))
+        (turn_highs k (and_member q more) t.1 (from + 3 + size_of P p) (block + blocks (hidden_vars p))
         (hidden_at_right counted P n (hidden_vars p) rest block at)
-        (values_right (λ n. n) f block (blocks (hidden_vars p)) mine others (hidden_long counted P p h.0 t.0 (from + 3)) stored))))
+        (values_right (λ n. n) f block (blocks (hidden_vars p)) mine others (hidden_long counted P p t.0 (from + 3)) stored))))
 
-    branches_highs : (n : ℕ) (members : Processes) → AreHalvable members → AreProcesses P.channels P.vars members → (from block : ℕ)
+    branches_highs : (n : ℕ) (members : Processes) → AreProcesses P.channels P.vars members → (from block : ℕ)
         → HiddenAt counted P n (hidden_in_each members) block → Values (λ n. n) f block (hidden_branches P members from)
         → map f (vars_high Q n (hidden_in_each members)) ≡ sites_in_branches P (hidden_high P) members from
-    branches_highs n no_members h t from block at stored = refl
-    branches_highs n (and_member p more) h t from block at stored =
+    branches_highs n no_members t from block at stored = refl
+    branches_highs n (and_member p more) t from block at stored =
         let mine = hidden P p (from + 3) in
         let others = hidden_branches P more (from + 3 + size_of P p) in
         let rest = hidden_in_each more in
@@ -254,11 +256,29 @@ module _ (counted : Counted) (P : TypedProgram) (halvable : IsHalvable P.body) (
         ap (λ l. map f l) (vars_high_append Q n (hidden_vars p) rest)
         ∙ (map-append f (vars_high Q n (hidden_vars p)) (vars_high Q k rest)
         ∙ (ap (λ l. l ++ map f (vars_high Q k rest))
-        (hidden_highs n p h.0 t.0 (from + 3) block (hidden_at_left counted P n (hidden_vars p) rest block at) (values_left (λ n. n) f block mine others stored))
+        (hidden_highs n p t.0 (from + 3) block (hidden_at_left counted P n (hidden_vars p) rest block at) (values_left (λ n. n) f block mine others stored))
         ∙ ap (λ l. sites_in P (hidden_high P) p (from + 3) ++ l)
-        (branches_highs k more h.1 t.1 (from + 3 + size_of P p) (block + blocks (hidden_vars p))
+        (branches_highs k more t.1 (from + 3 + size_of P p) (block + blocks (hidden_vars p))
         (hidden_at_right counted P n (hidden_vars p) rest block at)
-        (values_right (λ n. n) f block (blocks (hidden_vars p)) mine others (hidden_long counted P p h.0 t.0 (from + 3)) stored))))
+        (values_right (λ n. n) f block (blocks (hidden_vars p)) mine others (hidden_long counted P p t.0 (from + 3)) stored))))
+
+    bodies_highs : (n : ℕ) (choices : Choices) → AreChoices P.channels P.vars choices → (from block : ℕ)
+        → HiddenAt counted P n (hidden_in_choices choices) block → Values (λ n. n) f block (hidden_bodies P choices from)
+        → map f (vars_high Q n (hidden_in_choices choices)) ≡ sites_in_bodies P (hidden_high P) choices from
+    bodies_highs n no_choices t from block at stored = refl
+    bodies_highs n (and_choice g p more) t from block at stored =
+        let mine = hidden P p from in
+        let others = hidden_bodies P more (from + size_of P p) in
+        let rest = hidden_in_choices more in
+        let k = n + length (hidden_vars p) in
+        ap (λ l. map f l) (vars_high_append Q n (hidden_vars p) rest)
+        ∙ (map-append f (vars_high Q n (hidden_vars p)) (vars_high Q k rest)
+        ∙ (ap (λ l. l ++ map f (vars_high Q k rest))
+        (hidden_highs n p t.1 from block (hidden_at_left counted P n (hidden_vars p) rest block at) (values_left (λ n. n) f block mine others stored))
+        ∙ ap (λ l. sites_in P (hidden_high P) p from ++ l)
+        (bodies_highs k more t.2 (from + size_of P p) (block + blocks (hidden_vars p))
+        (hidden_at_right counted P n (hidden_vars p) rest block at)
+        (values_right (λ n. n) f block (blocks (hidden_vars p)) mine others (hidden_long counted P p t.1 from) stored))))
 
   module _ (covered : IsCovered (halved (length P.vars) P.body)) where
     abbrev highs : List ℕ
@@ -276,8 +296,8 @@ module _ (counted : Counted) (P : TypedProgram) (halvable : IsHalvable P.body) (
         ∙ (ap (λ l. l ++ map f (vars_high Q (length P.vars) hs))
         (declared_highs 0 P.vars (z (length P.vars)) (λ j l. ap (var_width P.vars) (sym (z j))))
         ∙ ap (λ l. vars_high P 0 P.vars ++ l)
-        (hidden_highs (length P.vars) P.body halvable typed (body_from P) (root_request P) (where_hidden counted P halvable typed plain some)
-        (in_hidden counted P halvable typed plain some (λ n. n) f numbers))))
+        (hidden_highs (length P.vars) P.body typed (body_from P) (root_request P) (where_hidden counted P typed plain some)
+        (in_hidden counted P typed plain some (λ n. n) f numbers))))
 
     first_is : (R : TypedProgram) (n : ℕ) → n < nodes_of R → high (first_values R) n ≡ member n (vars_high R 0 R.vars ++ in_body R (hidden_high R))
     first_is R n l =
@@ -295,7 +315,7 @@ module _ (counted : Counted) (P : TypedProgram) (halvable : IsHalvable P.body) (
         let b = blocks_below Q.vars r.var r.some in
         let less = r.below in
         let s = side_least r.one in
-        let there = nodes_there counted P halvable typed plain some in
+        let there = nodes_there counted P typed plain some in
         omega (arith, at, b, less, s, there)
       where
         side_least : (one : Bool) → side one < 2
@@ -304,7 +324,7 @@ module _ (counted : Counted) (P : TypedProgram) (halvable : IsHalvable P.body) (
 
     firsts_same : (n : ℕ) → n < nodes_of P → high (first_values P) (f n) ≡ high (first_values Q) n
     firsts_same n l =
-        let there = nodes_there counted P halvable typed plain some in
+        let there = nodes_there counted P typed plain some in
         first_is P (f n) (f_below n l)
         ∙ (ap (λ xs. member (f n) xs) (sym highs_are)
         ∙ (same_truth (member (f n) (map f highs_there)) (member n highs_there)
@@ -323,8 +343,8 @@ module _ (counted : Counted) (P : TypedProgram) (halvable : IsHalvable P.body) (
     module _ (typed_there : IsProcess Q.channels Q.vars Q.body) where
       pub is_renaming : IsRenaming (translation P) net_there f (nodes_of P) (root_request P)
       is_renaming =
-          let there = nodes_there counted P halvable typed plain some in
-          let a = all_long counted P halvable typed plain some in
+          let there = nodes_there counted P typed plain some in
+          let a = all_long counted P typed plain some in
           let b = all_length counted Q typed_there in
           record {
             below = f_below;

@@ -1,33 +1,34 @@
 -- Where the nodes of two nets have the same values as in HalvedAlike, so have the sites of each channel and of each declared
 -- variable; and a hidden variable has one site, the expression of its assignment.
-use Rattle.std.proofs.Common.{◌≡◌, ℕ, zero, suc, ◌+◌, ◌-◌, ◌*◌, ◌<◌, ◌≤◌, ◌==◌, Bool, true, false, List, [], ◌∷◌, ◌++◌, map, length, refl, sym, ap, ◌∙◌, arith, length-append}
+use Rattle.std.proofs.Common.{◌≡◌, ℕ, zero, suc, ◌+◌, ◌-◌, ◌*◌, ◌<◌, ◌≤◌, ◌==◌, Bool, true, false, List, [], ◌∷◌, ◌++◌, map, length, refl, subst, sym, ap, ◌∙◌, arith, length-append}
 use Rattle.std.specs.Prelude.{if◌then◌else◌}
 use Rattle.std.proofs.lemmas.Bool.{eqb-true, ne_eqb}
+use Rattle.prs_core.specs.Nets.{NodeRules}
 use Rattle.prs_core.specs.Pairs.{Pair, pairs_from, no_rules}
 use Rattle.cell_sequence.specs.Sequence.{loop_request}
 use Rattle.cell_channel.specs.Ends.{port_rules}
 use Rattle.cell_parallel.specs.Trees.{tree_rules}
 use Rattle.prs_core.specs.Sites.{site_answer}
 use Rattle.chp_base.specs.declared.span.Span.{Span}
-use Rattle.width_check.specs.Processes.{Formula, Process, skipping, assigning, sending, receiving, in_turn, side_by_side, choosing, repeating, Processes, no_members, and_member, TypedProgram}
+use Rattle.width_check.specs.Processes.{Formula, Process, skipping, assigning, sending, receiving, in_turn, side_by_side, choosing, repeating, Processes, no_members, and_member, TypedProgram, Choices, no_choices, and_choice, choice_count}
 use Rattle.width_check.specs.Reads.{reads}
 use Rattle.width_check.specs.Values.{width_of}
 use Rattle.width_check.proofs.Bounds.{width_some}
-use Rattle.width_check.specs.Typing.{channel_width, var_width, IsOfWidth, IsProcess, AreProcesses}
-use Rattle.handshake_expand.specs.Layout.{formula_size, block_size, size_of, branches_size, channel_from, through_size}
-use Rattle.handshake_expand.specs.Answers.{answer_of}
+use Rattle.width_check.specs.Typing.{channel_width, var_width, IsOfWidth, IsProcess, AreProcesses, AreChoices}
+use Rattle.handshake_expand.specs.Layout.{formula_size, block_size, size_of, branches_size, channel_from, through_size, guards_size}
+use Rattle.handshake_expand.specs.Answers.{answer_of, guards_from, bodies_from, select_own, again_own}
 use Rattle.function_blocks.specs.Expressions.{read_bits, formula_rules, formula_result}
 use Rattle.function_blocks.specs.Listed.{rail_place}
 use Rattle.function_blocks.proofs.Sizes.{rules_length}
 use Rattle.circuit_places.specs.Lines.{Line, of_channel, of_var, line_width}
-use Rattle.chp_meaning.specs.Halves.{hidden_vars, read_back, in_halves, halved_assign, halved, halved_each, halved_program, ReadsNoTarget, EachReadsNoTarget}
-use Rattle.circuit_places.specs.Covered.{IsHalvable, AreHalvable}
-use Rattle.net_compose.specs.Translation.{bits_at, q_rules, sites_in, sites_in_turn, sites_in_branches, Sites, branch_ends, branches_end, block_bits, ack_at, rules_of, send_site, receive_site, write_site, assigned_rails, through_at, in_body, vars_rules}
+use Rattle.chp_meaning.specs.Halves.{hidden_vars, read_back, in_halves, halved_assign, halved, halved_each, halved_program, ReadsNoTarget, EachReadsNoTarget, hidden_in_choices, halved_choices, ChoicesReadNoTarget}
+use Rattle.net_compose.proofs.HalvedNumbers.{choices_count, guards_same}
+use Rattle.net_compose.specs.Translation.{bits_at, q_rules, sites_in, sites_in_turn, sites_in_branches, Sites, branch_ends, branches_end, block_bits, ack_at, rules_of, send_site, receive_site, write_site, assigned_rails, through_at, in_body, vars_rules, sites_in_bodies}
 use Rattle.net_compose.specs.Translation as net
 use Rattle.net_compose.proofs.Sizes.{Counted, block_length, has_bits}
 use Rattle.net_compose.proofs.FlatSites.{at_sites, at_append, mapped_append, line_site, pair_place}
 use Rattle.net_compose.proofs.FlatCells.{rail_place_lt}
-use Rattle.net_compose.proofs.HalvedNodes.{numbered, own, own_turn, own_branches, own_assign, behind_block}
+use Rattle.net_compose.proofs.HalvedNodes.{numbered, own, own_turn, own_branches, own_assign, behind_block, length-numbered, own_bodies, select_front, again_front, select_long, again_long}
 use Rattle.net_compose.proofs.SameValues.{results_alike}
 use Rattle.net_compose.proofs.HalvedAlike.{Values, values_left, values_right, values_at, own_long}
 
@@ -152,6 +153,19 @@ module _ (counted : Counted) (P : TypedProgram) where
             ∙ ap (λ (b : Bool). at_sites u i one ((if b then net.read_back (through_at (var_width Q.vars z) (formula_size (read_back n e at)) there) else
             formula_result (read_back n e at) (there + 1)) ∷ [])) (sym (ap (λ m. reads m (read_back n e at)) (sym same) ∙ plain.1.0)))
 
+  -- the branches of a selection stand behind its own nodes and its guards
+  pub in_branches : {A : Type 0} (v u : ℕ → A) (n : ℕ) (choices : Choices) (o from to : ℕ) (front : List NodeRules)
+      → length front ≡ o + 2 * choice_count choices + guards_size choices
+      → Values v u to (numbered from front ++ own_bodies P choices (from + o + choice_count choices) (bodies_from choices o from))
+      → Values v u (bodies_from (halved_choices n choices) o to) (own_bodies P choices (from + o + choice_count choices) (bodies_from choices o from))
+  in_branches v u n choices o from to front long nodes =
+      let bodies = own_bodies P choices (from + o + choice_count choices) (bodies_from choices o from) in
+      let c = choices_count n choices in
+      let g = guards_same n choices in
+      let z : to + (o + 2 * choice_count choices + guards_size choices) ≡ bodies_from (halved_choices n choices) o to = omega (arith, c, g) in
+      subst (λ k. Values v u k bodies) z
+      (values_right v u to (o + 2 * choice_count choices + guards_size choices) (numbered from front) bodies (length-numbered from front ∙ long) nodes)
+
   -- a statement that isn't made of others
   abbrev IsLeaf : Process → Type 0
   IsLeaf (in_turn members) = ⊥
@@ -169,28 +183,35 @@ module _ (counted : Counted) (P : TypedProgram) where
     two xs ys zs ws e f = a_append xs ys ∙ (ap (λ l. l ++ a ys) e ∙ (ap (λ l. b zs ++ l) f ∙ sym (b_append zs ws)))
 
     mutual
-      pub sites_same : (n : ℕ) (p : Process) → IsHalvable p → IsProcess P.channels P.vars p → ReadsNoTarget (halved n p) → length P.vars ≤ n
+      pub sites_same : (n : ℕ) (p : Process) → IsProcess P.channels P.vars p → ReadsNoTarget (halved n p) → length P.vars ≤ n
           → (r from to : ℕ) → Values v u to (own P p r from) → a (sites_in P here p from) ≡ b (sites_in Q there (halved n p) to)
-      sites_same n skipping h t plain above r from to nodes = leaf n skipping tt t plain above r from to nodes
-      sites_same n (assigning x at e) h t plain above r from to nodes = leaf n (assigning x at e) tt t plain above r from to nodes
-      sites_same n (sending chan at e) h t plain above r from to nodes = leaf n (sending chan at e) tt t plain above r from to nodes
-      sites_same n (receiving chan at x into) h t plain above r from to nodes = leaf n (receiving chan at x into) tt t plain above r from to nodes
-      sites_same n (in_turn members) h t plain above r from to nodes = turn_sites_same n members h t.1 plain above r from to nodes
-      sites_same n (side_by_side members) h t plain above r from to nodes =
-          branch_sites_same n members h t.1 plain above r from to
+      sites_same n skipping t plain above r from to nodes = leaf n skipping tt t plain above r from to nodes
+      sites_same n (assigning x at e) t plain above r from to nodes = leaf n (assigning x at e) tt t plain above r from to nodes
+      sites_same n (sending chan at e) t plain above r from to nodes = leaf n (sending chan at e) tt t plain above r from to nodes
+      sites_same n (receiving chan at x into) t plain above r from to nodes = leaf n (receiving chan at x into) tt t plain above r from to nodes
+      sites_same n (in_turn members) t plain above r from to nodes = turn_sites_same n members t.1 plain above r from to nodes
+      sites_same n (side_by_side members) t plain above r from to nodes =
+          branch_sites_same n members t.1 plain above r from to
           (values_left v u to (own_branches P members r from) (numbered (from + branches_size P members)
           (tree_rules (branch_ends P members from) (branches_end P members from))) nodes)
-      sites_same n (repeating p) h t plain above r from to nodes =
-          sites_same n p h t plain above (from + 1) (from + 2) (to + 2)
+      sites_same n (repeating p) t plain above r from to nodes =
+          sites_same n p t plain above (from + 1) (from + 2) (to + 2)
           (values_right v u to 2 (numbered from (no_rules ∷ loop_request r (answer_of P p (from + 2)) ∷ [])) (own P p (from + 1) (from + 2)) refl nodes)
-      sites_same n (choosing again choices) h t plain above r from to nodes = absurd h
+      sites_same n (choosing false choices) t plain above r from to nodes =
+          body_sites_same n choices t.2 plain above (from + select_own + choice_count choices) (bodies_from choices select_own from)
+          (bodies_from (halved_choices n choices) select_own to)
+          (in_branches v u n choices select_own from to (select_front P choices r from) (select_long counted P choices t r from) nodes)
+      sites_same n (choosing true choices) t plain above r from to nodes =
+          body_sites_same n choices t.2 plain above (from + again_own + choice_count choices) (bodies_from choices again_own from)
+          (bodies_from (halved_choices n choices) again_own to)
+          (in_branches v u n choices again_own from to (again_front P choices r from) (again_long counted P choices t r from) nodes)
 
-      turn_sites_same : (n : ℕ) (members : Processes) → AreHalvable members → AreProcesses P.channels P.vars members
+      turn_sites_same : (n : ℕ) (members : Processes) → AreProcesses P.channels P.vars members
           → EachReadsNoTarget (halved_each n members) → length P.vars ≤ n → (r from to : ℕ) → Values v u to (own_turn P members r from)
           → a (sites_in_turn P here members from) ≡ b (sites_in_turn Q there (halved_each n members) to)
-      turn_sites_same n no_members h t plain above r from to nodes = none
-      turn_sites_same n (and_member p no_members) h t plain above r from to nodes = sites_same n p h.0 t.0 plain.0 above r from to nodes
-      turn_sites_same n (and_member p (and_member q more)) h t plain above r from to nodes =
+      turn_sites_same n no_members t plain above r from to nodes = none
+      turn_sites_same n (and_member p no_members) t plain above r from to nodes = sites_same n p t.0 plain.0 above r from to nodes
+      turn_sites_same n (and_member p (and_member q more)) t plain above r from to nodes =
           let k = n + length (hidden_vars p) in
           let element = numbered from (q_rules r (answer_of P p (from + 3)) from) in
           let first = own P p from (from + 3) in
@@ -198,15 +219,15 @@ module _ (counted : Counted) (P : TypedProgram) where
           let parts = values_right v u to 3 element (first ++ later) refl nodes in
           two (sites_in P here p (from + 3)) (sites_in_turn P here (and_member q more) (from + 3 + size_of P p)) (sites_in Q there (halved n p) (to + 3))
           (sites_in_turn Q there (halved_each k (and_member q more)) (to + 3 + size_of Q (halved n p)))
-          (sites_same n p h.0 t.0 plain.0 above from (from + 3) (to + 3) (values_left v u (to + 3) first later parts))
-          (turn_sites_same k (and_member q more) h.1 t.1 plain.1 (omega (arith, above)) (from + 2) (from + 3 + size_of P p) (to + 3 + size_of Q (halved n p))
-          (values_right v u (to + 3) (size_of Q (halved n p)) first later (own_long counted P n p h.0 t.0 plain.0 from (from + 3)) parts))
+          (sites_same n p t.0 plain.0 above from (from + 3) (to + 3) (values_left v u (to + 3) first later parts))
+          (turn_sites_same k (and_member q more) t.1 plain.1 (omega (arith, above)) (from + 2) (from + 3 + size_of P p) (to + 3 + size_of Q (halved n p))
+          (values_right v u (to + 3) (size_of Q (halved n p)) first later (own_long counted P n p t.0 plain.0 from (from + 3)) parts))
 
-      branch_sites_same : (n : ℕ) (members : Processes) → AreHalvable members → AreProcesses P.channels P.vars members
+      branch_sites_same : (n : ℕ) (members : Processes) → AreProcesses P.channels P.vars members
           → EachReadsNoTarget (halved_each n members) → length P.vars ≤ n → (r from to : ℕ) → Values v u to (own_branches P members r from)
           → a (sites_in_branches P here members from) ≡ b (sites_in_branches Q there (halved_each n members) to)
-      branch_sites_same n no_members h t plain above r from to nodes = none
-      branch_sites_same n (and_member p more) h t plain above r from to nodes =
+      branch_sites_same n no_members t plain above r from to nodes = none
+      branch_sites_same n (and_member p more) t plain above r from to nodes =
           let k = n + length (hidden_vars p) in
           let element = numbered from (q_rules r (answer_of P p (from + 3)) from) in
           let first = own P p from (from + 3) in
@@ -214,9 +235,23 @@ module _ (counted : Counted) (P : TypedProgram) where
           let parts = values_right v u to 3 element (first ++ later) refl nodes in
           two (sites_in P here p (from + 3)) (sites_in_branches P here more (from + 3 + size_of P p)) (sites_in Q there (halved n p) (to + 3))
           (sites_in_branches Q there (halved_each k more) (to + 3 + size_of Q (halved n p)))
-          (sites_same n p h.0 t.0 plain.0 above from (from + 3) (to + 3) (values_left v u (to + 3) first later parts))
-          (branch_sites_same k more h.1 t.1 plain.1 (omega (arith, above)) r (from + 3 + size_of P p) (to + 3 + size_of Q (halved n p))
-          (values_right v u (to + 3) (size_of Q (halved n p)) first later (own_long counted P n p h.0 t.0 plain.0 from (from + 3)) parts))
+          (sites_same n p t.0 plain.0 above from (from + 3) (to + 3) (values_left v u (to + 3) first later parts))
+          (branch_sites_same k more t.1 plain.1 (omega (arith, above)) r (from + 3 + size_of P p) (to + 3 + size_of Q (halved n p))
+          (values_right v u (to + 3) (size_of Q (halved n p)) first later (own_long counted P n p t.0 plain.0 from (from + 3)) parts))
+
+      body_sites_same : (n : ℕ) (choices : Choices) → AreChoices P.channels P.vars choices → ChoicesReadNoTarget (halved_choices n choices)
+          → length P.vars ≤ n → (start from to : ℕ) → Values v u to (own_bodies P choices start from)
+          → a (sites_in_bodies P here choices from) ≡ b (sites_in_bodies Q there (halved_choices n choices) to)
+      body_sites_same n no_choices t plain above start from to nodes = none
+      body_sites_same n (and_choice g p more) t plain above start from to nodes =
+          let k = n + length (hidden_vars p) in
+          let first = own P p start from in
+          let later = own_bodies P more (start + 1) (from + size_of P p) in
+          two (sites_in P here p from) (sites_in_bodies P here more (from + size_of P p)) (sites_in Q there (halved n p) to)
+          (sites_in_bodies Q there (halved_choices k more) (to + size_of Q (halved n p)))
+          (sites_same n p t.1 plain.0 above start from to (values_left v u to first later nodes))
+          (body_sites_same k more t.2 plain.1 (omega (arith, above)) (start + 1) (from + size_of P p) (to + size_of Q (halved n p))
+          (values_right v u to (size_of Q (halved n p)) first later (own_long counted P n p t.1 plain.0 start from) nodes))
 
   -- the sites of a line, and the receives on a channel
   module _ (v u : ℕ → Bool) where
@@ -243,8 +278,7 @@ module _ (counted : Counted) (P : TypedProgram) where
     assign_site line d i one h n x at e above true is t plain r from to nodes =
         halves_alike v u i one line d h n x at e above is t plain r from to nodes
 
-    pub lines_same : (line : Line) → IsLine P line → (i : ℕ) (one : Bool) → i < line_width P line → (n : ℕ) (p : Process) → IsHalvable p
-        → IsProcess P.channels P.vars p → ReadsNoTarget (halved n p) → length P.vars ≤ n → (r from to : ℕ) → Values v u to (own P p r from)
+    pub lines_same : (line : Line) → IsLine P line → (i : ℕ) (one : Bool) → i < line_width P line → (n : ℕ) (p : Process) → IsProcess P.channels P.vars p → ReadsNoTarget (halved n p) → length P.vars ≤ n → (r from to : ℕ) → Values v u to (own P p r from)
         → at_sites v i one (sites_in P (line_site P line) p from) ≡ at_sites u i one (sites_in Q (line_site Q line) (halved n p) to)
     lines_same line d i one h = sites_same v u (at_sites v i one) (at_sites u i one) (at_append v i one) (at_append u i one) refl (line_site P line)
         (line_site Q line) leaf
@@ -270,7 +304,7 @@ module _ (counted : Counted) (P : TypedProgram) where
         leaf n (repeating p) is t plain above r from to nodes = absurd is
         leaf n (choosing again choices) is t plain above r from to nodes = absurd is
 
-    pub takers_same : (k : ℕ) (n : ℕ) (p : Process) → IsHalvable p → IsProcess P.channels P.vars p → ReadsNoTarget (halved n p) → length P.vars ≤ n
+    pub takers_same : (k : ℕ) (n : ℕ) (p : Process) → IsProcess P.channels P.vars p → ReadsNoTarget (halved n p) → length P.vars ≤ n
         → (r from to : ℕ) → Values v u to (own P p r from)
         → map v (sites_in P (receive_site k) p from) ≡ map u (sites_in Q (receive_site k) (halved n p) to)
     takers_same k = sites_same v u (map v) (map u) (mapped_append v) (mapped_append u) refl (receive_site k) (receive_site k) leaf

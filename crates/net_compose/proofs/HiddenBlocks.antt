@@ -7,28 +7,27 @@ use Rattle.prs_core.specs.Nets.{NodeRules}
 use Rattle.prs_core.specs.Pairs.{Pair, pairs_from, no_rules}
 use Rattle.chp_base.specs.declared.span.Span.{Span}
 use Rattle.width_check.specs.declared.typed.Var.{Var}
-use Rattle.width_check.specs.Processes.{Formula, Process, skipping, assigning, sending, receiving, in_turn, side_by_side, choosing, repeating, Processes, no_members, and_member, TypedProgram}
+use Rattle.width_check.specs.Processes.{Formula, Process, skipping, assigning, sending, receiving, in_turn, side_by_side, choosing, repeating, Processes, no_members, and_member, TypedProgram, Choices, no_choices, and_choice, choice_count}
 use Rattle.width_check.specs.Reads.{reads}
 use Rattle.width_check.specs.Values.{width_of}
-use Rattle.width_check.specs.Typing.{channel_width, var_width, IsOfWidth, IsProcess, AreProcesses}
-use Rattle.handshake_expand.specs.Layout.{formula_size, block_size, size_of, branches_size, var_from}
-use Rattle.handshake_expand.specs.Answers.{answer_of}
+use Rattle.width_check.specs.Typing.{channel_width, var_width, IsOfWidth, IsProcess, AreProcesses, AreChoices}
+use Rattle.handshake_expand.specs.Layout.{formula_size, block_size, size_of, branches_size, var_from, guards_size}
+use Rattle.handshake_expand.specs.Answers.{answer_of, guards_from, bodies_from, select_own, again_own}
 use Rattle.cell_sequence.specs.Sequence.{loop_request}
 use Rattle.cell_parallel.specs.Trees.{tree_rules}
 use Rattle.cell_variable.specs.Variables.{variable_rules}
 use Rattle.function_blocks.specs.Expressions.{formula_result}
-use Rattle.chp_meaning.specs.Halves.{hidden_of, hidden_vars, hidden_in_each, read_back, in_halves, halved_assign, halved, halved_each, halved_program, ReadsNoTarget, EachReadsNoTarget}
-use Rattle.circuit_places.specs.Covered.{IsHalvable, AreHalvable}
-use Rattle.net_compose.specs.Translation.{q_rules, branch_ends, branches_end, sites_in, sites_in_turn, sites_in_branches, write_site, assigned_rails, through_at, read_back as read_rails, in_body, vars_rules}
+use Rattle.chp_meaning.specs.Halves.{hidden_of, hidden_vars, hidden_in_each, read_back, in_halves, halved_assign, halved, halved_each, halved_program, ReadsNoTarget, EachReadsNoTarget, hidden_in_choices, halved_choices, ChoicesReadNoTarget}
+use Rattle.net_compose.specs.Translation.{q_rules, branch_ends, branches_end, sites_in, sites_in_turn, sites_in_branches, write_site, assigned_rails, through_at, read_back as read_rails, in_body, vars_rules, sites_in_bodies}
 use Rattle.net_compose.proofs.Sizes.{Counted}
 use Rattle.net_compose.proofs.FlatTrees.{RulesAlike, rules_append}
 use Rattle.net_compose.proofs.FlatSites.{at_site}
 use Rattle.net_compose.proofs.FlatBlocks.{length-variable_rules}
 use Rattle.net_compose.proofs.HalvedNumbers.{blocks}
-use Rattle.net_compose.proofs.HalvedNodes.{Numbered, numbered, own, own_turn, own_branches, own_assign, hidden, hidden_turn, hidden_branches, hidden_assign, behind_block, hidden_rules}
+use Rattle.net_compose.proofs.HalvedNodes.{Numbered, numbered, own, own_turn, own_branches, own_assign, hidden, hidden_turn, hidden_branches, hidden_assign, behind_block, hidden_rules, own_bodies, hidden_bodies, select_front, again_front, select_long, again_long}
 use Rattle.net_compose.proofs.SameValues.{blocks_alike}
 use Rattle.net_compose.proofs.HalvedAlike.{Values, rules_in, rules_in_append, rules_numbered, values_left, values_right, values_at, own_long, hidden_long, HiddenAt, hidden_at_left, hidden_at_right}
-use Rattle.net_compose.proofs.HalvedSites.{behind_long, result_here}
+use Rattle.net_compose.proofs.HalvedSites.{behind_long, result_here, in_branches}
 
 pub vars_rules_append : (P : TypedProgram) (n : ℕ) (xs ys : List Var) → vars_rules P n (xs ++ ys) ≡ vars_rules P n xs ++ vars_rules P (n + length xs) ys
 vars_rules_append P n [] ys = let e : n ≡ n + 0 = omega arith in ap (λ k. vars_rules P k ys) e
@@ -57,39 +56,50 @@ module _ (counted : Counted) (P : TypedProgram) where
       ∙ other_target y x to (assigned_rails Q x (read_back n e at) (to + 3 + size_of Q (assigning n at e))) declared above
 
   mutual
-    pub not_written : (x n : ℕ) (p : Process) → IsHalvable p → IsProcess P.channels P.vars p → length P.vars ≤ x
+    pub not_written : (x n : ℕ) (p : Process) → IsProcess P.channels P.vars p → length P.vars ≤ x
         → (n ≤ x → x < n + length (hidden_vars p) → ⊥) → (to : ℕ) → sites_in Q (write_site Q x) (halved n p) to ≡ []
-    not_written x n skipping h t above out to = refl
-    not_written x n (assigning y at e) h t above out to = assign_apart x n y at e (reads y e) t.0 above out to
-    not_written x n (sending chan at e) h t above out to = refl
-    not_written x n (receiving chan at y into) h t above out to =
+    not_written x n skipping t above out to = refl
+    not_written x n (assigning y at e) t above out to = assign_apart x n y at e (reads y e) t.0 above out to
+    not_written x n (sending chan at e) t above out to = refl
+    not_written x n (receiving chan at y into) t above out to =
         other_target y x to (pairs_from (channel_width P.channels chan) (to + 2)) t.target above
-    not_written x n (in_turn members) h t above out to = none_in_turn x n members h t.1 above out to
-    not_written x n (side_by_side members) h t above out to = none_in_branches x n members h t.1 above out to
-    not_written x n (repeating p) h t above out to = not_written x n p h t above out (to + 2)
-    not_written x n (choosing again choices) h t above out to = absurd h
+    not_written x n (in_turn members) t above out to = none_in_turn x n members t.1 above out to
+    not_written x n (side_by_side members) t above out to = none_in_branches x n members t.1 above out to
+    not_written x n (repeating p) t above out to = not_written x n p t above out (to + 2)
+    not_written x n (choosing false choices) t above out to = none_in_bodies x n choices t.2 above out (bodies_from (halved_choices n choices) select_own to)
+    not_written x n (choosing true choices) t above out to = none_in_bodies x n choices t.2 above out (bodies_from (halved_choices n choices) again_own to)
 
-    pub none_in_turn : (x n : ℕ) (members : Processes) → AreHalvable members → AreProcesses P.channels P.vars members → length P.vars ≤ x
+    pub none_in_turn : (x n : ℕ) (members : Processes) → AreProcesses P.channels P.vars members → length P.vars ≤ x
         → (n ≤ x → x < n + length (hidden_in_each members) → ⊥) → (to : ℕ) → sites_in_turn Q (write_site Q x) (halved_each n members) to ≡ []
-    none_in_turn x n no_members h t above out to = refl
-    none_in_turn x n (and_member p no_members) h t above out to =
-        not_written x n p h.0 t.0 above (λ l g. out l (let z = length-append (hidden_vars p) [] in omega (arith, g, z))) to
-    none_in_turn x n (and_member p (and_member q more)) h t above out to =
+    none_in_turn x n no_members t above out to = refl
+    none_in_turn x n (and_member p no_members) t above out to =
+        not_written x n p t.0 above (λ l g. out l (let z = length-append (hidden_vars p) [] in omega (arith, g, z))) to
+    none_in_turn x n (and_member p (and_member q more)) t above out to =
         let z = length-append (hidden_vars p) (hidden_in_each (and_member q more)) in
         ap (λ l. l ++ sites_in_turn Q (write_site Q x) (halved_each (n + length (hidden_vars p)) (and_member q more)) (to + 3 + size_of Q (halved n p)))
-        (not_written x n p h.0 t.0 above (λ l g. out l (omega (arith, g, z))) (to + 3))
-        ∙ none_in_turn x (n + length (hidden_vars p)) (and_member q more) h.1 t.1 above (λ l g. out (omega (arith, l)) (omega (arith, g, z)))
+        (not_written x n p t.0 above (λ l g. out l (omega (arith, g, z))) (to + 3))
+        ∙ none_in_turn x (n + length (hidden_vars p)) (and_member q more) t.1 above (λ l g. out (omega (arith, l)) (omega (arith, g, z)))
         (to + 3 + size_of Q (halved n p))
 
-    pub none_in_branches : (x n : ℕ) (members : Processes) → AreHalvable members → AreProcesses P.channels P.vars members → length P.vars ≤ x
+    pub none_in_branches : (x n : ℕ) (members : Processes) → AreProcesses P.channels P.vars members → length P.vars ≤ x
         → (n ≤ x → x < n + length (hidden_in_each members) → ⊥) → (to : ℕ) → sites_in_branches Q (write_site Q x) (halved_each n members) to ≡ []
-    none_in_branches x n no_members h t above out to = refl
-    none_in_branches x n (and_member p more) h t above out to =
+    none_in_branches x n no_members t above out to = refl
+    none_in_branches x n (and_member p more) t above out to =
         let z = length-append (hidden_vars p) (hidden_in_each more) in
         ap (λ l. l ++ sites_in_branches Q (write_site Q x) (halved_each (n + length (hidden_vars p)) more) (to + 3 + size_of Q (halved n p)))
-        (not_written x n p h.0 t.0 above (λ l g. out l (omega (arith, g, z))) (to + 3))
-        ∙ none_in_branches x (n + length (hidden_vars p)) more h.1 t.1 above (λ l g. out (omega (arith, l)) (omega (arith, g, z)))
+        (not_written x n p t.0 above (λ l g. out l (omega (arith, g, z))) (to + 3))
+        ∙ none_in_branches x (n + length (hidden_vars p)) more t.1 above (λ l g. out (omega (arith, l)) (omega (arith, g, z)))
         (to + 3 + size_of Q (halved n p))
+
+    pub none_in_bodies : (x n : ℕ) (choices : Choices) → AreChoices P.channels P.vars choices → length P.vars ≤ x
+        → (n ≤ x → x < n + length (hidden_in_choices choices) → ⊥) → (to : ℕ) → sites_in_bodies Q (write_site Q x) (halved_choices n choices) to ≡ []
+    none_in_bodies x n no_choices t above out to = refl
+    none_in_bodies x n (and_choice g p more) t above out to =
+        let z = length-append (hidden_vars p) (hidden_in_choices more) in
+        ap (λ l. l ++ sites_in_bodies Q (write_site Q x) (halved_choices (n + length (hidden_vars p)) more) (to + size_of Q (halved n p)))
+        (not_written x n p t.1 above (λ l g. out l (omega (arith, g, z))) to)
+        ∙ none_in_bodies x (n + length (hidden_vars p)) more t.2 above (λ l g. out (omega (arith, l)) (omega (arith, g, z)))
+        (to + size_of Q (halved n p))
 
   -- its own site
   own_site : (n x : ℕ) (at : Span) (e : Formula) → x < length P.vars → length P.vars ≤ n → ReadsNoTarget (in_halves n x at e) → (to : ℕ)
@@ -141,38 +151,45 @@ module _ (counted : Counted) (P : TypedProgram) where
             ∙ ap u (let z : to + (4 + j) ≡ to + 3 + 1 + j = omega arith in z)))
 
     mutual
-      pub hidden_alike : (n : ℕ) (p : Process) → IsHalvable p → IsProcess P.channels P.vars p → ReadsNoTarget (halved n p) → length P.vars ≤ n
+      pub hidden_alike : (n : ℕ) (p : Process) → IsProcess P.channels P.vars p → ReadsNoTarget (halved n p) → length P.vars ≤ n
           → (r from to block : ℕ) → HiddenAt counted P n (hidden_vars p) block → Values v u block (hidden P p from) → Values v u to (own P p r from)
           → WrittenIn n (hidden_vars p) (λ y. sites_in Q (write_site Q y) (halved n p) to)
           → RulesAlike v u (rules_in (hidden P p from)) (vars_rules Q n (hidden_vars p))
-      hidden_alike n skipping h t plain above r from to block where_hidden stored nodes written = tt
-      hidden_alike n (assigning x at e) h t plain above r from to block where_hidden stored nodes written =
+      hidden_alike n skipping t plain above r from to block where_hidden stored nodes written = tt
+      hidden_alike n (assigning x at e) t plain above r from to block where_hidden stored nodes written =
           block_alike n x at e (reads x e) t.0 t.1 plain above r from to block where_hidden stored nodes written
-      hidden_alike n (sending chan at e) h t plain above r from to block where_hidden stored nodes written = tt
-      hidden_alike n (receiving chan at x into) h t plain above r from to block where_hidden stored nodes written = tt
-      hidden_alike n (in_turn members) h t plain above r from to block where_hidden stored nodes written =
-          hidden_turn_alike n members h t.1 plain above r from to block where_hidden stored nodes written
-      hidden_alike n (side_by_side members) h t plain above r from to block where_hidden stored nodes written =
-          hidden_branches_alike n members h t.1 plain above r from to block where_hidden stored
+      hidden_alike n (sending chan at e) t plain above r from to block where_hidden stored nodes written = tt
+      hidden_alike n (receiving chan at x into) t plain above r from to block where_hidden stored nodes written = tt
+      hidden_alike n (in_turn members) t plain above r from to block where_hidden stored nodes written =
+          hidden_turn_alike n members t.1 plain above r from to block where_hidden stored nodes written
+      hidden_alike n (side_by_side members) t plain above r from to block where_hidden stored nodes written =
+          hidden_branches_alike n members t.1 plain above r from to block where_hidden stored
           (values_left v u to (own_branches P members r from) (numbered (from + branches_size P members)
           (tree_rules (branch_ends P members from) (branches_end P members from))) nodes) written
-      hidden_alike n (repeating p) h t plain above r from to block where_hidden stored nodes written =
-          hidden_alike n p h t plain above (from + 1) (from + 2) (to + 2) block where_hidden stored
+      hidden_alike n (repeating p) t plain above r from to block where_hidden stored nodes written =
+          hidden_alike n p t plain above (from + 1) (from + 2) (to + 2) block where_hidden stored
           (values_right v u to 2 (numbered from (no_rules ∷ loop_request r (answer_of P p (from + 2)) ∷ [])) (own P p (from + 1) (from + 2)) refl nodes) written
-      hidden_alike n (choosing again choices) h t plain above r from to block where_hidden stored nodes written = absurd h
+      hidden_alike n (choosing false choices) t plain above r from to block where_hidden stored nodes written =
+          hidden_bodies_alike n choices t.2 plain above (from + select_own + choice_count choices) (bodies_from choices select_own from)
+          (bodies_from (halved_choices n choices) select_own to) block where_hidden stored
+          (in_branches counted P v u n choices select_own from to (select_front P choices r from) (select_long counted P choices t r from) nodes) written
+      hidden_alike n (choosing true choices) t plain above r from to block where_hidden stored nodes written =
+          hidden_bodies_alike n choices t.2 plain above (from + again_own + choice_count choices) (bodies_from choices again_own from)
+          (bodies_from (halved_choices n choices) again_own to) block where_hidden stored
+          (in_branches counted P v u n choices again_own from to (again_front P choices r from) (again_long counted P choices t r from) nodes) written
 
-      hidden_turn_alike : (n : ℕ) (members : Processes) → AreHalvable members → AreProcesses P.channels P.vars members
+      hidden_turn_alike : (n : ℕ) (members : Processes) → AreProcesses P.channels P.vars members
           → EachReadsNoTarget (halved_each n members) → length P.vars ≤ n → (r from to block : ℕ) → HiddenAt counted P n (hidden_in_each members) block
           → Values v u block (hidden_turn P members from) → Values v u to (own_turn P members r from)
           → WrittenIn n (hidden_in_each members) (λ y. sites_in_turn Q (write_site Q y) (halved_each n members) to)
           → RulesAlike v u (rules_in (hidden_turn P members from)) (vars_rules Q n (hidden_in_each members))
-      hidden_turn_alike n no_members h t plain above r from to block where_hidden stored nodes written = tt
-      hidden_turn_alike n (and_member p no_members) h t plain above r from to block where_hidden stored nodes written =
+      hidden_turn_alike n no_members t plain above r from to block where_hidden stored nodes written = tt
+      hidden_turn_alike n (and_member p no_members) t plain above r from to block where_hidden stored nodes written =
           let z = length-append (hidden_vars p) [] in
           subst (λ l. RulesAlike v u (rules_in (hidden P p from)) l) (ap (λ l. vars_rules Q n l) (sym (append-nil (hidden_vars p))))
-          (hidden_alike n p h.0 t.0 plain.0 above r from to block (hidden_at_left counted P n (hidden_vars p) [] block where_hidden) stored nodes
+          (hidden_alike n p t.0 plain.0 above r from to block (hidden_at_left counted P n (hidden_vars p) [] block where_hidden) stored nodes
           (λ y l g. written y l (omega (arith, g, z))))
-      hidden_turn_alike n (and_member p (and_member q more)) h t plain above r from to block where_hidden stored nodes written =
+      hidden_turn_alike n (and_member p (and_member q more)) t plain above r from to block where_hidden stored nodes written =
           let k = n + length (hidden_vars p) in
           let element = numbered from (q_rules r (answer_of P p (from + 3)) from) in
           let first = own P p from (from + 3) in
@@ -183,28 +200,28 @@ module _ (counted : Counted) (P : TypedProgram) where
           let z = length-append (hidden_vars p) (hidden_in_each (and_member q more)) in
           subst (λ l. RulesAlike v u (rules_in (mine ++ others)) l) (sym (vars_rules_append Q n (hidden_vars p) (hidden_in_each (and_member q more))))
           (joined mine others (vars_rules Q n (hidden_vars p)) (vars_rules Q k (hidden_in_each (and_member q more)))
-          (hidden_alike n p h.0 t.0 plain.0 above from (from + 3) (to + 3) block (hidden_at_left counted P n (hidden_vars p) (hidden_in_each (and_member q more)) block
+          (hidden_alike n p t.0 plain.0 above from (from + 3) (to + 3) block (hidden_at_left counted P n (hidden_vars p) (hidden_in_each (and_member q more)) block
           where_hidden)
           (values_left v u block mine others stored) (values_left v u (to + 3) first later parts)
           (λ y l g. written y l (omega (arith, g, z))
-          ∙ (ap (λ s. sites_in Q (write_site Q y) (halved n p) (to + 3) ++ s) (none_in_turn y k (and_member q more) h.1 t.1 (omega (arith, above, l))
+          ∙ (ap (λ s. sites_in Q (write_site Q y) (halved n p) (to + 3) ++ s) (none_in_turn y k (and_member q more) t.1 (omega (arith, above, l))
           (λ d f. absurd (let c : ⊥ = omega (arith, d, g) in c)) (to + 3 + size_of Q (halved n p)))
           ∙ append-nil (sites_in Q (write_site Q y) (halved n p) (to + 3)))))
-          (hidden_turn_alike k (and_member q more) h.1 t.1 plain.1 (omega (arith, above)) (from + 2) (from + 3 + size_of P p) (to + 3 + size_of Q (halved n p))
+          (hidden_turn_alike k (and_member q more) t.1 plain.1 (omega (arith, above)) (from + 2) (from + 3 + size_of P p) (to + 3 + size_of Q (halved n p))
           (block + blocks (hidden_vars p)) (hidden_at_right counted P n (hidden_vars p) (hidden_in_each (and_member q more)) block where_hidden)
-          (values_right v u block (blocks (hidden_vars p)) mine others (hidden_long counted P p h.0 t.0 (from + 3)) stored)
-          (values_right v u (to + 3) (size_of Q (halved n p)) first later (own_long counted P n p h.0 t.0 plain.0 from (from + 3)) parts)
+          (values_right v u block (blocks (hidden_vars p)) mine others (hidden_long counted P p t.0 (from + 3)) stored)
+          (values_right v u (to + 3) (size_of Q (halved n p)) first later (own_long counted P n p t.0 plain.0 from (from + 3)) parts)
           (λ y l g. written y (omega (arith, l)) (omega (arith, g, z))
           ∙ ap (λ s. s ++ sites_in_turn Q (write_site Q y) (halved_each k (and_member q more)) (to + 3 + size_of Q (halved n p)))
-          (not_written y n p h.0 t.0 (omega (arith, above, l)) (λ d f. absurd (let c : ⊥ = omega (arith, f, l) in c)) (to + 3)))))
+          (not_written y n p t.0 (omega (arith, above, l)) (λ d f. absurd (let c : ⊥ = omega (arith, f, l) in c)) (to + 3)))))
 
-      hidden_branches_alike : (n : ℕ) (members : Processes) → AreHalvable members → AreProcesses P.channels P.vars members
+      hidden_branches_alike : (n : ℕ) (members : Processes) → AreProcesses P.channels P.vars members
           → EachReadsNoTarget (halved_each n members) → length P.vars ≤ n → (r from to block : ℕ) → HiddenAt counted P n (hidden_in_each members) block
           → Values v u block (hidden_branches P members from) → Values v u to (own_branches P members r from)
           → WrittenIn n (hidden_in_each members) (λ y. sites_in_branches Q (write_site Q y) (halved_each n members) to)
           → RulesAlike v u (rules_in (hidden_branches P members from)) (vars_rules Q n (hidden_in_each members))
-      hidden_branches_alike n no_members h t plain above r from to block where_hidden stored nodes written = tt
-      hidden_branches_alike n (and_member p more) h t plain above r from to block where_hidden stored nodes written =
+      hidden_branches_alike n no_members t plain above r from to block where_hidden stored nodes written = tt
+      hidden_branches_alike n (and_member p more) t plain above r from to block where_hidden stored nodes written =
           let k = n + length (hidden_vars p) in
           let element = numbered from (q_rules r (answer_of P p (from + 3)) from) in
           let first = own P p from (from + 3) in
@@ -215,16 +232,45 @@ module _ (counted : Counted) (P : TypedProgram) where
           let z = length-append (hidden_vars p) (hidden_in_each more) in
           subst (λ l. RulesAlike v u (rules_in (mine ++ others)) l) (sym (vars_rules_append Q n (hidden_vars p) (hidden_in_each more)))
           (joined mine others (vars_rules Q n (hidden_vars p)) (vars_rules Q k (hidden_in_each more))
-          (hidden_alike n p h.0 t.0 plain.0 above from (from + 3) (to + 3) block (hidden_at_left counted P n (hidden_vars p) (hidden_in_each more) block where_hidden)
+          (hidden_alike n p t.0 plain.0 above from (from + 3) (to + 3) block (hidden_at_left counted P n (hidden_vars p) (hidden_in_each more) block where_hidden)
           (values_left v u block mine others stored) (values_left v u (to + 3) first later parts)
           (λ y l g. written y l (omega (arith, g, z))
-          ∙ (ap (λ s. sites_in Q (write_site Q y) (halved n p) (to + 3) ++ s) (none_in_branches y k more h.1 t.1 (omega (arith, above, l))
+          ∙ (ap (λ s. sites_in Q (write_site Q y) (halved n p) (to + 3) ++ s) (none_in_branches y k more t.1 (omega (arith, above, l))
           (λ d f. absurd (let c : ⊥ = omega (arith, d, g) in c)) (to + 3 + size_of Q (halved n p)))
           ∙ append-nil (sites_in Q (write_site Q y) (halved n p) (to + 3)))))
-          (hidden_branches_alike k more h.1 t.1 plain.1 (omega (arith, above)) r (from + 3 + size_of P p) (to + 3 + size_of Q (halved n p))
+          (hidden_branches_alike k more t.1 plain.1 (omega (arith, above)) r (from + 3 + size_of P p) (to + 3 + size_of Q (halved n p))
           (block + blocks (hidden_vars p)) (hidden_at_right counted P n (hidden_vars p) (hidden_in_each more) block where_hidden)
-          (values_right v u block (blocks (hidden_vars p)) mine others (hidden_long counted P p h.0 t.0 (from + 3)) stored)
-          (values_right v u (to + 3) (size_of Q (halved n p)) first later (own_long counted P n p h.0 t.0 plain.0 from (from + 3)) parts)
+          (values_right v u block (blocks (hidden_vars p)) mine others (hidden_long counted P p t.0 (from + 3)) stored)
+          (values_right v u (to + 3) (size_of Q (halved n p)) first later (own_long counted P n p t.0 plain.0 from (from + 3)) parts)
           (λ y l g. written y (omega (arith, l)) (omega (arith, g, z))
           ∙ ap (λ s. s ++ sites_in_branches Q (write_site Q y) (halved_each k more) (to + 3 + size_of Q (halved n p)))
-          (not_written y n p h.0 t.0 (omega (arith, above, l)) (λ d f. absurd (let c : ⊥ = omega (arith, f, l) in c)) (to + 3)))))
+          (not_written y n p t.0 (omega (arith, above, l)) (λ d f. absurd (let c : ⊥ = omega (arith, f, l) in c)) (to + 3)))))
+
+      hidden_bodies_alike : (n : ℕ) (choices : Choices) → AreChoices P.channels P.vars choices
+          → ChoicesReadNoTarget (halved_choices n choices) → length P.vars ≤ n → (start from to block : ℕ) → HiddenAt counted P n (hidden_in_choices choices) block
+          → Values v u block (hidden_bodies P choices from) → Values v u to (own_bodies P choices start from)
+          → WrittenIn n (hidden_in_choices choices) (λ y. sites_in_bodies Q (write_site Q y) (halved_choices n choices) to)
+          → RulesAlike v u (rules_in (hidden_bodies P choices from)) (vars_rules Q n (hidden_in_choices choices))
+      hidden_bodies_alike n no_choices t plain above start from to block where_hidden stored nodes written = tt
+      hidden_bodies_alike n (and_choice g p more) t plain above start from to block where_hidden stored nodes written =
+          let k = n + length (hidden_vars p) in
+          let first = own P p start from in
+          let later = own_bodies P more (start + 1) (from + size_of P p) in
+          let mine = hidden P p from in
+          let others = hidden_bodies P more (from + size_of P p) in
+          let z = length-append (hidden_vars p) (hidden_in_choices more) in
+          subst (λ l. RulesAlike v u (rules_in (mine ++ others)) l) (sym (vars_rules_append Q n (hidden_vars p) (hidden_in_choices more)))
+          (joined mine others (vars_rules Q n (hidden_vars p)) (vars_rules Q k (hidden_in_choices more))
+          (hidden_alike n p t.1 plain.0 above start from to block (hidden_at_left counted P n (hidden_vars p) (hidden_in_choices more) block where_hidden)
+          (values_left v u block mine others stored) (values_left v u to first later nodes)
+          (λ y l g. written y l (omega (arith, g, z))
+          ∙ (ap (λ s. sites_in Q (write_site Q y) (halved n p) to ++ s) (none_in_bodies y k more t.2 (omega (arith, above, l))
+          (λ d f. absurd (let c : ⊥ = omega (arith, d, g) in c)) (to + size_of Q (halved n p)))
+          ∙ append-nil (sites_in Q (write_site Q y) (halved n p) to))))
+          (hidden_bodies_alike k more t.2 plain.1 (omega (arith, above)) (start + 1) (from + size_of P p) (to + size_of Q (halved n p))
+          (block + blocks (hidden_vars p)) (hidden_at_right counted P n (hidden_vars p) (hidden_in_choices more) block where_hidden)
+          (values_right v u block (blocks (hidden_vars p)) mine others (hidden_long counted P p t.1 from) stored)
+          (values_right v u to (size_of Q (halved n p)) first later (own_long counted P n p t.1 plain.0 start from) nodes)
+          (λ y l g. written y (omega (arith, l)) (omega (arith, g, z))
+          ∙ ap (λ s. s ++ sites_in_bodies Q (write_site Q y) (halved_choices k more) (to + size_of Q (halved n p)))
+          (not_written y n p t.1 (omega (arith, above, l)) (λ d f. absurd (let c : ⊥ = omega (arith, f, l) in c)) to))))

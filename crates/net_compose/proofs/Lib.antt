@@ -25,6 +25,7 @@ pub mod HalvedNumbers
 pub mod HalvedCarried
 pub mod HalvedNodes
 pub mod SameValues
+pub mod SameSelections
 pub mod HalvedAlike
 pub mod HalvedSites
 pub mod HiddenBlocks
