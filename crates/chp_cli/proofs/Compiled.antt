@@ -1,7 +1,6 @@
 -- The text of a program's net, and what that net carries.
 use Rattle.std.proofs.Common.{◌≡◌, ◌∙◌, ℕ, Bool, true, false, List, refl, ap, subst}
 use Rattle.std.specs.Prelude.{if◌then◌else◌}
-use Rattle.circuit_places.specs.Covered.{Covered}
 use Rattle.net_compose.specs.Carries.{Carries, ResetCarries}
 use Rattle.net_compose.specs.Translation.{translation}
 use Rattle.prs_core.specs.Nets.{NetValue, IsNet}
@@ -11,10 +10,10 @@ use Rattle.width_check.specs.Processes.{TypedProgram}
 use Rattle.chp_cli.specs.Compiling.{IsCompiled}
 use Rattle.chp_cli.proofs.NoReset.{names_free}
 
-module _ (p : TypedProgram) (net : NetValue) (is : net ≡ translation p) (kept : IsNet net) (carried : Covered p → Carries (translation p) p) (law : ResetCarries (translation p) p) where
+module _ (p : TypedProgram) (net : NetValue) (is : net ≡ translation p) (kept : IsNet net) (carried : Carries (translation p) p) (law : ResetCarries (translation p) p) where
   pub net_compiled : (reset : Bool) (text : List ℕ) → NetText text (if reset then reset_of net else net) → IsCompiled reset p text
   net_compiled false text spelled = record { spells = spelled ∙ ap spelling is; carries = carried }
   net_compiled true text spelled = record {
     spells = spelled ∙ ap (λ n. spelling (reset_of n)) is;
-    carries = λ covered. let whole = subst IsNet is kept in law (carried covered) whole refl whole.most (names_free p);
+    carries = let whole = subst IsNet is kept in law carried whole refl whole.most (names_free p);
   }

@@ -2,7 +2,6 @@
 use Rattle.std.specs.Prelude.{◌≡◌, ℕ, ◌≤◌, Bool, true, false, List, length, Some}
 use Rattle.chp_syntax.specs.Reading.{Reads}
 use Rattle.chp_syntax.specs.Trees.{ProgramTree}
-use Rattle.circuit_places.specs.Covered.{Covered}
 use Rattle.handshake_expand.specs.Layout.{node_count}
 use Rattle.net_compose.specs.Carries.{Carries, CarriesReset}
 use Rattle.net_compose.specs.Translation.{translation}
@@ -26,10 +25,10 @@ abbrev pub NetCarries : (reset : Bool) → TypedProgram → Type 0
 NetCarries false p = Carries (net_for false p) p
 NetCarries true p = CarriesReset (net_for true p) p
 
--- this is the one text of the net of the program; and where the program is covered, its net carries it
+-- this is the one text of the net of the program, and that net carries it
 pub record IsCompiled (reset : Bool) (p : TypedProgram) (file : List ℕ) : Type 0 where
   pub spells : NetText file (net_for reset p)
-  pub carries : Covered p → NetCarries reset p
+  pub carries : NetCarries reset p
 
 pub data CompilesNet (reset : Bool) (p : TypedProgram) : Answer → Type 0 where
   compiled : {file : List ℕ} → IsCompiled reset p file → CompilesNet reset p (writes Done file)
@@ -43,7 +42,7 @@ Compiles reset given file = FromFile given file most_of_text (λ text. FromProgr
 -- ---- what follows from that
 
 -- The file holds a text that reads as a program, and as no other one; the program is accepted; and what is written is the
--- one text of its net, which carries it where it is covered.
+-- one text of its net, which carries it.
 pub record IsFileCompiled (reset : Bool) (given : Given) (file written : List ℕ) : Type 0 where
   pub text : List ℕ
   pub program : ProgramTree

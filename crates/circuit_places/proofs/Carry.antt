@@ -1,4 +1,4 @@
--- Each covered program's circuit carries it.
+-- The circuit of each covered program whose assignments don't read their own target carries it.
 use Rattle.std.proofs.Common.{◌≡◌, ◌≢◌, ℕ, zero, suc, ◌/◌, ◌^◌, ◌<◌, ◌≤◌, ◌⊎◌, inl, inr, Bool, true, false, List, [], ◌∷◌, length, refl, sym, ap, ◌∙◌, subst, arith}
 use Rattle.std.proofs.Math.ListN.{get_or-eq_default}
 use Rattle.std.proofs.lemmas.Bool.Decides.{nat_tests}
@@ -476,12 +476,12 @@ carried P script fitted x r = record {
 }
 
 pub circuits_carry : TreesSettle → ExpressionsHold → CircuitsCarry
-circuits_carry law hold P typed covered script s moves x run =
-    let there = meets law hold P (var_bits P.vars typed.each_var) P.body unshared typed.body_is covered.body in
-    let fitted = fits P script typed s in
+circuits_carry law hold P is script s moves x run =
+    let there = meets law hold P (var_bits P.vars is.sized.each_var) P.body unshared is.sized.body_is is.plain in
+    let fitted = fits P script is.sized s in
     carried P script fitted x (reach law P script fitted there moves x run)
   where
     unshared : (a b : Occurrence) → Parallel P.body a b → ¬ Clash a.deed b.deed
-    unshared a b h (inl c) = covered.sharing.sends a b h c
-    unshared a b h (inr (inl c)) = covered.sharing.variables a b h c
-    unshared a b h (inr (inr c)) = covered.sharing.receives a b h c
+    unshared a b h (inl c) = is.unshared.sends a b h c
+    unshared a b h (inr (inl c)) = is.unshared.variables a b h c
+    unshared a b h (inr (inr c)) = is.unshared.receives a b h c

@@ -12,9 +12,7 @@ use Rattle.width_check.specs.Typing.{channel_width, var_width}
 use Rattle.circuit_places.specs.Lines.{of_channel, of_var}
 use Rattle.circuit_places.specs.Circuit.{gate_count, joint_count, SiteSpot, done, gate, PortSpot, heard, stored, taking, GuardedSpot, child, latch, next, inner, Spot, of_skip, of_assign, of_send, of_receive, in_members, of_branch, joint, ask, in_body, BranchSpot, in_this, in_others, TurnSpot, in_last, in_member, in_later}
 use Rattle.circuit_places.specs.Whole.{Whole, Node, go_node, own_node, rail_node, ack_node, bit_node, wrote_node, joint_node, value_on, enabled, first_of}
-use Rattle.circuit_places.specs.Covered.{Covered}
 use Rattle.circuit_places.proofs.Examples.{driven}
-use Rattle.circuit_places.proofs.CoveredExamples.{decided}
 
 -- all nodes of a circuit
 abbrev both_below : {A : Type 0} → (ℕ → Bool → A) → ℕ → List A → List A
@@ -78,9 +76,6 @@ meets = record {
   body = side_by_side (and_member (sending 0 at (constant 1 1)) (and_member (receiving 0 at 0 at) no_members));
 }
 
-meets_covered : Covered meets
-meets_covered = decided meets refl
-
 abbrev met : Whole meets.body
 met = driven meets (nothing ∷ []) (all_nodes meets) 39 (first_of meets)
 
@@ -109,9 +104,6 @@ merges = record {
       (and_member (receiving 0 at 1 at) (and_member (sending 1 at (reading 0 0 0 at)) no_members)))) no_members));
 }
 
-merges_covered : Covered merges
-merges_covered = decided merges refl
-
 abbrev merged_at_last : Whole merges.body
 merged_at_last = driven merges (nothing ∷ takes All ∷ []) (all_nodes merges) 108 (first_of merges)
 
@@ -135,9 +127,6 @@ relays = record {
       (and_member (repeating (in_turn (and_member (receiving 1 at 1 at) (and_member (sending 2 at (reading 1 0 0 at)) no_members)))) no_members));
 }
 
-relays_covered : Covered relays
-relays_covered = decided relays refl
-
 abbrev relay_script : List OfferValue
 relay_script = gives (1 ∷ 0 ∷ []) ∷ nothing ∷ takes All ∷ []
 
@@ -156,9 +145,6 @@ relays_rest = refl
 -- one end alone, over a channel whose other end nobody has: chan X : 1; begin X!1 end
 abbrev alone : TypedProgram
 alone = record { channels = record { name = []; kind = Chan; width = 1 } ∷ []; vars = []; body = sending 0 at (constant 1 1) }
-
-alone_covered : Covered alone
-alone_covered = decided alone refl
 
 abbrev stuck : Whole alone.body
 stuck = driven alone (nothing ∷ []) (all_nodes alone) 4 (first_of alone)

@@ -6,7 +6,6 @@ pub mod AgainMoves
 pub mod CorePromises
 pub mod Examples
 pub mod ChoiceExamples
-pub mod CoveredExamples
 pub mod InternalExamples
 pub mod RailLemmas
 pub mod Trees

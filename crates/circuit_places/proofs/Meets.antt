@@ -19,7 +19,7 @@ use Rattle.circuit_places.specs.Lines.{Line, of_channel, of_var, same_line, site
 use Rattle.circuit_places.specs.Whole.{is_sent, is_heard, is_merged}
 use Rattle.circuit_places.proofs.LineNames.{same_number, same_line_is}
 use Rattle.std.proofs.lemmas.Bool.{cases_lt}
-use Rattle.circuit_places.specs.Covered.{IsCovered, AreCovered, EachCovered}
+use Rattle.chp_meaning.specs.Halves.{ReadsNoTarget, EachReadsNoTarget, ChoicesReadNoTarget}
 use Rattle.circuit_places.proofs.Trees.{TreeOver, TreesSettle, tree_over}
 use Rattle.circuit_places.specs.Circuit.{guards_read}
 
@@ -382,7 +382,7 @@ fair_of p more apart = record {
 
 mutual
   pub meets : TreesSettle → ExpressionsHold → (P : TypedProgram) → ((x : ℕ) → x < length P.vars → 1 ≤ var_width P.vars x) → (p : Process)
-      → ((a b : Occurrence) → Parallel p a b → ¬ Clash a.deed b.deed) → IsProcess P.channels P.vars p → IsCovered p → Meets P p
+      → ((a b : Occurrence) → Parallel p a b → ¬ Clash a.deed b.deed) → IsProcess P.channels P.vars p → ReadsNoTarget p → Meets P p
   meets law hold P some_bit skipping apart h k = tt
   meets law hold P some_bit (sending c at e) apart h k = send_meets hold P c e h
   meets law hold P some_bit (in_turn members) apart h k = turn_meets law hold P some_bit members apart
@@ -400,7 +400,7 @@ mutual
       (h.0, guards_meet hold P choices h.2, choice_meets law hold P some_bit choices apart h.2 k)
 
   choice_meets : TreesSettle → ExpressionsHold → (P : TypedProgram) → ((x : ℕ) → x < length P.vars → 1 ≤ var_width P.vars x) → (choices : Choices)
-      → ((a b : Occurrence) → ParallelInChoices choices a b → ¬ Clash a.deed b.deed) → AreChoices P.channels P.vars choices → EachCovered choices
+      → ((a b : Occurrence) → ParallelInChoices choices a b → ¬ Clash a.deed b.deed) → AreChoices P.channels P.vars choices → ChoicesReadNoTarget choices
       → ChoiceMeets P choices
   choice_meets law hold P some_bit no_choices apart h k = tt
   choice_meets law hold P some_bit (and_choice g p more) apart h k = (
@@ -410,7 +410,7 @@ mutual
 
   pub turn_meets : TreesSettle → ExpressionsHold → (P : TypedProgram) → ((x : ℕ) → x < length P.vars → 1 ≤ var_width P.vars x) → (members : Processes)
       → ((a b : Occurrence) → ParallelInside members a b → ¬ Clash a.deed b.deed) → 1 ≤ member_count members → AreProcesses P.channels P.vars members
-      → AreCovered members → TurnMeets P members
+      → EachReadsNoTarget members → TurnMeets P members
   turn_meets law hold P some_bit no_members apart some h k = let g : ⊥ = omega (arith, some) in g
   turn_meets law hold P some_bit (and_member p no_members) apart some h k = meets law hold P some_bit p (λ a b h. apart a b (inl h)) h.0 k.0
   turn_meets law hold P some_bit (and_member p (and_member q more)) apart some h k = (
@@ -420,7 +420,7 @@ mutual
   )
 
   pub each_meets : TreesSettle → ExpressionsHold → (P : TypedProgram) → ((x : ℕ) → x < length P.vars → 1 ≤ var_width P.vars x) → (members : Processes)
-      → ((a b : Occurrence) → Parallel (side_by_side members) a b → ¬ Clash a.deed b.deed) → AreProcesses P.channels P.vars members → AreCovered members
+      → ((a b : Occurrence) → Parallel (side_by_side members) a b → ¬ Clash a.deed b.deed) → AreProcesses P.channels P.vars members → EachReadsNoTarget members
       → EachMeets P members
   each_meets law hold P some_bit no_members apart h k = tt
   each_meets law hold P some_bit (and_member p more) apart h k = (

@@ -1,15 +1,14 @@
--- What holds of each state that a covered program's circuit reaches.
+-- What holds of each state that a program's circuit reaches.
 use Rattle.std.specs.Prelude.{◌≡◌, ◌≢◌, ◌≤◌, ℕ, Bool, true, false, not, List, is_some}
 use Rattle.env_script.specs.Scripts.{OfferValue, IsScript}
 use Rattle.width_check.specs.Processes.{TypedProgram}
 use Rattle.width_check.specs.Typing.{channel_width}
-use Rattle.chp_meaning.specs.Halves.{IsSized}
+use Rattle.chp_meaning.specs.Halves.{IsPlain}
 use Rattle.chp_meaning.specs.Terms.{Place, finished}
 use Rattle.chp_meaning.specs.Steps.{Configuration, Step, Leads, start_of}
 use Rattle.circuit_places.specs.Lines.{of_channel}
 use Rattle.circuit_places.specs.Circuit.{is_apart}
 use Rattle.circuit_places.specs.Whole.{Whole, Node, rail_node, ack_node, is_node, rule_in, enabled, moved, value_on, neutral_on, Reaches}
-use Rattle.circuit_places.specs.Covered.{Covered}
 
 -- no move takes away another that is enabled, no node is pulled both ways, and each channel keeps its phases
 pub record IsSafe (P : TypedProgram) (script : List OfferValue) (x : Whole P.body) : Type 0 where
@@ -50,6 +49,7 @@ abbrev pub Carries : TypedProgram → Type 0
 Carries P = (script : List OfferValue) → IsScript P.channels script → (moves : ℕ) (x : Whole P.body)
     → Reaches P script moves x → IsCarried P script moves x
 
--- each covered program's circuit carries it
+-- the circuit of each program carries it that is typed, meets the sharing rule and has no assignment which reads its own
+-- target
 abbrev pub CircuitsCarry : Type 0
-CircuitsCarry = (P : TypedProgram) → IsSized P.channels P.vars P.body → Covered P → Carries P
+CircuitsCarry = (P : TypedProgram) → IsPlain P → Carries P

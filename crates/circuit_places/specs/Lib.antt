@@ -3,5 +3,4 @@ pub mod Heads
 pub mod Cores
 pub mod Circuit
 pub mod Whole
-pub mod Covered
 pub mod Carried

@@ -5,8 +5,8 @@ ghost use Rattle.circuit_places.specs.Carried.{CircuitsCarry};
 use cell_parallel::tree_settles;
 use function_blocks::laws::expressions_hold;
 
-/// Law: the circuit of each covered program that is typed carries it, under every script that fits and in whatever order
-/// the nodes switch. Each state that is reached is safe, the values that have passed there are those of a run of the
+/// Law: the circuit of each program that is typed, meets the sharing rule and has no assignment which reads its own
+/// target carries it, under every script that fits and in whatever order the nodes switch. Each state that is reached is safe, the values that have passed there are those of a run of the
 /// program with as many steps as moves at most, and where no move is enabled that run goes no further and `done` is high
 /// exactly where it has ended.
 pub fn circuits_carry()

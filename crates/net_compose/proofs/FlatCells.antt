@@ -10,7 +10,7 @@ use Rattle.handshake_expand.specs.Layout.{formula_size, through_size, assign_siz
 pub use Rattle.function_blocks.specs.Listed.{rail_place}
 use Rattle.function_blocks.proofs.PartSizes.{count_doubled}
 use Rattle.circuit_places.specs.Lines.{Rails}
-use Rattle.circuit_places.specs.Covered.{IsCovered, AreCovered, EachCovered}
+use Rattle.chp_meaning.specs.Halves.{ReadsNoTarget, EachReadsNoTarget, ChoicesReadNoTarget}
 use Rattle.circuit_places.specs.Circuit.{same_bit, rails_turned, of_receive, heard, stored, taking, Pairs, gate_count, Cells, TurnCells, BranchCells, joint_count, low_pairs, low, low_turn, low_branches, low_bits as low_tree, Spot, TurnSpot, BranchSpot, of_branch, joint, in_this, in_others, child, latch, next, inner, of_skip, done, gate, of_assign, of_send, in_members, of_loop, ask, in_body, in_last, in_member, in_later, turned_pairs, turned, turned_turn, turned_branches, GuardCells, ChoiceCells, low_guards, low_choices, GuardSpot, this_gate, other_gate, ChoiceSpot, this_choice, other_choice, of_core, of_guard, of_choice, of_round, turned_guards, turned_choice}
 use Rattle.net_compose.proofs.FlatTrees.{joint_count_is, tree_bits, length-tree_bits, tree_turned, tree_low}
 use Rattle.circuit_places.specs.Cores.{turned_own, turned_turning}
@@ -236,7 +236,7 @@ module _ (P : TypedProgram) where
   plain_size z e c = ap (λ b. if b then through_size (var_width P.vars z) e else 1 + formula_size e) c
 
   mutual
-    pub length-bits : (p : Process) → IsCovered p → (x : Cells p) → length (bits P p x) ≡ size_of P p
+    pub length-bits : (p : Process) → ReadsNoTarget p → (x : Cells p) → length (bits P p x) ≡ size_of P p
     length-bits skipping c x = refl
     length-bits (sending chan at e) c x = omega (arith, length-pair_bits (gate_count e) x.gates, count_doubled e)
     length-bits (in_turn members) c x = length-turn_bits members c x
@@ -268,18 +268,18 @@ module _ (P : TypedProgram) where
       length-choice_bits choices c x.core.branches,
     )
 
-    pub length-choice_bits : (choices : Choices) → EachCovered choices → (x : ChoiceCells choices)
+    pub length-choice_bits : (choices : Choices) → ChoicesReadNoTarget choices → (x : ChoiceCells choices)
         → length (choice_bits P choices x) ≡ bodies_size P choices
     length-choice_bits no_choices c x = refl
     length-choice_bits (and_choice g p more) c x =
         omega (arith, length-append (bits P p x.0) (choice_bits P more x.1), length-bits p c.0 x.0, length-choice_bits more c.1 x.1)
 
-    pub length-branch_bits : (members : Processes) → AreCovered members → (x : BranchCells members) → length (branch_bits P members x) ≡ branches_size P members
+    pub length-branch_bits : (members : Processes) → EachReadsNoTarget members → (x : BranchCells members) → length (branch_bits P members x) ≡ branches_size P members
     length-branch_bits no_members c x = refl
     length-branch_bits (and_member p more) c x =
         omega (arith, length-append (bits P p x.0.inner) (branch_bits P more x.1), length-bits p c.0 x.0.inner, length-branch_bits more c.1 x.1)
 
-    pub length-turn_bits : (members : Processes) → AreCovered members → (x : TurnCells members) → length (turn_bits P members x) ≡ turn_size P members
+    pub length-turn_bits : (members : Processes) → EachReadsNoTarget members → (x : TurnCells members) → length (turn_bits P members x) ≡ turn_size P members
     length-turn_bits no_members c x = refl
     length-turn_bits (and_member p no_members) c x = length-bits p c.0 x
     length-turn_bits (and_member p (and_member q more)) c x =
@@ -291,7 +291,7 @@ module _ (P : TypedProgram) where
         )
 
   mutual
-    pub place_lt : (p : Process) → IsCovered p → (s : Spot p) → IsFine p s → place p s < size_of P p
+    pub place_lt : (p : Process) → ReadsNoTarget p → (s : Spot p) → IsFine p s → place p s < size_of P p
     place_lt skipping c of_skip f = omega arith
     place_lt (sending chan at e) c (of_send done) f = omega arith
     place_lt (sending chan at e) c (of_send (gate i one)) f = omega (arith, rail_place_lt i (gate_count e) one f, count_doubled e)
@@ -314,13 +314,13 @@ module _ (P : TypedProgram) where
     place_lt (choosing true choices) c (of_choice s) f = omega (arith, choice_place_lt choices c s f)
     place_lt (choosing true choices) c (of_round s) f = omega (arith, round_place_lt (choice_count choices) s)
 
-    pub choice_place_lt : (choices : Choices) → EachCovered choices → (s : ChoiceSpot choices) → IsFineChoice choices s
+    pub choice_place_lt : (choices : Choices) → ChoicesReadNoTarget choices → (s : ChoiceSpot choices) → IsFineChoice choices s
         → choice_place choices s < bodies_size P choices
     choice_place_lt no_choices c s f = elim s [ ]
     choice_place_lt (and_choice g p more) c (this_choice s) f = omega (arith, place_lt p c.0 s f)
     choice_place_lt (and_choice g p more) c (other_choice s) f = omega (arith, choice_place_lt more c.1 s f)
 
-    pub branch_place_lt : (members : Processes) → AreCovered members → (s : BranchSpot members) → IsFineBranch members s
+    pub branch_place_lt : (members : Processes) → EachReadsNoTarget members → (s : BranchSpot members) → IsFineBranch members s
         → branch_place members s < branches_size P members
     branch_place_lt no_members c s f = elim s [ ]
     branch_place_lt (and_member p more) c (in_this child) f = omega arith
@@ -329,7 +329,7 @@ module _ (P : TypedProgram) where
     branch_place_lt (and_member p more) c (in_this (inner s)) f = omega (arith, place_lt p c.0 s f)
     branch_place_lt (and_member p more) c (in_others s) f = omega (arith, branch_place_lt more c.1 s f)
 
-    pub turn_place_lt : (members : Processes) → AreCovered members → (s : TurnSpot members) → IsFineTurn members s → turn_place members s < turn_size P members
+    pub turn_place_lt : (members : Processes) → EachReadsNoTarget members → (s : TurnSpot members) → IsFineTurn members s → turn_place members s < turn_size P members
     turn_place_lt no_members c s f = elim s [ ]
     turn_place_lt (and_member p no_members) c (in_last s) f = place_lt p c.0 s f
     turn_place_lt (and_member p (and_member q more)) c (in_member child) f = omega arith
@@ -362,7 +362,7 @@ module _ (P : TypedProgram) where
 
   -- a node turned over in the list is the node turned over in the tree
   mutual
-    pub turned_is : (p : Process) → IsCovered p → (x : Cells p) (s : Spot p) → IsFine p s
+    pub turned_is : (p : Process) → ReadsNoTarget p → (x : Cells p) (s : Spot p) → IsFine p s
         → set (bits P p x) (place p s) (not (get_or (bits P p x) (place p s) false)) ≡ bits P p (turned p x s)
     turned_is skipping c x of_skip f = refl
     turned_is (sending chan at e) c x (of_send done) f = refl
@@ -431,7 +431,7 @@ module _ (P : TypedProgram) where
         ∙ (ap (λ l. l ++ rest) (round_turned_is x s)
         ∙ ap (λ z. again_list (turned_turning x s) ++ (guard_bits choices z.guards ++ choice_bits P choices z.branches)) (sym (round_core x s)))
 
-    pub turned_choice_is : (choices : Choices) → EachCovered choices → (x : ChoiceCells choices) (s : ChoiceSpot choices) → IsFineChoice choices s
+    pub turned_choice_is : (choices : Choices) → ChoicesReadNoTarget choices → (x : ChoiceCells choices) (s : ChoiceSpot choices) → IsFineChoice choices s
         → set (choice_bits P choices x) (choice_place choices s) (not (get_or (choice_bits P choices x) (choice_place choices s) false))
         ≡ choice_bits P choices (turned_choice choices x s)
     turned_choice_is no_choices c x s f = elim s [ ]
@@ -444,7 +444,7 @@ module _ (P : TypedProgram) where
         let b = choice_bits P more x.1 in
         set_second a b (size_of P p) (choice_place more s) (length-bits p c.0 x.0) ∙ ap (λ l. a ++ l) (turned_choice_is more c.1 x.1 s f)
 
-    pub turned_branch_is : (members : Processes) → AreCovered members → (x : BranchCells members) (s : BranchSpot members) → IsFineBranch members s
+    pub turned_branch_is : (members : Processes) → EachReadsNoTarget members → (x : BranchCells members) (s : BranchSpot members) → IsFineBranch members s
         → set (branch_bits P members x) (branch_place members s) (not (get_or (branch_bits P members x) (branch_place members s) false)) ≡ branch_bits P members
         (turned_branches members x s)
     turned_branch_is no_members c x s f = elim s [ ]
@@ -462,7 +462,7 @@ module _ (P : TypedProgram) where
         ap (λ l. x.0.child ∷ x.0.latch ∷ x.0.next ∷ l)
         (set_second a b (size_of P p) (branch_place more s) (length-bits p c.0 x.0.inner) ∙ ap (λ l. a ++ l) (turned_branch_is more c.1 x.1 s f))
 
-    pub turned_turn_is : (members : Processes) → AreCovered members → (x : TurnCells members) (s : TurnSpot members) → IsFineTurn members s
+    pub turned_turn_is : (members : Processes) → EachReadsNoTarget members → (x : TurnCells members) (s : TurnSpot members) → IsFineTurn members s
         → set (turn_bits P members x) (turn_place members s) (not (get_or (turn_bits P members x) (turn_place members s) false)) ≡ turn_bits P members
         (turned_turn members x s)
     turned_turn_is no_members c x s f = elim s [ ]
@@ -528,7 +528,7 @@ module _ (P : TypedProgram) where
     pub is : turn_place members spot ≡ n
 
   mutual
-    pub spot_of : (p : Process) → IsCovered p → (n : ℕ) → n < size_of P p → AtPlace p n
+    pub spot_of : (p : Process) → ReadsNoTarget p → (n : ℕ) → n < size_of P p → AtPlace p n
     spot_of skipping c zero h = record { spot = of_skip; fine = tt; is = refl }
     spot_of skipping c (suc n) h = absurd (omega arith)
     spot_of (sending chan at e) c zero h = record { spot = of_send done; fine = tt; is = refl }
@@ -599,7 +599,7 @@ module _ (P : TypedProgram) where
         (cases_lt (n - m) (guards_size choices)))
         (cases_lt n m)
 
-    pub choice_spot_of : (choices : Choices) → EachCovered choices → (n : ℕ) → n < bodies_size P choices → AtChoicePlace choices n
+    pub choice_spot_of : (choices : Choices) → ChoicesReadNoTarget choices → (n : ℕ) → n < bodies_size P choices → AtChoicePlace choices n
     choice_spot_of no_choices c n h = absurd (omega arith)
     choice_spot_of (and_choice g p more) c n h =
         ⊎_elim
@@ -613,7 +613,7 @@ module _ (P : TypedProgram) where
         here)
         (cases_lt n (size_of P p))
 
-    pub branch_spot_of : (members : Processes) → AreCovered members → (n : ℕ) → n < branches_size P members → AtBranchPlace members n
+    pub branch_spot_of : (members : Processes) → EachReadsNoTarget members → (n : ℕ) → n < branches_size P members → AtBranchPlace members n
     branch_spot_of no_members c n h = absurd (omega arith)
     branch_spot_of (and_member p more) c zero h = record { spot = in_this child; fine = tt; is = refl }
     branch_spot_of (and_member p more) c (suc zero) h = record { spot = in_this latch; fine = tt; is = refl }
@@ -631,7 +631,7 @@ module _ (P : TypedProgram) where
         here)
         (cases_lt n (size_of P p))
 
-    pub turn_spot_of : (members : Processes) → AreCovered members → (n : ℕ) → n < turn_size P members → AtTurnPlace members n
+    pub turn_spot_of : (members : Processes) → EachReadsNoTarget members → (n : ℕ) → n < turn_size P members → AtTurnPlace members n
     turn_spot_of no_members c n h = absurd (omega arith)
     turn_spot_of (and_member p no_members) c n h = let r = spot_of p c.0 n h in record { spot = in_last r.spot; fine = r.fine; is = r.is }
     turn_spot_of (and_member p (and_member q more)) c zero h = record { spot = in_member child; fine = tt; is = refl }
@@ -674,7 +674,7 @@ module _ (P : TypedProgram) where
       ∙ (ap (λ l. replicate (guards_size choices) false ++ l) e ∙ replicate-append-replicate (guards_size choices) (bodies_size P choices) false)
 
   mutual
-    pub low_bits : (p : Process) → IsCovered p → bits P p (low p) ≡ replicate (size_of P p) false
+    pub low_bits : (p : Process) → ReadsNoTarget p → bits P p (low p) ≡ replicate (size_of P p) false
     low_bits skipping c = refl
     low_bits (sending chan at e) c =
         let m : suc (2 * gate_count e) ≡ 1 + formula_size e = omega (arith, count_doubled e) in
@@ -714,13 +714,13 @@ module _ (P : TypedProgram) where
         ∙ (replicate-append-replicate (suc (suc (suc (suc (suc (suc (n + n))))))) (guards_size choices + bodies_size P choices) false
         ∙ ap (λ k. replicate k false) m))
 
-    pub low_choice_bits : (choices : Choices) → EachCovered choices → choice_bits P choices (low_choices choices) ≡ replicate (bodies_size P choices) false
+    pub low_choice_bits : (choices : Choices) → ChoicesReadNoTarget choices → choice_bits P choices (low_choices choices) ≡ replicate (bodies_size P choices) false
     low_choice_bits no_choices c = refl
     low_choice_bits (and_choice g p more) c =
         ap (λ l. l ++ choice_bits P more (low_choices more)) (low_bits p c.0)
         ∙ (ap (λ l. replicate (size_of P p) false ++ l) (low_choice_bits more c.1) ∙ replicate-append-replicate (size_of P p) (bodies_size P more) false)
 
-    pub low_branch_bits : (members : Processes) → AreCovered members → branch_bits P members (low_branches members) ≡ replicate (branches_size P members) false
+    pub low_branch_bits : (members : Processes) → EachReadsNoTarget members → branch_bits P members (low_branches members) ≡ replicate (branches_size P members) false
     low_branch_bits no_members c = refl
     low_branch_bits (and_member p more) c =
         let n = branches_size P more in
@@ -730,7 +730,7 @@ module _ (P : TypedProgram) where
         ∙ (ap (λ l. replicate (size_of P p) false ++ l) (low_branch_bits more c.1) ∙ replicate-append-replicate (size_of P p) n false))
         ∙ ap (λ k. replicate k false) m
 
-    pub low_turn_bits : (members : Processes) → AreCovered members → turn_bits P members (low_turn members) ≡ replicate (turn_size P members) false
+    pub low_turn_bits : (members : Processes) → EachReadsNoTarget members → turn_bits P members (low_turn members) ≡ replicate (turn_size P members) false
     low_turn_bits no_members c = refl
     low_turn_bits (and_member p no_members) c = low_bits p c.0
     low_turn_bits (and_member p (and_member q more)) c =

@@ -23,7 +23,7 @@ use Rattle.cell_variable.specs.Variables.{variable_rules}
 use Rattle.net_compose.proofs.FlatBlocks.{Part, a_bit, a_put, a_mark, a_joint, offset, IsPart, offset_lt, part_same, PartAt, part_of, BlockIs, Says, bit_says, put_says, mark_says, joint_says, written_is, bit_number, blocks_below, blocks_apart, Owner, owner, length-vars_rules, vars_rule}
 use Rattle.handshake_expand.specs.Layout.{block_size, var_from, wires_before, channel_from, blocks_before, root_request, root_latch, body_from, nodes_of, go_node as go_number}
 use Rattle.cell_sequence.specs.Sequence.{q_child, q_latch, q_next}
-use Rattle.circuit_places.specs.Covered.{IsCovered}
+use Rattle.chp_meaning.specs.Halves.{ReadsNoTarget}
 use Rattle.circuit_places.specs.Circuit.{joint_count, tree_rule, answer, GuardedSpot, child, latch, next, inner, Rule, no_rule, fires, is_apart, same_bit, guarded_rule, rule, site_rails, rails_turned, takers}
 use Rattle.circuit_places.specs.Whole.{Wires, line_ack, bit_rule, wrote_rule, bit_turned, wrote_turned, joint_turned, ack_turned, seen, is_sent, is_heard, rail_turned, Whole, Node, go_node, own_node, rail_node, ack_node, bit_node, wrote_node, joint_node, merged, all_low, rule_in, answers, offers, brings, number_rail, env_moves, enabled, moved, passed, value_on, neutral_on}
 use Rattle.net_compose.specs.Translation.{translation, all_rules, channels_rules, vars_rules, rules_of, in_body, write_site, bits_at, written_at, send_site, receive_site, rails_at, ack_at, wires_from, body_answer}
@@ -33,12 +33,12 @@ use Rattle.net_compose.proofs.FlatSites.{at_site, sites_are, takers_are}
 use Rattle.net_compose.proofs.FlatWires.{Wire, a_rail, an_ack, wire_of, rail_same, ack_same, rail_no_ack, rail_bounds, ack_bounds, length-channels_rules, rail_guards, ack_guards, rail_rules_at, ack_rules_at, value_is, neutral_is, not_listed, is_listed, not_raised, raised_is, wires_at, moves_none, moves_some, quiet_offer, values_none, values_some}
 
 -- the two guards of a node of the net are those of its rules
-up_told : (xs : List NodeRules) (n : ℕ) → get_or (map (λ (r : NodeRules). r.up) xs) n [] ≡ (get_or xs n no_rules).up
+pub up_told : (xs : List NodeRules) (n : ℕ) → get_or (map (λ (r : NodeRules). r.up) xs) n [] ≡ (get_or xs n no_rules).up
 up_told [] n = refl
 up_told (x ∷ xs) zero = refl
 up_told (x ∷ xs) (suc n) = up_told xs n
 
-down_told : (xs : List NodeRules) (n : ℕ) → get_or (map (λ (r : NodeRules). r.down) xs) n [] ≡ (get_or xs n no_rules).down
+pub down_told : (xs : List NodeRules) (n : ℕ) → get_or (map (λ (r : NodeRules). r.down) xs) n [] ≡ (get_or xs n no_rules).down
 down_told [] n = refl
 down_told (x ∷ xs) zero = refl
 down_told (x ∷ xs) (suc n) = down_told xs n
@@ -46,7 +46,7 @@ down_told (x ∷ xs) (suc n) = down_told xs n
 -- what is assumed of the program
 pub record Given (P : TypedProgram) : Type 0 where
   pub typed : IsProcess P.channels P.vars P.body
-  pub covered : IsCovered P.body
+  pub covered : ReadsNoTarget P.body
   pub some : (y : ℕ) → y < length P.vars → 1 ≤ var_width P.vars y
 
 module _ (P : TypedProgram) (given : Given P) where

@@ -23,7 +23,7 @@ use Rattle.function_blocks.proofs.GatesTold.{listed}
 use Rattle.circuit_places.proofs.Meets.{read_declared}
 use Rattle.cell_parallel.specs.Trees.{tree_rules}
 use Rattle.cell_parallel.specs.Sizes.{tree_length}
-use Rattle.circuit_places.specs.Covered.{IsCovered, AreCovered, EachCovered}
+use Rattle.chp_meaning.specs.Halves.{ReadsNoTarget, EachReadsNoTarget, ChoicesReadNoTarget}
 use Rattle.circuit_places.specs.Lines.{of_channel, of_var, Rails, Seen}
 use Rattle.circuit_places.specs.Circuit.{of_receive, heard, stored, taking, Pairs, side_of, gate_count, Cells, TurnCells, BranchCells, bit_at, joint_count, tree_value, tree_rule, branch_ends as cell_ends, answer, turn_answer, Spot, TurnSpot, BranchSpot, of_branch, joint, in_this, in_others, child, latch, next, inner, of_skip, done, gate, of_assign, of_send, in_members, of_loop, ask, in_body, in_last, in_member, in_later, Rule, rule_of, gate_rule, rule, turn_rule, branch_rule, GuardCells, ChoiceCells, GuardSpot, this_gate, other_gate, ChoiceSpot, this_choice, other_choice, of_core, of_guard, of_choice, of_round, guard_head, heads, guards_rule, choice_answers, choice_rule}
 use Rattle.circuit_places.specs.Whole.{all_low}
@@ -203,7 +203,7 @@ module _ (P : TypedProgram) where
       (write_answer r (written_at P z) ∷ formula_rules (bits_at P) e r (from + 1))) c
 
   mutual
-    pub length-rules : (p : Process) → IsCovered p → IsProcess P.channels P.vars p → (r from : ℕ) → length (rules_of P p r from) ≡ size_of P p
+    pub length-rules : (p : Process) → ReadsNoTarget p → IsProcess P.channels P.vars p → (r from : ℕ) → length (rules_of P p r from) ≡ size_of P p
     length-rules skipping c t r from = refl
     length-rules (sending chan at e) c t r from = omega (arith, rules_length P.vars (bits_at P) (has_bits P) e r (from + 1) t.sent.formed t.sent.reads)
     length-rules (in_turn members) c t r from = length-turn_rules members c t.1 r from
@@ -222,7 +222,7 @@ module _ (P : TypedProgram) where
         )
     length-rules (choosing again choices) c t r from = statement_length counted P (choosing again choices) r from t
 
-    pub length-branches_rules : (members : Processes) → AreCovered members → AreProcesses P.channels P.vars members → (r from : ℕ)
+    pub length-branches_rules : (members : Processes) → EachReadsNoTarget members → AreProcesses P.channels P.vars members → (r from : ℕ)
         → length (branches_rules P members r from) ≡ branches_size P members
     length-branches_rules no_members c t r from = refl
     length-branches_rules (and_member p more) c t r from =
@@ -233,7 +233,7 @@ module _ (P : TypedProgram) where
           length-branches_rules more c.1 t.1 r (from + 3 + size_of P p),
         )
 
-    pub length-turn_rules : (members : Processes) → AreCovered members → AreProcesses P.channels P.vars members → (r from : ℕ)
+    pub length-turn_rules : (members : Processes) → EachReadsNoTarget members → AreProcesses P.channels P.vars members → (r from : ℕ)
         → length (turn_rules P members r from) ≡ turn_size P members
     length-turn_rules no_members c t r from = refl
     length-turn_rules (and_member p no_members) c t r from = length-rules p c.0 t.0 r from
@@ -254,7 +254,7 @@ module _ (P : TypedProgram) where
         let b = turn_bits P (and_member q more) x.later in
         stands_before v (from + 3) a b (stands_after v from (from + 3) (x.member.child ∷ x.member.latch ∷ x.member.next ∷ []) (a ++ b) s (omega arith))
 
-    pub stands_later : (p q : Process) (more : Processes) (c : IsCovered p) (from : ℕ) (x : TurnCells (and_member p (and_member q more)))
+    pub stands_later : (p q : Process) (more : Processes) (c : ReadsNoTarget p) (from : ℕ) (x : TurnCells (and_member p (and_member q more)))
         → Stands v from (turn_bits P (and_member p (and_member q more)) x) → Stands v (from + 3 + size_of P p) (turn_bits P (and_member q more) x.later)
     stands_later p q more c from x s =
         let a = bits P p x.member.inner in
@@ -268,7 +268,7 @@ module _ (P : TypedProgram) where
         → Stands v from (branch_bits P members x.branches)
     stands_branches members from x s = stands_before v from (branch_bits P members x.branches) (tree_bits (joint_count (member_count members)) x.tree) s
 
-    pub stands_tree : (members : Processes) (c : AreCovered members) (from : ℕ) (x : Cells (side_by_side members))
+    pub stands_tree : (members : Processes) (c : EachReadsNoTarget members) (from : ℕ) (x : Cells (side_by_side members))
         → Stands v from (bits P (side_by_side members) x) → Stands v (from + branches_size P members) (tree_bits (joint_count (member_count members)) x.tree)
     stands_tree members c from x s =
         stands_after v from (from + branches_size P members) (branch_bits P members x.branches) (tree_bits (joint_count (member_count members)) x.tree) s
@@ -281,7 +281,7 @@ module _ (P : TypedProgram) where
         let b = branch_bits P more x.1 in
         stands_before v (from + 3) a b (stands_after v from (from + 3) (x.0.child ∷ x.0.latch ∷ x.0.next ∷ []) (a ++ b) s (omega arith))
 
-    pub stands_others : (p : Process) (more : Processes) (c : IsCovered p) (from : ℕ) (x : BranchCells (and_member p more))
+    pub stands_others : (p : Process) (more : Processes) (c : ReadsNoTarget p) (from : ℕ) (x : BranchCells (and_member p more))
         → Stands v from (branch_bits P (and_member p more) x) → Stands v (from + 3 + size_of P p) (branch_bits P more x.1)
     stands_others p more c from x s =
         let a = bits P p x.0.inner in
@@ -291,14 +291,14 @@ module _ (P : TypedProgram) where
         (omega (arith, length-bits P p c x.0.inner))
 
     -- the leaves of a completion tree, and its nodes
-    tree_at : (members : Processes) (c : AreCovered members) (from : ℕ) (x : Cells (side_by_side members)) → Stands v from (bits P (side_by_side members) x)
+    tree_at : (members : Processes) (c : EachReadsNoTarget members) (from : ℕ) (x : Cells (side_by_side members)) → Stands v from (bits P (side_by_side members) x)
         → (k : ℕ) → k < joint_count (member_count members)
         → v (from + branches_size P members + k) ≡ bit_at (joint_count (member_count members)) x.tree k
     tree_at members c from x s k less =
         (stands_tree members c from x s).at k (omega (arith, less, length-tree_bits (joint_count (member_count members)) x.tree))
         ∙ tree_bit (joint_count (member_count members)) x.tree k
 
-    leaves_alike : (w : ℕ → Bool) (members : Processes) → AreCovered members → (from a : ℕ) (x : BranchCells members) → Stands v from (branch_bits P members x)
+    leaves_alike : (w : ℕ → Bool) (members : Processes) → EachReadsNoTarget members → (from a : ℕ) (x : BranchCells members) → Stands v from (branch_bits P members x)
         → ((i : ℕ) → i < member_count members → w (a + i) ≡ cell_ends members x i)
         → Alike v w (branch_ends P members from) (range_with_len a (member_count members))
     leaves_alike w no_members c from a x s h = tt
@@ -308,7 +308,7 @@ module _ (P : TypedProgram) where
           (λ i less. ap w (let e : a + 1 + i ≡ a + suc i = omega arith in e) ∙ h (suc i) (omega (arith, less))),
     )
 
-    joint_told : (members : Processes) → AreCovered members → (from : ℕ) (x : Cells (side_by_side members)) (k : ℕ) → k < joint_count (member_count members)
+    joint_told : (members : Processes) → EachReadsNoTarget members → (from : ℕ) (x : Cells (side_by_side members)) (k : ℕ) → k < joint_count (member_count members)
         → Stands v from (bits P (side_by_side members) x)
         → Told v (tree_rules (branch_ends P members from) (branches_end P members from)) (from + branches_size P members) k
         (tree_rule (member_count members) (cell_ends members x.branches) (bit_at (joint_count (member_count members)) x.tree) k)
@@ -328,7 +328,7 @@ module _ (P : TypedProgram) where
 
     -- the answer's node
     mutual
-      pub answer_is : (p : Process) → IsCovered p → IsProcess P.channels P.vars p → (from : ℕ) (x : Cells p) → Stands v from (bits P p x)
+      pub answer_is : (p : Process) → ReadsNoTarget p → IsProcess P.channels P.vars p → (from : ℕ) (x : Cells p) → Stands v from (bits P p x)
           → v (number.answer_of P p from) ≡ answer p x
       answer_is skipping c t from x s = stands_head v from x [] s
       answer_is (sending chan at e) c t from x s = stands_head v from x.answer (pair_bits (gate_count e) x.gates) s
@@ -347,7 +347,7 @@ module _ (P : TypedProgram) where
       answer_is (choosing false choices) c t from x s = stands_head v from x.answer _ s
       answer_is (choosing true choices) c t from x s = stands_head v from x.answer _ s
 
-      pub turn_answer_is : (members : Processes) → AreCovered members → AreProcesses P.channels P.vars members → 1 ≤ member_count members
+      pub turn_answer_is : (members : Processes) → EachReadsNoTarget members → AreProcesses P.channels P.vars members → 1 ≤ member_count members
           → (from : ℕ) (x : TurnCells members) → Stands v from (turn_bits P members x) → v (number.turn_answer P members from) ≡ turn_answer members x
       turn_answer_is no_members c t some from x s = absurd (omega (arith, some))
       turn_answer_is (and_member p no_members) c t some from x s = answer_is p c.0 t.0 from x s
@@ -393,13 +393,13 @@ module _ (P : TypedProgram) where
         → Stands v from (choice_bits P (and_choice g p more) x) → Stands v from (bits P p x.0)
     stands_this_choice p from g more x s = stands_before v from (bits P p x.0) (choice_bits P more x.1) s
 
-    pub stands_other_choice : (p : Process) (from : ℕ) (g : Formula) (more : Choices) (c : IsCovered p) (x : ChoiceCells (and_choice g p more))
+    pub stands_other_choice : (p : Process) (from : ℕ) (g : Formula) (more : Choices) (c : ReadsNoTarget p) (x : ChoiceCells (and_choice g p more))
         → Stands v from (choice_bits P (and_choice g p more) x) → Stands v (from + size_of P p) (choice_bits P more x.1)
     stands_other_choice p from g more c x s =
         stands_after v from (from + size_of P p) (bits P p x.0) (choice_bits P more x.1) s (omega (arith, length-bits P p c x.0))
 
     -- the answers of the branches, and the heads of the guards
-    answers_at : (choices : Choices) → EachCovered choices → AreChoices P.channels P.vars choices → (from : ℕ) (x : ChoiceCells choices)
+    answers_at : (choices : Choices) → ChoicesReadNoTarget choices → AreChoices P.channels P.vars choices → (from : ℕ) (x : ChoiceCells choices)
         → Stands v from (choice_bits P choices x) → BitsAt (choice_count choices) v (branch_answers P choices from) (choice_answers choices x)
     answers_at no_choices c t from x s = tt
     answers_at (and_choice g p more) c t from x s = (
@@ -441,7 +441,7 @@ module _ (P : TypedProgram) where
         → length (again_rules (repeating_at P choices r from)) ≡ 6 + (choice_count choices + choice_count choices)
     again_length choices t r from = omega (arith, latches_and_starts counted P choices (from + 1) (from + 4) again_own from t)
 
-    module _ (choices : Choices) (c : EachCovered choices) (t : AreChoices P.channels P.vars choices) (some : 1 ≤ choice_count choices) (r from : ℕ)
+    module _ (choices : Choices) (c : ChoicesReadNoTarget choices) (t : AreChoices P.channels P.vars choices) (some : 1 ≤ choice_count choices) (r from : ℕ)
         (x : Cells (choosing false choices)) (s : Stands v from (bits P (choosing false choices) x)) where
       own_at : (k : ℕ) → k < 3 + (choice_count choices + choice_count choices) → v (from + k) ≡ get_or (own_list x) k false
       own_at k less = (stands_before v from (own_list x) (guard_bits choices x.guards ++ choice_bits P choices x.branches) s).at k
@@ -481,7 +481,7 @@ module _ (P : TypedProgram) where
           }
 
     -- and of a repetition
-    module _ (choices : Choices) (c : EachCovered choices) (t : AreChoices P.channels P.vars choices) (r from : ℕ) (x : Cells (choosing true choices))
+    module _ (choices : Choices) (c : ChoicesReadNoTarget choices) (t : AreChoices P.channels P.vars choices) (r from : ℕ) (x : Cells (choosing true choices))
         (s : Stands v from (bits P (choosing true choices) x)) where
       round_at : (k : ℕ) → k < 6 + (choice_count choices + choice_count choices) → v (from + k) ≡ get_or (again_list x) k false
       round_at k less = (stands_before v from (again_list x) (guard_bits choices x.core.guards ++ choice_bits P choices x.core.branches) s).at k
@@ -509,7 +509,7 @@ module _ (P : TypedProgram) where
           ++ bodies_rules P choices (from + again_own + choice_count choices) (bodies_from choices again_own from)) no_rules k
           (omega (arith, less, again_length choices t r from))
 
-    module _ (g : Formula) (p : Process) (more : Choices) (c : EachCovered (and_choice g p more))
+    module _ (g : Formula) (p : Process) (more : Choices) (c : ChoicesReadNoTarget (and_choice g p more))
         (t : AreChoices P.channels P.vars (and_choice g p more)) (r from : ℕ) (x : Cells (choosing true (and_choice g p more)))
         (s : Stands v from (bits P (choosing true (and_choice g p more)) x)) where
       abbrev Arms : Choices
@@ -620,7 +620,7 @@ module _ (P : TypedProgram) where
           ∙ behind_rules here bodies (guards_size choices) k (guards_length counted P choices r to t)) (omega (arith, at, behind)) told
 
       mutual
-        pub rule_is : (p : Process) → IsCovered p → IsProcess P.channels P.vars p → (r from : ℕ) (x : Cells p) (s : Spot p) → IsFine P p s
+        pub rule_is : (p : Process) → ReadsNoTarget p → IsProcess P.channels P.vars p → (r from : ℕ) (x : Cells p) (s : Spot p) → IsFine P p s
             → Stands v from (bits P p x) → Told v (rules_of P p r from) from (place P p s) (rule p w (v r) x s)
         rule_is skipping c t r from x of_skip f s = record { now = s.at 0 (omega arith); up = one_high v r; down = one_low v r }
         rule_is (sending chan at e) c t r from x (of_send done) f s = record {
@@ -731,7 +731,7 @@ module _ (P : TypedProgram) where
             (again_started choices c t.2 r from x s) (again_choices choices from x s))
         rule_is (choosing true no_choices) c t r from x z f s = absurd (let e : 1 ≤ 0 = t.0 in let g : ⊥ = omega (arith, e) in g)
 
-        choice_rule_is : (choices : Choices) → EachCovered choices → AreChoices P.channels P.vars choices → (start from : ℕ) (b : Bits (choice_count choices))
+        choice_rule_is : (choices : Choices) → ChoicesReadNoTarget choices → AreChoices P.channels P.vars choices → (start from : ℕ) (b : Bits (choice_count choices))
             (x : ChoiceCells choices) (z : ChoiceSpot choices) → IsFineChoice P choices z
             → BitsAt (choice_count choices) v (range_with_len start (choice_count choices)) b → Stands v from (choice_bits P choices x)
             → Told v (bodies_rules P choices start from) from (choice_place P choices z) (choice_rule choices w b x z)
@@ -751,7 +751,7 @@ module _ (P : TypedProgram) where
             (behind_rules here rest (size_of P p) (choice_place P more z) (length-rules p c.0 t.1 start from)) (omega arith)
             (choice_rule_is more c.1 t.2 (start + 1) (from + size_of P p) b.1 x.1 z f a.1 (stands_other_choice p from g more c.0 x s))
 
-        pub branch_rule_is : (members : Processes) → AreCovered members → AreProcesses P.channels P.vars members
+        pub branch_rule_is : (members : Processes) → EachReadsNoTarget members → AreProcesses P.channels P.vars members
             → (r from : ℕ) (x : BranchCells members) (s : BranchSpot members) → IsFineBranch P members s → Stands v from (branch_bits P members x)
             → Told v (branches_rules P members r from) from (branch_place P members s) (branch_rule members w (v r) x s)
         branch_rule_is no_members c t r from x z f s = elim z [ ]
@@ -790,7 +790,7 @@ module _ (P : TypedProgram) where
             (omega arith)
             (branch_rule_is more c.1 t.1 r (from + 3 + size_of P p) x.1 z f (stands_others p more c.0 from x s))
 
-        pub turn_rule_is : (members : Processes) → AreCovered members → AreProcesses P.channels P.vars members
+        pub turn_rule_is : (members : Processes) → EachReadsNoTarget members → AreProcesses P.channels P.vars members
             → (r from : ℕ) (x : TurnCells members) (s : TurnSpot members) → IsFineTurn P members s → Stands v from (turn_bits P members x)
             → Told v (turn_rules P members r from) from (turn_place P members s) (turn_rule members w (v r) x s)
         turn_rule_is no_members c t r from x z f s = elim z [ ]

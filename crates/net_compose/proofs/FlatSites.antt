@@ -12,7 +12,7 @@ use Rattle.width_check.specs.Reads.{reads}
 use Rattle.width_check.specs.Typing.{ReadsFrom, IsProcess, AreProcesses, channel_width, var_width, AreChoices}
 use Rattle.handshake_expand.specs.Layout.{formula_size, size_of}
 use Rattle.function_blocks.specs.Expressions.{formula_result}
-use Rattle.circuit_places.specs.Covered.{IsCovered, AreCovered, EachCovered}
+use Rattle.chp_meaning.specs.Halves.{ReadsNoTarget, EachReadsNoTarget, ChoicesReadNoTarget}
 use Rattle.circuit_places.specs.Lines.{Line, of_channel, of_var, same_line, line_width}
 use Rattle.chp_base.specs.declared.span.Span.{Span}
 use Rattle.circuit_places.specs.Circuit.{gate_count, Site, rails_of_site, Port, rails_of_port, Cells, TurnCells, BranchCells, site_rails, turn_rails, branch_rails, takers_of_port, takers, turn_takers, branch_takers, ChoiceCells, choice_rails, choice_takers}
@@ -31,7 +31,7 @@ line_site P (of_channel k) = send_site k
 line_site P (of_var x) = write_site P x
 
 -- the number of a rail
-pair_place : (n from i : ℕ) (one : Bool) → i < n → node_of (pair_of (pairs_from n from) i) one ≡ from + rail_place i one
+pub pair_place : (n from i : ℕ) (one : Bool) → i < n → node_of (pair_of (pairs_from n from) i) one ≡ from + rail_place i one
 pair_place zero from i one h = absurd (omega arith)
 pair_place (suc n) from zero true h = omega arith
 pair_place (suc n) from zero false h = refl
@@ -42,7 +42,7 @@ module _ (v : ℕ → Bool) where
   abbrev pub at_sites : ℕ → Bool → List (List Pair) → List Bool
   at_sites i one sites = map v (map (at_site i one) sites)
 
-  at_append : (i : ℕ) (one : Bool) (xs ys : List (List Pair)) → at_sites i one (xs ++ ys) ≡ at_sites i one xs ++ at_sites i one ys
+  pub at_append : (i : ℕ) (one : Bool) (xs ys : List (List Pair)) → at_sites i one (xs ++ ys) ≡ at_sites i one xs ++ at_sites i one ys
   at_append i one [] ys = refl
   at_append i one (x ∷ xs) ys = ap (λ l. v (at_site i one x) ∷ l) (at_append i one xs ys)
 
@@ -104,7 +104,7 @@ module _ (v : ℕ → Bool) where
 
   module _ (P : TypedProgram) (k : Line) (i : ℕ) (one : Bool) (within : i < line_width P k) where
     mutual
-      pub sites_are : (p : Process) → IsCovered p → IsProcess P.channels P.vars p → (from : ℕ) (x : Cells p) → Stands v from (bits P p x)
+      pub sites_are : (p : Process) → ReadsNoTarget p → IsProcess P.channels P.vars p → (from : ℕ) (x : Cells p) → Stands v from (bits P p x)
           → at_sites i one (sites_in P (line_site P k) p from) ≡ site_rails p x k i one
       sites_are skipping c t from x s = skip_here P i one k from
       sites_are (sending chan at e) c t from x s =
@@ -123,7 +123,7 @@ module _ (v : ℕ → Bool) where
       sites_are (choosing true choices) c t from x s =
           choice_sites_are choices c t.2 (bodies_from choices again_own from) x.core.branches (again_choices P v choices from x s)
 
-      choice_sites_are : (choices : Choices) → EachCovered choices → AreChoices P.channels P.vars choices → (from : ℕ) (x : ChoiceCells choices)
+      choice_sites_are : (choices : Choices) → ChoicesReadNoTarget choices → AreChoices P.channels P.vars choices → (from : ℕ) (x : ChoiceCells choices)
           → Stands v from (choice_bits P choices x) → at_sites i one (sites_in_bodies P (line_site P k) choices from) ≡ choice_rails choices x k i one
       choice_sites_are no_choices c t from x s = refl
       choice_sites_are (and_choice g p more) c t from x s =
@@ -134,7 +134,7 @@ module _ (v : ℕ → Bool) where
           ∙ ap (λ l. site_rails p x.0 k i one ++ l) (choice_sites_are more c.1 t.2 (from + size_of P p) x.1
           (stands_other_choice P v p from g more c.0 x s)))
 
-      branch_sites_are : (members : Processes) → AreCovered members → AreProcesses P.channels P.vars members → (from : ℕ) (x : BranchCells members)
+      branch_sites_are : (members : Processes) → EachReadsNoTarget members → AreProcesses P.channels P.vars members → (from : ℕ) (x : BranchCells members)
           → Stands v from (branch_bits P members x) → at_sites i one (sites_in_branches P (line_site P k) members from) ≡ branch_rails members x k i one
       branch_sites_are no_members c t from x s = refl
       branch_sites_are (and_member p more) c t from x s =
@@ -144,7 +144,7 @@ module _ (v : ℕ → Bool) where
           ∙ (ap (λ l. l ++ at_sites i one rest) (sites_are p c.0 t.0 (from + 3) x.0.inner (stands_this P v p more from x s))
           ∙ ap (λ l. site_rails p x.0.inner k i one ++ l) (branch_sites_are more c.1 t.1 (from + 3 + size_of P p) x.1 (stands_others P v p more c.0 from x s)))
 
-      turn_sites_are : (members : Processes) → AreCovered members → AreProcesses P.channels P.vars members → (from : ℕ) (x : TurnCells members)
+      turn_sites_are : (members : Processes) → EachReadsNoTarget members → AreProcesses P.channels P.vars members → (from : ℕ) (x : TurnCells members)
           → Stands v from (turn_bits P members x) → at_sites i one (sites_in_turn P (line_site P k) members from) ≡ turn_rails members x k i one
       turn_sites_are no_members c t from x s = refl
       turn_sites_are (and_member p no_members) c t from x s = sites_are p c.0 t.0 from x s
@@ -157,7 +157,7 @@ module _ (v : ℕ → Bool) where
           (stands_later P v p q more c.0 from x s)))
 
   -- the nodes by which receives on a channel have stored
-  mapped_append : (xs ys : List ℕ) → map v (xs ++ ys) ≡ map v xs ++ map v ys
+  pub mapped_append : (xs ys : List ℕ) → map v (xs ++ ys) ≡ map v xs ++ map v ys
   mapped_append [] ys = refl
   mapped_append (x ∷ xs) ys = ap (λ l. v x ∷ l) (mapped_append xs ys)
 
@@ -167,7 +167,7 @@ module _ (v : ℕ → Bool) where
     taker_here chan from x e false = refl
 
     mutual
-      pub takers_are : (p : Process) → IsCovered p → IsProcess P.channels P.vars p → (from : ℕ) (x : Cells p) → Stands v from (bits P p x)
+      pub takers_are : (p : Process) → ReadsNoTarget p → IsProcess P.channels P.vars p → (from : ℕ) (x : Cells p) → Stands v from (bits P p x)
           → map v (sites_in P (receive_site k) p from) ≡ takers p x k
       takers_are skipping c t from x s = refl
       takers_are (sending chan at e) c t from x s = refl
@@ -181,7 +181,7 @@ module _ (v : ℕ → Bool) where
       takers_are (choosing true choices) c t from x s =
           choice_takers_are choices c t.2 (bodies_from choices again_own from) x.core.branches (again_choices P v choices from x s)
 
-      choice_takers_are : (choices : Choices) → EachCovered choices → AreChoices P.channels P.vars choices → (from : ℕ) (x : ChoiceCells choices)
+      choice_takers_are : (choices : Choices) → ChoicesReadNoTarget choices → AreChoices P.channels P.vars choices → (from : ℕ) (x : ChoiceCells choices)
           → Stands v from (choice_bits P choices x) → map v (sites_in_bodies P (receive_site k) choices from) ≡ choice_takers choices x k
       choice_takers_are no_choices c t from x s = refl
       choice_takers_are (and_choice g p more) c t from x s =
@@ -191,7 +191,7 @@ module _ (v : ℕ → Bool) where
           ∙ (ap (λ l. l ++ map v rest) (takers_are p c.0 t.1 from x.0 (stands_this_choice P v p from g more x s))
           ∙ ap (λ l. takers p x.0 k ++ l) (choice_takers_are more c.1 t.2 (from + size_of P p) x.1 (stands_other_choice P v p from g more c.0 x s)))
 
-      branch_takers_are : (members : Processes) → AreCovered members → AreProcesses P.channels P.vars members → (from : ℕ) (x : BranchCells members)
+      branch_takers_are : (members : Processes) → EachReadsNoTarget members → AreProcesses P.channels P.vars members → (from : ℕ) (x : BranchCells members)
           → Stands v from (branch_bits P members x) → map v (sites_in_branches P (receive_site k) members from) ≡ branch_takers members x k
       branch_takers_are no_members c t from x s = refl
       branch_takers_are (and_member p more) c t from x s =
@@ -201,7 +201,7 @@ module _ (v : ℕ → Bool) where
           ∙ (ap (λ l. l ++ map v rest) (takers_are p c.0 t.0 (from + 3) x.0.inner (stands_this P v p more from x s))
           ∙ ap (λ l. takers p x.0.inner k ++ l) (branch_takers_are more c.1 t.1 (from + 3 + size_of P p) x.1 (stands_others P v p more c.0 from x s)))
 
-      turn_takers_are : (members : Processes) → AreCovered members → AreProcesses P.channels P.vars members → (from : ℕ) (x : TurnCells members)
+      turn_takers_are : (members : Processes) → EachReadsNoTarget members → AreProcesses P.channels P.vars members → (from : ℕ) (x : TurnCells members)
           → Stands v from (turn_bits P members x) → map v (sites_in_turn P (receive_site k) members from) ≡ turn_takers members x k
       turn_takers_are no_members c t from x s = refl
       turn_takers_are (and_member p no_members) c t from x s = takers_are p c.0 t.0 from x s

@@ -62,7 +62,8 @@ Alike v w [] [] = Unit {0}
 Alike v w (m ∷ ms) (l ∷ ls) = (v m ≡ w l) × Alike v w ms ls
 Alike v w _ _ = ⊥
 
-abbrev RulesAlike : (v w : ℕ → Bool) → List NodeRules → List NodeRules → Type 0
+-- two lists of rules say the same, one by one
+abbrev pub RulesAlike : (v w : ℕ → Bool) → List NodeRules → List NodeRules → Type 0
 RulesAlike v w [] [] = Unit {0}
 RulesAlike v w (r ∷ rs) (s ∷ ss) = (guard_holds v r.up ≡ guard_holds w s.up) × (guard_holds v r.down ≡ guard_holds w s.down) × RulesAlike v w rs ss
 RulesAlike v w _ _ = ⊥
@@ -74,13 +75,13 @@ module _ (v w : ℕ → Bool) where
   alike_length [] (l ∷ ls) h = absurd h
   alike_length (m ∷ ms) [] h = absurd h
 
-  rules_append : (rs ss rs' ss' : List NodeRules) → RulesAlike v w rs ss → RulesAlike v w rs' ss' → RulesAlike v w (rs ++ rs') (ss ++ ss')
+  pub rules_append : (rs ss rs' ss' : List NodeRules) → RulesAlike v w rs ss → RulesAlike v w rs' ss' → RulesAlike v w (rs ++ rs') (ss ++ ss')
   rules_append [] [] rs' ss' h k = k
   rules_append (r ∷ rs) (s ∷ ss) rs' ss' h k = (h.0, h.1, rules_append rs ss rs' ss' h.2 k)
   rules_append [] (s ∷ ss) rs' ss' h k = absurd h
   rules_append (r ∷ rs) [] rs' ss' h k = absurd h
 
-  rules_at : (rs ss : List NodeRules) → RulesAlike v w rs ss → (k : ℕ) → (guard_holds v (get_or rs k no_rules).up ≡ guard_holds w (get_or ss k no_rules).up) ×
+  pub rules_at : (rs ss : List NodeRules) → RulesAlike v w rs ss → (k : ℕ) → (guard_holds v (get_or rs k no_rules).up ≡ guard_holds w (get_or ss k no_rules).up) ×
       (guard_holds v (get_or rs k no_rules).down ≡ guard_holds w (get_or ss k no_rules).down)
   rules_at [] [] h k = (refl, refl)
   rules_at (r ∷ rs) (s ∷ ss) h zero = (h.0, h.1)
@@ -131,10 +132,13 @@ module _ (v w : ℕ → Bool) where
       ap v (let e : to + length ms / 2 + j ≡ to + (length ls / 2 + j) = omega (arith, same) in e)
       ∙ (own (length ls / 2 + j) (omega (arith, less, whole, long)) ∙ ap w (let e : from + (length ls / 2 + j) ≡ from + length ls / 2 + j = omega arith in e))))
 
+  pub tree_rules_alike : (ms ls : List ℕ) (to from : ℕ) → Alike v w ms ls → ((j : ℕ) → j < length (tree_rules ls from) → v (to + j) ≡ w (from + j))
+      → RulesAlike v w (tree_rules ms to) (tree_rules ls from)
+  tree_rules_alike ms ls to from h own =
+      subst (λ (n : ℕ). RulesAlike v w (levels_rules n ms to) (tree_rules ls from)) (sym (alike_length ms ls h))
+      (levels_alike (length ls) ms ls to from h own)
+
   pub tree_alike : (ms ls : List ℕ) (to from : ℕ) → Alike v w ms ls → ((j : ℕ) → j < length (tree_rules ls from) → v (to + j) ≡ w (from + j)) → (k : ℕ)
       → (guard_holds v (get_or (tree_rules ms to) k no_rules).up ≡ guard_holds w (get_or (tree_rules ls from) k no_rules).up) ×
       (guard_holds v (get_or (tree_rules ms to) k no_rules).down ≡ guard_holds w (get_or (tree_rules ls from) k no_rules).down)
-  tree_alike ms ls to from h own =
-      rules_at (tree_rules ms to) (tree_rules ls from)
-      (subst (λ (n : ℕ). RulesAlike v w (levels_rules n ms to) (tree_rules ls from)) (sym (alike_length ms ls h))
-      (levels_alike (length ls) ms ls to from h own))
+  tree_alike ms ls to from h own = rules_at (tree_rules ms to) (tree_rules ls from) (tree_rules_alike ms ls to from h own)

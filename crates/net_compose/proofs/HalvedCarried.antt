@@ -1,44 +1,68 @@
--- What a circuit carries of a program in halves, it carries of the program.
-use Rattle.std.proofs.Common.{◌≡◌, ℕ, ◌≤◌, List, ◌∙◌, arith}
+-- The net of each program carries it: that of the program in halves passes what that does, so what the program does;
+-- and it is the program's own net with its nodes numbered otherwise.
+use Rattle.std.proofs.Common.{◌≡◌, ℕ, zero, suc, ◌+◌, ◌<◌, ◌≤◌, Bool, true, false, List, [], ◌∷◌, map, length, Some, refl, ap, ◌∙◌, subst, arith}
+use Rattle.std.specs.Prelude.{◌||◌, All}
+use Rattle.std.proofs.lemmas.List.Elements.{All-head, All-tail}
+use Rattle.chp_base.specs.declared.span.Span.{Span}
+use Rattle.chp_base.specs.declared.channel.Channel.{Channel}
+use Rattle.prs_core.specs.declared.wires.Wires.{Wires}
 use Rattle.env_script.specs.Scripts.{OfferValue}
-use Rattle.width_check.specs.Processes.{TypedProgram}
-use Rattle.width_check.specs.Typing.{IsTyped}
+use Rattle.width_check.specs.declared.typed.Var.{Var}
+use Rattle.width_check.specs.Processes.{Formula, Process, skipping, assigning, sending, receiving, in_turn, side_by_side, choosing, repeating, Processes, no_members, and_member, TypedProgram}
+use Rattle.width_check.specs.Reads.{reads}
+use Rattle.width_check.specs.Typing.{var_width, IsDeclaredVar, IsTyped}
 use Rattle.width_check.specs.Sharing.{MeetsSharing}
-use Rattle.chp_meaning.specs.Steps.{Configuration, Leads, start_of}
-use Rattle.chp_meaning.specs.Halves.{halved_program, HalvesFollow}
-use Rattle.circuit_places.specs.Whole.{Whole}
-use Rattle.circuit_places.specs.Carried.{IsSafe, IsAtRest, IsSettled, IsCarried}
+use Rattle.handshake_expand.specs.Layout.{root_request, nodes_of}
+use Rattle.handshake_expand.specs.Named.{node_names}
+use Rattle.function_blocks.proofs.Sizes.{result_length, rules_length}
+use Rattle.cell_parallel.specs.Sizes.{tree_length}
+use Rattle.chp_meaning.specs.Terms.{Place}
+use Rattle.chp_meaning.specs.Steps.{Configuration, Step, Leads}
+use Rattle.chp_meaning.specs.Rounds.{step_at}
+use Rattle.chp_meaning.specs.Laws.{IsBehind, OneHistory, RoundsHold}
+use Rattle.chp_meaning.specs.Halves.{hidden_vars, halved_assign, halved, halved_each, halved_program, IsSizedVar, HalvesFollow, HalvesArePlain}
+use Rattle.circuit_places.specs.Carried.{CircuitsCarry}
+use Rattle.net_compose.specs.Translation.{translation, composed, first_values, wires_from}
+use Rattle.net_compose.specs.Carries.{Carries}
+use Rattle.net_compose.proofs.Sizes.{Counted}
+use Rattle.net_compose.proofs.Passing.{Passes, halves_pass, renamed_passes, passes_carry}
+use Rattle.net_compose.proofs.PlainPasses.{plain_passes}
+use Rattle.net_compose.proofs.HalvedNet.{renamed}
+use Rattle.net_compose.proofs.HalvedRenamed.{net_there, translation_there, is_renaming}
 
--- the circuit is that of one program, the run that of another
-pub record IsCarriedBeside (P Q : TypedProgram) (script : List OfferValue) (moves : ℕ) (x : Whole Q.body) : Type 0 where
-  pub safe : IsSafe Q script x
-  pub to : Configuration
-  pub steps : ℕ
-  pub within : steps ≤ moves
-  pub leads : Leads (start_of P script) steps to
-  pub passed : to.histories ≡ x.histories
-  pub rest : IsAtRest Q script x → IsSettled Q x to
+-- each variable has a bit
+declared_bits : (vs : List Var) → All IsDeclaredVar vs → (y : ℕ) → y < length vs → 1 ≤ var_width vs y
+declared_bits [] each y h = absurd (omega (arith, h))
+declared_bits (v ∷ vs) each zero h = (All-head IsDeclaredVar v vs each).some
+declared_bits (v ∷ vs) each (suc y) h = declared_bits vs (All-tail IsDeclaredVar v vs each) y (omega (arith, h))
 
-pub carried_beside : HalvesFollow → (P : TypedProgram) (script : List OfferValue) → IsTyped P.channels P.vars P.body → MeetsSharing P.body
-    → (moves : ℕ) (x : Whole (halved_program P).body)
-    → IsCarried (halved_program P) script moves x → IsCarriedBeside P (halved_program P) script moves x
-carried_beside follow P script typed meets moves x carried =
-    let r = follow P script typed meets carried.steps carried.to carried.leads in
-    let few = r.2 in
-    let most = carried.within in
-    let abreast = r.4 in
-    record {
-      safe = carried.safe;
-      to = r.0;
-      steps = r.1;
-      within = omega arith;
-      leads = r.3;
-      passed = abreast.histories ∙ carried.passed;
-      rest = λ rests.
-          let s = carried.rest rests in
-          record {
-            still = λ at d step. let g = abreast.goes_on (at, d, step) in s.still g.0 g.1 g.2;
-            ended = λ high. abreast.ends.1 (s.ended high);
-            going = λ low e. s.going low (abreast.ends.0 e);
-          };
-    }
+sized_bits : (vs : List Var) → All IsSizedVar vs → (y : ℕ) → y < length vs → 1 ≤ var_width vs y
+sized_bits [] each y h = absurd (omega (arith, h))
+sized_bits (v ∷ vs) each zero h = (All-head IsSizedVar v vs each).some
+sized_bits (v ∷ vs) each (suc y) h = sized_bits vs (All-tail IsSizedVar v vs each) y (omega (arith, h))
+
+same_channels : (P : TypedProgram) (k : ℕ) (cs : List Channel) → map (λ (w : Wires). w.channel) (wires_from P k cs) ≡ cs
+same_channels P k [] = refl
+same_channels P k (c ∷ cs) = ap (λ l. c ∷ l) (same_channels P (suc k) cs)
+
+counted : Counted
+counted = record { bits = result_length; rules = rules_length; tree = tree_length }
+
+-- what is assumed here are laws of steps and rounds, of programs in halves, and that of circuits as trees of cells
+pub translation_carries : ((c d : Configuration) (at : Place) → step_at c at ≡ Some d → Step c at d) → ((c d : Configuration) (n : ℕ) → Leads c n d → IsBehind c d)
+    → ((p : TypedProgram) (script : List OfferValue) → MeetsSharing p.body → OneHistory p script)
+    → ((p : TypedProgram) (script : List OfferValue) → MeetsSharing p.body → RoundsHold p script)
+    → HalvesFollow → HalvesArePlain → CircuitsCarry
+    → (P : TypedProgram) → IsTyped P.channels P.vars P.body → MeetsSharing P.body → Carries (translation P) P
+translation_carries steps_taken append one hold follow halves circuits P typed meets =
+    let Q = halved_program P in
+    let h = halves P typed meets in
+    let plainly = h.plain in
+    let passes = plain_passes circuits Q (record { typed = h.sized.body_is; covered = plainly; some = sized_bits Q.vars h.sized.each_var }) h in
+    let some = declared_bits P.vars typed.each_var in
+    let renaming = is_renaming counted P typed.body_is h.plain some plainly h.sized.body_is in
+    let numbered : Passes (net_there counted P typed.body_is h.plain some plainly) Q = subst (λ net. Passes net Q)
+    (translation_there counted P typed.body_is h.plain some plainly) passes in
+    let mine : Passes (translation P) Q = renamed_passes (node_names P) (node_names Q) (first_values P) (first_values Q) (composed P) (composed Q)
+    (wires_from P 0 P.channels) (renamed counted P typed.body_is h.plain some) (nodes_of P) (root_request P) renaming (omega arith) Q numbered in
+    passes_carry steps_taken append one hold (translation P) P meets (same_channels P 0 P.channels) (halves_pass follow (translation P) P typed meets mine)

@@ -11,7 +11,7 @@ pub mod FlatWires
 pub mod FlatBlocks
 pub mod FlatFirst
 pub mod FlatNet
-pub mod CoveredCarried
+pub mod PlainPasses
 pub mod Sizes
 pub mod GuardCosts
 pub mod NetLiterals
@@ -20,6 +20,17 @@ pub mod NetFilled
 pub mod NetHolds
 pub mod HalvedNumbers
 pub mod HalvedCarried
+pub mod HalvedNodes
+pub mod SameValues
+pub mod SameSelections
+pub mod HalvedAlike
+pub mod HalvedSites
+pub mod HiddenBlocks
+pub mod Renamed
+pub mod Passing
+pub mod NumberedOnce
+pub mod HalvedNet
+pub mod HalvedRenamed
 pub mod ResetCarried
 pub mod FirstsMade
 pub mod FormulaReady

@@ -1,4 +1,4 @@
--- The three points of carrying a program, each by itself, and what is to hold of the nets of programs.
+-- The three points of carrying a program, each by itself, and what holds of the nets of programs.
 use Rattle.std.specs.Prelude.{ℕ, ◌≤◌, List, length}
 use Rattle.prs_core.specs.Nets.{NetValue}
 use Rattle.env_script.specs.Scripts.{OfferValue, IsScript}
@@ -7,7 +7,6 @@ use Rattle.width_check.specs.Processes.{TypedProgram}
 use Rattle.width_check.specs.Sharing.{MeetsSharing}
 use Rattle.width_check.specs.Typing.{IsTyped}
 use Rattle.chp_meaning.specs.Rounds.{rounds}
-use Rattle.handshake_expand.specs.Layout.{nodes_of}
 use Rattle.net_compose.specs.Carries.{IsFollowing, IsSettled, HasChannels, Carries}
 use Rattle.net_compose.specs.Translation.{translation}
 
@@ -37,11 +36,11 @@ pub record HasPoints (net : NetValue) (p : TypedProgram) : Type 0 where
   pub prefix : CarriesPrefix net p
   pub rest : CarriesRest net p
 
--- the programs whose nets are to carry them: checked, and within the limit of nodes
+-- the programs whose nets carry them: typed, and within the sharing rule
 pub record IsTranslated (p : TypedProgram) : Type 0 where
   pub typed : IsTyped p.channels p.vars p.body
   pub sharing : MeetsSharing p.body
-  pub fits : nodes_of p ≤ 65536
 
-abbrev pub TranslationCarries : TypedProgram → Type 0
-TranslationCarries p = IsTranslated p → Carries (translation p) p
+-- the net of each of them carries it
+abbrev pub TranslationCarries : Type 0
+TranslationCarries = (p : TypedProgram) → IsTranslated p → Carries (translation p) p

@@ -4,33 +4,68 @@ ghost use Rattle.std.specs.Prelude.{◌↔◌, ◌≤◌};
 ghost use Rattle.prs_core.specs.Nets.{NetValue, IsRules, IsNet};
 ghost use Rattle.width_check.specs.Processes.{TypedProgram};
 ghost use Rattle.width_check.specs.Typing.{IsTyped};
-ghost use Rattle.circuit_places.specs.Covered.{Covered};
 ghost use Rattle.handshake_expand.specs.Layout.{nodes_of};
 ghost use Rattle.net_compose.specs.Translation.{composed, translation};
 ghost use Rattle.net_compose.specs.Carries.{Carries, ResetCarries};
-ghost use Rattle.net_compose.specs.Points.{HasPoints};
+ghost use Rattle.net_compose.specs.Points.{
+  HasPoints,
+  IsTranslated,
+  TranslationCarries,
+  CarriesSafe,
+  CarriesPrefix,
+  CarriesRest,
+};
 ghost use Rattle.net_compose.specs.Sized.{IsOfSize};
 
-use chp_meaning::{one_history, rounds_hold, runs_append, steps_taken};
+use chp_meaning::{
+    halves_are_plain, halves_follow, one_history, rounds_hold, runs_append, steps_taken,
+};
 use circuit_places::circuits_carry;
 use reset_runs::reset_runs;
 
-/// Law: the net of a covered program carries it. Covered are skip, sends of any expression over variables, receives,
-/// assignments of any expression that doesn't read their own target, sequences, parallel compositions and loops that go
-/// on for ever, on `in`, `out` and internal channels, under the sharing rule; any number of sites at each end of a
-/// channel and of a variable, in whatever branches, of any width, and whatever channels and variables are declared
-/// besides and not used. In every run of the net, under every script and in whatever order the nodes switch, no enabled
-/// move is taken away, no node is pulled both ways and no channel leaves its phases; what has passed on a channel after
-/// some moves is a front of what has passed there after as many rounds of the program; and at rest it is all of it, the
-/// program goes no further, and `done` is high exactly where it has ended.
-pub fn covered_carried()
-    ensures { (p : TypedProgram) → IsTyped p.channels p.vars p.body → Covered p → Carries (translation p) p }
+/// Law: the net of each typed program that meets the sharing rule carries it, whatever it is made of: skip, sends of any
+/// expression, receives, assignments, also those that read their own target, sequences, parallel compositions,
+/// selections, guarded repetitions and loops that go on for ever, on `in`, `out` and internal channels; any number of
+/// sites at each end of a channel and of a variable, in whatever branches, of any width. In every run of the net, under
+/// every script and in whatever order the nodes switch, the three points hold that `carries_safe`, `carries_prefix` and
+/// `carries_rest` say one by one.
+pub fn carries()
+    ensures { TranslationCarries }
 {
     steps_taken();
     runs_append();
     one_history();
     rounds_hold();
+    halves_follow();
+    halves_are_plain();
     circuits_carry();
+}
+
+/// Law: the net of each such program is free of hazards. In every run no enabled move is taken away (stability), no node
+/// is pulled both ways (non-interference), and no channel leaves its four phases.
+pub fn carries_safe()
+    ensures { (p : TypedProgram) → IsTranslated p → CarriesSafe (translation p) p }
+{
+    carries();
+    three_points();
+}
+
+/// Law: what has passed on a channel of the net of each such program after some moves is a front of what has passed there
+/// after as many rounds of the program.
+pub fn carries_prefix()
+    ensures { (p : TypedProgram) → IsTranslated p → CarriesPrefix (translation p) p }
+{
+    carries();
+    three_points();
+}
+
+/// Law: where the net of each such program is at rest, all has passed that the program passes, the program goes no
+/// further, and `done` is high exactly where it has ended.
+pub fn carries_rest()
+    ensures { (p : TypedProgram) → IsTranslated p → CarriesRest (translation p) p }
+{
+    carries();
+    three_points();
 }
 
 /// Law: a net carries a program exactly where its channels are the program's and each of the three points holds in

@@ -3,13 +3,12 @@
 ghost use Rattle.std.specs.Prelude.{◌≡◌, ◌<◌, ◌≤◌, IfOk, OnOk, IfErr};
 ghost use Rattle.width_check.specs.Typed.{program_of};
 ghost use Rattle.handshake_expand.specs.Layout.{node_count, nodes_of};
-ghost use Rattle.circuit_places.specs.Covered.{Covered};
 ghost use Rattle.net_compose.specs.Carries.{Carries};
 ghost use Rattle.net_compose.specs.Errors.{IfTooMany};
 ghost use Rattle.net_compose.specs.Translation.{translation};
 
 use crate::compose::compose;
-use crate::laws::covered_carried;
+use crate::laws::carries;
 use handshake_expand::count_nodes;
 use prs_core::Net;
 use sharing_check::Disjoint;
@@ -30,16 +29,15 @@ pub enum NetError {
 }
 
 /// The net of a program, with the layout and the rules of its circuit (Martin). One that would have more than 65,536
-/// nodes is refused with their number. The net of a covered program carries it: see `covered_carried`.
+/// nodes is refused with their number. The net carries the program: see the law `carries`.
 pub fn translate(alloc: Global, program: &Disjoint) -> Result<Net, NetError>
     ensures net { IfOk result (λ net. net ≡ translation (program_of program.now)) }
     ensures fits { OnOk result (nodes_of (program_of program.now) ≤ 65536) }
-    ensures carries { OnOk result (Covered (program_of program.now)
-        → Carries (translation (program_of program.now)) (program_of program.now)) }
+    ensures carries { OnOk result (Carries (translation (program_of program.now)) (program_of program.now)) }
     ensures count { IfErr result (IfTooMany (λ count. count ≡ node_count (program_of program.now))) }
     ensures too_many { IfErr result (IfTooMany (λ _. 65536 < nodes_of (program_of program.now))) }
 {
-    covered_carried();
+    carries();
     let typed = program.typed();
     // what the program's type keeps is told of its body
     let _kept = typed.body();

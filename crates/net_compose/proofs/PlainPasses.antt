@@ -1,6 +1,6 @@
--- The net of each covered program carries it.
-use Rattle.std.proofs.Common.{◌≡◌, ◌≢◌, ℕ, zero, suc, ◌+◌, ◌-◌, ◌<◌, ◌≤◌, ◌==◌, Bool, true, false, List, [], ◌∷◌, ◌++◌, map, length, get_or, replicate, Option, Some, None, inl, inr, refl, sym, ap, ◌∙◌, subst, arith, ◌⊎◌, ◌*◌, ⊎_elim, append-nil, append_assoc}
-use Rattle.std.specs.Prelude.{not, ◌&&◌, ◌||◌, if◌then◌else◌, is_some, nat_lt, All, fold, filter}
+-- The net of a program whose assignments don't read their own target passes what the program does.
+use Rattle.std.proofs.Common.{◌≡◌, ◌≢◌, ℕ, zero, suc, ◌+◌, ◌<◌, ◌≤◌, ◌==◌, Bool, true, false, List, [], ◌∷◌, ◌++◌, length, get_or, replicate, None, inl, inr, refl, sym, ap, ◌∙◌, subst, arith, ◌⊎◌, ◌*◌, ⊎_elim, append-nil}
+use Rattle.std.specs.Prelude.{not, ◌&&◌, ◌||◌, if◌then◌else◌, is_some, nat_lt}
 use Rattle.std.proofs.lemmas.Bool.{cases_lt, eqb-true, and_from}
 use Rattle.std.proofs.lemmas.Bool.Decides.{nat_tests}
 use Rattle.chp_base.specs.declared.channel.Channel.{Channel}
@@ -11,82 +11,26 @@ use Rattle.prs_core.specs.Moves.{high, both_ways, neutral}
 use Rattle.env_script.specs.Scripts.{OfferValue, IsScript}
 use Rattle.env_script.specs.Environment.{valid}
 use Rattle.env_script.specs.Phases.{rail_keeps, rails_keep, ack_keeps, phases_keep, phase_fault}
-use Rattle.env_script.specs.Runs.{RunState, history_at, move_enabled, moved as moved_flat, IsRun, after, begin_at, IsAtRest as IsAtRestFlat, IsApart, IsSafeRun}
+use Rattle.env_script.specs.Runs.{RunState, move_enabled, moved as moved_flat, IsRun, after, begin_at, IsAtRest as IsAtRestFlat, IsApart, IsSafeRun}
 use Rattle.width_check.specs.Processes.{Process, skipping, assigning, sending, receiving, in_turn, side_by_side, choosing, repeating, Processes, no_members, and_member, member_count, TypedProgram, Choices, no_choices, and_choice}
-use Rattle.width_check.specs.Typing.{IsDeclaredVar, IsTyped, channel_width, var_width}
+use Rattle.width_check.specs.Typing.{channel_width, var_width}
 use Rattle.width_check.specs.declared.typed.Var.{Var}
 use Rattle.circuit_places.specs.Lines.{of_channel, of_var}
-use Rattle.std.proofs.lemmas.List.Elements.{All-head, All-tail}
 use Rattle.net_compose.proofs.FlatTrees.{joint_count_is}
 use Rattle.net_compose.proofs.FlatBlocks.{Part, a_bit, a_put, a_mark, a_joint, IsPart, offset, side}
 use Rattle.net_compose.proofs.FlatFirst.{member, raised, raised_is, length-raised, HighRail, high_at, high_member, high_there}
-use Rattle.width_check.specs.Sharing.{MeetsSharing}
-use Rattle.chp_meaning.specs.Terms.{Place, places}
-use Rattle.chp_meaning.specs.Steps.{Configuration, Step, Leads, no_step, one_step, start_of}
-use Rattle.chp_meaning.specs.Rounds.{round, rounds, rounds_from, step_at, is_enabled, taken}
-use Rattle.chp_meaning.proofs.HalvedTyping.{typed_sized}
-use Rattle.chp_meaning.specs.Laws.{IsBehind, OneHistory, RoundsHold}
 use Rattle.handshake_expand.specs.Layout.{wires_before, var_from, channel_from, nodes_of, size_of, body_from, root_request, root_latch}
-use Rattle.circuit_places.specs.Covered.{Covered, IsCovered, AreCovered, EachCovered}
+use Rattle.chp_meaning.specs.Halves.{IsPlain, ReadsNoTarget, EachReadsNoTarget, ChoicesReadNoTarget}
 use Rattle.circuit_places.specs.Circuit.{of_receive, heard, stored, taking, low, Spot, TurnSpot, BranchSpot, of_branch, joint, in_this, in_others, joint_count, child, latch, next, inner, of_skip, done, gate, of_assign, of_send, in_members, of_loop, ask, in_body, in_last, in_member, in_later, gate_count, stands, turn_stands, branch_stands, GuardSpot, this_gate, other_gate, ChoiceSpot, this_choice, other_choice, of_core, of_guard, of_choice, of_round, guard_stands, choice_stands}
 use Rattle.circuit_places.specs.Whole.{first_bits, Whole, Node, go_node, own_node, rail_node, ack_node, bit_node, wrote_node, joint_node, is_node, enabled, moved, first_of, neutral_on, Reaches, at_first, by_move}
 use Rattle.circuit_places.specs.Carried.{IsAtRest, IsCarried, CircuitsCarry}
 use Rattle.net_compose.specs.Translation.{translation, sites_in, sites_in_turn, sites_in_branches, hidden_high, vars_high, first_values, rails_at, ack_at, wires_from, sites_in_bodies}
 use Rattle.cell_variable.specs.Variables.{high_first}
-use Rattle.net_compose.specs.Carries.{IsFollowing, IsSettled, IsCarrying, Carries}
+use Rattle.net_compose.proofs.Passing.{IsPassing, IsPassingRun, Passes}
 use Rattle.net_compose.proofs.FlatCells.{length-bits, low_bits, IsFine, IsFineTurn, IsFineBranch, rail_place, IsFineGuard, IsFineChoice}
 use Rattle.net_compose.proofs.FlatWires.{rail_bounds, ack_bounds, value_is, neutral_is, rails_kept, position_none, length-wires_from, wires_are}
 use Rattle.net_compose.proofs.FlatNet.{part_bounds, same_var, same_part, part_value, Given, Shows, number_of, Fine, node_at, enabled_is, apart_is, past_apart, past_end, after_move}
 use Rattle.handshake_expand.specs.Answers.{bodies_from, select_own, again_own}
-
--- rounds and runs of the program
-
-rounds_on : (c : Configuration) (n m : ℕ) → rounds_from c (n + m) ≡ rounds_from (rounds_from c n) m
-rounds_on c zero m = let e : 0 + m ≡ m = omega arith in ap (rounds_from c) e
-rounds_on c (suc n) m = let e : suc n + m ≡ suc (n + m) = omega arith in ap (rounds_from c) e ∙ rounds_on (round c) n m
-
-filter_none : (p : Place → Bool) (xs : List Place) → ((x : Place) → p x ≡ false) → filter p xs ≡ []
-filter_none p [] h = refl
-filter_none p (x ∷ xs) h = ap (λ b. keep b) (h x) ∙ filter_none p xs h
-  where
-    keep : Bool → List Place
-    keep b = if b then x ∷ filter p xs else filter p xs
-
-module _ (steps_taken : (c d : Configuration) (at : Place) → step_at c at ≡ Some d → Step c at d) where
-  not_enabled : (c : Configuration) → ((at : Place) (d : Configuration) → ¬ Step c at d) → (at : Place) → is_enabled c at ≡ false
-  not_enabled c still at = by_step (step_at c at) refl
-    where
-      by_step : (o : Option Configuration) → step_at c at ≡ o → is_some o ≡ false
-      by_step None e = refl
-      by_step (Some d) e = absurd (still at d (steps_taken c d at e))
-
-  round_stays : (c : Configuration) → ((at : Place) (d : Configuration) → ¬ Step c at d) → round c ≡ c
-  round_stays c still = ap (λ l. fold taken c l) (filter_none (is_enabled c) (places c.term) (not_enabled c still))
-
-  rounds_stay : (c : Configuration) → ((at : Place) (d : Configuration) → ¬ Step c at d) → (n : ℕ) → rounds_from c n ≡ c
-  rounds_stay c still zero = refl
-  rounds_stay c still (suc n) = ap (λ d. rounds_from d n) (round_stays c still) ∙ rounds_stay c still n
-
-leads_nowhere : (c d : Configuration) (n : ℕ) → ((at : Place) (e : Configuration) → ¬ Step c at e) → Leads c n d → c ≡ d
-leads_nowhere c d zero still no_step = refl
-leads_nowhere c d (suc n) still (one_step {d = e} {at = at} s l) = absurd (still at e s)
-
-behind_same : (c : Configuration) → IsBehind c c
-behind_same c k = ([], sym (append-nil (history_at c.histories k)))
-
-behind_on : (c d e : Configuration) → IsBehind c d → IsBehind d e → IsBehind c e
-behind_on c d e f g k =
-    let a = f k in
-    let b = g k in
-    (a.0 ++ b.0, b.1 ∙ (ap (λ h. h ++ b.0) a.1 ∙ append_assoc (history_at c.histories k) a.0 b.0))
-
-rounds_behind : (P : TypedProgram) (script : List OfferValue) → RoundsHold P script → (n m : ℕ) → IsBehind (rounds P script n) (rounds P script (n + m))
-rounds_behind P script hold n zero = let e : n ≡ n + 0 = omega arith in subst (λ j. IsBehind (rounds P script n) (rounds P script j)) e
-    (behind_same (rounds P script n))
-rounds_behind P script hold n (suc m) =
-    let e : suc (n + m) ≡ n + suc m = omega arith in
-    subst (λ j. IsBehind (rounds P script n) (rounds P script j)) e
-    (behind_on (rounds P script n) (rounds P script (n + m)) (rounds P script (suc (n + m))) (rounds_behind P script hold n m) (hold (n + m)).2)
 
 -- a node that stands is one of the net's
 
@@ -169,7 +113,7 @@ fine_node P given (joint_node x k) h = let lt = below_told k (joint_count (var_w
 -- the first state
 
 mutual
-  none_hidden : (P : TypedProgram) (p : Process) → IsCovered p → (from : ℕ) → sites_in P (hidden_high P) p from ≡ []
+  pub none_hidden : (P : TypedProgram) (p : Process) → ReadsNoTarget p → (from : ℕ) → sites_in P (hidden_high P) p from ≡ []
   none_hidden P skipping c from = refl
   none_hidden P (sending k at e) c from = refl
   none_hidden P (in_turn members) c from = none_hidden_turn P members c from
@@ -180,19 +124,19 @@ mutual
   none_hidden P (choosing false choices) c from = none_hidden_choices P choices c (bodies_from choices select_own from)
   none_hidden P (choosing true choices) c from = none_hidden_choices P choices c (bodies_from choices again_own from)
 
-  none_hidden_choices : (P : TypedProgram) (choices : Choices) → EachCovered choices → (from : ℕ) → sites_in_bodies P (hidden_high P) choices from ≡ []
+  none_hidden_choices : (P : TypedProgram) (choices : Choices) → ChoicesReadNoTarget choices → (from : ℕ) → sites_in_bodies P (hidden_high P) choices from ≡ []
   none_hidden_choices P no_choices c from = refl
   none_hidden_choices P (and_choice g p more) c from =
       ap (λ l. l ++ sites_in_bodies P (hidden_high P) more (from + size_of P p)) (none_hidden P p c.0 from)
       ∙ none_hidden_choices P more c.1 (from + size_of P p)
 
-  none_hidden_branches : (P : TypedProgram) (members : Processes) → AreCovered members → (from : ℕ) → sites_in_branches P (hidden_high P) members from ≡ []
+  none_hidden_branches : (P : TypedProgram) (members : Processes) → EachReadsNoTarget members → (from : ℕ) → sites_in_branches P (hidden_high P) members from ≡ []
   none_hidden_branches P no_members c from = refl
   none_hidden_branches P (and_member p more) c from =
       ap (λ l. l ++ sites_in_branches P (hidden_high P) more (from + 3 + size_of P p)) (none_hidden P p c.0 (from + 3))
       ∙ none_hidden_branches P more c.1 (from + 3 + size_of P p)
 
-  none_hidden_turn : (P : TypedProgram) (members : Processes) → AreCovered members → (from : ℕ) → sites_in_turn P (hidden_high P) members from ≡ []
+  none_hidden_turn : (P : TypedProgram) (members : Processes) → EachReadsNoTarget members → (from : ℕ) → sites_in_turn P (hidden_high P) members from ≡ []
   none_hidden_turn P no_members c from = refl
   none_hidden_turn P (and_member p no_members) c from = none_hidden P p c.0 from
   none_hidden_turn P (and_member p (and_member q more)) c from =
@@ -287,10 +231,6 @@ module _ (P : TypedProgram) (given : Given P) where
     histories = ap (λ n. replicate n []) (length-wires_from P 0 P.channels);
     channels = length-histories (length P.channels);
   }
-
-  same_channels : (k : ℕ) (cs : List Channel) → map (λ (w : NetWires). w.channel) (wires_from P k cs) ≡ cs
-  same_channels k [] = refl
-  same_channels k (c ∷ cs) = ap (λ l. c ∷ l) (same_channels (suc k) cs)
 
   module _ (script : List OfferValue) (fits : IsScript P.channels script) where
     -- a state of the net, as one of the cells that as many moves lead to
@@ -445,66 +385,31 @@ module _ (P : TypedProgram) (given : Given P) where
           let f = fine_node P given n stands_there in
           sym (enabled_is P given st r.cells r.shows script n f) ∙ still (number_of P given n)
 
-      module _ (steps_taken : (c d : Configuration) (at : Place) → step_at c at ≡ Some d → Step c at d)
-          (append : (c d : Configuration) (n : ℕ) → Leads c n d → IsBehind c d) (one : OneHistory P script) (hold : RoundsHold P script) where
-        following : (st : RunState) (moves : ℕ) → Reached st moves → IsFollowing st (rounds P script moves)
-        following st moves r k =
-            let q = carried moves r.cells r.reaches in
-            let on = one q.steps q.to q.leads in
-            let e : q.steps + (moves - q.steps) ≡ moves = omega (arith, q.within) in
-            let a = behind_on q.to (rounds P script q.steps) (rounds P script (q.steps + (moves - q.steps))) (append q.to (rounds P script q.steps) on.0 on.1)
-            (rounds_behind P script hold q.steps (moves - q.steps)) k in
-            (a.0, ap (λ m. history_at (rounds P script m).histories k) (sym e) ∙ (a.1 ∙ ap (λ hs. history_at hs k ++ a.0) (q.passed ∙ sym r.shows.histories)))
+      passing : (st : RunState) (moves : ℕ) → Reached st moves → IsPassing (translation P) P script st moves
+      passing st moves r =
+          let q = carried moves r.cells r.reaches in
+          record {
+            to = q.to;
+            steps = q.steps;
+            within = q.within;
+            leads = q.leads;
+            passed = q.passed ∙ sym r.shows.histories;
+            rest = λ still. let z = q.rest (at_rest st moves r still) in
+                record { still = z.still; ended = λ h. z.ended (sym r.shows.done ∙ h); going = λ h. z.going (sym r.shows.done ∙ h) };
+          }
 
-        settled : (st : RunState) (moves : ℕ) → Reached st moves → IsAtRestFlat (translation P) script st → IsSettled st (rounds P script moves)
-        settled st moves r still =
-            let q = carried moves r.cells r.reaches in
-            let z = q.rest (at_rest st moves r still) in
-            let on = one q.steps q.to q.leads in
-            let e : q.steps + (moves - q.steps) ≡ moves = omega (arith, q.within) in
-            let there : rounds P script moves ≡ q.to =
-            ap (rounds P script) (sym e) ∙ (rounds_on (start_of P script) q.steps (moves - q.steps)
-            ∙ (ap (λ c. rounds_from c (moves - q.steps)) (sym (leads_nowhere q.to (rounds P script q.steps) on.0 z.still on.1))
-            ∙ rounds_stay steps_taken q.to z.still (moves - q.steps))) in
-            subst (λ c. IsSettled st c) (sym there) (record {
-              whole = λ k. ap (λ hs. history_at hs k) (r.shows.histories ∙ sym q.passed);
-              still = z.still;
-              answer = (λ h. z.ended (sym r.shows.done ∙ h), λ over. r.shows.done ∙ is_high (r.cells.root.next) (λ low. z.going low over));
-            })
-          where
-            is_high : (b : Bool) → (b ≡ false → ⊥) → b ≡ true
-            is_high true h = refl
-            is_high false h = absurd (h refl)
+      passing_run : (ns : List ℕ) → IsRun (translation P) script (begin_at (translation P) (translation P).first) ns → IsPassingRun (translation P) P script ns
+      passing_run ns run =
+          let first : Reached (begin_at (translation P) (translation P).first) 0 = record { cells = first_of P; reaches = at_first; shows = starts } in
+          let e : 0 + length ns ≡ length ns = omega arith in
+          let last : Reached (after (translation P) (begin_at (translation P) (translation P).first) ns) (length ns) = subst
+          (λ k. Reached (after (translation P) (begin_at (translation P) (translation P).first) ns) k) e
+          (reach ns (begin_at (translation P) (translation P).first) 0 first run) in
+          record {
+            safe = safe_run ns (begin_at (translation P) (translation P).first) 0 first run;
+            passing = passing (after (translation P) (begin_at (translation P) (translation P).first) ns) (length ns) last;
+          }
 
-        carrying : (ns : List ℕ) → IsRun (translation P) script (begin_at (translation P) (translation P).first) ns
-            → IsCarrying (translation P) P script (translation P).first (length ns) ns
-        carrying ns run =
-            let first : Reached (begin_at (translation P) (translation P).first) 0 = record { cells = first_of P; reaches = at_first; shows = starts } in
-            let e : 0 + length ns ≡ length ns = omega arith in
-            let last : Reached (after (translation P) (begin_at (translation P) (translation P).first) ns) (length ns) = subst
-            (λ k. Reached (after (translation P) (begin_at (translation P) (translation P).first) ns) k) e
-            (reach ns (begin_at (translation P) (translation P).first) 0 first run) in
-            record {
-              safe = safe_run ns (begin_at (translation P) (translation P).first) 0 first run;
-              prefix = following (after (translation P) (begin_at (translation P) (translation P).first) ns) (length ns) last;
-              rest = λ still. settled (after (translation P) (begin_at (translation P) (translation P).first) ns) (length ns) last still;
-            }
-
-have_bits : (vs : List Var) → All IsDeclaredVar vs → (y : ℕ) → y < length vs → 1 ≤ var_width vs y
-have_bits [] each y h = absurd (omega (arith, h))
-have_bits (v ∷ vs) each zero h = (All-head IsDeclaredVar v vs each).some
-have_bits (v ∷ vs) each (suc y) h = have_bits vs (All-tail IsDeclaredVar v vs each) y (omega (arith, h))
-
--- what is assumed here are laws of steps and rounds, and that of circuits as trees of cells
-pub covered_carried : ((c d : Configuration) (at : Place) → step_at c at ≡ Some d → Step c at d) → ((c d : Configuration) (n : ℕ) → Leads c n d → IsBehind c d)
-    → ((p : TypedProgram) (script : List OfferValue) → MeetsSharing p.body → OneHistory p script)
-    → ((p : TypedProgram) (script : List OfferValue) → MeetsSharing p.body → RoundsHold p script)
-    → CircuitsCarry → (P : TypedProgram) → IsTyped P.channels P.vars P.body → Covered P → Carries (translation P) P
-covered_carried steps_taken append one hold circuits P typed covered =
-    let given : Given P = record { typed = typed.body_is; covered = covered.body; some = have_bits P.vars typed.each_var } in
-    let meets = covered.sharing in
-    record {
-      channels = same_channels P given 0 P.channels;
-      runs = λ script fits moves run. carrying P given script fits (λ k x r. circuits P
-          (typed_sized P.channels P.vars P.body typed) covered script fits k x r) steps_taken append (one P script meets) (hold P script meets) moves run;
-    }
+-- the net of a program whose assignments don't read their own target passes what the program does
+pub plain_passes : CircuitsCarry → (P : TypedProgram) → Given P → IsPlain P → Passes (translation P) P
+plain_passes circuits P given plain script fits ns run = passing_run P given script fits (λ k x r. circuits P plain script fits k x r) ns run
