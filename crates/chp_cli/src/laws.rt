@@ -19,7 +19,7 @@ pub fn one_answer()
 }
 
 /// Law: what `compile` writes for a file is the one text of the net of the one program that its text reads as, which is
-/// accepted; and the net carries the program where it is covered.
+/// accepted; and the net carries the program.
 pub fn compiled_right()
     ensures { (reset : Bool) (given : Given) (file : List ℕ) → given.tells ≡ true → (end : Ending) (text : List ℕ) → Compiles reset given file (writes end text) → IsFileCompiled reset given file text }
 {}
