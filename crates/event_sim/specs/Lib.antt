@@ -1,0 +1,6 @@
+pub mod Following
+pub mod Passing
+pub mod Ends
+pub mod Picking
+pub mod Simulating
+pub mod Stages

@@ -1,0 +1,35 @@
+-- Whom the pickers choose.
+use Rattle.std.specs.Prelude.{◌≡◌, ℕ, zero, suc, ◌+◌, ◌-◌, ◌%◌, ◌<◌, Bool, nat_le, ◌==◌, if◌then◌else◌, List, [], ◌∷◌, length, map, slice_index_or, All, AllPairs, Option, Some, None}
+use Rattle.std.specs.List.{list_all, position_or_len}
+use Rattle.rand_pcg.specs.Lcg.{Lcg, started, advance, increment_of}
+use Rattle.rand_pcg.specs.Pcg.{multiplier_64, pcg32}
+
+-- a list that a picker may be asked with: nodes below a number, ascending without repeats, at least one
+pub record IsChoiceList (nodes : ℕ) (list : List ℕ) : Type 0 where
+  pub some : 0 < length list
+  pub ascending : AllPairs (λ (a b : ℕ). a < b) list
+  pub below : All (λ n. n < nodes) list
+
+-- the words of the generator that is made of a seed and the stream 54, counted from 0
+abbrev pub word_of : ℕ → ℕ → ℕ
+word_of seed count = (pcg32 (advance 64 multiplier_64 count (started 64 multiplier_64 seed (increment_of 64 54)))).0
+
+-- a seed, and how long the log was when it was set; 0 and 0 before
+abbrev pub seed_of : Option (ℕ × ℕ) → ℕ
+seed_of None = 0
+seed_of (Some s) = s.0
+
+abbrev pub since_of : Option (ℕ × ℕ) → ℕ
+since_of None = 0
+since_of (Some s) = s.1
+
+-- one word for each pick since the seed was set
+abbrev pub random_choice : Option (ℕ × ℕ) → ℕ → List ℕ → ℕ
+random_choice seeded picks list = word_of (seed_of seeded) (picks - since_of seeded) % length list
+
+-- the first place of a number that none of the list exceeds, and of one that none is below
+abbrev pub first_greatest : List ℕ → ℕ
+first_greatest xs = position_or_len (λ x. list_all (λ y. nat_le y x) xs) xs
+
+abbrev pub first_least : List ℕ → ℕ
+first_least xs = position_or_len (λ x. list_all (λ y. nat_le x y) xs) xs

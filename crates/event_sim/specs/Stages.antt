@@ -1,0 +1,56 @@
+-- How far a simulation has come.
+use Rattle.std.specs.Prelude.{◌≡◌, ℕ, ◌<◌, ◌≤◌, Bool, true, false, not, ◌&&◌, ◌||◌, ◌==◌, if◌then◌else◌, List, [], ◌∷◌, length, map, filter, All, slice_index, Option, Some, None}
+use Rattle.std.specs.List.{list_any, range_with_len}
+use Rattle.prs_core.specs.Nets.{NetValue}
+use Rattle.prs_core.specs.Moves.{high, rule_enabled}
+use Rattle.env_script.specs.Scripts.{OfferValue, IsScript}
+use Rattle.env_script.specs.Environment.{channels_of, env_enabled}
+use Rattle.env_script.specs.Runs.{RunState}
+use Rattle.env_script.specs.declared.hazard.Hazard.{Hazard}
+use Rattle.env_script.specs.declared.hazard.Hazard.TheVariants.{BothWays, Unstable, Protocol}
+use Rattle.event_sim.specs.Following.{enabled_moves}
+use Rattle.event_sim.specs.Passing.{histories_of}
+
+-- the net, the script, the nodes' values, what has passed, and for how many more values there is room
+pub record StageValue : Type 0 where
+  pub net : NetValue
+  pub script : List OfferValue
+  pub values : List Bool
+  pub passed : List (ℕ × ℕ)
+  pub room : ℕ
+
+abbrev pub stage_of : NetValue → List OfferValue → List Bool → List (ℕ × ℕ) → ℕ → StageValue
+stage_of net script values passed room =
+    record { net = net; script = script; values = values; passed = passed; room = room }
+
+abbrev pub now_of : StageValue → RunState
+now_of s = record { values = s.values; histories = histories_of (length s.net.channels) s.passed }
+
+-- the enabled moves
+abbrev pub moves_now : StageValue → List ℕ
+moves_now s = enabled_moves s.net s.script (now_of s)
+
+-- by the counts of completed values: a rule of the node is enabled, or the environment's move of it
+abbrev pub is_enabled : NetValue → List OfferValue → List ℕ → List Bool → ℕ → Bool
+is_enabled net script done values n = rule_enabled net (high values) n || env_enabled net script (slice_index done) (high values) n
+
+-- what is kept beside: the counts of completed values, the enabled moves, and room for two lists of all nodes
+pub record IsKept (s : StageValue) (counts listed : List ℕ) (room_one room_other : ℕ) : Type 0 where
+  pub script : IsScript (channels_of s.net) s.script
+  pub values : length s.values ≡ length s.net.first
+  pub counts_are : counts ≡ map (λ (h : List ℕ). length h) (now_of s).histories
+  pub passed : All (λ (p : ℕ × ℕ). p.0 < length s.net.channels) s.passed
+  pub listed_are : listed ≡ moves_now s
+  pub one : length s.net.first ≤ room_one
+  pub other : length s.net.first ≤ room_other
+
+-- a node other than the moved one, which isn't in the list
+abbrev pub is_lost : List ℕ → ℕ → ℕ → Bool
+is_lost now node m = not (m == node) && not (list_any (λ k. k == m) now)
+
+-- a node that is pulled both ways, else one whose move was taken away, else a channel whose phases are broken
+abbrev pub worst : Option ℕ → Option ℕ → Option ℕ → Option Hazard
+worst (Some k) lost broken = Some (BothWays k)
+worst None (Some k) broken = Some (Unstable k)
+worst None None (Some c) = Some (Protocol c)
+worst None None None = None

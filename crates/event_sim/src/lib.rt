@@ -1,0 +1,14 @@
+//! The simulator: it makes one run of a net under a script, whose moves a picker chooses.
+#![tactic(auto)]
+
+mod hazards;
+mod lowest;
+mod moves;
+mod picker;
+mod ran;
+mod random;
+
+pub use lowest::Lowest;
+pub use picker::Picker;
+pub use ran::{End, Ran};
+pub use random::Random;
