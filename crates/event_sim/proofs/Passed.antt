@@ -1,6 +1,6 @@
 -- What passes on all channels together, channel by channel.
-use Rattle.std.proofs.Common.{◌≡◌, ◌≢◌, ℕ, zero, suc, ◌+◌, ◌<◌, ◌≤◌, Bool, true, false, cond, List, [], ◌∷◌, ◌++◌, length, get_or, map, filter, refl, sym, ap, ◌∙◌, inl, inr, arith}
-use Rattle.std.specs.Prelude.{◌⊎◌, not, ◌&&◌, ◌||◌, ◌==◌, if◌then◌else◌, position, slice_get, Option, Some, None, option_map, option_and_then, option_to_list}
+use Rattle.std.proofs.Common.{◌≡◌, ◌≢◌, ℕ, zero, suc, ◌+◌, ◌<◌, ◌≤◌, Bool, true, false, cond, List, [], ◌∷◌, ◌++◌, length, get_or, map, filter, refl, sym, ap, subst, ◌∙◌, inl, inr, arith}
+use Rattle.std.specs.Prelude.{◌⊎◌, not, ◌&&◌, ◌||◌, ◌==◌, if◌then◌else◌, position, slice_get, Option, Some, None, IfSome, option_map, option_and_then, option_to_list}
 use Rattle.std.specs.List.{range_with_len}
 use Rattle.std.proofs.lemmas.Bool.{eqb-true, eqb-false, eq-eqb, ne_eqb, cases_eq}
 use Rattle.std.proofs.lemmas.Option.{slice_get_read}
@@ -19,7 +19,7 @@ pub none_in_reset : (net : NetValue) (v : ℕ → Bool) (n : ℕ) → in_reset n
 none_in_reset net v n on = rw on refl
 
 -- a pair of a channel and its value, where there is one
-abbrev paired : ℕ → Option ℕ → Option (ℕ × ℕ)
+abbrev pub paired : ℕ → Option ℕ → Option (ℕ × ℕ)
 paired c o = option_map (λ value. (c, value)) o
 
 abbrev found_at : (ℕ → Option ℕ) → Option ℕ → Option (ℕ × ℕ)
@@ -44,3 +44,17 @@ completion_is net v n c w o off found here is =
     by_reset : (b : Bool) (f : Option ℕ) → b ≡ false → Some c ≡ f → paired c o ≡ paired c (completed_on v net.channels n c) → paired c o ≡ unless b (found_at (completed_on v net.channels n) f)
     by_reset true f off found one = absurd (cc off)
     by_reset false f off found one = one ∙ ap (found_at (completed_on v net.channels n)) found
+
+-- the channel is one of the net's
+pub completion_within : (net : NetValue) (v : ℕ → Bool) (n : ℕ) (o : Option (ℕ × ℕ)) (count : ℕ) → o ≡ completion net v n → count ≡ length net.channels → IfSome o (λ (p : ℕ × ℕ). p.0 < count)
+completion_within net v n o count is whole =
+    subst (λ (q : Option (ℕ × ℕ)). IfSome q (λ (p : ℕ × ℕ). p.0 < count)) (sym is) (by_reset (in_reset net.reset v) (channel_of net.channels n) (λ c found. let within = channel_within net.channels n c found in omega arith))
+  where
+    pair_within : (c : ℕ) (o : Option ℕ) → c < count → IfSome (paired c o) (λ (p : ℕ × ℕ). p.0 < count)
+    pair_within c None less = tt
+    pair_within c (Some value) less = less
+
+    by_reset : (b : Bool) (f : Option ℕ) → ((c : ℕ) → Some c ≡ f → c < count) → IfSome (unless b (found_at (completed_on v net.channels n) f)) (λ (p : ℕ × ℕ). p.0 < count)
+    by_reset true f within = tt
+    by_reset false None within = tt
+    by_reset false (Some c) within = pair_within c (completed_on v net.channels n c) (within c refl)

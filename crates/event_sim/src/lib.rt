@@ -5,10 +5,14 @@ mod hazards;
 mod lowest;
 mod moves;
 mod picker;
+mod power;
 mod ran;
 mod random;
+mod sim;
+mod stage;
 
 pub use lowest::Lowest;
 pub use picker::Picker;
 pub use ran::{End, Ran};
 pub use random::Random;
+pub use sim::Sim;

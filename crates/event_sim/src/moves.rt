@@ -3,6 +3,7 @@
 ghost use Rattle.std.specs.Prelude.{◌≡◌, ℕ, ◌<◌, ◌≤◌, ◌==◌, All, length, filter, position, vec_capacity};
 ghost use Rattle.std.specs.List.{range_with_len};
 ghost use Rattle.prs_core.specs.declared.wires.Wires.{Wires};
+ghost use Rattle.prs_core.specs.Nets.{IsNet};
 ghost use Rattle.prs_core.specs.Moves.{high};
 ghost use Rattle.env_script.specs.Scripts.{IsScript};
 ghost use Rattle.env_script.specs.Environment.{channels_of, in_reset};
@@ -51,7 +52,8 @@ pub(crate) fn list_moves(
 /// Whether the net has a reset node and it is high.
 fn in_reset(net: &Net, state: &State) -> bool
     requires { length state.now ≡ length net.now.first }
-    ensures { result ≡ in_reset net.now.reset (high state.now) }
+    ensures reset { result ≡ in_reset net.now.reset (high state.now) }
+    ensures net { IsNet net.now }
 {
     match net.reset() {
         None => false,
@@ -83,7 +85,8 @@ fn channel_of(channels: &[Wires], node: u32) -> Option<usize>
 pub(crate) fn completion(net: &Net, state: &State, node: u32) -> Option<(u32, u64)>
     requires state { length state.now ≡ length net.now.first }
     requires node { node < length net.now.first }
-    ensures { result ≡ completion net.now (high state.now) node }
+    ensures completion { result ≡ completion net.now (high state.now) node }
+    ensures net { IsNet net.now }
 {
     if in_reset(net, state) {
         return None;

@@ -1,5 +1,5 @@
-use Rattle.std.proofs.Common.{◌≡◌, ◌<◌, ℕ, List, sym, ap, ◌∙◌, length, arith}
-use Rattle.std.specs.Prelude.{Option, Some, None, ◌==◌, option_map}
+use Rattle.std.proofs.Common.{◌≡◌, List, sym, ap, ◌∙◌, length, arith}
+use Rattle.std.specs.Prelude.{Some, None, ◌==◌}
 use Rattle.prs_core.specs.declared.wires.Wires.{Wires}
 use Rattle.prs_core.specs.Moves.{high}
 use Rattle.env_script.proofs.Wires.{wired_read, place_fits}
@@ -22,14 +22,14 @@ overflow_cast-result c =
     let fits = place_fits net c.channels.ensures.net (λ (w : Wires). c.args.node == w.ack) c.in-Some.chan (sym found) in
     omega arith
 
-pub returns-in-None-completes : goal.returns-in-None-completes
-returns-in-None-completes c =
+pub returns-in-None-completes-clause-completion : goal.returns-in-None-completes-clause-completion
+returns-in-None-completes-clause-completion c =
     let net = c.args.net.now in
     let found : Some c.in-Some.chan ≡ channel_of net.channels c.args.node = c.in-Some.ensures ∙ ap (λ (ws : List Wires). channel_of ws c.args.node) c.channels.ensures.channels in
-    completion_is net (high c.args.state.now) c.args.node c.in-Some.chan c.index-channels-chan.result None (sym c.in_reset.ensures ∙ c.if-in_reset.false) found (rw (← c.channels-in-Some.ensures.channels) c.index-channels-chan.is) c.in-None-completes.ensures
+    completion_is net (high c.args.state.now) c.args.node c.in-Some.chan c.index-channels-chan.result None (sym c.in_reset.ensures.reset ∙ c.if-in_reset.false) found (rw (← c.channels-in-Some.ensures.channels) c.index-channels-chan.is) c.in-None-completes.ensures
 
-pub returns-in-Some-completes : goal.returns-in-Some-completes
-returns-in-Some-completes c =
+pub returns-in-Some-completes-clause-completion : goal.returns-in-Some-completes-clause-completion
+returns-in-Some-completes-clause-completion c =
     let net = c.args.net.now in
     let found : Some c.in-Some.chan ≡ channel_of net.channels c.args.node = c.in-Some.ensures ∙ ap (λ (ws : List Wires). channel_of ws c.args.node) c.channels.ensures.channels in
-    completion_is net (high c.args.state.now) c.args.node c.in-Some.chan c.index-channels-chan.result (Some c.in-Some-completes.value) (sym c.in_reset.ensures ∙ c.if-in_reset.false) found (rw (← c.channels-in-Some.ensures.channels) c.index-channels-chan.is) c.in-Some-completes.ensures
+    completion_is net (high c.args.state.now) c.args.node c.in-Some.chan c.index-channels-chan.result (Some c.in-Some-completes.value) (sym c.in_reset.ensures.reset ∙ c.if-in_reset.false) found (rw (← c.channels-in-Some.ensures.channels) c.index-channels-chan.is) c.in-Some-completes.ensures

@@ -24,11 +24,11 @@ loop-node-preserved c =
     let n = c.loop-node.node in
     let more = passes_more p n in
     elim c.if-is_enabled.branch [
-      then-is_enabled w ↦ record {
+      | then-is_enabled w ↦ record {
         moves = rw w.moves-is (w.push_reserved.ensures.items ∙ ap (λ xs. xs ++ n ∷ []) c.loop-node.invariant.moves ∙ sym (with_true (p n) _ n (sym c.is_enabled.ensures ∙ w.if-is_enabled.true)) ∙ sym more);
         room = rw w.moves-is (w.push_reserved.ensures.capacity ∙ c.loop-node.invariant.room);
       }
-    | else-is_enabled w ↦ record {
+      | else-is_enabled w ↦ record {
         moves = rw w.moves-is (c.loop-node.invariant.moves ∙ sym (with_false (p n) _ n (sym c.is_enabled.ensures ∙ w.if-is_enabled.false)) ∙ sym more);
         room = rw w.moves-is c.loop-node.invariant.room;
       }

@@ -1,4 +1,4 @@
-use Rattle.std.proofs.Common.{◌≡◌, length, filter, vec_capacity}
+use Rattle.std.proofs.Common.{◌≡◌, filter, vec_capacity}
 use Rattle.std.specs.List.{range_with_len}
 use Rattle.event_sim.specs.Stages.{is_enabled}
 use Rattle.event_sim.proofs.moves.list_moves.Given as goal
