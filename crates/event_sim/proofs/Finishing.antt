@@ -1,21 +1,20 @@
 -- How a simulation begins, what each pick is from, and what is known at its end.
-use Rattle.std.proofs.Common.{◌≡◌, ◌≢◌, ℕ, zero, suc, ◌+◌, ◌<◌, ◌≤◌, Bool, true, false, List, [], ◌∷◌, ◌++◌, length, get_or, take, drop, replicate, refl, sym, ap, subst, ◌∙◌, arith}
+use Rattle.std.proofs.Common.{◌≡◌, ℕ, ◌<◌, ◌≤◌, Bool, true, false, List, [], ◌∷◌, ◌++◌, length, get_or, drop, replicate, refl, sym, ap, subst, ◌∙◌, arith}
 use Rattle.std.specs.Prelude.{◌==◌, All, AllPairs, Option, Some, None}
-use Rattle.std.proofs.lemmas.List.{append_assoc, length_push, append-nil}
+use Rattle.std.proofs.lemmas.List.{append-nil}
 use Rattle.prs_core.specs.Nets.{NetValue, IsNet}
 use Rattle.prs_core.specs.Moves.{high}
 use Rattle.env_script.specs.declared.hazard.Hazard.{Hazard}
 use Rattle.env_script.specs.declared.hazard.Hazard.TheVariants.{BothWays as Torn, Unstable as Lost, Protocol as Broken}
-use Rattle.env_script.specs.Scripts.{OfferValue}
-use Rattle.env_script.specs.Runs.{RunState, IsRun, after, moved}
-use Rattle.env_script.specs.Hazards.{first_hazard, hazard_of}
+use Rattle.env_script.specs.Runs.{RunState, IsRun, after}
+use Rattle.env_script.specs.Hazards.{first_hazard}
 use Rattle.env_script.specs.OneLength.{AllSafe, EndsAll}
 use Rattle.env_script.proofs.Fronts.{ends_all}
 use Rattle.event_sim.specs.declared.ran.End.{End}
-use Rattle.event_sim.specs.declared.ran.End.TheVariants.{AtRest, Spent, Unstable, BothWays, Protocol}
-use Rattle.event_sim.specs.Following.{enabled_moves, move_at, follow, ArePicks}
+use Rattle.event_sim.specs.declared.ran.End.TheVariants.{AtRest}
+use Rattle.event_sim.specs.Following.{enabled_moves, follow, ArePicks}
 use Rattle.event_sim.specs.Passing.{passed_in, histories_of}
-use Rattle.event_sim.specs.Ends.{last_hazard, end_by, calm_end, end_with, end_of, EndsSo}
+use Rattle.event_sim.specs.Ends.{end_by, end_with, EndsSo}
 use Rattle.event_sim.specs.Picking.{IsChoiceList}
 use Rattle.event_sim.specs.Simulating.{SimValue, start_at, growth, moves_of, IsEndIn}
 use Rattle.event_sim.specs.Stages.{StageValue, now_of, moves_now, IsUnbegun, IsUnderway}

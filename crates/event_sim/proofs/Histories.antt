@@ -1,20 +1,19 @@
 -- The values that have passed, each with its channel, are the histories of all channels.
 use Rattle.std.proofs.Common.{◌≡◌, ◌≢◌, ℕ, zero, suc, ◌+◌, ◌<◌, ◌≤◌, Bool, true, false, cond, List, [], ◌∷◌, ◌++◌, length, get_or, set, map, filter, replicate, refl, sym, ap, ◌∙◌, inl, inr, arith, subst}
-use Rattle.std.specs.Prelude.{◌⊎◌, not, ◌&&◌, ◌||◌, ◌==◌, if◌then◌else◌, position, slice_get, Option, Some, None, option_map, option_and_then, option_to_list, codes, IfSome, All}
+use Rattle.std.specs.Prelude.{◌⊎◌, ◌==◌, if◌then◌else◌, position, Option, Some, None, option_to_list, codes, IfSome, All}
 use Rattle.std.specs.List.{range_with_len, position_or_len}
-use Rattle.std.proofs.lemmas.Bool.{eqb-true, eqb-false, eq-eqb, ne_eqb, cases_eq, cases_lt, lt-ltb, le-ltb}
-use Rattle.std.proofs.lemmas.Option.{slice_get-get_or}
+use Rattle.std.proofs.lemmas.Bool.{eqb-true, eq-eqb, ne_eqb, cases_eq, cases_lt, lt-ltb, le-ltb}
 use Rattle.std.proofs.lemmas.List.{append-nil, append_cancel_right, map-append, length-map, length-set, get_or-set_same, get_or-set_other, length_push}
 use Rattle.std.proofs.lemmas.List.FromFn.{length-map-range_with_len, get_or-map-range_with_len, fill_by_all}
 use Rattle.std.proofs.lemmas.List.Sums.{length-filter, count_by-le-length}
 use Rattle.std.proofs.lemmas.List.Elements.{filter-append, All-push}
 use Rattle.std.proofs.lemmas.List.Quantifiers.{position-Some}
 use Rattle.prs_core.specs.declared.wires.Wires.{Wires}
-use Rattle.prs_core.specs.Nets.{NetValue, IsNet, IsChannel, name_at, ack_name}
+use Rattle.prs_core.specs.Nets.{NetValue, IsNet, name_at, ack_name}
 use Rattle.prs_core.specs.Moves.{high}
 use Rattle.env_script.specs.Environment.{in_reset}
-use Rattle.env_script.specs.Runs.{RunState, completes, with_value, with_values, histories_after}
-use Rattle.event_sim.specs.Passing.{channel_of, completed_on, completion, values_on, histories_of}
+use Rattle.env_script.specs.Runs.{completes, with_value, with_values, histories_after}
+use Rattle.event_sim.specs.Passing.{channel_of, completion, values_on, histories_of}
 use Rattle.event_sim.proofs.Passed.{none_in_reset, none_unknown, completion_is, paired}
 
 values_of_both : (c : ℕ) (xs ys : List (ℕ × ℕ)) → values_on c (xs ++ ys) ≡ values_on c xs ++ values_on c ys

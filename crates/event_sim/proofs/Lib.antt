@@ -7,3 +7,4 @@ pub mod Following
 pub mod Underway
 pub mod Ranges
 pub mod Finishing
+pub mod Wholes

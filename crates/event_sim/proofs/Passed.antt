@@ -1,15 +1,13 @@
 -- What passes on all channels together, channel by channel.
-use Rattle.std.proofs.Common.{◌≡◌, ◌≢◌, ℕ, zero, suc, ◌+◌, ◌<◌, ◌≤◌, Bool, true, false, cond, List, [], ◌∷◌, ◌++◌, length, get_or, map, filter, refl, sym, ap, subst, ◌∙◌, inl, inr, arith}
-use Rattle.std.specs.Prelude.{◌⊎◌, not, ◌&&◌, ◌||◌, ◌==◌, if◌then◌else◌, position, slice_get, Option, Some, None, IfSome, option_map, option_and_then, option_to_list}
-use Rattle.std.specs.List.{range_with_len}
-use Rattle.std.proofs.lemmas.Bool.{eqb-true, eqb-false, eq-eqb, ne_eqb, cases_eq}
+use Rattle.std.proofs.Common.{◌≡◌, ℕ, ◌<◌, Bool, true, false, List, [], ◌∷◌, length, get_or, refl, sym, ap, subst, ◌∙◌, arith}
+use Rattle.std.specs.Prelude.{◌==◌, if◌then◌else◌, Option, Some, None, IfSome, option_map, option_and_then}
 use Rattle.std.proofs.lemmas.Option.{slice_get_read}
 use Rattle.std.proofs.lemmas.List.Quantifiers.{position-Some}
 use Rattle.prs_core.specs.declared.wires.Wires.{Wires}
 use Rattle.prs_core.specs.Nets.{NetValue}
 use Rattle.env_script.specs.Environment.{in_reset}
 use Rattle.env_script.specs.Runs.{completes}
-use Rattle.event_sim.specs.Passing.{channel_of, completed_on, completion, values_on, histories_of}
+use Rattle.event_sim.specs.Passing.{channel_of, completed_on, completion}
 
 pub channel_within : (ws : List Wires) (n c : ℕ) → Some c ≡ channel_of ws n → c < length ws
 channel_within [] n c found = absurd (cc found)

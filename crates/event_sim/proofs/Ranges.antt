@@ -1,22 +1,21 @@
 -- A move's node is one of the net's, and so are the nodes and channels of hazards.
-use Rattle.std.proofs.Common.{◌≡◌, ◌≢◌, ℕ, zero, suc, ◌+◌, ◌/◌, ◌<◌, ◌≤◌, Bool, true, false, cond, List, [], ◌∷◌, ◌++◌, length, get_or, filter, refl, sym, ap, subst, ◌∙◌, inl, inr, arith}
+use Rattle.std.proofs.Common.{◌≡◌, ℕ, zero, suc, ◌/◌, ◌<◌, ◌≤◌, Bool, true, false, List, [], ◌∷◌, length, refl, sym, ap, subst, ◌∙◌, inl, inr, arith}
 use Rattle.std.specs.Prelude.{◌⊎◌, not, ◌&&◌, ◌||◌, ◌==◌, if◌then◌else◌, position, slice_get, Option, Some, None, IfSome, All, option_map}
-use Rattle.std.specs.List.{list_any, range_with_len}
-use Rattle.std.proofs.lemmas.Bool.{eqb-true, or_cases, and_parts, or_from, cases_lt, cases_eq, both_ways, not-false}
+use Rattle.std.specs.List.{list_any}
+use Rattle.std.proofs.lemmas.Bool.{eqb-true, or_cases, and_parts, cases_lt, both_ways}
 use Rattle.std.proofs.lemmas.List.{get_or_past}
 use Rattle.std.proofs.lemmas.List.Quantifiers.{position-Some}
 use Rattle.prs_core.specs.declared.wires.Wires.{Wires}
-use Rattle.prs_core.specs.Nets.{NetValue, IsNet, IsChannel, IsReset, IsResetNode, up_of, down_of}
+use Rattle.prs_core.specs.Nets.{NetValue, IsNet, IsChannel, IsReset, up_of, down_of}
 use Rattle.prs_core.specs.Moves.{high, rule_enabled, guard_holds, both_ways as torn}
 use Rattle.env_script.specs.declared.hazard.Hazard.{Hazard}
 use Rattle.env_script.specs.declared.hazard.Hazard.TheVariants.{BothWays, Unstable, Protocol}
 use Rattle.env_script.specs.Scripts.{OfferValue, gives, takes, nothing, offer_at}
 use Rattle.env_script.specs.Environment.{in_reset, is_reset, rules_rest, is_odd, raises_bit, raises_value, raises_next, lowers, offer_moves, channels_move, raises_go}
-use Rattle.env_script.specs.Phases.{phase_fault, phases_keep}
+use Rattle.env_script.specs.Phases.{phases_keep}
 use Rattle.env_script.specs.Runs.{RunState, IsAtRest, completed, move_enabled, moved}
 use Rattle.env_script.specs.Hazards.{least_below, or_else, takes_away, first_hazard, hazard_of}
 use Rattle.event_sim.specs.declared.ran.End.{End}
-use Rattle.event_sim.specs.declared.ran.End.TheVariants.{AtRest, Spent}
 use Rattle.event_sim.specs.Following.{enabled_moves}
 use Rattle.event_sim.specs.Ends.{end_by, end_with, calm_end, last_hazard}
 use Rattle.event_sim.specs.Simulating.{IsEndIn}

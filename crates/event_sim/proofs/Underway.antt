@@ -1,17 +1,16 @@
 -- A simulation that is underway, and how it ends.
-use Rattle.std.proofs.Common.{◌≡◌, ◌≢◌, ℕ, zero, suc, ◌+◌, ◌<◌, ◌≤◌, Bool, true, false, List, [], ◌∷◌, ◌++◌, length, get_or, take, drop, refl, sym, ap, subst, ◌∙◌, inl, inr, arith}
-use Rattle.std.specs.Prelude.{◌⊎◌, ◌==◌, All, Option, Some, None, option_to_list}
-use Rattle.std.proofs.lemmas.Bool.{ne_eqb, eq-eqb, cases_lt}
+use Rattle.std.proofs.Common.{◌≡◌, ℕ, zero, suc, ◌+◌, ◌<◌, ◌≤◌, Bool, false, List, [], ◌∷◌, ◌++◌, length, get_or, take, sym, ap, subst, ◌∙◌, inl, inr, arith}
+use Rattle.std.specs.Prelude.{◌⊎◌, ◌==◌, Option, None, option_to_list}
+use Rattle.std.proofs.lemmas.Bool.{ne_eqb, cases_lt}
 use Rattle.std.proofs.lemmas.List.{length_push, take-append-le, take_all}
 use Rattle.prs_core.specs.Nets.{NetValue}
 use Rattle.prs_core.specs.Moves.{high}
 use Rattle.env_script.specs.declared.hazard.Hazard.{Hazard}
 use Rattle.env_script.specs.Scripts.{OfferValue}
-use Rattle.env_script.specs.Runs.{RunState, IsRun, moved, after}
+use Rattle.env_script.specs.Runs.{RunState, moved, after}
 use Rattle.env_script.specs.Hazards.{hazard_of}
-use Rattle.event_sim.specs.declared.ran.End.{End}
-use Rattle.event_sim.specs.Following.{enabled_moves, move_at, follow, ArePicks}
-use Rattle.event_sim.specs.Passing.{completion, passed_in, histories_of}
+use Rattle.event_sim.specs.Following.{enabled_moves, follow}
+use Rattle.event_sim.specs.Passing.{completion, passed_in}
 use Rattle.event_sim.specs.Ends.{last_hazard, end_with, end_of}
 use Rattle.event_sim.specs.Simulating.{SimValue, start_at}
 use Rattle.event_sim.specs.Stages.{StageValue, now_of, moves_now, IsUnderway}

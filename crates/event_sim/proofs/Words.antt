@@ -1,5 +1,5 @@
 -- The words of a generator, one for each pick since the seed was set.
-use Rattle.std.proofs.Common.{◌≡◌, ℕ, zero, suc, ◌+◌, ◌-◌, ◌≤◌, refl, ap, ◌∙◌, sym, arith}
+use Rattle.std.proofs.Common.{◌≡◌, ℕ, zero, suc, ◌+◌, ◌-◌, ◌≤◌, refl, ap, sym, arith}
 use Rattle.rand_pcg.specs.Lcg.{Lcg, state_after, next_state, next, advance}
 
 state_more : (w m increment n state : ℕ) → state_after w m increment (suc n) state ≡ next_state w m increment (state_after w m increment n state)

@@ -1,5 +1,5 @@
 -- Which moves are enabled, where a run begins, and the run that picks from the lists of enabled moves lead to.
-use Rattle.std.specs.Prelude.{ℕ, ◌<◌, Bool, ◌&&◌, if◌then◌else◌, List, [], ◌∷◌, length, map, filter, slice_index, is_some}
+use Rattle.std.specs.Prelude.{ℕ, ◌<◌, Bool, if◌then◌else◌, List, [], ◌∷◌, length, map, filter, slice_index, is_some}
 use Rattle.std.specs.List.{range_with_len}
 use Rattle.prs_core.specs.Nets.{NetValue, first_at, up_of, down_of}
 use Rattle.reset_net.specs.Resets.{has_rules}

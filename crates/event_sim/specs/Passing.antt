@@ -1,5 +1,5 @@
 -- What passes in a run on all channels together, in the order of completion.
-use Rattle.std.specs.Prelude.{ℕ, Bool, ◌==◌, if◌then◌else◌, List, [], ◌∷◌, ◌++◌, length, map, filter, slice_get, position, Option, Some, None, option_map, option_to_list, option_and_then}
+use Rattle.std.specs.Prelude.{ℕ, Bool, ◌==◌, if◌then◌else◌, List, [], ◌∷◌, ◌++◌, map, filter, slice_get, position, Option, None, option_map, option_to_list, option_and_then}
 use Rattle.std.specs.List.{range_with_len}
 use Rattle.prs_core.specs.declared.wires.Wires.{Wires}
 use Rattle.prs_core.specs.Nets.{NetValue}

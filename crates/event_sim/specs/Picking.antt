@@ -1,7 +1,7 @@
 -- Whom the pickers choose.
-use Rattle.std.specs.Prelude.{◌≡◌, ℕ, zero, suc, ◌+◌, ◌-◌, ◌%◌, ◌<◌, Bool, nat_le, ◌==◌, if◌then◌else◌, List, [], ◌∷◌, length, map, slice_index_or, All, AllPairs, Option, Some, None}
+use Rattle.std.specs.Prelude.{ℕ, ◌-◌, ◌%◌, ◌<◌, nat_le, List, length, All, AllPairs, Option, Some, None}
 use Rattle.std.specs.List.{list_all, position_or_len}
-use Rattle.rand_pcg.specs.Lcg.{Lcg, started, advance, increment_of}
+use Rattle.rand_pcg.specs.Lcg.{started, advance, increment_of}
 use Rattle.rand_pcg.specs.Pcg.{multiplier_64, pcg32}
 
 -- a list that a picker may be asked with: nodes below a number, ascending without repeats, at least one

@@ -1,8 +1,7 @@
 -- A simulation that hasn't begun, and one that has ended.
-use Rattle.std.specs.Prelude.{◌≡◌, ℕ, ◌≤◌, ◌<◌, Bool, List, length, drop, All}
+use Rattle.std.specs.Prelude.{ℕ, ◌<◌, Bool, List, length, drop, All}
 use Rattle.prs_core.specs.Nets.{NetValue}
-use Rattle.env_script.specs.Scripts.{OfferValue, IsScript}
-use Rattle.env_script.specs.Environment.{channels_of}
+use Rattle.env_script.specs.Scripts.{OfferValue}
 use Rattle.env_script.specs.Runs.{RunState, begin_at}
 use Rattle.event_sim.specs.declared.ran.End.{End}
 use Rattle.event_sim.specs.declared.ran.End.TheVariants.{AtRest, Spent, Unstable, BothWays, Protocol}

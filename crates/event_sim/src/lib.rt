@@ -2,6 +2,7 @@
 #![tactic(auto)]
 
 mod hazards;
+mod laws;
 mod lowest;
 mod moves;
 mod picker;
@@ -11,6 +12,10 @@ mod random;
 mod sim;
 mod stage;
 
+pub use laws::{
+    moves_are_in_range, passed_are_histories, power_is_powered, runs_are_picked,
+    safe_moves_bring_no_hazard,
+};
 pub use lowest::Lowest;
 pub use picker::Picker;
 pub use ran::{End, Ran};
