@@ -8,3 +8,4 @@ pub mod Underway
 pub mod Ranges
 pub mod Finishing
 pub mod Wholes
+pub mod Aging

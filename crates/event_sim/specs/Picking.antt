@@ -1,6 +1,5 @@
 -- Whom the pickers choose.
-use Rattle.std.specs.Prelude.{ℕ, ◌-◌, ◌%◌, ◌<◌, nat_le, List, length, All, AllPairs, Option, Some, None}
-use Rattle.std.specs.List.{list_all, position_or_len}
+use Rattle.std.specs.Prelude.{ℕ, ◌-◌, ◌%◌, ◌<◌, List, length, All, AllPairs, Option, Some, None}
 use Rattle.rand_pcg.specs.Lcg.{started, advance, increment_of}
 use Rattle.rand_pcg.specs.Pcg.{multiplier_64, pcg32}
 
@@ -26,10 +25,3 @@ since_of (Some s) = s.1
 -- one word for each pick since the seed was set
 abbrev pub random_choice : Option (ℕ × ℕ) → ℕ → List ℕ → ℕ
 random_choice seeded picks list = word_of (seed_of seeded) (picks - since_of seeded) % length list
-
--- the first place of a number that none of the list exceeds, and of one that none is below
-abbrev pub first_greatest : List ℕ → ℕ
-first_greatest xs = position_or_len (λ x. list_all (λ y. nat_le y x) xs) xs
-
-abbrev pub first_least : List ℕ → ℕ
-first_least xs = position_or_len (λ x. list_all (λ y. nat_le x y) xs) xs

@@ -1,10 +1,13 @@
 //! The simulator: it makes one run of a net under a script, whose moves a picker chooses.
 #![tactic(auto)]
 
+mod ages;
 mod hazards;
 mod laws;
 mod lowest;
 mod moves;
+mod newest;
+mod oldest;
 mod picker;
 mod power;
 mod ran;
@@ -17,6 +20,8 @@ pub use laws::{
     safe_moves_bring_no_hazard,
 };
 pub use lowest::Lowest;
+pub use newest::Newest;
+pub use oldest::Oldest;
 pub use picker::Picker;
 pub use ran::{End, Ran};
 pub use random::Random;
