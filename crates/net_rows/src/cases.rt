@@ -6,6 +6,7 @@ use crate::names::{bits, name, node_name, symbols};
 use crate::nets::{copy, first, readers, show};
 use crate::runs::moved;
 use crate::scripts::offers;
+use crate::simulated::simulated;
 use case_text::{bytes_of, numbers_of};
 use prs_core::Rules;
 use std::alloc::{AllocError, Global};
@@ -91,6 +92,7 @@ fn act(
             Ok(most) => moved(alloc, bench, most, page)?,
             Err(_) => return Ok(false),
         },
+        "simulate" => return simulated(alloc, bench, rest, page),
         _ => return Ok(false),
     }
     Ok(true)

@@ -9,12 +9,13 @@ mod names;
 mod nets;
 mod runs;
 mod scripts;
+mod simulated;
 
 use bench::Bench;
 use cases::obey;
 use std::{fs, io};
 
-const TOPICS: [&str; 4] = ["names", "scripts", "cells", "nets"];
+const TOPICS: [&str; 5] = ["names", "scripts", "cells", "nets", "simulations"];
 
 fn main(rt: HostRuntime) -> io::Result<()> {
     let mut page = String::new(rt.alloc());

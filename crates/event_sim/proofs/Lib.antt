@@ -1,0 +1,11 @@
+pub mod Words
+pub mod Lists
+pub mod Passed
+pub mod Histories
+pub mod Staged
+pub mod Following
+pub mod Underway
+pub mod Ranges
+pub mod Finishing
+pub mod Wholes
+pub mod Aging

@@ -1,0 +1,7 @@
+pub mod Following
+pub mod Passing
+pub mod Ends
+pub mod Picking
+pub mod Ages
+pub mod Simulating
+pub mod Stages

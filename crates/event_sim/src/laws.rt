@@ -1,0 +1,51 @@
+//! Laws of simulated runs.
+
+ghost use Rattle.std.specs.Prelude.{◌≡◌, ◌↔◌, ℕ, ◌<◌, Bool, true, List, length, Option, None, IsSome};
+ghost use Rattle.prs_core.specs.Nets.{NetValue, IsNet};
+ghost use Rattle.env_script.specs.Scripts.{OfferValue};
+ghost use Rattle.env_script.specs.Runs.{RunState, IsRun, IsApart, IsSafeMove, IsPowered, move_enabled, moved, after, begin_at, history_at};
+ghost use Rattle.env_script.specs.Hazards.{hazard_of};
+ghost use Rattle.event_sim.specs.Following.{ArePicks, follow, power_of};
+ghost use Rattle.event_sim.specs.Passing.{passed_in, values_on};
+
+/// Law: what picks lead to is a run, and every run is what some picks lead to.
+pub fn runs_are_picked()
+    ensures run { (net : NetValue) (script : List OfferValue) (st : RunState) (picks : List ℕ)
+        → ArePicks net script st picks
+        → IsRun net script st (follow net script st picks) }
+    ensures picks { (net : NetValue) (script : List OfferValue) (st : RunState) (ns : List ℕ)
+        → IsNet net
+        → IsRun net script st ns
+        → ((picks : List ℕ) × ArePicks net script st picks × (follow net script st picks ≡ ns)) }
+{}
+
+/// Law: of the values that pass in a run, those of one channel are its history.
+pub fn passed_are_histories()
+    ensures { (net : NetValue) (values : List Bool) (ns : List ℕ) (c : ℕ)
+        → IsNet net
+        → c < length net.channels
+        → values_on c (passed_in net (begin_at net values) ns) ≡ history_at (after net (begin_at net values) ns).histories c }
+{}
+
+/// Law: a move's node is one of the net's.
+pub fn moves_are_in_range()
+    ensures { (net : NetValue) (script : List OfferValue) (st : RunState) (n : ℕ)
+        → IsNet net
+        → move_enabled net script st n ≡ true
+        → n < length net.first }
+{}
+
+/// Law: a move is safe, and no node is pulled both ways behind it, exactly where it brings no hazard.
+pub fn safe_moves_bring_no_hazard()
+    ensures { (net : NetValue) (script : List OfferValue) (st : RunState) (n : ℕ)
+        → IsNet net
+        → ((IsSafeMove net script st n × IsApart net (moved net st n)) ↔ (hazard_of net script st n ≡ None)) }
+{}
+
+/// Law: where a net with a reset node begins is one of its power-up states.
+pub fn power_is_powered()
+    ensures { (net : NetValue) (high : Bool)
+        → IsNet net
+        → IsSome net.reset
+        → IsPowered net (power_of net high) }
+{}

@@ -1,0 +1,28 @@
+//! The simulator: it makes one run of a net under a script, whose moves a picker chooses.
+#![tactic(auto)]
+
+mod ages;
+mod hazards;
+mod laws;
+mod lowest;
+mod moves;
+mod newest;
+mod oldest;
+mod picker;
+mod power;
+mod ran;
+mod random;
+mod sim;
+mod stage;
+
+pub use laws::{
+    moves_are_in_range, passed_are_histories, power_is_powered, runs_are_picked,
+    safe_moves_bring_no_hazard,
+};
+pub use lowest::Lowest;
+pub use newest::Newest;
+pub use oldest::Oldest;
+pub use picker::Picker;
+pub use ran::{End, Ran};
+pub use random::Random;
+pub use sim::Sim;

@@ -1,0 +1,160 @@
+//! The report of a run.
+
+ghost use Rattle.std.specs.Prelude.{◌≡◌, ◌++◌, ◌<◌, ◌^◌, ℕ, length, codes, decimal, IfOk, OnOk};
+ghost use Rattle.std.specs.List.{flat_map};
+ghost use Rattle.prs_core.specs.Nets.{name_at};
+ghost use Rattle.event_sim.specs.Passing.{values_on};
+ghost use Rattle.event_sim.specs.Simulating.{IsEndIn};
+ghost use Rattle.history_report.specs.Reports.{channel_name, hazard_line, end_line, moves_line, time_line, done_line, value_words, channel_line, channel_lines, report_of};
+
+use event_sim::{End, Ran};
+use itoa::Buffer;
+use prs_core::{Net, Wires};
+use std::alloc::{AllocError, Global};
+
+/// Appends the pieces.
+fn append(to: &mut Vec<u8>, pieces: &[&[u8]]) -> Result<(), AllocError>
+    ensures { OnOk result (to.new.items ≡ to.old.items ++ flat_map (λ piece. piece.now) pieces.now) }
+{
+    for piece in pieces {
+        to.extend_from_slice(piece)?;
+    }
+    Ok(())
+}
+
+/// Appends the line of a hazard.
+fn hazard_line(words: &[u8], name: &[u8], moves: u32, to: &mut Vec<u8>) -> Result<(), AllocError>
+    ensures { OnOk result (to.new.items ≡ to.old.items ++ hazard_line words.now name.now moves) }
+{
+    let mut buffer = Buffer::new();
+    let number = buffer.format(moves).as_bytes();
+    append(to, &[words, name, b" at ", number, b"\n"])
+}
+
+/// The node's name.
+fn node_name(net: &Net, node: u32) -> &[u8]
+    requires { node < length net.now.first }
+    ensures { result.now ≡ name_at net.now node }
+{
+    net.names()[node as usize].bytes()
+}
+
+/// The channel's name.
+fn channel_name(net: &Net, chan: u32) -> &[u8]
+    requires { chan < length net.now.channels }
+    ensures { result.now ≡ channel_name net.now chan }
+{
+    net.channels()[chan as usize].channel.name.bytes()
+}
+
+/// Appends the line that says how the run ended.
+fn end_line(net: &Net, end: End, moves: u32, to: &mut Vec<u8>) -> Result<(), AllocError>
+    requires { IsEndIn net.now end }
+    ensures { OnOk result (to.new.items ≡ to.old.items ++ end_line net.now moves end) }
+{
+    match end {
+        End::AtRest => append(to, &[b"end rest\n"]),
+        End::Spent => append(to, &[b"end spent\n"]),
+        End::Unstable { node } => hazard_line(b"end unstable ", node_name(net, node), moves, to),
+        End::BothWays { node } => hazard_line(b"end both ", node_name(net, node), moves, to),
+        End::Protocol { chan } => hazard_line(b"end protocol ", channel_name(net, chan), moves, to),
+    }
+}
+
+/// Appends how many moves were made.
+fn moves_line(moves: u32, to: &mut Vec<u8>) -> Result<(), AllocError>
+    ensures { OnOk result (to.new.items ≡ to.old.items ++ moves_line moves) }
+{
+    let mut buffer = Buffer::new();
+    let number = buffer.format(moves).as_bytes();
+    append(to, &[b"moves ", number, b"\n"])
+}
+
+/// Appends the time of a timed run.
+fn time_line(time: Option<u64>, to: &mut Vec<u8>) -> Result<(), AllocError>
+    ensures { OnOk result (to.new.items ≡ to.old.items ++ time_line time) }
+{
+    match time {
+        None => Ok(()),
+        Some(time) => {
+            let mut buffer = Buffer::new();
+            let number = buffer.format(time).as_bytes();
+            append(to, &[b"time ", number, b"\n"])
+        }
+    }
+}
+
+/// Appends whether `done` is high.
+fn done_line(done_high: bool, to: &mut Vec<u8>) -> Result<(), AllocError>
+    ensures { OnOk result (to.new.items ≡ to.old.items ++ done_line done_high) }
+{
+    if done_high {
+        append(to, &[b"done 1\n"])
+    } else {
+        append(to, &[b"done 0\n"])
+    }
+}
+
+/// Appends a value behind a blank.
+fn value_word(value: u64, to: &mut Vec<u8>) -> Result<(), AllocError>
+    ensures { OnOk result (to.new.items ≡ to.old.items ++ codes " " ++ decimal value) }
+{
+    let mut buffer = Buffer::new();
+    let number = buffer.format(value).as_bytes();
+    append(to, &[b" ", number])
+}
+
+/// Appends the values that passed on the channel of this number.
+fn value_words(passed: &[(u32, u64)], chan: u32, to: &mut Vec<u8>) -> Result<(), AllocError>
+    ensures { OnOk result (to.new.items ≡ to.old.items ++ value_words (values_on chan passed.now)) }
+{
+    for (on, value) in passed {
+        if *on == chan {
+            value_word(*value, to)?;
+        }
+    }
+    Ok(())
+}
+
+/// Appends the line of the channel of this number.
+fn channel_line(
+    wires: &Wires,
+    passed: &[(u32, u64)],
+    chan: u32,
+    to: &mut Vec<u8>,
+) -> Result<(), AllocError>
+    ensures { OnOk result (to.new.items ≡ to.old.items ++ channel_line wires.now.channel.name (values_on chan passed.now)) }
+{
+    append(to, &[wires.channel.name.bytes(), b":"])?;
+    value_words(passed, chan, to)?;
+    append(to, &[b"\n"])
+}
+
+/// Appends a line for each channel.
+fn channel_lines(
+    channels: &[Wires],
+    passed: &[(u32, u64)],
+    to: &mut Vec<u8>,
+) -> Result<(), AllocError>
+    requires { length channels.now < 2 ^ 32 }
+    ensures { OnOk result (to.new.items ≡ to.old.items ++ channel_lines passed.now 0 channels.now) }
+{
+    for chan in 0..channels.len() as u32 {
+        channel_line(&channels[chan as usize], passed, chan, to)?;
+    }
+    Ok(())
+}
+
+/// The report of the run: how it ended, how many moves it had, the time where it was a timed run, whether `done` is high,
+/// and for each channel the values that passed on it. (The format is our profile.)
+pub fn report_text(alloc: Global, ran: &Ran, time: Option<u64>) -> Result<Vec<u8>, AllocError>
+    ensures { IfOk result (λ v. v.items ≡ report_of ran.now time) }
+{
+    let mut text = Vec::new(alloc);
+    end_line(ran.net(), ran.end(), ran.moves(), &mut text)?;
+    moves_line(ran.moves(), &mut text)?;
+    time_line(time, &mut text)?;
+    done_line(ran.done_high(), &mut text)?;
+    channel_lines(ran.net().channels(), ran.passed(), &mut text)?;
+    Ok(text)
+}
