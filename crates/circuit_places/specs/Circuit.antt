@@ -172,8 +172,8 @@ abbrev mutual
       let n = member_count members in
       tree_answer n (branch_ends members x.branches) (bit_at (joint_count n) x.tree)
   answer (repeating p) x = x.answer
-  answer (choosing false choices) x = x.answer
-  answer (choosing true choices) x = x.answer
+  answer (choosing false _) x = x.answer
+  answer (choosing true _) x = x.answer
 
   pub turn_answer : (members : Processes) → TurnCells members → Bool
   turn_answer no_members x = false
@@ -418,15 +418,15 @@ abbrev mutual
   turned (repeating p) x of_loop = record x { answer = not x.answer }
   turned (repeating p) x ask = record x { ask = not x.ask }
   turned (repeating p) x (in_body s) = record x { inner = turned p x.inner s }
-  turned (choosing false choices) x (of_core s) = turned_own x s
+  turned (choosing false _) x (of_core s) = turned_own x s
   turned (choosing false choices) x (of_guard s) = record x { guards = turned_guards choices x.guards s }
   turned (choosing false choices) x (of_choice s) = record x { branches = turned_choice choices x.branches s }
-  turned (choosing true choices) x (of_core s) = record x { core = turned_own x.core s }
+  turned (choosing true _) x (of_core s) = record x { core = turned_own x.core s }
   turned (choosing true choices) x (of_guard s) =
       record x { core = record (x.core) { guards = turned_guards choices x.core.guards s } }
   turned (choosing true choices) x (of_choice s) =
       record x { core = record (x.core) { branches = turned_choice choices x.core.branches s } }
-  turned (choosing true choices) x (of_round s) = turned_turning x s
+  turned (choosing true _) x (of_round s) = turned_turning x s
 
   pub turned_choice : (choices : Choices) → ChoiceCells choices → ChoiceSpot choices → ChoiceCells choices
   turned_choice no_choices x s = x
