@@ -14,7 +14,7 @@ use Rattle.env_script.specs.declared.hazard.Hazard.{Hazard}
 use Rattle.env_script.specs.declared.hazard.Hazard.TheVariants.{BothWays, Unstable, Protocol}
 use Rattle.env_script.specs.Hazards.{least_below, or_else, takes_away, first_hazard, hazard_of}
 use Rattle.event_sim.specs.Following.{enabled_moves, follow, ArePicks, power_value, power_of}
-use Rattle.event_sim.specs.Passing.{passed_in, completion, passed_on, channel_histories}
+use Rattle.event_sim.specs.Passing.{passed_in, completion, values_through, channel_histories}
 use Rattle.event_sim.proofs.Lists.{among_is, least_none}
 use Rattle.event_sim.proofs.Histories.{histories_more, histories_none}
 use Rattle.event_sim.proofs.Ranges.{move_in}
@@ -46,9 +46,9 @@ histories_behind net is (n ∷ ns) values passed =
     let there : record { values = (moved net st n).values; histories = channel_histories (length net.channels) now } ≡ moved net st n = ap (λ (hs : List (List ℕ)). record { values = (moved net st n).values; histories = hs }) (histories_more net is values passed n) in
     ap (λ (r : RunState). (after net r ns).histories) (sym there) ∙ histories_behind net is ns (moved net st n).values now ∙ ap (λ (r : RunState). channel_histories (length net.channels) (now ++ passed_in net r ns)) there ∙ ap (channel_histories (length net.channels)) (append_assoc passed (option_to_list (completion net (high values) n)) (passed_in net (moved net st n) ns))
 
-pub passed_histories : (net : NetValue) (values : List Bool) (ns : List ℕ) (c : ℕ) → IsNet net → c < length net.channels → passed_on c (passed_in net (begin_at net values) ns) ≡ history_at (after net (begin_at net values) ns).histories c
+pub passed_histories : (net : NetValue) (values : List Bool) (ns : List ℕ) (c : ℕ) → IsNet net → c < length net.channels → values_through c (passed_in net (begin_at net values) ns) ≡ history_at (after net (begin_at net values) ns).histories c
 passed_histories net values ns c is within =
-    sym (ap (λ (hs : List (List ℕ)). history_at hs c) whole ∙ get_or-map-range_with_len (λ k. passed_on k (passed_in net (begin_at net values) ns)) 0 (length net.channels) c c [] within (omega arith))
+    sym (ap (λ (hs : List (List ℕ)). history_at hs c) whole ∙ get_or-map-range_with_len (λ k. values_through k (passed_in net (begin_at net values) ns)) 0 (length net.channels) c c [] within (omega arith))
   where
     none : record { values = values; histories = channel_histories (length net.channels) [] } ≡ begin_at net values
     none = ap (λ (hs : List (List ℕ)). record { values = values; histories = hs }) (histories_none (length net.channels))

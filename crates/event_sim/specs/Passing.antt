@@ -26,9 +26,9 @@ passed_in net st [] = []
 passed_in net st (n ∷ ns) = option_to_list (completion net (high st.values) n) ++ passed_in net (moved net st n) ns
 
 -- those that pass on one channel
-abbrev pub passed_on : ℕ → List (ℕ × ℕ) → List ℕ
-passed_on c passed = map (λ (p : ℕ × ℕ). p.1) (filter (λ (p : ℕ × ℕ). p.0 == c) passed)
+abbrev pub values_through : ℕ → List (ℕ × ℕ) → List ℕ
+values_through c passed = map (λ (p : ℕ × ℕ). p.1) (filter (λ (p : ℕ × ℕ). p.0 == c) passed)
 
 -- and those of each of so many channels
 abbrev pub channel_histories : ℕ → List (ℕ × ℕ) → List (List ℕ)
-channel_histories channels passed = map (λ c. passed_on c passed) (range_with_len 0 channels)
+channel_histories channels passed = map (λ c. values_through c passed) (range_with_len 0 channels)

@@ -6,7 +6,7 @@ use Rattle.prs_core.specs.declared.wires.Wires.{Wires}
 use Rattle.prs_core.specs.Nets.{NetValue, name_at}
 use Rattle.event_sim.specs.declared.ran.End.{End}
 use Rattle.event_sim.specs.declared.ran.End.TheVariants.{AtRest, Spent, Unstable, BothWays, Protocol}
-use Rattle.event_sim.specs.Passing.{passed_on}
+use Rattle.event_sim.specs.Passing.{values_through}
 use Rattle.event_sim.specs.Simulating.{RanValue}
 
 abbrev pub channel_name : NetValue → ℕ → List ℕ
@@ -47,7 +47,7 @@ channel_line name values = concat (name ∷ codes ":" ∷ value_words values ∷
 -- a line for each channel, which are numbered from c on
 abbrev pub history_lines : List (ℕ × ℕ) → ℕ → List Wires → List ℕ
 history_lines passed c [] = []
-history_lines passed c (w ∷ ws) = channel_line w.channel.name (passed_on c passed) ++ history_lines passed (c + 1) ws
+history_lines passed c (w ∷ ws) = channel_line w.channel.name (values_through c passed) ++ history_lines passed (c + 1) ws
 
 abbrev pub report_of : RanValue → Option ℕ → List ℕ
 report_of r time =

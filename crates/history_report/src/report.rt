@@ -3,7 +3,7 @@
 ghost use Rattle.std.specs.Prelude.{◌≡◌, ◌++◌, ◌<◌, ◌^◌, ℕ, length, codes, decimal, IfOk, OnOk};
 ghost use Rattle.std.specs.List.{flat_map};
 ghost use Rattle.prs_core.specs.Nets.{name_at};
-ghost use Rattle.event_sim.specs.Passing.{passed_on};
+ghost use Rattle.event_sim.specs.Passing.{values_through};
 ghost use Rattle.event_sim.specs.Simulating.{IsEndIn};
 ghost use Rattle.history_report.specs.Reports.{channel_name, hazard_line, ending_line, moves_line, time_line, done_line, value_words, channel_line, history_lines, report_of};
 
@@ -106,7 +106,7 @@ fn value_word(value: u64, to: &mut Vec<u8>) -> Result<(), AllocError>
 
 /// Appends the values that passed on the channel of this number.
 fn value_words(passed: &[(u32, u64)], chan: u32, to: &mut Vec<u8>) -> Result<(), AllocError>
-    ensures { OnOk result (to.new.items ≡ to.old.items ++ value_words (passed_on chan passed.now)) }
+    ensures { OnOk result (to.new.items ≡ to.old.items ++ value_words (values_through chan passed.now)) }
 {
     for (on, value) in passed {
         if *on == chan {
@@ -123,7 +123,7 @@ fn channel_line(
     chan: u32,
     to: &mut Vec<u8>,
 ) -> Result<(), AllocError>
-    ensures { OnOk result (to.new.items ≡ to.old.items ++ channel_line wires.now.channel.name (passed_on chan passed.now)) }
+    ensures { OnOk result (to.new.items ≡ to.old.items ++ channel_line wires.now.channel.name (values_through chan passed.now)) }
 {
     append(to, &[wires.channel.name.bytes(), b":"])?;
     value_words(passed, chan, to)?;
