@@ -13,10 +13,10 @@ use Rattle.env_script.proofs.Fronts.{ends_all}
 use Rattle.event_sim.specs.declared.ran.End.{End}
 use Rattle.event_sim.specs.declared.ran.End.TheVariants.{AtRest}
 use Rattle.event_sim.specs.Following.{enabled_moves, follow, ArePicks}
-use Rattle.event_sim.specs.Passing.{passed_in, histories_of}
-use Rattle.event_sim.specs.Ends.{end_by, end_with, EndsSo}
+use Rattle.event_sim.specs.Passing.{passed_in, channel_histories}
+use Rattle.event_sim.specs.Ends.{end_from, end_with, EndsSo}
 use Rattle.event_sim.specs.Picking.{IsChoiceList}
-use Rattle.event_sim.specs.Simulating.{SimValue, start_at, growth, moves_of, IsEndIn}
+use Rattle.event_sim.specs.Simulating.{SimValue, start_at, growth, picked_moves, IsEndIn}
 use Rattle.event_sim.specs.Stages.{StageValue, now_of, moves_now, IsUnbegun, IsUnderway}
 use Rattle.event_sim.proofs.Histories.{histories_none}
 use Rattle.event_sim.proofs.Following.{follow_length, picked_run, enabled_below, ascending}
@@ -52,7 +52,7 @@ begun stage steps start last before is hazard = record {
 
     there : now_of stage ≡ start_at s
     there =
-        ap (λ (ps : List (ℕ × ℕ)). record { values = stage.values; histories = histories_of (length stage.net.channels) ps }) is.passed ∙ ap (λ (hs : List (List ℕ)). record { values = stage.values; histories = hs }) (histories_none (length stage.net.channels)) ∙ ap (λ (vs : List Bool). record { values = vs; histories = replicate (length stage.net.channels) [] }) is.values
+        ap (λ (ps : List (ℕ × ℕ)). record { values = stage.values; histories = channel_histories (length stage.net.channels) ps }) is.passed ∙ ap (λ (hs : List (List ℕ)). record { values = stage.values; histories = hs }) (histories_none (length stage.net.channels)) ∙ ap (λ (vs : List Bool). record { values = vs; histories = replicate (length stage.net.channels) [] }) is.values
 
 drop_front : (xs ys : List ℕ) → drop (length xs) (xs ++ ys) ≡ ys
 drop_front [] ys = refl
@@ -89,12 +89,12 @@ picked_within s picks stage last xs p d is listed within =
 pub record IsFinished (s : SimValue) (before now : List ℕ) (count : ℕ) (stage : StageValue) (end : End) : Type 0 where
   pub log : now ≡ before ++ growth before now
   pub picks : ArePicks s.net s.script (start_at s) (growth before now)
-  pub run : IsRun s.net s.script (start_at s) (moves_of s before now)
-  pub ends : EndsSo s.net s.script s.steps (start_at s) (moves_of s before now) end
-  pub moves : count ≡ length (moves_of s before now)
-  pub done : high stage.values 1 ≡ high (after s.net (start_at s) (moves_of s before now)).values 1
-  pub passed : stage.passed ≡ passed_in s.net (start_at s) (moves_of s before now)
-  pub one_length : AllSafe s.net s.script (start_at s) → end ≡ AtRest → EndsAll s.net s.script (start_at s) (moves_of s before now)
+  pub run : IsRun s.net s.script (start_at s) (picked_moves s before now)
+  pub ends : EndsSo s.net s.script s.steps (start_at s) (picked_moves s before now) end
+  pub moves : count ≡ length (picked_moves s before now)
+  pub done : high stage.values 1 ≡ high (after s.net (start_at s) (picked_moves s before now)).values 1
+  pub passed : stage.passed ≡ passed_in s.net (start_at s) (picked_moves s before now)
+  pub one_length : AllSafe s.net s.script (start_at s) → end ≡ AtRest → EndsAll s.net s.script (start_at s) (picked_moves s before now)
   pub net : stage.net ≡ s.net
   pub within : IsEndIn s.net end
 
@@ -104,7 +104,7 @@ rest_empties None (x ∷ xs) true ended = absurd (cc ended)
 rest_empties None (x ∷ xs) false ended = absurd (cc ended)
 rest_empties (Some h) (x ∷ xs) spent ended = absurd (by_hazard h ended)
   where
-    by_hazard : (h : Hazard) → Some (end_by h) ≡ Some AtRest → ⊥
+    by_hazard : (h : Hazard) → Some (end_from h) ≡ Some AtRest → ⊥
     by_hazard (Torn n) e = cc e
     by_hazard (Lost n) e = cc e
     by_hazard (Broken c) e = cc e

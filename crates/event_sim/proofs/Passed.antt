@@ -7,9 +7,9 @@ use Rattle.prs_core.specs.declared.wires.Wires.{Wires}
 use Rattle.prs_core.specs.Nets.{NetValue}
 use Rattle.env_script.specs.Environment.{in_reset}
 use Rattle.env_script.specs.Runs.{completes}
-use Rattle.event_sim.specs.Passing.{channel_of, completed_on, completion}
+use Rattle.event_sim.specs.Passing.{channel_acknowledged, completed_on, completion}
 
-pub channel_within : (ws : List Wires) (n c : ℕ) → Some c ≡ channel_of ws n → c < length ws
+pub channel_within : (ws : List Wires) (n c : ℕ) → Some c ≡ channel_acknowledged ws n → c < length ws
 channel_within [] n c found = absurd (cc found)
 channel_within (w ∷ ws) n c found = (position-Some (λ (x : Wires). n == x.ack) (w ∷ ws) c w (sym found)).0
 
@@ -26,18 +26,18 @@ found_at on o = option_and_then (λ c. paired c (on c)) o
 abbrev unless : Bool → Option (ℕ × ℕ) → Option (ℕ × ℕ)
 unless b o = if b then None else o
 
-pub none_unknown : (net : NetValue) (v : ℕ → Bool) (n : ℕ) → None ≡ channel_of net.channels n → completion net v n ≡ None
-none_unknown net v n unknown = by_reset (in_reset net.reset v) (channel_of net.channels n) unknown
+pub none_unknown : (net : NetValue) (v : ℕ → Bool) (n : ℕ) → None ≡ channel_acknowledged net.channels n → completion net v n ≡ None
+none_unknown net v n unknown = by_reset (in_reset net.reset v) (channel_acknowledged net.channels n) unknown
   where
     by_reset : (b : Bool) (o : Option ℕ) → None ≡ o → unless b (found_at (completed_on v net.channels n) o) ≡ None
     by_reset true o none = refl
     by_reset false o none = ap (found_at (completed_on v net.channels n)) (sym none)
 
-pub completion_is : (net : NetValue) (v : ℕ → Bool) (n c : ℕ) (w : Wires) (o : Option ℕ) → in_reset net.reset v ≡ false → Some c ≡ channel_of net.channels n → w ≡ get_or net.channels c w → o ≡ completes v w n → paired c o ≡ completion net v n
+pub completion_is : (net : NetValue) (v : ℕ → Bool) (n c : ℕ) (w : Wires) (o : Option ℕ) → in_reset net.reset v ≡ false → Some c ≡ channel_acknowledged net.channels n → w ≡ get_or net.channels c w → o ≡ completes v w n → paired c o ≡ completion net v n
 completion_is net v n c w o off found here is =
     let within = channel_within net.channels n c found in
     let read = slice_get_read net.channels (length net.channels) c w refl within here in
-    by_reset (in_reset net.reset v) (channel_of net.channels n) off found (ap (paired c) (is ∙ sym (ap (option_and_then (λ (x : Wires). completes v x n)) read)))
+    by_reset (in_reset net.reset v) (channel_acknowledged net.channels n) off found (ap (paired c) (is ∙ sym (ap (option_and_then (λ (x : Wires). completes v x n)) read)))
   where
     by_reset : (b : Bool) (f : Option ℕ) → b ≡ false → Some c ≡ f → paired c o ≡ paired c (completed_on v net.channels n c) → paired c o ≡ unless b (found_at (completed_on v net.channels n) f)
     by_reset true f off found one = absurd (cc off)
@@ -46,7 +46,7 @@ completion_is net v n c w o off found here is =
 -- the channel is one of the net's
 pub completion_within : (net : NetValue) (v : ℕ → Bool) (n : ℕ) (o : Option (ℕ × ℕ)) (count : ℕ) → o ≡ completion net v n → count ≡ length net.channels → IfSome o (λ (p : ℕ × ℕ). p.0 < count)
 completion_within net v n o count is whole =
-    subst (λ (q : Option (ℕ × ℕ)). IfSome q (λ (p : ℕ × ℕ). p.0 < count)) (sym is) (by_reset (in_reset net.reset v) (channel_of net.channels n) (λ c found. let within = channel_within net.channels n c found in omega arith))
+    subst (λ (q : Option (ℕ × ℕ)). IfSome q (λ (p : ℕ × ℕ). p.0 < count)) (sym is) (by_reset (in_reset net.reset v) (channel_acknowledged net.channels n) (λ c found. let within = channel_within net.channels n c found in omega arith))
   where
     pair_within : (c : ℕ) (o : Option ℕ) → c < count → IfSome (paired c o) (λ (p : ℕ × ℕ). p.0 < count)
     pair_within c None less = tt

@@ -17,7 +17,7 @@ use Rattle.env_script.specs.Runs.{RunState, IsAtRest, completed, move_enabled, m
 use Rattle.env_script.specs.Hazards.{least_below, or_else, takes_away, first_hazard, hazard_of}
 use Rattle.event_sim.specs.declared.ran.End.{End}
 use Rattle.event_sim.specs.Following.{enabled_moves}
-use Rattle.event_sim.specs.Ends.{end_by, end_with, calm_end, last_hazard}
+use Rattle.event_sim.specs.Ends.{end_from, end_with, calm_end, last_hazard}
 use Rattle.event_sim.specs.Simulating.{IsEndIn}
 use Rattle.event_sim.proofs.Lists.{among_is}
 
@@ -136,7 +136,7 @@ fault_within p c [] found = absurd (cc found)
 fault_within p c (w ∷ ws) found = (position-Some p (w ∷ ws) c w found).0
 
 abbrev Within : NetValue → Option Hazard → Type 0
-Within net o = IfSome o (λ h. IsEndIn net (end_by h))
+Within net o = IfSome o (λ h. IsEndIn net (end_from h))
 
 either_within : (net : NetValue) (a b : Option Hazard) → Within net a → Within net b → Within net (or_else a b)
 either_within net None b one two = two

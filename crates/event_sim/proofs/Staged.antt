@@ -13,7 +13,7 @@ use Rattle.env_script.specs.Runs.{RunState, moved, move_enabled, completed}
 use Rattle.env_script.specs.Hazards.{least_below, or_else, takes_away, first_hazard, hazard_of}
 use Rattle.env_script.specs.declared.hazard.Hazard.TheVariants.{BothWays, Unstable, Protocol}
 use Rattle.event_sim.specs.Following.{enabled_moves}
-use Rattle.event_sim.specs.Stages.{is_enabled, is_lost, worst}
+use Rattle.event_sim.specs.Stages.{has_move, is_lost, worst_cause}
 use Rattle.event_sim.proofs.Lists.{least_agrees, first_is_least, among_is}
 
 channels_agree : (v : ℕ → Bool) (script : ℕ → OfferValue) (d e : ℕ → ℕ) → ((k : ℕ) → d k ≡ e k) → (c : ℕ) (ws : List Wires) (n : ℕ) → channels_move v script d c ws n ≡ channels_move v script e c ws n
@@ -31,14 +31,14 @@ counts_are [] (suc k) = refl
 counts_are (h ∷ hs) zero = refl
 counts_are (h ∷ hs) (suc k) = counts_are hs k
 
-enabled_same : (net : NetValue) (script : List OfferValue) (values : List Bool) (hs : List (List ℕ)) (done : List ℕ) (n : ℕ) → done ≡ map (λ (h : List ℕ). length h) hs → is_enabled net script done values n ≡ move_enabled net script (record { values = values; histories = hs }) n
+enabled_same : (net : NetValue) (script : List OfferValue) (values : List Bool) (hs : List (List ℕ)) (done : List ℕ) (n : ℕ) → done ≡ map (λ (h : List ℕ). length h) hs → has_move net script done values n ≡ move_enabled net script (record { values = values; histories = hs }) n
 enabled_same net script values hs done n counted =
     ap (λ b. rule_enabled net (high values) n || b) (env_agrees net script (slice_index done) (completed hs) (high values) n (λ k. ap (λ (xs : List ℕ). slice_index xs k) counted ∙ counts_are hs k))
 
 -- the list that is filled by the counts of completed values
-pub listed_same : (net : NetValue) (script : List OfferValue) (values : List Bool) (hs : List (List ℕ)) (done : List ℕ) → done ≡ map (λ (h : List ℕ). length h) hs → filter (is_enabled net script done values) (range_with_len 0 (length net.first)) ≡ enabled_moves net script (record { values = values; histories = hs })
+pub listed_same : (net : NetValue) (script : List OfferValue) (values : List Bool) (hs : List (List ℕ)) (done : List ℕ) → done ≡ map (λ (h : List ℕ). length h) hs → filter (has_move net script done values) (range_with_len 0 (length net.first)) ≡ enabled_moves net script (record { values = values; histories = hs })
 listed_same net script values hs done counted =
-    filter_agree (is_enabled net script done values) (move_enabled net script (record { values = values; histories = hs })) (λ n. enabled_same net script values hs done n counted) (range_with_len 0 (length net.first))
+    filter_agree (has_move net script done values) (move_enabled net script (record { values = values; histories = hs })) (λ n. enabled_same net script values hs done n counted) (range_with_len 0 (length net.first))
 
 -- the first of the moves before that is lost
 lost_is : (net : NetValue) (script : List OfferValue) (st : RunState) (n : ℕ) → find (is_lost (enabled_moves net script (moved net st n)) n) (enabled_moves net script st) ≡ least_below (length net.first) (takes_away net script st n)
@@ -51,18 +51,18 @@ lost_is net script st n =
     regroup false true c = refl
     regroup false false c = refl
 
-worst_is : (pulled lost broken : Option ℕ) → worst pulled lost broken ≡ or_else (option_map BothWays pulled) (or_else (option_map Unstable lost) (option_map Protocol broken))
+worst_is : (pulled lost broken : Option ℕ) → worst_cause pulled lost broken ≡ or_else (option_map BothWays pulled) (or_else (option_map Unstable lost) (option_map Protocol broken))
 worst_is (Some k) lost broken = refl
 worst_is None (Some k) broken = refl
 worst_is None None (Some c) = refl
 worst_is None None None = refl
 
 -- the hazard by its three tests
-pub hazard_is : (net : NetValue) (script : List OfferValue) (st : RunState) (n : ℕ) (was now : List ℕ) (pulled lost broken : Option ℕ) → was ≡ enabled_moves net script st → now ≡ enabled_moves net script (moved net st n) → pulled ≡ least_below (length net.first) (both_ways net (high (moved net st n).values)) → lost ≡ find (is_lost now n) was → broken ≡ phase_fault net (high st.values) n → worst pulled lost broken ≡ hazard_of net script st n
+pub hazard_is : (net : NetValue) (script : List OfferValue) (st : RunState) (n : ℕ) (was now : List ℕ) (pulled lost broken : Option ℕ) → was ≡ enabled_moves net script st → now ≡ enabled_moves net script (moved net st n) → pulled ≡ least_below (length net.first) (both_ways net (high (moved net st n).values)) → lost ≡ find (is_lost now n) was → broken ≡ phase_fault net (high st.values) n → worst_cause pulled lost broken ≡ hazard_of net script st n
 hazard_is net script st n was now pulled lost broken before after torn taken keeps =
     let same : lost ≡ least_below (length net.first) (takes_away net script st n) = rw (before, after) at taken ∙ lost_is net script st n in
     rw (torn, same, keeps) (worst_is _ _ _)
 
-pub first_is : (net : NetValue) (st : RunState) (pulled : Option ℕ) → pulled ≡ least_below (length net.first) (both_ways net (high st.values)) → worst pulled None None ≡ first_hazard net st
+pub first_is : (net : NetValue) (st : RunState) (pulled : Option ℕ) → pulled ≡ least_below (length net.first) (both_ways net (high st.values)) → worst_cause pulled None None ≡ first_hazard net st
 first_is net st None torn = ap (option_map BothWays) torn
 first_is net st (Some k) torn = ap (option_map BothWays) torn

@@ -11,7 +11,7 @@ use Rattle.env_script.specs.Runs.{RunState, moved, after}
 use Rattle.env_script.specs.Hazards.{hazard_of}
 use Rattle.event_sim.specs.Following.{enabled_moves, follow}
 use Rattle.event_sim.specs.Passing.{completion, passed_in}
-use Rattle.event_sim.specs.Ends.{last_hazard, end_with, end_of}
+use Rattle.event_sim.specs.Ends.{last_hazard, end_with, end_after}
 use Rattle.event_sim.specs.Simulating.{SimValue, start_at}
 use Rattle.event_sim.specs.Stages.{StageValue, now_of, moves_now, IsUnderway}
 use Rattle.event_sim.proofs.Following.{after_more, follow_more, follow_length, picks_more, last_more, passed_more}
@@ -22,7 +22,7 @@ moves_are s picks stage hazard is =
     ap (λ (w : NetValue). enabled_moves w stage.script (now_of stage)) is.net ∙ ap (λ (e : List OfferValue). enabled_moves s.net e (now_of stage)) is.script ∙ ap (λ (r : RunState). enabled_moves s.net s.script r) is.now
 
 -- how the run so far has ended
-pub end_is : (s : SimValue) (picks : List ℕ) (stage : StageValue) (hazard : Option Hazard) (spent : Bool) → IsUnderway s picks stage hazard → (length picks == s.steps) ≡ spent → end_with hazard (moves_now stage) spent ≡ end_of s.net s.script s.steps (start_at s) (follow s.net s.script (start_at s) picks)
+pub end_is : (s : SimValue) (picks : List ℕ) (stage : StageValue) (hazard : Option Hazard) (spent : Bool) → IsUnderway s picks stage hazard → (length picks == s.steps) ≡ spent → end_with hazard (moves_now stage) spent ≡ end_after s.net s.script s.steps (start_at s) (follow s.net s.script (start_at s) picks)
 end_is s picks stage hazard spent is counted =
     ap (λ (h : Option Hazard). end_with h (moves_now stage) spent) is.hazard ∙ ap (λ (xs : List ℕ). end_with (last_hazard s.net s.script (start_at s) moves) xs spent) (moves_are s picks stage hazard is) ∙ ap (λ (b : Bool). end_with (last_hazard s.net s.script (start_at s) moves) (enabled_moves s.net s.script (after s.net (start_at s) moves)) b) (sym counted ∙ ap (λ (k : ℕ). k == s.steps) (sym (follow_length s.net s.script (start_at s) picks)))
   where
@@ -67,8 +67,8 @@ step s picks stage later hazard brought p node is few goes within here same_net 
     front : (k : ℕ) → k ≤ length picks → take k (follow s.net s.script (start_at s) (picks ++ p ∷ [])) ≡ take k (follow s.net s.script (start_at s) picks)
     front k less = ap (take k) more ∙ take-append-le k (follow s.net s.script (start_at s) picks) (node ∷ []) (omega (arith, whole))
 
-    by_place : (k : ℕ) → (k < length picks) ⊎ (length picks ≤ k) → k < length (picks ++ p ∷ []) → end_of s.net s.script s.steps (start_at s) (take k (follow s.net s.script (start_at s) (picks ++ p ∷ []))) ≡ None
-    by_place k (inl less) below = ap (end_of s.net s.script s.steps (start_at s)) (front k (omega arith)) ∙ is.no_end k less
+    by_place : (k : ℕ) → (k < length picks) ⊎ (length picks ≤ k) → k < length (picks ++ p ∷ []) → end_after s.net s.script s.steps (start_at s) (take k (follow s.net s.script (start_at s) (picks ++ p ∷ []))) ≡ None
+    by_place k (inl less) below = ap (end_after s.net s.script s.steps (start_at s)) (front k (omega arith)) ∙ is.no_end k less
     by_place k (inr past) below =
         let same : k ≤ length picks = omega (arith, length_push picks p) in
-        ap (end_of s.net s.script s.steps (start_at s)) (front k same ∙ take_all k (follow s.net s.script (start_at s) picks) (omega (arith, whole))) ∙ sym (end_is s picks stage hazard false is (ne_eqb (length picks) s.steps (omega arith))) ∙ goes
+        ap (end_after s.net s.script s.steps (start_at s)) (front k same ∙ take_all k (follow s.net s.script (start_at s) picks) (omega (arith, whole))) ∙ sym (end_is s picks stage hazard false is (ne_eqb (length picks) s.steps (omega arith))) ∙ goes

@@ -14,7 +14,7 @@ use Rattle.env_script.specs.declared.hazard.Hazard.{Hazard}
 use Rattle.env_script.specs.declared.hazard.Hazard.TheVariants.{BothWays, Unstable, Protocol}
 use Rattle.env_script.specs.Hazards.{least_below, or_else, takes_away, first_hazard, hazard_of}
 use Rattle.event_sim.specs.Following.{enabled_moves, follow, ArePicks, power_value, power_of}
-use Rattle.event_sim.specs.Passing.{passed_in, completion, values_on, histories_of}
+use Rattle.event_sim.specs.Passing.{passed_in, completion, values_through, channel_histories}
 use Rattle.event_sim.proofs.Lists.{among_is, least_none}
 use Rattle.event_sim.proofs.Histories.{histories_more, histories_none}
 use Rattle.event_sim.proofs.Ranges.{move_in}
@@ -38,24 +38,24 @@ picks_of net script is (n ∷ ns) st run =
     (at.0 ∷ rest.0, (at.1, subst (λ (m : ℕ). ArePicks net script (moved net st m) rest.0) (sym at.2) rest.1), ap (λ (m : ℕ). m ∷ follow net script (moved net st m) rest.0) at.2 ∙ ap (λ (ms : List ℕ). n ∷ ms) rest.2)
 
 -- what passes in a run, and the histories behind it
-histories_behind : (net : NetValue) → IsNet net → (ns : List ℕ) (values : List Bool) (passed : List (ℕ × ℕ)) → (after net (record { values = values; histories = histories_of (length net.channels) passed }) ns).histories ≡ histories_of (length net.channels) (passed ++ passed_in net (record { values = values; histories = histories_of (length net.channels) passed }) ns)
-histories_behind net is [] values passed = ap (histories_of (length net.channels)) (sym (append-nil passed))
+histories_behind : (net : NetValue) → IsNet net → (ns : List ℕ) (values : List Bool) (passed : List (ℕ × ℕ)) → (after net (record { values = values; histories = channel_histories (length net.channels) passed }) ns).histories ≡ channel_histories (length net.channels) (passed ++ passed_in net (record { values = values; histories = channel_histories (length net.channels) passed }) ns)
+histories_behind net is [] values passed = ap (channel_histories (length net.channels)) (sym (append-nil passed))
 histories_behind net is (n ∷ ns) values passed =
-    let st : RunState = record { values = values; histories = histories_of (length net.channels) passed } in
+    let st : RunState = record { values = values; histories = channel_histories (length net.channels) passed } in
     let now : List (ℕ × ℕ) = passed ++ option_to_list (completion net (high values) n) in
-    let there : record { values = (moved net st n).values; histories = histories_of (length net.channels) now } ≡ moved net st n = ap (λ (hs : List (List ℕ)). record { values = (moved net st n).values; histories = hs }) (histories_more net is values passed n) in
-    ap (λ (r : RunState). (after net r ns).histories) (sym there) ∙ histories_behind net is ns (moved net st n).values now ∙ ap (λ (r : RunState). histories_of (length net.channels) (now ++ passed_in net r ns)) there ∙ ap (histories_of (length net.channels)) (append_assoc passed (option_to_list (completion net (high values) n)) (passed_in net (moved net st n) ns))
+    let there : record { values = (moved net st n).values; histories = channel_histories (length net.channels) now } ≡ moved net st n = ap (λ (hs : List (List ℕ)). record { values = (moved net st n).values; histories = hs }) (histories_more net is values passed n) in
+    ap (λ (r : RunState). (after net r ns).histories) (sym there) ∙ histories_behind net is ns (moved net st n).values now ∙ ap (λ (r : RunState). channel_histories (length net.channels) (now ++ passed_in net r ns)) there ∙ ap (channel_histories (length net.channels)) (append_assoc passed (option_to_list (completion net (high values) n)) (passed_in net (moved net st n) ns))
 
-pub passed_histories : (net : NetValue) (values : List Bool) (ns : List ℕ) (c : ℕ) → IsNet net → c < length net.channels → values_on c (passed_in net (begin_at net values) ns) ≡ history_at (after net (begin_at net values) ns).histories c
+pub passed_histories : (net : NetValue) (values : List Bool) (ns : List ℕ) (c : ℕ) → IsNet net → c < length net.channels → values_through c (passed_in net (begin_at net values) ns) ≡ history_at (after net (begin_at net values) ns).histories c
 passed_histories net values ns c is within =
-    sym (ap (λ (hs : List (List ℕ)). history_at hs c) whole ∙ get_or-map-range_with_len (λ k. values_on k (passed_in net (begin_at net values) ns)) 0 (length net.channels) c c [] within (omega arith))
+    sym (ap (λ (hs : List (List ℕ)). history_at hs c) whole ∙ get_or-map-range_with_len (λ k. values_through k (passed_in net (begin_at net values) ns)) 0 (length net.channels) c c [] within (omega arith))
   where
-    none : record { values = values; histories = histories_of (length net.channels) [] } ≡ begin_at net values
+    none : record { values = values; histories = channel_histories (length net.channels) [] } ≡ begin_at net values
     none = ap (λ (hs : List (List ℕ)). record { values = values; histories = hs }) (histories_none (length net.channels))
 
-    whole : (after net (begin_at net values) ns).histories ≡ histories_of (length net.channels) (passed_in net (begin_at net values) ns)
+    whole : (after net (begin_at net values) ns).histories ≡ channel_histories (length net.channels) (passed_in net (begin_at net values) ns)
     whole =
-        subst (λ (r : RunState). (after net r ns).histories ≡ histories_of (length net.channels) (passed_in net r ns)) none (histories_behind net is ns values [])
+        subst (λ (r : RunState). (after net r ns).histories ≡ channel_histories (length net.channels) (passed_in net r ns)) none (histories_behind net is ns values [])
 
 -- safe moves and hazards
 

@@ -17,10 +17,10 @@ last_hazard net script st [] = first_hazard net st
 last_hazard net script st (n ∷ []) = hazard_of net script st n
 last_hazard net script st (n ∷ m ∷ ns) = last_hazard net script (moved net st n) (m ∷ ns)
 
-abbrev pub end_by : Hazard → End
-end_by (Torn n) = BothWays n
-end_by (Lost n) = Unstable n
-end_by (Broken c) = Protocol c
+abbrev pub end_from : Hazard → End
+end_from (Torn n) = BothWays n
+end_from (Lost n) = Unstable n
+end_from (Broken c) = Protocol c
 
 -- with these moves enabled, where the limit is reached or isn't
 abbrev pub calm_end : List ℕ → Bool → Option End
@@ -29,15 +29,15 @@ calm_end (n ∷ ns) spent = if spent then Some Spent else None
 
 -- a hazard, else rest, else the limit
 abbrev pub end_with : Option Hazard → List ℕ → Bool → Option End
-end_with (Some hazard) enabled spent = Some (end_by hazard)
+end_with (Some hazard) enabled spent = Some (end_from hazard)
 end_with None enabled spent = calm_end enabled spent
 
 -- how the run of these moves has ended, if it has
-abbrev pub end_of : NetValue → List OfferValue → ℕ → RunState → List ℕ → Option End
-end_of net script steps st ns =
+abbrev pub end_after : NetValue → List OfferValue → ℕ → RunState → List ℕ → Option End
+end_after net script steps st ns =
     end_with (last_hazard net script st ns) (enabled_moves net script (after net st ns)) (length ns == steps)
 
 -- it has ended so, and no shorter part of it has ended
 pub record EndsSo (net : NetValue) (script : List OfferValue) (steps : ℕ) (st : RunState) (ns : List ℕ) (end : End) : Type 0 where
-  pub ended : end_of net script steps st ns ≡ Some end
-  pub not_before : (k : ℕ) → k < length ns → end_of net script steps st (take k ns) ≡ None
+  pub ended : end_after net script steps st ns ≡ Some end
+  pub not_before : (k : ℕ) → k < length ns → end_after net script steps st (take k ns) ≡ None

@@ -22,8 +22,8 @@ abbrev pub growth : (before now : List ℕ) → List ℕ
 growth before now = drop (length before) now
 
 -- the moves that the growth of a picker's log leads to
-abbrev pub moves_of : SimValue → (before now : List ℕ) → List ℕ
-moves_of s before now = follow s.net s.script (start_at s) (growth before now)
+abbrev pub picked_moves : SimValue → (before now : List ℕ) → List ℕ
+picked_moves s before now = follow s.net s.script (start_at s) (growth before now)
 
 -- how a run ended, how many moves it had, whether done is high then, and what has passed
 pub record RanValue : Type 0 where

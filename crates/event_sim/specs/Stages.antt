@@ -9,9 +9,9 @@ use Rattle.env_script.specs.Runs.{RunState, after}
 use Rattle.env_script.specs.declared.hazard.Hazard.{Hazard}
 use Rattle.env_script.specs.declared.hazard.Hazard.TheVariants.{BothWays, Unstable, Protocol}
 use Rattle.event_sim.specs.Following.{enabled_moves, follow, power_of, ArePicks}
-use Rattle.event_sim.specs.Ends.{last_hazard, end_of}
+use Rattle.event_sim.specs.Ends.{last_hazard, end_after}
 use Rattle.event_sim.specs.Simulating.{SimValue, start_at}
-use Rattle.event_sim.specs.Passing.{histories_of, passed_in}
+use Rattle.event_sim.specs.Passing.{channel_histories, passed_in}
 
 -- the net, the script, the nodes' values, what has passed, and for how many more values there is room
 pub record StageValue : Type 0 where
@@ -21,23 +21,23 @@ pub record StageValue : Type 0 where
   pub passed : List (ℕ × ℕ)
   pub room : ℕ
 
-abbrev pub stage_of : NetValue → List OfferValue → List Bool → List (ℕ × ℕ) → ℕ → StageValue
-stage_of net script values passed room =
+abbrev pub stage_with : NetValue → List OfferValue → List Bool → List (ℕ × ℕ) → ℕ → StageValue
+stage_with net script values passed room =
     record { net = net; script = script; values = values; passed = passed; room = room }
 
 abbrev pub now_of : StageValue → RunState
-now_of s = record { values = s.values; histories = histories_of (length s.net.channels) s.passed }
+now_of s = record { values = s.values; histories = channel_histories (length s.net.channels) s.passed }
 
 -- the enabled moves
 abbrev pub moves_now : StageValue → List ℕ
 moves_now s = enabled_moves s.net s.script (now_of s)
 
 -- by the counts of completed values: a rule of the node is enabled, or the environment's move of it
-abbrev pub is_enabled : NetValue → List OfferValue → List ℕ → List Bool → ℕ → Bool
-is_enabled net script done values n = rule_enabled net (high values) n || env_enabled net script (slice_index done) (high values) n
+abbrev pub has_move : NetValue → List OfferValue → List ℕ → List Bool → ℕ → Bool
+has_move net script done values n = rule_enabled net (high values) n || env_enabled net script (slice_index done) (high values) n
 
 -- what is kept beside: the counts of completed values, the enabled moves, and room for two lists of all nodes
-pub record IsKept (s : StageValue) (counts listed : List ℕ) (room_one room_other : ℕ) : Type 0 where
+pub record IsKeptBeside (s : StageValue) (counts listed : List ℕ) (room_one room_other : ℕ) : Type 0 where
   pub net : IsNet s.net
   pub script : IsScript (channels_of s.net) s.script
   pub values : length s.values ≡ length s.net.first
@@ -52,11 +52,11 @@ abbrev pub is_lost : List ℕ → ℕ → ℕ → Bool
 is_lost now node m = not (m == node) && not (list_any (λ k. k == m) now)
 
 -- a node that is pulled both ways, else one whose move was taken away, else a channel whose phases are broken
-abbrev pub worst : Option ℕ → Option ℕ → Option ℕ → Option Hazard
-worst (Some k) lost broken = Some (BothWays k)
-worst None (Some k) broken = Some (Unstable k)
-worst None None (Some c) = Some (Protocol c)
-worst None None None = None
+abbrev pub worst_cause : Option ℕ → Option ℕ → Option ℕ → Option Hazard
+worst_cause (Some k) lost broken = Some (BothWays k)
+worst_cause None (Some k) broken = Some (Unstable k)
+worst_cause None None (Some c) = Some (Protocol c)
+worst_cause None None None = None
 
 -- of a simulation that hasn't begun
 pub record IsUnbegun (s : StageValue) (steps : ℕ) (start : Bool) : Type 0 where
@@ -74,4 +74,4 @@ pub record IsUnderway (s : SimValue) (made : List ℕ) (stage : StageValue) (las
   pub room : s.steps ≤ stage.room + length made
   pub picks : ArePicks s.net s.script (start_at s) made
   pub hazard : last ≡ last_hazard s.net s.script (start_at s) (follow s.net s.script (start_at s) made)
-  pub no_end : (k : ℕ) → k < length made → end_of s.net s.script s.steps (start_at s) (take k (follow s.net s.script (start_at s) made)) ≡ None
+  pub no_end : (k : ℕ) → k < length made → end_after s.net s.script s.steps (start_at s) (take k (follow s.net s.script (start_at s) made)) ≡ None

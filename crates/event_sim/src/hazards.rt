@@ -4,7 +4,7 @@ ghost use Rattle.std.specs.Prelude.{◌≡◌, ℕ, ◌<◌, length};
 ghost use Rattle.prs_core.specs.Moves.{high, both_ways};
 ghost use Rattle.env_script.specs.Hazards.{least_below};
 ghost use Rattle.std.specs.List.{find};
-ghost use Rattle.event_sim.specs.Stages.{is_lost, worst};
+ghost use Rattle.event_sim.specs.Stages.{is_lost, worst_cause};
 
 use env_script::Hazard;
 use prs_core::{Net, State, pulled_both_ways};
@@ -40,8 +40,12 @@ pub(crate) fn first_lost(before: &[u32], now: &[u32], node: u32) -> Option<u32>
 
 /// A node that is pulled both ways comes before one whose move was taken away, and that before a channel whose
 /// phases are broken.
-pub(crate) fn worst(pulled: Option<u32>, lost: Option<u32>, broken: Option<u32>) -> Option<Hazard>
-    ensures { result ≡ worst pulled lost broken }
+pub(crate) fn worst_cause(
+    pulled: Option<u32>,
+    lost: Option<u32>,
+    broken: Option<u32>,
+) -> Option<Hazard>
+    ensures { result ≡ worst_cause pulled lost broken }
 {
     if let Some(node) = pulled {
         return Some(Hazard::BothWays { node });

@@ -6,7 +6,7 @@ ghost use Rattle.env_script.specs.Scripts.{OfferValue};
 ghost use Rattle.env_script.specs.Runs.{RunState, IsRun, IsApart, IsSafeMove, IsPowered, move_enabled, moved, after, begin_at, history_at};
 ghost use Rattle.env_script.specs.Hazards.{hazard_of};
 ghost use Rattle.event_sim.specs.Following.{ArePicks, follow, power_of};
-ghost use Rattle.event_sim.specs.Passing.{passed_in, values_on};
+ghost use Rattle.event_sim.specs.Passing.{passed_in, values_through};
 
 /// Law: what picks lead to is a run, and every run is what some picks lead to.
 pub fn runs_are_picked()
@@ -24,7 +24,7 @@ pub fn passed_are_histories()
     ensures { (net : NetValue) (values : List Bool) (ns : List ℕ) (c : ℕ)
         → IsNet net
         → c < length net.channels
-        → values_on c (passed_in net (begin_at net values) ns) ≡ history_at (after net (begin_at net values) ns).histories c }
+        → values_through c (passed_in net (begin_at net values) ns) ≡ history_at (after net (begin_at net values) ns).histories c }
 {}
 
 /// Law: a move's node is one of the net's.

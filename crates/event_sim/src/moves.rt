@@ -9,19 +9,19 @@ ghost use Rattle.env_script.specs.Scripts.{IsScript};
 ghost use Rattle.env_script.specs.Environment.{channels_of, in_reset};
 ghost use Rattle.env_script.specs.Wired.{IsWired};
 ghost use Rattle.env_script.specs.Runs.{completes};
-ghost use Rattle.event_sim.specs.Passing.{channel_of, completion};
-ghost use Rattle.event_sim.specs.Stages.{is_enabled};
+ghost use Rattle.event_sim.specs.Passing.{channel_acknowledged, completion};
+ghost use Rattle.event_sim.specs.Stages.{has_move};
 
 use env_script::{Script, env_enabled};
 use prs_core::{Net, State, Wires, enabled, rail_value};
 
 /// Whether the node has an enabled move, where so many values are completed on each channel.
-fn is_enabled(net: &Net, script: &Script, done: &[u64], state: &State, node: u32) -> bool
+fn has_move(net: &Net, script: &Script, done: &[u64], state: &State, node: u32) -> bool
     requires script { IsScript (channels_of net.now) script.now }
     requires done { length done.now ≡ length net.now.channels }
     requires state { length state.now ≡ length net.now.first }
     requires node { node < length net.now.first }
-    ensures { result ≡ is_enabled net.now script.now done.now state.now node }
+    ensures { result ≡ has_move net.now script.now done.now state.now node }
 {
     enabled(net, state, node) || env_enabled(net, script, done, state, node)
 }
@@ -38,12 +38,12 @@ pub(crate) fn list_moves(
     requires done { length done.now ≡ length net.now.channels }
     requires state { length state.now ≡ length net.now.first }
     requires room { length net.now.first ≤ vec_capacity moves.old }
-    ensures moves { moves.new.items ≡ filter (is_enabled net.now script.now done.now state.now) (range_with_len 0 (length net.now.first)) }
+    ensures moves { moves.new.items ≡ filter (has_move net.now script.now done.now state.now) (range_with_len 0 (length net.now.first)) }
     ensures room { vec_capacity moves.new ≡ vec_capacity moves.old }
 {
     moves.clear();
     for node in 0..net.first().len() as u32 {
-        if is_enabled(net, script, done, state, node) {
+        if has_move(net, script, done, state, node) {
             moves.push_reserved(node);
         }
     }
@@ -75,8 +75,8 @@ fn completes(wires: &Wires, state: &State, node: u32) -> Option<u64>
 }
 
 /// The channel whose acknowledge the node is.
-fn channel_of(channels: &[Wires], node: u32) -> Option<usize>
-    ensures { result ≡ channel_of channels.now node }
+fn channel_acknowledged(channels: &[Wires], node: u32) -> Option<usize>
+    ensures { result ≡ channel_acknowledged channels.now node }
 {
     channels.iter().position(|wires| node == wires.ack)
 }
@@ -91,7 +91,7 @@ pub(crate) fn completion(net: &Net, state: &State, node: u32) -> Option<(u32, u6
     if in_reset(net, state) {
         return None;
     }
-    match channel_of(net.channels(), node) {
+    match channel_acknowledged(net.channels(), node) {
         None => None,
         Some(chan) => match completes(&net.channels()[chan], state, node) {
             None => None,

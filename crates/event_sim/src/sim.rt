@@ -9,7 +9,7 @@ ghost use Rattle.env_script.specs.OneLength.{AllSafe, EndsAll};
 ghost use Rattle.event_sim.specs.declared.ran.End.TheVariants.{AtRest};
 ghost use Rattle.event_sim.specs.Following.{ArePicks};
 ghost use Rattle.event_sim.specs.Passing.{passed_in};
-ghost use Rattle.event_sim.specs.Ends.{end_by, end_with, EndsSo};
+ghost use Rattle.event_sim.specs.Ends.{end_from, end_with, EndsSo};
 ghost use Rattle.event_sim.specs.Picking.{IsChoiceList};
 
 use crate::picker::Picker;
@@ -56,8 +56,8 @@ fn choose(picker: &mut Box<dyn Picker>, enabled: &[u32]) -> usize
     picker.pick(enabled)
 }
 
-fn end_by(hazard: Hazard) -> End
-    ensures { result ≡ end_by hazard }
+fn end_from(hazard: Hazard) -> End
+    ensures { result ≡ end_from hazard }
 {
     match hazard {
         Hazard::BothWays { node } => End::BothWays { node },
@@ -71,7 +71,7 @@ fn early_end(hazard: Option<Hazard>, enabled: &[u32]) -> Option<End>
     ensures { result ≡ end_with hazard enabled.now false }
 {
     match hazard {
-        Some(hazard) => Some(end_by(hazard)),
+        Some(hazard) => Some(end_from(hazard)),
         None if enabled.is_empty() => Some(End::AtRest),
         None => None,
     }
@@ -82,14 +82,14 @@ fn last_end(hazard: Option<Hazard>, enabled: &[u32]) -> End
     ensures { end_with hazard enabled.now true ≡ Some result }
 {
     match hazard {
-        Some(hazard) => end_by(hazard),
+        Some(hazard) => end_from(hazard),
         None if enabled.is_empty() => End::AtRest,
         None => End::Spent,
     }
 }
 
 impl Sim {
-    ghost use Rattle.event_sim.specs.Simulating.{SimValue, start_at, growth, moves_of};
+    ghost use Rattle.event_sim.specs.Simulating.{SimValue, start_at, growth, picked_moves};
 
     fn begin(
         alloc: Global,
@@ -144,13 +144,13 @@ impl Sim {
         requires nodes { length self.net.first ≤ nodes picker.old }
         ensures log { log picker.new ≡ log picker.old ++ growth (log picker.old) (log picker.new) }
         ensures picks { ArePicks self.net self.script (start_at self) (growth (log picker.old) (log picker.new)) }
-        ensures run { IsRun self.net self.script (start_at self) (moves_of self (log picker.old) (log picker.new)) }
-        ensures ends { EndsSo self.net self.script self.steps (start_at self) (moves_of self (log picker.old) (log picker.new)) result.end }
+        ensures run { IsRun self.net self.script (start_at self) (picked_moves self (log picker.old) (log picker.new)) }
+        ensures ends { EndsSo self.net self.script self.steps (start_at self) (picked_moves self (log picker.old) (log picker.new)) result.end }
         ensures net { result.net ≡ self.net }
-        ensures moves { result.moves ≡ length (moves_of self (log picker.old) (log picker.new)) }
-        ensures done { result.done_high ≡ high (after self.net (start_at self) (moves_of self (log picker.old) (log picker.new))).values 1 }
-        ensures passed { result.passed ≡ passed_in self.net (start_at self) (moves_of self (log picker.old) (log picker.new)) }
-        ensures one_length { AllSafe self.net self.script (start_at self) → result.end ≡ AtRest → EndsAll self.net self.script (start_at self) (moves_of self (log picker.old) (log picker.new)) }
+        ensures moves { result.moves ≡ length (picked_moves self (log picker.old) (log picker.new)) }
+        ensures done { result.done_high ≡ high (after self.net (start_at self) (picked_moves self (log picker.old) (log picker.new))).values 1 }
+        ensures passed { result.passed ≡ passed_in self.net (start_at self) (picked_moves self (log picker.old) (log picker.new)) }
+        ensures one_length { AllSafe self.net self.script (start_at self) → result.end ≡ AtRest → EndsAll self.net self.script (start_at self) (picked_moves self (log picker.old) (log picker.new)) }
         ensures spare { spare picker.new + result.moves ≡ spare picker.old }
         ensures name { name picker.new ≡ name picker.old }
         ensures nodes { nodes picker.new ≡ nodes picker.old }

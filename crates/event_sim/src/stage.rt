@@ -7,9 +7,9 @@ ghost use Rattle.env_script.specs.Scripts.{IsScript};
 ghost use Rattle.env_script.specs.Environment.{channels_of};
 ghost use Rattle.env_script.specs.Runs.{moved};
 ghost use Rattle.env_script.specs.Hazards.{first_hazard, hazard_of};
-ghost use Rattle.event_sim.specs.Passing.{completion, histories_of};
+ghost use Rattle.event_sim.specs.Passing.{completion, channel_histories};
 
-use crate::hazards::{first_lost, first_pulled, worst};
+use crate::hazards::{first_lost, first_pulled, worst_cause};
 use crate::moves::{completion, list_moves};
 use crate::ran::{End, Ran};
 use env_script::{Hazard, Script, keeps_phases};
@@ -32,13 +32,13 @@ pub(crate) struct Stage {
 
 impl Model for Stage {
     ghost use Rattle.std.specs.Prelude.{◌-◌, length, vec_capacity};
-    ghost use Rattle.event_sim.specs.Stages.{StageValue, stage_of, IsKept};
+    ghost use Rattle.event_sim.specs.Stages.{StageValue, stage_with, IsKeptBeside};
 
     ghost Value = { StageValue };
 
-    ghost view = { λ s. stage_of s.net s.script s.state s.passed.items (vec_capacity s.passed - length s.passed.items) };
+    ghost view = { λ s. stage_with s.net s.script s.state s.passed.items (vec_capacity s.passed - length s.passed.items) };
 
-    ghost invariant = { λ s. IsKept (stage_of s.net s.script s.state s.passed.items (vec_capacity s.passed - length s.passed.items)) s.done.items s.moves.items (vec_capacity s.moves) (vec_capacity s.next) };
+    ghost invariant = { λ s. IsKeptBeside (stage_with s.net s.script s.state s.passed.items (vec_capacity s.passed - length s.passed.items)) s.done.items s.moves.items (vec_capacity s.moves) (vec_capacity s.next) };
 }
 
 fn no_counts(alloc: Global, channels: usize) -> Result<Vec<u64>, AllocError>
@@ -53,11 +53,11 @@ fn no_counts(alloc: Global, channels: usize) -> Result<Vec<u64>, AllocError>
 
 /// Notes what a move completes, where it completes something.
 fn note(done: &mut Vec<u64>, passed: &mut Vec<(u32, u64)>, completed: Option<(u32, u64)>)
-    requires counts { done.old.items ≡ map (λ (h : List ℕ). length h) (histories_of (length done.old.items) passed.old.items) }
+    requires counts { done.old.items ≡ map (λ (h : List ℕ). length h) (channel_histories (length done.old.items) passed.old.items) }
     requires chan { IfSome completed (λ p. p.0 < length done.old.items) }
     requires room { vec_len passed.old < vec_capacity passed.old }
     ensures passed { passed.new.items ≡ passed.old.items ++ option_to_list completed }
-    ensures counts { done.new.items ≡ map (λ (h : List ℕ). length h) (histories_of (length done.old.items) passed.new.items) }
+    ensures counts { done.new.items ≡ map (λ (h : List ℕ). length h) (channel_histories (length done.old.items) passed.new.items) }
     ensures room { vec_capacity passed.new ≡ vec_capacity passed.old }
 {
     if let Some((chan, value)) = completed {
@@ -68,7 +68,7 @@ fn note(done: &mut Vec<u64>, passed: &mut Vec<(u32, u64)>, completed: Option<(u3
 
 impl Stage {
     ghost use Rattle.event_sim.specs.Simulating.{RanValue, IsEndIn};
-    ghost use Rattle.event_sim.specs.Stages.{StageValue, stage_of, now_of, moves_now};
+    ghost use Rattle.event_sim.specs.Stages.{StageValue, stage_with, now_of, moves_now};
 
     /// The run that has made no move, from this state, with room for so many values.
     pub(crate) fn new(
@@ -80,7 +80,7 @@ impl Stage {
     ) -> Result<Stage, AllocError>
         requires script { IsScript (channels_of net) script }
         requires state { length state ≡ length net.first }
-        ensures { IfOk result (λ s. s ≡ stage_of net script state [] room) }
+        ensures { IfOk result (λ s. s ≡ stage_with net script state [] room) }
     {
         let nodes = net.first().len();
         let done = no_counts(alloc, net.channels().len())?;
@@ -111,7 +111,7 @@ impl Stage {
         ensures hazard { result ≡ first_hazard self.now.net (now_of self.now) }
         ensures net { IsNet self.now.net }
     {
-        worst(first_pulled(&self.net, &self.state), None, None)
+        worst_cause(first_pulled(&self.net, &self.state), None, None)
     }
 
     /// Moves the node, and tells the hazard that this brings.
@@ -138,7 +138,7 @@ impl Stage {
         );
         let lost = first_lost(&self.moves, &self.next, node);
         std::mem::swap(&mut self.moves, &mut self.next);
-        worst(first_pulled(&self.net, &self.state), lost, broken)
+        worst_cause(first_pulled(&self.net, &self.state), lost, broken)
     }
 
     /// The run, which has ended so after so many moves.

@@ -3,9 +3,9 @@
 ghost use Rattle.std.specs.Prelude.{◌≡◌, ◌++◌, ◌<◌, ◌^◌, ℕ, length, codes, decimal, IfOk, OnOk};
 ghost use Rattle.std.specs.List.{flat_map};
 ghost use Rattle.prs_core.specs.Nets.{name_at};
-ghost use Rattle.event_sim.specs.Passing.{values_on};
+ghost use Rattle.event_sim.specs.Passing.{values_through};
 ghost use Rattle.event_sim.specs.Simulating.{IsEndIn};
-ghost use Rattle.history_report.specs.Reports.{channel_name, hazard_line, end_line, moves_line, time_line, done_line, value_words, channel_line, channel_lines, report_of};
+ghost use Rattle.history_report.specs.Reports.{channel_name, hazard_line, ending_line, moves_line, time_line, done_line, value_words, channel_line, history_lines, report_of};
 
 use event_sim::{End, Ran};
 use itoa::Buffer;
@@ -48,9 +48,9 @@ fn channel_name(net: &Net, chan: u32) -> &[u8]
 }
 
 /// Appends the line that says how the run ended.
-fn end_line(net: &Net, end: End, moves: u32, to: &mut Vec<u8>) -> Result<(), AllocError>
+fn ending_line(net: &Net, end: End, moves: u32, to: &mut Vec<u8>) -> Result<(), AllocError>
     requires { IsEndIn net.now end }
-    ensures { OnOk result (to.new.items ≡ to.old.items ++ end_line net.now moves end) }
+    ensures { OnOk result (to.new.items ≡ to.old.items ++ ending_line net.now moves end) }
 {
     match end {
         End::AtRest => append(to, &[b"end rest\n"]),
@@ -106,7 +106,7 @@ fn value_word(value: u64, to: &mut Vec<u8>) -> Result<(), AllocError>
 
 /// Appends the values that passed on the channel of this number.
 fn value_words(passed: &[(u32, u64)], chan: u32, to: &mut Vec<u8>) -> Result<(), AllocError>
-    ensures { OnOk result (to.new.items ≡ to.old.items ++ value_words (values_on chan passed.now)) }
+    ensures { OnOk result (to.new.items ≡ to.old.items ++ value_words (values_through chan passed.now)) }
 {
     for (on, value) in passed {
         if *on == chan {
@@ -123,7 +123,7 @@ fn channel_line(
     chan: u32,
     to: &mut Vec<u8>,
 ) -> Result<(), AllocError>
-    ensures { OnOk result (to.new.items ≡ to.old.items ++ channel_line wires.now.channel.name (values_on chan passed.now)) }
+    ensures { OnOk result (to.new.items ≡ to.old.items ++ channel_line wires.now.channel.name (values_through chan passed.now)) }
 {
     append(to, &[wires.channel.name.bytes(), b":"])?;
     value_words(passed, chan, to)?;
@@ -131,13 +131,13 @@ fn channel_line(
 }
 
 /// Appends a line for each channel.
-fn channel_lines(
+fn history_lines(
     channels: &[Wires],
     passed: &[(u32, u64)],
     to: &mut Vec<u8>,
 ) -> Result<(), AllocError>
     requires { length channels.now < 2 ^ 32 }
-    ensures { OnOk result (to.new.items ≡ to.old.items ++ channel_lines passed.now 0 channels.now) }
+    ensures { OnOk result (to.new.items ≡ to.old.items ++ history_lines passed.now 0 channels.now) }
 {
     for chan in 0..channels.len() as u32 {
         channel_line(&channels[chan as usize], passed, chan, to)?;
@@ -151,10 +151,10 @@ pub fn report_text(alloc: Global, ran: &Ran, time: Option<u64>) -> Result<Vec<u8
     ensures { IfOk result (λ v. v.items ≡ report_of ran.now time) }
 {
     let mut text = Vec::new(alloc);
-    end_line(ran.net(), ran.end(), ran.moves(), &mut text)?;
+    ending_line(ran.net(), ran.end(), ran.moves(), &mut text)?;
     moves_line(ran.moves(), &mut text)?;
     time_line(time, &mut text)?;
     done_line(ran.done_high(), &mut text)?;
-    channel_lines(ran.net().channels(), ran.passed(), &mut text)?;
+    history_lines(ran.net().channels(), ran.passed(), &mut text)?;
     Ok(text)
 }

@@ -8,8 +8,8 @@ few_nodes : (reset : Option ℕ) → most_nodes reset ≤ 65537
 few_nodes None = omega arith
 few_nodes (Some node) = omega arith
 
-pub channel_lines-requires : goal.channel_lines-requires
-channel_lines-requires c =
+pub history_lines-requires : goal.history_lines-requires
+history_lines-requires c =
     let few = few_channels c.net-2.result.now c.channels.ensures.net in
     let most = few_nodes c.net-2.result.now.reset in
     omega (arith, few, most, c.channels.ensures.net.most, ap length c.channels.ensures.channels)
