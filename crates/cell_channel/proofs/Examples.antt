@@ -19,5 +19,6 @@ answers : end_answer 5 9 ≡ turns (hi 5 ∷ hi 9 ∷ []) (lo 9 ∷ [])
 answers = refl
 
 -- two bits under the request 5, from the rails 1 to 4
-ports : port_rules 5 (pairs_from 2 1) ≡ turns (hi 5 ∷ hi 1 ∷ []) (lo 5 ∷ lo 1 ∷ []) ∷ turns (hi 5 ∷ hi 2 ∷ []) (lo 5 ∷ lo 2 ∷ []) ∷ turns (hi 5 ∷ hi 3 ∷ []) (lo 5 ∷ lo 3 ∷ []) ∷ turns (hi 5 ∷ hi 4 ∷ []) (lo 5 ∷ lo 4 ∷ []) ∷ []
+ports : port_rules 5 (pairs_from 2 1) ≡ turns (hi 5 ∷ hi 1 ∷ []) (lo 5 ∷ lo 1 ∷ []) ∷ turns (hi 5 ∷ hi 2 ∷ []) (lo 5 ∷ lo 2 ∷ [])
+    ∷ turns (hi 5 ∷ hi 3 ∷ []) (lo 5 ∷ lo 3 ∷ []) ∷ turns (hi 5 ∷ hi 4 ∷ []) (lo 5 ∷ lo 4 ∷ []) ∷ []
 ports = refl

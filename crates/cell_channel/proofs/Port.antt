@@ -33,35 +33,50 @@ taken_begin request rails from old = record {
 abbrev pub next_rail : List ℕ → ℕ → ℕ
 next_rail rails done = slice_index_or rails done 0
 
-left_is : (request : ℕ) (rails : List ℕ) (from : ℕ) (old : RulesValue) (done node : ℕ) (now : RulesValue) → Taken request rails from old done node now → done < length rails → (k : ℕ) → IsOther k (port_owned request rails from) → IsOther k (port_owned request (next_rail rails done ∷ drop (done + 1) rails) node)
-left_is request rails from old done node now so_far within k o = subst (λ l. IsOther k (port_owned request l node)) (drop_more rails done 0 within) (so_far.left k o)
+left_is : (request : ℕ) (rails : List ℕ) (from : ℕ) (old : RulesValue) (done node : ℕ) (now : RulesValue) → Taken request rails from old done node now →
+    done < length rails → (k : ℕ) → IsOther k (port_owned request rails from) →
+    IsOther k (port_owned request (next_rail rails done ∷ drop (done + 1) rails) node)
+left_is request rails from old done node now so_far within k o =
+    subst (λ l. IsOther k (port_owned request l node)) (drop_more rails done 0 within) (so_far.left k o)
 
-among_is : (request : ℕ) (rails : List ℕ) (from : ℕ) (old : RulesValue) (done node : ℕ) (now : RulesValue) → Taken request rails from old done node now → done < length rails → (o : Owned) → Contains (port_owned request (next_rail rails done ∷ drop (done + 1) rails) node) o → Contains (port_owned request rails from) o
-among_is request rails from old done node now so_far within o k = so_far.among o (subst (λ l. Contains (port_owned request l node) o) (sym (drop_more rails done 0 within)) k)
+among_is : (request : ℕ) (rails : List ℕ) (from : ℕ) (old : RulesValue) (done node : ℕ) (now : RulesValue) → Taken request rails from old done node now →
+    done < length rails → (o : Owned) → Contains (port_owned request (next_rail rails done ∷ drop (done + 1) rails) node) o →
+    Contains (port_owned request rails from) o
+among_is request rails from old done node now so_far within o k =
+    so_far.among o (subst (λ l. Contains (port_owned request l node) o) (sym (drop_more rails done 0 within)) k)
 
 -- one rail more
-pub taken_more : (request : ℕ) (rails : List ℕ) (from : ℕ) (old : RulesValue) (done node : ℕ) (now later : RulesValue) → Taken request rails from old done node now → done < length rails → later ≡ with_rules node (taken_rail request (next_rail rails done)) now → length later.up ≡ length now.up → ((k : ℕ) → k ≢ node → IsAlone now later k) → Taken request rails from old (done + 1) (node + 1) later
+pub taken_more : (request : ℕ) (rails : List ℕ) (from : ℕ) (old : RulesValue) (done node : ℕ) (now later : RulesValue) →
+    Taken request rails from old done node now → done < length rails → later ≡ with_rules node (taken_rail request (next_rail rails done)) now →
+    length later.up ≡ length now.up → ((k : ℕ) → k ≢ node → IsAlone now later k) → Taken request rails from old (done + 1) (node + 1) later
 taken_more request rails from old done node now later so_far within made count alone =
     let this = owned node (taken_rail request (next_rail rails done)) in
     let rest = port_owned request (drop (done + 1) rails) (node + 1) in record {
       place = ap (λ n. n + 1) so_far.place ∙ omega arith;
       written = ap (with_owned rest) made ∙ (sym (ap (λ l. with_owned (port_owned request l node) now) (drop_more rails done 0 within)) ∙ so_far.written);
       nodes = count ∙ so_far.nodes;
-      others = λ k o. alone_on old now later k (so_far.others k o) (alone k (λ e. All-head (λ (o : Owned). o.node ≢ k) this rest (left_is request rails from old done node now so_far within k o) (sym e)));
+      others = λ k o. alone_on old now later k (so_far.others k o)
+          (alone k (λ e. All-head (λ (o : Owned). o.node ≢ k) this rest (left_is request rails from old done node now so_far within k o) (sym e)));
       left = λ k o. All-tail (λ (o : Owned). o.node ≢ k) this rest (left_is request rails from old done node now so_far within k o);
       partly =
           partly_on (port_owned request rails from) old now later so_far.partly
-          (partly_of (this ∷ []) (port_owned request rails from) now later (λ o k. among_is request rails from old done node now so_far within o (Contains-append_left (this ∷ []) rest o k)) (partly_all (this ∷ []) now later made));
+          (partly_of (this ∷ []) (port_owned request rails from) now later
+              (λ o k. among_is request rails from old done node now so_far within o (Contains-append_left (this ∷ []) rest o k))
+              (partly_all (this ∷ []) now later made));
       among = λ o k. among_is request rails from old done node now so_far within o (Contains-append_right (this ∷ []) rest o k);
     }
 
 -- also where memory runs out at a rail
-pub taken_partly : (request : ℕ) (rails : List ℕ) (from : ℕ) (old : RulesValue) (done node : ℕ) (now later : RulesValue) → Taken request rails from old done node now → later ≡ now → IsPartly (port_owned request rails from) old later
+pub taken_partly : (request : ℕ) (rails : List ℕ) (from : ℕ) (old : RulesValue) (done node : ℕ) (now later : RulesValue) →
+    Taken request rails from old done node now → later ≡ now → IsPartly (port_owned request rails from) old later
 taken_partly request rails from old done node now later so_far same = subst (IsPartly (port_owned request rails from) old) (sym same) so_far.partly
 
 -- also where memory runs out at a rail
-pub taken_alone : (request : ℕ) (rails : List ℕ) (from : ℕ) (old : RulesValue) (done node : ℕ) (now later : RulesValue) → Taken request rails from old done node now → done < length rails → ((k : ℕ) → k ≢ node → IsAlone now later k) → (k : ℕ) → IsOther k (port_owned request rails from) → IsAlone old later k
+pub taken_alone : (request : ℕ) (rails : List ℕ) (from : ℕ) (old : RulesValue) (done node : ℕ) (now later : RulesValue) →
+    Taken request rails from old done node now → done < length rails → ((k : ℕ) → k ≢ node → IsAlone now later k) → (k : ℕ) →
+    IsOther k (port_owned request rails from) → IsAlone old later k
 taken_alone request rails from old done node now later so_far within alone k o =
     let this = owned node (taken_rail request (next_rail rails done)) in
     let rest = port_owned request (drop (done + 1) rails) (node + 1) in
-    alone_on old now later k (so_far.others k o) (alone k (λ e. All-head (λ (o : Owned). o.node ≢ k) this rest (left_is request rails from old done node now so_far within k o) (sym e)))
+    alone_on old now later k (so_far.others k o)
+        (alone k (λ e. All-head (λ (o : Owned). o.node ≢ k) this rest (left_is request rails from old done node now so_far within k o) (sym e)))

@@ -57,10 +57,12 @@ ack_apart request ack bits h i k within few e =
     h (suc zero) (suc (suc (4 * i + k))) 0 (omega arith) (omega (arith, count)) (e ∙ sym (nodes_at bits i k within few))
 
 -- nodes of different bits or roles are distinct
-pub roles_apart : (request ack : ℕ) (bits : List PortBit) → IsDistinct request ack bits → (i k j l : ℕ) → i < length bits → k < 4 → j < length bits → l < 4 → 4 * i + k ≢ 4 * j + l → node bits i k ≢ node bits j l
+pub roles_apart : (request ack : ℕ) (bits : List PortBit) → IsDistinct request ack bits → (i k j l : ℕ) → i < length bits → k < 4 → j < length bits → l < 4 →
+    4 * i + k ≢ 4 * j + l → node bits i k ≢ node bits j l
 roles_apart request ack bits h i k j l in_i few_k in_j few_l ne e =
     let count = nodes_length bits in
-    let same : slice_index_or (port_nodes bits) (4 * i + k) 0 ≡ slice_index_or (port_nodes bits) (4 * j + l) 0 = nodes_at bits i k in_i few_k ∙ e ∙ sym (nodes_at bits j l in_j few_l) in
+    let same : slice_index_or (port_nodes bits) (4 * i + k) 0 ≡ slice_index_or (port_nodes bits) (4 * j + l) 0 =
+        nodes_at bits i k in_i few_k ∙ e ∙ sym (nodes_at bits j l in_j few_l) in
     ⊎_elim
     ne
     (λ less.
@@ -71,32 +73,37 @@ roles_apart request ack bits h i k j l in_i few_k in_j few_l ne e =
     (cases_order (4 * i + k) (4 * j + l))
 
 -- within one bit
-pub role_turned : (request ack : ℕ) (bits : List PortBit) → IsDistinct request ack bits → (v : ℕ → Bool) (i k l : ℕ) → i < length bits → k < 4 → l < 4 → turned v (node bits i k) (node bits i l) ≡ (if l == k then not (v (node bits i l)) else v (node bits i l))
+pub role_turned : (request ack : ℕ) (bits : List PortBit) → IsDistinct request ack bits → (v : ℕ → Bool) (i k l : ℕ) → i < length bits → k < 4 → l < 4 →
+    turned v (node bits i k) (node bits i l) ≡ (if l == k then not (v (node bits i l)) else v (node bits i l))
 role_turned request ack bits h v i k l within few_k few_l =
     ⊎_elim
     (λ (e : l ≡ k).
     ap (λ b. if b then not (v (node bits i l)) else v (node bits i l)) (eq-eqb (node bits i l) (node bits i k) (ap (node bits i) e) ∙ sym (eq-eqb l k e)))
     (λ (ne : l ≢ k).
     ap (λ b. if b then not (v (node bits i l)) else v (node bits i l))
-    (ne_eqb (node bits i l) (node bits i k) (roles_apart request ack bits h i l i k within few_l within few_k (λ e. ne (omega (arith, e)))) ∙ sym (ne_eqb l k ne)))
+    (ne_eqb (node bits i l) (node bits i k) (roles_apart request ack bits h i l i k within few_l within few_k (λ e. ne (omega (arith, e))))
+        ∙ sym (ne_eqb l k ne)))
     (cases_eq l k)
 
 -- two members of a list for each bit
-pub all_two : {X : Type 0} (P : X → Type 0) (f g : PortBit → X) (bits : List PortBit) → ((i : ℕ) → i < length bits → P (f (bit_at bits i))) → ((i : ℕ) → i < length bits → P (g (bit_at bits i))) → All P (flat_map (λ b. f b ∷ g b ∷ []) bits)
+pub all_two : {X : Type 0} (P : X → Type 0) (f g : PortBit → X) (bits : List PortBit) → ((i : ℕ) → i < length bits → P (f (bit_at bits i))) →
+    ((i : ℕ) → i < length bits → P (g (bit_at bits i))) → All P (flat_map (λ b. f b ∷ g b ∷ []) bits)
 all_two P f g [] first second = All-nil P
 all_two P f g (b ∷ bits) first second =
     All-cons P (f b) (g b ∷ flat_map (λ b. f b ∷ g b ∷ []) bits) (first zero (omega arith))
     (All-cons P (g b) (flat_map (λ b. f b ∷ g b ∷ []) bits) (second zero (omega arith))
     (all_two P f g bits (λ i within. first (suc i) (omega arith)) (λ i within. second (suc i) (omega arith))))
 
-pub first_of_two : {X : Type 0} (f g : PortBit → X) (bits : List PortBit) (i : ℕ) → i < length bits → Contains (flat_map (λ b. f b ∷ g b ∷ []) bits) (f (bit_at bits i))
+pub first_of_two : {X : Type 0} (f g : PortBit → X) (bits : List PortBit) (i : ℕ) → i < length bits →
+    Contains (flat_map (λ b. f b ∷ g b ∷ []) bits) (f (bit_at bits i))
 first_of_two f g [] i within = absurd (omega arith)
 first_of_two f g (b ∷ bits) zero within = (zero, omega arith, refl)
 first_of_two f g (b ∷ bits) (suc i) within =
     let (k, inside, is) = first_of_two f g bits i (omega arith) in
     (suc (suc k), omega (arith, inside), is)
 
-pub second_of_two : {X : Type 0} (f g : PortBit → X) (bits : List PortBit) (i : ℕ) → i < length bits → Contains (flat_map (λ b. f b ∷ g b ∷ []) bits) (g (bit_at bits i))
+pub second_of_two : {X : Type 0} (f g : PortBit → X) (bits : List PortBit) (i : ℕ) → i < length bits →
+    Contains (flat_map (λ b. f b ∷ g b ∷ []) bits) (g (bit_at bits i))
 second_of_two f g [] i within = absurd (omega arith)
 second_of_two f g (b ∷ bits) zero within = (suc zero, omega arith, refl)
 second_of_two f g (b ∷ bits) (suc i) within =
@@ -109,25 +116,32 @@ taken_t request b = owned b.taken.t (taken_rail request b.rail.t)
 abbrev pub taken_f : (request : ℕ) → PortBit → Owned
 taken_f request b = owned b.taken.f (taken_rail request b.rail.f)
 
-pub own_is : (request : ℕ) (bits : List PortBit) → owned_at (rails_of (taken_pairs bits)) (port_rules request (channel_pairs bits)) ≡ flat_map (λ b. taken_t request b ∷ taken_f request b ∷ []) bits
+pub own_is : (request : ℕ) (bits : List PortBit) → owned_at (rails_of (taken_pairs bits)) (port_rules request (channel_pairs bits)) ≡
+    flat_map (λ b. taken_t request b ∷ taken_f request b ∷ []) bits
 own_is request [] = refl
 own_is request (b ∷ bits) = ap (λ os. taken_t request b ∷ taken_f request b ∷ os) (own_is request bits)
 
 -- what a test says of all pairs of a kind
-pub each_pair : (test : Pair → Bool) (kind : PortBit → Pair) (bits : List PortBit) → list_all test (map kind bits) ≡ true → (i : ℕ) → i < length bits → test (kind (bit_at bits i)) ≡ true
+pub each_pair : (test : Pair → Bool) (kind : PortBit → Pair) (bits : List PortBit) → list_all test (map kind bits) ≡ true → (i : ℕ) → i < length bits →
+    test (kind (bit_at bits i)) ≡ true
 each_pair test kind [] h i within = absurd (omega arith)
 each_pair test kind (b ∷ bits) h zero within = left_of _ _ h
 each_pair test kind (b ∷ bits) h (suc i) within = each_pair test kind bits (right_of (test (kind b)) _ h) i (omega arith)
 
-pub all_pairs : (test : Pair → Bool) (kind : PortBit → Pair) (bits : List PortBit) → ((i : ℕ) → i < length bits → test (kind (bit_at bits i)) ≡ true) → list_all test (map kind bits) ≡ true
+pub all_pairs : (test : Pair → Bool) (kind : PortBit → Pair) (bits : List PortBit) → ((i : ℕ) → i < length bits → test (kind (bit_at bits i)) ≡ true) →
+    list_all test (map kind bits) ≡ true
 all_pairs test kind [] h = refl
 all_pairs test kind (b ∷ bits) h = both_of _ _ (h zero (omega arith)) (all_pairs test kind bits (λ i within. h (suc i) (omega arith)))
 
-pub some_pair : (test : Pair → Bool) (kind : PortBit → Pair) (bits : List PortBit) → list_all test (map kind bits) ≡ false → (i : ℕ) × (i < length bits) × (test (kind (bit_at bits i)) ≡ false)
+pub some_pair : (test : Pair → Bool) (kind : PortBit → Pair) (bits : List PortBit) → list_all test (map kind bits) ≡ false →
+    (i : ℕ) × (i < length bits) × (test (kind (bit_at bits i)) ≡ false)
 some_pair test kind [] h = absurd (cc h)
 some_pair test kind (b ∷ bits) h = one_of test kind b bits (test (kind b)) refl h (some_pair test kind bits)
   where
-    one_of : (test : Pair → Bool) (kind : PortBit → Pair) (b : PortBit) (bits : List PortBit) (is : Bool) → test (kind b) ≡ is → list_all test (map kind (b ∷ bits)) ≡ false → (list_all test (map kind bits) ≡ false → (i : ℕ) × (i < length bits) × (test (kind (bit_at bits i)) ≡ false)) → (i : ℕ) × (i < length (b ∷ bits)) × (test (kind (bit_at (b ∷ bits) i)) ≡ false)
+    one_of : (test : Pair → Bool) (kind : PortBit → Pair) (b : PortBit) (bits : List PortBit) (is : Bool) → test (kind b) ≡ is →
+        list_all test (map kind (b ∷ bits)) ≡ false →
+        (list_all test (map kind bits) ≡ false → (i : ℕ) × (i < length bits) × (test (kind (bit_at bits i)) ≡ false)) →
+        (i : ℕ) × (i < length (b ∷ bits)) × (test (kind (bit_at (b ∷ bits) i)) ≡ false)
     one_of test kind b bits false e h rest = (zero, omega arith, e)
     one_of test kind b bits true e h rest =
         let (i, within, is) = rest (sym (ap (λ t. t && list_all test (map kind bits)) e) ∙ h) in
@@ -145,15 +159,19 @@ low_taken v (b ∷ bits) h =
     let (first, rest) = neutral_first (v b.taken.t) (v b.taken.f) (all_low v (rails_of (taken_pairs bits))) h in
     both_of (is_neutral v b.taken) (list_all (is_neutral v) (taken_pairs bits)) first (low_taken v bits rest)
 
-pub low_rails : (v : ℕ → Bool) (ack : ℕ) (bits : List PortBit) → all_low v (map (λ (w : Wire). w.node) (rail_wires ack bits)) ≡ true → list_all (is_neutral v) (channel_pairs bits) ≡ true
+pub low_rails : (v : ℕ → Bool) (ack : ℕ) (bits : List PortBit) → all_low v (map (λ (w : Wire). w.node) (rail_wires ack bits)) ≡ true →
+    list_all (is_neutral v) (channel_pairs bits) ≡ true
 low_rails v ack [] h = refl
 low_rails v ack (b ∷ bits) h =
     let (first, rest) = neutral_first (v b.rail.t) (v b.rail.f) (all_low v (map (λ (w : Wire). w.node) (rail_wires ack bits))) h in
     both_of (is_neutral v b.rail) (list_all (is_neutral v) (channel_pairs bits)) first (low_rails v ack bits rest)
 
 -- a port whose own nodes are numbered from one on
-pub numbered : (request from : ℕ) (rails : List Pair) → owned_at (rails_of (taken_pairs (port_bits rails from))) (port_rules request (channel_pairs (port_bits rails from))) ≡ port_owned request (rails_of rails) from
+pub numbered : (request from : ℕ) (rails : List Pair) →
+    owned_at (rails_of (taken_pairs (port_bits rails from))) (port_rules request (channel_pairs (port_bits rails from))) ≡
+    port_owned request (rails_of rails) from
 numbered request from [] = refl
 numbered request from (x ∷ xs) =
     let e : from + 2 ≡ from + 1 + 1 = omega arith in
-    ap (λ os. owned from (taken_rail request x.t) ∷ owned (from + 1) (taken_rail request x.f) ∷ os) (numbered request (from + 2) xs ∙ ap (port_owned request (rails_of xs)) e)
+    ap (λ os. owned from (taken_rail request x.t) ∷ owned (from + 1) (taken_rail request x.f) ∷ os) (numbered request (from + 2) xs
+        ∙ ap (port_owned request (rails_of xs)) e)

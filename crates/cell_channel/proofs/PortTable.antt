@@ -38,16 +38,20 @@ pub exchanged_legal : (r a x y q p : Bool) → legal r a x y q p ≡ true → le
 exchanged_legal r a x y q p h = implies_at _ _ (at_6 (λ r a x y q p. implies (legal r a x y q p) (legal r a y x p q)) refl r a x y q p) h
 
 pub request_goes : (r a x y q p : Bool) → legal r a x y q p ≡ true → lets_request r a q p ≡ true → legal (not r) a x y q p ≡ true
-request_goes r a x y q p h may = implies_both _ _ _ (at_6 (λ r a x y q p. implies (legal r a x y q p) (implies (lets_request r a q p) (legal (not r) a x y q p))) refl r a x y q p) h may
+request_goes r a x y q p h may = implies_both _ _ _
+    (at_6 (λ r a x y q p. implies (legal r a x y q p) (implies (lets_request r a q p) (legal (not r) a x y q p))) refl r a x y q p) h may
 
 pub ack_goes : (r a x y q p : Bool) → legal r a x y q p ≡ true → lets_ack r a x y q p ≡ true → legal r (not a) x y q p ≡ true
-ack_goes r a x y q p h may = implies_both _ _ _ (at_6 (λ r a x y q p. implies (legal r a x y q p) (implies (lets_ack r a x y q p) (legal r (not a) x y q p))) refl r a x y q p) h may
+ack_goes r a x y q p h may = implies_both _ _ _ (at_6 (λ r a x y q p. implies (legal r a x y q p) (implies (lets_ack r a x y q p) (legal r (not a) x y q p)))
+    refl r a x y q p) h may
 
 pub rail_goes : (r a x y q p : Bool) → legal r a x y q p ≡ true → lets_rail a x y ≡ true → legal r a (not x) y q p ≡ true
-rail_goes r a x y q p h may = implies_both _ _ _ (at_6 (λ r a x y q p. implies (legal r a x y q p) (implies (lets_rail a x y) (legal r a (not x) y q p))) refl r a x y q p) h may
+rail_goes r a x y q p h may = implies_both _ _ _ (at_6 (λ r a x y q p. implies (legal r a x y q p) (implies (lets_rail a x y) (legal r a (not x) y q p))) refl r
+    a x y q p) h may
 
 pub taking_goes : (r a x y q p : Bool) → legal r a x y q p ≡ true → takes r x q ≡ true → legal r a x y (not q) p ≡ true
-taking_goes r a x y q p h fire = implies_both _ _ _ (at_6 (λ r a x y q p. implies (legal r a x y q p) (implies (takes r x q) (legal r a x y (not q) p))) refl r a x y q p) h fire
+taking_goes r a x y q p h fire = implies_both _ _ _ (at_6 (λ r a x y q p. implies (legal r a x y q p) (implies (takes r x q) (legal r a x y (not q) p))) refl r
+    a x y q p) h fire
 
 -- the node is taken and let go as it is to be
 pub as_promised : (r x q : Bool) → takes r x q ≡ true → (if q then not r && not x else r && x) ≡ true
@@ -59,31 +63,40 @@ one_way r x q = not-true _ (at_2 (λ r x. not (((r && (x && true)) || false) && 
 -- neither the request nor the rail takes away its move
 pub under_request : (r a x y q p : Bool) → legal r a x y q p ≡ true → takes r x q ≡ true → lets_request r a q p ≡ true → takes (not r) x q ≡ true
 under_request r a x y q p h fire may =
-    implies_both _ _ _ (implies_at _ _ (at_6 (λ r a x y q p. implies (legal r a x y q p) (implies (takes r x q) (implies (lets_request r a q p) (takes (not r) x q)))) refl r a x y q p) h) fire may
+    implies_both _ _ _ (implies_at _ _ (at_6 (λ r a x y q p.
+        implies (legal r a x y q p) (implies (takes r x q) (implies (lets_request r a q p) (takes (not r) x q)))) refl r a x y q p) h) fire may
 
 pub under_rail : (r a x y q p : Bool) → legal r a x y q p ≡ true → takes r x q ≡ true → lets_rail a x y ≡ true → takes r (not x) q ≡ true
 under_rail r a x y q p h fire may =
-    implies_both _ _ _ (implies_at _ _ (at_6 (λ r a x y q p. implies (legal r a x y q p) (implies (takes r x q) (implies (lets_rail a x y) (takes r (not x) q)))) refl r a x y q p) h) fire may
+    implies_both _ _ _ (implies_at _ _ (at_6 (λ r a x y q p.
+        implies (legal r a x y q p) (implies (takes r x q) (implies (lets_rail a x y) (takes r (not x) q)))) refl r a x y q p) h) fire may
 
 -- where neither node of the bit moves
 abbrev pub still : (r x y q p : Bool) → Bool
 still r x y q p = not (takes r x q) && not (takes r y p)
 
 pub idle_neutral : (r a x y q p : Bool) → legal r a x y q p ≡ true → (not r && not a) ≡ true → neutral q p ≡ true
-idle_neutral r a x y q p h i = implies_both _ _ _ (at_6 (λ r a x y q p. implies (legal r a x y q p) (implies (not r && not a) (neutral q p))) refl r a x y q p) h i
+idle_neutral r a x y q p h i = implies_both _ _ _ (at_6 (λ r a x y q p. implies (legal r a x y q p) (implies (not r && not a) (neutral q p))) refl r a x y q p)
+    h i
 
 pub let_go : (r a x y q p : Bool) → legal r a x y q p ≡ true → still r x y q p ≡ true → (not r && a) ≡ true → neutral x y ≡ true → neutral q p ≡ true
 let_go r a x y q p h s i n =
-    implies_both _ _ _ (implies_both _ _ _ (at_6 (λ r a x y q p. implies (legal r a x y q p) (implies (still r x y q p) (implies (not r && a) (implies (neutral x y) (neutral q p))))) refl r a x y q p) h s) i n
+    implies_both _ _ _ (implies_both _ _ _ (at_6
+        (λ r a x y q p. implies (legal r a x y q p) (implies (still r x y q p) (implies (not r && a) (implies (neutral x y) (neutral q p))))) refl r a x y q p)
+        h s) i n
 
 pub taken_valid : (r a x y q p : Bool) → legal r a x y q p ≡ true → still r x y q p ≡ true → (r && not a) ≡ true → valid x y ≡ true → valid q p ≡ true
 taken_valid r a x y q p h s i v =
-    implies_both _ _ _ (implies_both _ _ _ (at_6 (λ r a x y q p. implies (legal r a x y q p) (implies (still r x y q p) (implies (r && not a) (implies (valid x y) (valid q p))))) refl r a x y q p) h s) i v
+    implies_both _ _ _ (implies_both _ _ _ (at_6
+        (λ r a x y q p. implies (legal r a x y q p) (implies (still r x y q p) (implies (r && not a) (implies (valid x y) (valid q p))))) refl r a x y q p) h s)
+        i v
 
 -- a bit that isn't valid has a rail that may rise, and one that isn't neutral has one that may fall
 pub may_rise : (r a x y q p : Bool) → legal r a x y q p ≡ true → (r && not a) ≡ true → not (valid x y) ≡ true → lets_rail a x y ≡ true
 may_rise r a x y q p h i n =
-    implies_both _ _ _ (implies_at _ _ (at_6 (λ r a x y q p. implies (legal r a x y q p) (implies (r && not a) (implies (not (valid x y)) (lets_rail a x y)))) refl r a x y q p) h) i n
+    implies_both _ _ _ (implies_at _ _ (at_6 (λ r a x y q p. implies (legal r a x y q p) (implies (r && not a) (implies (not (valid x y)) (lets_rail a x y))))
+        refl r a x y q p) h) i n
 
 pub may_fall : (a x y : Bool) → a ≡ true → not (neutral x y) ≡ true → ((x && lets_rail a x y) || (y && lets_rail a y x)) ≡ true
-may_fall a x y i n = implies_both _ _ _ (at_3 (λ a x y. implies a (implies (not (neutral x y)) ((x && lets_rail a x y) || (y && lets_rail a y x)))) refl a x y) i n
+may_fall a x y i n = implies_both _ _ _ (at_3 (λ a x y. implies a (implies (not (neutral x y)) ((x && lets_rail a x y) || (y && lets_rail a y x)))) refl a x y)
+    i n

@@ -17,7 +17,8 @@ abbrev letting_go : ℕ → NodeRules
 letting_go rail = record { up = one_term (is_high 0 ∷ is_high rail ∷ []); down = one_term (is_low 0 ∷ []) }
 
 lets_go_too_early : ¬ Keeps (with_takers letting_go)
-lets_go_too_early = broken (with_takers letting_go) _ (0 ∷ 2 ∷ 4 ∷ 1 ∷ 0 ∷ []) (at_first all_low_first (record { outside = refl; own = refl; bits = refl })) refl
+lets_go_too_early = broken (with_takers letting_go) _ (0 ∷ 2 ∷ 4 ∷ 1 ∷ 0 ∷ []) (at_first all_low_first (record { outside = refl; own = refl; bits = refl }))
+    refl
 
 -- a port that takes without its request, x -> q+
 abbrev unasked : ℕ → NodeRules

@@ -29,7 +29,8 @@ pub fn emit_end(
     ensures kept { OnErr result (rules.new ≡ rules.old) }
     ensures nodes { length rules.new.up ≡ length rules.old.up }
     ensures others { (node : ℕ) → node ≢ answer → IsAlone rules.old rules.new node }
-    ensures keeps { (others : List ℕ) → AllPairs (λ (a b : ℕ). a ≢ b) (request ∷ ack ∷ answer ∷ others) → Keeps (end_part others request ack answer) }
+    ensures keeps { (others : List ℕ) → AllPairs (λ (a b : ℕ). a ≢ b) (request ∷ ack ∷ answer ∷ others) →
+        Keeps (end_part others request ack answer) }
 {
     ends_keep();
     let up = all_of(alloc, &[high(request), high(ack)])?;
@@ -64,8 +65,8 @@ fn emit_taken_rail(
 
 /// Writes the guards of a receive port (Martin), and no others: under `request` each of the channel's `rails` is taken
 /// by a node of its own, numbered from `from` on in the order of the rails, and let go once the request and the rail
-/// are low. The rails are those of bit 0, t before f, then those of bit 1, and so on. Where memory runs out, some of the
-/// own nodes have their guards, and the others those that they had.
+/// are low. The rails are those of bit 0, t before f, then those of bit 1, and so on. Where memory runs out, some of
+/// the own nodes have their guards, and the others those that they had.
 pub fn emit_receive_port(
     alloc: Global,
     request: u32,
@@ -79,7 +80,8 @@ pub fn emit_receive_port(
     ensures made { OnOk result (rules.new ≡ with_owned (port_owned request rails.now from) rules.old) }
     ensures partly { IsPartly (port_owned request rails.now from) rules.old rules.new }
     ensures nodes { length rules.new.up ≡ length rules.old.up }
-    ensures others { (node : ℕ) → All (λ (o : Owned). o.node ≢ node) (port_owned request rails.now from) → IsAlone rules.old rules.new node }
+    ensures others { (node : ℕ) → All (λ (o : Owned). o.node ≢ node) (port_owned request rails.now from) →
+        IsAlone rules.old rules.new node }
     ensures keeps { PortKeeps request rails.now from }
 {
     ends_keep();

@@ -51,7 +51,8 @@ pub owned_is : (leaves : List ℕ) (from : ℕ) → tree_owned leaves from ≡ m
 owned_is leaves from = levels_owned (length leaves) leaves from
 
 -- between the nodes with their rules and the C-elements
-pub join_of : (leaves : List ℕ) (from : ℕ) (o : Owned) → Contains (tree_owned leaves from) o → (j : Join) × Contains (tree_joins leaves from) j × (as_owned j ≡ o)
+pub join_of : (leaves : List ℕ) (from : ℕ) (o : Owned) → Contains (tree_owned leaves from) o → (j : Join) × Contains (tree_joins leaves from) j
+    × (as_owned j ≡ o)
 join_of leaves from o among = among_mapped as_owned (tree_joins leaves from) o (subst (λ l. Contains l o) (owned_is leaves from) among)
 
 pub owned_of : (leaves : List ℕ) (from : ℕ) (j : Join) → Contains (tree_joins leaves from) j → Contains (tree_owned leaves from) (as_owned j)
@@ -61,7 +62,8 @@ owned_of leaves from j among = subst (λ l. Contains l (as_owned j)) (sym (owned
 numbered : (from : ℕ) (rs : List NodeRules) (k : ℕ) (d : Owned) → k < length rs → (get_or (owned_from from rs) k d).node ≡ from + k
 numbered from [] k d lt = absurd (omega arith)
 numbered from (r ∷ rs) zero d lt = omega arith
-numbered from (r ∷ rs) (suc k) d lt = let e : (get_or (owned_from (from + 1) rs) k d).node ≡ from + 1 + k = numbered (from + 1) rs k d (omega arith) in omega (arith, e)
+numbered from (r ∷ rs) (suc k) d lt = let e : (get_or (owned_from (from + 1) rs) k d).node ≡ from + 1 + k = numbered (from + 1) rs k d (omega arith) in
+    omega (arith, e)
 
 owned_length : (from : ℕ) (rs : List NodeRules) → length (owned_from from rs) ≡ length rs
 owned_length from [] = refl
@@ -80,14 +82,16 @@ Each P [] = Unit {0}
 Each P (n ∷ ns) = P n × Each P ns
 
 -- down a tree: what goes from a C-element to both inputs, and holds of the top, holds of all
-level_down : (P : ℕ → Type 0) (ls : List ℕ) (from : ℕ) → ((j : Join) → Contains (level_joins ls from) j → P j.node → P j.left × P j.right) → Each P (next_level ls from) → Each P ls
+level_down : (P : ℕ → Type 0) (ls : List ℕ) (from : ℕ) → ((j : Join) → Contains (level_joins ls from) j → P j.node → P j.left × P j.right) →
+    Each P (next_level ls from) → Each P ls
 level_down P [] from goes each = tt
 level_down P (p ∷ []) from goes each = each
 level_down P (p ∷ q ∷ ls) from goes each =
     let (l, r) = goes (join from p q) (Contains-append_left (join from p q ∷ []) (level_joins ls (from + 1)) (join from p q) (0, omega arith, refl)) each.0 in
     (l, (r, level_down P ls (from + 1) (λ j among. goes j (Contains-append_right (join from p q ∷ []) (level_joins ls (from + 1)) j among)) each.1))
 
-level_up : (P : ℕ → Type 0) (ls : List ℕ) (from : ℕ) → ((j : Join) → Contains (level_joins ls from) j → P j.left → P j.right → P j.node) → Each P ls → Each P (next_level ls from)
+level_up : (P : ℕ → Type 0) (ls : List ℕ) (from : ℕ) → ((j : Join) → Contains (level_joins ls from) j → P j.left → P j.right → P j.node) → Each P ls →
+    Each P (next_level ls from)
 level_up P [] from goes each = tt
 level_up P (p ∷ []) from goes each = each
 level_up P (p ∷ q ∷ ls) from goes each = (
@@ -131,7 +135,8 @@ pub record Down (P : ℕ → Type 0) (n : ℕ) (ls : List ℕ) (from : ℕ) : Ty
 few_left : (n : ℕ) (ls : List ℕ) (from : ℕ) → length ls ≤ suc (suc n) → length (next_level ls from) ≤ suc n
 few_left n ls from few = omega (arith, next_length ls from)
 
-pub down : (P : ℕ → Type 0) (n : ℕ) (ls : List ℕ) (from : ℕ) → length ls ≤ suc n → ((j : Join) → Contains (levels_joins n ls from) j → P j.node → P j.left × P j.right) → P (tree_top ls from) → Down P n ls from
+pub down : (P : ℕ → Type 0) (n : ℕ) (ls : List ℕ) (from : ℕ) → length ls ≤ suc n →
+    ((j : Join) → Contains (levels_joins n ls from) j → P j.node → P j.left × P j.right) → P (tree_top ls from) → Down P n ls from
 down P zero [] from few goes top = record { leaves = tt; nodes = λ j among. absurd (none_among j among) }
 down P zero (p ∷ []) from few goes top = record { leaves = (top, tt); nodes = λ j among. absurd (none_among j among) }
 down P zero (p ∷ q ∷ ls) from few goes top = absurd (omega arith)
@@ -139,7 +144,8 @@ down P (suc n) ls from few goes top =
     let next = next_level ls from in
     let at : ℕ = from + length ls / 2 in
     let above = levels_joins n next at in
-    let rest : Down P n next at = down P n next at (few_left n ls from few) (λ j among. goes j (Contains-append_right (level_joins ls from) above j among)) (subst P (sym (top_same ls from)) top) in record {
+    let rest : Down P n next at = down P n next at (few_left n ls from few) (λ j among. goes j (Contains-append_right (level_joins ls from) above j among))
+        (subst P (sym (top_same ls from)) top) in record {
       leaves = level_down P ls from (λ j among. goes j (Contains-append_left (level_joins ls from) above j among)) rest.leaves;
       nodes = λ j among. either (Contains-append_cases (level_joins ls from) above j among) (level_nodes P ls from rest.leaves j) (rest.nodes j);
     }
@@ -153,7 +159,8 @@ pub record Up (P : ℕ → Type 0) (n : ℕ) (ls : List ℕ) (from : ℕ) : Type
   pub nodes : (j : Join) → Contains (levels_joins n ls from) j → P j.node
 
 -- up a tree: what goes from both inputs to the C-element, and holds of the leaves, holds of all
-pub up : (P : ℕ → Type 0) (n : ℕ) (ls : List ℕ) (from : ℕ) → length ls ≤ suc n → ((j : Join) → Contains (levels_joins n ls from) j → P j.left → P j.right → P j.node) → Each P ls → Up P n ls from
+pub up : (P : ℕ → Type 0) (n : ℕ) (ls : List ℕ) (from : ℕ) → length ls ≤ suc n →
+    ((j : Join) → Contains (levels_joins n ls from) j → P j.left → P j.right → P j.node) → Each P ls → Up P n ls from
 up P zero [] from few goes each = record { top = λ some. absurd (omega arith); nodes = λ j among. absurd (none_among j among) }
 up P zero (p ∷ []) from few goes each = record { top = λ some. each.0; nodes = λ j among. absurd (none_among j among) }
 up P zero (p ∷ q ∷ ls) from few goes each = absurd (omega arith)
@@ -162,7 +169,8 @@ up P (suc n) ls from few goes each =
     let at : ℕ = from + length ls / 2 in
     let above = levels_joins n next at in
     let higher : Each P next = level_up P ls from (λ j among. goes j (Contains-append_left (level_joins ls from) above j among)) each in
-    let rest : Up P n next at = up P n next at (few_left n ls from few) (λ j among. goes j (Contains-append_right (level_joins ls from) above j among)) higher in record {
+    let rest : Up P n next at = up P n next at (few_left n ls from few) (λ j among. goes j (Contains-append_right (level_joins ls from) above j among)) higher
+        in record {
       top = λ some. subst P (top_same ls from) (rest.top (omega (arith, next_length ls from)));
       nodes = λ j among. either (Contains-append_cases (level_joins ls from) above j among) (level_nodes P ls from higher j) (rest.nodes j);
     }
@@ -172,21 +180,24 @@ up P (suc n) ls from few goes each =
     either (inr b) f g = g b
 
 -- what holds of the leaves and of all C-elements holds of all inputs
-pub inputs : (P : ℕ → Type 0) (n : ℕ) (ls : List ℕ) (from : ℕ) → Each P ls → ((j : Join) → Contains (levels_joins n ls from) j → P j.node) → (j : Join) → Contains (levels_joins n ls from) j → P j.left × P j.right
+pub inputs : (P : ℕ → Type 0) (n : ℕ) (ls : List ℕ) (from : ℕ) → Each P ls → ((j : Join) → Contains (levels_joins n ls from) j → P j.node) → (j : Join) →
+    Contains (levels_joins n ls from) j → P j.left × P j.right
 inputs P zero ls from each own j among = absurd (none_among j among)
 inputs P (suc n) ls from each own j among =
     let next = next_level ls from in
     let at : ℕ = from + length ls / 2 in
     let above = levels_joins n next at in
     let higher : Each P next = level_up P ls from (λ k here l r. own k (Contains-append_left (level_joins ls from) above k here)) each in
-    either (Contains-append_cases (level_joins ls from) above j among) (level_inputs P ls from each j) (inputs P n next at higher (λ k here. own k (Contains-append_right (level_joins ls from) above k here)) j)
+    either (Contains-append_cases (level_joins ls from) above j among) (level_inputs P ls from each j)
+        (inputs P n next at higher (λ k here. own k (Contains-append_right (level_joins ls from) above k here)) j)
   where
     either : {A B C : Type 0} → A ⊎ B → (A → C) → (B → C) → C
     either (inl a) f g = f a
     either (inr b) f g = g b
 
 joins_length : (leaves : List ℕ) (from : ℕ) → length (tree_joins leaves from) ≡ length leaves - 1
-joins_length leaves from = sym (length-map (tree_joins leaves from) as_owned) ∙ (ap length (sym (owned_is leaves from)) ∙ (owned_length from (tree_rules leaves from) ∙ tree_length leaves from))
+joins_length leaves from = sym (length-map (tree_joins leaves from) as_owned)
+    ∙ (ap length (sym (owned_is leaves from)) ∙ (owned_length from (tree_rules leaves from) ∙ tree_length leaves from))
 
 join_at : (leaves : List ℕ) (from k : ℕ) (d : Join) → k < length (tree_joins leaves from) → (get_or (tree_joins leaves from) k d).node ≡ from + k
 join_at leaves from k d lt =
@@ -208,10 +219,12 @@ top_join [] from long = absurd (omega arith)
 top_join (p ∷ []) from long = absurd (omega arith)
 top_join (p ∷ q ∷ ls) from long = of (a_node from (tree_rules (p ∷ q ∷ ls) from) (length ls) (omega (arith, tree_length (p ∷ q ∷ ls) from)))
   where
-    back : (o : Owned) → o.node ≡ from + length ls → ((j : Join) × Contains (tree_joins (p ∷ q ∷ ls) from) j × (as_owned j ≡ o)) → (j : Join) × Contains (tree_joins (p ∷ q ∷ ls) from) j × (j.node ≡ from + length ls)
+    back : (o : Owned) → o.node ≡ from + length ls → ((j : Join) × Contains (tree_joins (p ∷ q ∷ ls) from) j × (as_owned j ≡ o)) →
+        (j : Join) × Contains (tree_joins (p ∷ q ∷ ls) from) j × (j.node ≡ from + length ls)
     back o at (j, here, is) = (j, here, ap (λ (x : Owned). x.node) is ∙ at)
 
-    of : ((o : Owned) × Contains (tree_owned (p ∷ q ∷ ls) from) o × (o.node ≡ from + length ls)) → (j : Join) × Contains (tree_joins (p ∷ q ∷ ls) from) j × (j.node ≡ from + length ls)
+    of : ((o : Owned) × Contains (tree_owned (p ∷ q ∷ ls) from) o × (o.node ≡ from + length ls)) → (j : Join) × Contains (tree_joins (p ∷ q ∷ ls) from) j
+        × (j.node ≡ from + length ls)
     of (o, among, at) = back o at (join_of (p ∷ q ∷ ls) from o among)
 
 pub some_joins : (leaves : List ℕ) (from : ℕ) (j : Join) → Contains (tree_joins leaves from) j → 1 < length leaves

@@ -35,14 +35,19 @@ joined_begin nodes from old h =
     }
 
 -- one C-element more
-pub joined_one : (nodes : List ℕ) (from : ℕ) (old : RulesValue) (p q : ℕ) (rest above : List ℕ) (now later : RulesValue) → Joined nodes from old (p ∷ q ∷ rest) above now → later ≡ with_rules (from + length above) (c_element p q) now → IsPartly (owned_from from (level_rules nodes)) old later
+pub joined_one : (nodes : List ℕ) (from : ℕ) (old : RulesValue) (p q : ℕ) (rest above : List ℕ) (now later : RulesValue) →
+    Joined nodes from old (p ∷ q ∷ rest) above now → later ≡ with_rules (from + length above) (c_element p q) now →
+    IsPartly (owned_from from (level_rules nodes)) old later
 joined_one nodes from old p q rest above now later so_far is =
     let all : List Owned = owned_from from (level_rules nodes) in
     let this : List Owned = owned (from + length above) (c_element p q) ∷ [] in
     let others : List Owned = owned_from (from + length above + 1) (level_rules rest) in
-    partly_on all old now later so_far.partly (partly_of this all now later (λ o k. so_far.among o (Contains-append_left this others o k)) (partly_all this now later is))
+    partly_on all old now later so_far.partly (partly_of this all now later (λ o k. so_far.among o (Contains-append_left this others o k))
+        (partly_all this now later is))
 
-pub joined_more : (nodes : List ℕ) (from : ℕ) (old : RulesValue) (p q : ℕ) (rest above : List ℕ) (now later : RulesValue) → Joined nodes from old (p ∷ q ∷ rest) above now → later ≡ with_rules (from + length above) (c_element p q) now → length later.up ≡ length now.up → ((other : ℕ) → other ≢ from + length above → IsAlone now later other) → Joined nodes from old rest (above ++ (from + length above) ∷ []) later
+pub joined_more : (nodes : List ℕ) (from : ℕ) (old : RulesValue) (p q : ℕ) (rest above : List ℕ) (now later : RulesValue) →
+    Joined nodes from old (p ∷ q ∷ rest) above now → later ≡ with_rules (from + length above) (c_element p q) now → length later.up ≡ length now.up →
+    ((other : ℕ) → other ≢ from + length above → IsAlone now later other) → Joined nodes from old rest (above ++ (from + length above) ∷ []) later
 joined_more nodes from old p q rest above now later so_far is same far =
     let P : ℕ → Type 0 = λ n. n < length old.up in
     let at : ℕ = from + length above in
@@ -50,36 +55,52 @@ joined_more nodes from old p q rest above now later so_far is same far =
       within = All-tail P q rest (All-tail P p (q ∷ rest) so_far.within);
       place = omega (arith, length_push above at, so_far.place);
       upper = ap (λ k. (above ++ at ∷ []) ++ next_level rest k) next ∙ append_assoc above (at ∷ []) (next_level rest (at + 1)) ∙ so_far.upper;
-      written = ap (λ k. with_owned (owned_from k (level_rules rest)) later) next ∙ ap (with_owned (owned_from (at + 1) (level_rules rest))) is ∙ so_far.written;
+      written = ap (λ k. with_owned (owned_from k (level_rules rest)) later) next ∙ ap (with_owned (owned_from (at + 1) (level_rules rest))) is
+          ∙ so_far.written;
       count = same ∙ so_far.count;
-      others = λ node o. alone_on old now later node (so_far.others node o) (far node (λ e. All-head (λ (o : Owned). o.node ≢ node) (owned at (c_element p q)) (owned_from (at + 1) (level_rules rest)) (so_far.rest node o) (sym e)));
-      rest = λ node o. subst (λ k. IsOther node (owned_from k (level_rules rest))) (sym next) (All-tail (λ (o : Owned). o.node ≢ node) (owned at (c_element p q)) (owned_from (at + 1) (level_rules rest)) (so_far.rest node o));
+      others = λ node o. alone_on old now later node (so_far.others node o)
+          (far node (λ e. All-head (λ (o : Owned). o.node ≢ node) (owned at (c_element p q)) (owned_from (at + 1) (level_rules rest)) (so_far.rest node o)
+          (sym e)));
+      rest = λ node o. subst (λ k. IsOther node (owned_from k (level_rules rest))) (sym next)
+          (All-tail (λ (o : Owned). o.node ≢ node) (owned at (c_element p q)) (owned_from (at + 1) (level_rules rest)) (so_far.rest node o));
       partly = joined_one nodes from old p q rest above now later so_far is;
       among = λ o k.
-          so_far.among o (Contains-append_right (owned at (c_element p q) ∷ []) (owned_from (at + 1) (level_rules rest)) o (subst (λ n. Contains (owned_from n (level_rules rest)) o) next k));
+          so_far.among o (Contains-append_right (owned at (c_element p q) ∷ []) (owned_from (at + 1) (level_rules rest)) o
+              (subst (λ n. Contains (owned_from n (level_rules rest)) o) next k));
     }
 
 -- the same as the code has it: the first two of what is left, and a node number
-pub joined_step : (nodes : List ℕ) (from : ℕ) (old : RulesValue) (left rest above upper : List ℕ) (node : ℕ) (now later : RulesValue) → Joined nodes from old left above now → 2 ≤ length left → rest ≡ take (length left - 2) (drop 2 left) → node ≡ from + length above → upper ≡ above ++ node ∷ [] → later ≡ with_rules node (c_element (get_or left 0 0) (get_or left 1 0)) now → length later.up ≡ length now.up → ((other : ℕ) → other ≢ node → IsAlone now later other) → Joined nodes from old rest upper later
+pub joined_step : (nodes : List ℕ) (from : ℕ) (old : RulesValue) (left rest above upper : List ℕ) (node : ℕ) (now later : RulesValue) →
+    Joined nodes from old left above now → 2 ≤ length left → rest ≡ take (length left - 2) (drop 2 left) → node ≡ from + length above →
+    upper ≡ above ++ node ∷ [] → later ≡ with_rules node (c_element (get_or left 0 0) (get_or left 1 0)) now → length later.up ≡ length now.up →
+    ((other : ℕ) → other ≢ node → IsAlone now later other) → Joined nodes from old rest upper later
 joined_step nodes from old [] rest above upper node now later so_far long cut at up is same far = absurd (omega arith)
 joined_step nodes from old (p ∷ []) rest above upper node now later so_far long cut at up is same far = absurd (omega arith)
 joined_step nodes from old (p ∷ q ∷ left) rest above upper node now later so_far long cut at up is same far =
     let whole : rest ≡ left = cut ∙ (let e : length left ≤ length (p ∷ q ∷ left) - 2 = omega arith in take_all _ left e) in
     let upper_is : upper ≡ above ++ (from + length above) ∷ [] = up ∙ ap (λ k. above ++ k ∷ []) at in
-    rw (whole, upper_is) (joined_more nodes from old p q left above now later so_far (is ∙ ap (λ k. with_rules k (c_element p q) now) at) same (λ other ne. far other (λ e. ne (e ∙ at))))
+    rw (whole, upper_is) (joined_more nodes from old p q left above now later so_far (is ∙ ap (λ k. with_rules k (c_element p q) now) at) same
+        (λ other ne. far other (λ e. ne (e ∙ at))))
 
 -- also where the last node's guards are half written
-pub joined_alone : (nodes : List ℕ) (from : ℕ) (old : RulesValue) (left above : List ℕ) (node : ℕ) (now later : RulesValue) → Joined nodes from old left above now → 2 ≤ length left → node ≡ from + length above → ((other : ℕ) → other ≢ node → IsAlone now later other) → (other : ℕ) → IsOther other (owned_from from (level_rules nodes)) → IsAlone old later other
+pub joined_alone : (nodes : List ℕ) (from : ℕ) (old : RulesValue) (left above : List ℕ) (node : ℕ) (now later : RulesValue) →
+    Joined nodes from old left above now → 2 ≤ length left → node ≡ from + length above → ((other : ℕ) → other ≢ node → IsAlone now later other) → (other : ℕ) →
+    IsOther other (owned_from from (level_rules nodes)) → IsAlone old later other
 joined_alone nodes from old [] above node now later so_far long at far other o = absurd (omega arith)
 joined_alone nodes from old (p ∷ []) above node now later so_far long at far other o = absurd (omega arith)
 joined_alone nodes from old (p ∷ q ∷ left) above node now later so_far long at far other o =
-    alone_on old now later other (so_far.others other o) (far other (λ e. All-head (λ (x : Owned). x.node ≢ other) (owned (from + length above) (c_element p q)) (owned_from (from + length above + 1) (level_rules left)) (so_far.rest other o) (sym at ∙ sym e)))
+    alone_on old now later other (so_far.others other o)
+        (far other (λ e. All-head (λ (x : Owned). x.node ≢ other) (owned (from + length above) (c_element p q))
+        (owned_from (from + length above + 1) (level_rules left)) (so_far.rest other o) (sym at ∙ sym e)))
 
 -- where memory runs out, before a C-element is written or after it
-pub joined_before : (nodes : List ℕ) (from : ℕ) (old : RulesValue) (left above : List ℕ) (now later : RulesValue) → Joined nodes from old left above now → later ≡ now → IsPartly (owned_from from (level_rules nodes)) old later
+pub joined_before : (nodes : List ℕ) (from : ℕ) (old : RulesValue) (left above : List ℕ) (now later : RulesValue) → Joined nodes from old left above now →
+    later ≡ now → IsPartly (owned_from from (level_rules nodes)) old later
 joined_before nodes from old left above now later so_far same = subst (IsPartly (owned_from from (level_rules nodes)) old) (sym same) so_far.partly
 
-pub joined_after : (nodes : List ℕ) (from : ℕ) (old : RulesValue) (left above : List ℕ) (node : ℕ) (now later : RulesValue) → Joined nodes from old left above now → 2 ≤ length left → node ≡ from + length above → later ≡ with_rules node (c_element (get_or left 0 0) (get_or left 1 0)) now → IsPartly (owned_from from (level_rules nodes)) old later
+pub joined_after : (nodes : List ℕ) (from : ℕ) (old : RulesValue) (left above : List ℕ) (node : ℕ) (now later : RulesValue) →
+    Joined nodes from old left above now → 2 ≤ length left → node ≡ from + length above →
+    later ≡ with_rules node (c_element (get_or left 0 0) (get_or left 1 0)) now → IsPartly (owned_from from (level_rules nodes)) old later
 joined_after nodes from old [] above node now later so_far long at is = absurd (omega arith)
 joined_after nodes from old (p ∷ []) above node now later so_far long at is = absurd (omega arith)
 joined_after nodes from old (p ∷ q ∷ left) above node now later so_far long at is =
@@ -95,8 +116,11 @@ short_rules [] h = refl
 short_rules (p ∷ []) h = refl
 short_rules (p ∷ q ∷ ls) h = absurd (omega arith)
 
-pub joined_above : (nodes : List ℕ) (from : ℕ) (old : RulesValue) (left above : List ℕ) (now : RulesValue) → Joined nodes from old left above now → length left ≤ 1 → above ++ left ≡ next_level nodes from
+pub joined_above : (nodes : List ℕ) (from : ℕ) (old : RulesValue) (left above : List ℕ) (now : RulesValue) → Joined nodes from old left above now →
+    length left ≤ 1 → above ++ left ≡ next_level nodes from
 joined_above nodes from old left above now so_far few = ap (λ l. above ++ l) (sym (short_next left (from + length above) few)) ∙ so_far.upper
 
-pub joined_rules : (nodes : List ℕ) (from : ℕ) (old : RulesValue) (left above : List ℕ) (now : RulesValue) → Joined nodes from old left above now → length left ≤ 1 → now ≡ with_owned (owned_from from (level_rules nodes)) old
-joined_rules nodes from old left above now so_far few = ap (λ l. with_owned (owned_from (from + length above) l) now) (sym (short_rules left few)) ∙ so_far.written
+pub joined_rules : (nodes : List ℕ) (from : ℕ) (old : RulesValue) (left above : List ℕ) (now : RulesValue) → Joined nodes from old left above now →
+    length left ≤ 1 → now ≡ with_owned (owned_from from (level_rules nodes)) old
+joined_rules nodes from old left above now so_far few = ap (λ l. with_owned (owned_from (from + length above) l) now) (sym (short_rules left few))
+    ∙ so_far.written

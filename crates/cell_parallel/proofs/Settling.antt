@@ -44,7 +44,8 @@ moves_after_inputs false true false f = absurd (cc f)
 moves_after_inputs false false q f = absurd (cc f)
 
 still_moves : (c p q c' p' q' : Bool) → c' ≡ c → p' ≡ p → q' ≡ q → moves c p q ≡ true → moves c' p' q' ≡ true
-still_moves c p q c' p' q' ec ep eq f = subst (λ x. moves x p' q' ≡ true) (sym ec) (subst (λ x. moves c x q' ≡ true) (sym ep) (subst (λ x. moves c p x ≡ true) (sym eq) f))
+still_moves c p q c' p' q' ec ep eq f = subst (λ x. moves x p' q' ≡ true) (sym ec)
+    (subst (λ x. moves c x q' ≡ true) (sym ep) (subst (λ x. moves c p x ≡ true) (sym eq) f))
 
 inputs_before : (t c p q : Bool) → settled t c p q ≡ true → c ≡ not t → (p ≡ not t) × (q ≡ not t)
 inputs_before true false false false s e = (refl, refl)
@@ -96,7 +97,8 @@ either_value false false = inl refl
 
 settled_same : (t c p q t' c' p' q' : Bool) → t' ≡ t → c' ≡ c → p' ≡ p → q' ≡ q → settled t c p q ≡ true → settled t' c' p' q' ≡ true
 settled_same t c p q t' c' p' q' et ec ep eq s =
-    subst (λ x. settled x c' p' q' ≡ true) (sym et) (subst (λ x. settled t x p' q' ≡ true) (sym ec) (subst (λ x. settled t c x q' ≡ true) (sym ep) (subst (λ x. settled t c p x ≡ true) (sym eq) s)))
+    subst (λ x. settled x c' p' q' ≡ true) (sym et)
+        (subst (λ x. settled t x p' q' ≡ true) (sym ec) (subst (λ x. settled t c x q' ≡ true) (sym ep) (subst (λ x. settled t c p x ≡ true) (sym eq) s)))
 
 settled_both : (t c p q : Bool) → c ≡ t → settled t c p q ≡ true
 settled_both t c p q e = subst (λ x. settled t x p q ≡ true) (sym e) (settled_top t p q)
@@ -114,7 +116,8 @@ all_or_one : (v : ℕ → Bool) (b : Bool) (ns : List ℕ) → ((n : ℕ) × Con
 all_or_one v b [] = inr tt
 all_or_one v b (n ∷ ns) = by (either_value (v n) b) (all_or_one v b ns)
   where
-    by : (v n ≡ b) ⊎ (v n ≡ not b) → ((k : ℕ) × Contains ns k × (v k ≡ b)) ⊎ Each (λ k. v k ≡ not b) ns → ((k : ℕ) × Contains (n ∷ ns) k × (v k ≡ b)) ⊎ Each (λ k. v k ≡ not b) (n ∷ ns)
+    by : (v n ≡ b) ⊎ (v n ≡ not b) → ((k : ℕ) × Contains ns k × (v k ≡ b)) ⊎ Each (λ k. v k ≡ not b) ns →
+        ((k : ℕ) × Contains (n ∷ ns) k × (v k ≡ b)) ⊎ Each (λ k. v k ≡ not b) (n ∷ ns)
     by (inl e) rest = inl (n, (0, omega arith, refl), e)
     by (inr e) (inl (k, among, is)) = inl (k, Contains-append_right (n ∷ []) ns k among, is)
     by (inr e) (inr each) = inr (e, each)
@@ -151,12 +154,14 @@ module _ (leaves : List ℕ) (from : ℕ) (some : 0 < length leaves) (outside : 
       not_own node out k here (is ∙ e)
 
   -- what the top's move needs: all nodes but the top have left its value
-  all_left : (v : ℕ → Bool) (k : Join) → Settled v → Contains joins k → Moves v k → k.node ≡ top → Each (λ n. (v n ≡ not (v top)) ⊎ (n ≡ top)) leaves × ((j : Join) → Contains joins j → (v j.node ≡ not (v top)) ⊎ (j.node ≡ top))
+  all_left : (v : ℕ → Bool) (k : Join) → Settled v → Contains joins k → Moves v k → k.node ≡ top → Each (λ n. (v n ≡ not (v top)) ⊎ (n ≡ top)) leaves
+      × ((j : Join) → Contains joins j → (v j.node ≡ not (v top)) ⊎ (j.node ≡ top))
   all_left v k s here f at =
       let it = down (λ n. (v n ≡ not (v top)) ⊎ (n ≡ top)) (length leaves) leaves from (omega arith) (λ j among. goes j among) (inr refl) in
       (it.leaves, it.nodes)
     where
-      goes : (j : Join) → Contains joins j → (v j.node ≡ not (v top)) ⊎ (j.node ≡ top) → ((v j.left ≡ not (v top)) ⊎ (j.left ≡ top)) × ((v j.right ≡ not (v top)) ⊎ (j.right ≡ top))
+      goes : (j : Join) → Contains joins j → (v j.node ≡ not (v top)) ⊎ (j.node ≡ top) → ((v j.left ≡ not (v top)) ⊎ (j.left ≡ top))
+          × ((v j.right ≡ not (v top)) ⊎ (j.right ≡ top))
       goes j among (inl e) = let both = inputs_before (v top) (v j.node) (v j.left) (v j.right) (s j among) e in (inl both.0, inl both.1)
       goes j among (inr e) =
           let same : j ≡ k = unique leaves from j k among here (e ∙ sym at) in
@@ -166,7 +171,8 @@ module _ (leaves : List ℕ) (from : ℕ) (some : 0 < length leaves) (outside : 
           )
 
   -- a node that has the top's value, and is not the top, is turned over
-  stays_away : (v : ℕ → Bool) (node : ℕ) → Settled v → top ≢ node → v node ≡ v top → ((j : Join) → Contains joins j → j.node ≡ node → Moves v j) → Settled (turned v node)
+  stays_away : (v : ℕ → Bool) (node : ℕ) → Settled v → top ≢ node → v node ≡ v top → ((j : Join) → Contains joins j → j.node ≡ node → Moves v j) →
+      Settled (turned v node)
   stays_away v node s far from_top own j among = by (cases_eq j.node node)
     where
       b : Bool
@@ -194,13 +200,15 @@ module _ (leaves : List ℕ) (from : ℕ) (some : 0 < length leaves) (outside : 
           let value : v j.node ≡ b = ap v e ∙ from_top in
           let l : v j.left ≡ not b = both.0 ∙ ap not value in
           let r : v j.right ≡ not b = both.1 ∙ ap not value in
-          settled_same b (not b) (not b) (not b) (w top) (w j.node) (w j.left) (w j.right) at_top (ap w e ∙ (turned_here v node ∙ ap not from_top)) (unturned j.left l ∙ l) (unturned j.right r ∙ r) (settled_turned b)
+          settled_same b (not b) (not b) (not b) (w top) (w j.node) (w j.left) (w j.right) at_top (ap w e ∙ (turned_here v node ∙ ap not from_top))
+              (unturned j.left l ∙ l) (unturned j.right r ∙ r) (settled_turned b)
       by (inr ne) = rest (input j.left) (input j.right) (either_value (v j.node) b)
         where
           same : w j.node ≡ v j.node
           same = turned_apart v node j.node ne
 
-          rest : (w j.left ≡ v j.left) ⊎ (v j.left ≡ b) → (w j.right ≡ v j.right) ⊎ (v j.right ≡ b) → (v j.node ≡ b) ⊎ (v j.node ≡ not b) → settled (w top) (w j.node) (w j.left) (w j.right) ≡ true
+          rest : (w j.left ≡ v j.left) ⊎ (v j.left ≡ b) → (w j.right ≡ v j.right) ⊎ (v j.right ≡ b) → (v j.node ≡ b) ⊎ (v j.node ≡ not b) →
+              settled (w top) (w j.node) (w j.left) (w j.right) ≡ true
           rest l r (inl e) = settled_both (w top) (w j.node) (w j.left) (w j.right) (same ∙ (e ∙ sym at_top))
           rest (inl l) (inl r) (inr e) = settled_same b (v j.node) (v j.left) (v j.right) (w top) (w j.node) (w j.left) (w j.right) at_top same l r (s j among)
           rest (inr l) r (inr e) = absurd (differ b (sym l ∙ (inputs_before b (v j.node) (v j.left) (v j.right) (s j among) e).0))
@@ -219,10 +227,12 @@ module _ (leaves : List ℕ) (from : ℕ) (some : 0 < length leaves) (outside : 
       by (inr e) = ap w e
 
   inputs_far : (node : ℕ) → IsOutside leaves from node → All (λ leaf. leaf ≢ node) leaves → (j : Join) → Contains joins j → (j.left ≢ node) × (j.right ≢ node)
-  inputs_far node out far = inputs (λ n. n ≢ node) (length leaves) leaves from (recursion_from_All (λ leaf. leaf ≢ node) leaves far) (λ j among. not_own node out j among)
+  inputs_far node out far = inputs (λ n. n ≢ node) (length leaves) leaves from (recursion_from_All (λ leaf. leaf ≢ node) leaves far)
+      (λ j among. not_own node out j among)
 
   -- no move is at an input of an enabled C-element
-  inputs_still : (v : ℕ → Bool) (j : Join) (node : ℕ) → Settled v → Contains joins j → Moves v j → TreeMove leaves from v node → (j.left ≢ node) × (j.right ≢ node)
+  inputs_still : (v : ℕ → Bool) (j : Join) (node : ℕ) → Settled v → Contains joins j → Moves v j → TreeMove leaves from v node →
+      (j.left ≢ node) × (j.right ≢ node)
   inputs_still v j node s among f move = by move
     where
       b : Bool
@@ -240,7 +250,8 @@ module _ (leaves : List ℕ) (from : ℕ) (some : 0 < length leaves) (outside : 
       by : TreeMove leaves from v node → (j.left ≢ node) × (j.right ≢ node)
       by (by_rule o here g at) =
           let (k, there, is) = join_of leaves from o here in
-          with_top (ap v (at ∙ ap (λ (x : Owned). x.node) (sym is)) ∙ moves_from_top (v top) (v k.node) (v k.left) (v k.right) (s k there) (subst (λ (x : Owned). fires v x ≡ true) (sym is) g))
+          with_top (ap v (at ∙ ap (λ (x : Owned). x.node) (sym is))
+              ∙ moves_from_top (v top) (v k.node) (v k.left) (v k.right) (s k there) (subst (λ (x : Owned). fires v x ≡ true) (sym is) g))
       by (of_leaf out e) = with_top e
       by (elsewhere out far) = inputs_far node out far j among
 
@@ -254,17 +265,21 @@ module _ (leaves : List ℕ) (from : ℕ) (some : 0 < length leaves) (outside : 
       by : (k : Join) → Contains joins k → Moves v k → (k.node ≡ top) ⊎ (k.node ≢ top) → Settled (turned v k.node)
       by k here enabled (inl e) = subst (λ n. Settled (turned v n)) (sym e) (stays_top v k s here enabled e)
       by k here enabled (inr ne) =
-          stays_away v k.node s (λ e. ne (sym e)) (moves_from_top (v top) (v k.node) (v k.left) (v k.right) (s k here) enabled) (λ j among e. subst (λ (x : Join). Moves v x) (sym (unique leaves from j k among here e)) enabled)
-  stays v node s (of_leaf out from_top) = λ j among. stays_away v node s (not_top node out j among) from_top (λ i here e. absurd (not_own node out i here e)) j among
+          stays_away v k.node s (λ e. ne (sym e)) (moves_from_top (v top) (v k.node) (v k.left) (v k.right) (s k here) enabled)
+              (λ j among e. subst (λ (x : Join). Moves v x) (sym (unique leaves from j k among here e)) enabled)
+  stays v node s (of_leaf out from_top) = λ j among. stays_away v node s (not_top node out j among) from_top (λ i here e. absurd (not_own node out i here e)) j
+      among
   stays v node s (elsewhere out far) = λ j among.
       let around = inputs_far node out far j among in
-      settled_same (v top) (v j.node) (v j.left) (v j.right) _ _ _ _ (turned_apart v node top (not_top node out j among)) (turned_apart v node j.node (not_own node out j among)) (turned_apart v node j.left around.0) (turned_apart v node j.right around.1) (s j among)
+      settled_same (v top) (v j.node) (v j.left) (v j.right) _ _ _ _ (turned_apart v node top (not_top node out j among))
+          (turned_apart v node j.node (not_own node out j among)) (turned_apart v node j.left around.0) (turned_apart v node j.right around.1) (s j among)
 
   -- an enabled C-element stays so while another node moves
   firm : (v : ℕ → Bool) (j : Join) (node : ℕ) → Settled v → Contains joins j → Moves v j → TreeMove leaves from v node → node ≢ j.node → Moves (turned v node) j
   firm v j node s among f move ne =
       let around = inputs_still v j node s among f move in
-      still_moves (v j.node) (v j.left) (v j.right) _ _ _ (turned_apart v node j.node (λ e. ne (sym e))) (turned_apart v node j.left around.0) (turned_apart v node j.right around.1) f
+      still_moves (v j.node) (v j.left) (v j.right) _ _ _ (turned_apart v node j.node (λ e. ne (sym e))) (turned_apart v node j.left around.0)
+          (turned_apart v node j.right around.1) f
 
   turns : (v : ℕ → Bool) (j : Join) → Settled v → Contains joins j → Moves v j → j.node ≡ top → All (λ leaf. v leaf ≡ not (v top)) leaves
   turns v j s among f at =
@@ -276,18 +291,23 @@ module _ (leaves : List ℕ) (from : ℕ) (some : 0 < length leaves) (outside : 
 
   rests : (v : ℕ → Bool) → Settled v → v top ≡ false → All (λ leaf. v leaf ≡ false) leaves → (j : Join) → Contains joins j → v j.node ≡ false
   rests v s low all =
-      (up (λ n. v n ≡ false) (length leaves) leaves from (omega arith) (λ j among l r. low_with_inputs (v j.node) (v j.left) (v j.right) (subst (λ b. settled b (v j.node) (v j.left) (v j.right) ≡ true) low (s j among)) l r) (recursion_from_All (λ leaf. v leaf ≡ false) leaves all)).nodes
+      (up (λ n. v n ≡ false) (length leaves) leaves from (omega arith)
+          (λ j among l r. low_with_inputs (v j.node) (v j.left) (v j.right) (subst (λ b. settled b (v j.node) (v j.left) (v j.right) ≡ true) low (s j among)) l
+          r) (recursion_from_All (λ leaf. v leaf ≡ false) leaves all)).nodes
 
   flat : (v : ℕ → Bool) → Settled v → All (λ leaf. v leaf ≡ v top) leaves → (j : Join) → Contains joins j → v j.node ≡ v top
   flat v s all =
-      (up (λ n. v n ≡ v top) (length leaves) leaves from (omega arith) (λ j among l r. with_inputs (v top) (v j.node) (v j.left) (v j.right) (s j among) l r) (recursion_from_All (λ leaf. v leaf ≡ v top) leaves all)).nodes
+      (up (λ n. v n ≡ v top) (length leaves) leaves from (omega arith) (λ j among l r. with_inputs (v top) (v j.node) (v j.left) (v j.right) (s j among) l r)
+          (recursion_from_All (λ leaf. v leaf ≡ v top) leaves all)).nodes
 
-  waits : (v : ℕ → Bool) → Settled v → ((j : Join) → Contains joins j → moves (v j.node) (v j.left) (v j.right) ≡ false) → (leaf : ℕ) × Contains leaves leaf × (v leaf ≡ v top)
+  waits : (v : ℕ → Bool) → Settled v → ((j : Join) → Contains joins j → moves (v j.node) (v j.left) (v j.right) ≡ false) →
+      (leaf : ℕ) × Contains leaves leaf × (v leaf ≡ v top)
   waits v s still = by (all_or_one v (v top) leaves)
     where
       by : ((leaf : ℕ) × Contains leaves leaf × (v leaf ≡ v top)) ⊎ Each (λ n. v n ≡ not (v top)) leaves → (leaf : ℕ) × Contains leaves leaf × (v leaf ≡ v top)
       by (inl found) = found
-      by (inr each) = absurd (differ (v top) ((up (λ n. v n ≡ not (v top)) (length leaves) leaves from (omega arith) (λ j among l r. follows_inputs (v top) (v j.node) (v j.left) (v j.right) (still j among) l r) each).top some))
+      by (inr each) = absurd (differ (v top) ((up (λ n. v n ≡ not (v top)) (length leaves) leaves from (omega arith)
+          (λ j among l r. follows_inputs (v top) (v j.node) (v j.left) (v j.right) (still j among) l r) each).top some))
 
   pub settles : Settles leaves from
   settles = record {
@@ -295,10 +315,12 @@ module _ (leaves : List ℕ) (from : ℕ) (some : 0 < length leaves) (outside : 
     stays = λ v node s move. of_joins (turned v node) (stays v node (to_joins v s) move);
     leaves_it = λ v o s among f.
         let (j, here, is) = join_of leaves from o among in
-        subst (λ (x : Owned). v x.node ≡ v top) is (moves_from_top (v top) (v j.node) (v j.left) (v j.right) (to_joins v s j here) (subst (λ (x : Owned). fires v x ≡ true) (sym is) f));
+        subst (λ (x : Owned). v x.node ≡ v top) is
+            (moves_from_top (v top) (v j.node) (v j.left) (v j.right) (to_joins v s j here) (subst (λ (x : Owned). fires v x ≡ true) (sym is) f));
     firm = λ v o node s among f move ne.
         let (j, here, is) = join_of leaves from o among in
-        subst (λ (x : Owned). fires (turned v node) x ≡ true) is (firm v j node (to_joins v s) here (subst (λ (x : Owned). fires v x ≡ true) (sym is) f) move (λ e. ne (e ∙ ap (λ (x : Owned). x.node) is)));
+        subst (λ (x : Owned). fires (turned v node) x ≡ true) is (firm v j node (to_joins v s) here (subst (λ (x : Owned). fires v x ≡ true) (sym is) f) move
+            (λ e. ne (e ∙ ap (λ (x : Owned). x.node) is)));
     apart = λ v o among.
         let (j, here, is) = join_of leaves from o among in
         subst (λ (x : Owned). (guard_holds v x.rules.up && guard_holds v x.rules.down) ≡ false) is (never_both (v j.left) (v j.right));

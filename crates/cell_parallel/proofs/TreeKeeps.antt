@@ -37,11 +37,13 @@ low_at v (k ∷ ns) n h among = by (among_cases k ns n among) (low_at v ns n (se
 
 each_low : (v : ℕ → Bool) (ns : List ℕ) → ((n : ℕ) → Contains ns n → v n ≡ false) → all_low v ns ≡ true
 each_low v [] f = refl
-each_low v (n ∷ ns) f = both_true (not (v n)) (all_low v ns) (ap not (f n (0, omega arith, refl))) (each_low v ns (λ k among. f k (Contains-append_right (n ∷ []) ns k among)))
+each_low v (n ∷ ns) f = both_true (not (v n)) (all_low v ns) (ap not (f n (0, omega arith, refl)))
+    (each_low v ns (λ k among. f k (Contains-append_right (n ∷ []) ns k among)))
 
 each_high : (v : ℕ → Bool) (ns : List ℕ) → ((n : ℕ) → Contains ns n → v n ≡ true) → list_all v ns ≡ true
 each_high v [] f = refl
-each_high v (n ∷ ns) f = both_true (v n) (list_all v ns) (f n (0, omega arith, refl)) (each_high v ns (λ k among. f k (Contains-append_right (n ∷ []) ns k among)))
+each_high v (n ∷ ns) f = both_true (v n) (list_all v ns) (f n (0, omega arith, refl))
+    (each_high v ns (λ k among. f k (Contains-append_right (n ∷ []) ns k among)))
 
 module _ (leaves : List ℕ) (from : ℕ) (some : 0 < length leaves) (outside : AreOutside leaves from) where
   abbrev top : ℕ
@@ -60,7 +62,8 @@ module _ (leaves : List ℕ) (from : ℕ) (some : 0 < length leaves) (outside : 
   first v is = known.first v (λ o among. low o among ∙ sym (top_low o among))
     where
       low : (o : Owned) → Contains (tree_owned leaves from) o → v o.node ≡ false
-      low o among = low_at v (map (λ (x : Owned). x.node) (tree_owned leaves from)) o.node is.own (mapped_among (λ (x : Owned). x.node) (tree_owned leaves from) o among)
+      low o among = low_at v (map (λ (x : Owned). x.node) (tree_owned leaves from)) o.node is.own
+          (mapped_among (λ (x : Owned). x.node) (tree_owned leaves from) o among)
 
       top_low : (o : Owned) → Contains (tree_owned leaves from) o → v top ≡ false
       top_low o among =
@@ -92,7 +95,8 @@ module _ (leaves : List ℕ) (from : ℕ) (some : 0 < length leaves) (outside : 
       let may : may_move m (leaf_wire leaf) ≡ true = subst (λ (w : Wire). may_move m w ≡ true) (sym is) outer.may in
       subst (TreeMove leaves from m.value) (sym at) (of_leaf (All-contains (IsOutside leaves from) leaves leaf outside here) (leaf_value m leaf may))
 
-  promised : (m : Moment) → IsSettled leaves from m.value → (o : Owned) → Contains (tree_owned leaves from) o → fires m.value o ≡ true → (w : Wire) → Contains part.promises w → w.node ≡ o.node → may_move m w ≡ true
+  promised : (m : Moment) → IsSettled leaves from m.value → (o : Owned) → Contains (tree_owned leaves from) o → fires m.value o ≡ true → (w : Wire) →
+      Contains part.promises w → w.node ≡ o.node → may_move m w ≡ true
   promised m s o among f w here at = by (among_cases (wire top (λ m. list_all m.value leaves) (λ m. all_low m.value leaves)) [] w here)
     where
       turn : (b : Bool) → ((n : ℕ) → Contains leaves n → m.value n ≡ not b) → (if b then all_low m.value leaves else list_all m.value leaves) ≡ true
@@ -103,13 +107,15 @@ module _ (leaves : List ℕ) (from : ℕ) (some : 0 < length leaves) (outside : 
       by (inr none) = absurd (none_among w none)
       by (inl is) =
           let all = known.turns m.value o s among f (sym at ∙ ap (λ (x : Wire). x.node) (sym is)) in
-          subst (λ (x : Wire). may_move m x ≡ true) is (turn (m.value top) (λ n there. All-contains (λ leaf. m.value leaf ≡ not (m.value top)) leaves n all there))
+          subst (λ (x : Wire). may_move m x ≡ true) is
+              (turn (m.value top) (λ n there. All-contains (λ leaf. m.value leaf ≡ not (m.value top)) leaves n all there))
 
   lows : (v : ℕ → Bool) → IsSettled leaves from v → all_low v (top ∷ leaves) ≡ true → all_low v (map (λ (o : Owned). o.node) (tree_owned leaves from)) ≡ true
   lows v s h =
       each_low v (map (λ (o : Owned). o.node) (tree_owned leaves from)) (λ n among.
       let (o, here, is) = among_mapped (λ (o : Owned). o.node) (tree_owned leaves from) n among in
-      ap v (sym is) ∙ known.rests v s (low_from_not (v top) (first_true (not (v top)) (all_low v leaves) h)) (All-low leaves (second_true (not (v top)) (all_low v leaves) h)) o here)
+      ap v (sym is) ∙ known.rests v s (low_from_not (v top) (first_true (not (v top)) (all_low v leaves) h))
+          (All-low leaves (second_true (not (v top)) (all_low v leaves) h)) o here)
     where
       each : (ns : List ℕ) → all_low v ns ≡ true → Rattle.std.specs.List.AllByRecursion (λ n. v n ≡ false) ns
       each [] h = tt

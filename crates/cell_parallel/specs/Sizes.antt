@@ -14,15 +14,19 @@ pub next_length : (ls : List ℕ) (from : ℕ) → length (next_level ls from) �
 next_length [] from = refl
 next_length (p ∷ []) from = refl
 next_length (p ∷ q ∷ rest) from =
-    let e : length (next_level rest (from + 1)) ≡ length rest - length rest / 2 = next_length rest (from + 1) in omega arith
+    let e : length (next_level rest (from + 1)) ≡ length rest - length rest / 2 = next_length rest (from + 1) in
+        omega arith
 
 levels_length : (n : ℕ) (ls : List ℕ) (from : ℕ) → length ls ≤ suc n → length (levels_rules n ls from) ≡ length ls - 1
 levels_length zero ls from few = omega arith
 levels_length (suc n) ls from few =
     let level = level_length ls in
     let next = next_length ls from in
-    let all : length (levels_rules n (next_level ls from) (from + length ls / 2)) ≡ length (next_level ls from) - 1 = levels_length n (next_level ls from) (from + length ls / 2) (omega (arith, next)) in
-    let parts : length (level_rules ls ++ levels_rules n (next_level ls from) (from + length ls / 2)) ≡ length (level_rules ls) + length (levels_rules n (next_level ls from) (from + length ls / 2)) = length-append _ _ in
+    let all : length (levels_rules n (next_level ls from) (from + length ls / 2)) ≡ length (next_level ls from) - 1 =
+        levels_length n (next_level ls from) (from + length ls / 2) (omega (arith, next)) in
+    let parts : length (level_rules ls ++ levels_rules n (next_level ls from) (from + length ls / 2)) ≡
+        length (level_rules ls) + length (levels_rules n (next_level ls from) (from + length ls / 2)) =
+        length-append _ _ in
     omega (arith, level, next, all, parts)
 
 -- one node fewer than leaves

@@ -20,7 +20,8 @@ next_level rest from = rest
 -- so many levels over the leaves
 abbrev pub levels_rules : (levels : ℕ) → List ℕ → (from : ℕ) → List NodeRules
 levels_rules zero leaves from = []
-levels_rules (suc n) leaves from = level_rules leaves ++ levels_rules n (next_level leaves from) (from + length leaves / 2)
+levels_rules (suc n) leaves from =
+    level_rules leaves ++ levels_rules n (next_level leaves from) (from + length leaves / 2)
 
 -- Level upon level until one node is left: as many levels as there are leaves are enough, since one node alone has none
 -- above it.

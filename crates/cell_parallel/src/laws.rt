@@ -19,5 +19,6 @@ pub fn tree_settles()
 /// Law: a completion tree over at least one leaf, none of them one of its C-elements, keeps its contract. Over a leaf
 /// alone, which is its own top, it has no C-element, and its neighbours may move that leaf as they like.
 pub fn tree_keeps()
-    ensures { (leaves : List ℕ) (from : ℕ) → 0 < length leaves → AreOutside leaves from → Keeps (tree_part leaves from) }
+    ensures { (leaves : List ℕ) (from : ℕ) → 0 < length leaves → AreOutside leaves from →
+        Keeps (tree_part leaves from) }
 {}

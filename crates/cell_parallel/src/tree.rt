@@ -47,7 +47,8 @@ fn join_level(
     ensures made { OnOk result (rules.new ≡ with_owned (owned_from from (level_rules nodes.now)) rules.old) }
     ensures partly { IsPartly (owned_from from (level_rules nodes.now)) rules.old rules.new }
     ensures nodes { length rules.new.up ≡ length rules.old.up }
-    ensures others { (node : ℕ) → All (λ (o : Owned). o.node ≢ node) (owned_from from (level_rules nodes.now)) → IsAlone rules.old rules.new node }
+    ensures others { (node : ℕ) → All (λ (o : Owned). o.node ≢ node) (owned_from from (level_rules nodes.now)) →
+        IsAlone rules.old rules.new node }
 {
     // tells the proof that there are fewer than 2^32 nodes, so that the numbers from `from` on fit
     let _count = rules.nodes();
@@ -79,7 +80,8 @@ pub fn emit_tree(
     ensures made { OnOk result (rules.new ≡ with_owned (tree_owned leaves.now from) rules.old) }
     ensures partly { IsPartly (tree_owned leaves.now from) rules.old rules.new }
     ensures nodes { length rules.new.up ≡ length rules.old.up }
-    ensures others { (node : ℕ) → All (λ (o : Owned). o.node ≢ node) (tree_owned leaves.now from) → IsAlone rules.old rules.new node }
+    ensures others { (node : ℕ) → All (λ (o : Owned). o.node ≢ node) (tree_owned leaves.now from) →
+        IsAlone rules.old rules.new node }
     ensures keeps { AreOutside leaves.now from → Keeps (tree_part leaves.now from) }
 {
     tree_keeps();

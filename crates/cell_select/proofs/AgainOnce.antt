@@ -51,7 +51,8 @@ plain_move c m old node (inr theirs) = inr (record {
   at = theirs.at;
 })
 
-first_noted : (c : AgainNodes) → AreApart (again_nodes c) → 0 < length c.branches → (v : ℕ → Bool) → IsFirst (again_part c) v → Noted c (record { value = v; noted = λ n. false })
+first_noted : (c : AgainNodes) → AreApart (again_nodes c) → 0 < length c.branches → (v : ℕ → Bool) → IsFirst (again_part c) v →
+    Noted c (record { value = v; noted = λ n. false })
 first_noted c apart some v first = record {
   old = λ n. false;
   reaches = first_of c apart c.branches refl some v (record { outside = first.outside; own = first.own; bits = first.bits });
@@ -70,9 +71,13 @@ module _ (c : AgainNodes) (apart : AreApart (again_nodes c)) (m : Moment) (node 
   distinct : Distinct (again_nodes c)
   distinct = distinct_from (again_nodes c) apart
 
-  tests : (j : ℕ) → j < 7 → ((z : Place) → node ≡ slice_index_or (controls (again_frame c) z) j 0) → (z : Place) × (can again_machine j (map v (controls (again_frame c) z)) (seen_rails v h.old c.branches z) ≡ true) × (end_test (map v (controls (again_frame c) z)) (seen_rails v h.old c.branches z) ≡ true)
+  tests : (j : ℕ) → j < 7 → ((z : Place) → node ≡ slice_index_or (controls (again_frame c) z) j 0) →
+      (z : Place) × (can again_machine j (map v (controls (again_frame c) z)) (seen_rails v h.old c.branches z) ≡ true)
+      × (end_test (map v (controls (again_frame c) z)) (seen_rails v h.old c.branches z) ≡ true)
   tests j lt at =
-      let seen : (z : Place) × SeenAt again_machine (again_frame c) c.branches (plain m h.old) z j = frame_seen again_machine (again_frame c) c.branches c.request c.answer c.eval (plain_again c) (plain m h.old) h.reaches.0 node setting (again_is_part c) h.reaches.1 move j lt at in
+      let seen : (z : Place) × SeenAt again_machine (again_frame c) c.branches (plain m h.old) z j =
+          frame_seen again_machine (again_frame c) c.branches c.request c.answer c.eval (plain_again c) (plain m h.old) h.reaches.0 node setting
+          (again_is_part c) h.reaches.1 move j lt at in
       (seen.0, seen.1.1, tried_at again_machine (again_frame c) c.branches c.eval (plain m h.old) seen.0 end_test setting seen.1.0 ends_tried)
 
   asks_anew : node ≡ c.request → v c.request ≡ false → (v c.eval ≡ false) × (v c.leave ≡ false)
@@ -80,7 +85,9 @@ module _ (c : AgainNodes) (apart : AreApart (again_nodes c)) (m : Moment) (node 
       let t = tests 0 (omega arith) (λ z. same) in
       let cs = map v (controls (again_frame c) t.0) in
       let q = seen_rails v h.old c.branches t.0 in
-      let both_low = implies_at (can again_machine 0 cs q && not (bit_at cs 0)) (not (v c.eval) && not (v c.leave)) (and_left _ (implies (can again_machine 6 cs q && not (bit_at cs 6)) (bit_at cs 4) && implies (can again_machine 1 cs q && not (bit_at cs 1)) (bit_at cs 6)) t.2) (both _ _ t.1 (true_not _ low)) in
+      let both_low = implies_at (can again_machine 0 cs q && not (bit_at cs 0)) (not (v c.eval) && not (v c.leave))
+          (and_left _ (implies (can again_machine 6 cs q && not (bit_at cs 6)) (bit_at cs 4)
+          && implies (can again_machine 1 cs q && not (bit_at cs 1)) (bit_at cs 6)) t.2) (both _ _ t.1 (true_not _ low)) in
       (not_true (v c.eval) (and_left (not (v c.eval)) _ both_low), not_true (v c.leave) (and_right (not (v c.eval)) _ both_low))
 
   ends_asked : node ≡ c.leave → v c.leave ≡ false → v c.eval ≡ true
@@ -88,20 +95,24 @@ module _ (c : AgainNodes) (apart : AreApart (again_nodes c)) (m : Moment) (node 
       let t = tests 6 (omega arith) (λ z. same) in
       let cs = map v (controls (again_frame c) t.0) in
       let q = seen_rails v h.old c.branches t.0 in
-      implies_at (can again_machine 6 cs q && not (bit_at cs 6)) (v c.eval) (and_left _ (implies (can again_machine 1 cs q && not (bit_at cs 1)) (bit_at cs 6)) (and_right (implies (can again_machine 0 cs q && not (bit_at cs 0)) (not (bit_at cs 4) && not (bit_at cs 6))) _ t.2)) (both _ _ t.1 (true_not _ low))
+      implies_at (can again_machine 6 cs q && not (bit_at cs 6)) (v c.eval) (and_left _ (implies (can again_machine 1 cs q && not (bit_at cs 1)) (bit_at cs 6))
+          (and_right (implies (can again_machine 0 cs q && not (bit_at cs 0)) (not (bit_at cs 4) && not (bit_at cs 6))) _ t.2)) (both _ _ t.1 (true_not _ low))
 
   answers_ended : node ≡ c.answer → v c.answer ≡ false → v c.leave ≡ true
   answers_ended same low =
       let t = tests 1 (omega arith) (λ z. same) in
       let cs = map v (controls (again_frame c) t.0) in
       let q = seen_rails v h.old c.branches t.0 in
-      implies_at (can again_machine 1 cs q && not (bit_at cs 1)) (v c.leave) (and_right (implies (can again_machine 6 cs q && not (bit_at cs 6)) (bit_at cs 4)) _ (and_right (implies (can again_machine 0 cs q && not (bit_at cs 0)) (not (bit_at cs 4) && not (bit_at cs 6))) _ t.2)) (both _ _ t.1 (true_not _ low))
+      implies_at (can again_machine 1 cs q && not (bit_at cs 1)) (v c.leave) (and_right (implies (can again_machine 6 cs q && not (bit_at cs 6)) (bit_at cs 4))
+          _ (and_right (implies (can again_machine 0 cs q && not (bit_at cs 0)) (not (bit_at cs 4) && not (bit_at cs 6))) _ t.2))
+          (both _ _ t.1 (true_not _ low))
 
   abbrev others : List ℕ
   others = controls_of c.branches ++ rails_of (guards_of c.branches)
 
   eval_rails : Fresh c.eval (rails_of (guards_of c.branches))
-  eval_rails = fresh_right c.eval (controls_of c.branches) (rails_of (guards_of c.branches)) (fresh_right c.eval (c.any ∷ c.leave ∷ []) others distinct.1.1.1.1.0)
+  eval_rails = fresh_right c.eval (controls_of c.branches) (rails_of (guards_of c.branches))
+      (fresh_right c.eval (c.any ∷ c.leave ∷ []) others distinct.1.1.1.1.0)
 
   ended_after : ended_ok (turned v node c.request) (turned v node c.eval) (turned v node c.leave) (noting c.request c.eval c.branches m node c.eval) ≡ true
   ended_after =
@@ -111,16 +122,20 @@ module _ (c : AgainNodes) (apart : AreApart (again_nodes c)) (m : Moment) (node 
   noted_after : Noted c (after (again_part c) m node)
   noted_after = record {
     old = (after (plain_again c) (plain m h.old) node).noted;
-    reaches = view_kept again_machine (again_frame c) c.branches c.request c.answer c.eval (plain_again c) (plain m h.old) h.reaches.0 node setting (again_is_part c) h.reaches.1 move;
+    reaches = view_kept again_machine (again_frame c) c.branches c.request c.answer c.eval (plain_again c) (plain m h.old) h.reaches.0 node setting
+        (again_is_part c) h.reaches.1 move;
     agree = agree_after c.request c.eval c.branches v h.old m.noted node h.agree;
     ended = ended_after;
-    started = λ y is. started_after again_machine (again_frame c) c.branches c.request c.answer c.eval (plain_again c) v h.old h.reaches.0 node setting (again_is_part c) h.reaches.1 move starts_tried y is m.noted (h.started y is);
+    started = λ y is. started_after again_machine (again_frame c) c.branches c.request c.answer c.eval (plain_again c) v h.old h.reaches.0 node setting
+        (again_is_part c) h.reaches.1 move starts_tried y is m.noted (h.started y is);
   }
 
   abbrev within : Bool
   within = not (v c.eval) && (not (v c.answer) && (guards_neutral v c.branches && branches_idle v c.branches))
 
-  start_by : (y : Place) → IsPlace c.branches y → node ≡ y.this.start → (b : Bool) → v y.this.start ≡ b → may_move (plain m h.old) (rises_under c.request (start_wire c.turn c.answer c.eval c.branches y)) ≡ true → may_move m (rises_under c.request (once (start_wire c.turn c.answer c.eval c.branches y))) ≡ true
+  start_by : (y : Place) → IsPlace c.branches y → node ≡ y.this.start → (b : Bool) → v y.this.start ≡ b →
+      may_move (plain m h.old) (rises_under c.request (start_wire c.turn c.answer c.eval c.branches y)) ≡ true →
+      may_move m (rises_under c.request (once (start_wire c.turn c.answer c.eval c.branches y))) ≡ true
   start_by y is same true high may =
       ap (λ b. if b then v y.this.answer else v c.request && ((v c.turn && (alone_true m.noted y && within)) && not (m.noted y.this.start))) high
       ∙ sym (ap (λ b. if b then v y.this.answer else v c.request && (v c.turn && (alone_true h.old y && within))) high) ∙ may
@@ -129,7 +144,8 @@ module _ (c : AgainNodes) (apart : AreApart (again_nodes c)) (m : Moment) (node 
       let under = and_right (v c.request) _ rises in
       let rest = and_right (v c.turn) _ under in
       let e = not_true (v c.eval) (and_left (not (v c.eval)) _ (and_right (alone_true h.old y) _ rest)) in
-      let latched = start_latched again_machine (again_frame c) c.branches c.request c.answer c.eval (plain_again c) v h.old h.reaches.0 node setting (again_is_part c) h.reaches.1 move starts_tried y is same low in
+      let latched = start_latched again_machine (again_frame c) c.branches c.request c.answer c.eval (plain_again c) v h.old h.reaches.0 node setting
+          (again_is_part c) h.reaches.1 move starts_tried y is same low in
       ap (λ b. if b then v y.this.answer else v c.request && ((v c.turn && (alone_true m.noted y && within)) && not (m.noted y.this.start))) low
       ∙ both _ _ (and_left (v c.request) _ rises)
       (both _ _ (ap (λ k. v c.turn && (k && within)) (sym (alone_agrees c.branches h.old m.noted y is h.agree)) ∙ under)
@@ -146,9 +162,11 @@ module _ (c : AgainNodes) (apart : AreApart (again_nodes c)) (m : Moment) (node 
       let rises = sym (ap (λ b. if b then not (v c.request) && over else v c.request && (guards_false h.old c.branches && over)) low) ∙ may in
       let asked = ended_new (v c.request) (v c.eval) (v c.leave) (m.noted c.eval) h.ended (and_left (v c.request) _ rises) (answers_ended same low) in
       ap (λ b. if b then not (v c.request) && over else v c.request && (m.noted c.eval && (guards_false m.noted c.branches && over))) low
-      ∙ both _ _ (and_left (v c.request) _ rises) (both _ _ asked (ap (λ k. k && over) (sym (all_false_agrees c.branches h.old m.noted h.agree)) ∙ and_right (v c.request) _ rises))
+      ∙ both _ _ (and_left (v c.request) _ rises) (both _ _ asked (ap (λ k. k && over) (sym (all_false_agrees c.branches h.old m.noted h.agree))
+          ∙ and_right (v c.request) _ rises))
 
-promised_once : (c : AgainNodes) → AreApart (again_nodes c) → (m : Moment) → (h : Noted c m) → (o : Owned) → Contains (again_owned c) o → fires m.value o ≡ true → (w : Wire) → Contains (again_part c).promises w → w.node ≡ o.node → may_move m w ≡ true
+promised_once : (c : AgainNodes) → AreApart (again_nodes c) → (m : Moment) → (h : Noted c m) → (o : Owned) → Contains (again_owned c) o →
+    fires m.value o ≡ true → (w : Wire) → Contains (again_part c).promises w → w.node ≡ o.node → may_move m w ≡ true
 promised_once c apart m h o among f w promise e =
     let under = rises_under c.request in
     let evals = eval_wire c.turn c.answer c.eval c.branches in
@@ -158,9 +176,12 @@ promised_once c apart m h o among f w promise e =
     ⊎_elim
     (λ (same : w ≡ again_answer c).
     let at : c.answer ≡ o.node = ap (λ (w : Wire). w.node) (sym same) ∙ e in
-    ap (may_move m) same ∙ answer_by c apart m o.node h move (m.value c.answer) refl (sym at) (kept.promised o among f (plain_answer c) (contains_here (plain_answer c) (map under (evals ∷ starts))) at))
+    ap (may_move m) same ∙ answer_by c apart m o.node h move (m.value c.answer) refl (sym at)
+        (kept.promised o among f (plain_answer c) (contains_here (plain_answer c) (map under (evals ∷ starts))) at))
     (λ more. ⊎_elim
-    (λ (same : w ≡ under evals). ap (may_move m) same ∙ kept.promised o among f (under evals) (contains_next (plain_answer c) (map under (evals ∷ starts)) (under evals) (contains_here (under evals) (map under starts))) (ap (λ (w : Wire). w.node) (sym same) ∙ e))
+    (λ (same : w ≡ under evals). ap (may_move m) same
+        ∙ kept.promised o among f (under evals) (contains_next (plain_answer c) (map under (evals ∷ starts)) (under evals)
+        (contains_here (under evals) (map under starts))) (ap (λ (w : Wire). w.node) (sym same) ∙ e))
     (λ last. let u = map_in under (map once starts) w last in
     let x = map_in once starts u.0 u.1 in
     let r = place_in (start_wire c.turn c.answer c.eval c.branches) [] c.branches x.0 x.1 in
@@ -170,7 +191,8 @@ promised_once c apart m h o among f w promise e =
     let there = subst (λ (w : Wire). Contains starts w) r.2 x.1 in
     ap (may_move m) is
     ∙ start_by c apart m o.node h move r.0 r.1 (sym at) (m.value r.0.this.start) refl
-    (kept.promised o among f (under start) (contains_next (plain_answer c) (map under (evals ∷ starts)) (under start) (contains_next (under evals) (map under starts) (under start) (mapped_among under starts start there))) at))
+    (kept.promised o among f (under start) (contains_next (plain_answer c) (map under (evals ∷ starts)) (under start)
+        (contains_next (under evals) (map under starts) (under start) (mapped_among under starts start there))) at))
     (contains_cons (under evals) (map under (map once starts)) w more))
     (contains_cons (again_answer c) (map under (evals ∷ map once starts)) w promise)
 
@@ -184,10 +206,12 @@ kept_noted c apart m h =
       lows = kept.lows;
       bits = kept.bits;
       waits = λ none. ⊎_elim
-          (λ (w : (w : Wire) × Contains (again_part c).allows w × (may_move (plain m h.old) w ≡ true)). inl (w.0, w.1, same_may c.request c.answer c.eval c.branches m.value h.old m.noted w.0 ((again_is_part c).wires w.0 w.1) ∙ w.2))
+          (λ (w : (w : Wire) × Contains (again_part c).allows w × (may_move (plain m h.old) w ≡ true)). inl (w.0, w.1,
+              same_may c.request c.answer c.eval c.branches m.value h.old m.noted w.0 ((again_is_part c).wires w.0 w.1) ∙ w.2))
           (λ blocked. inr blocked) (kept.waits none);
     }
 
 pub again_keeps : (c : AgainNodes) → 0 < length c.branches → AreApart (again_nodes c) → Keeps (again_part c)
 again_keeps c some apart =
-    kept_by (again_part c) (Noted c) (first_noted c apart some) (λ m node h move. noted_after c apart m node h (plain_move c m h.old node move)) (kept_noted c apart)
+    kept_by (again_part c) (Noted c) (first_noted c apart some) (λ m node h move. noted_after c apart m node h (plain_move c m h.old node move))
+        (kept_noted c apart)

@@ -28,7 +28,8 @@ pub record LatchesSoFar (request : ℕ) (nodes : List ℕ) (hs : List Pair) (i :
   pub count : length now.up ≡ length old.up
   pub others : (other : ℕ) → All (λ n. n ≢ other) nodes → IsAlone old now other
   pub partly : IsPartly (owned_at nodes (latches request hs)) old now
-  pub among : (o : Owned) → Contains (owned_at (drop i nodes) (latches_behind request (take i hs) (drop i hs))) o → Contains (owned_at nodes (latches request hs)) o
+  pub among : (o : Owned) → Contains (owned_at (drop i nodes) (latches_behind request (take i hs) (drop i hs))) o →
+      Contains (owned_at nodes (latches request hs)) o
 
 pub latches_begin : (request : ℕ) (nodes : List ℕ) (hs : List Pair) (old : RulesValue) → LatchesSoFar request nodes hs 0 old old
 latches_begin request nodes hs old = record {
@@ -64,61 +65,92 @@ dropped xs i d lt =
     drop-cons xs i d lt ∙ ap (λ k. slice_index_or xs i d ∷ drop k xs) e
 
 -- the latches from one on are that one and those behind it
-latches_list : (request : ℕ) (nodes : List ℕ) (hs : List Pair) (i : ℕ) (h : Pair) → i < length nodes → i < length hs → slice_index_or hs i no_pair ≡ h → owned_at (drop i nodes) (latches_behind request (take i hs) (drop i hs)) ≡ owned (slice_index_or nodes i 0) (latch_of request (all_false (take i hs) ++ is_high h.t ∷ all_false (drop (i + 1) hs))) ∷ owned_at (drop (i + 1) nodes) (latches_behind request (take (i + 1) hs) (drop (i + 1) hs))
+latches_list : (request : ℕ) (nodes : List ℕ) (hs : List Pair) (i : ℕ) (h : Pair) → i < length nodes → i < length hs → slice_index_or hs i no_pair ≡ h →
+    owned_at (drop i nodes) (latches_behind request (take i hs) (drop i hs)) ≡
+    owned (slice_index_or nodes i 0) (latch_of request (all_false (take i hs) ++ is_high h.t ∷ all_false (drop (i + 1) hs)))
+    ∷ owned_at (drop (i + 1) nodes) (latches_behind request (take (i + 1) hs) (drop (i + 1) hs))
 latches_list request nodes hs i h ln lh at =
     let was : drop i hs ≡ h ∷ drop (i + 1) hs = dropped hs i no_pair lh ∙ ap (λ (x : Pair). x ∷ drop (i + 1) hs) at in
     let more : take (i + 1) hs ≡ take i hs ++ h ∷ [] = take_more hs i no_pair lh ∙ ap (λ (x : Pair). take i hs ++ x ∷ []) at in
     ap (λ ns. owned_at ns (latches_behind request (take i hs) (drop i hs))) (dropped nodes i 0 ln)
     ∙ ap (λ xs. owned_at (slice_index_or nodes i 0 ∷ drop (i + 1) nodes) (latches_behind request (take i hs) xs)) was
-    ∙ ap (λ xs. owned (slice_index_or nodes i 0) (latch_of request (all_false (take i hs) ++ is_high h.t ∷ all_false (drop (i + 1) hs))) ∷ owned_at (drop (i + 1) nodes) (latches_behind request xs (drop (i + 1) hs))) (sym more)
+    ∙ ap (λ xs. owned (slice_index_or nodes i 0) (latch_of request (all_false (take i hs) ++ is_high h.t ∷ all_false (drop (i + 1) hs)))
+        ∷ owned_at (drop (i + 1) nodes) (latches_behind request xs (drop (i + 1) hs))) (sym more)
 
-latches_next : (request : ℕ) (nodes : List ℕ) (hs : List Pair) (i : ℕ) (h : Pair) → i < length nodes → i < length hs → slice_index_or hs i no_pair ≡ h → (now : RulesValue) → with_owned (owned_at (drop (i + 1) nodes) (latches_behind request (take (i + 1) hs) (drop (i + 1) hs))) (with_rules (slice_index_or nodes i 0) (latch_of request (all_false (take i hs) ++ is_high h.t ∷ all_false (drop (i + 1) hs))) now) ≡ with_owned (owned_at (drop i nodes) (latches_behind request (take i hs) (drop i hs))) now
+latches_next : (request : ℕ) (nodes : List ℕ) (hs : List Pair) (i : ℕ) (h : Pair) → i < length nodes → i < length hs → slice_index_or hs i no_pair ≡ h →
+    (now : RulesValue) → with_owned (owned_at (drop (i + 1) nodes) (latches_behind request (take (i + 1) hs) (drop (i + 1) hs)))
+    (with_rules (slice_index_or nodes i 0) (latch_of request (all_false (take i hs) ++ is_high h.t ∷ all_false (drop (i + 1) hs))) now) ≡
+    with_owned (owned_at (drop i nodes) (latches_behind request (take i hs) (drop i hs))) now
 latches_next request nodes hs i h ln lh at now = sym (ap (λ os. with_owned os now) (latches_list request nodes hs i h ln lh at))
 
-pub latches_step : (request : ℕ) (nodes rails : List ℕ) (i : ℕ) (old now new : RulesValue) (up down : GuardValue) → length rails ≡ 2 * length nodes → i < length nodes → LatchesSoFar request nodes (pairs_of rails) i old now → up ≡ one_term (all_false (take i (pairs_of rails)) ++ is_high (slice_index_or rails (2 * i) 0) ∷ all_false (drop (i + 1) (pairs_of rails))) → down ≡ one_term (is_low request ∷ []) → new ≡ with_rules (slice_index_or nodes i 0) (record { up = up; down = down }) now → length new.up ≡ length now.up → ((other : ℕ) → other ≢ slice_index_or nodes i 0 → IsAlone now new other) → LatchesSoFar request nodes (pairs_of rails) (i + 1) old new
+pub latches_step : (request : ℕ) (nodes rails : List ℕ) (i : ℕ) (old now new : RulesValue) (up down : GuardValue) → length rails ≡ 2 * length nodes →
+    i < length nodes → LatchesSoFar request nodes (pairs_of rails) i old now →
+    up ≡ one_term (all_false (take i (pairs_of rails)) ++ is_high (slice_index_or rails (2 * i) 0) ∷ all_false (drop (i + 1) (pairs_of rails))) →
+    down ≡ one_term (is_low request ∷ []) → new ≡ with_rules (slice_index_or nodes i 0) (record { up = up; down = down }) now → length new.up ≡ length now.up →
+    ((other : ℕ) → other ≢ slice_index_or nodes i 0 → IsAlone now new other) → LatchesSoFar request nodes (pairs_of rails) (i + 1) old new
 latches_step request nodes rails i old now new up down even lt before ups downs made count others =
     let hs = pairs_of rails in
     let same : length hs ≡ length nodes = pairs_length (length nodes) rails even in
-    let wrote : new ≡ with_rules (slice_index_or nodes i 0) (latch_of request (all_false (take i hs) ++ is_high (slice_index_or rails (2 * i) 0) ∷ all_false (drop (i + 1) hs))) now = made ∙ ap (λ (g : GuardValue). with_rules (slice_index_or nodes i 0) (record { up = g; down = down }) now) ups ∙ ap (λ (g : GuardValue). with_rules (slice_index_or nodes i 0) (record { up = one_term (all_false (take i hs) ++ is_high (slice_index_or rails (2 * i) 0) ∷ all_false (drop (i + 1) hs)); down = g }) now) downs in
+    let wrote : new ≡ with_rules (slice_index_or nodes i 0) (latch_of request (all_false (take i hs) ++ is_high (slice_index_or rails (2 * i) 0)
+        ∷ all_false (drop (i + 1) hs))) now = made ∙ ap (λ (g : GuardValue). with_rules (slice_index_or nodes i 0) (record { up = g; down = down }) now) ups
+        ∙ ap (λ (g : GuardValue). with_rules (slice_index_or nodes i 0)
+        (record { up = one_term (all_false (take i hs) ++ is_high (slice_index_or rails (2 * i) 0) ∷ all_false (drop (i + 1) hs)); down = g }) now) downs in
     let all : List Owned = owned_at nodes (latches request hs) in
-    let this : Owned = owned (slice_index_or nodes i 0) (latch_of request (all_false (take i hs) ++ is_high (slice_index_or rails (2 * i) 0) ∷ all_false (drop (i + 1) hs))) in
+    let this : Owned = owned (slice_index_or nodes i 0) (latch_of request (all_false (take i hs) ++ is_high (slice_index_or rails (2 * i) 0)
+        ∷ all_false (drop (i + 1) hs))) in
     let left : List Owned = owned_at (drop (i + 1) nodes) (latches_behind request (take (i + 1) hs) (drop (i + 1) hs)) in
-    let list : owned_at (drop i nodes) (latches_behind request (take i hs) (drop i hs)) ≡ this ∷ left = latches_list request nodes hs i (pair_in rails i) lt (omega (arith, same, lt)) (pair_is (length nodes) rails i no_pair even lt) in
+    let list : owned_at (drop i nodes) (latches_behind request (take i hs) (drop i hs)) ≡ this ∷ left =
+        latches_list request nodes hs i (pair_in rails i) lt (omega (arith, same, lt)) (pair_is (length nodes) rails i no_pair even lt) in
     record {
-      rest = ap (λ r. with_owned (owned_at (drop (i + 1) nodes) (latches_behind request (take (i + 1) hs) (drop (i + 1) hs))) r) wrote ∙ latches_next request nodes hs i (pair_in rails i) lt (omega (arith, same, lt)) (pair_is (length nodes) rails i no_pair even lt) now ∙ before.rest;
+      rest = ap (λ r. with_owned (owned_at (drop (i + 1) nodes) (latches_behind request (take (i + 1) hs) (drop (i + 1) hs))) r) wrote
+          ∙ latches_next request nodes hs i (pair_in rails i) lt (omega (arith, same, lt)) (pair_is (length nodes) rails i no_pair even lt) now ∙ before.rest;
       count = count ∙ before.count;
       others = λ other h. alone_then old now new other (before.others other h) (others other (λ e. h i 0 lt (sym e)));
       partly =
           partly_on all old now new before.partly
-          (partly_of (this ∷ []) all now new (λ o k. before.among o (subst (λ l. Contains l o) (sym list) (Contains-append_left (this ∷ []) left o k))) (partly_all (this ∷ []) now new wrote));
+          (partly_of (this ∷ []) all now new (λ o k. before.among o (subst (λ l. Contains l o) (sym list) (Contains-append_left (this ∷ []) left o k)))
+              (partly_all (this ∷ []) now new wrote));
       among = λ o k. before.among o (subst (λ l. Contains l o) (sym list) (Contains-append_right (this ∷ []) left o k));
     }
 
-starts_list : (nodes latched : List ℕ) (hs : List Pair) (i : ℕ) → i < length nodes → i < length latched → owned_at (drop i nodes) (starts (drop i latched) hs) ≡ owned (slice_index_or nodes i 0) (started (slice_index_or latched i 0) hs) ∷ owned_at (drop (i + 1) nodes) (starts (drop (i + 1) latched) hs)
+starts_list : (nodes latched : List ℕ) (hs : List Pair) (i : ℕ) → i < length nodes → i < length latched →
+    owned_at (drop i nodes) (starts (drop i latched) hs) ≡ owned (slice_index_or nodes i 0) (started (slice_index_or latched i 0) hs)
+    ∷ owned_at (drop (i + 1) nodes) (starts (drop (i + 1) latched) hs)
 starts_list nodes latched hs i ln ll =
     ap (λ ns. owned_at ns (starts (drop i latched) hs)) (dropped nodes i 0 ln)
     ∙ ap (λ ls. owned_at (slice_index_or nodes i 0 ∷ drop (i + 1) nodes) (starts ls hs)) (dropped latched i 0 ll)
 
-starts_next : (nodes latched : List ℕ) (hs : List Pair) (i : ℕ) → i < length nodes → i < length latched → (now : RulesValue) → with_owned (owned_at (drop (i + 1) nodes) (starts (drop (i + 1) latched) hs)) (with_rules (slice_index_or nodes i 0) (started (slice_index_or latched i 0) hs) now) ≡ with_owned (owned_at (drop i nodes) (starts (drop i latched) hs)) now
+starts_next : (nodes latched : List ℕ) (hs : List Pair) (i : ℕ) → i < length nodes → i < length latched → (now : RulesValue) →
+    with_owned (owned_at (drop (i + 1) nodes) (starts (drop (i + 1) latched) hs))
+    (with_rules (slice_index_or nodes i 0) (started (slice_index_or latched i 0) hs) now) ≡ with_owned (owned_at (drop i nodes) (starts (drop i latched) hs))
+    now
 starts_next nodes latched hs i ln ll now = sym (ap (λ os. with_owned os now) (starts_list nodes latched hs i ln ll))
 
-pub starts_step : (nodes latched rails : List ℕ) (i : ℕ) (old now new : RulesValue) (up down : GuardValue) → length rails ≡ 2 * length latched → length nodes ≡ length latched → i < length nodes → StartsSoFar nodes latched (pairs_of rails) i old now → up ≡ one_term (is_high (slice_index_or latched i 0) ∷ lows rails) → down ≡ one_term (is_low (slice_index_or latched i 0) ∷ []) → new ≡ with_rules (slice_index_or nodes i 0) (record { up = up; down = down }) now → length new.up ≡ length now.up → ((other : ℕ) → other ≢ slice_index_or nodes i 0 → IsAlone now new other) → StartsSoFar nodes latched (pairs_of rails) (i + 1) old new
+pub starts_step : (nodes latched rails : List ℕ) (i : ℕ) (old now new : RulesValue) (up down : GuardValue) → length rails ≡ 2 * length latched →
+    length nodes ≡ length latched → i < length nodes → StartsSoFar nodes latched (pairs_of rails) i old now →
+    up ≡ one_term (is_high (slice_index_or latched i 0) ∷ lows rails) → down ≡ one_term (is_low (slice_index_or latched i 0) ∷ []) →
+    new ≡ with_rules (slice_index_or nodes i 0) (record { up = up; down = down }) now → length new.up ≡ length now.up →
+    ((other : ℕ) → other ≢ slice_index_or nodes i 0 → IsAlone now new other) → StartsSoFar nodes latched (pairs_of rails) (i + 1) old new
 starts_step nodes latched rails i old now new up down even same lt before ups downs made count others =
     let hs = pairs_of rails in
     let again : rails_of hs ≡ rails = rails_again (length latched) rails even in
     let wanted : up ≡ (started (slice_index_or latched i 0) hs).up = ups ∙ ap (λ ns. one_term (is_high (slice_index_or latched i 0) ∷ lows ns)) (sym again) in
-    let wrote : new ≡ with_rules (slice_index_or nodes i 0) (started (slice_index_or latched i 0) hs) now = made ∙ ap (λ (g : GuardValue). with_rules (slice_index_or nodes i 0) (record { up = g; down = down }) now) wanted ∙ ap (λ (g : GuardValue). with_rules (slice_index_or nodes i 0) (record { up = (started (slice_index_or latched i 0) hs).up; down = g }) now) downs in
+    let wrote : new ≡ with_rules (slice_index_or nodes i 0) (started (slice_index_or latched i 0) hs) now =
+        made ∙ ap (λ (g : GuardValue). with_rules (slice_index_or nodes i 0) (record { up = g; down = down }) now) wanted
+        ∙ ap (λ (g : GuardValue). with_rules (slice_index_or nodes i 0) (record { up = (started (slice_index_or latched i 0) hs).up; down = g }) now) downs in
     let all : List Owned = owned_at nodes (starts latched hs) in
     let this : Owned = owned (slice_index_or nodes i 0) (started (slice_index_or latched i 0) hs) in
     let left : List Owned = owned_at (drop (i + 1) nodes) (starts (drop (i + 1) latched) hs) in
     let list : owned_at (drop i nodes) (starts (drop i latched) hs) ≡ this ∷ left = starts_list nodes latched hs i lt (omega (arith, same, lt)) in
     record {
-      rest = ap (λ r. with_owned (owned_at (drop (i + 1) nodes) (starts (drop (i + 1) latched) hs)) r) wrote ∙ starts_next nodes latched hs i lt (omega (arith, same, lt)) now ∙ before.rest;
+      rest = ap (λ r. with_owned (owned_at (drop (i + 1) nodes) (starts (drop (i + 1) latched) hs)) r) wrote
+          ∙ starts_next nodes latched hs i lt (omega (arith, same, lt)) now ∙ before.rest;
       count = count ∙ before.count;
       others = λ other h. alone_then old now new other (before.others other h) (others other (λ e. h i 0 lt (sym e)));
       partly =
           partly_on all old now new before.partly
-          (partly_of (this ∷ []) all now new (λ o k. before.among o (subst (λ l. Contains l o) (sym list) (Contains-append_left (this ∷ []) left o k))) (partly_all (this ∷ []) now new wrote));
+          (partly_of (this ∷ []) all now new (λ o k. before.among o (subst (λ l. Contains l o) (sym list) (Contains-append_left (this ∷ []) left o k)))
+              (partly_all (this ∷ []) now new wrote));
       among = λ o k. before.among o (subst (λ l. Contains l o) (sym list) (Contains-append_right (this ∷ []) left o k));
     }
 
@@ -163,18 +195,22 @@ starts_length [] hs = refl
 starts_length (l ∷ ls) hs = let rest = starts_length ls hs in omega (arith, rest)
 
 -- the latches and the starts, one after the other
-pub branches_made : (request : ℕ) (ls ss : List ℕ) (hs : List Pair) (a b c : RulesValue) → length hs ≡ length ls → b ≡ with_owned (owned_at ls (latches request hs)) a → c ≡ with_owned (owned_at ss (starts ls hs)) b → c ≡ with_owned (owned_at (ls ++ ss) (latches request hs ++ starts ls hs)) a
+pub branches_made : (request : ℕ) (ls ss : List ℕ) (hs : List Pair) (a b c : RulesValue) → length hs ≡ length ls →
+    b ≡ with_owned (owned_at ls (latches request hs)) a → c ≡ with_owned (owned_at ss (starts ls hs)) b →
+    c ≡ with_owned (owned_at (ls ++ ss) (latches request hs ++ starts ls hs)) a
 branches_made request ls ss hs a b c same first second =
     let count : length ls ≡ length (latches request hs) = sym same ∙ sym (wanted_length [] hs) ∙ sym (latches_length request (only_one_true [] hs)) in
     second ∙ ap (with_owned (owned_at ss (starts ls hs))) first ∙ sym (with_owned_append (owned_at ls (latches request hs)) (owned_at ss (starts ls hs)) a)
     ∙ ap (λ os. with_owned os a) (sym (owned_append ls ss (latches request hs) (starts ls hs) count))
 
 -- which nodes are none of these
-pub nodes_apart : (node : ℕ) (ns : List ℕ) (rs : List NodeRules) → length ns ≡ length rs → All (λ (o : Owned). o.node ≢ node) (owned_at ns rs) → All (λ n. n ≢ node) ns
+pub nodes_apart : (node : ℕ) (ns : List ℕ) (rs : List NodeRules) → length ns ≡ length rs → All (λ (o : Owned). o.node ≢ node) (owned_at ns rs) →
+    All (λ n. n ≢ node) ns
 nodes_apart node [] rs e h = All-nil (λ n. n ≢ node)
 nodes_apart node (n ∷ ns) [] e h = absurd (omega (arith, e))
 nodes_apart node (n ∷ ns) (r ∷ rs) e h =
-    All-cons (λ n. n ≢ node) n ns (All-head (λ (o : Owned). o.node ≢ node) (owned n r) (owned_at ns rs) h) (nodes_apart node ns rs (omega (arith, e)) (All-tail (λ (o : Owned). o.node ≢ node) (owned n r) (owned_at ns rs) h))
+    All-cons (λ n. n ≢ node) n ns (All-head (λ (o : Owned). o.node ≢ node) (owned n r) (owned_at ns rs) h)
+        (nodes_apart node ns rs (omega (arith, e)) (All-tail (λ (o : Owned). o.node ≢ node) (owned n r) (owned_at ns rs) h))
 
 all_left : {X : Type 0} (P : X → Type 0) (xs ys : List X) → All P (xs ++ ys) → All P xs
 all_left P [] ys h = All-nil P
@@ -188,13 +224,16 @@ pub record BranchesApart (node : ℕ) (ls ss : List ℕ) : Type 0 where
   pub latches : All (λ n. n ≢ node) ls
   pub started : All (λ n. n ≢ node) ss
 
-branches_apart : (node request : ℕ) (ls ss : List ℕ) (hs : List Pair) → length hs ≡ length ls → length ss ≡ length ls → All (λ (o : Owned). o.node ≢ node) (owned_at (ls ++ ss) (latches request hs ++ starts ls hs)) → BranchesApart node ls ss
+branches_apart : (node request : ℕ) (ls ss : List ℕ) (hs : List Pair) → length hs ≡ length ls → length ss ≡ length ls →
+    All (λ (o : Owned). o.node ≢ node) (owned_at (ls ++ ss) (latches request hs ++ starts ls hs)) → BranchesApart node ls ss
 branches_apart node request ls ss hs same started h =
     let count : length ls ≡ length (latches request hs) = sym same ∙ sym (wanted_length [] hs) ∙ sym (latches_length request (only_one_true [] hs)) in
     let both = subst (All (λ (o : Owned). o.node ≢ node)) (owned_append ls ss (latches request hs) (starts ls hs) count) h in
     record {
-      latches = nodes_apart node ls (latches request hs) count (all_left (λ (o : Owned). o.node ≢ node) (owned_at ls (latches request hs)) (owned_at ss (starts ls hs)) both);
-      started = nodes_apart node ss (starts ls hs) (started ∙ sym (starts_length ls hs)) (all_right (λ (o : Owned). o.node ≢ node) (owned_at ls (latches request hs)) (owned_at ss (starts ls hs)) both);
+      latches = nodes_apart node ls (latches request hs) count
+          (all_left (λ (o : Owned). o.node ≢ node) (owned_at ls (latches request hs)) (owned_at ss (starts ls hs)) both);
+      started = nodes_apart node ss (starts ls hs) (started ∙ sym (starts_length ls hs))
+          (all_right (λ (o : Owned). o.node ≢ node) (owned_at ls (latches request hs)) (owned_at ss (starts ls hs)) both);
     }
 
 abbrev select_first : (request answer eval any : ℕ) → (ls ans : List ℕ) → List Owned
@@ -204,18 +243,24 @@ select_first request answer eval any ls ans =
 abbrev select_lists : (request answer eval any : ℕ) → (ls ss ans : List ℕ) → List Pair → List Owned
 select_lists request answer eval any ls ss ans hs = select_first request answer eval any ls ans ++ owned_at (ls ++ ss) (latches request hs ++ starts ls hs)
 
-select_lists_are : (p : SelectPorts) → AreBranches p.latches.items p.starts.items p.answers.items p.guard_rails.items → select_owned (select_of p) ≡ select_lists p.request p.answer p.eval p.any p.latches.items p.starts.items p.answers.items (pairs_of p.guard_rails.items)
+select_lists_are : (p : SelectPorts) → AreBranches p.latches.items p.starts.items p.answers.items p.guard_rails.items →
+    select_owned (select_of p) ≡ select_lists p.request p.answer p.eval p.any p.latches.items p.starts.items p.answers.items (pairs_of p.guard_rails.items)
 select_lists_are p are =
     let hs = pairs_of p.guard_rails.items in
-    let lists = branch_lists p.latches.items p.starts.items p.answers.items hs are.started are.answered (pairs_length (length p.latches.items) p.guard_rails.items are.railed) in
+    let lists = branch_lists p.latches.items p.starts.items p.answers.items hs are.started are.answered
+        (pairs_length (length p.latches.items) p.guard_rails.items are.railed) in
     rw (lists.latches, lists.started, lists.answered, lists.guards) refl
 
-pub select_made : (p : SelectPorts) (a b c d e f : RulesValue) → AreBranches p.latches.items p.starts.items p.answers.items p.guard_rails.items → b ≡ with_rules p.answer (joined_answer p.any p.answers.items) a → c ≡ with_rules p.eval (evaluation p.request p.any) b → d ≡ with_rules p.any (or_of p.latches.items) c → e ≡ with_owned (owned_at p.latches.items (latches p.request (pairs_of p.guard_rails.items))) d → f ≡ with_owned (owned_at p.starts.items (starts p.latches.items (pairs_of p.guard_rails.items))) e → f ≡ with_owned (select_owned (select_of p)) a
+pub select_made : (p : SelectPorts) (a b c d e f : RulesValue) → AreBranches p.latches.items p.starts.items p.answers.items p.guard_rails.items →
+    b ≡ with_rules p.answer (joined_answer p.any p.answers.items) a → c ≡ with_rules p.eval (evaluation p.request p.any) b →
+    d ≡ with_rules p.any (or_of p.latches.items) c → e ≡ with_owned (owned_at p.latches.items (latches p.request (pairs_of p.guard_rails.items))) d →
+    f ≡ with_owned (owned_at p.starts.items (starts p.latches.items (pairs_of p.guard_rails.items))) e → f ≡ with_owned (select_owned (select_of p)) a
 select_made p a b c d e f are first second third fourth fifth =
     let hs = pairs_of p.guard_rails.items in
     let same : length hs ≡ length p.latches.items = pairs_length (length p.latches.items) p.guard_rails.items are.railed in
     branches_made p.request p.latches.items p.starts.items hs d e f same fourth fifth
-    ∙ ap (with_owned (owned_at (p.latches.items ++ p.starts.items) (latches p.request hs ++ starts p.latches.items hs))) (third ∙ ap (with_rules p.any (or_of p.latches.items)) (second ∙ ap (with_rules p.eval (evaluation p.request p.any)) first))
+    ∙ ap (with_owned (owned_at (p.latches.items ++ p.starts.items) (latches p.request hs ++ starts p.latches.items hs))) (third
+        ∙ ap (with_rules p.any (or_of p.latches.items)) (second ∙ ap (with_rules p.eval (evaluation p.request p.any)) first))
     ∙ ap (λ os. with_owned os a) (sym (select_lists_are p are))
 
 pub record SelectApart (node : ℕ) (p : SelectPorts) : Type 0 where
@@ -224,7 +269,8 @@ pub record SelectApart (node : ℕ) (p : SelectPorts) : Type 0 where
   pub any : node ≢ p.any
   pub branches : BranchesApart node p.latches.items p.starts.items
 
-pub select_apart : (node : ℕ) (p : SelectPorts) → AreBranches p.latches.items p.starts.items p.answers.items p.guard_rails.items → All (λ (o : Owned). o.node ≢ node) (select_owned (select_of p)) → SelectApart node p
+pub select_apart : (node : ℕ) (p : SelectPorts) → AreBranches p.latches.items p.starts.items p.answers.items p.guard_rails.items →
+    All (λ (o : Owned). o.node ≢ node) (select_owned (select_of p)) → SelectApart node p
 select_apart node p are h =
     let hs = pairs_of p.guard_rails.items in
     let same : length hs ≡ length p.latches.items = pairs_length (length p.latches.items) p.guard_rails.items are.railed in
@@ -233,32 +279,41 @@ select_apart node p are h =
       answer = λ e. whole 0 (owned 0 (record { up = []; down = [] })) (omega arith) (sym e);
       eval = λ e. whole 1 (owned 0 (record { up = []; down = [] })) (omega arith) (sym e);
       any = λ e. whole 2 (owned 0 (record { up = []; down = [] })) (omega arith) (sym e);
-      branches = branches_apart node p.request p.latches.items p.starts.items hs same are.started (all_right (λ (o : Owned). o.node ≢ node) (select_first p.request p.answer p.eval p.any p.latches.items p.answers.items) (owned_at (p.latches.items ++ p.starts.items) (latches p.request hs ++ starts p.latches.items hs)) whole);
+      branches = branches_apart node p.request p.latches.items p.starts.items hs same are.started
+          (all_right (λ (o : Owned). o.node ≢ node) (select_first p.request p.answer p.eval p.any p.latches.items p.answers.items)
+          (owned_at (p.latches.items ++ p.starts.items) (latches p.request hs ++ starts p.latches.items hs)) whole);
     }
 
 abbrev again_six : AgainPorts → List Pair → List Owned
 again_six p hs =
     let ls = p.latches.items in
-    owned p.answer (leave_answer p.leave p.any hs) ∷ owned p.loop_request (turn_request p.request p.joined) ∷ owned p.joined (joined_answer p.any p.answers.items)
+    owned p.answer (leave_answer p.leave p.any hs) ∷ owned p.loop_request (turn_request p.request p.joined)
+        ∷ owned p.joined (joined_answer p.any p.answers.items)
     ∷ owned p.eval (evaluation p.loop_request p.any) ∷ owned p.any (or_of (p.leave ∷ ls)) ∷ owned p.leave (leave_latch p.loop_request hs) ∷ []
 
 abbrev again_lists : AgainPorts → List Pair → List Owned
 again_lists p hs = again_six p hs ++ owned_at (p.latches.items ++ p.starts.items) (latches p.loop_request hs ++ starts p.latches.items hs)
 
-again_lists_are : (p : AgainPorts) → AreBranches p.latches.items p.starts.items p.answers.items p.guard_rails.items → again_owned (again_of p) ≡ again_lists p (pairs_of p.guard_rails.items)
+again_lists_are : (p : AgainPorts) → AreBranches p.latches.items p.starts.items p.answers.items p.guard_rails.items →
+    again_owned (again_of p) ≡ again_lists p (pairs_of p.guard_rails.items)
 again_lists_are p are =
     let hs = pairs_of p.guard_rails.items in
-    let lists = branch_lists p.latches.items p.starts.items p.answers.items hs are.started are.answered (pairs_length (length p.latches.items) p.guard_rails.items are.railed) in
+    let lists = branch_lists p.latches.items p.starts.items p.answers.items hs are.started are.answered
+        (pairs_length (length p.latches.items) p.guard_rails.items are.railed) in
     rw (lists.latches, lists.started, lists.answered, lists.guards) refl
 
 -- what the first six calls make
 abbrev pub again_first : AgainPorts → RulesValue → RulesValue
 again_first p a =
     let hs = pairs_of p.guard_rails.items in
-    with_rules p.leave (leave_latch p.loop_request hs) (with_rules p.any (or_of (p.leave ∷ p.latches.items)) (with_rules p.eval (evaluation p.loop_request p.any)
-    (with_rules p.joined (joined_answer p.any p.answers.items) (with_rules p.loop_request (turn_request p.request p.joined) (with_rules p.answer (leave_answer p.leave p.any hs) a)))))
+    with_rules p.leave (leave_latch p.loop_request hs)
+        (with_rules p.any (or_of (p.leave ∷ p.latches.items)) (with_rules p.eval (evaluation p.loop_request p.any)
+    (with_rules p.joined (joined_answer p.any p.answers.items)
+        (with_rules p.loop_request (turn_request p.request p.joined) (with_rules p.answer (leave_answer p.leave p.any hs) a)))))
 
-pub again_made : (p : AgainPorts) (a g h i : RulesValue) → AreBranches p.latches.items p.starts.items p.answers.items p.guard_rails.items → g ≡ again_first p a → h ≡ with_owned (owned_at p.latches.items (latches p.loop_request (pairs_of p.guard_rails.items))) g → i ≡ with_owned (owned_at p.starts.items (starts p.latches.items (pairs_of p.guard_rails.items))) h → i ≡ with_owned (again_owned (again_of p)) a
+pub again_made : (p : AgainPorts) (a g h i : RulesValue) → AreBranches p.latches.items p.starts.items p.answers.items p.guard_rails.items →
+    g ≡ again_first p a → h ≡ with_owned (owned_at p.latches.items (latches p.loop_request (pairs_of p.guard_rails.items))) g →
+    i ≡ with_owned (owned_at p.starts.items (starts p.latches.items (pairs_of p.guard_rails.items))) h → i ≡ with_owned (again_owned (again_of p)) a
 again_made p a g h i are first second third =
     let hs = pairs_of p.guard_rails.items in
     let same : length hs ≡ length p.latches.items = pairs_length (length p.latches.items) p.guard_rails.items are.railed in
@@ -275,7 +330,8 @@ pub record AgainApart (node : ℕ) (p : AgainPorts) : Type 0 where
   pub leave : node ≢ p.leave
   pub branches : BranchesApart node p.latches.items p.starts.items
 
-pub again_apart : (node : ℕ) (p : AgainPorts) → AreBranches p.latches.items p.starts.items p.answers.items p.guard_rails.items → All (λ (o : Owned). o.node ≢ node) (again_owned (again_of p)) → AgainApart node p
+pub again_apart : (node : ℕ) (p : AgainPorts) → AreBranches p.latches.items p.starts.items p.answers.items p.guard_rails.items →
+    All (λ (o : Owned). o.node ≢ node) (again_owned (again_of p)) → AgainApart node p
 again_apart node p are h =
     let hs = pairs_of p.guard_rails.items in
     let same : length hs ≡ length p.latches.items = pairs_length (length p.latches.items) p.guard_rails.items are.railed in
@@ -289,11 +345,13 @@ again_apart node p are h =
       eval = λ e. whole 3 none (omega arith) (sym e);
       any = λ e. whole 4 none (omega arith) (sym e);
       leave = λ e. whole 5 none (omega arith) (sym e);
-      branches = branches_apart node p.loop_request p.latches.items p.starts.items hs same are.started (all_right P (again_six p hs) (owned_at (p.latches.items ++ p.starts.items) (latches p.loop_request hs ++ starts p.latches.items hs)) whole);
+      branches = branches_apart node p.loop_request p.latches.items p.starts.items hs same are.started
+          (all_right P (again_six p hs) (owned_at (p.latches.items ++ p.starts.items) (latches p.loop_request hs ++ starts p.latches.items hs)) whole);
     }
 
 -- which nodes are own
-branches_among : (request : ℕ) (ls ss : List ℕ) (hs : List Pair) → length hs ≡ length ls → owned_at (ls ++ ss) (latches request hs ++ starts ls hs) ≡ owned_at ls (latches request hs) ++ owned_at ss (starts ls hs)
+branches_among : (request : ℕ) (ls ss : List ℕ) (hs : List Pair) → length hs ≡ length ls →
+    owned_at (ls ++ ss) (latches request hs ++ starts ls hs) ≡ owned_at ls (latches request hs) ++ owned_at ss (starts ls hs)
 branches_among request ls ss hs same =
     let count : length ls ≡ length (latches request hs) = sym same ∙ sym (wanted_length [] hs) ∙ sym (latches_length request (only_one_true [] hs)) in
     owned_append ls ss (latches request hs) (starts ls hs) count
@@ -303,7 +361,8 @@ pub record SelectOwns (p : SelectPorts) : Type 0 where
   pub eval : Contains (select_owned (select_of p)) (owned p.eval (evaluation p.request p.any))
   pub any : Contains (select_owned (select_of p)) (owned p.any (or_of p.latches.items))
   pub latched : (o : Owned) → Contains (owned_at p.latches.items (latches p.request (pairs_of p.guard_rails.items))) o → Contains (select_owned (select_of p)) o
-  pub started : (o : Owned) → Contains (owned_at p.starts.items (starts p.latches.items (pairs_of p.guard_rails.items))) o → Contains (select_owned (select_of p)) o
+  pub started : (o : Owned) → Contains (owned_at p.starts.items (starts p.latches.items (pairs_of p.guard_rails.items))) o →
+      Contains (select_owned (select_of p)) o
 
 pub select_owns : (p : SelectPorts) → AreBranches p.latches.items p.starts.items p.answers.items p.guard_rails.items → SelectOwns p
 select_owns p are =
@@ -312,7 +371,8 @@ select_owns p are =
     let front : List Owned = select_first p.request p.answer p.eval p.any p.latches.items p.answers.items in
     let ls : List Owned = owned_at p.latches.items (latches p.request hs) in
     let ss : List Owned = owned_at p.starts.items (starts p.latches.items hs) in
-    let is : select_owned (select_of p) ≡ front ++ (ls ++ ss) = select_lists_are p are ∙ ap (λ os. front ++ os) (branches_among p.request p.latches.items p.starts.items hs same) in
+    let is : select_owned (select_of p) ≡ front ++ (ls ++ ss) =
+        select_lists_are p are ∙ ap (λ os. front ++ os) (branches_among p.request p.latches.items p.starts.items hs same) in
     let back : (o : Owned) → Contains (front ++ (ls ++ ss)) o → Contains (select_owned (select_of p)) o = λ o k. subst (λ os. Contains os o) (sym is) k in
     record {
       answer = back (owned p.answer (joined_answer p.any p.answers.items)) (0, omega arith, refl);
@@ -329,8 +389,10 @@ pub record AgainOwns (p : AgainPorts) : Type 0 where
   pub eval : Contains (again_owned (again_of p)) (owned p.eval (evaluation p.loop_request p.any))
   pub any : Contains (again_owned (again_of p)) (owned p.any (or_of (p.leave ∷ p.latches.items)))
   pub leave : Contains (again_owned (again_of p)) (owned p.leave (leave_latch p.loop_request (pairs_of p.guard_rails.items)))
-  pub latched : (o : Owned) → Contains (owned_at p.latches.items (latches p.loop_request (pairs_of p.guard_rails.items))) o → Contains (again_owned (again_of p)) o
-  pub started : (o : Owned) → Contains (owned_at p.starts.items (starts p.latches.items (pairs_of p.guard_rails.items))) o → Contains (again_owned (again_of p)) o
+  pub latched : (o : Owned) → Contains (owned_at p.latches.items (latches p.loop_request (pairs_of p.guard_rails.items))) o →
+      Contains (again_owned (again_of p)) o
+  pub started : (o : Owned) → Contains (owned_at p.starts.items (starts p.latches.items (pairs_of p.guard_rails.items))) o →
+      Contains (again_owned (again_of p)) o
 
 pub again_owns : (p : AgainPorts) → AreBranches p.latches.items p.starts.items p.answers.items p.guard_rails.items → AgainOwns p
 again_owns p are =
@@ -339,7 +401,8 @@ again_owns p are =
     let front : List Owned = again_six p hs in
     let ls : List Owned = owned_at p.latches.items (latches p.loop_request hs) in
     let ss : List Owned = owned_at p.starts.items (starts p.latches.items hs) in
-    let is : again_owned (again_of p) ≡ front ++ (ls ++ ss) = again_lists_are p are ∙ ap (λ os. front ++ os) (branches_among p.loop_request p.latches.items p.starts.items hs same) in
+    let is : again_owned (again_of p) ≡ front ++ (ls ++ ss) =
+        again_lists_are p are ∙ ap (λ os. front ++ os) (branches_among p.loop_request p.latches.items p.starts.items hs same) in
     let back : (o : Owned) → Contains (front ++ (ls ++ ss)) o → Contains (again_owned (again_of p)) o = λ o k. subst (λ os. Contains os o) (sym is) k in
     record {
       answer = back (owned p.answer (leave_answer p.leave p.any hs)) (0, omega arith, refl);

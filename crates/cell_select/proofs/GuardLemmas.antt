@@ -17,7 +17,8 @@ term_below count n h = All-cons (Under count) (is_high n) [] h (All-nil (Under c
 pub terms_below : (count : ℕ) (ns : List ℕ) → All (λ n. n < count) ns → IsBelow count (map (λ n. is_high n ∷ []) ns)
 terms_below count [] h = All-nil (λ t. All (Under count) t)
 terms_below count (n ∷ ns) h =
-    All-cons (λ t. All (Under count) t) (is_high n ∷ []) (map (λ n. is_high n ∷ []) ns) (term_below count n (All-head (λ n. n < count) n ns h)) (terms_below count ns (All-tail (λ n. n < count) n ns h))
+    All-cons (λ t. All (Under count) t) (is_high n ∷ []) (map (λ n. is_high n ∷ []) ns) (term_below count n (All-head (λ n. n < count) n ns h))
+        (terms_below count ns (All-tail (λ n. n < count) n ns h))
 
 literals_below : (count : ℕ) (ns : List ℕ) → All (λ n. n < count) ns → All (Under count) (lows ns)
 literals_below count [] h = All-nil (Under count)
@@ -28,7 +29,8 @@ falses_below : (count : ℕ) (hs : List Pair) → All (λ n. n < count) (rails_o
 falses_below count [] h = All-nil (Under count)
 falses_below count (p ∷ hs) h =
     let rest = All-tail (λ n. n < count) p.t (p.f ∷ rails_of hs) h in
-    All-cons (Under count) (is_high p.f) (all_false hs) (All-head (λ n. n < count) p.f (rails_of hs) rest) (falses_below count hs (All-tail (λ n. n < count) p.f (rails_of hs) rest))
+    All-cons (Under count) (is_high p.f) (all_false hs) (All-head (λ n. n < count) p.f (rails_of hs) rest)
+        (falses_below count hs (All-tail (λ n. n < count) p.f (rails_of hs) rest))
 
 one_below : (count : ℕ) (t : List Literal) → All (Under count) t → IsBelow count (t ∷ [])
 one_below count t h = All-cons (λ t. All (Under count) t) t [] h (All-nil (λ t. All (Under count) t))
@@ -43,29 +45,36 @@ some_within count ns g is h = subst (IsBelow count) (sym is) (terms_below count 
 pub lows_within : (count : ℕ) (ns : List ℕ) (g : GuardValue) → g ≡ lows ns ∷ [] → All (λ n. n < count) ns → IsBelow count g
 lows_within count ns g is h = subst (IsBelow count) (sym is) (lows_below count ns h)
 
-pub with_lows_within : (count : ℕ) (first : Literal) (ns : List ℕ) (g : GuardValue) → g ≡ (first ∷ lows ns) ∷ [] → first.node < count → All (λ n. n < count) ns → IsBelow count g
+pub with_lows_within : (count : ℕ) (first : Literal) (ns : List ℕ) (g : GuardValue) → g ≡ (first ∷ lows ns) ∷ [] → first.node < count →
+    All (λ n. n < count) ns → IsBelow count g
 with_lows_within count first ns g is lt h =
     subst (IsBelow count) (sym is) (one_below count (first ∷ lows ns) (All-cons (Under count) first (lows ns) lt (literals_below count ns h)))
 
-pub none_within : (count n : ℕ) (rails : List ℕ) (g : GuardValue) → g ≡ all_false (pairs_of rails) ∷ [] → length rails ≡ 2 * n → All (λ n. n < count) rails → IsBelow count g
+pub none_within : (count n : ℕ) (rails : List ℕ) (g : GuardValue) → g ≡ all_false (pairs_of rails) ∷ [] → length rails ≡ 2 * n → All (λ n. n < count) rails →
+    IsBelow count g
 none_within count n rails g is even h =
-    subst (IsBelow count) (sym is) (one_below count (all_false (pairs_of rails)) (falses_below count (pairs_of rails) (subst (All (λ n. n < count)) (sym (rails_again n rails even)) h)))
+    subst (IsBelow count) (sym is) (one_below count (all_false (pairs_of rails))
+        (falses_below count (pairs_of rails) (subst (All (λ n. n < count)) (sym (rails_again n rails even)) h)))
 
 falses_take : (count k : ℕ) (hs : List Pair) → All (Under count) (all_false hs) → All (Under count) (all_false (take k hs))
 falses_take count zero hs h = All-nil (Under count)
 falses_take count (suc k) [] h = h
 falses_take count (suc k) (p ∷ hs) h =
-    All-cons (Under count) (is_high p.f) (all_false (take k hs)) (All-head (Under count) (is_high p.f) (all_false hs) h) (falses_take count k hs (All-tail (Under count) (is_high p.f) (all_false hs) h))
+    All-cons (Under count) (is_high p.f) (all_false (take k hs)) (All-head (Under count) (is_high p.f) (all_false hs) h)
+        (falses_take count k hs (All-tail (Under count) (is_high p.f) (all_false hs) h))
 
 falses_drop : (count k : ℕ) (hs : List Pair) → All (Under count) (all_false hs) → All (Under count) (all_false (drop k hs))
 falses_drop count zero hs h = h
 falses_drop count (suc k) [] h = h
 falses_drop count (suc k) (p ∷ hs) h = falses_drop count k hs (All-tail (Under count) (is_high p.f) (all_false hs) h)
 
-pub only_within : (count n k : ℕ) (rails : List ℕ) (g : GuardValue) → g ≡ (all_false (take k (pairs_of rails)) ++ is_high (slice_index_or rails (2 * k) 0) ∷ all_false (drop (k + 1) (pairs_of rails))) ∷ [] → length rails ≡ 2 * n → k < n → All (λ n. n < count) rails → IsBelow count g
+pub only_within : (count n k : ℕ) (rails : List ℕ) (g : GuardValue) →
+    g ≡ (all_false (take k (pairs_of rails)) ++ is_high (slice_index_or rails (2 * k) 0) ∷ all_false (drop (k + 1) (pairs_of rails))) ∷ [] →
+    length rails ≡ 2 * n → k < n → All (λ n. n < count) rails → IsBelow count g
 only_within count n k rails g is even lt h =
     let falses = falses_below count (pairs_of rails) (subst (All (λ n. n < count)) (sym (rails_again n rails even)) h) in
-    subst (IsBelow count) (sym is) (one_below count _ (All-append (Under count) (all_false (take k (pairs_of rails))) _ (falses_take count k (pairs_of rails) falses)
+    subst (IsBelow count) (sym is) (one_below count _
+        (All-append (Under count) (all_false (take k (pairs_of rails))) _ (falses_take count k (pairs_of rails) falses)
     (All-cons (Under count) (is_high (slice_index_or rails (2 * k) 0)) _ (h (2 * k) 0 (omega arith)) (falses_drop count (k + 1) (pairs_of rails) falses))))
 
 -- a node whose guards are as they were, twice

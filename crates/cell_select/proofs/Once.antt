@@ -29,25 +29,30 @@ rail_t b (y ∷ ys) (inr a) = or_second (b.guard.t == y.guard.t) _ (or_second (b
 
 rail_f : (b : Branch) (bs : List Branch) → Among b bs → is_rail bs b.guard.f ≡ true
 rail_f b [] a = absurd a
-rail_f b (y ∷ ys) (inl e) = or_second (b.guard.f == y.guard.t) _ (or_first (b.guard.f == y.guard.f) _ (ap (λ (z : Branch). b.guard.f == z.guard.f) (sym e) ∙ same_number b.guard.f))
+rail_f b (y ∷ ys) (inl e) = or_second (b.guard.f == y.guard.t) _ (or_first (b.guard.f == y.guard.f) _ (ap (λ (z : Branch). b.guard.f == z.guard.f) (sym e)
+    ∙ same_number b.guard.f))
 rail_f b (y ∷ ys) (inr a) = or_second (b.guard.f == y.guard.t) _ (or_second (b.guard.f == y.guard.f) _ (rail_f b ys a))
 
 no_rail : (n : ℕ) (bs : List Branch) → Fresh n (rails_of (guards_of bs)) → is_rail bs n ≡ false
 no_rail n [] h = refl
 no_rail n (b ∷ bs) h =
-    ap (λ x. x || (n == b.guard.f || is_rail bs n)) (other_number n b.guard.t h.0) ∙ ap (λ x. x || is_rail bs n) (other_number n b.guard.f h.1.0) ∙ no_rail n bs h.1.1
+    ap (λ x. x || (n == b.guard.f || is_rail bs n)) (other_number n b.guard.t h.0) ∙ ap (λ x. x || is_rail bs n) (other_number n b.guard.f h.1.0)
+        ∙ no_rail n bs h.1.1
 
 -- two notes that are the same on the rails
 pub record Agree (bs : List Branch) (f g : ℕ → Bool) : Type 0 where
   pub trues : (b : Branch) → Among b bs → f b.guard.t ≡ g b.guard.t
   pub falses : (b : Branch) → Among b bs → f b.guard.f ≡ g b.guard.f
 
-noted_rail : (request eval : ℕ) (bs : List Branch) (v n0 n1 : ℕ → Bool) (node rail : ℕ) → is_rail bs rail ≡ true → n0 rail ≡ n1 rail → as_evaluated eval (record { value = v; noted = n0 }) node rail ≡ noting request eval bs (record { value = v; noted = n1 }) node rail
+noted_rail : (request eval : ℕ) (bs : List Branch) (v n0 n1 : ℕ → Bool) (node rail : ℕ) → is_rail bs rail ≡ true → n0 rail ≡ n1 rail →
+    as_evaluated eval (record { value = v; noted = n0 }) node rail ≡ noting request eval bs (record { value = v; noted = n1 }) node rail
 noted_rail request eval bs v n0 n1 node rail is same =
     ap (λ b. if node == eval && v eval then v rail else b) same
-    ∙ ap (λ b. if b then as_evaluated eval (record { value = v; noted = n1 }) node rail else if node == (if rail == eval then request else eval) then false else node == rail || n1 rail) (sym is)
+    ∙ ap (λ b. if b then as_evaluated eval (record { value = v; noted = n1 }) node rail else if node == (if rail == eval then request else eval) then false else
+        node == rail || n1 rail) (sym is)
 
-pub agree_after : (request eval : ℕ) (bs : List Branch) (v n0 n1 : ℕ → Bool) (node : ℕ) → Agree bs n0 n1 → Agree bs (as_evaluated eval (record { value = v; noted = n0 }) node) (noting request eval bs (record { value = v; noted = n1 }) node)
+pub agree_after : (request eval : ℕ) (bs : List Branch) (v n0 n1 : ℕ → Bool) (node : ℕ) → Agree bs n0 n1 →
+    Agree bs (as_evaluated eval (record { value = v; noted = n0 }) node) (noting request eval bs (record { value = v; noted = n1 }) node)
 agree_after request eval bs v n0 n1 node h = record {
   trues = λ b a. noted_rail request eval bs v n0 n1 node b.guard.t (rail_t b bs a) (h.trues b a);
   falses = λ b a. noted_rail request eval bs v n0 n1 node b.guard.f (rail_f b bs a) (h.falses b a);
@@ -65,37 +70,50 @@ pub alone_agrees : (bs : List Branch) (f g : ℕ → Bool) (p : Place) → IsPla
 alone_agrees bs f g p is h =
     let there : (b : Branch) → Among b (p.before ++ p.this ∷ p.behind) → Among b bs = λ b a. subst (Among b) (sym is) a in
     ap (λ x. x && (guards_false f p.before && guards_false f p.behind)) (h.trues p.this (there p.this (among_middle p.this p.before p.behind)))
-    ∙ ap (λ x. g p.this.guard.t && (x && guards_false f p.behind)) (false_agrees f g p.before (λ b a. h.falses b (there b (among_left b p.before (p.this ∷ p.behind) a))))
-    ∙ ap (λ x. g p.this.guard.t && (guards_false g p.before && x)) (false_agrees f g p.behind (λ b a. h.falses b (there b (among_right b p.before (p.this ∷ p.behind) (inr a)))))
+    ∙ ap (λ x. g p.this.guard.t && (x && guards_false f p.behind))
+        (false_agrees f g p.before (λ b a. h.falses b (there b (among_left b p.before (p.this ∷ p.behind) a))))
+    ∙ ap (λ x. g p.this.guard.t && (guards_false g p.before && x))
+        (false_agrees f g p.behind (λ b a. h.falses b (there b (among_right b p.before (p.this ∷ p.behind) (inr a)))))
 
 -- neighbours' wires look at values alone
-pub same_may : (request answer eval : ℕ) (bs : List Branch) (v n0 n1 : ℕ → Bool) (w : Wire) → (w ≡ request_wire request answer) ⊎ IsBranchWire eval bs w → may_move (record { value = v; noted = n1 }) w ≡ may_move (record { value = v; noted = n0 }) w
+pub same_may : (request answer eval : ℕ) (bs : List Branch) (v n0 n1 : ℕ → Bool) (w : Wire) → (w ≡ request_wire request answer) ⊎ IsBranchWire eval bs w →
+    may_move (record { value = v; noted = n1 }) w ≡ may_move (record { value = v; noted = n0 }) w
 same_may request answer eval bs v n0 n1 w is =
-    let at : (u : Wire) → w ≡ u → may_move (record { value = v; noted = n1 }) u ≡ may_move (record { value = v; noted = n0 }) u → may_move (record { value = v; noted = n1 }) w ≡ may_move (record { value = v; noted = n0 }) w =
+    let at : (u : Wire) → w ≡ u → may_move (record { value = v; noted = n1 }) u ≡ may_move (record { value = v; noted = n0 }) u →
+        may_move (record { value = v; noted = n1 }) w ≡ may_move (record { value = v; noted = n0 }) w =
     λ u e same. ap (may_move (record { value = v; noted = n1 })) e ∙ same ∙ ap (may_move (record { value = v; noted = n0 })) (sym e) in
     ⊎_elim (λ e. at (request_wire request answer) e refl)
-    (λ (b : IsBranchWire eval bs w). ⊎_elim (λ e. at (t_wire eval b.0) e refl) (λ more. ⊎_elim (λ e. at (f_wire eval b.0) e refl) (λ e. at (d_wire b.0) e refl) more) b.2)
+    (λ (b : IsBranchWire eval bs w). ⊎_elim (λ e. at (t_wire eval b.0) e refl) (λ more. ⊎_elim (λ e. at (f_wire eval b.0) e refl) (λ e. at (d_wire b.0) e refl)
+        more) b.2)
     is
 
 -- which control a move concerns
 
-fresh_control : (n : ℕ) (b : Branch) (bs : List Branch) (i : ℕ) → i < 3 → Among b bs → Fresh n (controls_of bs) → n ≢ slice_index_or (b.latch ∷ b.start ∷ b.answer ∷ []) i 0
+fresh_control : (n : ℕ) (b : Branch) (bs : List Branch) (i : ℕ) → i < 3 → Among b bs → Fresh n (controls_of bs) →
+    n ≢ slice_index_or (b.latch ∷ b.start ∷ b.answer ∷ []) i 0
 fresh_control n b [] i lt a h = absurd a
-fresh_control n b (x ∷ bs) i lt (inl e) h = subst (λ (y : Branch). n ≢ slice_index_or (y.latch ∷ y.start ∷ y.answer ∷ []) i 0) (sym e) (fresh_place (x.latch ∷ x.start ∷ x.answer ∷ []) n i (omega (arith, lt)) (h.0, (h.1.0, (h.1.1.0, tt))))
+fresh_control n b (x ∷ bs) i lt (inl e) h =
+    subst (λ (y : Branch). n ≢ slice_index_or (y.latch ∷ y.start ∷ y.answer ∷ []) i 0) (sym e)
+    (fresh_place (x.latch ∷ x.start ∷ x.answer ∷ []) n i (omega (arith, lt)) (h.0, (h.1.0, (h.1.1.0, tt))))
 fresh_control n b (x ∷ bs) i lt (inr a) h = fresh_control n b bs i lt a h.1.1.1
 
 -- the node of a control stands among no other branch's
-elsewhere : (M : Machine) (frame : List ℕ) (bs : List Branch) (eval : ℕ) (z : Place) (k node : ℕ) (b : Branch) (i : ℕ) → Setting M frame bs eval → IsPlace bs z → k < M.size → node ≡ slice_index_or (controls frame z) k 0 → Among b (z.before ++ z.behind) → i < 3 → node ≢ slice_index_or (b.latch ∷ b.start ∷ b.answer ∷ []) i 0
+elsewhere : (M : Machine) (frame : List ℕ) (bs : List Branch) (eval : ℕ) (z : Place) (k node : ℕ) (b : Branch) (i : ℕ) → Setting M frame bs eval →
+    IsPlace bs z → k < M.size → node ≡ slice_index_or (controls frame z) k 0 → Among b (z.before ++ z.behind) → i < 3 →
+    node ≢ slice_index_or (b.latch ∷ b.start ∷ b.answer ∷ []) i 0
 elsewhere M frame bs eval z k node b i s is less at a lt =
     let long = controls_length M frame bs eval z s in
     let rails = rails_of (guards_of bs) in
     let others = controls_of z.before ++ (controls_of z.behind ++ rails) in
-    let fresh = subst (λ n. Fresh n others) (sym at) (cross_at (controls frame z) others k (omega (arith, long, less)) (distinct_cross (controls frame z) others (around frame bs z is s.apart))) in
+    let fresh = subst (λ n. Fresh n others) (sym at)
+        (cross_at (controls frame z) others k (omega (arith, long, less)) (distinct_cross (controls frame z) others (around frame bs z is s.apart))) in
     ⊎_elim (λ l. fresh_control node b z.before i lt l (fresh_left node (controls_of z.before) (controls_of z.behind ++ rails) fresh))
-    (λ r. fresh_control node b z.behind i lt r (fresh_left node (controls_of z.behind) rails (fresh_right node (controls_of z.before) (controls_of z.behind ++ rails) fresh)))
+    (λ r. fresh_control node b z.behind i lt r
+        (fresh_left node (controls_of z.behind) rails (fresh_right node (controls_of z.before) (controls_of z.behind ++ rails) fresh)))
     (among_cases b z.before z.behind a)
 
-pub rail_no_control : (M : Machine) (frame : List ℕ) (bs : List Branch) (eval : ℕ) (m : Moment) (z q : Place) (k node : ℕ) → Setting M frame bs eval → IsPlace bs z → k < M.size → AsRail bs eval m node q → node ≢ slice_index_or (controls frame z) k 0
+pub rail_no_control : (M : Machine) (frame : List ℕ) (bs : List Branch) (eval : ℕ) (m : Moment) (z q : Place) (k node : ℕ) → Setting M frame bs eval →
+    IsPlace bs z → k < M.size → AsRail bs eval m node q → node ≢ slice_index_or (controls frame z) k 0
 rail_no_control M frame bs eval m z q k node s is less rail =
     let long = controls_length M frame bs eval z s in
     let off = fresh_left node (controls frame z) (controls_of z.before ++ controls_of z.behind) (rail_off frame bs z q node is rail.is rail.which s.apart) in
@@ -105,7 +123,9 @@ rail_no_control M frame bs eval m z q k node s is less rail =
 abbrev pub SeenAt : Machine → List ℕ → List Branch → Moment → Place → ℕ → Type 0
 SeenAt M frame bs m y k = View M frame bs m y × (can M k (map m.value (controls frame y)) (seen_rails m.value m.noted bs y) ≡ true)
 
-pub seen_at : (M : Machine) (frame : List ℕ) (bs : List Branch) (request answer eval : ℕ) (part : Part) (m : Moment) (p : Place) (node : ℕ) → Setting M frame bs eval → IsPart M frame bs request answer eval part → View M frame bs m p → IsMove part m node → (y : Place) → IsPlace bs y → (i : ℕ) → i < 3 → node ≡ slice_index_or (y.this.latch ∷ y.this.start ∷ y.this.answer ∷ []) i 0 → SeenAt M frame bs m y (M.latch + i)
+pub seen_at : (M : Machine) (frame : List ℕ) (bs : List Branch) (request answer eval : ℕ) (part : Part) (m : Moment) (p : Place) (node : ℕ) →
+    Setting M frame bs eval → IsPart M frame bs request answer eval part → View M frame bs m p → IsMove part m node → (y : Place) → IsPlace bs y → (i : ℕ) →
+    i < 3 → node ≡ slice_index_or (y.this.latch ∷ y.this.start ∷ y.this.answer ∷ []) i 0 → SeenAt M frame bs m y (M.latch + i)
 seen_at M frame bs request answer eval part m p node s part_is view move y is i lt at =
     let size = s.size in
     let less : M.latch + i < M.size = omega (arith, size, lt) in
@@ -123,7 +143,9 @@ seen_at M frame bs request answer eval part m p node s part_is view move y is i 
     seen.3
 
 -- a move of one of the other controls may be seen from some branch
-pub frame_seen : (M : Machine) (frame : List ℕ) (bs : List Branch) (request answer eval : ℕ) (part : Part) (m : Moment) (p : Place) (node : ℕ) → Setting M frame bs eval → IsPart M frame bs request answer eval part → View M frame bs m p → IsMove part m node → (j : ℕ) → j < M.latch → ((z : Place) → node ≡ slice_index_or (controls frame z) j 0) → (z : Place) × (SeenAt M frame bs m z j)
+pub frame_seen : (M : Machine) (frame : List ℕ) (bs : List Branch) (request answer eval : ℕ) (part : Part) (m : Moment) (p : Place) (node : ℕ) →
+    Setting M frame bs eval → IsPart M frame bs request answer eval part → View M frame bs m p → IsMove part m node → (j : ℕ) → j < M.latch →
+    ((z : Place) → node ≡ slice_index_or (controls frame z) j 0) → (z : Place) × (SeenAt M frame bs m z j)
 frame_seen M frame bs request answer eval part m p node s part_is view move j lt at =
     let size = s.size in
     let less : j < M.size = omega (arith, size, lt) in
@@ -139,40 +161,51 @@ frame_seen M frame bs request answer eval part m p node s part_is view move j lt
 abbrev pub tried : Machine → (List Bool → List Bool → Bool) → Bool
 tried M test = all_lists M.size (λ c. when (M.control c) (λ _. all_lists 7 (λ q. when (M.fit c q) (λ _. test c q))))
 
-pub tried_at : (M : Machine) (frame : List ℕ) (bs : List Branch) (eval : ℕ) (m : Moment) (p : Place) (test : List Bool → List Bool → Bool) → Setting M frame bs eval → View M frame bs m p → tried M test ≡ true → test (map m.value (controls frame p)) (seen_rails m.value m.noted bs p) ≡ true
+pub tried_at : (M : Machine) (frame : List ℕ) (bs : List Branch) (eval : ℕ) (m : Moment) (p : Place) (test : List Bool → List Bool → Bool) →
+    Setting M frame bs eval → View M frame bs m p → tried M test ≡ true → test (map m.value (controls frame p)) (seen_rails m.value m.noted bs p) ≡ true
 tried_at M frame bs eval m p test s view h =
     let c = map m.value (controls frame p) in
     let q = seen_rails m.value m.noted bs p in
     when_at (M.fit c q) (λ _. test c q)
-    (all_lists_at 7 (λ q. when (M.fit c q) (λ _. test c q)) (when_at (M.control c) (λ _. all_lists 7 (λ q. when (M.fit c q) (λ _. test c q))) (all_lists_at M.size (λ c. when (M.control c) (λ _. all_lists 7 (λ q. when (M.fit c q) (λ _. test c q)))) h c (values_length M frame bs eval m.value p s)) view.control) q refl)
+    (all_lists_at 7 (λ q. when (M.fit c q) (λ _. test c q)) (when_at (M.control c) (λ _. all_lists 7 (λ q. when (M.fit c q) (λ _. test c q)))
+        (all_lists_at M.size (λ c. when (M.control c) (λ _. all_lists 7 (λ q. when (M.fit c q) (λ _. test c q)))) h c
+        (values_length M frame bs eval m.value p s)) view.control) q refl)
     view.fit
 
 -- nodes that are no rails
 
-pub noted_start : (request eval : ℕ) (bs : List Branch) (m : Moment) (node s : ℕ) → Fresh s (rails_of (guards_of bs)) → s ≢ eval → noting request eval bs m node s ≡ (if node == eval then false else node == s || m.noted s)
+pub noted_start : (request eval : ℕ) (bs : List Branch) (m : Moment) (node s : ℕ) → Fresh s (rails_of (guards_of bs)) → s ≢ eval →
+    noting request eval bs m node s ≡ (if node == eval then false else node == s || m.noted s)
 noted_start request eval bs m node s fresh ne =
-    ap (λ b. if b then as_evaluated eval m node s else if node == (if s == eval then request else eval) then false else node == s || m.noted s) (no_rail s bs fresh)
+    ap (λ b. if b then as_evaluated eval m node s else if node == (if s == eval then request else eval) then false else node == s || m.noted s)
+        (no_rail s bs fresh)
     ∙ ap (λ b. if node == (if b then request else eval) then false else node == s || m.noted s) (other_number s eval ne)
 
-pub noted_eval : (request eval : ℕ) (bs : List Branch) (m : Moment) (node : ℕ) → Fresh eval (rails_of (guards_of bs)) → noting request eval bs m node eval ≡ (if node == request then false else node == eval || m.noted eval)
+pub noted_eval : (request eval : ℕ) (bs : List Branch) (m : Moment) (node : ℕ) → Fresh eval (rails_of (guards_of bs)) →
+    noting request eval bs m node eval ≡ (if node == request then false else node == eval || m.noted eval)
 noted_eval request eval bs m node fresh =
-    ap (λ b. if b then as_evaluated eval m node eval else if node == (if eval == eval then request else eval) then false else node == eval || m.noted eval) (no_rail eval bs fresh)
+    ap (λ b. if b then as_evaluated eval m node eval else if node == (if eval == eval then request else eval) then false else node == eval || m.noted eval)
+        (no_rail eval bs fresh)
     ∙ ap (λ b. if node == (if b then request else eval) then false else node == eval || m.noted eval) (same_number eval)
 
-pub control_fresh : (M : Machine) (frame : List ℕ) (bs : List Branch) (eval : ℕ) (y : Place) (i : ℕ) → Setting M frame bs eval → IsPlace bs y → i < 3 → Fresh (slice_index_or (y.this.latch ∷ y.this.start ∷ y.this.answer ∷ []) i 0) (rails_of (guards_of bs))
+pub control_fresh : (M : Machine) (frame : List ℕ) (bs : List Branch) (eval : ℕ) (y : Place) (i : ℕ) → Setting M frame bs eval → IsPlace bs y → i < 3 →
+    Fresh (slice_index_or (y.this.latch ∷ y.this.start ∷ y.this.answer ∷ []) i 0) (rails_of (guards_of bs))
 control_fresh M frame bs eval y i s is lt =
     let long = controls_length M frame bs eval y s in
     let size = s.size in
     let rails = rails_of (guards_of bs) in
     let others = controls_of y.before ++ (controls_of y.behind ++ rails) in
-    let fresh = cross_at (controls frame y) others (M.latch + i) (omega (arith, long, size, lt)) (distinct_cross (controls frame y) others (around frame bs y is s.apart)) in
+    let fresh = cross_at (controls frame y) others (M.latch + i) (omega (arith, long, size, lt))
+        (distinct_cross (controls frame y) others (around frame bs y is s.apart)) in
     subst (λ n. Fresh n rails) (last_there M frame bs eval y i s)
     (fresh_right _ (controls_of y.behind) rails (fresh_right _ (controls_of y.before) (controls_of y.behind ++ rails) fresh))
 
-pub latch_no_start : (M : Machine) (frame : List ℕ) (bs : List Branch) (eval : ℕ) (y : Place) → Setting M frame bs eval → IsPlace bs y → y.this.latch ≢ y.this.start
+pub latch_no_start : (M : Machine) (frame : List ℕ) (bs : List Branch) (eval : ℕ) (y : Place) → Setting M frame bs eval → IsPlace bs y →
+    y.this.latch ≢ y.this.start
 latch_no_start M frame bs eval y s is e =
     let size = s.size in
-    let same : M.latch + 0 ≡ M.latch + 1 = one_control M frame bs eval y (M.latch + 0) (M.latch + 1) s is (omega (arith, size)) (omega (arith, size)) (last_there M frame bs eval y 0 s ∙ e ∙ sym (last_there M frame bs eval y 1 s)) in
+    let same : M.latch + 0 ≡ M.latch + 1 = one_control M frame bs eval y (M.latch + 0) (M.latch + 1) s is (omega (arith, size)) (omega (arith, size))
+        (last_there M frame bs eval y 0 s ∙ e ∙ sym (last_there M frame bs eval y 1 s)) in
     omega (arith, same)
 
 pub among_place : (bs : List Branch) (y : Place) → IsPlace bs y → Among y.this bs
@@ -218,24 +251,31 @@ apart_by a b h e = true_false (ap (λ k. a == k) (sym e) ∙ same_number a) h
 moved_to : (v : ℕ → Bool) (node k : ℕ) (b : Bool) → node ≡ k → v k ≡ b → turned v node k ≡ not b
 moved_to v node k b same is = ap (turned v node) (sym same) ∙ turned_here v node ∙ ap not (ap v same ∙ is)
 
-module _ (v n1 : ℕ → Bool) (eval l s node : ℕ) (ls : l ≢ s) (latch_fact : node ≡ l → v l ≡ false → v eval ≡ true) (start_fact : node ≡ s → v s ≡ true → v l ≡ false) (holds : start_ok (v eval) (v l) (v s) (n1 s) ≡ true) where
+module _ (v n1 : ℕ → Bool) (eval l s node : ℕ) (ls : l ≢ s) (latch_fact : node ≡ l → v l ≡ false → v eval ≡ true) (start_fact : node ≡ s → v s ≡ true →
+    v l ≡ false) (holds : start_ok (v eval) (v l) (v s) (n1 s) ≡ true) where
   abbrev After : Type 0
   After = start_ok (turned v node eval) (turned v node l) (turned v node s) (if node == eval then false else node == s || n1 s) ≡ true
 
   at_start : (b : Bool) → v s ≡ b → node ≡ s → After
-  at_start false is same = ok_run (turned v node eval) (turned v node l) (turned v node s) (if node == eval then false else node == s || n1 s) (moved_to v node s false same is)
-  at_start true is same = ok_low (turned v node eval) (turned v node l) (turned v node s) (if node == eval then false else node == s || n1 s) (turned_other v node l (λ e. ls (sym e ∙ same)) ∙ start_fact same is)
+  at_start false is same = ok_run (turned v node eval) (turned v node l) (turned v node s) (if node == eval then false else node == s || n1 s)
+      (moved_to v node s false same is)
+  at_start true is same = ok_low (turned v node eval) (turned v node l) (turned v node s) (if node == eval then false else node == s || n1 s)
+      (turned_other v node l (λ e. ls (sym e ∙ same)) ∙ start_fact same is)
 
   at_latch : (b : Bool) → v l ≡ b → node ≡ l → node ≢ eval → After
-  at_latch true is same ne = ok_low (turned v node eval) (turned v node l) (turned v node s) (if node == eval then false else node == s || n1 s) (moved_to v node l true same is)
-  at_latch false is same ne = ok_asked (turned v node eval) (turned v node l) (turned v node s) (if node == eval then false else node == s || n1 s) (turned_other v node eval ne ∙ latch_fact same is)
+  at_latch true is same ne = ok_low (turned v node eval) (turned v node l) (turned v node s) (if node == eval then false else node == s || n1 s)
+      (moved_to v node l true same is)
+  at_latch false is same ne = ok_asked (turned v node eval) (turned v node l) (turned v node s) (if node == eval then false else node == s || n1 s)
+      (turned_other v node eval ne ∙ latch_fact same is)
 
   cases : (x y z : Bool) → (node == eval) ≡ x → (node == s) ≡ y → (node == l) ≡ z → After
-  cases true y z ex ey ez = ok_new (turned v node eval) (turned v node l) (turned v node s) (if node == eval then false else node == s || n1 s) (ap (λ b. if b then false else node == s || n1 s) ex)
+  cases true y z ex ey ez = ok_new (turned v node eval) (turned v node l) (turned v node s) (if node == eval then false else node == s || n1 s)
+      (ap (λ b. if b then false else node == s || n1 s) ex)
   cases false true z ex ey ez = at_start (v s) refl (eqb-true node s ey)
   cases false false true ex ey ez = at_latch (v l) refl (eqb-true node l ez) (apart_by node eval ex)
   cases false false false ex ey ez =
-      ap (λ b. start_ok (turned v node eval) (turned v node l) (turned v node s) b) (ap (λ b. if b then false else node == s || n1 s) ex ∙ ap (λ b. b || n1 s) ey)
+      ap (λ b. start_ok (turned v node eval) (turned v node l) (turned v node s) b) (ap (λ b. if b then false else node == s || n1 s) ex
+          ∙ ap (λ b. b || n1 s) ey)
       ∙ ap (λ b. start_ok b (turned v node l) (turned v node s) (n1 s)) (turned_other v node eval (apart_by node eval ex))
       ∙ ap (λ b. start_ok (v eval) b (turned v node s) (n1 s)) (turned_other v node l (apart_by node l ez))
       ∙ ap (λ b. start_ok (v eval) (v l) b (n1 s)) (turned_other v node s (apart_by node s ey)) ∙ holds
@@ -250,24 +290,31 @@ eval_ok r e a b = implies (r && (not e && b)) a
 pub eval_new : (r e a b : Bool) → eval_ok r e a b ≡ true → r ≡ true → e ≡ false → a ≡ false → not b ≡ true
 eval_new r e a b h hr he ha = start_new e r a b h hr he ha
 
-module _ (v n1 : ℕ → Bool) (request eval any node : ℕ) (er : eval ≢ any) (eval_fact : node ≡ eval → v eval ≡ true → v any ≡ true) (any_fact : node ≡ any → v any ≡ true → v request ≡ false) (holds : eval_ok (v request) (v eval) (v any) (n1 eval) ≡ true) where
+module _ (v n1 : ℕ → Bool) (request eval any node : ℕ) (er : eval ≢ any) (eval_fact : node ≡ eval → v eval ≡ true → v any ≡ true) (any_fact : node ≡ any →
+    v any ≡ true → v request ≡ false) (holds : eval_ok (v request) (v eval) (v any) (n1 eval) ≡ true) where
   abbrev Later : Type 0
   Later = eval_ok (turned v node request) (turned v node eval) (turned v node any) (if node == request then false else node == eval || n1 eval) ≡ true
 
   at_eval : (b : Bool) → v eval ≡ b → node ≡ eval → Later
-  at_eval false is same = ok_asked (turned v node eval) (turned v node request) (turned v node any) (if node == request then false else node == eval || n1 eval) (moved_to v node eval false same is)
-  at_eval true is same = ok_run (turned v node eval) (turned v node request) (turned v node any) (if node == request then false else node == eval || n1 eval) (turned_other v node any (λ e. er (sym same ∙ e)) ∙ eval_fact same is)
+  at_eval false is same = ok_asked (turned v node eval) (turned v node request) (turned v node any) (if node == request then false else node == eval || n1 eval)
+      (moved_to v node eval false same is)
+  at_eval true is same = ok_run (turned v node eval) (turned v node request) (turned v node any) (if node == request then false else node == eval || n1 eval)
+      (turned_other v node any (λ e. er (sym same ∙ e)) ∙ eval_fact same is)
 
   at_any : (b : Bool) → v any ≡ b → node ≡ any → node ≢ request → Later
-  at_any false is same ne = ok_run (turned v node eval) (turned v node request) (turned v node any) (if node == request then false else node == eval || n1 eval) (moved_to v node any false same is)
-  at_any true is same ne = ok_low (turned v node eval) (turned v node request) (turned v node any) (if node == request then false else node == eval || n1 eval) (turned_other v node request ne ∙ any_fact same is)
+  at_any false is same ne = ok_run (turned v node eval) (turned v node request) (turned v node any) (if node == request then false else node == eval || n1 eval)
+      (moved_to v node any false same is)
+  at_any true is same ne = ok_low (turned v node eval) (turned v node request) (turned v node any) (if node == request then false else node == eval || n1 eval)
+      (turned_other v node request ne ∙ any_fact same is)
 
   ways : (x y z : Bool) → (node == request) ≡ x → (node == eval) ≡ y → (node == any) ≡ z → Later
-  ways true y z ex ey ez = ok_new (turned v node eval) (turned v node request) (turned v node any) (if node == request then false else node == eval || n1 eval) (ap (λ b. if b then false else node == eval || n1 eval) ex)
+  ways true y z ex ey ez = ok_new (turned v node eval) (turned v node request) (turned v node any) (if node == request then false else node == eval || n1 eval)
+      (ap (λ b. if b then false else node == eval || n1 eval) ex)
   ways false true z ex ey ez = at_eval (v eval) refl (eqb-true node eval ey)
   ways false false true ex ey ez = at_any (v any) refl (eqb-true node any ez) (apart_by node request ex)
   ways false false false ex ey ez =
-      ap (λ b. eval_ok (turned v node request) (turned v node eval) (turned v node any) b) (ap (λ b. if b then false else node == eval || n1 eval) ex ∙ ap (λ b. b || n1 eval) ey)
+      ap (λ b. eval_ok (turned v node request) (turned v node eval) (turned v node any) b) (ap (λ b. if b then false else node == eval || n1 eval) ex
+          ∙ ap (λ b. b || n1 eval) ey)
       ∙ ap (λ b. eval_ok b (turned v node eval) (turned v node any) (n1 eval)) (turned_other v node request (apart_by node request ex))
       ∙ ap (λ b. eval_ok (v request) b (turned v node any) (n1 eval)) (turned_other v node eval (apart_by node eval ey))
       ∙ ap (λ b. eval_ok (v request) (v eval) b (n1 eval)) (turned_other v node any (apart_by node any ez)) ∙ holds
@@ -307,7 +354,9 @@ ended_more : (r e b : Bool) → e ≡ true → ended_ok r e false b ≡ true →
 ended_more r true b he h = h
 ended_more r false b he h = absurd (cc he)
 
-module _ (v n1 : ℕ → Bool) (request eval leave node : ℕ) (re : request ≢ eval) (rl : request ≢ leave) (rise_fact : node ≡ request → v request ≡ false → (v eval ≡ false) × (v leave ≡ false)) (leave_fact : node ≡ leave → v leave ≡ false → v eval ≡ true) (holds : ended_ok (v request) (v eval) (v leave) (n1 eval) ≡ true) where
+module _ (v n1 : ℕ → Bool) (request eval leave node : ℕ) (re : request ≢ eval) (rl : request ≢ leave) (rise_fact : node ≡ request → v request ≡ false →
+    (v eval ≡ false) × (v leave ≡ false)) (leave_fact : node ≡ leave → v leave ≡ false →
+    v eval ≡ true) (holds : ended_ok (v request) (v eval) (v leave) (n1 eval) ≡ true) where
   abbrev Note : Bool
   Note = if node == request then false else node == eval || n1 eval
 
@@ -318,12 +367,14 @@ module _ (v n1 : ℕ → Bool) (request eval leave node : ℕ) (re : request ≢
   at_request true is same = ended_idle (turned v node request) (turned v node eval) (turned v node leave) Note (moved_to v node request true same is)
   at_request false is same =
       let low = rise_fact same is in
-      ended_low (turned v node request) (turned v node eval) (turned v node leave) Note (turned_other v node eval (λ e. re (sym same ∙ e)) ∙ low.0) (turned_other v node leave (λ e. rl (sym same ∙ e)) ∙ low.1)
+      ended_low (turned v node request) (turned v node eval) (turned v node leave) Note (turned_other v node eval (λ e. re (sym same ∙ e)) ∙ low.0)
+          (turned_other v node leave (λ e. rl (sym same ∙ e)) ∙ low.1)
 
   same_note : (node == request) ≡ false → (node == eval) ≡ false → Note ≡ n1 eval
   same_note ex ey = ap (λ b. if b then false else node == eval || n1 eval) ex ∙ ap (λ b. b || n1 eval) ey
 
-  same_but : (l : Bool) → turned v node leave ≡ l → (node == request) ≡ false → (node == eval) ≡ false → ended_ok (v request) (v eval) l (n1 eval) ≡ true → Since
+  same_but : (l : Bool) → turned v node leave ≡ l → (node == request) ≡ false → (node == eval) ≡ false → ended_ok (v request) (v eval) l (n1 eval) ≡ true →
+      Since
   same_but l is ex ey h =
       ap (ended_ok (turned v node request) (turned v node eval) (turned v node leave)) (same_note ex ey)
       ∙ ap (λ b. ended_ok b (turned v node eval) (turned v node leave) (n1 eval)) (turned_other v node request (apart_by node request ex))
@@ -331,12 +382,15 @@ module _ (v n1 : ℕ → Bool) (request eval leave node : ℕ) (re : request ≢
       ∙ ap (λ b. ended_ok (v request) (v eval) b (n1 eval)) is ∙ h
 
   at_leave : (b : Bool) → v leave ≡ b → node ≡ leave → (node == request) ≡ false → (node == eval) ≡ false → Since
-  at_leave true is same ex ey = same_but false (moved_to v node leave true same is) ex ey (ended_less (v request) (v eval) (n1 eval) (ap (λ b. ended_ok (v request) (v eval) b (n1 eval)) (sym is) ∙ holds))
-  at_leave false is same ex ey = same_but true (moved_to v node leave false same is) ex ey (ended_more (v request) (v eval) (n1 eval) (leave_fact same is) (ap (λ b. ended_ok (v request) (v eval) b (n1 eval)) (sym is) ∙ holds))
+  at_leave true is same ex ey = same_but false (moved_to v node leave true same is) ex ey
+      (ended_less (v request) (v eval) (n1 eval) (ap (λ b. ended_ok (v request) (v eval) b (n1 eval)) (sym is) ∙ holds))
+  at_leave false is same ex ey = same_but true (moved_to v node leave false same is) ex ey
+      (ended_more (v request) (v eval) (n1 eval) (leave_fact same is) (ap (λ b. ended_ok (v request) (v eval) b (n1 eval)) (sym is) ∙ holds))
 
   courses : (x y z : Bool) → (node == request) ≡ x → (node == eval) ≡ y → (node == leave) ≡ z → Since
   courses true y z ex ey ez = at_request (v request) refl (eqb-true node request ex)
-  courses false true z ex ey ez = ended_noted (turned v node request) (turned v node eval) (turned v node leave) Note (ap (λ b. if b then false else node == eval || n1 eval) ex ∙ ap (λ b. b || n1 eval) ey)
+  courses false true z ex ey ez = ended_noted (turned v node request) (turned v node eval) (turned v node leave) Note
+      (ap (λ b. if b then false else node == eval || n1 eval) ex ∙ ap (λ b. b || n1 eval) ey)
   courses false false true ex ey ez = at_leave (v leave) refl (eqb-true node leave ez) ex ey
   courses false false false ex ey ez = same_but (v leave) (turned_other v node leave (apart_by node leave ez)) ex ey holds
 
@@ -344,7 +398,10 @@ module _ (v n1 : ℕ → Bool) (request eval leave node : ℕ) (re : request ≢
   ended_step = courses (node == request) (node == eval) (node == leave) refl refl refl
 
 -- a wire that rises once
-pub once_may : (v n0 n1 : ℕ → Bool) (u : Wire) (b : Bool) → v u.node ≡ b → may_move (record { value = v; noted = n0 }) u ≡ true → u.falls (record { value = v; noted = n1 }) ≡ u.falls (record { value = v; noted = n0 }) → (b ≡ false → u.rises (record { value = v; noted = n0 }) ≡ true → (u.rises (record { value = v; noted = n1 }) && not (n1 u.node)) ≡ true) → may_move (record { value = v; noted = n1 }) (once u) ≡ true
+pub once_may : (v n0 n1 : ℕ → Bool) (u : Wire) (b : Bool) → v u.node ≡ b → may_move (record { value = v; noted = n0 }) u ≡ true →
+    u.falls (record { value = v; noted = n1 }) ≡ u.falls (record { value = v; noted = n0 }) →
+    (b ≡ false → u.rises (record { value = v; noted = n0 }) ≡ true → (u.rises (record { value = v; noted = n1 }) && not (n1 u.node)) ≡ true) →
+    may_move (record { value = v; noted = n1 }) (once u) ≡ true
 once_may v n0 n1 u true is may falls rises =
     ap (λ b. if b then u.falls (record { value = v; noted = n1 }) else (u.rises (record { value = v; noted = n1 }) && not (n1 u.node))) is ∙ falls
     ∙ sym (ap (λ b. if b then u.falls (record { value = v; noted = n0 }) else u.rises (record { value = v; noted = n0 })) is) ∙ may
@@ -362,7 +419,8 @@ pub start_no_eval : (M : Machine) (frame : List ℕ) (bs : List Branch) (eval : 
 start_no_eval M frame bs eval y s is e =
     let size = s.size in
     let inside = s.inside in
-    let same : M.latch + 1 ≡ M.eval = one_control M frame bs eval y (M.latch + 1) M.eval s is (omega (arith, size)) (omega (arith, size, inside)) (last_there M frame bs eval y 1 s ∙ e ∙ sym (eval_there M frame bs eval y s)) in
+    let same : M.latch + 1 ≡ M.eval = one_control M frame bs eval y (M.latch + 1) M.eval s is (omega (arith, size)) (omega (arith, size, inside))
+        (last_there M frame bs eval y 1 s ∙ e ∙ sym (eval_there M frame bs eval y s)) in
     omega (arith, same, inside)
 
 plus_zero : (n : ℕ) → n + 0 ≡ n
@@ -377,7 +435,10 @@ if_false true x h e = absurd (cc h)
 if_false false x h e = e
 
 -- a machine with its part, at a moment, and a move
-module _ (M : Machine) (frame : List ℕ) (bs : List Branch) (request answer eval : ℕ) (part : Part) (v old : ℕ → Bool) (p : Place) (node : ℕ) (s : Setting M frame bs eval) (part_is : IsPart M frame bs request answer eval part) (view : View M frame bs (record { value = v; noted = old }) p) (move : IsMove part (record { value = v; noted = old }) node) (tries : tried M (start_test M) ≡ true) (y : Place) (is : IsPlace bs y) where
+module _ (M : Machine) (frame : List ℕ) (bs : List Branch) (request answer eval : ℕ) (part : Part) (v old : ℕ →
+    Bool) (p : Place) (node : ℕ) (s : Setting M frame bs eval) (part_is : IsPart M frame bs request answer eval part)
+    (view : View M frame bs (record { value = v; noted = old }) p) (move : IsMove part (record { value = v; noted = old }) node)
+    (tries : tried M (start_test M) ≡ true) (y : Place) (is : IsPlace bs y) where
   abbrev c : List Bool
   c = map v (controls frame y)
 
@@ -389,7 +450,8 @@ module _ (M : Machine) (frame : List ℕ) (bs : List Branch) (request answer eva
       let here = seen_at M frame bs request answer eval part (record { value = v; noted = old }) p node s part_is view move y is 0 (omega arith) same in
       let t = tried_at M frame bs eval (record { value = v; noted = old }) y (start_test M) s here.0 tries in
       sym (eval_value M frame bs eval v y s)
-      ∙ implies_at (can M M.latch c q && not (bit_at c M.latch)) (bit_at c M.eval) (and_left _ (implies (can M (M.latch + 1) c q) (if bit_at c (M.latch + 1) then not (bit_at c M.latch) else bit_at c M.latch)) t)
+      ∙ implies_at (can M M.latch c q && not (bit_at c M.latch)) (bit_at c M.eval)
+          (and_left _ (implies (can M (M.latch + 1) c q) (if bit_at c (M.latch + 1) then not (bit_at c M.latch) else bit_at c M.latch)) t)
       (both _ _ (ap (λ k. can M k c q) (sym (plus_zero M.latch)) ∙ here.1) (ap not (latch_value M frame bs eval v y s ∙ low)))
 
   start_moves : node ≡ y.this.start → (if bit_at c (M.latch + 1) then not (bit_at c M.latch) else bit_at c M.latch) ≡ true
@@ -404,7 +466,11 @@ module _ (M : Machine) (frame : List ℕ) (bs : List Branch) (request answer eva
   pub start_latched : node ≡ y.this.start → v y.this.start ≡ false → v y.this.latch ≡ true
   start_latched same low = sym (latch_value M frame bs eval v y s) ∙ if_false _ _ (start_value M frame bs eval v y s ∙ low) (start_moves same)
 
-  pub started_after : (n1 : ℕ → Bool) → start_ok (v eval) (v y.this.latch) (v y.this.start) (n1 y.this.start) ≡ true → start_ok (turned v node eval) (turned v node y.this.latch) (turned v node y.this.start) (noting request eval bs (record { value = v; noted = n1 }) node y.this.start) ≡ true
+  pub started_after : (n1 : ℕ → Bool) → start_ok (v eval) (v y.this.latch) (v y.this.start) (n1 y.this.start) ≡ true →
+      start_ok (turned v node eval) (turned v node y.this.latch) (turned v node y.this.start)
+      (noting request eval bs (record { value = v; noted = n1 }) node y.this.start) ≡ true
   started_after n1 holds =
-      ap (start_ok (turned v node eval) (turned v node y.this.latch) (turned v node y.this.start)) (noted_start request eval bs (record { value = v; noted = n1 }) node y.this.start (control_fresh M frame bs eval y 1 s is (omega arith)) (start_no_eval M frame bs eval y s is))
+      ap (start_ok (turned v node eval) (turned v node y.this.latch) (turned v node y.this.start))
+          (noted_start request eval bs (record { value = v; noted = n1 }) node y.this.start (control_fresh M frame bs eval y 1 s is (omega arith))
+          (start_no_eval M frame bs eval y s is))
       ∙ start_step v n1 eval y.this.latch y.this.start node (latch_no_start M frame bs eval y s is) latch_asked start_unlatched holds

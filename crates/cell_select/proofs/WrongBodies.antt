@@ -14,7 +14,8 @@ all_low_first n = false
 
 abbrev two_branches : List Branch
 two_branches =
-    record { latch = 13; start = 15; answer = 30; guard = record { t = 20; f = 21 } } ∷ record { latch = 14; start = 16; answer = 31; guard = record { t = 22; f = 23 } } ∷ []
+    record { latch = 13; start = 15; answer = 30; guard = record { t = 20; f = 21 } } ∷ record { latch = 14; start = 16; answer = 31; guard =
+        record { t = 22; f = 23 } } ∷ []
 
 abbrev two_guards : SelectNodes
 two_guards = record { request = 5; answer = 10; eval = 11; any = 12; branches = two_branches }
@@ -36,7 +37,8 @@ hasty_select = record (select_part two_guards) { own = with_other 10 hasty_answe
 -- the first branch runs; then its latch is down and no latch is up, and the branch hasn't let go
 pub hasty_breaks : ¬ Keeps hasty_select
 hasty_breaks =
-    broken hasty_select _ (5 ∷ 11 ∷ 20 ∷ 23 ∷ 13 ∷ 12 ∷ 11 ∷ 20 ∷ 23 ∷ 15 ∷ 30 ∷ 10 ∷ 5 ∷ 13 ∷ 12 ∷ []) (at_first all_low_first (record { outside = refl; own = refl; bits = refl })) refl
+    broken hasty_select _ (5 ∷ 11 ∷ 20 ∷ 23 ∷ 13 ∷ 12 ∷ 11 ∷ 20 ∷ 23 ∷ 15 ∷ 30 ∷ 10 ∷ 5 ∷ 13 ∷ 12 ∷ [])
+        (at_first all_low_first (record { outside = refl; own = refl; bits = refl })) refl
 
 -- It takes the first guard that is true: h_i.t -> l_i+, whatever the others are.
 abbrev eager_latches : List NodeRules
@@ -44,7 +46,8 @@ eager_latches = map (λ (b : Branch). record { up = one_term (is_high b.guard.t 
 
 abbrev eager_select : Part
 eager_select = record (select_part two_guards) {
-  own = owned_at (select_own two_guards) (joined_answer 12 (30 ∷ 31 ∷ []) ∷ evaluation 5 12 ∷ or_of (13 ∷ 14 ∷ []) ∷ (eager_latches ++ starts (13 ∷ 14 ∷ []) (guards_of two_branches)));
+  own = owned_at (select_own two_guards) (joined_answer 12 (30 ∷ 31 ∷ []) ∷ evaluation 5 12 ∷ or_of (13 ∷ 14 ∷ [])
+      ∷ (eager_latches ++ starts (13 ∷ 14 ∷ []) (guards_of two_branches)));
 }
 
 -- the first guard is true, and the second not yet evaluated when the guards are let go
@@ -57,27 +60,32 @@ restarted b = record { up = one_term (is_high b.latch ∷ is_low b.answer ∷ lo
 
 abbrev restless_select : Part
 restless_select = record (select_part two_guards) {
-  own = owned_at (select_own two_guards) (no_rules ∷ evaluation 5 12 ∷ or_of (13 ∷ 14 ∷ []) ∷ (latches 5 (guards_of two_branches) ++ map restarted two_branches));
+  own = owned_at (select_own two_guards) (no_rules ∷ evaluation 5 12 ∷ or_of (13 ∷ 14 ∷ [])
+      ∷ (latches 5 (guards_of two_branches) ++ map restarted two_branches));
 }
 
 -- the first branch has run once
 pub restless_breaks : ¬ Keeps restless_select
 restless_breaks =
-    broken restless_select _ (5 ∷ 11 ∷ 20 ∷ 23 ∷ 13 ∷ 12 ∷ 11 ∷ 20 ∷ 23 ∷ 15 ∷ 30 ∷ 15 ∷ 30 ∷ []) (at_first all_low_first (record { outside = refl; own = refl; bits = refl })) refl
+    broken restless_select _ (5 ∷ 11 ∷ 20 ∷ 23 ∷ 13 ∷ 12 ∷ 11 ∷ 20 ∷ 23 ∷ 15 ∷ 30 ∷ 15 ∷ 30 ∷ [])
+        (at_first all_low_first (record { outside = refl; own = refl; bits = refl })) refl
 
 -- It asks for its guards again once the branch has run: a_i -> l_i-, and never answers.
 abbrev let_go_latches : List NodeRules
 let_go_latches =
-    record { up = one_term (is_high 20 ∷ is_high 23 ∷ []); down = one_term (is_high 30 ∷ []) } ∷ record { up = one_term (is_high 21 ∷ is_high 22 ∷ []); down = one_term (is_high 31 ∷ []) } ∷ []
+    record { up = one_term (is_high 20 ∷ is_high 23 ∷ []); down = one_term (is_high 30 ∷ []) } ∷ record { up = one_term (is_high 21 ∷ is_high 22 ∷ []); down =
+        one_term (is_high 31 ∷ []) } ∷ []
 
 abbrev asking_select : Part
 asking_select = record (select_part two_guards) {
-  own = owned_at (select_own two_guards) (no_rules ∷ evaluation 5 12 ∷ or_of (13 ∷ 14 ∷ []) ∷ (let_go_latches ++ starts (13 ∷ 14 ∷ []) (guards_of two_branches)));
+  own = owned_at (select_own two_guards) (no_rules ∷ evaluation 5 12 ∷ or_of (13 ∷ 14 ∷ [])
+      ∷ (let_go_latches ++ starts (13 ∷ 14 ∷ []) (guards_of two_branches)));
 }
 
 pub asking_breaks : ¬ Keeps asking_select
 asking_breaks =
-    broken asking_select _ (5 ∷ 11 ∷ 20 ∷ 23 ∷ 13 ∷ 12 ∷ 11 ∷ 20 ∷ 23 ∷ 15 ∷ 30 ∷ 13 ∷ 15 ∷ 30 ∷ 12 ∷ []) (at_first all_low_first (record { outside = refl; own = refl; bits = refl })) refl
+    broken asking_select _ (5 ∷ 11 ∷ 20 ∷ 23 ∷ 13 ∷ 12 ∷ 11 ∷ 20 ∷ 23 ∷ 15 ∷ 30 ∷ 13 ∷ 15 ∷ 30 ∷ 12 ∷ [])
+        (at_first all_low_first (record { outside = refl; own = refl; bits = refl })) refl
 
 -- It answers where all guards are false and hasn't let them go: l_0 -> a+, without the rails.
 abbrev hasty_end : NodeRules
@@ -104,12 +112,15 @@ early_end_breaks = broken early_again _ (5 ∷ 17 ∷ 11 ∷ 21 ∷ 19 ∷ 12 �
 -- It runs its branch for ever in one turn: the starts as above, and the branches' answers aren't joined.
 abbrev restless_again : Part
 restless_again = record (again_part two_turns) {
-  own = with_other 18 no_rules (map (λ (o : Owned). if o.node == 15 then owned 15 (restarted (record { latch = 13; start = 15; answer = 30; guard = record { t = 20; f = 21 } })) else o) (again_owned two_turns));
+  own = with_other 18 no_rules (map (λ (o : Owned).
+      if o.node == 15 then owned 15 (restarted (record { latch = 13; start = 15; answer = 30; guard = record { t = 20; f = 21 } })) else o)
+      (again_owned two_turns));
 }
 
 pub restless_again_breaks : ¬ Keeps restless_again
 restless_again_breaks =
-    broken restless_again _ (5 ∷ 17 ∷ 11 ∷ 20 ∷ 23 ∷ 13 ∷ 12 ∷ 11 ∷ 20 ∷ 23 ∷ 15 ∷ 30 ∷ 15 ∷ 30 ∷ []) (at_first all_low_first (record { outside = refl; own = refl; bits = refl })) refl
+    broken restless_again _ (5 ∷ 17 ∷ 11 ∷ 20 ∷ 23 ∷ 13 ∷ 12 ∷ 11 ∷ 20 ∷ 23 ∷ 15 ∷ 30 ∷ 15 ∷ 30 ∷ [])
+        (at_first all_low_first (record { outside = refl; own = refl; bits = refl })) refl
 
 -- It answers its second request as it did the first, and doesn't ask: l_0 is never let go, and ~r -> a-.
 abbrev kept_end : List Owned
@@ -123,4 +134,5 @@ unasking_again = record (again_part two_turns) { own = with_other 10 unasking_an
 
 pub unasking_breaks : ¬ Keeps unasking_again
 unasking_breaks =
-    broken unasking_again _ (5 ∷ 17 ∷ 11 ∷ 21 ∷ 23 ∷ 19 ∷ 12 ∷ 11 ∷ 21 ∷ 23 ∷ 10 ∷ 5 ∷ 10 ∷ 5 ∷ []) (at_first all_low_first (record { outside = refl; own = refl; bits = refl })) refl
+    broken unasking_again _ (5 ∷ 17 ∷ 11 ∷ 21 ∷ 23 ∷ 19 ∷ 12 ∷ 11 ∷ 21 ∷ 23 ∷ 10 ∷ 5 ∷ 10 ∷ 5 ∷ [])
+        (at_first all_low_first (record { outside = refl; own = refl; bits = refl })) refl

@@ -1,5 +1,5 @@
--- What a selection and a guarded repetition keep alone, against every neighbour that keeps its own side (Martin; four-phase
--- handshakes). The guards answer their request by their rails, each branch answers its start.
+-- What a selection and a guarded repetition keep alone, against every neighbour that keeps its own side (Martin;
+-- four-phase handshakes). The guards answer their request by their rails, each branch answers its start.
 use Rattle.std.specs.Prelude.{◌||◌, ◌≢◌, ℕ, Bool, false, not, ◌&&◌, ◌==◌, if◌then◌else◌, List, [], ◌∷◌, ◌++◌, map, AllPairs}
 use Rattle.std.specs.List.{list_all}
 use Rattle.prs_core.specs.Pairs.{Pair, rails_of}
@@ -66,7 +66,8 @@ pub record AgainNodes : Type 0 where
 
 abbrev pub again_nodes : AgainNodes → List ℕ
 again_nodes c =
-    c.request ∷ c.answer ∷ c.turn ∷ c.joined ∷ c.eval ∷ c.any ∷ c.leave ∷ (controls_of c.branches ++ rails_of (guards_of c.branches))
+    c.request ∷ c.answer ∷ c.turn ∷ c.joined ∷ c.eval ∷ c.any ∷ c.leave
+        ∷ (controls_of c.branches ++ rails_of (guards_of c.branches))
 
 abbrev pub again_own : AgainNodes → List ℕ
 again_own c =
@@ -95,7 +96,8 @@ branches_idle v bs = all_low v (starts_of bs) && all_low v (answers_of bs)
 abbrev pub guards_false : (ℕ → Bool) → List Branch → Bool
 guards_false v bs = list_all (λ (b : Branch). v b.guard.f) bs
 
--- A branch with those before it and those behind it, since a guard is judged beside all others. Below: each branch of a list so.
+-- A branch with those before it and those behind it, since a guard is judged beside all others. Below: each branch of a
+-- list so.
 pub record Place : Type 0 where
   pub before : List Branch
   pub this : Branch
@@ -103,7 +105,8 @@ pub record Place : Type 0 where
 
 abbrev pub places_from : (before behind : List Branch) → List Place
 places_from before [] = []
-places_from before (b ∷ behind) = record { before = before; this = b; behind = behind } ∷ places_from (before ++ b ∷ []) behind
+places_from before (b ∷ behind) = record { before = before; this = b; behind = behind }
+    ∷ places_from (before ++ b ∷ []) behind
 
 -- its guard is true, and those of all others are false
 abbrev pub alone_true : (ℕ → Bool) → Place → Bool
@@ -118,7 +121,8 @@ one_true v (b ∷ bs) = if v b.guard.t then list_all (λ (b : Branch). not (v b.
 abbrev pub none_true : (ℕ → Bool) → List Branch → Bool
 none_true v bs = list_all (λ (b : Branch). not (v b.guard.t)) bs
 
--- what was on a node when the guards' request last fell: by then the guards are evaluated, and after it their rails fall
+-- what was on a node when the guards' request last fell: by then the guards are evaluated, and after it their rails
+-- fall
 abbrev pub as_evaluated : (eval : ℕ) → Moment → ℕ → ℕ → Bool
 as_evaluated eval m moved node = if moved == eval && m.value eval then m.value node else m.noted node
 
@@ -127,8 +131,9 @@ abbrev pub is_rail : List Branch → ℕ → Bool
 is_rail [] node = false
 is_rail (b ∷ bs) node = node == b.guard.t || (node == b.guard.f || is_rail bs node)
 
--- The contract notes of the guards' rails what they were when the guards' request last fell; of that request, whether it has
--- moved since the request last did; and of every other node, whether it has moved since the guards' request last did.
+-- The contract notes of the guards' rails what they were when the guards' request last fell; of that request, whether
+-- it has moved since the request last did; and of every other node, whether it has moved since the guards' request last
+-- did.
 abbrev pub noting : (request eval : ℕ) → List Branch → Moment → ℕ → ℕ → Bool
 noting request eval bs m moved node =
     if is_rail bs node then as_evaluated eval m moved node
@@ -141,7 +146,8 @@ once w = wire w.node (λ m. w.rises m && not (m.noted w.node)) w.falls
 
 -- A rail rises where the guards are asked for and neither rail of its guard is high, and falls where they aren't.
 abbrev pub rail_wire : (eval : ℕ) → Pair → ℕ → Wire
-rail_wire eval p rail = wire rail (λ m. m.value eval && (not (m.value p.t) && not (m.value p.f))) (λ m. not (m.value eval))
+rail_wire eval p rail = wire rail (λ m. m.value eval && (not (m.value p.t) && not (m.value p.f)))
+    (λ m. not (m.value eval))
 
 -- A branch's answer follows its start.
 abbrev pub answer_wire : Branch → Wire
@@ -149,14 +155,15 @@ answer_wire b = wire b.answer (λ m. m.value b.start) (λ m. not (m.value b.star
 
 abbrev pub branch_wires : (eval : ℕ) → List Branch → List Wire
 branch_wires eval [] = []
-branch_wires eval (b ∷ bs) = rail_wire eval b.guard b.guard.t ∷ rail_wire eval b.guard b.guard.f ∷ answer_wire b ∷ branch_wires eval bs
+branch_wires eval (b ∷ bs) = rail_wire eval b.guard b.guard.t ∷ rail_wire eval b.guard b.guard.f ∷ answer_wire b
+    ∷ branch_wires eval bs
 
 -- The request is raised where the answer is low, and lowered where it is high.
 abbrev pub request_wire : (request answer : ℕ) → Wire
 request_wire request answer = wire request (λ m. not (m.value answer)) (λ m. m.value answer)
 
--- The guards are asked for under the request (of a turn), where the answer, all their rails, all starts and the branches'
--- answers are low; they are let go where all of them are valid and no branch is under way.
+-- The guards are asked for under the request (of a turn), where the answer, all their rails, all starts and the
+-- branches' answers are low; they are let go where all of them are valid and no branch is under way.
 abbrev pub eval_wire : (request answer eval : ℕ) → List Branch → Wire
 eval_wire request answer eval bs =
     wire eval
@@ -168,25 +175,28 @@ eval_wire request answer eval bs =
 abbrev pub start_wire : (request answer eval : ℕ) → List Branch → Place → Wire
 start_wire request answer eval bs p =
     wire p.this.start
-    (λ m. m.value request && (alone_true m.noted p && (not (m.value eval) && (not (m.value answer) && (guards_neutral m.value bs && branches_idle m.value bs)))))
+    (λ m. m.value request && (alone_true m.noted p
+        && (not (m.value eval) && (not (m.value answer) && (guards_neutral m.value bs && branches_idle m.value bs)))))
     (λ m. m.value p.this.answer)
 
 abbrev pub start_wires : (request answer eval : ℕ) → List Branch → List Wire
 start_wires request answer eval bs = map (start_wire request answer eval bs) (places_from [] bs)
 
--- A selection answers once its branch has, and takes its answer back once it has let go of the guards and of the branches.
+-- A selection answers once its branch has, and takes its answer back once it has let go of the guards and of the
+-- branches.
 abbrev pub select_answer : SelectNodes → Wire
 select_answer c =
     wire c.answer
     (λ m. m.value c.request && not (all_low m.value (answers_of c.branches)))
     (λ m. not (m.value c.request) && (not (m.value c.eval) && branches_idle m.value c.branches))
 
--- It asks for the guards once for each request, and starts a branch once for each time that they were asked for. It may wait
--- for ever where all guards are evaluated and not exactly one of them is true.
+-- It asks for the guards once for each request, and starts a branch once for each time that they were asked for. It may
+-- wait for ever where all guards are evaluated and not exactly one of them is true.
 abbrev pub select_part : SelectNodes → Part
 select_part c = record {
   own = select_owned c;
-  promises = select_answer c ∷ map once (eval_wire c.request c.answer c.eval c.branches ∷ start_wires c.request c.answer c.eval c.branches);
+  promises = select_answer c ∷ map once (eval_wire c.request c.answer c.eval c.branches
+      ∷ start_wires c.request c.answer c.eval c.branches);
   allows = request_wire c.request c.answer ∷ branch_wires c.eval c.branches;
   lows = select_own c;
   bits = [];
@@ -195,24 +205,28 @@ select_part c = record {
   notes = noting c.request c.eval c.branches;
 }
 
--- A guarded repetition answers once the guards were asked for under its request and all were false, and moves its answer only
--- where the guards are let go and no branch is under way.
+-- A guarded repetition answers once the guards were asked for under its request and all were false, and moves its
+-- answer only where the guards are let go and no branch is under way.
 abbrev pub again_answer : AgainNodes → Wire
 again_answer c =
     wire c.answer
-    (λ m. m.value c.request && (m.noted c.eval && (guards_false m.noted c.branches && (not (m.value c.eval) && (guards_neutral m.value c.branches && branches_idle m.value c.branches)))))
-    (λ m. not (m.value c.request) && (not (m.value c.eval) && (guards_neutral m.value c.branches && branches_idle m.value c.branches)))
+    (λ m. m.value c.request && (m.noted c.eval
+        && (guards_false m.noted c.branches
+        && (not (m.value c.eval) && (guards_neutral m.value c.branches && branches_idle m.value c.branches)))))
+    (λ m. not (m.value c.request) &&
+        (not (m.value c.eval) && (guards_neutral m.value c.branches && branches_idle m.value c.branches)))
 
 -- as wires that move only where the request is high too
 abbrev pub rises_under : (request : ℕ) → Wire → Wire
 rises_under request w = wire w.node (λ m. m.value request && w.rises m) w.falls
 
--- In each turn it does as a selection does, under the request of the turn: it starts a branch once for each time that the guards
--- were asked for. It may wait for ever where all guards are evaluated and two or more of them are true.
+-- In each turn it does as a selection does, under the request of the turn: it starts a branch once for each time that
+-- the guards were asked for. It may wait for ever where all guards are evaluated and two or more of them are true.
 abbrev pub again_part : AgainNodes → Part
 again_part c = record {
   own = again_owned c;
-  promises = again_answer c ∷ map (rises_under c.request) (eval_wire c.turn c.answer c.eval c.branches ∷ map once (start_wires c.turn c.answer c.eval c.branches));
+  promises = again_answer c ∷ map (rises_under c.request) (eval_wire c.turn c.answer c.eval c.branches
+      ∷ map once (start_wires c.turn c.answer c.eval c.branches));
   allows = request_wire c.request c.answer ∷ branch_wires c.eval c.branches;
   lows = again_own c;
   bits = [];

@@ -11,7 +11,8 @@ pairs_of (t ∷ f ∷ rails) = record { t = t; f = f } ∷ pairs_of rails
 pairs_of _ = []
 
 abbrev pub branches_from : (latches starts answers : List ℕ) → List Pair → List Branch
-branches_from (l ∷ ls) (s ∷ ss) (a ∷ answers) (h ∷ hs) = record { latch = l; start = s; answer = a; guard = h } ∷ branches_from ls ss answers hs
+branches_from (l ∷ ls) (s ∷ ss) (a ∷ answers) (h ∷ hs) = record { latch = l; start = s; answer = a; guard = h }
+    ∷ branches_from ls ss answers hs
 branches_from _ _ _ _ = []
 
 abbrev pub select_of : SelectPorts → SelectNodes

@@ -14,10 +14,10 @@ use crate::laws::{again_keeps, select_keeps};
 use prs_core::{Rules, all_of, high, low};
 use std::alloc::{AllocError, Global};
 
-/// The nodes at a selection (Martin). Under `request` the guards are evaluated, under their own request `eval`; the latch
-/// of the one that is true rises, and `any` says that one is up; then the guards are let go, and the branch's start rises.
-/// The branch's answer becomes `answer`. The own nodes are `answer`, `eval`, `any`, `latches` and `starts`. `answers` are
-/// the branches' answers, and `guard_rails` has rail t and rail f of each guard, in order.
+/// The nodes at a selection (Martin). Under `request` the guards are evaluated, under their own request `eval`; the
+/// latch of the one that is true rises, and `any` says that one is up; then the guards are let go, and the branch's
+/// start rises. The branch's answer becomes `answer`. The own nodes are `answer`, `eval`, `any`, `latches` and
+/// `starts`. `answers` are the branches' answers, and `guard_rails` has rail t and rail f of each guard, in order.
 #[derive(Debug, Drop)]
 pub struct SelectPorts {
     pub request: u32,
@@ -30,10 +30,10 @@ pub struct SelectPorts {
     pub guard_rails: Vec<u32>,
 }
 
-/// The nodes at a guarded repetition (Martin). It is a selection under a request of its own for each turn, `loop_request`,
-/// whose branches' answers are joined in `joined`. `leave` is the latch that rises where all guards are false; once the
-/// guards are let go it makes the answer. The own nodes are `answer`, `loop_request`, `joined`, `eval`, `any`, `leave`,
-/// `latches` and `starts`; `answers` and `guard_rails` are as at a selection.
+/// The nodes at a guarded repetition (Martin). It is a selection under a request of its own for each turn,
+/// `loop_request`, whose branches' answers are joined in `joined`. `leave` is the latch that rises where all guards are
+/// false; once the guards are let go it makes the answer. The own nodes are `answer`, `loop_request`, `joined`, `eval`,
+/// `any`, `leave`, `latches` and `starts`; `answers` and `guard_rails` are as at a selection.
 #[derive(Debug, Drop)]
 pub struct AgainPorts {
     pub request: u32,
@@ -112,7 +112,8 @@ fn emit_any(alloc: Global, node: u32, inputs: &[u32], rules: &mut Rules) -> Resu
 }
 
 /// Writes the guards of the latches.
-#[tactic(auto, using(crate::proofs::GuardLemmas::only_within, crate::proofs::GuardLemmas::alone_then, crate::proofs::GuardLemmas::alone_still))]
+#[tactic(auto, using(crate::proofs::GuardLemmas::only_within, crate::proofs::GuardLemmas::alone_then,
+    crate::proofs::GuardLemmas::alone_still))]
 fn emit_latches(
     alloc: Global,
     request: u32,
@@ -124,7 +125,8 @@ fn emit_latches(
     requires nodes { All (λ n. n < length rules.old.up) nodes.now }
     requires rails { All (λ n. n < length rules.old.up) rails.now }
     requires agree { length rails.now ≡ 2 * length nodes.now }
-    ensures made { OnOk result (rules.new ≡ with_owned (owned_at nodes.now (latches request (pairs_of rails.now))) rules.old) }
+    ensures made { OnOk result (rules.new ≡ with_owned (owned_at nodes.now (latches request (pairs_of rails.now)))
+        rules.old) }
     ensures partly { IsPartly (owned_at nodes.now (latches request (pairs_of rails.now))) rules.old rules.new }
     ensures nodes { length rules.new.up ≡ length rules.old.up }
     ensures others { (other : ℕ) → All (λ n. n ≢ other) nodes.now → IsAlone rules.old rules.new other }
@@ -138,7 +140,8 @@ fn emit_latches(
 }
 
 /// Writes the guards of the starts.
-#[tactic(auto, using(crate::proofs::GuardLemmas::with_lows_within, crate::proofs::GuardLemmas::alone_then, crate::proofs::GuardLemmas::alone_still))]
+#[tactic(auto, using(crate::proofs::GuardLemmas::with_lows_within, crate::proofs::GuardLemmas::alone_then,
+    crate::proofs::GuardLemmas::alone_still))]
 fn emit_starts(
     alloc: Global,
     nodes: &[u32],
@@ -151,7 +154,8 @@ fn emit_starts(
     requires rails { All (λ n. n < length rules.old.up) rails.now }
     requires agree { length nodes.now ≡ length latched.now }
     requires pairs { length rails.now ≡ 2 * length latched.now }
-    ensures made { OnOk result (rules.new ≡ with_owned (owned_at nodes.now (starts latched.now (pairs_of rails.now))) rules.old) }
+    ensures made { OnOk result (rules.new ≡ with_owned (owned_at nodes.now (starts latched.now (pairs_of rails.now)))
+        rules.old) }
     ensures partly { IsPartly (owned_at nodes.now (starts latched.now (pairs_of rails.now))) rules.old rules.new }
     ensures nodes { length rules.new.up ≡ length rules.old.up }
     ensures others { (other : ℕ) → All (λ n. n ≢ other) nodes.now → IsAlone rules.old rules.new other }
@@ -236,15 +240,16 @@ fn emit_end(
     Ok(())
 }
 
-/// Writes the guards of the selection's own nodes, and no others. There are 1 to 16 latches, as many starts and answers,
-/// and twice as many guard rails. Where memory runs out, some of the own nodes have their guards, and the
+/// Writes the guards of the selection's own nodes, and no others. There are 1 to 16 latches, as many starts and
+/// answers, and twice as many guard rails. Where memory runs out, some of the own nodes have their guards, and the
 /// others those that they had.
 pub fn emit_select(alloc: Global, p: &SelectPorts, rules: &mut Rules) -> Result<(), AllocError>
     requires { IsSelect (length rules.old.up) p.now }
     ensures made { OnOk result (rules.new ≡ with_owned (select_owned (select_of p.now)) rules.old) }
     ensures partly { IsPartly (select_owned (select_of p.now)) rules.old rules.new }
     ensures nodes { length rules.new.up ≡ length rules.old.up }
-    ensures others { (node : ℕ) → All (λ (o : Owned). o.node ≢ node) (select_owned (select_of p.now)) → IsAlone rules.old rules.new node }
+    ensures others { (node : ℕ) → All (λ (o : Owned). o.node ≢ node) (select_owned (select_of p.now)) →
+        IsAlone rules.old rules.new node }
     ensures keeps { Keeps (select_part (select_of p.now)) }
 {
     select_keeps();
@@ -256,15 +261,16 @@ pub fn emit_select(alloc: Global, p: &SelectPorts, rules: &mut Rules) -> Result<
     Ok(())
 }
 
-/// Writes the guards of the guarded repetition's own nodes, and no others. There are 1 to 16 latches, as many starts and
-/// answers, and twice as many guard rails. Where memory runs out, some of the own nodes have their guards, and the
+/// Writes the guards of the guarded repetition's own nodes, and no others. There are 1 to 16 latches, as many starts
+/// and answers, and twice as many guard rails. Where memory runs out, some of the own nodes have their guards, and the
 /// others those that they had.
 pub fn emit_again(alloc: Global, p: &AgainPorts, rules: &mut Rules) -> Result<(), AllocError>
     requires { IsAgain (length rules.old.up) p.now }
     ensures made { OnOk result (rules.new ≡ with_owned (again_owned (again_of p.now)) rules.old) }
     ensures partly { IsPartly (again_owned (again_of p.now)) rules.old rules.new }
     ensures nodes { length rules.new.up ≡ length rules.old.up }
-    ensures others { (node : ℕ) → All (λ (o : Owned). o.node ≢ node) (again_owned (again_of p.now)) → IsAlone rules.old rules.new node }
+    ensures others { (node : ℕ) → All (λ (o : Owned). o.node ≢ node) (again_owned (again_of p.now)) →
+        IsAlone rules.old rules.new node }
     ensures keeps { Keeps (again_part (again_of p.now)) }
 {
     again_keeps();

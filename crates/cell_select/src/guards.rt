@@ -82,7 +82,8 @@ fn want_false(
 ) -> Result<(), AllocError>
     requires order { from ≤ to }
     requires within { 2 * to ≤ length rails.now }
-    ensures { OnOk result (literals.new.items ≡ literals.old.items ++ all_false (take (to - from) (drop from (pairs_of rails.now)))) }
+    ensures { OnOk result (literals.new.items ≡ literals.old.items
+        ++ all_false (take (to - from) (drop from (pairs_of rails.now)))) }
 {
     for guard in from..to {
         literals.push(high(rails[2 * guard + 1]))?;
@@ -103,7 +104,8 @@ pub fn none_true(alloc: Global, rails: &[u32]) -> Result<Guard, AllocError>
 /// The guard that holds where this guard is true and all others are false.
 pub fn only_true(alloc: Global, rails: &[u32], guard: usize) -> Result<Guard, AllocError>
     requires pairs { (guards : ℕ) × (length rails.now ≡ 2 * guards) × (guard < guards) }
-    ensures { IfOk result (λ g. g ≡ (all_false (take guard (pairs_of rails.now)) ++ is_high (slice_index_or rails.now (2 * guard) 0) ∷ all_false (drop (guard + 1) (pairs_of rails.now))) ∷ []) }
+    ensures { IfOk result (λ g. g ≡ (all_false (take guard (pairs_of rails.now))
+        ++ is_high (slice_index_or rails.now (2 * guard) 0) ∷ all_false (drop (guard + 1) (pairs_of rails.now))) ∷ []) }
 {
     let mut literals = Vec::new(alloc);
     want_false(&mut literals, rails, 0, guard)?;

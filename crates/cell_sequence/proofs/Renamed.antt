@@ -42,7 +42,8 @@ renamed to notes p = record {
 }
 
 -- what a guard says, at the old numbers and at the new ones
-term_same : (to : ℕ → ℕ) (v : ℕ → Bool) (t : List Literal) → term_holds v (map (λ (l : Literal). let k : Literal = record { node = to l.node; high = l.high } in k) t) ≡ term_holds (λ n. v (to n)) t
+term_same : (to : ℕ → ℕ) (v : ℕ → Bool) (t : List Literal) →
+    term_holds v (map (λ (l : Literal). let k : Literal = record { node = to l.node; high = l.high } in k) t) ≡ term_holds (λ n. v (to n)) t
 term_same to v [] = refl
 term_same to v (l ∷ t) = ap (λ b. (if l.high then v (to l.node) else not (v (to l.node))) && b) (term_same to v t)
 
@@ -59,11 +60,13 @@ low_same : (to : ℕ → ℕ) (v : ℕ → Bool) (ns : List ℕ) → all_low v (
 low_same to v [] = refl
 low_same to v (n ∷ ns) = ap (λ b. not (v (to n)) && b) (low_same to v ns)
 
-outside_same : (to : ℕ → ℕ) (v : ℕ → Bool) (ws : List Wire) → all_low v (map (λ (w : Wire). w.node) (map (wire_to to) ws)) ≡ all_low (λ n. v (to n)) (map (λ (w : Wire). w.node) ws)
+outside_same : (to : ℕ → ℕ) (v : ℕ → Bool) (ws : List Wire) →
+    all_low v (map (λ (w : Wire). w.node) (map (wire_to to) ws)) ≡ all_low (λ n. v (to n)) (map (λ (w : Wire). w.node) ws)
 outside_same to v [] = refl
 outside_same to v (w ∷ ws) = ap (λ b. not (v (to w.node)) && b) (outside_same to v ws)
 
-bits_same : (to : ℕ → ℕ) (v : ℕ → Bool) (bs : List Pair) → list_all (is_valid v) (map (λ (b : Pair). let q : Pair = record { t = to b.t; f = to b.f } in q) bs) ≡ list_all (is_valid (λ n. v (to n))) bs
+bits_same : (to : ℕ → ℕ) (v : ℕ → Bool) (bs : List Pair) →
+    list_all (is_valid v) (map (λ (b : Pair). let q : Pair = record { t = to b.t; f = to b.f } in q) bs) ≡ list_all (is_valid (λ n. v (to n))) bs
 bits_same to v [] = refl
 bits_same to v (b ∷ bs) = ap (λ h. is_valid (λ n. v (to n)) b && h) (bits_same to v bs)
 
@@ -77,7 +80,8 @@ same_test to one a b =
 turned_same : (to : ℕ → ℕ) → IsOneToOne to → (v : ℕ → Bool) (node : ℕ) → ◌≡◌ {A = ℕ → Bool} (λ n. turned v (to node) (to n)) (turned (λ n. v (to n)) node)
 turned_same to one v node = fun_ext (λ n. ap (λ b. if b then not (v (to n)) else v (to n)) (same_test to one n node))
 
-module _ (to : ℕ → ℕ) (one : IsOneToOne to) (notes : Moment → ℕ → ℕ → Bool) (p : Part) (agree : (m : Moment) (moved node : ℕ) → notes m (to moved) (to node) ≡ p.notes (seen to m) moved node) where
+module _ (to : ℕ → ℕ) (one : IsOneToOne to) (notes : Moment → ℕ → ℕ → Bool) (p : Part) (agree : (m : Moment) (moved node : ℕ) →
+    notes m (to moved) (to node) ≡ p.notes (seen to m) moved node) where
   abbrev new : Part
   new = renamed to notes p
 
@@ -106,14 +110,16 @@ module _ (to : ℕ → ℕ) (one : IsOneToOne to) (notes : Moment → ℕ → �
       })
   reached_seen m (and_then before node reached move) =
       let (k, at, move_k) = move_seen before node move in
-      subst (λ n. Reached p (seen to (after new before n))) (sym at) (subst (Reached p) (sym (after_seen before k)) (and_then (seen to before) k (reached_seen before reached) move_k))
+      subst (λ n. Reached p (seen to (after new before n))) (sym at)
+          (subst (Reached p) (sym (after_seen before k)) (and_then (seen to before) k (reached_seen before reached) move_k))
 
   kept_seen : (m : Moment) → IsKept p (seen to m) → IsKept new m
   kept_seen m kept = record {
     promised = λ o among fire w within same.
         let (k, in_p, is) = among_mapped (owned_to to) p.own o among in
         let (x, in_promises, wire_is) = among_mapped (wire_to to) p.promises w within in
-        subst (λ w. may_move m w ≡ true) wire_is (kept.promised k in_p (fires_seen m o k is fire) x in_promises (one x.node k.node (ap (λ (w : Wire). w.node) wire_is ∙ same ∙ ap (λ (o : Owned). o.node) (sym is))));
+        subst (λ w. may_move m w ≡ true) wire_is (kept.promised k in_p (fires_seen m o k is fire) x in_promises
+            (one x.node k.node (ap (λ (w : Wire). w.node) wire_is ∙ same ∙ ap (λ (o : Owned). o.node) (sym is))));
     firm = λ o among fire node move ne.
         let (k, in_p, is) = among_mapped (owned_to to) p.own o among in
         let (n, at, move_n) = move_seen m node move in
@@ -133,7 +139,8 @@ module _ (to : ℕ → ℕ) (one : IsOneToOne to) (notes : Moment → ℕ → �
     waits = λ none. waiting (kept.waits (λ k in_p. sym (fires_same to m.value k) ∙ none (owned_to to k) (mapped_among (owned_to to) p.own k in_p)));
   }
     where
-      waiting : ((w : Wire) × Contains p.allows w × (may_move (seen to m) w ≡ true)) ⊎ (p.blocked (seen to m).value ≡ true) → ((w : Wire) × Contains new.allows w × (may_move m w ≡ true)) ⊎ (new.blocked m.value ≡ true)
+      waiting : ((w : Wire) × Contains p.allows w × (may_move (seen to m) w ≡ true)) ⊎ (p.blocked (seen to m).value ≡ true) →
+          ((w : Wire) × Contains new.allows w × (may_move m w ≡ true)) ⊎ (new.blocked m.value ≡ true)
       waiting (inl found) = inl (wire_to to found.0, mapped_among (wire_to to) p.allows found.0 found.1, found.2)
       waiting (inr blocked) = inr blocked
 
@@ -159,12 +166,15 @@ one_to_one nodes distinct a b same =
     (λ (in_a : a < length nodes).
     ⊎_elim
     (λ (in_b : b < length nodes). both in_a in_b)
-    (λ (past_b : length nodes ≤ b). absurd (omega (arith, within_sum nodes a (suc (a + summed nodes)) in_a, same, get_or_past nodes b (suc (b + summed nodes)) past_b)))
+    (λ (past_b : length nodes ≤ b). absurd (omega (arith, within_sum nodes a (suc (a + summed nodes)) in_a, same,
+        get_or_past nodes b (suc (b + summed nodes)) past_b)))
     (cases_lt b (length nodes)))
     (λ (past_a : length nodes ≤ a).
     ⊎_elim
-    (λ (in_b : b < length nodes). absurd (omega (arith, within_sum nodes b (suc (b + summed nodes)) in_b, same, get_or_past nodes a (suc (a + summed nodes)) past_a)))
-    (λ (past_b : length nodes ≤ b). omega (arith, same, get_or_past nodes a (suc (a + summed nodes)) past_a, get_or_past nodes b (suc (b + summed nodes)) past_b))
+    (λ (in_b : b < length nodes). absurd (omega (arith, within_sum nodes b (suc (b + summed nodes)) in_b, same,
+        get_or_past nodes a (suc (a + summed nodes)) past_a)))
+    (λ (past_b : length nodes ≤ b). omega (arith, same, get_or_past nodes a (suc (a + summed nodes)) past_a,
+        get_or_past nodes b (suc (b + summed nodes)) past_b))
     (cases_lt b (length nodes)))
     (cases_lt a (length nodes))
   where
@@ -173,9 +183,12 @@ one_to_one nodes distinct a b same =
         let here = get_or_default nodes a (suc (a + summed nodes)) 0 in_a in
         let there = get_or_default nodes b (suc (b + summed nodes)) 0 in_b in
         ⊎_elim (λ (e : a ≡ b). e)
-        (λ less. ⊎_elim (λ (l : a < b). absurd (distinct a b 0 l in_b (sym here ∙ same ∙ there))) (λ (l : b < a). absurd (distinct b a 0 l in_a (sym there ∙ sym same ∙ here))) less)
+        (λ less. ⊎_elim (λ (l : a < b). absurd (distinct a b 0 l in_b (sym here ∙ same ∙ there)))
+            (λ (l : b < a). absurd (distinct b a 0 l in_a (sym there ∙ sym same ∙ here))) less)
         (cases_order a b)
 
 -- where a part is written for any numbers
-pub keeps_at : (nodes : List ℕ) → AllPairs (λ a b. a ≢ b) nodes → (notes : Moment → ℕ → ℕ → Bool) (p : Part) → ((m : Moment) (moved node : ℕ) → notes m (numbers_to nodes moved) (numbers_to nodes node) ≡ p.notes (seen (numbers_to nodes) m) moved node) → Keeps p → Keeps (renamed (numbers_to nodes) notes p)
+pub keeps_at : (nodes : List ℕ) → AllPairs (λ a b. a ≢ b) nodes → (notes : Moment → ℕ → ℕ → Bool) (p : Part) →
+    ((m : Moment) (moved node : ℕ) → notes m (numbers_to nodes moved) (numbers_to nodes node) ≡ p.notes (seen (numbers_to nodes) m) moved node) → Keeps p →
+    Keeps (renamed (numbers_to nodes) notes p)
 keeps_at nodes distinct notes p agree = keeps_renamed (numbers_to nodes) (one_to_one nodes distinct) notes p agree

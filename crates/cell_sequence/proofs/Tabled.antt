@@ -52,14 +52,18 @@ own_from p legal m o h =
     let h2 = right_of (legal (after p m o.node)) _ h in
     let h3 = right_of promises _ h2 in record {
       goes = left_of _ _ h;
-      promised = all_of (λ (w : Wire). implies (w.node == o.node) (may_move m w)) (λ (w : Wire). w.node ≡ o.node → may_move m w ≡ true) (λ w t e. implies_at _ _ t (eq-eqb _ _ e)) p.promises (left_of _ _ h2);
+      promised = all_of (λ (w : Wire). implies (w.node == o.node) (may_move m w)) (λ (w : Wire). w.node ≡ o.node →
+          may_move m w ≡ true) (λ w t e. implies_at _ _ t (eq-eqb _ _ e)) p.promises (left_of _ _ h2);
       firm = all_of (λ (other : Owned). implies (fires m.value other) (other.node == o.node || fires (turned m.value other.node) o))
-          (λ (other : Owned). fires m.value other ≡ true → other.node ≢ o.node → fires (turned m.value other.node) o ≡ true) (λ other t f ne. same_node _ _ _ (implies_at _ _ t f) ne) p.own (left_of _ _ h3);
+          (λ (other : Owned). fires m.value other ≡ true → other.node ≢ o.node → fires (turned m.value other.node) o ≡ true)
+              (λ other t f ne. same_node _ _ _ (implies_at _ _ t f) ne) p.own (left_of _ _ h3);
       firm_outside = all_of (λ (w : Wire). implies (may_move m w) (w.node == o.node || fires (turned m.value w.node) o))
-          (λ (w : Wire). may_move m w ≡ true → w.node ≢ o.node → fires (turned m.value w.node) o ≡ true) (λ w t may ne. same_node _ _ _ (implies_at _ _ t may) ne) p.allows (right_of own _ h3);
+          (λ (w : Wire). may_move m w ≡ true → w.node ≢ o.node →
+              fires (turned m.value w.node) o ≡ true) (λ w t may ne. same_node _ _ _ (implies_at _ _ t may) ne) p.allows (right_of own _ h3);
     }
 
-waits_from : (p : Part) (m : Moment) → waits_test p m ≡ true → All (λ (o : Owned). fires m.value o ≡ false) p.own → ((w : Wire) × Contains p.allows w × (may_move m w ≡ true)) ⊎ (p.blocked m.value ≡ true)
+waits_from : (p : Part) (m : Moment) → waits_test p m ≡ true → All (λ (o : Owned). fires m.value o ≡ false) p.own →
+    ((w : Wire) × Contains p.allows w × (may_move m w ≡ true)) ⊎ (p.blocked m.value ≡ true)
 waits_from p m h none =
     ⊎_elim
     (λ (own : list_any (λ o. fires m.value o) p.own ≡ true).
@@ -85,17 +89,23 @@ each_from p legal m h =
     let h3 = right_of (list_all outside p.allows) _ h2 in
     let h4 = right_of (list_all apart p.own) _ h3 in
     let h5 = right_of lows _ h4 in record {
-      own = all_of own (λ (o : Owned). fires m.value o ≡ true → OwnKeeps p (λ m. legal m ≡ true) m o) (λ o t fire. own_from p legal m o (implies_at _ _ t fire)) p.own (left_of _ _ h);
-      outside = all_of outside (λ (w : Wire). may_move m w ≡ true → legal (after p m w.node) ≡ true) (λ w t may. implies_at _ _ t may) p.allows (left_of _ _ h2);
-      apart = all_of apart (λ (o : Owned). (guard_holds m.value o.rules.up && guard_holds m.value o.rules.down) ≡ false) (λ o t. not-true _ t) p.own (left_of _ _ h3);
+      own = all_of own (λ (o : Owned). fires m.value o ≡ true → OwnKeeps p (λ m. legal m ≡ true) m o) (λ o t fire. own_from p legal m o (implies_at _ _ t fire))
+          p.own (left_of _ _ h);
+      outside = all_of outside (λ (w : Wire). may_move m w ≡ true → legal (after p m w.node) ≡ true) (λ w t may. implies_at _ _ t may) p.allows
+          (left_of _ _ h2);
+      apart = all_of apart (λ (o : Owned). (guard_holds m.value o.rules.up && guard_holds m.value o.rules.down) ≡ false) (λ o t. not-true _ t) p.own
+          (left_of _ _ h3);
       lows = λ low. implies_at _ _ (left_of _ _ h4) low;
       bits = λ low. implies_at _ _ (left_of _ _ h5) low;
       waits = waits_from p m (right_of bits _ h5);
     }
 
-first_from : (p : Part) (legal : Moment → Bool) (v : ℕ → Bool) → first_test p legal v ≡ true → IsFirst p v → legal (record { value = v; noted = λ n. false }) ≡ true
+first_from : (p : Part) (legal : Moment → Bool) (v : ℕ → Bool) → first_test p legal v ≡ true → IsFirst p v →
+    legal (record { value = v; noted = λ n. false }) ≡ true
 first_from p legal v h is = implies_at _ _ h (both_of _ _ is.outside (both_of _ _ is.own is.bits))
 
 -- A part keeps its contract where it does so in each legal moment, from which no move leads out.
-pub tabled : (p : Part) (legal : Moment → Bool) → ((v : ℕ → Bool) → first_test p legal v ≡ true) → ((m : Moment) → implies (legal m) (moment_test p legal m) ≡ true) → Keeps p
-tabled p legal first table = kept_by_each p (λ m. legal m ≡ true) (λ v is. first_from p legal v (first v) is) (λ m h. each_from p legal m (implies_at _ _ (table m) h))
+pub tabled : (p : Part) (legal : Moment → Bool) → ((v : ℕ → Bool) → first_test p legal v ≡ true) →
+    ((m : Moment) → implies (legal m) (moment_test p legal m) ≡ true) → Keeps p
+tabled p legal first table = kept_by_each p (λ m. legal m ≡ true) (λ v is. first_from p legal v (first v) is)
+    (λ m h. each_from p legal m (implies_at _ _ (table m) h))

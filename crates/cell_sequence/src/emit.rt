@@ -28,7 +28,8 @@ pub fn emit_q(alloc: Global, p: &QPorts, rules: &mut Rules) -> Result<(), AllocE
     ensures made { OnOk result (rules.new ≡ with_q p.now rules.old) }
     ensures kept { OnErr result (rules.new ≡ rules.old) }
     ensures nodes { length rules.new.up ≡ length rules.old.up }
-    ensures others { (node : ℕ) → node ≢ p.now.child_request → node ≢ p.now.latch → node ≢ p.now.next → IsAlone rules.old rules.new node }
+    ensures others { (node : ℕ) → node ≢ p.now.child_request → node ≢ p.now.latch → node ≢ p.now.next →
+        IsAlone rules.old rules.new node }
     ensures keeps { AllPairs (λ (a b : ℕ). a ≢ b) (q_nodes p.now) → Keeps (q_part p.now) }
 {
     q_keeps();
@@ -72,9 +73,9 @@ pub fn emit_skip(
     Ok(())
 }
 
-/// Writes the two guards of the request by which a loop asks its body, and no others. Under the loop's own `request` the
-/// body is asked, and asked again once it has let go. The loop's own answer never rises, so it has no rules. Where memory
-/// runs out, nothing is written.
+/// Writes the two guards of the request by which a loop asks its body, and no others. Under the loop's own `request`
+/// the body is asked, and asked again once it has let go. The loop's own answer never rises, so it has no rules. Where
+/// memory runs out, nothing is written.
 pub fn emit_loop(
     alloc: Global,
     request: u32,
@@ -91,7 +92,8 @@ pub fn emit_loop(
     ensures kept { OnErr result (rules.new ≡ rules.old) }
     ensures nodes { length rules.new.up ≡ length rules.old.up }
     ensures others { (node : ℕ) → node ≢ body_request → IsAlone rules.old rules.new node }
-    ensures keeps { (answer : ℕ) → AllPairs (λ (a b : ℕ). a ≢ b) (request ∷ answer ∷ body_request ∷ body_answer ∷ []) → Keeps (loop_part request answer body_request body_answer) }
+    ensures keeps { (answer : ℕ) → AllPairs (λ (a b : ℕ). a ≢ b) (request ∷ answer ∷ body_request ∷ body_answer ∷ []) →
+        Keeps (loop_part request answer body_request body_answer) }
 {
     q_keeps();
     let up = all_of(alloc, &[high(request), low(body_answer)])?;

@@ -31,17 +31,21 @@ shifted : (n from s : ℕ) → IsBit n (from + 5) s → IsBit (suc n) from s
 shifted n from s (i, less, at) = (suc i, omega arith, omega (arith, at))
 
 -- lists with some members for each bit
-pub bits_among : {X : Type 0} (f : Bit → List X) (width from : ℕ) (x : X) → Contains (flat_map f (bits_from width from)) x → (s : ℕ) × IsBit width from s × Contains (f (bit_at s)) x
+pub bits_among : {X : Type 0} (f : Bit → List X) (width from : ℕ) (x : X) → Contains (flat_map f (bits_from width from)) x →
+    (s : ℕ) × IsBit width from s × Contains (f (bit_at s)) x
 bits_among f zero from x among = absurd (none_among x among)
 bits_among f (suc n) from x among = by (Contains-append_cases (f (bit_at from)) (flat_map f (bits_from n (from + 5))) x among) (bits_among f n (from + 5) x)
   where
-    by : Contains (f (bit_at from)) x ⊎ Contains (flat_map f (bits_from n (from + 5))) x → (Contains (flat_map f (bits_from n (from + 5))) x → (s : ℕ) × IsBit n (from + 5) s × Contains (f (bit_at s)) x) → (s : ℕ) × IsBit (suc n) from s × Contains (f (bit_at s)) x
+    by : Contains (f (bit_at from)) x ⊎ Contains (flat_map f (bits_from n (from + 5))) x →
+        (Contains (flat_map f (bits_from n (from + 5))) x → (s : ℕ) × IsBit n (from + 5) s × Contains (f (bit_at s)) x) →
+        (s : ℕ) × IsBit (suc n) from s × Contains (f (bit_at s)) x
     by (inl here) rest = (from, (0, omega arith, omega arith), here)
     by (inr there) rest =
         let (s, bit, among) = rest there in
         (s, shifted n from s bit, among)
 
-pub among_bits : {X : Type 0} (f : Bit → List X) (width from : ℕ) (x : X) (s : ℕ) → IsBit width from s → Contains (f (bit_at s)) x → Contains (flat_map f (bits_from width from)) x
+pub among_bits : {X : Type 0} (f : Bit → List X) (width from : ℕ) (x : X) (s : ℕ) → IsBit width from s → Contains (f (bit_at s)) x →
+    Contains (flat_map f (bits_from width from)) x
 among_bits f zero from x s (i, less, at) here = absurd (omega arith)
 among_bits f (suc n) from x s (zero, less, at) here =
     let first : s ≡ from = omega (arith, at) in
@@ -53,7 +57,8 @@ pub leaf_bit : (width from leaf : ℕ) → Contains (written_leaves width from) 
 leaf_bit zero from leaf among = absurd (none_among leaf among)
 leaf_bit (suc n) from leaf among = by (among_cases (from + 4) (written_leaves n (from + 5)) leaf among) (leaf_bit n (from + 5) leaf)
   where
-    by : (from + 4 ≡ leaf) ⊎ Contains (written_leaves n (from + 5)) leaf → (Contains (written_leaves n (from + 5)) leaf → (s : ℕ) × IsBit n (from + 5) s × (leaf ≡ s + 4)) → (s : ℕ) × IsBit (suc n) from s × (leaf ≡ s + 4)
+    by : (from + 4 ≡ leaf) ⊎ Contains (written_leaves n (from + 5)) leaf →
+        (Contains (written_leaves n (from + 5)) leaf → (s : ℕ) × IsBit n (from + 5) s × (leaf ≡ s + 4)) → (s : ℕ) × IsBit (suc n) from s × (leaf ≡ s + 4)
     by (inl e) rest = (from, (0, omega arith, omega arith), sym e)
     by (inr there) rest =
         let (s, bit, at) = rest there in
@@ -62,17 +67,20 @@ leaf_bit (suc n) from leaf among = by (among_cases (from + 4) (written_leaves n 
 pub bit_leaf : (width from s : ℕ) → IsBit width from s → Contains (written_leaves width from) (s + 4)
 bit_leaf zero from s (i, less, at) = absurd (omega arith)
 bit_leaf (suc n) from s (zero, less, at) = (0, omega arith, omega (arith, at))
-bit_leaf (suc n) from s (suc i, less, at) = Contains-append_right ((from + 4) ∷ []) (written_leaves n (from + 5)) (s + 4) (bit_leaf n (from + 5) s (i, omega arith, omega (arith, at)))
+bit_leaf (suc n) from s (suc i, less, at) =
+    Contains-append_right ((from + 4) ∷ []) (written_leaves n (from + 5)) (s + 4) (bit_leaf n (from + 5) s (i, omega arith, omega (arith, at)))
 
 -- what holds of each bit, over the lists
-pub low_writes : (v : ℕ → Bool) (width from : ℕ) → ((s : ℕ) → IsBit width from s → (not (v (s + 2)) && not (v (s + 3))) ≡ true) → all_low v (rails_of (map (λ (b : Bit). b.w) (bits_from width from))) ≡ true
+pub low_writes : (v : ℕ → Bool) (width from : ℕ) → ((s : ℕ) → IsBit width from s → (not (v (s + 2)) && not (v (s + 3))) ≡ true) →
+    all_low v (rails_of (map (λ (b : Bit). b.w) (bits_from width from))) ≡ true
 low_writes v zero from each = refl
 low_writes v (suc n) from each =
     let rest = low_writes v n (from + 5) (λ s bit. each s (shifted n from s bit)) in
     let here = each from (0, omega arith, omega arith) in
     both_of _ _ (left_of _ _ here) (both_of _ _ (right_of (not (v (from + 2))) _ here) rest)
 
-pub writes_low : (v : ℕ → Bool) (width from : ℕ) → all_low v (rails_of (map (λ (b : Bit). b.w) (bits_from width from))) ≡ true → (s : ℕ) → IsBit width from s → (not (v (s + 2)) && not (v (s + 3))) ≡ true
+pub writes_low : (v : ℕ → Bool) (width from : ℕ) → all_low v (rails_of (map (λ (b : Bit). b.w) (bits_from width from))) ≡ true → (s : ℕ) → IsBit width from s →
+    (not (v (s + 2)) && not (v (s + 3))) ≡ true
 writes_low v zero from h s (i, less, at) = absurd (omega arith)
 writes_low v (suc n) from h s (zero, less, at) =
     let first : s ≡ from = omega (arith, at) in
@@ -82,20 +90,24 @@ writes_low v (suc n) from h s (suc i, less, at) =
     let rest = right_of (not (v (from + 2))) (not (v (from + 3)) && all_low v (rails_of (map (λ (b : Bit). b.w) (bits_from n (from + 5))))) h in
     writes_low v n (from + 5) (right_of (not (v (from + 3))) _ rest) s (i, omega arith, omega (arith, at))
 
-pub valid_bits : (v : ℕ → Bool) (width from : ℕ) → ((s : ℕ) → IsBit width from s → valid (v s) (v (s + 1)) ≡ true) → list_all (is_valid v) (map (λ (b : Bit). b.x) (bits_from width from)) ≡ true
+pub valid_bits : (v : ℕ → Bool) (width from : ℕ) → ((s : ℕ) → IsBit width from s → valid (v s) (v (s + 1)) ≡ true) →
+    list_all (is_valid v) (map (λ (b : Bit). b.x) (bits_from width from)) ≡ true
 valid_bits v zero from each = refl
 valid_bits v (suc n) from each = both_of _ _ (each from (0, omega arith, omega arith)) (valid_bits v n (from + 5) (λ s bit. each s (shifted n from s bit)))
 
-pub bits_valid : (v : ℕ → Bool) (width from : ℕ) → list_all (is_valid v) (map (λ (b : Bit). b.x) (bits_from width from)) ≡ true → (s : ℕ) → IsBit width from s → valid (v s) (v (s + 1)) ≡ true
+pub bits_valid : (v : ℕ → Bool) (width from : ℕ) → list_all (is_valid v) (map (λ (b : Bit). b.x) (bits_from width from)) ≡ true → (s : ℕ) → IsBit width from s →
+    valid (v s) (v (s + 1)) ≡ true
 bits_valid v zero from h s (i, less, at) = absurd (omega arith)
 bits_valid v (suc n) from h s (zero, less, at) =
     let first : s ≡ from = omega (arith, at) in
     subst (λ k. valid (v k) (v (k + 1)) ≡ true) (sym first) (left_of (valid (v from) (v (from + 1))) _ h)
 bits_valid v (suc n) from h s (suc i, less, at) = bits_valid v n (from + 5) (right_of (valid (v from) (v (from + 1))) _ h) s (i, omega arith, omega (arith, at))
 
-pub all_written_bits : (v : ℕ → Bool) (ack : Bool) (width from : ℕ) → ((s : ℕ) → IsBit width from s → has_value (now v ack s) ≡ true) → list_all (has_written v) (bits_from width from) ≡ true
+pub all_written_bits : (v : ℕ → Bool) (ack : Bool) (width from : ℕ) → ((s : ℕ) → IsBit width from s → has_value (now v ack s) ≡ true) →
+    list_all (has_written v) (bits_from width from) ≡ true
 all_written_bits v ack zero from each = refl
-all_written_bits v ack (suc n) from each = both_of _ _ (each from (0, omega arith, omega arith)) (all_written_bits v ack n (from + 5) (λ s bit. each s (shifted n from s bit)))
+all_written_bits v ack (suc n) from each =
+    both_of _ _ (each from (0, omega arith, omega arith)) (all_written_bits v ack n (from + 5) (λ s bit. each s (shifted n from s bit)))
 
 -- what a move leaves of a bit's values
 pub record Five (w : ℕ → Bool) (s : ℕ) (n : Now) : Type 0 where

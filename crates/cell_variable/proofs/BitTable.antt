@@ -68,29 +68,37 @@ agreed false false h = refl
 
 -- each move keeps a legal bit legal
 pub stays : (k : Role) (n : Now) → legal n ≡ true → may k n ≡ true → legal (turn k n) ≡ true
-stays rail_t n = implies_both (legal n) (may rail_t n) (legal (turn rail_t n)) (at_now (λ n. implies (legal n) (implies (may rail_t n) (legal (turn rail_t n)))) refl n)
-stays rail_f n = implies_both (legal n) (may rail_f n) (legal (turn rail_f n)) (at_now (λ n. implies (legal n) (implies (may rail_f n) (legal (turn rail_f n)))) refl n)
-stays write_t n = implies_both (legal n) (may write_t n) (legal (turn write_t n)) (at_now (λ n. implies (legal n) (implies (may write_t n) (legal (turn write_t n)))) refl n)
-stays write_f n = implies_both (legal n) (may write_f n) (legal (turn write_f n)) (at_now (λ n. implies (legal n) (implies (may write_f n) (legal (turn write_f n)))) refl n)
-stays written n = implies_both (legal n) (may written n) (legal (turn written n)) (at_now (λ n. implies (legal n) (implies (may written n) (legal (turn written n)))) refl n)
+stays rail_t n = implies_both (legal n) (may rail_t n) (legal (turn rail_t n)) (at_now (λ n. implies (legal n) (implies (may rail_t n) (legal (turn rail_t n))))
+    refl n)
+stays rail_f n = implies_both (legal n) (may rail_f n) (legal (turn rail_f n)) (at_now (λ n. implies (legal n) (implies (may rail_f n) (legal (turn rail_f n))))
+    refl n)
+stays write_t n = implies_both (legal n) (may write_t n) (legal (turn write_t n))
+    (at_now (λ n. implies (legal n) (implies (may write_t n) (legal (turn write_t n)))) refl n)
+stays write_f n = implies_both (legal n) (may write_f n) (legal (turn write_f n))
+    (at_now (λ n. implies (legal n) (implies (may write_f n) (legal (turn write_f n)))) refl n)
+stays written n = implies_both (legal n) (may written n) (legal (turn written n))
+    (at_now (λ n. implies (legal n) (implies (may written n) (legal (turn written n)))) refl n)
 
 -- also where the acknowledge is the node that says that the bit is written
 abbrev pub both_turned : Now → Now
 both_turned n = record n { wa = not n.wa; va = not n.va }
 
 pub stays_alone : (n : Now) → legal n ≡ true → may written n ≡ true → legal (both_turned n) ≡ true
-stays_alone n = implies_both (legal n) (may written n) (legal (both_turned n)) (at_now (λ n. implies (legal n) (implies (may written n) (legal (both_turned n)))) refl n)
+stays_alone n = implies_both (legal n) (may written n) (legal (both_turned n))
+    (at_now (λ n. implies (legal n) (implies (may written n) (legal (both_turned n)))) refl n)
 
 -- and where the acknowledge turns after the node that says that the bit is written
 abbrev pub acknowledged : Now → Now
 acknowledged n = record n { va = not n.va }
 
 pub stays_after : (n : Now) → legal n ≡ true → n.wa ≡ not n.va → legal (acknowledged n) ≡ true
-stays_after n l e = implies_both (legal n) (agree n.wa (not n.va)) (legal (acknowledged n)) (at_now (λ n. implies (legal n) (implies (agree n.wa (not n.va)) (legal (acknowledged n)))) refl n) l (agree_from n.wa (not n.va) e)
+stays_after n l e = implies_both (legal n) (agree n.wa (not n.va)) (legal (acknowledged n))
+    (at_now (λ n. implies (legal n) (implies (agree n.wa (not n.va)) (legal (acknowledged n)))) refl n) l (agree_from n.wa (not n.va) e)
 
 -- that node leaves the acknowledge's value
 pub written_as_acknowledged : (n : Now) → legal n ≡ true → may written n ≡ true → n.wa ≡ n.va
-written_as_acknowledged n l m = agreed n.wa n.va (implies_both (legal n) (may written n) (agree n.wa n.va) (at_now (λ n. implies (legal n) (implies (may written n) (agree n.wa n.va))) refl n) l m)
+written_as_acknowledged n l m = agreed n.wa n.va
+    (implies_both (legal n) (may written n) (agree n.wa n.va) (at_now (λ n. implies (legal n) (implies (may written n) (agree n.wa n.va))) refl n) l m)
 
 -- no enabled rule of the bit is disabled by another move at it
 abbrev pub is_other : Role → Role → Bool
@@ -143,7 +151,8 @@ abbrev pub ready : Now → Bool
 ready n = if n.va then not n.wt && not n.wf else has_value n
 
 pub ready_after : (n : Now) → legal n ≡ true → n.wa ≡ not n.va → ready n ≡ true
-ready_after n l e = implies_both (legal n) (agree n.wa (not n.va)) (ready n) (at_now (λ n. implies (legal n) (implies (agree n.wa (not n.va)) (ready n))) refl n) l (agree_from n.wa (not n.va) e)
+ready_after n l e = implies_both (legal n) (agree n.wa (not n.va)) (ready n) (at_now (λ n. implies (legal n) (implies (agree n.wa (not n.va)) (ready n))) refl
+    n) l (agree_from n.wa (not n.va) e)
 
 pub ready_alone : (n : Now) → legal n ≡ true → may written n ≡ true → ready n ≡ true
 ready_alone n l m = implies_both (legal n) (may written n) (ready n) (at_now (λ n. implies (legal n) (implies (may written n) (ready n))) refl n) l m
@@ -169,7 +178,8 @@ not_true true h = absurd (cc h)
 pub apart : (k : Role) (n : Now) → legal n ≡ true → pulled k n ≡ false
 apart rail_t n l = not_true (pulled rail_t n) (implies_at (legal n) (not (pulled rail_t n)) (at_now (λ n. implies (legal n) (not (pulled rail_t n))) refl n) l)
 apart rail_f n l = not_true (pulled rail_f n) (implies_at (legal n) (not (pulled rail_f n)) (at_now (λ n. implies (legal n) (not (pulled rail_f n))) refl n) l)
-apart written n l = not_true (pulled written n) (implies_at (legal n) (not (pulled written n)) (at_now (λ n. implies (legal n) (not (pulled written n))) refl n) l)
+apart written n l = not_true (pulled written n) (implies_at (legal n) (not (pulled written n)) (at_now (λ n. implies (legal n) (not (pulled written n))) refl n)
+    l)
 apart write_t n l = refl
 apart write_f n l = refl
 
@@ -178,17 +188,21 @@ abbrev idle : Now → Bool
 idle n = not n.wt && (not n.wf && not n.va)
 
 idle_from : (n : Now) → n.wt ≡ false → n.wf ≡ false → n.va ≡ false → idle n ≡ true
-idle_from n a b c = subst (λ x. (not x && (not n.wf && not n.va)) ≡ true) (sym a) (subst (λ x. (not x && not n.va) ≡ true) (sym b) (subst (λ x. not x ≡ true) (sym c) refl))
+idle_from n a b c = subst (λ x. (not x && (not n.wf && not n.va)) ≡ true) (sym a)
+    (subst (λ x. (not x && not n.va) ≡ true) (sym b) (subst (λ x. not x ≡ true) (sym c) refl))
 
 pub low_when_idle : (n : Now) → legal n ≡ true → n.wt ≡ false → n.wf ≡ false → n.va ≡ false → n.wa ≡ false
-low_when_idle n l a b c = not_true n.wa (implies_both (legal n) (idle n) (not n.wa) (at_now (λ n. implies (legal n) (implies (idle n) (not n.wa))) refl n) l (idle_from n a b c))
+low_when_idle n l a b c = not_true n.wa (implies_both (legal n) (idle n) (not n.wa) (at_now (λ n. implies (legal n) (implies (idle n) (not n.wa))) refl n) l
+    (idle_from n a b c))
 
 pub valid_when_idle : (n : Now) → legal n ≡ true → n.wt ≡ false → n.wf ≡ false → n.va ≡ false → valid n.xt n.xf ≡ true
-valid_when_idle n l a b c = implies_both (legal n) (idle n) (valid n.xt n.xf) (at_now (λ n. implies (legal n) (implies (idle n) (valid n.xt n.xf))) refl n) l (idle_from n a b c)
+valid_when_idle n l a b c = implies_both (legal n) (idle n) (valid n.xt n.xf) (at_now (λ n. implies (legal n) (implies (idle n) (valid n.xt n.xf))) refl n) l
+    (idle_from n a b c)
 
 pub legal_at_first : (n : Now) → valid n.xt n.xf ≡ true → n.wt ≡ false → n.wf ≡ false → n.va ≡ false → n.wa ≡ false → legal n ≡ true
 legal_at_first n v a b c d =
-    implies_at (not n.wa) (legal n) (implies_both (valid n.xt n.xf) (idle n) (implies (not n.wa) (legal n)) (at_now (λ n. implies (valid n.xt n.xf) (implies (idle n) (implies (not n.wa) (legal n)))) refl n) v (idle_from n a b c))
+    implies_at (not n.wa) (legal n) (implies_both (valid n.xt n.xf) (idle n) (implies (not n.wa) (legal n))
+        (at_now (λ n. implies (valid n.xt n.xf) (implies (idle n) (implies (not n.wa) (legal n)))) refl n) v (idle_from n a b c))
     (subst (λ x. not x ≡ true) (sym d) refl)
 
 -- a bit that stands still with the acknowledge's value waits for its neighbour
@@ -199,10 +213,14 @@ abbrev waits_test : Now → Bool
 waits_test n = implies (legal n) (implies (agree n.wa n.va) (implies (not (moves n)) (may write_t n || may write_f n)))
 
 still_from : (n : Now) → may rail_t n ≡ false → may rail_f n ≡ false → may written n ≡ false → not (moves n) ≡ true
-still_from n a b c = subst (λ x. not (x || (may rail_f n || may written n)) ≡ true) (sym a) (subst (λ x. not (x || may written n) ≡ true) (sym b) (subst (λ x. not x ≡ true) (sym c) refl))
+still_from n a b c = subst (λ x. not (x || (may rail_f n || may written n)) ≡ true) (sym a)
+    (subst (λ x. not (x || may written n) ≡ true) (sym b) (subst (λ x. not x ≡ true) (sym c) refl))
 
-pub waits : (n : Now) → legal n ≡ true → n.wa ≡ n.va → may rail_t n ≡ false → may rail_f n ≡ false → may written n ≡ false → (may write_t n || may write_f n) ≡ true
-waits n l e a b c = implies_at (not (moves n)) (may write_t n || may write_f n) (implies_both (legal n) (agree n.wa n.va) (implies (not (moves n)) (may write_t n || may write_f n)) (at_now waits_test refl n) l (agree_from n.wa n.va e)) (still_from n a b c)
+pub waits : (n : Now) → legal n ≡ true → n.wa ≡ n.va → may rail_t n ≡ false → may rail_f n ≡ false → may written n ≡ false →
+    (may write_t n || may write_f n) ≡ true
+waits n l e a b c = implies_at (not (moves n)) (may write_t n || may write_f n)
+    (implies_both (legal n) (agree n.wa n.va) (implies (not (moves n)) (may write_t n || may write_f n)) (at_now waits_test refl n) l (agree_from n.wa n.va e))
+    (still_from n a b c)
 
 -- two roles are one, or each is the other's other
 pub role_cases : (k j : Role) → (k ≡ j) ⊎ (is_other k j ≡ true)

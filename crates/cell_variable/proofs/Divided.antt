@@ -14,11 +14,13 @@ use Rattle.cell_variable.proofs.BitPlaces.{not_before}
 
 owned_append : (from : ℕ) (rs us : List NodeRules) → owned_from from (rs ++ us) ≡ owned_from from rs ++ owned_from (from + length rs) us
 owned_append from [] us = let e : from + 0 ≡ from = omega arith in ap (λ k. owned_from k us) (sym e)
-owned_append from (r ∷ rs) us = let e : from + 1 + length rs ≡ from + length (r ∷ rs) = omega arith in ap (λ l. owned from r ∷ l) (owned_append (from + 1) rs us ∙ ap (λ k. owned_from (from + 1) rs ++ owned_from k us) e)
+owned_append from (r ∷ rs) us = let e : from + 1 + length rs ≡ from + length (r ∷ rs) = omega arith in
+    ap (λ l. owned from r ∷ l) (owned_append (from + 1) rs us ∙ ap (λ k. owned_from (from + 1) rs ++ owned_from k us) e)
 
 bits_length : (sites : List (List Pair)) (at width from : ℕ) → length (bits_rules sites at (bits_from width from)) ≡ 5 * width
 bits_length sites at zero from = refl
-bits_length sites at (suc n) from = let e : length (bits_rules sites (suc at) (bits_from n (from + 5))) ≡ 5 * n = bits_length sites (suc at) n (from + 5) in omega (arith, e)
+bits_length sites at (suc n) from = let e : length (bits_rules sites (suc at) (bits_from n (from + 5))) ≡ 5 * n = bits_length sites (suc at) n (from + 5) in
+    omega (arith, e)
 
 -- the five nodes of a bit in the block's order
 abbrev bit_block : (sites : List (List Pair)) → (at from : ℕ) → List Owned
@@ -49,16 +51,19 @@ Own width from = flat_map bit_owned (bits_from width from)
 abbrev Merges : (sites : List (List Pair)) → (at width from : ℕ) → List Owned
 Merges sites at width from = merges_owned sites at (bits_from width from)
 
-bits_block : (sites : List (List Pair)) (at n from : ℕ) → owned_from from (bits_rules sites at (bits_from (suc n) from)) ≡ bit_block sites at from ++ owned_from (from + 5) (bits_rules sites (suc at) (bits_from n (from + 5)))
+bits_block : (sites : List (List Pair)) (at n from : ℕ) → owned_from from (bits_rules sites at (bits_from (suc n) from)) ≡ bit_block sites at from
+    ++ owned_from (from + 5) (bits_rules sites (suc at) (bits_from n (from + 5)))
 bits_block sites at n from =
     owned_append from (bit_rules sites at (bit_at from)) (bits_rules sites (suc at) (bits_from n (from + 5)))
     ∙ ap (λ l. l ++ owned_from (from + 5) (bits_rules sites (suc at) (bits_from n (from + 5)))) (block_is sites at from)
 
 -- for the bits alone, both ways
-divided : (sites : List (List Pair)) (at width from : ℕ) (o : Owned) → Contains (owned_from from (bits_rules sites at (bits_from width from))) o → Contains (Own width from) o ⊎ Contains (Merges sites at width from) o
+divided : (sites : List (List Pair)) (at width from : ℕ) (o : Owned) → Contains (owned_from from (bits_rules sites at (bits_from width from))) o →
+    Contains (Own width from) o ⊎ Contains (Merges sites at width from) o
 divided sites at zero from o among = absurd (none_among o among)
 divided sites at (suc n) from o among =
-    by (Contains-append_cases (bit_block sites at from) (owned_from (from + 5) (bits_rules sites (suc at) (bits_from n (from + 5)))) o (subst (λ l. Contains l o) (bits_block sites at n from) among)) (divided sites (suc at) n (from + 5) o)
+    by (Contains-append_cases (bit_block sites at from) (owned_from (from + 5) (bits_rules sites (suc at) (bits_from n (from + 5)))) o
+        (subst (λ l. Contains l o) (bits_block sites at n from) among)) (divided sites (suc at) n (from + 5) o)
   where
     b : Bit
     b = bit_at from
@@ -80,15 +85,20 @@ divided sites at (suc n) from o among =
     one (suc (suc (suc (suc zero))), less, is) = mine (2, omega arith, is)
     one (suc (suc (suc (suc (suc k)))), less, is) = absurd (omega arith)
 
-    rest : Contains (Own n (from + 5)) o ⊎ Contains (Merges sites (suc at) n (from + 5)) o → Contains (Own (suc n) from) o ⊎ Contains (Merges sites at (suc n) from) o
+    rest : Contains (Own n (from + 5)) o ⊎ Contains (Merges sites (suc at) n (from + 5)) o →
+        Contains (Own (suc n) from) o ⊎ Contains (Merges sites at (suc n) from) o
     rest (inl there) = inl (Contains-append_right (bit_owned b) (Own n (from + 5)) o there)
     rest (inr there) = inr (Contains-append_right pair (Merges sites (suc at) n (from + 5)) o there)
 
-    by : Contains (bit_block sites at from) o ⊎ Contains (owned_from (from + 5) (bits_rules sites (suc at) (bits_from n (from + 5)))) o → (Contains (owned_from (from + 5) (bits_rules sites (suc at) (bits_from n (from + 5)))) o → Contains (Own n (from + 5)) o ⊎ Contains (Merges sites (suc at) n (from + 5)) o) → Contains (Own (suc n) from) o ⊎ Contains (Merges sites at (suc n) from) o
+    by : Contains (bit_block sites at from) o ⊎ Contains (owned_from (from + 5) (bits_rules sites (suc at) (bits_from n (from + 5)))) o →
+        (Contains (owned_from (from + 5) (bits_rules sites (suc at) (bits_from n (from + 5)))) o →
+        Contains (Own n (from + 5)) o ⊎ Contains (Merges sites (suc at) n (from + 5)) o) →
+        Contains (Own (suc n) from) o ⊎ Contains (Merges sites at (suc n) from) o
     by (inl here) deeper = one here
     by (inr there) deeper = rest (deeper there)
 
-joined : (sites : List (List Pair)) (at width from : ℕ) (o : Owned) → Contains (Own width from) o ⊎ Contains (Merges sites at width from) o → Contains (owned_from from (bits_rules sites at (bits_from width from))) o
+joined : (sites : List (List Pair)) (at width from : ℕ) (o : Owned) → Contains (Own width from) o ⊎ Contains (Merges sites at width from) o →
+    Contains (owned_from from (bits_rules sites at (bits_from width from))) o
 joined sites at zero from o (inl among) = absurd (none_among o among)
 joined sites at zero from o (inr among) = absurd (none_among o among)
 joined sites at (suc n) from o either =
@@ -117,7 +127,8 @@ joined sites at (suc n) from o either =
     merged (suc zero, less, is) = Contains-append_left block deeper o (3, omega arith, is)
     merged (suc (suc k), less, is) = absurd (omega arith)
 
-    by : Contains (Own (suc n) from) o ⊎ Contains (Merges sites at (suc n) from) o → (Contains (Own n (from + 5)) o ⊎ Contains (Merges sites (suc at) n (from + 5)) o → Contains deeper o) → Contains (block ++ deeper) o
+    by : Contains (Own (suc n) from) o ⊎ Contains (Merges sites at (suc n) from) o →
+        (Contains (Own n (from + 5)) o ⊎ Contains (Merges sites (suc at) n (from + 5)) o → Contains deeper o) → Contains (block ++ deeper) o
     by (inl own) rest = left (Contains-append_cases (bit_owned b) (Own n (from + 5)) o own)
       where
         left : Contains (bit_owned b) o ⊎ Contains (Own n (from + 5)) o → Contains (block ++ deeper) o
@@ -129,7 +140,8 @@ joined sites at (suc n) from o either =
         right (inl here) = merged here
         right (inr there) = Contains-append_right block deeper o (rest (inr there))
 
-pub variable_divided : (width from : ℕ) (sites : List (List Pair)) (o : Owned) → Contains (owned_from from (variable_rules width from sites)) o ↔ Contains (variable_owned width from ++ merges_owned sites 0 (bits_from width from)) o
+pub variable_divided : (width from : ℕ) (sites : List (List Pair)) (o : Owned) →
+    Contains (owned_from from (variable_rules width from sites)) o ↔ Contains (variable_owned width from ++ merges_owned sites 0 (bits_from width from)) o
 variable_divided width from sites o = (apart, together)
   where
     bits : List Owned
@@ -176,7 +188,8 @@ merges_before : (sites : List (List Pair)) (at width from : ℕ) (o : Owned) →
 merges_before sites at zero from o among = absurd (none_among o among)
 merges_before sites at (suc n) from o (zero, within, is) = let e : from + 2 ≡ o.node = ap (λ (x : Owned). x.node) is in omega (arith, e)
 merges_before sites at (suc n) from o (suc zero, within, is) = let e : from + 3 ≡ o.node = ap (λ (x : Owned). x.node) is in omega (arith, e)
-merges_before sites at (suc n) from o (suc (suc k), within, is) = let less : o.node < from + 5 + 5 * n = merges_before sites (suc at) n (from + 5) o (k, omega arith, is) in omega (arith, less)
+merges_before sites at (suc n) from o (suc (suc k), within, is) = let less : o.node < from + 5 + 5 * n =
+    merges_before sites (suc at) n (from + 5) o (k, omega arith, is) in omega (arith, less)
 
 own_behind : (width from : ℕ) (o : Owned) → Contains (Own width from) o → from ≤ o.node
 own_behind zero from o among = absurd (none_among o among)
@@ -192,10 +205,12 @@ abbrev Pair_of : (sites : List (List Pair)) → (at from : ℕ) → List Owned
 Pair_of sites at from = owned (from + 2) (merged_true sites at) ∷ owned (from + 3) (merged_false sites at) ∷ []
 
 -- a bit's block is written as its own nodes and then its merges
-block_written : (sites : List (List Pair)) (at from : ℕ) (r : RulesValue) → with_owned (bit_block sites at from) r ≡ with_owned (Pair_of sites at from) (with_owned (bit_owned (bit_at from)) r)
+block_written : (sites : List (List Pair)) (at from : ℕ) (r : RulesValue) →
+    with_owned (bit_block sites at from) r ≡ with_owned (Pair_of sites at from) (with_owned (bit_owned (bit_at from)) r)
 block_written sites at from r =
     let b = bit_at from in
-    with_exchanged (Pair_of sites at from) (owned (from + 4) (bit_written b) ∷ []) (with_owned (owned from (kept_rail b.w.t b.x.f b.w.f) ∷ owned (from + 1) (kept_rail b.w.f b.x.t b.w.t) ∷ []) r)
+    with_exchanged (Pair_of sites at from) (owned (from + 4) (bit_written b) ∷ [])
+        (with_owned (owned from (kept_rail b.w.t b.x.f b.w.f) ∷ owned (from + 1) (kept_rail b.w.f b.x.t b.w.t) ∷ []) r)
     (λ o among. others_from o.node (owned (from + 4) (bit_written b) ∷ []) (λ x here e. apart o among (only x here ∙ e)))
   where
     only : (x : Owned) → Contains (owned (from + 4) (bit_written (bit_at from)) ∷ []) x → from + 4 ≡ x.node
@@ -207,17 +222,21 @@ block_written sites at from r =
     apart o (suc zero, within, is) e = let same : from + 3 ≡ o.node = ap (λ (y : Owned). y.node) is in omega (arith, same, e)
     apart o (suc (suc k), within, is) e = absurd (omega arith)
 
-pair_past : (sites : List (List Pair)) (at n from : ℕ) (r : RulesValue) → with_owned (Own n (from + 5)) (with_owned (Pair_of sites at from) r) ≡ with_owned (Pair_of sites at from) (with_owned (Own n (from + 5)) r)
+pair_past : (sites : List (List Pair)) (at n from : ℕ) (r : RulesValue) →
+    with_owned (Own n (from + 5)) (with_owned (Pair_of sites at from) r) ≡ with_owned (Pair_of sites at from) (with_owned (Own n (from + 5)) r)
 pair_past sites at n from r =
     with_exchanged (Pair_of sites at from) (Own n (from + 5)) r (λ o among. others_from o.node (Own n (from + 5)) (λ x here e. apart o among x here e))
     ∙ with_append (Own n (from + 5)) (Pair_of sites at from) r
   where
     apart : (o : Owned) → Contains (Pair_of sites at from) o → (x : Owned) → Contains (Own n (from + 5)) x → x.node ≢ o.node
-    apart o (zero, within, is) x here e = let same : from + 2 ≡ o.node = ap (λ (y : Owned). y.node) is in let far = own_behind n (from + 5) x here in omega (arith, same, far, e)
-    apart o (suc zero, within, is) x here e = let same : from + 3 ≡ o.node = ap (λ (y : Owned). y.node) is in let far = own_behind n (from + 5) x here in omega (arith, same, far, e)
+    apart o (zero, within, is) x here e = let same : from + 2 ≡ o.node = ap (λ (y : Owned). y.node) is in let far = own_behind n (from + 5) x here in
+        omega (arith, same, far, e)
+    apart o (suc zero, within, is) x here e = let same : from + 3 ≡ o.node = ap (λ (y : Owned). y.node) is in let far = own_behind n (from + 5) x here in
+        omega (arith, same, far, e)
     apart o (suc (suc k), within, is) x here e = absurd (omega arith)
 
-bits_written : (sites : List (List Pair)) (at width from : ℕ) (r : RulesValue) → with_owned (owned_from from (bits_rules sites at (bits_from width from))) r ≡ with_owned (Merges sites at width from) (with_owned (Own width from) r)
+bits_written : (sites : List (List Pair)) (at width from : ℕ) (r : RulesValue) →
+    with_owned (owned_from from (bits_rules sites at (bits_from width from))) r ≡ with_owned (Merges sites at width from) (with_owned (Own width from) r)
 bits_written sites at zero from r = refl
 bits_written sites at (suc n) from r =
     let deeper = owned_from (from + 5) (bits_rules sites (suc at) (bits_from n (from + 5))) in
@@ -231,13 +250,16 @@ bits_written sites at (suc n) from r =
     ∙ (ap (with_owned merges) (pair_past sites at n from mine)
     ∙ ap (λ x. with_owned merges (with_owned pair x)) (sym (with_append (bit_owned (bit_at from)) (Own n (from + 5)) r))))))
 
-pub variable_written : (width from : ℕ) (sites : List (List Pair)) (r : RulesValue) → with_owned (merges_owned sites 0 (bits_from width from)) (with_owned (variable_owned width from) r) ≡ with_owned (owned_from from (variable_rules width from sites)) r
+pub variable_written : (width from : ℕ) (sites : List (List Pair)) (r : RulesValue) →
+    with_owned (merges_owned sites 0 (bits_from width from)) (with_owned (variable_owned width from) r) ≡
+    with_owned (owned_from from (variable_rules width from sites)) r
 variable_written width from sites r =
     sym (ap (λ l. with_owned l r) whole
     ∙ (with_append bits tree r
     ∙ (ap (with_owned tree) (bits_written sites 0 width from r)
     ∙ (sym (with_append merges tree (with_owned own r))
-    ∙ (with_exchanged merges tree (with_owned own r) (λ o among. others_from o.node tree (λ x here e. let before = merges_before sites 0 width from o among in let behind = not_before (from + 5 * width) (tree_rules (written_leaves width from) (from + 5 * width)) x here in omega (arith, before, behind, e)))
+    ∙ (with_exchanged merges tree (with_owned own r) (λ o among. others_from o.node tree (λ x here e. let before = merges_before sites 0 width from o among in
+        let behind = not_before (from + 5 * width) (tree_rules (written_leaves width from) (from + 5 * width)) x here in omega (arith, before, behind, e)))
     ∙ (with_append tree merges (with_owned own r)
     ∙ ap (with_owned merges) (sym (with_append own tree r))))))))
   where

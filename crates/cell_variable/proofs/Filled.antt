@@ -30,26 +30,34 @@ are_other bit node h =
     }
 
 -- where memory runs out within a bit
-pub half_bit : (bit : ℕ) (old now later : RulesValue) → now ≡ with_rules bit (kept_rail (bit + 2) (bit + 1) (bit + 3)) old → later ≡ now → IsPartly (bit_owned (bit_at bit)) old later
+pub half_bit : (bit : ℕ) (old now later : RulesValue) → now ≡ with_rules bit (kept_rail (bit + 2) (bit + 1) (bit + 3)) old → later ≡ now →
+    IsPartly (bit_owned (bit_at bit)) old later
 half_bit bit old now later first same =
     let b = bit_at bit in
-    partly_of (owned bit (kept_rail b.w.t b.x.f b.w.f) ∷ []) (bit_owned b) old later (λ o k. Contains-append_left (owned bit (kept_rail b.w.t b.x.f b.w.f) ∷ []) (owned (bit + 1) (kept_rail b.w.f b.x.t b.w.t) ∷ owned (bit + 4) (bit_written b) ∷ []) o k) (partly_all (owned bit (kept_rail b.w.t b.x.f b.w.f) ∷ []) old later (same ∙ first))
+    partly_of (owned bit (kept_rail b.w.t b.x.f b.w.f) ∷ []) (bit_owned b) old later
+        (λ o k. Contains-append_left (owned bit (kept_rail b.w.t b.x.f b.w.f) ∷ []) (owned (bit + 1) (kept_rail b.w.f b.x.t b.w.t)
+        ∷ owned (bit + 4) (bit_written b) ∷ []) o k) (partly_all (owned bit (kept_rail b.w.t b.x.f b.w.f) ∷ []) old later (same ∙ first))
 
-pub whole_bit : {E : Type 0} (bit : ℕ) (old one two later : RulesValue) (r : Result (Unit {0}) E) → one ≡ with_rules bit (kept_rail (bit + 2) (bit + 1) (bit + 3)) old → two ≡ with_rules (bit + 1) (kept_rail (bit + 3) bit (bit + 2)) one → OnOk r (later ≡ with_rules (bit + 4) (bit_written (bit_at bit)) two) → OnErr r (later ≡ two) → IsPartly (bit_owned (bit_at bit)) old later
+pub whole_bit : {E : Type 0} (bit : ℕ) (old one two later : RulesValue) (r : Result (Unit {0}) E) →
+    one ≡ with_rules bit (kept_rail (bit + 2) (bit + 1) (bit + 3)) old → two ≡ with_rules (bit + 1) (kept_rail (bit + 3) bit (bit + 2)) one →
+    OnOk r (later ≡ with_rules (bit + 4) (bit_written (bit_at bit)) two) → OnErr r (later ≡ two) → IsPartly (bit_owned (bit_at bit)) old later
 whole_bit bit old one two later (Ok u) first second made kept =
     let b = bit_at bit in
-    partly_all (bit_owned b) old later (made ∙ ap (with_rules (bit + 4) (bit_written b)) (second ∙ ap (with_rules (bit + 1) (kept_rail b.w.f b.x.t b.w.t)) first))
+    partly_all (bit_owned b) old later (made ∙ ap (with_rules (bit + 4) (bit_written b)) (second
+        ∙ ap (with_rules (bit + 1) (kept_rail b.w.f b.x.t b.w.t)) first))
 whole_bit bit old one two later (Err e) first second made kept =
     let b = bit_at bit in
     let os : List Owned = owned bit (kept_rail b.w.t b.x.f b.w.f) ∷ owned (bit + 1) (kept_rail b.w.f b.x.t b.w.t) ∷ [] in
-    partly_of os (bit_owned b) old later (λ o k. Contains-append_left os (owned (bit + 4) (bit_written b) ∷ []) o k) (partly_all os old later (kept ∙ (second ∙ ap (with_rules (bit + 1) (kept_rail b.w.f b.x.t b.w.t)) first)))
+    partly_of os (bit_owned b) old later (λ o k. Contains-append_left os (owned (bit + 4) (bit_written b) ∷ []) o k)
+        (partly_all os old later (kept ∙ (second ∙ ap (with_rules (bit + 1) (kept_rail b.w.f b.x.t b.w.t)) first)))
 
 abbrev bits_owned : ℕ → ℕ → List Owned
 bits_owned width from = flat_map bit_owned (bits_from width from)
 
 leaves_within : (bound width from : ℕ) → from + 5 * width ≤ bound → All (λ n. n < bound) (written_leaves width from)
 leaves_within bound zero from fits = All-nil (λ n. n < bound)
-leaves_within bound (suc n) from fits = All-cons (λ n. n < bound) (from + 4) (written_leaves n (from + 5)) (omega arith) (leaves_within bound n (from + 5) (omega arith))
+leaves_within bound (suc n) from fits = All-cons (λ n. n < bound) (from + 4) (written_leaves n (from + 5)) (omega arith)
+    (leaves_within bound n (from + 5) (omega arith))
 
 pub leaves_length : (width from : ℕ) → length (written_leaves width from) ≡ width
 leaves_length zero from = refl
@@ -79,28 +87,35 @@ begin width from old = record {
 }
 
 -- one bit more, or a part of it
-bit_partly : (width from : ℕ) (old : RulesValue) (left bit : ℕ) (leaves : List ℕ) (now later : RulesValue) → Filled width from old (suc left) bit leaves now → IsPartly (bit_owned (bit_at bit)) now later → IsPartly (bits_owned width from) old later
+bit_partly : (width from : ℕ) (old : RulesValue) (left bit : ℕ) (leaves : List ℕ) (now later : RulesValue) → Filled width from old (suc left) bit leaves now →
+    IsPartly (bit_owned (bit_at bit)) now later → IsPartly (bits_owned width from) old later
 bit_partly width from old left bit leaves now later so_far some =
     partly_on (bits_owned width from) old now later so_far.partly
-    (partly_of (bit_owned (bit_at bit)) (bits_owned width from) now later (λ o k. so_far.among o (Contains-append_left (bit_owned (bit_at bit)) (bits_owned left (bit + 5)) o k)) some)
+    (partly_of (bit_owned (bit_at bit)) (bits_owned width from) now later
+        (λ o k. so_far.among o (Contains-append_left (bit_owned (bit_at bit)) (bits_owned left (bit + 5)) o k)) some)
 
-more : (width from : ℕ) (old : RulesValue) (left bit : ℕ) (leaves : List ℕ) (now : RulesValue) (later : RulesValue) → Filled width from old (suc left) bit leaves now → later ≡ with_owned (bit_owned (bit_at bit)) now → length later.up ≡ length now.up → ((k : ℕ) → IsOther k (bit_owned (bit_at bit)) → IsAlone now later k) → Filled width from old left (bit + 5) (leaves ++ (bit + 4) ∷ []) later
+more : (width from : ℕ) (old : RulesValue) (left bit : ℕ) (leaves : List ℕ) (now : RulesValue) (later : RulesValue) →
+    Filled width from old (suc left) bit leaves now → later ≡ with_owned (bit_owned (bit_at bit)) now → length later.up ≡ length now.up →
+    ((k : ℕ) → IsOther k (bit_owned (bit_at bit)) → IsAlone now later k) → Filled width from old left (bit + 5) (leaves ++ (bit + 4) ∷ []) later
 more width from old left bit leaves now later so_far is same far = record {
   place = omega (arith, so_far.place);
   leaves_are = append_assoc leaves ((bit + 4) ∷ []) (written_leaves left (bit + 5)) ∙ so_far.leaves_are;
   made = ap (with_owned (bits_owned left (bit + 5))) is ∙ (sym (with_append (bit_owned (bit_at bit)) (bits_owned left (bit + 5)) now) ∙ so_far.made);
   count = same ∙ so_far.count;
-  others = λ node o. alone_on old now later node (so_far.others node o) (far node (other_left node (bit_owned (bit_at bit)) (bits_owned left (bit + 5)) (so_far.rest node o)));
+  others = λ node o. alone_on old now later node (so_far.others node o)
+      (far node (other_left node (bit_owned (bit_at bit)) (bits_owned left (bit + 5)) (so_far.rest node o)));
   rest = λ node o. other_right node (bit_owned (bit_at bit)) (bits_owned left (bit + 5)) (so_far.rest node o);
   partly = bit_partly width from old left bit leaves now later so_far (partly_all (bit_owned (bit_at bit)) now later is);
   among = λ o k. so_far.among o (Contains-append_right (bit_owned (bit_at bit)) (bits_owned left (bit + 5)) o k);
 }
 
 -- also where memory runs out in a bit
-alone : (width from : ℕ) (old : RulesValue) (left bit : ℕ) (leaves : List ℕ) (now later : RulesValue) → Filled width from old (suc left) bit leaves now → ((k : ℕ) → IsOther k (bit_owned (bit_at bit)) → IsAlone now later k) → (node : ℕ) → IsOther node (variable_owned width from) → IsAlone old later node
+alone : (width from : ℕ) (old : RulesValue) (left bit : ℕ) (leaves : List ℕ) (now later : RulesValue) → Filled width from old (suc left) bit leaves now →
+    ((k : ℕ) → IsOther k (bit_owned (bit_at bit)) → IsAlone now later k) → (node : ℕ) → IsOther node (variable_owned width from) → IsAlone old later node
 alone width from old left bit leaves now later so_far far node o =
     let mine : IsOther node (bits_owned width from) = other_left node (bits_owned width from) (tree_owned (written_leaves width from) (from + 5 * width)) o in
-    alone_on old now later node (so_far.others node mine) (far node (other_left node (bit_owned (bit_at bit)) (bits_owned left (bit + 5)) (so_far.rest node mine)))
+    alone_on old now later node (so_far.others node mine)
+        (far node (other_left node (bit_owned (bit_at bit)) (bits_owned left (bit + 5)) (so_far.rest node mine)))
 
 -- the same by the place of the next bit
 pub record Filling (width from : ℕ) (old : RulesValue) (place bit : ℕ) (leaves : List ℕ) (now : RulesValue) : Type 0 where
@@ -109,9 +124,13 @@ pub record Filling (width from : ℕ) (old : RulesValue) (place bit : ℕ) (leav
   pub so_far : Filled width from old left bit leaves now
 
 pub filled_begin : (width from : ℕ) (old : RulesValue) (leaves : List ℕ) → leaves ≡ [] → Filling width from old 0 from leaves old
-filled_begin width from old leaves none = record { left = width; counted = omega arith; so_far = subst (λ l. Filled width from old width from l old) (sym none) (begin width from old) }
+filled_begin width from old leaves none =
+    record { left = width; counted = omega arith; so_far = subst (λ l. Filled width from old width from l old) (sym none) (begin width from old) }
 
-pub filled_more : (width from : ℕ) (old : RulesValue) (place bit : ℕ) (leaves upper : List ℕ) (now : RulesValue) (later : RulesValue) → Filling width from old place bit leaves now → place < width → upper ≡ leaves ++ (bit + 4) ∷ [] → later ≡ with_owned (bit_owned (bit_at bit)) now → length later.up ≡ length now.up → ((k : ℕ) → IsOther k (bit_owned (bit_at bit)) → IsAlone now later k) → Filling width from old (place + 1) (bit + 5) upper later
+pub filled_more : (width from : ℕ) (old : RulesValue) (place bit : ℕ) (leaves upper : List ℕ) (now : RulesValue) (later : RulesValue) →
+    Filling width from old place bit leaves now → place < width → upper ≡ leaves ++ (bit + 4) ∷ [] → later ≡ with_owned (bit_owned (bit_at bit)) now →
+    length later.up ≡ length now.up → ((k : ℕ) → IsOther k (bit_owned (bit_at bit)) → IsAlone now later k) →
+    Filling width from old (place + 1) (bit + 5) upper later
 filled_more width from old place bit leaves upper now later f less up is same far = by f.left f.counted f.so_far
   where
     by : (left : ℕ) → place + left ≡ width → Filled width from old left bit leaves now → Filling width from old (place + 1) (bit + 5) upper later
@@ -122,14 +141,18 @@ filled_more width from old place bit leaves upper now later f less up is same fa
       so_far = subst (λ l. Filled width from old left (bit + 5) l later) (sym up) (more width from old left bit leaves now later so_far is same far);
     }
 
-pub filled_alone : (width from : ℕ) (old : RulesValue) (place bit : ℕ) (leaves : List ℕ) (now later : RulesValue) → Filling width from old place bit leaves now → place < width → ((k : ℕ) → IsOther k (bit_owned (bit_at bit)) → IsAlone now later k) → (node : ℕ) → IsOther node (variable_owned width from) → IsAlone old later node
+pub filled_alone : (width from : ℕ) (old : RulesValue) (place bit : ℕ) (leaves : List ℕ) (now later : RulesValue) → Filling width from old place bit leaves now
+    → place < width → ((k : ℕ) → IsOther k (bit_owned (bit_at bit)) → IsAlone now later k) → (node : ℕ) → IsOther node (variable_owned width from) →
+    IsAlone old later node
 filled_alone width from old place bit leaves now later f less far = by f.left f.counted f.so_far
   where
-    by : (left : ℕ) → place + left ≡ width → Filled width from old left bit leaves now → (node : ℕ) → IsOther node (variable_owned width from) → IsAlone old later node
+    by : (left : ℕ) → place + left ≡ width → Filled width from old left bit leaves now → (node : ℕ) → IsOther node (variable_owned width from) →
+        IsAlone old later node
     by zero counted so_far = absurd (omega arith)
     by (suc left) counted so_far = alone width from old left bit leaves now later so_far far
 
-pub filled_partly : (width from : ℕ) (old : RulesValue) (place bit : ℕ) (leaves : List ℕ) (now later : RulesValue) → Filling width from old place bit leaves now → place < width → IsPartly (bit_owned (bit_at bit)) now later → IsPartly (variable_owned width from) old later
+pub filled_partly : (width from : ℕ) (old : RulesValue) (place bit : ℕ) (leaves : List ℕ) (now later : RulesValue) → Filling width from old place bit leaves now
+    → place < width → IsPartly (bit_owned (bit_at bit)) now later → IsPartly (variable_owned width from) old later
 filled_partly width from old place bit leaves now later f less some = by f.left f.counted f.so_far
   where
     tree : List Owned
@@ -137,10 +160,12 @@ filled_partly width from old place bit leaves now later f less some = by f.left 
 
     by : (left : ℕ) → place + left ≡ width → Filled width from old left bit leaves now → IsPartly (variable_owned width from) old later
     by zero counted so_far = absurd (omega arith)
-    by (suc left) counted so_far = partly_of (bits_owned width from) (variable_owned width from) old later (λ o k. Contains-append_left (bits_owned width from) tree o k) (bit_partly width from old left bit leaves now later so_far some)
+    by (suc left) counted so_far = partly_of (bits_owned width from) (variable_owned width from) old later
+        (λ o k. Contains-append_left (bits_owned width from) tree o k) (bit_partly width from old left bit leaves now later so_far some)
 
 -- there is room for the bit
-pub filled_fits : (width from : ℕ) (old : RulesValue) (place bit : ℕ) (leaves : List ℕ) (now : RulesValue) → Filling width from old place bit leaves now → from + 6 * width ≤ length old.up + 1 → place < width → bit + 5 ≤ length now.up
+pub filled_fits : (width from : ℕ) (old : RulesValue) (place bit : ℕ) (leaves : List ℕ) (now : RulesValue) → Filling width from old place bit leaves now →
+    from + 6 * width ≤ length old.up + 1 → place < width → bit + 5 ≤ length now.up
 filled_fits width from old place bit leaves now f fits less = omega (arith, f.counted, f.so_far.place, f.so_far.count, less, fits)
 
 -- once no bit is left
@@ -150,10 +175,12 @@ pub record AllFilled (width from : ℕ) (old : RulesValue) (bit : ℕ) (leaves :
   pub room : bit + length leaves ≤ length now.up + 1
   pub within : All (λ n. n < length now.up) leaves
   pub made : (later : RulesValue) → later ≡ with_owned (tree_owned leaves bit) now → later ≡ with_owned (variable_owned width from) old
-  pub others : (later : RulesValue) → ((node : ℕ) → IsOther node (tree_owned leaves bit) → IsAlone now later node) → (node : ℕ) → IsOther node (variable_owned width from) → IsAlone old later node
+  pub others : (later : RulesValue) → ((node : ℕ) → IsOther node (tree_owned leaves bit) → IsAlone now later node) → (node : ℕ) →
+      IsOther node (variable_owned width from) → IsAlone old later node
   pub partly : (later : RulesValue) → IsPartly (tree_owned leaves bit) now later → IsPartly (variable_owned width from) old later
 
-ended : (width from : ℕ) (old : RulesValue) (bit : ℕ) (leaves : List ℕ) (now : RulesValue) → Filled width from old 0 bit leaves now → from + 6 * width ≤ length old.up + 1 → 1 ≤ width → AllFilled width from old bit leaves now
+ended : (width from : ℕ) (old : RulesValue) (bit : ℕ) (leaves : List ℕ) (now : RulesValue) → Filled width from old 0 bit leaves now →
+    from + 6 * width ≤ length old.up + 1 → 1 ≤ width → AllFilled width from old bit leaves now
 ended width from old bit leaves now so_far fits some =
     let at : bit ≡ from + 5 * width = omega (arith, so_far.place) in
     let are : leaves ≡ written_leaves width from = sym (append-nil leaves) ∙ so_far.leaves_are in
@@ -170,10 +197,13 @@ ended width from old bit leaves now so_far fits some =
       partly = λ later some.
           partly_on (variable_owned width from) old now later
           (partly_of (bits_owned width from) (variable_owned width from) old now (λ o k. Contains-append_left (bits_owned width from) tree o k) so_far.partly)
-          (partly_of tree (variable_owned width from) now later (λ o k. Contains-append_right (bits_owned width from) tree o k) (subst (λ os. IsPartly os now later) same some));
+          (partly_of tree (variable_owned width from) now later (λ o k. Contains-append_right (bits_owned width from) tree o k)
+              (subst (λ os. IsPartly os now later) same some));
     }
 
-pub filled_end : (width from : ℕ) (old : RulesValue) (place bit : ℕ) (leaves slice : List ℕ) (now : RulesValue) → Filling width from old place bit leaves now → width ≤ place → from + 6 * width ≤ length old.up + 1 → 1 ≤ width → slice ≡ leaves → AllFilled width from old bit slice now
+pub filled_end : (width from : ℕ) (old : RulesValue) (place bit : ℕ) (leaves slice : List ℕ) (now : RulesValue) → Filling width from old place bit leaves now →
+    width ≤ place → from + 6 * width ≤ length old.up + 1 → 1 ≤ width → slice ≡ leaves → AllFilled width from old bit slice now
 filled_end width from old place bit leaves slice now f last fits some is =
     let none : f.left ≡ 0 = omega (arith, f.counted) in
-    subst (λ l. AllFilled width from old bit l now) (sym is) (ended width from old bit leaves now (subst (λ l. Filled width from old l bit leaves now) none f.so_far) fits some)
+    subst (λ l. AllFilled width from old bit l now) (sym is)
+        (ended width from old bit leaves now (subst (λ l. Filled width from old l bit leaves now) none f.so_far) fits some)

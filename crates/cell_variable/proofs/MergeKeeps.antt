@@ -57,7 +57,8 @@ module _ (n : ℕ) (ns : List ℕ) (output : ℕ) where
 
   -- where the output is enabled
   fires_is : (v : ℕ → Bool) → fires v output_owned ≡ (if v output then all_low v inputs else list_any v inputs)
-  fires_is v = ap (λ g. if v output then g else guard_holds v (map (λ k. is_high k ∷ []) inputs)) (down_holds v inputs) ∙ ap (λ g. if v output then all_low v inputs else g) (up_holds v inputs)
+  fires_is v = ap (λ g. if v output then g else guard_holds v (map (λ k. is_high k ∷ []) inputs)) (down_holds v inputs)
+      ∙ ap (λ g. if v output then all_low v inputs else g) (up_holds v inputs)
 
   only : (o : Owned) → Contains part.own o → output_owned ≡ o
   only o among = by (among_cases output_owned [] o among)
@@ -69,13 +70,15 @@ module _ (n : ℕ) (ns : List ℕ) (output : ℕ) where
   -- where the output is enabled no input may move
   still : (m : Moment) (input : ℕ) → Contains inputs input → fires m.value output_owned ≡ true → may_move m (input_wire input) ≡ true → ⊥
   still m input among f may =
-      by (m.value output) (m.value input) (all_low m.value inputs) (list_any m.value inputs) (any_or_all m.value inputs) (low_with_all m.value inputs input among) (sym (fires_is m.value) ∙ f) may
+      by (m.value output) (m.value input) (all_low m.value inputs) (list_any m.value inputs) (any_or_all m.value inputs)
+          (low_with_all m.value inputs input among) (sym (fires_is m.value) ∙ f) may
     where
       low_with_all : (v : ℕ → Bool) (ks : List ℕ) (k : ℕ) → Contains ks k → all_low v ks ≡ true → v k ≡ false
       low_with_all v [] k among h = absurd (none_among k among)
       low_with_all v (j ∷ ks) k among h = one (v j) (all_low v ks) refl refl h (among_cases j ks k among) (low_with_all v ks k)
         where
-          one : (b a : Bool) → v j ≡ b → all_low v ks ≡ a → (not b && a) ≡ true → (j ≡ k) ⊎ Contains ks k → (Contains ks k → all_low v ks ≡ true → v k ≡ false) → v k ≡ false
+          one : (b a : Bool) → v j ≡ b → all_low v ks ≡ a → (not b && a) ≡ true → (j ≡ k) ⊎ Contains ks k → (Contains ks k → all_low v ks ≡ true → v k ≡ false)
+              → v k ≡ false
           one true a e f h among rest = absurd (cc h)
           one false a e f h (inl same) rest = ap v (sym same) ∙ e
           one false a e f h (inr there) rest = rest there (f ∙ h)
@@ -89,12 +92,14 @@ module _ (n : ℕ) (ns : List ℕ) (output : ℕ) where
       by false false true false e l f g = cc (f)
       by false false false s e l f g = cc (g)
 
-  firm : (m : Moment) (o : Owned) → Contains part.own o → fires m.value o ≡ true → (node : ℕ) → IsMove part m node → node ≢ o.node → fires (turned m.value node) o ≡ true
+  firm : (m : Moment) (o : Owned) → Contains part.own o → fires m.value o ≡ true → (node : ℕ) → IsMove part m node → node ≢ o.node →
+      fires (turned m.value node) o ≡ true
   firm m o among f node (inl own) ne =
       absurd (ne (own.at ∙ ap (λ (x : Owned). x.node) (sym (only own.o own.among) ∙ only o among)))
   firm m o among f node (inr outside) ne =
       let (input, here, is) = among_mapped input_wire inputs outside.w outside.among in
-      absurd (still m input here (subst (λ (x : Owned). fires m.value x ≡ true) (sym (only o among)) f) (subst (λ (x : Wire). may_move m x ≡ true) (sym is) outside.may))
+      absurd (still m input here (subst (λ (x : Owned). fires m.value x ≡ true) (sym (only o among)) f)
+          (subst (λ (x : Wire). may_move m x ≡ true) (sym is) outside.may))
 
   promised : (m : Moment) (o : Owned) → Contains part.own o → fires m.value o ≡ true → (w : Wire) → Contains part.promises w → may_move m w ≡ true
   promised m o among f w here = by (among_cases output_wire [] w here)
@@ -122,7 +127,8 @@ module _ (n : ℕ) (ns : List ℕ) (output : ℕ) where
       first_low false a h = refl
       first_low true a h = absurd (cc h)
 
-      by : (c a : Bool) → m.value output ≡ c → all_low m.value inputs ≡ a → (if c then a else list_any m.value inputs) ≡ false → (w : Wire) × Contains part.allows w × (may_move m w ≡ true)
+      by : (c a : Bool) → m.value output ≡ c → all_low m.value inputs ≡ a → (if c then a else list_any m.value inputs) ≡ false →
+          (w : Wire) × Contains part.allows w × (may_move m w ≡ true)
       by true true ec ea f = absurd (cc f)
       by true false ec ea f =
           let (k, among, high) = some_high m.value inputs ea in
@@ -130,7 +136,8 @@ module _ (n : ℕ) (ns : List ℕ) (output : ℕ) where
       by false true ec ea f = (
         input_wire n,
         mapped_among input_wire inputs n (0, omega arith, refl),
-        ap (λ b. if b then m.value output else all_low m.value (output ∷ inputs)) (first_low (m.value n) (all_low m.value ns) ea) ∙ (ap (λ b. not b && all_low m.value inputs) ec ∙ ea),
+        ap (λ b. if b then m.value output else all_low m.value (output ∷ inputs)) (first_low (m.value n) (all_low m.value ns) ea)
+            ∙ (ap (λ b. not b && all_low m.value inputs) ec ∙ ea),
       )
       by false false ec ea f = absurd (true≢false (one (all_low m.value inputs) (list_any m.value inputs) (any_or_all m.value inputs) ea ∙ f))
         where

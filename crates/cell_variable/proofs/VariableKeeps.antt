@@ -36,9 +36,11 @@ low_at v (k ∷ ns) n h among = by (among_cases k ns n among) (low_at v ns n (ri
 
 each_low : (v : ℕ → Bool) (ns : List ℕ) → ((n : ℕ) → Contains ns n → v n ≡ false) → all_low v ns ≡ true
 each_low v [] f = refl
-each_low v (n ∷ ns) f = both_of (not (v n)) (all_low v ns) (ap not (f n (0, omega arith, refl))) (each_low v ns (λ k among. f k (Contains-append_right (n ∷ []) ns k among)))
+each_low v (n ∷ ns) f = both_of (not (v n)) (all_low v ns) (ap not (f n (0, omega arith, refl)))
+    (each_low v ns (λ k among. f k (Contains-append_right (n ∷ []) ns k among)))
 
-module _ (width from : ℕ) (some : 1 ≤ width) (settles : (leaves : List ℕ) (first : ℕ) → 0 < length leaves → AreOutside leaves first → Settles leaves first) where
+module _ (width from : ℕ) (some : 1 ≤ width) (settles : (leaves : List ℕ) (first : ℕ) → 0 < length leaves → AreOutside leaves first →
+    Settles leaves first) where
   abbrev part : Part
   part = variable_part width from
 
@@ -131,14 +133,16 @@ module _ (width from : ℕ) (some : 1 ≤ width) (settles : (leaves : List ℕ) 
 
   -- a node of the part's own is at a bit or in the tree
   data Mine (o : Owned) : Type 0 where
-    of_bit : (s : ℕ) → IsBit width from s → (k : Role) → is_own k ≡ true → o.node ≡ place k s → ((v : ℕ → Bool) (b : Bool) → fires v o ≡ may k (now v b s)) → ((v : ℕ → Bool) (b : Bool) → (guard_holds v o.rules.up && guard_holds v o.rules.down) ≡ table.pulled k (now v b s)) → Mine o
+    of_bit : (s : ℕ) → IsBit width from s → (k : Role) → is_own k ≡ true → o.node ≡ place k s → ((v : ℕ → Bool) (b : Bool) → fires v o ≡ may k (now v b s)) →
+        ((v : ℕ → Bool) (b : Bool) → (guard_holds v o.rules.up && guard_holds v o.rules.down) ≡ table.pulled k (now v b s)) → Mine o
     of_tree : Contains tree o → Mine o
 
   mine : (o : Owned) → Contains (variable_owned width from) o → Mine o
   mine o among = by (Contains-append_cases (flat_map bit_owned (bits_from width from)) tree o among)
     where
       at_one : (s : ℕ) → IsBit width from s → Contains (bit_owned (bit_at s)) o → Mine o
-      at_one s bit here = first (among_cases (owned s (kept_rail (s + 2) (s + 1) (s + 3))) (owned (s + 1) (kept_rail (s + 3) s (s + 2)) ∷ owned (s + 4) (bit_written (bit_at s)) ∷ []) o here)
+      at_one s bit here = first (among_cases (owned s (kept_rail (s + 2) (s + 1) (s + 3))) (owned (s + 1) (kept_rail (s + 3) s (s + 2))
+          ∷ owned (s + 4) (bit_written (bit_at s)) ∷ []) o here)
         where
           third : (owned (s + 4) (bit_written (bit_at s)) ≡ o) ⊎ Contains [] o → Mine o
           third (inl e) = subst Mine e (of_bit s bit written refl refl (λ v b. refl) (λ v b. refl))
@@ -148,7 +152,8 @@ module _ (width from : ℕ) (some : 1 ≤ width) (settles : (leaves : List ℕ) 
           second (inl e) = subst Mine e (of_bit s bit rail_f refl refl (λ v b. refl) (λ v b. refl))
           second (inr rest) = third (among_cases (owned (s + 4) (bit_written (bit_at s))) [] o rest)
 
-          first : (owned s (kept_rail (s + 2) (s + 1) (s + 3)) ≡ o) ⊎ Contains (owned (s + 1) (kept_rail (s + 3) s (s + 2)) ∷ owned (s + 4) (bit_written (bit_at s)) ∷ []) o → Mine o
+          first : (owned s (kept_rail (s + 2) (s + 1) (s + 3)) ≡ o) ⊎ Contains (owned (s + 1) (kept_rail (s + 3) s (s + 2))
+              ∷ owned (s + 4) (bit_written (bit_at s)) ∷ []) o → Mine o
           first (inl e) = subst Mine e (of_bit s bit rail_t refl refl (λ v b. refl) (λ v b. refl))
           first (inr rest) = second (among_cases (owned (s + 1) (kept_rail (s + 3) s (s + 2))) (owned (s + 4) (bit_written (bit_at s)) ∷ []) o rest)
 
@@ -197,11 +202,16 @@ module _ (width from : ℕ) (some : 1 ≤ width) (settles : (leaves : List ℕ) 
   ack_elsewhere s t bit other ne written e = ne (same_bit s t bit other (one_bit s bit e))
 
   -- a move at a bit keeps it legal
-  legal_here : (v : ℕ → Bool) (s : ℕ) → IsBit width from s → (k : Role) → legal (now v (v ack) s) ≡ true → may k (now v (v ack) s) ≡ true → legal (now (turned v (place k s)) (turned v (place k s) ack) s) ≡ true
-  legal_here v s bit rail_t l m = carry legal _ s _ _ (five_at v (v ack) s rail_t) (turned_apart v s ack (λ e. ack_beside s 0 bit (omega arith) (omega (arith, e)))) (table.stays rail_t (now v (v ack) s) l m)
-  legal_here v s bit rail_f l m = carry legal _ s _ _ (five_at v (v ack) s rail_f) (turned_apart v (s + 1) ack (ack_beside s 1 bit (omega arith))) (table.stays rail_f (now v (v ack) s) l m)
-  legal_here v s bit write_t l m = carry legal _ s _ _ (five_at v (v ack) s write_t) (turned_apart v (s + 2) ack (ack_beside s 2 bit (omega arith))) (table.stays write_t (now v (v ack) s) l m)
-  legal_here v s bit write_f l m = carry legal _ s _ _ (five_at v (v ack) s write_f) (turned_apart v (s + 3) ack (ack_beside s 3 bit (omega arith))) (table.stays write_f (now v (v ack) s) l m)
+  legal_here : (v : ℕ → Bool) (s : ℕ) → IsBit width from s → (k : Role) → legal (now v (v ack) s) ≡ true → may k (now v (v ack) s) ≡ true →
+      legal (now (turned v (place k s)) (turned v (place k s) ack) s) ≡ true
+  legal_here v s bit rail_t l m = carry legal _ s _ _ (five_at v (v ack) s rail_t)
+      (turned_apart v s ack (λ e. ack_beside s 0 bit (omega arith) (omega (arith, e)))) (table.stays rail_t (now v (v ack) s) l m)
+  legal_here v s bit rail_f l m = carry legal _ s _ _ (five_at v (v ack) s rail_f) (turned_apart v (s + 1) ack (ack_beside s 1 bit (omega arith)))
+      (table.stays rail_f (now v (v ack) s) l m)
+  legal_here v s bit write_t l m = carry legal _ s _ _ (five_at v (v ack) s write_t) (turned_apart v (s + 2) ack (ack_beside s 2 bit (omega arith)))
+      (table.stays write_t (now v (v ack) s) l m)
+  legal_here v s bit write_f l m = carry legal _ s _ _ (five_at v (v ack) s write_f) (turned_apart v (s + 3) ack (ack_beside s 3 bit (omega arith)))
+      (table.stays write_f (now v (v ack) s) l m)
   legal_here v s bit written l m = by (cases_eq ack (s + 4))
     where
       five : Five (turned v (s + 4)) s (turn written (now v (v ack) s))
@@ -215,8 +225,10 @@ module _ (width from : ℕ) (some : 1 ≤ width) (settles : (leaves : List ℕ) 
           (ap (turned v (s + 4)) e ∙ (turned_here v (s + 4) ∙ ap (λ n. not (v n)) (sym e)))
           (table.stays_alone (now v (v ack) s) l m)
 
-  leaf_turned : (v : ℕ → Bool) (o : Owned) → IsSettled leaves tree_from v → Contains tree o → fires v o ≡ true → o.node ≡ ack → (s : ℕ) → IsBit width from s → v (s + 4) ≡ not (v ack)
-  leaf_turned v o settled among f at s bit = All-contains (λ leaf. v leaf ≡ not (v ack)) leaves (s + 4) (known.turns v o settled among f at) (bit_leaf width from s bit)
+  leaf_turned : (v : ℕ → Bool) (o : Owned) → IsSettled leaves tree_from v → Contains tree o → fires v o ≡ true → o.node ≡ ack → (s : ℕ) → IsBit width from s →
+      v (s + 4) ≡ not (v ack)
+  leaf_turned v o settled among f at s bit =
+      All-contains (λ leaf. v leaf ≡ not (v ack)) leaves (s + 4) (known.turns v o settled among f at) (bit_leaf width from s bit)
 
   legal_kept : (v : ℕ → Bool) (node : ℕ) → Legal v → IsSettled leaves tree_from v → Moved v node → Legal (turned v node)
   legal_kept v node l settled (at_bit s bit k m at) t other =
@@ -224,7 +236,8 @@ module _ (width from : ℕ) (some : 1 ≤ width) (settles : (leaves : List ℕ) 
     where
       by : (s ≡ t) ⊎ (s ≢ t) → legal (now (turned v (place k s)) (turned v (place k s) ack) t) ≡ true
       by (inl e) = subst (λ x. legal (now (turned v (place k s)) (turned v (place k s) ack) x) ≡ true) e (legal_here v s bit k (l s bit) m)
-      by (inr ne) = carry legal _ t (now v (v ack) t) _ (five_beside v (v ack) t (place k s) (bits_apart s t bit other ne k)) (turned_apart v (place k s) ack (ack_elsewhere s t bit other ne k)) (l t other)
+      by (inr ne) = carry legal _ t (now v (v ack) t) _ (five_beside v (v ack) t (place k s) (bits_apart s t bit other ne k))
+          (turned_apart v (place k s) ack (ack_elsewhere s t bit other ne k)) (l t other)
   legal_kept v node l settled (in_tree o among f at) t other =
       subst (λ n. legal (now (turned v n) (turned v n ack) t) ≡ true) (sym at) (by (cases_eq o.node ack))
     where
@@ -274,10 +287,12 @@ module _ (width from : ℕ) (some : 1 ≤ width) (settles : (leaves : List ℕ) 
   }
     where
       leaf_low : (leaf : ℕ) → Contains leaves leaf → v leaf ≡ false
-      leaf_low leaf among = low_at v (leaves ++ map (λ (o : Owned). o.node) tree) leaf is.own (Contains-append_left leaves (map (λ (o : Owned). o.node) tree) leaf among)
+      leaf_low leaf among = low_at v (leaves ++ map (λ (o : Owned). o.node) tree) leaf is.own
+          (Contains-append_left leaves (map (λ (o : Owned). o.node) tree) leaf among)
 
       node_low : (o : Owned) → Contains tree o → v o.node ≡ false
-      node_low o among = low_at v (leaves ++ map (λ (o : Owned). o.node) tree) o.node is.own (Contains-append_right leaves (map (λ (o : Owned). o.node) tree) o.node (mapped_among (λ (o : Owned). o.node) tree o among))
+      node_low o among = low_at v (leaves ++ map (λ (o : Owned). o.node) tree) o.node is.own
+          (Contains-append_right leaves (map (λ (o : Owned). o.node) tree) o.node (mapped_among (λ (o : Owned). o.node) tree o among))
 
       ack_low : v ack ≡ false
       ack_low = by (cases_eq width 1)
@@ -293,12 +308,15 @@ module _ (width from : ℕ) (some : 1 ≤ width) (settles : (leaves : List ℕ) 
 
       writes : (s : ℕ) → IsBit width from s → (v (s + 2) ≡ false) × (v (s + 3) ≡ false)
       writes s bit = (
-        low_at v (map (λ (w : Wire). w.node) part.allows) (s + 2) is.outside (mapped_among (λ (w : Wire). w.node) part.allows _ (among_bits (bit_allows ack) width from _ s bit (0, omega arith, refl))),
-        low_at v (map (λ (w : Wire). w.node) part.allows) (s + 3) is.outside (mapped_among (λ (w : Wire). w.node) part.allows _ (among_bits (bit_allows ack) width from _ s bit (1, omega arith, refl))),
+        low_at v (map (λ (w : Wire). w.node) part.allows) (s + 2) is.outside
+            (mapped_among (λ (w : Wire). w.node) part.allows _ (among_bits (bit_allows ack) width from _ s bit (0, omega arith, refl))),
+        low_at v (map (λ (w : Wire). w.node) part.allows) (s + 3) is.outside
+            (mapped_among (λ (w : Wire). w.node) part.allows _ (among_bits (bit_allows ack) width from _ s bit (1, omega arith, refl))),
       )
 
   -- an enabled rule at a bit stays so while another node moves
-  firm_here : (v : ℕ → Bool) (s : ℕ) → IsBit width from s → (k : Role) → is_own k ≡ true → (node : ℕ) → Legal v → may k (now v (v ack) s) ≡ true → Moved v node → node ≢ place k s → may k (now (turned v node) (v ack) s) ≡ true
+  firm_here : (v : ℕ → Bool) (s : ℕ) → IsBit width from s → (k : Role) → is_own k ≡ true → (node : ℕ) → Legal v → may k (now v (v ack) s) ≡ true →
+      Moved v node → node ≢ place k s → may k (now (turned v node) (v ack) s) ≡ true
   firm_here v s bit k own node l m (in_tree o among f at) ne =
       let past = behind o among in
       let within = bit_within s bit in
@@ -310,22 +328,26 @@ module _ (width from : ℕ) (some : 1 ≤ width) (settles : (leaves : List ℕ) 
       turned_by e (inl same) = absurd (ne (at ∙ (ap (λ r. place r t) (sym same) ∙ ap (place k) e)))
       turned_by e (inr apart) =
           subst (λ x. may k (now (turned v (place j x)) (v ack) s) ≡ true) (sym e)
-          (carry (may k) _ s (turn j (now v (v ack) s)) (v ack) (five_at v (v ack) s j) (table.ack_kept j (now v (v ack) s)) (table.firm k j (now v (v ack) s) own apart (l s bit) m (subst (λ x. may j (now v (v ack) x) ≡ true) e o)))
+          (carry (may k) _ s (turn j (now v (v ack) s)) (v ack) (five_at v (v ack) s j) (table.ack_kept j (now v (v ack) s))
+              (table.firm k j (now v (v ack) s) own apart (l s bit) m (subst (λ x. may j (now v (v ack) x) ≡ true) e o)))
 
       by : (t ≡ s) ⊎ (t ≢ s) → may k (now (turned v (place j t)) (v ack) s) ≡ true
       by (inl e) = turned_by e (table.role_cases k j)
       by (inr far) = carry (may k) _ s (now v (v ack) s) (v ack) (five_beside v (v ack) s (place j t) (bits_apart t s other bit far j)) refl m
 
-  firm : (v : ℕ → Bool) (o : Owned) (node : ℕ) → Legal v → IsSettled leaves tree_from v → Mine o → fires v o ≡ true → Moved v node → node ≢ o.node → fires (turned v node) o ≡ true
+  firm : (v : ℕ → Bool) (o : Owned) (node : ℕ) → Legal v → IsSettled leaves tree_from v → Mine o → fires v o ≡ true → Moved v node → node ≢ o.node →
+      fires (turned v node) o ≡ true
   firm v o node l settled (of_tree among) f move ne = known.firm v o node settled among f (tree_move v node l move) ne
   firm v o node l settled (of_bit s bit k own at same pulled) f move ne =
       same (turned v node) (v ack) ∙ firm_here v s bit k own node l (sym (same v (v ack)) ∙ f) move (λ e. ne (e ∙ sym at))
 
   abbrev ack_wire : Wire
-  ack_wire = wire ack (λ m. list_all (has_written m.value) (bits_from width from)) (λ m. all_low m.value (rails_of (map (λ (b : Bit). b.w) (bits_from width from))))
+  ack_wire = wire ack (λ m. list_all (has_written m.value) (bits_from width from))
+      (λ m. all_low m.value (rails_of (map (λ (b : Bit). b.w) (bits_from width from))))
 
   -- the acknowledge turns once each bit is ready
-  ready_bits : (v : ℕ → Bool) (o : Owned) → Legal v → IsSettled leaves tree_from v → Mine o → fires v o ≡ true → o.node ≡ ack → (s : ℕ) → IsBit width from s → ready (now v (v ack) s) ≡ true
+  ready_bits : (v : ℕ → Bool) (o : Owned) → Legal v → IsSettled leaves tree_from v → Mine o → fires v o ≡ true → o.node ≡ ack → (s : ℕ) → IsBit width from s →
+      ready (now v (v ack) s) ≡ true
   ready_bits v o l settled (of_tree among) f at s bit = table.ready_after (now v (v ack) s) (l s bit) (leaf_turned v o settled among f at s bit)
   ready_bits v o l settled (of_bit t other k own here same pulled) f at s bit = by k own (sym here ∙ at) (sym (same v (v ack)) ∙ f)
     where
@@ -341,12 +363,15 @@ module _ (width from : ℕ) (some : 1 ≤ width) (settles : (leaves : List ℕ) 
   ack_may : (m : Moment) → ((s : ℕ) → IsBit width from s → ready (now m.value (m.value ack) s) ≡ true) → may_move m ack_wire ≡ true
   ack_may m each = by (m.value ack) each
     where
-      by : (b : Bool) → ((s : ℕ) → IsBit width from s → ready (now m.value b s) ≡ true) → (if b then all_low m.value (rails_of (map (λ (b : Bit). b.w) (bits_from width from))) else list_all (has_written m.value) (bits_from width from)) ≡ true
+      by : (b : Bool) → ((s : ℕ) → IsBit width from s → ready (now m.value b s) ≡ true) →
+          (if b then all_low m.value (rails_of (map (λ (b : Bit). b.w) (bits_from width from))) else list_all (has_written m.value) (bits_from width from)) ≡
+          true
       by true each = low_writes m.value width from each
       by false each = all_written_bits m.value false width from each
 
   -- a rail of the value moves only as it is to
-  rail_may : (m : Moment) (o : Owned) (s j : ℕ) → IsBit width from s → j < 2 → Mine o → fires m.value o ≡ true → s + j ≡ o.node → (k : Role) → is_own k ≡ true → s + j ≡ place k s → may k (now m.value (m.value ack) s) ≡ true
+  rail_may : (m : Moment) (o : Owned) (s j : ℕ) → IsBit width from s → j < 2 → Mine o → fires m.value o ≡ true → s + j ≡ o.node → (k : Role) → is_own k ≡ true →
+      s + j ≡ place k s → may k (now m.value (m.value ack) s) ≡ true
   rail_may m o s j bit few (of_tree among) f here k own at =
       let past = behind o among in
       let within = bit_within s bit in
@@ -354,7 +379,8 @@ module _ (width from : ℕ) (some : 1 ≤ width) (settles : (leaves : List ℕ) 
   rail_may m o s j (i, less, is) few (of_bit t (x, within, same_place) r mine_own there same pulled) f here k own at =
       by r mine_own k own at (here ∙ there) (sym (same m.value (m.value ack)) ∙ f)
     where
-      by : (r : Role) → is_own r ≡ true → (k : Role) → is_own k ≡ true → s + j ≡ place k s → s + j ≡ place r t → may r (now m.value (m.value ack) t) ≡ true → may k (now m.value (m.value ack) s) ≡ true
+      by : (r : Role) → is_own r ≡ true → (k : Role) → is_own k ≡ true → s + j ≡ place k s → s + j ≡ place r t → may r (now m.value (m.value ack) t) ≡ true →
+          may k (now m.value (m.value ack) s) ≡ true
       by rail_t _ rail_t _ at e f = let one : t ≡ s = omega (arith, is, same_place, at, e) in subst (λ x. may rail_t (now m.value (m.value ack) x) ≡ true) one f
       by rail_f _ rail_f _ at e f = let one : t ≡ s = omega (arith, is, same_place, at, e) in subst (λ x. may rail_f (now m.value (m.value ack) x) ≡ true) one f
       by rail_t _ rail_f _ at e f = absurd (omega (arith, is, same_place, at, e))
@@ -375,7 +401,8 @@ module _ (width from : ℕ) (some : 1 ≤ width) (settles : (leaves : List ℕ) 
   abbrev rail_wire_f : ℕ → Wire
   rail_wire_f s = wire (s + 1) (λ m. m.value (s + 3)) (λ m. m.value (s + 2))
 
-  promised : (m : Moment) (o : Owned) → Holds m → Mine o → fires m.value o ≡ true → (w : Wire) → Contains part.promises w → w.node ≡ o.node → may_move m w ≡ true
+  promised : (m : Moment) (o : Owned) → Holds m → Mine o → fires m.value o ≡ true → (w : Wire) → Contains part.promises w → w.node ≡ o.node →
+      may_move m w ≡ true
   promised m o h own f w among here = by (among_cases ack_wire (flat_map bit_promises (bits_from width from)) w among)
     where
       rail_t_moves : (s : ℕ) → IsBit width from s → s ≡ o.node → may_move m (rail_wire_t s) ≡ true
@@ -395,7 +422,8 @@ module _ (width from : ℕ) (some : 1 ≤ width) (settles : (leaves : List ℕ) 
       either s bit (inr rest) = second s bit (among_cases (rail_wire_f s) [] w rest)
 
       by : (ack_wire ≡ w) ⊎ Contains (flat_map bit_promises (bits_from width from)) w → may_move m w ≡ true
-      by (inl e) = subst (λ (x : Wire). may_move m x ≡ true) e (ack_may m (ready_bits m.value o h.legal h.settled own f (sym here ∙ ap (λ (x : Wire). x.node) (sym e))))
+      by (inl e) = subst (λ (x : Wire). may_move m x ≡ true) e
+          (ack_may m (ready_bits m.value o h.legal h.settled own f (sym here ∙ ap (λ (x : Wire). x.node) (sym e))))
       by (inr rest) =
           let (s, bit, there) = bits_among bit_promises width from w rest in
           either s bit (among_cases (rail_wire_t s) (rail_wire_f s ∷ []) w there)
@@ -439,18 +467,21 @@ module _ (width from : ℕ) (some : 1 ≤ width) (settles : (leaves : List ℕ) 
   -- where it stands still a rail may move by which it is written
   waits : (m : Moment) → Holds m → ((o : Owned) → Contains part.own o → fires m.value o ≡ false) → (w : Wire) × Contains part.allows w × (may_move m w ≡ true)
   waits m h none =
-      let (leaf, among, is) = known.waits m.value h.settled (λ o among. none o (Contains-append_right (flat_map bit_owned (bits_from width from)) tree o among)) in
+      let (leaf, among, is) = known.waits m.value h.settled (λ o among. none o (Contains-append_right (flat_map bit_owned (bits_from width from)) tree o among))
+          in
       let (s, bit, at) = leaf_bit width from leaf among in
       by s bit (waiting s bit (ap m.value (sym at) ∙ is))
     where
-      by : (s : ℕ) → IsBit width from s → (may write_t (now m.value (m.value ack) s) ≡ true) ⊎ (may write_f (now m.value (m.value ack) s) ≡ true) → (w : Wire) × Contains part.allows w × (may_move m w ≡ true)
+      by : (s : ℕ) → IsBit width from s → (may write_t (now m.value (m.value ack) s) ≡ true) ⊎ (may write_f (now m.value (m.value ack) s) ≡ true) →
+          (w : Wire) × Contains part.allows w × (may_move m w ≡ true)
       by s bit (inl f) = (write_wire_t s, among_bits (bit_allows ack) width from (write_wire_t s) s bit (0, omega arith, refl), f)
       by s bit (inr f) = (write_wire_f s, among_bits (bit_allows ack) width from (write_wire_f s) s bit (1, omega arith, refl), f)
 
       at_one : (s : ℕ) → IsBit width from s → (o : Owned) → Contains (bit_owned (bit_at s)) o → fires m.value o ≡ false
       at_one s bit o here = none o (Contains-append_left (flat_map bit_owned (bits_from width from)) tree o (among_bits bit_owned width from o s bit here))
 
-      waiting : (s : ℕ) → IsBit width from s → m.value (s + 4) ≡ m.value ack → (may write_t (now m.value (m.value ack) s) ≡ true) ⊎ (may write_f (now m.value (m.value ack) s) ≡ true)
+      waiting : (s : ℕ) → IsBit width from s → m.value (s + 4) ≡ m.value ack →
+          (may write_t (now m.value (m.value ack) s) ≡ true) ⊎ (may write_f (now m.value (m.value ack) s) ≡ true)
       waiting s bit same =
           let n = now m.value (m.value ack) s in
           or_cases (may write_t n) (may write_f n)
@@ -479,5 +510,6 @@ module _ (width from : ℕ) (some : 1 ≤ width) (settles : (leaves : List ℕ) 
   pub keeps : Keeps part
   keeps = kept_by part Holds first kept is_kept
 
-pub variable_keeps : ((leaves : List ℕ) (from : ℕ) → 0 < length leaves → AreOutside leaves from → Settles leaves from) → (width from : ℕ) → 1 ≤ width → Keeps (variable_part width from)
+pub variable_keeps : ((leaves : List ℕ) (from : ℕ) → 0 < length leaves → AreOutside leaves from → Settles leaves from) → (width from : ℕ) → 1 ≤ width →
+    Keeps (variable_part width from)
 variable_keeps settles width from some = keeps width from some settles

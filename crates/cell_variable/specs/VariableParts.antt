@@ -6,8 +6,8 @@ use Rattle.prs_core.specs.Parts.{Owned, Part, Wire, Moment, owned, wire, all_low
 use Rattle.cell_parallel.specs.Trees.{tree_owned}
 use Rattle.cell_variable.specs.Variables.{Bit, bits_from, variable_owned, written_leaves, all_written}
 
--- The output is to rise where an input is high, and to fall where all are low. An input may rise where all inputs and the
--- output are low, and fall where the output is high.
+-- The output is to rise where an input is high, and to fall where all are low. An input may rise where all inputs and
+-- the output are low, and fall where the output is high.
 abbrev pub merge_part : (inputs : List ℕ) → (output : ℕ) → Part
 merge_part inputs output = record {
   own = owned output (or_of inputs) ∷ [];
@@ -39,17 +39,19 @@ bit_allows ack b =
     ∷ wire b.w.f may_rise (λ m. m.value ack)
     ∷ []
 
--- The acknowledge is to rise once each bit has the value that is written, and to fall once all rails are low by which the
--- variable is written.
+-- The acknowledge is to rise once each bit has the value that is written, and to fall once all rails are low by which
+-- the variable is written.
 abbrev pub variable_part : (width from : ℕ) → Part
 variable_part width from =
     let ack = all_written width from in
     let bits = bits_from width from in
     let written_by = rails_of (map (λ (b : Bit). b.w) bits) in record {
       own = variable_owned width from;
-      promises = wire ack (λ m. list_all (has_written m.value) bits) (λ m. all_low m.value written_by) ∷ flat_map bit_promises bits;
+      promises = wire ack (λ m. list_all (has_written m.value) bits) (λ m. all_low m.value written_by)
+          ∷ flat_map bit_promises bits;
       allows = flat_map (bit_allows ack) bits;
-      lows = written_leaves width from ++ map (λ (o : Owned). o.node) (tree_owned (written_leaves width from) (from + 5 * width));
+      lows = written_leaves width from
+          ++ map (λ (o : Owned). o.node) (tree_owned (written_leaves width from) (from + 5 * width));
       bits = map (λ (b : Bit). b.x) bits;
       ports = ack ∷ written_by;
       blocked = never_blocked;

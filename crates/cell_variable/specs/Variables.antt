@@ -15,7 +15,8 @@ pub record Bit : Type 0 where
 
 -- five nodes for each bit
 abbrev pub bit_at : ℕ → Bit
-bit_at node = record { x = record { t = node; f = node + 1 }; w = record { t = node + 2; f = node + 3 }; written = node + 4 }
+bit_at node = record { x = record { t = node; f = node + 1 }; w = record { t = node + 2; f = node + 3 }; written =
+    node + 4 }
 
 -- the lowest bit comes first
 abbrev pub bits_from : (width from : ℕ) → List Bit
@@ -24,7 +25,8 @@ bits_from (suc n) from = bit_at from ∷ bits_from n (from + 5)
 
 -- a rail of the bit rises once the other one has fallen: w.t & ~x.f -> x.t+, w.f -> x.t-, and the same exchanged
 abbrev pub kept_rail : (set other reset : ℕ) → NodeRules
-kept_rail set other reset = record { up = one_term (is_high set ∷ is_low other ∷ []); down = one_term (is_high reset ∷ []) }
+kept_rail set other reset = record { up = one_term (is_high set ∷ is_low other ∷ []); down =
+    one_term (is_high reset ∷ []) }
 
 -- the bit is written once it has the value: w.t & x.t | w.f & x.f -> wa+, ~w.t & ~w.f -> wa-
 abbrev pub bit_written : Bit → NodeRules
@@ -36,7 +38,8 @@ bit_written b = record {
 -- the bit of this place, where the variable's write sites have these rails
 abbrev pub bit_rules : (sites : List (List Pair)) → (place : ℕ) → Bit → List NodeRules
 bit_rules sites place b =
-    kept_rail b.w.t b.x.f b.w.f ∷ kept_rail b.w.f b.x.t b.w.t ∷ merged_true sites place ∷ merged_false sites place ∷ bit_written b ∷ []
+    kept_rail b.w.t b.x.f b.w.f ∷ kept_rail b.w.f b.x.t b.w.t ∷ merged_true sites place ∷ merged_false sites place
+        ∷ bit_written b ∷ []
 
 -- the bits from this place on
 abbrev pub bits_rules : (sites : List (List Pair)) → (place : ℕ) → List Bit → List NodeRules
@@ -65,12 +68,14 @@ bit_owned b =
 
 -- the variable's own nodes
 abbrev pub variable_owned : (width from : ℕ) → List Owned
-variable_owned width from = flat_map bit_owned (bits_from width from) ++ tree_owned (written_leaves width from) (from + 5 * width)
+variable_owned width from = flat_map bit_owned (bits_from width from)
+    ++ tree_owned (written_leaves width from) (from + 5 * width)
 
 -- the merges beside them, where the bits are those from this place on
 abbrev pub merges_owned : (sites : List (List Pair)) → (place : ℕ) → List Bit → List Owned
 merges_owned sites place [] = []
-merges_owned sites place (b ∷ bs) = owned b.w.t (merged_true sites place) ∷ owned b.w.f (merged_false sites place) ∷ merges_owned sites (suc place) bs
+merges_owned sites place (b ∷ bs) = owned b.w.t (merged_true sites place) ∷ owned b.w.f (merged_false sites place)
+    ∷ merges_owned sites (suc place) bs
 
 -- the rails that are high at first: one of each bit
 abbrev pub high_first : (width value from : ℕ) → List ℕ

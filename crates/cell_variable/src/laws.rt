@@ -16,7 +16,9 @@ use prs_core::site_keeps;
 pub fn variable_keeps()
     ensures variable { (width from : ℕ) → 1 ≤ width → Keeps (variable_part width from) }
     ensures merge { (inputs : List ℕ) (output : ℕ) → 0 < length inputs → Keeps (merge_part inputs output) }
-    ensures write_site { (others : List ℕ) (request all_written answer : ℕ) → AllPairs (λ (a b : ℕ). a ≢ b) (request ∷ all_written ∷ answer ∷ others) → Keeps (site_part others request all_written answer) }
+    ensures write_site { (others : List ℕ) (request all_written answer : ℕ) →
+        AllPairs (λ (a b : ℕ). a ≢ b) (request ∷ all_written ∷ answer ∷ others) →
+        Keeps (site_part others request all_written answer) }
 {
     tree_settles();
     site_keeps();
@@ -26,7 +28,9 @@ pub fn variable_keeps()
 /// nodes and then the merges is to write the block.
 pub fn variable_divided()
     ensures nodes { (width from : ℕ) (sites : List (List Pair)) (o : Owned)
-        → Contains (owned_from from (variable_rules width from sites)) o ↔ Contains (variable_owned width from ++ merges_owned sites 0 (bits_from width from)) o }
+        → Contains (owned_from from (variable_rules width from sites)) o ↔ Contains (variable_owned width from
+            ++ merges_owned sites 0 (bits_from width from)) o }
     ensures written { (width from : ℕ) (sites : List (List Pair)) (r : RulesValue)
-        → with_owned (merges_owned sites 0 (bits_from width from)) (with_owned (variable_owned width from) r) ≡ with_owned (owned_from from (variable_rules width from sites)) r }
+        → with_owned (merges_owned sites 0 (bits_from width from)) (with_owned (variable_owned width from) r) ≡
+            with_owned (owned_from from (variable_rules width from sites)) r }
 {}

@@ -71,7 +71,8 @@ fn emit_bit(alloc: Global, bit: u32, rules: &mut Rules) -> Result<(), AllocError
     ensures made { OnOk result (rules.new ≡ with_owned (bit_owned (bit_at bit)) rules.old) }
     ensures partly { IsPartly (bit_owned (bit_at bit)) rules.old rules.new }
     ensures nodes { length rules.new.up ≡ length rules.old.up }
-    ensures others { (k : ℕ) → All (λ (o : Owned). o.node ≢ k) (bit_owned (bit_at bit)) → IsAlone rules.old rules.new k }
+    ensures others { (k : ℕ) → All (λ (o : Owned). o.node ≢ k) (bit_owned (bit_at bit)) →
+        IsAlone rules.old rules.new k }
 {
     // tells the proof that there are fewer than 2^32 nodes, so that the numbers from `bit` on fit
     let _count = rules.nodes();
@@ -97,7 +98,8 @@ pub fn emit_variable(
     ensures made { OnOk result (rules.new ≡ with_owned (variable_owned width from) rules.old) }
     ensures partly { IsPartly (variable_owned width from) rules.old rules.new }
     ensures nodes { length rules.new.up ≡ length rules.old.up }
-    ensures others { (node : ℕ) → All (λ (o : Owned). o.node ≢ node) (variable_owned width from) → IsAlone rules.old rules.new node }
+    ensures others { (node : ℕ) → All (λ (o : Owned). o.node ≢ node) (variable_owned width from) →
+        IsAlone rules.old rules.new node }
     ensures keeps { Keeps (variable_part width from) }
 {
     variable_keeps();
@@ -130,7 +132,8 @@ pub fn emit_write_site(
     ensures kept { OnErr result (rules.new ≡ rules.old) }
     ensures nodes { length rules.new.up ≡ length rules.old.up }
     ensures others { (node : ℕ) → node ≢ answer → IsAlone rules.old rules.new node }
-    ensures keeps { (others : List ℕ) → AllPairs (λ (a b : ℕ). a ≢ b) (request ∷ all_written ∷ answer ∷ others) → Keeps (site_part others request all_written answer) }
+    ensures keeps { (others : List ℕ) → AllPairs (λ (a b : ℕ). a ≢ b) (request ∷ all_written ∷ answer ∷ others) →
+        Keeps (site_part others request all_written answer) }
 {
     variable_keeps();
     let up = all_of(alloc, &[high(request), high(all_written)])?;

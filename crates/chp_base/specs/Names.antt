@@ -29,7 +29,8 @@ begins_with_letter (b ∷ bs) = letter b
 
 -- the words that no channel, variable or procedure is named by
 abbrev pub keywords : List (List ℕ)
-keywords = codes "in" ∷ codes "out" ∷ codes "chan" ∷ codes "var" ∷ codes "begin" ∷ codes "end" ∷ codes "skip" ∷ codes "proc" ∷ codes "call" ∷ []
+keywords = codes "in" ∷ codes "out" ∷ codes "chan" ∷ codes "var" ∷ codes "begin" ∷ codes "end" ∷ codes "skip"
+    ∷ codes "proc" ∷ codes "call" ∷ []
 
 abbrev pub is_keyword : List ℕ → Bool
 is_keyword bs = list_any (bytes_eq bs) keywords

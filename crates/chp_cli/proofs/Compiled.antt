@@ -10,7 +10,8 @@ use Rattle.width_check.specs.Processes.{TypedProgram}
 use Rattle.chp_cli.specs.Compiling.{IsCompiled}
 use Rattle.chp_cli.proofs.NoReset.{names_free}
 
-module _ (p : TypedProgram) (net : NetValue) (is : net ≡ translation p) (kept : IsNet net) (carried : Carries (translation p) p) (law : ResetCarries (translation p) p) where
+module _ (p : TypedProgram) (net : NetValue) (is : net ≡ translation p) (kept : IsNet net) (carried : Carries (translation p) p)
+    (law : ResetCarries (translation p) p) where
   pub net_compiled : (reset : Bool) (text : List ℕ) → NetText text (if reset then reset_of net else net) → IsCompiled reset p text
   net_compiled false text spelled = record { spells = spelled ∙ ap spelling is; carries = carried }
   net_compiled true text spelled = record {

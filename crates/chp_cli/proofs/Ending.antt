@@ -32,7 +32,8 @@ own_status ending.Done = (λ e. cc, λ e. cc, λ e. cc)
 no_refusal : (s other : Status) → is_refusing s ≡ true → is_refusing other ≡ false → s ≢ other
 no_refusal s other is not same = cc (ap is_refusing same, is, not)
 
-pub answers_of : (asked : Option Asked) (given : Given) (command : Asked) (answer : Answer) → asked ≡ Some command → IsAnswer command given answer → AnswersTo asked given answer
+pub answers_of : (asked : Option Asked) (given : Given) (command : Asked) (answer : Answer) → asked ≡ Some command → IsAnswer command given answer →
+    AnswersTo asked given answer
 answers_of asked given command answer named is = subst (λ o. AnswersTo o given answer) (sym named) is
 
 module _ (asked : Option Asked) (given : Given) (rb ra pb pa : ℕ) where
@@ -53,7 +54,8 @@ module _ (asked : Option Asked) (given : Given) (rb ra pb pa : ℕ) where
   usage_of (unread name own fault missed) e = absurd (cc e)
   usage_of no_memory e = absurd (cc e)
 
-  pub read_of : {s : Status} {appended line : List ℕ} → Ends asked given rb ra pb pa s appended line → s ≡ Read → (name : List ℕ) × IsFile asked name × IsReadFault rb ra given.tells (given.files name)
+  pub read_of : {s : Status} {appended line : List ℕ} → Ends asked given rb ra pb pa s appended line → s ≡ Read →
+      (name : List ℕ) × IsFile asked name × IsReadFault rb ra given.tells (given.files name)
   read_of (formless none) e = absurd (cc e)
   read_of (whole end text is) e = absurd ((own_status end).1 e)
   read_of (cut_off end text k is rose) e = absurd (cc e)
@@ -74,7 +76,8 @@ module _ (asked : Option Asked) (given : Given) (rb ra pb pa : ℕ) where
   one law (Some command) a b is are = law command a b is are
 
   -- where nothing fails, the status is that of the answer
-  pub complete_of : ((command : Asked) → OneAnswer (IsAnswer command given)) → {s : Status} {appended line : List ℕ} → Ends asked given rb ra pb pa s appended line
+  pub complete_of : ((command : Asked) → OneAnswer (IsAnswer command given)) → {s : Status} {appended line : List ℕ} →
+      Ends asked given rb ra pb pa s appended line
       → (answer : Answer) → AnswersTo asked given answer → ¬ Rose rb ra → ¬ Rose pb pa → (s ≡ status_of answer) ⊎ (s ≡ NoMemory)
   complete_of law (formless none) answer are calm quiet = absurd (subst (λ o. AnswersTo o given answer) none are)
   complete_of law (whole end text is) answer are calm quiet = inl (ap status_of (one law asked _ answer is are))
@@ -87,7 +90,8 @@ module _ (asked : Option Asked) (given : Given) (rb ra pb pa : ℕ) where
   -- a command that stops ends the call
   pub stopped_ends : (command : Asked) → asked ≡ Some command → (stop : Stop) → Stops (IsAnswer command given) (files_of command) given rb ra stop
       → Ends asked given rb ra pb pa (stop_status stop) [] (stop_line stop)
-  stopped_ends command is (stopped.Refused r) s = refused (refusal_status r) (refusal_line r) (refusing_status r) (answers_of asked given command (refusing r) is s)
+  stopped_ends command is (stopped.Refused r) s =
+      refused (refusal_status r) (refusal_line r) (refusing_status r) (answers_of asked given command (refusing r) is s)
   stopped_ends command is (stopped.Unread name) s =
       unread name.now (subst (λ o. IsFile o name.now) (sym is) s.own) s.fault (missed s.missed)
     where

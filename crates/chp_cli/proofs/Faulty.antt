@@ -25,7 +25,8 @@ named_fault p f other first = subst (λ o. IsFaulty p (record { code = f.code; a
 same_body : (p : ProgramTree) (t : TypedProgram) → t ≡ typed_form p → t.body ≡ (typed_form p).body
 same_body p t form = ap (λ (q : TypedProgram). q.body) form
 
-pub shared_fault : (p : ProgramTree) (t : TypedProgram) (f : Fault) → t ≡ typed_form p → HasNone p naming_faults → IsFirstSharedFault t.body sharing_faults f.code f.at f.other → IsFaulty p f
+pub shared_fault : (p : ProgramTree) (t : TypedProgram) (f : Fault) → t ≡ typed_form p → HasNone p naming_faults →
+    IsFirstSharedFault t.body sharing_faults f.code f.at f.other → IsFaulty p f
 shared_fault p t f form none first = of_sharing none (subst (λ b. IsFirstSharedFault b sharing_faults f.code f.at f.other) (same_body p t form) first)
 
 pub all_accepted : (p : ProgramTree) (t : TypedProgram) → t ≡ typed_form p → IsCallFree p → HasNone p naming_faults → MeetsSharing t.body → IsAccepted p

@@ -19,7 +19,8 @@ is_reset name = bytes_eq name (codes "reset")
 pub free_names : (names : List (List ℕ)) → named_reset names ≡ None → All (λ name. name ≢ codes "reset") names
 free_names names none = λ k d within is. by_order k d within is (cases_lt (position_or_len is_reset names) (length names))
   where
-    by_order : (k : ℕ) (d : List ℕ) → k < length names → get_or names k d ≡ codes "reset" → (position_or_len is_reset names < length names) ⊎ (length names ≤ position_or_len is_reset names) → ⊥
+    by_order : (k : ℕ) (d : List ℕ) → k < length names → get_or names k d ≡ codes "reset" →
+        (position_or_len is_reset names < length names) ⊎ (length names ≤ position_or_len is_reset names) → ⊥
     by_order k d within is (inl less) = absurd (cc (none, ap (λ b. cond b (Some (position_or_len is_reset names)) None) (lt-ltb _ _ less)))
     by_order k d within is (inr past) = absurd (cc (fails_before_first is_reset names k d (omega arith), (bytes_decides _ (codes "reset")).1 is))
 

@@ -41,7 +41,8 @@ dotted name is e = absurd (cc (sym is ∙ ap has_dot e))
 
 -- a name, a dot, a number and what is behind it
 wire : (name digits tail : List ℕ) → IsFree (name ++ codes "." ++ digits ++ tail)
-wire name digits tail = dotted (name ++ codes "." ++ digits ++ tail) (dot_kept (name ++ codes "." ++ digits) tail (dot_kept (name ++ codes ".") digits (dot_in name [])))
+wire name digits tail = dotted (name ++ codes "." ++ digits ++ tail)
+    (dot_kept (name ++ codes "." ++ digits) tail (dot_kept (name ++ codes ".") digits (dot_in name [])))
 
 abbrev first_of : List ℕ → ℕ
 first_of [] = 0
@@ -71,11 +72,13 @@ one name is = All-cons IsFree name [] is (All-nil IsFree)
 wires_free : (c : Channel) → All IsFree (wires_named c)
 wires_free c = All-append IsFree (rail_names c.name c.width) (ack_name c.name ∷ [])
     (all_flat (λ bit. true_rail c.name bit ∷ false_rail c.name bit ∷ []) (range_with_len 0 c.width)
-    (λ bit. All-cons IsFree (true_rail c.name bit) (false_rail c.name bit ∷ []) (wire c.name (decimal bit) (codes ".t")) (one (false_rail c.name bit) (wire c.name (decimal bit) (codes ".f")))))
+    (λ bit. All-cons IsFree (true_rail c.name bit) (false_rail c.name bit ∷ []) (wire c.name (decimal bit) (codes ".t"))
+        (one (false_rail c.name bit) (wire c.name (decimal bit) (codes ".f")))))
     (one (ack_name c.name) (dotted (ack_name c.name) (dot_in c.name (codes "a"))))
 
 bits_free : (v : Var) → All IsFree (bits_named v)
-bits_free v = all_flat (bit_names v.name) (range_with_len 0 v.width) (λ bit. all_mapped (λ tail. v.name ++ codes "." ++ decimal bit ++ tail) bit_tails (λ tail. wire v.name (decimal bit) tail))
+bits_free v = all_flat (bit_names v.name) (range_with_len 0 v.width) (λ bit. all_mapped (λ tail. v.name ++ codes "." ++ decimal bit ++ tail) bit_tails
+    (λ tail. wire v.name (decimal bit) tail))
 
 all_numbered : (from count : ℕ) → All IsFree (numbered_from from count)
 all_numbered from count = all_mapped numbered (range_with_len from count) numbered_free
@@ -89,7 +92,8 @@ pub names_free : (p : TypedProgram) → All (λ name. name ≢ codes "reset") (n
 names_free p =
     let body = numbered_from (root_request p) (2 + size_of p p.body) in
     let blocks = block_names p.vars (vars_from p) ++ body in
-    let blocks_are = All-append IsFree (block_names p.vars (vars_from p)) body (blocks_free p.vars (vars_from p)) (all_numbered (root_request p) (2 + size_of p p.body)) in
+    let blocks_are = All-append IsFree (block_names p.vars (vars_from p)) body (blocks_free p.vars (vars_from p))
+        (all_numbered (root_request p) (2 + size_of p p.body)) in
     let wires_are = All-append IsFree (wire_names p.channels) blocks (all_flat wires_named p.channels wires_free) blocks_are in
     All-cons IsFree (codes "go") (codes "done" ∷ (wire_names p.channels ++ blocks)) (begins 103 (codes "o") refl)
     (All-cons IsFree (codes "done") (wire_names p.channels ++ blocks) (begins 100 (codes "one") refl) wires_are)

@@ -34,7 +34,8 @@ too_long {held} {a} {b} e f long short = let same : length a ≡ length b = ap l
 pub not_there : {held : Option (List ℕ)} {a : List ℕ} {X : Type 0} → held ≡ None → held ≡ Some a → X
 not_there e f = absurd (cc (e, f))
 
-module _ (given : Given) (name : List ℕ) (most : ℕ) (Next : List ℕ → Answer → Type 0) (told : given.tells ≡ true) (next : (text : List ℕ) → OneAnswer (Next text)) where
+module _ (given : Given) (name : List ℕ) (most : ℕ) (Next : List ℕ → Answer → Type 0) (told : given.tells ≡ true) (next : (text : List ℕ) →
+    OneAnswer (Next text)) where
   pub file_once : (a b : Answer) → FromFile given name most Next a → FromFile given name most Next b → a ≡ b
   file_once a b (no_file l) (no_file m) = refl
   file_once a b (no_file l) (long_file o) = not_there l.none (o told).1
@@ -83,9 +84,12 @@ module _ (p : TypedProgram) (Next : TypedProgram → Answer → Type 0) (next : 
 module _ (named : (p : ProgramTree) (c d : FaultCode) (s t : Span) → IsFirstFault p naming_faults c s → IsFirstFault p naming_faults d t → c ≡ d)
     (placed : (p : ProgramTree) (c d : FaultCode) (s t : Span) → IsFirstFault p naming_faults c s → IsFirstFault p naming_faults d t → s ≡ t)
     (no_name : (p : ProgramTree) (c : FaultCode) (s : Span) → HasNone p naming_faults → ¬ IsFirstFault p naming_faults c s)
-    (shared : (body : Process) (c d : FaultCode) (s t u v : Span) → IsFirstSharedFault body sharing_faults c s t → IsFirstSharedFault body sharing_faults d u v → c ≡ d)
-    (first : (body : Process) (c d : FaultCode) (s t u v : Span) → IsFirstSharedFault body sharing_faults c s t → IsFirstSharedFault body sharing_faults d u v → s ≡ u)
-    (second : (body : Process) (c d : FaultCode) (s t u v : Span) → IsFirstSharedFault body sharing_faults c s t → IsFirstSharedFault body sharing_faults d u v → t ≡ v)
+    (shared : (body : Process) (c d : FaultCode) (s t u v : Span) → IsFirstSharedFault body sharing_faults c s t → IsFirstSharedFault body sharing_faults d u v
+        → c ≡ d)
+    (first : (body : Process) (c d : FaultCode) (s t u v : Span) → IsFirstSharedFault body sharing_faults c s t → IsFirstSharedFault body sharing_faults d u v →
+        s ≡ u)
+    (second : (body : Process) (c d : FaultCode) (s t u v : Span) → IsFirstSharedFault body sharing_faults c s t → IsFirstSharedFault body sharing_faults d u v
+        → t ≡ v)
     (unshared : (body : Process) (c : FaultCode) (s t : Span) → MeetsSharing body → ¬ IsFirstSharedFault body sharing_faults c s t) where
   fault_once : (program : ProgramTree) (f g : Fault) → IsFaulty program f → IsFaulty program g → f ≡ g
   fault_once p f g (of_names {c = c} {at = s} n) (of_names {c = d} {at = t} m) = let at = placed p c d s t n m in same_fault f g (named p c d s t n m) at at
@@ -99,7 +103,8 @@ module _ (named : (p : ProgramTree) (c d : FaultCode) (s t : Span) → IsFirstFa
   no_fault p f is (of_names {c = c} {at = s} n) = no_name p c s is.named n
   no_fault p f is (of_sharing {c = c} {at = s} {other = t} none n) = unshared (typed_form p).body c s t is.sharing n
 
-  pub checks_once : (program : ProgramTree) (Next : Answer → Type 0) → OneAnswer Next → (a b : Answer) → FromChecks program Next a → FromChecks program Next b → a ≡ b
+  pub checks_once : (program : ProgramTree) (Next : Answer → Type 0) → OneAnswer Next → (a b : Answer) → FromChecks program Next a → FromChecks program Next b →
+      a ≡ b
   checks_once p Next next a b (has_calls some) (has_calls any) = refl
   checks_once p Next next a b (has_calls some) (faulty free f) = absurd (some free)
   checks_once p Next next a b (has_calls some) (accepted is n) = absurd (some is.call_free)
@@ -116,7 +121,8 @@ compile_once : (reset : Bool) (p : TypedProgram) (a b : Answer) → CompilesNet 
 compile_once reset p a b (compiled c) (compiled d) = ap (λ file. writes Done file) (c.spells ∙ sym d.spells)
 
 migrate_once : (net : NetValue) (a b : Answer) → MigratesNet net a → MigratesNet net b → a ≡ b
-migrate_once net a b (taken {node = k} plain is) (taken {node = l} same are) = let e : k ≡ l = cc (is, are) in ap (λ node. refuses BadFile (bad_net_line DoubleName (node + 2))) e
+migrate_once net a b (taken {node = k} plain is) (taken {node = l} same are) = let e : k ≡ l = cc (is, are) in
+    ap (λ node. refuses BadFile (bad_net_line DoubleName (node + 2))) e
 migrate_once net a b (taken plain is) (migrated free spells) = absurd (cc (free plain, is))
 migrate_once net a b (migrated free spells) (taken plain is) = absurd (cc (free plain, is))
 migrate_once net a b (migrated free spells) (migrated also reads) = ap (λ file. writes Done file) (spells ∙ sym reads)
@@ -128,7 +134,8 @@ module _ (cause : (text : List ℕ) (k j : FaultCode) (s t : Span) → IsRefused
   pub command_once : (command : Asked) (given : Given) → given.tells ≡ true → OneAnswer (IsAnswer command given)
   command_once (compiles file reset) given told = file_once given file _ _ told
       (λ text. program_once text (CompilesProgram reset)
-      (λ program. checked program (FromNodes (typed_form program) (CompilesNet reset)) (nodes_once (typed_form program) (CompilesNet reset) (compile_once reset (typed_form program))))
+      (λ program. checked program (FromNodes (typed_form program) (CompilesNet reset))
+          (nodes_once (typed_form program) (CompilesNet reset) (compile_once reset (typed_form program))))
       (cause text) (place text))
   command_once (migrates file) given told = file_once given file _ _ told (λ text. net_once text MigratesNet migrate_once (once text))
   command_once (checks file) given told = file_once given file _ _ told

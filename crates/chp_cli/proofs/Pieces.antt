@@ -6,4 +6,5 @@ use Rattle.std.specs.List.{flat_map}
 pub record PiecesSoFar (before now : ℕ) (tells tells_now : Bool) (written written_now : List ℕ) (pieces : List (Bor (List ℕ))) (done : ℕ) : Type 0 where
   pub faults : before ≤ now
   pub same : tells_now ≡ tells
-  pub told : tells ≡ true → written_now ++ flat_map (λ (piece : Bor (List ℕ)). piece.now) (drop done pieces) ≡ written ++ flat_map (λ (piece : Bor (List ℕ)). piece.now) pieces
+  pub told : tells ≡ true → written_now ++ flat_map (λ (piece : Bor (List ℕ)). piece.now) (drop done pieces) ≡ written
+      ++ flat_map (λ (piece : Bor (List ℕ)). piece.now) pieces

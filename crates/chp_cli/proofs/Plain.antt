@@ -91,7 +91,8 @@ dashes = 45 ∷ 45 ∷ []
 flag_first : (name word : Text) → IsUtf8 word → is_flag word ≡ true → bytes_eq word dashes ≡ false → turn_passes (shape name) [] (started false) word ≡ false
 flag_first name word u flag ends = rw (ends, flag_refused false word nothing_held u flag ends refl) refl
 
-flag_second : (name file word : Text) → IsUtf8 word → is_flag word ≡ true → bytes_eq word dashes ≡ false → turn_passes (shape name) [] (has_file file false) word ≡ false
+flag_second : (name file word : Text) → IsUtf8 word → is_flag word ≡ true → bytes_eq word dashes ≡ false →
+    turn_passes (shape name) [] (has_file file false) word ≡ false
 flag_second name file word u flag ends = rw (ends, flag_refused false word (held_with file) u flag ends refl) refl
 
 -- `--` passes at both

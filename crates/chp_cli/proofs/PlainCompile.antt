@@ -63,7 +63,8 @@ bundle_refused again x rest h u =
     let first = first_char x rest u in
     rw first.1 refl
 
-flag_refused : (again : Bool) (word : Text) (h : Held) → IsUtf8 word → is_flag word ≡ true → bytes_eq word dashes ≡ false → bytes_eq word flag_word ≡ false → h.skip ≡ 0
+flag_refused : (again : Bool) (word : Text) (h : Held) → IsUtf8 word → is_flag word ≡ true → bytes_eq word dashes ≡ false → bytes_eq word flag_word ≡ false →
+    h.skip ≡ 0
     → flag_word_passes rules again (long_of word) word h ≡ false
 flag_refused again [] h u is ends other skip = cc
 flag_refused again (x ∷ []) h u is ends other skip = cc
@@ -209,7 +210,8 @@ takes_is : (name : Text) (words : List Text) → takes (compile_form name) words
 takes_is name words = go (walk rules [] nothing_held words).stopped
   where
     go : (stop : Option (Text × List Text))
-        → (entered_passes (built (compile_form name)) stop && level_passes (shape name) [] nothing_held words (is_some (entered (built (compile_form name)) stop)))
+        → (entered_passes (built (compile_form name)) stop
+            && level_passes (shape name) [] nothing_held words (is_some (entered (built (compile_form name)) stop)))
         ≡ level_passes (shape name) [] nothing_held words false
     go None = refl
     go (Some p) = refl
@@ -221,7 +223,8 @@ module _ (name : Text) where
 
   abbrev outcome : Walk → List Text → Option Asked
   outcome w words = cond (walk_passes (shape name) [] w words && ends_well (fold (walked rules []) w words).held)
-      (compile_with (first_of (codes "FILE") (finished rules (fold (walked rules []) w words).held)) (first_of (codes "reset") (finished rules (fold (walked rules []) w words).held)))
+      (compile_with (first_of (codes "FILE") (finished rules (fold (walked rules []) w words).held))
+          (first_of (codes "reset") (finished rules (fold (walked rules []) w words).held)))
       None
 
   stops : (w : Walk) (word : Text) (rest : List Text) → turn_passes (shape name) [] w word ≡ false → outcome w (word ∷ rest) ≡ None
@@ -245,7 +248,8 @@ module _ (name : Text) where
   trailing : (met : Met) (rest : List Text) → outcome (at met true) rest ≡ read met true rest
   trailing met [] = over met true
   trailing nothing (word ∷ rest) = goes_on (at nothing true) (at (the_file word) true) word rest refl (walked_any word) ∙ trailing (the_file word) rest
-  trailing the_flag (word ∷ rest) = goes_on (at the_flag true) (at (flag_file word) true) word rest refl (walked_any_flagged word) ∙ trailing (flag_file word) rest
+  trailing the_flag (word ∷ rest) = goes_on (at the_flag true) (at (flag_file word) true) word rest refl (walked_any_flagged word)
+      ∙ trailing (flag_file word) rest
   trailing (the_file file) (word ∷ rest) = stops (at (the_file file) true) word rest refl
   trailing (flag_file file) (word ∷ rest) = stops (at (flag_file file) true) word rest refl
   trailing (file_flag file) (word ∷ rest) = stops (at (file_flag file) true) word rest refl
@@ -266,10 +270,12 @@ module _ (name : Text) where
       turn met word rest u (a_flag f t r) next = rw (t, r, f) (stops (at met false) word rest (flag_turn name met word u f t r))
       turn nothing word rest u (a_plain f t r) next =
           let p = plain_word word f in
-          rw (t, r, f) (goes_on (at nothing false) (at (the_file word) false) word rest (rw (p.ends, p.long, p.short) refl) (walked_plain word p) ∙ next (the_file word))
+          rw (t, r, f) (goes_on (at nothing false) (at (the_file word) false) word rest (rw (p.ends, p.long, p.short) refl) (walked_plain word p)
+              ∙ next (the_file word))
       turn the_flag word rest u (a_plain f t r) next =
           let p = plain_word word f in
-          rw (t, r, f) (goes_on (at the_flag false) (at (flag_file word) false) word rest (rw (p.ends, p.long, p.short) refl) (walked_plain_flagged word p) ∙ next (flag_file word))
+          rw (t, r, f) (goes_on (at the_flag false) (at (flag_file word) false) word rest (rw (p.ends, p.long, p.short) refl) (walked_plain_flagged word p)
+              ∙ next (flag_file word))
       turn (the_file file) word rest u (a_plain f t r) next =
           let p = plain_word word f in
           rw (t, r, f) (stops (at (the_file file) false) word rest (rw (p.ends, p.long, p.short) refl))
@@ -323,7 +329,8 @@ behind_flag (a ∷ rest) = turn a rest (sort_of a)
         second b rest (a_plain g s q) = rw (s, q, g, two_none a b rest f t s) refl
 
 -- behind a file and the flag
-behind_both : (a : Text) (rest : List Text) → is_flag a ≡ false → bytes_eq a dashes ≡ false → read (file_flag a) false rest ≡ option_map with_reset (plain_file (a ∷ rest))
+behind_both : (a : Text) (rest : List Text) → is_flag a ≡ false → bytes_eq a dashes ≡ false →
+    read (file_flag a) false rest ≡ option_map with_reset (plain_file (a ∷ rest))
 behind_both a [] f t = rw f refl
 behind_both a (b ∷ rest) f t = second b rest (sort_of b)
   where
@@ -344,8 +351,10 @@ behind_file a (b ∷ rest) f t r = second b rest (sort_of b)
     second b [] a_tail = rw (t, r, f) refl
     second b (c ∷ rest) a_tail = rw (t, r) refl
     second b rest a_reset = rw (t, r) (behind_both a rest f t)
-    second b rest (a_flag g s q) = rw (s, q, g, t, r) (sym (either_none (has_reset rest) _ _ (two_none a b (without_reset rest) f t s) (two_none a b rest f t s)))
-    second b rest (a_plain g s q) = rw (s, q, g, t, r) (sym (either_none (has_reset rest) _ _ (two_none a b (without_reset rest) f t s) (two_none a b rest f t s)))
+    second b rest (a_flag g s q) = rw (s, q, g, t,
+        r) (sym (either_none (has_reset rest) _ _ (two_none a b (without_reset rest) f t s) (two_none a b rest f t s)))
+    second b rest (a_plain g s q) = rw (s, q, g, t,
+        r) (sym (either_none (has_reset rest) _ _ (two_none a b (without_reset rest) f t s) (two_none a b rest f t s)))
 
 file_met : (a : Text) (rest : List Text) → is_flag a ≡ false → bytes_eq a dashes ≡ false → bytes_eq a flag_word ≡ false
     → read nothing false (a ∷ rest) ≡ read (the_file a) false rest

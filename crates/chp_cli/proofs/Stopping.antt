@@ -18,7 +18,8 @@ use Rattle.chp_cli.specs.Steps.{FromFile, no_file, long_file, a_file, FromProgra
 
 -- ---- a step by itself is the same step of a command
 
-pub file_goes : {given : Given} {name : List ℕ} {most : ℕ} {Next : List ℕ → Answer → Type 0} {a : Answer} → FromFile given name most Never a → FromFile given name most Next a
+pub file_goes : {given : Given} {name : List ℕ} {most : ℕ} {Next : List ℕ → Answer → Type 0} {a : Answer} → FromFile given name most Never a →
+    FromFile given name most Next a
 file_goes (no_file lacks) = no_file lacks
 file_goes (long_file long) = long_file long
 file_goes (a_file gives short never) = absurd never
@@ -61,10 +62,12 @@ module _ (I J : Answer → Type 0) (is : (a : Answer) → I a → J a) where
   stops_where files given before after (Unread name) halts = absurd halts
   stops_where files given before after NoMemory halts = tt
 
-  pub stops_in : (files more : List (List ℕ)) (given : Given) (first before after : ℕ) → ((name : List ℕ) → Contains files name → Contains more name) → first ≤ before
+  pub stops_in : (files more : List (List ℕ)) (given : Given) (first before after : ℕ) → ((name : List ℕ) → Contains files name → Contains more name) →
+      first ≤ before
       → (stop : Stop) → Stops I files given before after stop → Stops J more given first after stop
   stops_in files more given first before after own early (Refused refusal) stops = is _ stops
-  stops_in files more given first before after own early (Unread name) stops = record { own = own name.now stops.own; fault = since stops.fault; missed = missed stops.missed }
+  stops_in files more given first before after own early (Unread name) stops =
+      record { own = own name.now stops.own; fault = since stops.fault; missed = missed stops.missed }
     where
       since : IsReadFault before after given.tells (given.files name.now) → IsReadFault first after given.tells (given.files name.now)
       since (inl rose) = inl (rose_since early rose)
@@ -90,10 +93,12 @@ module _ (text : List ℕ) (program : ProgramTree) (Next : ProgramTree → Answe
   program_answers = ok_in r (λ output. Next program (written output)) (λ output. FromProgram text Next (written output)) (λ output is. a_program read is)
 
   pub program_stops : IfErr r (Halts (Next program)) → IfErr r (Halts (FromProgram text Next))
-  program_stops = err_in r (Halts (Next program)) (Halts (FromProgram text Next)) (halts_in (Next program) (FromProgram text Next) (λ answer is. a_program read is))
+  program_stops = err_in r (Halts (Next program)) (Halts (FromProgram text Next))
+      (halts_in (Next program) (FromProgram text Next) (λ answer is. a_program read is))
 
 -- the checks, of whose program this is the typed form
-module _ (program : ProgramTree) (typed form : TypedProgram) (Next : TypedProgram → Answer → Type 0) (same : typed ≡ form) (is_accepted : IsAccepted program) (r : Result Output Stop) where
+module _ (program : ProgramTree) (typed form : TypedProgram) (Next : TypedProgram → Answer → Type 0) (same : typed ≡ form) (is_accepted : IsAccepted program)
+    (r : Result Output Stop) where
   pub form_answers : IfOk r (λ output. Next typed (written output)) → IfOk r (λ output. FromChecks program (Next form) (written output))
   form_answers = ok_in r (λ output. Next typed (written output)) (λ output. FromChecks program (Next form) (written output))
       (λ output is. accepted is_accepted (subst (λ p. Next p (written output)) same is))
@@ -109,11 +114,13 @@ module _ (text : List ℕ) (net : NetValue) (Next : NetValue → Answer → Type
   pub net_stops : IfErr r (Halts (Next net)) → IfErr r (Halts (FromNet text Next))
   net_stops = err_in r (Halts (Next net)) (Halts (FromNet text Next)) (halts_in (Next net) (FromNet text Next) (λ answer is. a_net read is))
 
-module _ (given : Given) (name : List ℕ) (most : ℕ) (text : List ℕ) (Next : List ℕ → Answer → Type 0) (gives : Gives given name text) (short : length text ≤ most) (r : Result Output Stop) where
+module _ (given : Given) (name : List ℕ) (most : ℕ) (text : List ℕ) (Next : List ℕ → Answer →
+    Type 0) (gives : Gives given name text) (short : length text ≤ most) (r : Result Output Stop) where
   pub file_answers : IfOk r (λ output. Next text (written output)) → IfOk r (λ output. FromFile given name most Next (written output))
   file_answers = ok_in r (λ output. Next text (written output)) (λ output. FromFile given name most Next (written output)) (λ output is. a_file gives short is)
 
-  pub file_stops : (files : List (List ℕ)) (before after : ℕ) → IfErr r (Halts (Next text)) → IfErr r (Stops (FromFile given name most Next) files given before after)
+  pub file_stops : (files : List (List ℕ)) (before after : ℕ) → IfErr r (Halts (Next text)) →
+      IfErr r (Stops (FromFile given name most Next) files given before after)
   file_stops files before after = err_in r (Halts (Next text)) (Stops (FromFile given name most Next) files given before after)
       (stops_where (Next text) (FromFile given name most Next) (λ answer is. a_file gives short is) files given before after)
 
@@ -127,7 +134,8 @@ unread_file given name most before after fault = record { own = itself name; fau
     missed (inr lacks) = inr (no_file (record { told = lacks.0; none = lacks.1 }))
 
 -- one more byte than that was read
-pub longer_file : (given : Given) (name : List ℕ) (most : ℕ) {rest : List ℕ} → (given.tells ≡ true → (taken : List ℕ) × IsLeft (given.files name) rest taken × (length taken ≡ most + 1))
+pub longer_file : (given : Given) (name : List ℕ) (most : ℕ) {rest : List ℕ} →
+    (given.tells ≡ true → (taken : List ℕ) × IsLeft (given.files name) rest taken × (length taken ≡ most + 1))
     → FromFile given name most Never (refuses TooLarge (too_long_line name most))
 longer_file given name most {rest} left = long_file (λ told. let l = left told in (l.0 ++ rest, l.1, longer l.0 l.2))
   where

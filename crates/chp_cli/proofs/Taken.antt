@@ -157,7 +157,8 @@ module _ (c : List Rule) (again : Bool) where
   flags_none zero flags skip h e = refl
   flags_none (suc k) flags skip h e = go (slice_get (chars flags) 0) skip (λ rest less now. flags_none k rest less now) e
     where
-      go : (o : Option ℕ) (skip : ℕ) → ((rest : Text) (less : ℕ) (now : Held) → flags_fault c again k rest less now ≡ [] → flags_pass c again k rest less now ≡ true)
+      go : (o : Option ℕ) (skip : ℕ) → ((rest : Text) (less : ℕ) (now : Held) → flags_fault c again k rest less now ≡ [] →
+          flags_pass c again k rest less now ≡ true)
           → bundle_step_fault c again o flags skip h (flags_fault c again k) ≡ [] → bundle_step_passes c again o flags skip h (flags_pass c again k) ≡ true
       go None skip each e = refl
       go (Some x) zero each e =
@@ -165,7 +166,8 @@ module _ (c : List Rule) (again : Bool) where
           short_none (arg_by_short c x) rest h (flags_fault c again k rest 0) (flags_pass c again k rest 0) (each rest 0) e
       go (Some x) (suc less) each e = each (drop (length (encode_utf8 x)) flags) less h e
 
-  flag_word_none : (long : Option (Text × Option Text)) (word : Text) (h : Held) → flag_word_fault c again long word h ≡ [] → flag_word_passes c again long word h ≡ true
+  flag_word_none : (long : Option (Text × Option Text)) (word : Text) (h : Held) → flag_word_fault c again long word h ≡ [] →
+      flag_word_passes c again long word h ≡ true
   flag_word_none (Some p) word h e = long_none (arg_by_long c p.0) p.1 h e
   flag_word_none None word h e = mapped_none (λ flags. bundle_fault c again flags h) (λ flags. bundle_passes c again flags h) (short_of word)
       (λ flags. flags_none (length flags) flags h.skip (record h { skip = 0 })) e
@@ -202,7 +204,8 @@ module _ (s : Shape) (names : Names) where
   step_none : (position : ℕ) (h : Held) (step : Step) → step_fault s position h step ≡ [] → step_passes s position h step ≡ true
   step_none position h value e = go (arg_by_index s.rules position) s.is_leaf e
     where
-      go : (o : Option Rule) (leaf : Bool) → option_map_or (λ a. positional_fault s.rules s.args_override_self a h) o (stray_fault (record s { is_leaf = leaf })) ≡ []
+      go : (o : Option Rule) (leaf : Bool) → option_map_or (λ a. positional_fault s.rules s.args_override_self a h) o
+          (stray_fault (record s { is_leaf = leaf })) ≡ []
           → option_map_or (λ a. positional_passes s.rules s.args_override_self a h) o false ≡ true
       go (Some a) leaf e = positional_none s.rules s.args_override_self a h e
       go None true e = cc
@@ -214,7 +217,8 @@ module _ (s : Shape) (names : Names) where
   turn_none : (w : Walk) (word : Text) → turn_fault s names w word ≡ [] → turn_passes s names w word ≡ true
   turn_none w word e = go (is_some w.stopped) (word_met s.rules names w.is_trailing w.waiting w.position word w.held) e
     where
-      go : (b : Bool) (met : Held × Step) → cond b [] (or_else (word_fault s names w.is_trailing w.waiting word w.held) (step_fault s w.position met.0 met.1)) ≡ []
+      go : (b : Bool) (met : Held × Step) → cond b [] (or_else (word_fault s names w.is_trailing w.waiting word w.held) (step_fault s w.position met.0 met.1)) ≡
+          []
           → (b || (word_passes s names w.is_trailing w.waiting word w.held && step_passes s w.position met.0 met.1)) ≡ true
       go true met e = refl
       go false met e =
@@ -259,7 +263,8 @@ valid_none : (s : Shape) (rows : List Row) (has : Bool) → list_all (λ a. a.is
 valid_none s rows has free e =
     let first = chosen_none (not has && (s.arg_required_else_help && not (list_any (λ (r : Row). explicit_source r.source) rows))) _ _ _ e in
     let second = chosen_none (not has && s.subcommand_required) _ _ _ first.1 in
-    let third = chosen_none (not (s.subcommand_negates_reqs && has) && list_any (λ (a : Rule). a.required && not (is_given a.id rows)) s.rules) _ _ _ second.1 in
+    let third = chosen_none (not (s.subcommand_negates_reqs && has) && list_any (λ (a : Rule). a.required && not (is_given a.id rows)) s.rules) _ _ _ second.1
+        in
     and_true _ _ (no_help has s.arg_required_else_help _ first.0)
     (and_true _ _ (no_command has s.subcommand_required second.0)
     (and_true _ _ free (go (s.subcommand_negates_reqs && has) third.0)))

@@ -21,7 +21,8 @@ IsFile (Some command) name = Contains (files_of command) name
 
 -- A call ends in one of these ways. The counts of faults are those of the shelf and of the output, before the call and
 -- after it.
-pub data Ends (asked : Option Asked) (given : Given) (read_before read_after put_before put_after : ℕ) : Status → (appended line : List ℕ) → Type 0 where
+pub data Ends (asked : Option Asked) (given : Given) (read_before read_after put_before put_after : ℕ) : Status →
+    (appended line : List ℕ) → Type 0 where
   -- the words are no form of a command
   formless : asked ≡ None → Ends asked given read_before read_after put_before put_after Usage [] usage_line
   -- the command writes, and all was written

@@ -22,13 +22,16 @@ named_reset names = position (λ name. bytes_eq name (codes "reset")) names
 -- A net without a reset node can't be migrated where one of its nodes has that name, which stands in the line after as
 -- many as its number and one. Else the one text of the net with a reset node is written.
 pub data MigratesNet (net : NetValue) : Answer → Type 0 where
-  taken : {node : ℕ} → net.reset ≡ None → named_reset net.names ≡ Some node → MigratesNet net (refuses BadFile (bad_net_line DoubleName (node + 2)))
-  migrated : {file : List ℕ} → (net.reset ≡ None → named_reset net.names ≡ None) → NetText file (resettable net.reset net) → MigratesNet net (writes Done file)
+  taken : {node : ℕ} → net.reset ≡ None → named_reset net.names ≡ Some node →
+      MigratesNet net (refuses BadFile (bad_net_line DoubleName (node + 2)))
+  migrated : {file : List ℕ} → (net.reset ≡ None → named_reset net.names ≡ None) →
+      NetText file (resettable net.reset net) → MigratesNet net (writes Done file)
 
 abbrev pub Migrates : Given → (file : List ℕ) → Answer → Type 0
 Migrates given file = FromFile given file most_of_net (λ text. FromNet text MigratesNet)
 
--- the file holds what is to be migrated: a rule file within the limit whose net has a reset node, or no node of its name
+-- the file holds what is to be migrated: a rule file within the limit whose net has a reset node, or no node of its
+-- name
 pub record IsToMigrate (given : Given) (file : List ℕ) : Type 0 where
   pub text : List ℕ
   pub net : NetValue

@@ -63,7 +63,8 @@ Halts IsAnswer NoMemory = Unit {0}
 
 -- a file of the command can't be read: a read fault of that very file, at which the count of faults rose, or else this
 -- is an answer of the command
-pub record IsUnread (IsAnswer : Answer → Type 0) (files : List (List ℕ)) (given : Given) (before after : ℕ) (name : List ℕ) : Type 0 where
+pub record IsUnread (IsAnswer : Answer → Type 0) (files : List (List ℕ)) (given : Given) (before after : ℕ)
+    (name : List ℕ) : Type 0 where
   pub own : Contains files name
   pub fault : IsReadFault before after given.tells (given.files name)
   pub missed : Rose before after ⊎ IsAnswer (misses name)

@@ -38,13 +38,15 @@ most_of_net = 268435456
 
 -- the file has more bytes than that, where the shelf tells them
 abbrev pub IsOverlong : Given → (name : List ℕ) → (most : ℕ) → Type 0
-IsOverlong given name most = given.tells ≡ true → (text : List ℕ) × (given.files name ≡ Some text) × (most < length text)
+IsOverlong given name most = given.tells ≡ true → (text : List ℕ) × (given.files name ≡ Some text)
+    × (most < length text)
 
 -- it reads the file of this name, which has at most so many bytes
 pub data FromFile (given : Given) (name : List ℕ) (most : ℕ) (Next : List ℕ → Answer → Type 0) : Answer → Type 0 where
   no_file : Lacks given name → FromFile given name most Next (misses name)
   long_file : IsOverlong given name most → FromFile given name most Next (refuses TooLarge (too_long_line name most))
-  a_file : {text : List ℕ} {answer : Answer} → Gives given name text → length text ≤ most → Next text answer → FromFile given name most Next answer
+  a_file : {text : List ℕ} {answer : Answer} → Gives given name text → length text ≤ most → Next text answer →
+      FromFile given name most Next answer
 
 -- ---- from a text to a program
 
@@ -61,21 +63,26 @@ pub record IsNoProgram (text : List ℕ) (fault : Fault) : Type 0 where
 
 -- it reads the text as a program
 pub data FromProgram (text : List ℕ) (Next : ProgramTree → Answer → Type 0) : Answer → Type 0 where
-  no_program : {fault : Fault} → IsNoProgram text fault → FromProgram text Next (refuses RefusedText (refused_line fault))
-  a_program : {program : ProgramTree} {answer : Answer} → IsTextOf text program → Next program answer → FromProgram text Next answer
+  no_program : {fault : Fault} → IsNoProgram text fault →
+      FromProgram text Next (refuses RefusedText (refused_line fault))
+  a_program : {program : ProgramTree} {answer : Answer} → IsTextOf text program → Next program answer →
+      FromProgram text Next answer
 
 -- ---- from a program to an accepted one
 
 -- the program is refused for this fault: the first one of names, kinds and widths, or else of sharing
 pub data IsFaulty (program : ProgramTree) : Fault → Type 0 where
-  of_names : {c : FaultCode} {at : Span} → IsFirstFault program naming_faults c at → IsFaulty program (record { code = c; at = at; other = at })
-  of_sharing : {c : FaultCode} {at other : Span} → HasNone program naming_faults → IsFirstSharedFault (typed_form program).body sharing_faults c at other
+  of_names : {c : FaultCode} {at : Span} → IsFirstFault program naming_faults c at →
+      IsFaulty program (record { code = c; at = at; other = at })
+  of_sharing : {c : FaultCode} {at other : Span} → HasNone program naming_faults →
+      IsFirstSharedFault (typed_form program).body sharing_faults c at other
       → IsFaulty program (record { code = c; at = at; other = other })
 
 -- it checks the program; one with procedures isn't served yet
 pub data FromChecks (program : ProgramTree) (Next : Answer → Type 0) : Answer → Type 0 where
   has_calls : ¬ IsCallFree program → FromChecks program Next (refuses NotBuilt not_built_line)
-  faulty : {fault : Fault} → IsCallFree program → IsFaulty program fault → FromChecks program Next (refuses RefusedText (refused_line fault))
+  faulty : {fault : Fault} → IsCallFree program → IsFaulty program fault →
+      FromChecks program Next (refuses RefusedText (refused_line fault))
   accepted : {answer : Answer} → IsAccepted program → Next answer → FromChecks program Next answer
 
 -- ---- from a program to one whose circuit isn't too large
@@ -86,8 +93,10 @@ most_of_nodes = 65536
 
 -- it counts the nodes of the program's circuit
 pub data FromNodes (program : TypedProgram) (Next : TypedProgram → Answer → Type 0) : Answer → Type 0 where
-  too_many : most_of_nodes < node_count program → FromNodes program Next (refuses TooLarge (nodes_line (node_count program)))
-  few_enough : {answer : Answer} → node_count program ≤ most_of_nodes → Next program answer → FromNodes program Next answer
+  too_many : most_of_nodes < node_count program →
+      FromNodes program Next (refuses TooLarge (nodes_line (node_count program)))
+  few_enough : {answer : Answer} → node_count program ≤ most_of_nodes → Next program answer →
+      FromNodes program Next answer
 
 -- ---- from a text to a net
 
@@ -104,5 +113,6 @@ pub record IsNoNet (text : List ℕ) (fault : NetFault) (line : ℕ) : Type 0 wh
 
 -- it reads the text as a rule file
 pub data FromNet (text : List ℕ) (Next : NetValue → Answer → Type 0) : Answer → Type 0 where
-  no_net : {fault : NetFault} {line : ℕ} → IsNoNet text fault line → FromNet text Next (refuses BadFile (bad_net_line fault line))
+  no_net : {fault : NetFault} {line : ℕ} → IsNoNet text fault line →
+      FromNet text Next (refuses BadFile (bad_net_line fault line))
   a_net : {net : NetValue} {answer : Answer} → IsFileOf text net → Next net answer → FromNet text Next answer

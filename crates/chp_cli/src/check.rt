@@ -59,8 +59,11 @@ fn check_text<'a>(alloc: Global, text: &[u8]) -> Result<Output, Stop<'a>>
 
 /// What `check` answers for the file of this name.
 pub fn check<'a, S: Shelf>(alloc: Global, shelf: &mut S, file: &'a str) -> Result<Output, Stop<'a>>
-    ensures answered { IfOk result (λ output. Checks (given_by (S.tells shelf.old) (S.holds shelf.old)) file.entry.now (written output)) }
-    ensures stopped { IfErr result (Stops (Checks (given_by (S.tells shelf.old) (S.holds shelf.old)) file.entry.now) (file.entry.now ∷ []) (given_by (S.tells shelf.old) (S.holds shelf.old)) (S.faults shelf.old) (S.faults shelf.new)) }
+    ensures answered { IfOk result (λ output. Checks (given_by (S.tells shelf.old) (S.holds shelf.old)) file.entry.now
+        (written output)) }
+    ensures stopped { IfErr result (Stops (Checks (given_by (S.tells shelf.old) (S.holds shelf.old)) file.entry.now)
+        (file.entry.now ∷ []) (given_by (S.tells shelf.old) (S.holds shelf.old)) (S.faults shelf.old)
+        (S.faults shelf.new)) }
     ensures same { S.tells shelf.new ≡ S.tells shelf.old }
     ensures kept { S.holds shelf.new ≡ S.holds shelf.old }
     ensures faults { S.faults shelf.old ≤ S.faults shelf.new }

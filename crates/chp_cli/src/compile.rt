@@ -90,8 +90,11 @@ pub fn compile<'a, S: Shelf>(
     file: &'a str,
     reset: bool,
 ) -> Result<Output, Stop<'a>>
-    ensures answered { IfOk result (λ output. Compiles reset (given_by (S.tells shelf.old) (S.holds shelf.old)) file.entry.now (written output)) }
-    ensures stopped { IfErr result (Stops (Compiles reset (given_by (S.tells shelf.old) (S.holds shelf.old)) file.entry.now) (file.entry.now ∷ []) (given_by (S.tells shelf.old) (S.holds shelf.old)) (S.faults shelf.old) (S.faults shelf.new)) }
+    ensures answered { IfOk result (λ output. Compiles reset (given_by (S.tells shelf.old) (S.holds shelf.old))
+        file.entry.now (written output)) }
+    ensures stopped { IfErr result (Stops
+        (Compiles reset (given_by (S.tells shelf.old) (S.holds shelf.old)) file.entry.now) (file.entry.now ∷ [])
+        (given_by (S.tells shelf.old) (S.holds shelf.old)) (S.faults shelf.old) (S.faults shelf.new)) }
     ensures same { S.tells shelf.new ≡ S.tells shelf.old }
     ensures kept { S.holds shelf.new ≡ S.holds shelf.old }
     ensures faults { S.faults shelf.old ≤ S.faults shelf.new }

@@ -69,8 +69,11 @@ fn expand_text<'a>(alloc: Global, text: &[u8]) -> Result<Output, Stop<'a>>
 
 /// What `expand` answers for the file of this name.
 pub fn expand<'a, S: Shelf>(alloc: Global, shelf: &mut S, file: &'a str) -> Result<Output, Stop<'a>>
-    ensures answered { IfOk result (λ output. Expands (given_by (S.tells shelf.old) (S.holds shelf.old)) file.entry.now (written output)) }
-    ensures stopped { IfErr result (Stops (Expands (given_by (S.tells shelf.old) (S.holds shelf.old)) file.entry.now) (file.entry.now ∷ []) (given_by (S.tells shelf.old) (S.holds shelf.old)) (S.faults shelf.old) (S.faults shelf.new)) }
+    ensures answered { IfOk result (λ output. Expands (given_by (S.tells shelf.old) (S.holds shelf.old)) file.entry.now
+        (written output)) }
+    ensures stopped { IfErr result (Stops (Expands (given_by (S.tells shelf.old) (S.holds shelf.old)) file.entry.now)
+        (file.entry.now ∷ []) (given_by (S.tells shelf.old) (S.holds shelf.old)) (S.faults shelf.old)
+        (S.faults shelf.new)) }
     ensures same { S.tells shelf.new ≡ S.tells shelf.old }
     ensures kept { S.holds shelf.new ≡ S.holds shelf.old }
     ensures faults { S.faults shelf.old ≤ S.faults shelf.new }

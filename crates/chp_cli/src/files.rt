@@ -39,9 +39,12 @@ pub fn text_of_file<'a, S: Shelf>(
     most: usize,
 ) -> Result<Vec<u8>, Stop<'a>>
     requires { most < 2 ^ 64 - 1 }
-    ensures read { IfOk result (λ text. Gives (given_by (S.tells shelf.old) (S.holds shelf.old)) name.entry.now text.items) }
+    ensures read { IfOk result (λ text. Gives (given_by (S.tells shelf.old) (S.holds shelf.old)) name.entry.now
+        text.items) }
     ensures short { IfOk result (λ text. length text.items ≤ most) }
-    ensures stopped { IfErr result (Stops (FromFile (given_by (S.tells shelf.old) (S.holds shelf.old)) name.entry.now most Never) (name.entry.now ∷ []) (given_by (S.tells shelf.old) (S.holds shelf.old)) (S.faults shelf.old) (S.faults shelf.new)) }
+    ensures stopped { IfErr result (Stops
+        (FromFile (given_by (S.tells shelf.old) (S.holds shelf.old)) name.entry.now most Never) (name.entry.now ∷ [])
+        (given_by (S.tells shelf.old) (S.holds shelf.old)) (S.faults shelf.old) (S.faults shelf.new)) }
     ensures same { S.tells shelf.new ≡ S.tells shelf.old }
     ensures kept { S.holds shelf.new ≡ S.holds shelf.old }
     ensures faults { S.faults shelf.old ≤ S.faults shelf.new }

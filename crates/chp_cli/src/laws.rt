@@ -21,12 +21,14 @@ pub fn one_answer()
 /// Law: what `compile` writes for a file is the one text of the net of the one program that its text reads as, which is
 /// accepted; and the net carries the program.
 pub fn compiled_right()
-    ensures { (reset : Bool) (given : Given) (file : List ℕ) → given.tells ≡ true → (end : Ending) (text : List ℕ) → Compiles reset given file (writes end text) → IsFileCompiled reset given file text }
+    ensures { (reset : Bool) (given : Given) (file : List ℕ) → given.tells ≡ true → (end : Ending) (text : List ℕ) →
+        Compiles reset given file (writes end text) → IsFileCompiled reset given file text }
 {}
 
 /// Law: the only answer of `compile` to a file that holds what is to be compiled is to write.
 pub fn compiles_all()
-    ensures { (reset : Bool) (given : Given) (file : List ℕ) → given.tells ≡ true → IsToCompile given file → (answer : Answer) → Compiles reset given file answer → status_of answer ≡ Done }
+    ensures { (reset : Bool) (given : Given) (file : List ℕ) → given.tells ≡ true → IsToCompile given file →
+        (answer : Answer) → Compiles reset given file answer → status_of answer ≡ Done }
 {
     width_check::laws::one_fault();
     sharing_check::laws::one_shared_fault();
@@ -34,5 +36,6 @@ pub fn compiles_all()
 
 /// Law: the only answer of `migrate` to a file that holds what is to be migrated is to write.
 pub fn migrates_all()
-    ensures { (given : Given) (file : List ℕ) → given.tells ≡ true → IsToMigrate given file → (answer : Answer) → Migrates given file answer → status_of answer ≡ Done }
+    ensures { (given : Given) (file : List ℕ) → given.tells ≡ true → IsToMigrate given file → (answer : Answer) →
+        Migrates given file answer → status_of answer ≡ Done }
 {}

@@ -26,8 +26,11 @@ fn answer<'a, S: Shelf>(
     shelf: &mut S,
     command: &Command<'a>,
 ) -> Result<Output, Stop<'a>>
-    ensures answered { IfOk result (λ output. IsAnswer (asked command.now) (given_by (S.tells shelf.old) (S.holds shelf.old)) (written output)) }
-    ensures stopped { IfErr result (Stops (IsAnswer (asked command.now) (given_by (S.tells shelf.old) (S.holds shelf.old))) (files_of (asked command.now)) (given_by (S.tells shelf.old) (S.holds shelf.old)) (S.faults shelf.old) (S.faults shelf.new)) }
+    ensures answered { IfOk result (λ output.
+        IsAnswer (asked command.now) (given_by (S.tells shelf.old) (S.holds shelf.old)) (written output)) }
+    ensures stopped { IfErr result (Stops
+        (IsAnswer (asked command.now) (given_by (S.tells shelf.old) (S.holds shelf.old))) (files_of (asked command.now))
+        (given_by (S.tells shelf.old) (S.holds shelf.old)) (S.faults shelf.old) (S.faults shelf.new)) }
     ensures same { S.tells shelf.new ≡ S.tells shelf.old }
     ensures kept { S.holds shelf.new ≡ S.holds shelf.old }
     ensures faults { S.faults shelf.old ≤ S.faults shelf.new }
@@ -48,7 +51,8 @@ fn run<'a, S: Shelf, K: Sink>(
     out: &mut K,
 ) -> End<'a>
     ensures ended { (appended : List ℕ)
-        × Ends (asked_by words.now) (given_by (S.tells shelf.old) (S.holds shelf.old)) (S.faults shelf.old) (S.faults shelf.new) (K.faults out.old) (K.faults out.new) (end_status result) appended (end_line result)
+        × Ends (asked_by words.now) (given_by (S.tells shelf.old) (S.holds shelf.old)) (S.faults shelf.old)
+            (S.faults shelf.new) (K.faults out.old) (K.faults out.new) (end_status result) appended (end_line result)
         × (K.tells out.old ≡ true → K.written out.new ≡ K.written out.old ++ appended) }
     ensures shelf_same { S.tells shelf.new ≡ S.tells shelf.old }
     ensures shelf_kept { S.holds shelf.new ≡ S.holds shelf.old }
@@ -75,9 +79,9 @@ fn run<'a, S: Shelf, K: Sink>(
 /// says one line where it doesn't end well. Faults of `say` change neither the status nor the output.
 ///
 /// What is answered, written and said is the command's answer to its files, of which there is at most one where the
-/// shelf tells them. Three things may come between: the shelf fails at a file of the command (`Read`), the output fails,
-/// and a front of what the command writes was written (`Write`), or memory runs out (`NoMemory`), which may be at any
-/// point and is merged with no other answer.
+/// shelf tells them. Three things may come between: the shelf fails at a file of the command (`Read`), the output
+/// fails, and a front of what the command writes was written (`Write`), or memory runs out (`NoMemory`), which may be
+/// at any point and is merged with no other answer.
 pub fn chp_main<S: Shelf, K: Sink, W: Sink>(
     alloc: Global,
     words: &[String],
@@ -86,15 +90,21 @@ pub fn chp_main<S: Shelf, K: Sink, W: Sink>(
     say: &mut W,
 ) -> Status
     ensures ended { (appended : List ℕ) × (line : List ℕ)
-        × Ends (asked_by words.now) (given_by (S.tells shelf.old) (S.holds shelf.old)) (S.faults shelf.old) (S.faults shelf.new) (K.faults out.old) (K.faults out.new) result appended line
+        × Ends (asked_by words.now) (given_by (S.tells shelf.old) (S.holds shelf.old)) (S.faults shelf.old)
+            (S.faults shelf.new) (K.faults out.old) (K.faults out.new) result appended line
         × (K.tells out.old ≡ true → K.written out.new ≡ K.written out.old ++ appended)
-        × (W.tells say.old ≡ true → ¬ Rose (W.faults say.old) (W.faults say.new) → W.written say.new ≡ W.written say.old ++ line) }
-    ensures complete { (answer : Answer) → S.tells shelf.old ≡ true → AnswersTo (asked_by words.now) (given_by (S.tells shelf.old) (S.holds shelf.old)) answer
-        → ¬ Rose (S.faults shelf.old) (S.faults shelf.new) → ¬ Rose (K.faults out.old) (K.faults out.new) → (result ≡ status_of answer) ⊎ (result ≡ Status.NoMemory) }
+        × (W.tells say.old ≡ true → ¬ Rose (W.faults say.old) (W.faults say.new) →
+            W.written say.new ≡ W.written say.old ++ line) }
+    ensures complete { (answer : Answer) → S.tells shelf.old ≡ true →
+        AnswersTo (asked_by words.now) (given_by (S.tells shelf.old) (S.holds shelf.old)) answer
+        → ¬ Rose (S.faults shelf.old) (S.faults shelf.new) → ¬ Rose (K.faults out.old) (K.faults out.new) →
+            (result ≡ status_of answer) ⊎ (result ≡ Status.NoMemory) }
     ensures usage { result ≡ Status.Usage → asked_by words.now ≡ None }
-    ensures read { result ≡ Status.Read → (name : List ℕ) × IsFile (asked_by words.now) name × IsReadFault (S.faults shelf.old) (S.faults shelf.new) (S.tells shelf.old) (S.holds shelf.old name) }
+    ensures read { result ≡ Status.Read → (name : List ℕ) × IsFile (asked_by words.now) name
+        × IsReadFault (S.faults shelf.old) (S.faults shelf.new) (S.tells shelf.old) (S.holds shelf.old name) }
     ensures write { result ≡ Status.Write → Rose (K.faults out.old) (K.faults out.new) }
-    ensures silent { is_whole result ≡ false → result ≢ Status.Write → K.tells out.old ≡ true → K.written out.new ≡ K.written out.old }
+    ensures silent { is_whole result ≡ false → result ≢ Status.Write → K.tells out.old ≡ true →
+        K.written out.new ≡ K.written out.old }
     ensures shelf_same { S.tells shelf.new ≡ S.tells shelf.old }
     ensures shelf_kept { S.holds shelf.new ≡ S.holds shelf.old }
     ensures shelf_faults { S.faults shelf.old ≤ S.faults shelf.new }

@@ -84,8 +84,11 @@ pub fn migrate<'a, S: Shelf>(
     shelf: &mut S,
     file: &'a str,
 ) -> Result<Output, Stop<'a>>
-    ensures answered { IfOk result (λ output. Migrates (given_by (S.tells shelf.old) (S.holds shelf.old)) file.entry.now (written output)) }
-    ensures stopped { IfErr result (Stops (Migrates (given_by (S.tells shelf.old) (S.holds shelf.old)) file.entry.now) (file.entry.now ∷ []) (given_by (S.tells shelf.old) (S.holds shelf.old)) (S.faults shelf.old) (S.faults shelf.new)) }
+    ensures answered { IfOk result (λ output. Migrates (given_by (S.tells shelf.old) (S.holds shelf.old)) file.entry.now
+        (written output)) }
+    ensures stopped { IfErr result (Stops (Migrates (given_by (S.tells shelf.old) (S.holds shelf.old)) file.entry.now)
+        (file.entry.now ∷ []) (given_by (S.tells shelf.old) (S.holds shelf.old)) (S.faults shelf.old)
+        (S.faults shelf.new)) }
     ensures same { S.tells shelf.new ≡ S.tells shelf.old }
     ensures kept { S.holds shelf.new ≡ S.holds shelf.old }
     ensures faults { S.faults shelf.old ≤ S.faults shelf.new }

@@ -18,7 +18,8 @@ use prs_file::NetFault;
 fn put_pieces<W: Sink>(say: &mut W, pieces: &[&str]) -> Result<(), Failed>
     ensures faults { W.faults say.old ≤ W.faults say.new }
     ensures same { W.tells say.new ≡ W.tells say.old }
-    ensures whole { OnOk result (W.tells say.old ≡ true → W.written say.new ≡ W.written say.old ++ flat_map (λ piece. piece.now) pieces.now) }
+    ensures whole { OnOk result (W.tells say.old ≡ true →
+        W.written say.new ≡ W.written say.old ++ flat_map (λ piece. piece.now) pieces.now) }
     ensures failed { OnErr result (Rose (W.faults say.old) (W.faults say.new)) }
 {
     for piece in pieces {
@@ -31,7 +32,8 @@ fn put_pieces<W: Sink>(say: &mut W, pieces: &[&str]) -> Result<(), Failed>
 fn say_pieces<W: Sink>(say: &mut W, pieces: &[&str])
     ensures faults { W.faults say.old ≤ W.faults say.new }
     ensures same { W.tells say.new ≡ W.tells say.old }
-    ensures said { W.tells say.old ≡ true → ¬ Rose (W.faults say.old) (W.faults say.new) → W.written say.new ≡ W.written say.old ++ flat_map (λ piece. piece.now) pieces.now }
+    ensures said { W.tells say.old ≡ true → ¬ Rose (W.faults say.old) (W.faults say.new) →
+        W.written say.new ≡ W.written say.old ++ flat_map (λ piece. piece.now) pieces.now }
 {
     let _ = put_pieces(say, pieces);
 }
@@ -84,7 +86,8 @@ fn names_two_places(code: FaultCode) -> bool
 fn say_refused_text<W: Sink>(say: &mut W, fault: &Fault)
     ensures faults { W.faults say.old ≤ W.faults say.new }
     ensures same { W.tells say.new ≡ W.tells say.old }
-    ensures said { W.tells say.old ≡ true → ¬ Rose (W.faults say.old) (W.faults say.new) → W.written say.new ≡ W.written say.old ++ refused_line fault.now }
+    ensures said { W.tells say.old ≡ true → ¬ Rose (W.faults say.old) (W.faults say.new) →
+        W.written say.new ≡ W.written say.old ++ refused_line fault.now }
 {
     let mut number = Buffer::new();
     let mut from = Buffer::new();
@@ -145,7 +148,8 @@ fn name_of_net_fault(fault: NetFault) -> &'static str
 fn say_bad_net<W: Sink>(say: &mut W, fault: NetFault, line: u32)
     ensures faults { W.faults say.old ≤ W.faults say.new }
     ensures same { W.tells say.new ≡ W.tells say.old }
-    ensures said { W.tells say.old ≡ true → ¬ Rose (W.faults say.old) (W.faults say.new) → W.written say.new ≡ W.written say.old ++ bad_net_line fault line }
+    ensures said { W.tells say.old ≡ true → ¬ Rose (W.faults say.old) (W.faults say.new) →
+        W.written say.new ≡ W.written say.old ++ bad_net_line fault line }
 {
     let mut number = Buffer::new();
     let mut place = Buffer::new();
@@ -162,7 +166,8 @@ fn say_bad_net<W: Sink>(say: &mut W, fault: NetFault, line: u32)
 fn say_too_long<W: Sink>(say: &mut W, name: &str, limit: usize)
     ensures faults { W.faults say.old ≤ W.faults say.new }
     ensures same { W.tells say.new ≡ W.tells say.old }
-    ensures said { W.tells say.old ≡ true → ¬ Rose (W.faults say.old) (W.faults say.new) → W.written say.new ≡ W.written say.old ++ too_long_line name.now limit }
+    ensures said { W.tells say.old ≡ true → ¬ Rose (W.faults say.old) (W.faults say.new) →
+        W.written say.new ≡ W.written say.old ++ too_long_line name.now limit }
 {
     let mut most = Buffer::new();
     let most = most.format(limit);
@@ -173,7 +178,8 @@ fn say_too_long<W: Sink>(say: &mut W, name: &str, limit: usize)
 fn say_nodes<W: Sink>(say: &mut W, count: u64)
     ensures faults { W.faults say.old ≤ W.faults say.new }
     ensures same { W.tells say.new ≡ W.tells say.old }
-    ensures said { W.tells say.old ≡ true → ¬ Rose (W.faults say.old) (W.faults say.new) → W.written say.new ≡ W.written say.old ++ nodes_line count }
+    ensures said { W.tells say.old ≡ true → ¬ Rose (W.faults say.old) (W.faults say.new) →
+        W.written say.new ≡ W.written say.old ++ nodes_line count }
 {
     let mut number = Buffer::new();
     let number = number.format(count);
@@ -184,7 +190,8 @@ fn say_nodes<W: Sink>(say: &mut W, count: u64)
 fn say_refusal<W: Sink>(say: &mut W, refusal: &Refusal)
     ensures faults { W.faults say.old ≤ W.faults say.new }
     ensures same { W.tells say.new ≡ W.tells say.old }
-    ensures said { W.tells say.old ≡ true → ¬ Rose (W.faults say.old) (W.faults say.new) → W.written say.new ≡ W.written say.old ++ refusal_line refusal.now }
+    ensures said { W.tells say.old ≡ true → ¬ Rose (W.faults say.old) (W.faults say.new) →
+        W.written say.new ≡ W.written say.old ++ refusal_line refusal.now }
 {
     match refusal {
         Refusal::Text(fault) => say_refused_text(say, fault),
@@ -199,7 +206,8 @@ fn say_refusal<W: Sink>(say: &mut W, refusal: &Refusal)
 fn say_stop<W: Sink>(say: &mut W, stop: &Stop)
     ensures faults { W.faults say.old ≤ W.faults say.new }
     ensures same { W.tells say.new ≡ W.tells say.old }
-    ensures said { W.tells say.old ≡ true → ¬ Rose (W.faults say.old) (W.faults say.new) → W.written say.new ≡ W.written say.old ++ stop_line stop.now }
+    ensures said { W.tells say.old ≡ true → ¬ Rose (W.faults say.old) (W.faults say.new) →
+        W.written say.new ≡ W.written say.old ++ stop_line stop.now }
 {
     match stop {
         Stop::Refused(refusal) => say_refusal(say, refusal),
@@ -212,7 +220,8 @@ fn say_stop<W: Sink>(say: &mut W, stop: &Stop)
 pub fn tell<W: Sink>(say: &mut W, end: &End)
     ensures faults { W.faults say.old ≤ W.faults say.new }
     ensures same { W.tells say.new ≡ W.tells say.old }
-    ensures said { W.tells say.old ≡ true → ¬ Rose (W.faults say.old) (W.faults say.new) → W.written say.new ≡ W.written say.old ++ end_line end.now }
+    ensures said { W.tells say.old ≡ true → ¬ Rose (W.faults say.old) (W.faults say.new) →
+        W.written say.new ≡ W.written say.old ++ end_line end.now }
 {
     match end {
         End::Whole(Ending::Done) => {}

@@ -10,6 +10,7 @@ pub drop_on : (bytes piece : List ℕ) (done n : ℕ) → take n piece ≡ take 
 drop_on bytes piece done n same =
     sym (take-append-drop n (drop done bytes)) ∙ (ap (λ xs. xs ++ drop n (drop done bytes)) (sym same) ∙ ap (λ xs. take n piece ++ xs) (drop-drop n done bytes))
 
-pub left_on : (files : List File) (begun : Option ℕ) (done n : ℕ) (piece : List ℕ) → take n piece ≡ take n (left_at files begun done) → left_at files begun done ≡ take n piece ++ left_at files begun (done + n)
+pub left_on : (files : List File) (begun : Option ℕ) (done n : ℕ) (piece : List ℕ) → take n piece ≡ take n (left_at files begun done) →
+    left_at files begun done ≡ take n piece ++ left_at files begun (done + n)
 left_on files None done n piece same = sym (ap (λ xs. let none : List ℕ = [] in xs ++ none) (same ∙ take-nil n))
 left_on files (Some place) done n piece same = drop_on (bytes_of (slice_get files place)) piece done n same

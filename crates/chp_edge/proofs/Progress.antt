@@ -19,7 +19,8 @@ pub record PutSoFar (before now : ℕ) (tells tells_now : Bool) (written written
   pub within : done ≤ length text
 
 -- n more bytes were taken of what is left
-pub put_more : {before now after : ℕ} {tells tells_now tells_after : Bool} {written written_now written_after text : List ℕ} {done : ℕ} (n : ℕ) → PutSoFar before now tells tells_now written written_now text done
+pub put_more : {before now after : ℕ} {tells tells_now tells_after : Bool} {written written_now written_after text : List ℕ} {done : ℕ} (n : ℕ) →
+    PutSoFar before now tells tells_now written written_now text done
     → now ≤ after → tells_after ≡ tells_now → n ≤ length (take (length text - done) (drop done text))
     → (tells_now ≡ true → written_after ≡ written_now ++ take n (take (length text - done) (drop done text)))
     → PutSoFar before after tells tells_after written written_after text (done + n)

@@ -92,12 +92,17 @@ impl Shelf for MemShelf {
         ensures files { self.new.files ≡ self.old.files }
         ensures calls { self.new.plan.calls ≡ one_higher self.old.plan.calls }
         ensures failing { self.new.plan.failing ≡ self.old.plan.failing }
-        ensures begun { OnOk result (held_by self.old.files.items name.now ≡ Some (left_at self.new.files.items self.new.begun self.new.done)) }
+        ensures begun { OnOk result (held_by self.old.files.items name.now ≡
+            Some (left_at self.new.files.items self.new.begun self.new.done)) }
         ensures emptied { OnErr result (left_at self.new.files.items self.new.begun self.new.done ≡ []) }
-        ensures fails { IsErr result ↔ (Contains self.old.plan.failing.items self.new.plan.calls ⊎ (held_by self.old.files.items name.now ≡ None)) }
-        ensures failed { OnErr result (IsReadFault self.old.plan.faults self.new.plan.faults true (held_by self.old.files.items name.now)) }
-        ensures planned { Contains self.old.plan.failing.items self.new.plan.calls → self.new.plan.faults ≡ one_higher self.old.plan.faults }
-        ensures unplanned { (Contains self.old.plan.failing.items self.new.plan.calls → ⊥) → self.new.plan.faults ≡ self.old.plan.faults }
+        ensures fails { IsErr result ↔ (Contains self.old.plan.failing.items self.new.plan.calls ⊎
+            (held_by self.old.files.items name.now ≡ None)) }
+        ensures failed { OnErr result (IsReadFault self.old.plan.faults self.new.plan.faults true
+            (held_by self.old.files.items name.now)) }
+        ensures planned { Contains self.old.plan.failing.items self.new.plan.calls →
+            self.new.plan.faults ≡ one_higher self.old.plan.faults }
+        ensures unplanned { (Contains self.old.plan.failing.items self.new.plan.calls → ⊥) →
+            self.new.plan.faults ≡ self.old.plan.faults }
     {
         self.begun = None;
         self.done = 0;
@@ -118,14 +123,17 @@ impl Shelf for MemShelf {
         ensures files { self.new.files ≡ self.old.files }
         ensures calls { self.new.plan.calls ≡ one_higher self.old.plan.calls }
         ensures failing { self.new.plan.failing ≡ self.old.plan.failing }
-        ensures count { IfOk result (λ n. n ≡ min (length piece.old) (length (left_at self.old.files.items self.old.begun self.old.done))) }
-        ensures bytes { IfOk result (λ n. left_at self.old.files.items self.old.begun self.old.done ≡ take n piece.new ++ left_at self.new.files.items self.new.begun self.new.done) }
+        ensures count { IfOk result (λ n. n ≡
+            min (length piece.old) (length (left_at self.old.files.items self.old.begun self.old.done))) }
+        ensures bytes { IfOk result (λ n. left_at self.old.files.items self.old.begun self.old.done ≡ take n piece.new
+            ++ left_at self.new.files.items self.new.begun self.new.done) }
         ensures within { IfOk result (λ n. n ≤ length piece.new) }
         ensures end { IfOk result (λ n. (n ≡ 0) ↔ (left_at self.old.files.items self.old.begun self.old.done ≡ [])) }
         ensures fails { IsErr result ↔ Contains self.old.plan.failing.items self.new.plan.calls }
         ensures failed { OnErr result (Rose self.old.plan.faults self.new.plan.faults) }
         ensures exact { OnErr result (self.new.plan.faults ≡ one_higher self.old.plan.faults) }
-        ensures stays { OnErr result (left_at self.new.files.items self.new.begun self.new.done ≡ left_at self.old.files.items self.old.begun self.old.done) }
+        ensures stays { OnErr result (left_at self.new.files.items self.new.begun self.new.done ≡
+            left_at self.old.files.items self.old.begun self.old.done) }
         ensures unplanned { IsOk result → self.new.plan.faults ≡ self.old.plan.faults }
     {
         if self.plan.fails() {
@@ -245,10 +253,12 @@ impl Sink for MemSink {
         ensures limits { (self.new.most ≡ self.old.most) × (self.new.room ≡ self.old.room) }
         ensures calls { self.new.plan.calls ≡ one_higher self.old.plan.calls }
         ensures failing { self.new.plan.failing ≡ self.old.plan.failing }
-        ensures count { IfOk result (λ n. n ≡ min (min self.old.most (self.old.room - vec_len self.old.written)) (length piece.now)) }
+        ensures count { IfOk result (λ n. n ≡ min (min self.old.most (self.old.room - vec_len self.old.written))
+            (length piece.now)) }
         ensures some { IfOk result (λ n. 0 < n) }
         ensures bytes { IfOk result (λ n. self.new.written.items ≡ self.old.written.items ++ take n piece.now) }
-        ensures fails { IsErr result ↔ (Contains self.old.plan.failing.items self.new.plan.calls ⊎ (self.old.room ≤ vec_len self.old.written)) }
+        ensures fails { IsErr result ↔ (Contains self.old.plan.failing.items self.new.plan.calls ⊎
+            (self.old.room ≤ vec_len self.old.written)) }
         ensures failed { OnErr result (Rose self.old.plan.faults self.new.plan.faults) }
         ensures exact { OnErr result (self.new.plan.faults ≡ one_higher self.old.plan.faults) }
         ensures stays { OnErr result (self.new.written.items ≡ self.old.written.items) }

@@ -26,7 +26,8 @@ pub trait Shelf {
         ensures same { tells self.new ≡ tells self.old }
         ensures kept { holds self.new ≡ holds self.old }
         ensures begun { OnOk result (tells self.old ≡ true → holds self.old name.now ≡ Some (rest self.new)) }
-        ensures failed { OnErr result (IsReadFault (faults self.old) (faults self.new) (tells self.old) (holds self.old name.now)) }
+        ensures failed { OnErr result (IsReadFault (faults self.old) (faults self.new) (tells self.old)
+            (holds self.old name.now)) }
         ensures emptied { OnErr result (tells self.old ≡ true → rest self.new ≡ []) };
 
     /// Writes the next bytes of the begun file into the front of the piece, and answers how many: 0 exactly at

@@ -26,7 +26,8 @@ pub trait Sink {
         ensures same { tells self.new ≡ tells self.old }
         ensures some { IfOk result (λ n. 0 < n) }
         ensures within { IfOk result (λ n. n ≤ length piece.now) }
-        ensures bytes { IfOk result (λ n. tells self.old ≡ true → written self.new ≡ written self.old ++ take n piece.now) }
+        ensures bytes { IfOk result (λ n. tells self.old ≡ true →
+            written self.new ≡ written self.old ++ take n piece.now) }
         ensures failed { OnErr result (Rose (faults self.old) (faults self.new)) }
         ensures stays { OnErr result (tells self.old ≡ true → written self.new ≡ written self.old) };
 }

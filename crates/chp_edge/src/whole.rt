@@ -38,7 +38,8 @@ pub fn read_all<S: Shelf>(
     ensures read { IfOk result (λ all. S.tells shelf.old ≡ true → S.holds shelf.old name.now ≡ Some all.items) }
     ensures short { IfOk result (λ all. length all.items ≤ limit) }
     ensures emptied { OnOk result (S.tells shelf.old ≡ true → S.rest shelf.new ≡ []) }
-    ensures failed { IsErrOf result ReadEnd.Failed → IsReadFault (S.faults shelf.old) (S.faults shelf.new) (S.tells shelf.old) (S.holds shelf.old name.now) }
+    ensures failed { IsErrOf result ReadEnd.Failed →
+        IsReadFault (S.faults shelf.old) (S.faults shelf.new) (S.tells shelf.old) (S.holds shelf.old name.now) }
     ensures too_long { IsErrOf result ReadEnd.TooLong → S.tells shelf.old ≡ true →
         (taken : List ℕ) × IsLeft (S.holds shelf.old name.now) (S.rest shelf.new) taken × (length taken ≡ limit + 1) }
     ensures no_memory { IsErrOf result ReadEnd.NoMemory → S.tells shelf.old ≡ true →

@@ -43,15 +43,18 @@ mutual
 
   pub data ChoicesLike (N M : ℕ) : Choices → Choices → Type 0 where
     choice_none : ChoicesLike N M no_choices no_choices
-    choice_more : {g : Formula} {p q : Process} {cs ds : Choices} → ReadsBelow N g → Like N M p q → ChoicesLike N M cs ds → ChoicesLike N M (and_choice g p cs) (and_choice g q ds)
+    choice_more : {g : Formula} {p q : Process} {cs ds : Choices} → ReadsBelow N g → Like N M p q → ChoicesLike N M cs ds →
+        ChoicesLike N M (and_choice g p cs) (and_choice g q ds)
 
 -- Between the halves the program's assignment is still to come, and the hidden variable has the value that it will give.
 mutual
   pub data Alike (N M : ℕ) (old new : List ℕ) : Term → Term → Type 0 where
     both_finished : Alike N M old new finished finished
     both_active : {p q : Process} → Same N M p q → Alike N M old new (active p) (active q)
-    at_first : {x h : ℕ} {at : Span} {e : Formula} → Halving N M x h e → Alike N M old new (active (assigning x at e)) (in_sequence (active (assigning h at e)) (and_member (assigning x at (read_back h e at)) no_members))
-    at_second : {x h : ℕ} {at : Span} {e : Formula} → Halving N M x h e → value (slice_index new) (read_back h e at) ≡ value (slice_index old) e → Alike N M old new (active (assigning x at e)) (active (assigning x at (read_back h e at)))
+    at_first : {x h : ℕ} {at : Span} {e : Formula} → Halving N M x h e →
+        Alike N M old new (active (assigning x at e)) (in_sequence (active (assigning h at e)) (and_member (assigning x at (read_back h e at)) no_members))
+    at_second : {x h : ℕ} {at : Span} {e : Formula} → Halving N M x h e → value (slice_index new) (read_back h e at) ≡ value (slice_index old) e →
+        Alike N M old new (active (assigning x at e)) (active (assigning x at (read_back h e at)))
     both_in_sequence : {t u : Term} {ps qs : Processes} → Alike N M old new t u → EachLike N M ps qs → Alike N M old new (in_sequence t ps) (in_sequence u qs)
     both_in_parallel : {ts us : Terms} → EachAlike N M old new ts us → Alike N M old new (in_parallel ts) (in_parallel us)
 
@@ -71,7 +74,8 @@ finished_alike (both_in_parallel a) = refl
 
 all_alike : {N M : ℕ} {old new : List ℕ} {ts us : Terms} → EachAlike N M old new ts us → all_finished ts ≡ all_finished us
 all_alike alike_none = refl
-all_alike (alike_more {t = t} {u = u} {ts = ts} {us = us} a each) = ap (λ b. b && all_finished ts) (finished_alike a) ∙ ap (λ b. is_finished u && b) (all_alike each)
+all_alike (alike_more {t = t} {u = u} {ts = ts} {us = us} a each) = ap (λ b. b && all_finished ts) (finished_alike a)
+    ∙ ap (λ b. is_finished u && b) (all_alike each)
 
 pub ends_alike : {N M : ℕ} {old new : List ℕ} {t u : Term} → Alike N M old new t u → t ≡ finished → u ≡ finished
 ends_alike both_finished e = refl
@@ -123,7 +127,8 @@ mutual
   each_opened each_none = alike_none
   each_opened (each_more l rest) = alike_more (like_opened l) (each_opened rest)
 
-pub followed_alike : {N M : ℕ} {old new : List ℕ} {t u : Term} {ps qs : Processes} → Alike N M old new t u → EachLike N M ps qs → Alike N M old new (followed t ps) (followed u qs)
+pub followed_alike : {N M : ℕ} {old new : List ℕ} {t u : Term} {ps qs : Processes} → Alike N M old new t u → EachLike N M ps qs →
+    Alike N M old new (followed t ps) (followed u qs)
 followed_alike both_finished each = turn_opened each
 followed_alike (both_active s) each = both_in_sequence (both_active s) each
 followed_alike (at_first h) each = both_in_sequence (at_first h) each
@@ -142,27 +147,34 @@ abbrev EachKept : List ℕ → List ℕ → Terms → Type 0
 EachKept store now ts = (j : ℕ) (w : Place) (p : Process) → branch_at ts j w ≡ Some p → Agree (slice_index now) (slice_index store) (occurrences p)
 
 abbrev OtherBranchesKept : List ℕ → List ℕ → Terms → ℕ → Place → Type 0
-OtherBranchesKept store now ts k a = (j : ℕ) (w : Place) (p : Process) → in_branch j w ≢ in_branch k a → branch_at ts j w ≡ Some p → Agree (slice_index now) (slice_index store) (occurrences p)
+OtherBranchesKept store now ts k a = (j : ℕ) (w : Place) (p : Process) → in_branch j w ≢ in_branch k a → branch_at ts j w ≡ Some p →
+    Agree (slice_index now) (slice_index store) (occurrences p)
 
 mutual
-  framed : {N M : ℕ} {old new : List ℕ} {t u : Term} (old' new' : List ℕ) → Alike N M old new t u → AllKept old old' t → AllKept new new' u → Alike N M old' new' t u
+  framed : {N M : ℕ} {old new : List ℕ} {t u : Term} (old' new' : List ℕ) → Alike N M old new t u → AllKept old old' t → AllKept new new' u →
+      Alike N M old' new' t u
   framed old' new' both_finished f g = both_finished
   framed old' new' (both_active s) f g = both_active s
   framed old' new' (at_first h) f g = at_first h
   framed {old = old} {new = new} old' new' (at_second {x = x} {h = k} {at = at} {e = e} h v) f g =
-      at_second h (value_same (slice_index new') (slice_index new) (read_back k e at) (λ y s i. g here _ refl y s (inr i)) ∙ (v ∙ sym (value_same (slice_index old') (slice_index old) e (λ y s i. f here _ refl y s (inr i)))))
+      at_second h (value_same (slice_index new') (slice_index new) (read_back k e at) (λ y s i. g here _ refl y s (inr i))
+          ∙ (v ∙ sym (value_same (slice_index old') (slice_index old) e (λ y s i. f here _ refl y s (inr i)))))
   framed old' new' (both_in_sequence a ms) f g = both_in_sequence (framed old' new' a (λ w p h. f (in_first w) p h) (λ w p h. g (in_first w) p h)) ms
   framed old' new' (both_in_parallel a) f g = both_in_parallel (each_framed old' new' a (λ j w p h. f (in_branch j w) p h) (λ j w p h. g (in_branch j w) p h))
 
-  each_framed : {N M : ℕ} {old new : List ℕ} {ts us : Terms} (old' new' : List ℕ) → EachAlike N M old new ts us → EachKept old old' ts → EachKept new new' us → EachAlike N M old' new' ts us
+  each_framed : {N M : ℕ} {old new : List ℕ} {ts us : Terms} (old' new' : List ℕ) → EachAlike N M old new ts us → EachKept old old' ts → EachKept new new' us →
+      EachAlike N M old' new' ts us
   each_framed old' new' alike_none f g = alike_none
-  each_framed old' new' (alike_more a each) f g = alike_more (framed old' new' a (λ w p h. f zero w p h) (λ w p h. g zero w p h)) (each_framed old' new' each (λ j w p h. f (suc j) w p h) (λ j w p h. g (suc j) w p h))
+  each_framed old' new' (alike_more a each) f g =
+      alike_more (framed old' new' a (λ w p h. f zero w p h) (λ w p h. g zero w p h))
+      (each_framed old' new' each (λ j w p h. f (suc j) w p h) (λ j w p h. g (suc j) w p h))
 
 -- two statements that are active at the same time
 pub data Pair (N M : ℕ) (old new : List ℕ) : Process → Process → Type 0 where
   pair_same : {p q : Process} → Same N M p q → Pair N M old new p q
   pair_first : {x h : ℕ} {at : Span} {e : Formula} → Halving N M x h e → Pair N M old new (assigning x at e) (assigning h at e)
-  pair_second : {x h : ℕ} {at : Span} {e : Formula} → Halving N M x h e → value (slice_index new) (read_back h e at) ≡ value (slice_index old) e → Pair N M old new (assigning x at e) (assigning x at (read_back h e at))
+  pair_second : {x h : ℕ} {at : Span} {e : Formula} → Halving N M x h e → value (slice_index new) (read_back h e at) ≡ value (slice_index old) e →
+      Pair N M old new (assigning x at e) (assigning x at (read_back h e at))
 
 -- behind a first half comes the second one
 abbrev pub behind : {N M : ℕ} {old new : List ℕ} {p q : Process} → Pair N M old new p q → Term → Term
@@ -176,27 +188,32 @@ pub record Found (N M : ℕ) (old new : List ℕ) (t u : Term) (b : Place) (q : 
   pub process : Process
   pub on : statement_at t place ≡ Some process
   pub pair : Pair N M old new process q
-  pub put : (old' new' : List ℕ) (l m : Term) → OthersKept old old' t place → OthersKept new new' u b → Alike N M old' new' l (behind pair m) → Alike N M old' new' (with_left t place l) (with_left u b m)
+  pub put : (old' new' : List ℕ) (l m : Term) → OthersKept old old' t place → OthersKept new new' u b → Alike N M old' new' l (behind pair m) →
+      Alike N M old' new' (with_left t place l) (with_left u b m)
 
 pub record FoundBranch (N M : ℕ) (old new : List ℕ) (ts us : Terms) (k : ℕ) (b : Place) (q : Process) : Type 0 where
   pub place : Place
   pub process : Process
   pub on : branch_at ts k place ≡ Some process
   pub pair : Pair N M old new process q
-  pub put : (old' new' : List ℕ) (l m : Term) → OtherBranchesKept old old' ts k place → OtherBranchesKept new new' us k b → Alike N M old' new' l (behind pair m) → EachAlike N M old' new' (with_branch ts k place l) (with_branch us k b m)
+  pub put : (old' new' : List ℕ) (l m : Term) → OtherBranchesKept old old' ts k place → OtherBranchesKept new new' us k b →
+      Alike N M old' new' l (behind pair m) → EachAlike N M old' new' (with_branch ts k place l) (with_branch us k b m)
 
 mutual
-  pub find : {N M : ℕ} {old new : List ℕ} {t u : Term} → Alike N M old new t u → (b : Place) (q : Process) → statement_at u b ≡ Some q → Found N M old new t u b q
+  pub find : {N M : ℕ} {old new : List ℕ} {t u : Term} → Alike N M old new t u → (b : Place) (q : Process) → statement_at u b ≡ Some q →
+      Found N M old new t u b q
   find both_finished b q h = absurd (cc h)
   find {N = N} {M = M} {old = old} {new = new} (both_active {p = p} {q = r} s) here q h =
       let e : r ≡ q = cc h in
-      subst (λ z. Found N M old new (active p) (active r) here z) e (record { place = here; process = p; on = refl; pair = pair_same s; put = λ old' new' l m f g a. a })
+      subst (λ z. Found N M old new (active p) (active r) here z) e (record { place = here; process = p; on = refl; pair = pair_same s; put =
+          λ old' new' l m f g a. a })
   find (both_active s) (in_first b) q h = absurd (cc h)
   find (both_active s) (in_branch k b) q h = absurd (cc h)
   find (at_first i) here q h = absurd (cc h)
   find {N = N} {M = M} {old = old} {new = new} (at_first {x = x} {h = k} {at = at} {e = f} i) (in_first here) q h =
       let e : assigning k at f ≡ q = cc h in
-      subst (λ z. Found N M old new (active (assigning x at f)) (in_sequence (active (assigning k at f)) (and_member (assigning x at (read_back k f at)) no_members)) (in_first here) z) e
+      subst (λ z. Found N M old new (active (assigning x at f))
+          (in_sequence (active (assigning k at f)) (and_member (assigning x at (read_back k f at)) no_members)) (in_first here) z) e
       (record { place = here; process = assigning x at f; on = refl; pair = pair_first i; put = λ old' new' l m f g a. a })
   find (at_first i) (in_first (in_first b)) q h = absurd (cc h)
   find (at_first i) (in_first (in_branch k b)) q h = absurd (cc h)
@@ -216,7 +233,8 @@ mutual
         process = r.process;
         on = r.on;
         pair = r.pair;
-        put = λ old' new' l m f g x. followed_alike (r.put old' new' l m (λ w p n on. f (in_first w) p (λ e. n (cc e)) on) (λ w p n on. g (in_first w) p (λ e. n (cc e)) on) x) ms;
+        put = λ old' new' l m f g x. followed_alike
+            (r.put old' new' l m (λ w p n on. f (in_first w) p (λ e. n (cc e)) on) (λ w p n on. g (in_first w) p (λ e. n (cc e)) on) x) ms;
       }
   find (both_in_parallel a) here q h = absurd (cc h)
   find (both_in_parallel a) (in_first b) q h = absurd (cc h)
@@ -230,7 +248,8 @@ mutual
         put = λ old' new' l m f g x. together_alike (r.put old' new' l m (λ j w p n on. f (in_branch j w) p n on) (λ j w p n on. g (in_branch j w) p n on) x);
       }
 
-  find_branch : {N M : ℕ} {old new : List ℕ} {ts us : Terms} → EachAlike N M old new ts us → (k : ℕ) (b : Place) (q : Process) → branch_at us k b ≡ Some q → FoundBranch N M old new ts us k b q
+  find_branch : {N M : ℕ} {old new : List ℕ} {ts us : Terms} → EachAlike N M old new ts us → (k : ℕ) (b : Place) (q : Process) → branch_at us k b ≡ Some q →
+      FoundBranch N M old new ts us k b q
   find_branch alike_none k b q h = absurd (cc h)
   find_branch (alike_more a each) zero b q h =
       let r = find a b q h in
@@ -269,7 +288,8 @@ pub record StandingBranch (N M : ℕ) (old new : List ℕ) (us : Terms) (k : ℕ
   pub pair : Pair N M old new p process
 
 mutual
-  pub standing : {N M : ℕ} {old new : List ℕ} {t u : Term} → Alike N M old new t u → (a : Place) (p : Process) → statement_at t a ≡ Some p → Standing N M old new u p
+  pub standing : {N M : ℕ} {old new : List ℕ} {t u : Term} → Alike N M old new t u → (a : Place) (p : Process) → statement_at t a ≡ Some p →
+      Standing N M old new u p
   standing both_finished a p h = absurd (cc h)
   standing {N = N} {M = M} {old = old} {new = new} (both_active {p = r} {q = q} s) here p h =
       let e : r ≡ p = cc h in
@@ -284,20 +304,25 @@ mutual
   standing (at_first i) (in_branch k a) p h = absurd (cc h)
   standing {N = N} {M = M} {old = old} {new = new} (at_second {x = x} {h = k} {at = at} {e = f} i v) here p h =
       let e : assigning x at f ≡ p = cc h in
-      subst (λ z. Standing N M old new (active (assigning x at (read_back k f at))) z) e (record { place = here; process = assigning x at (read_back k f at); on = refl; pair = pair_second i v })
+      subst (λ z. Standing N M old new (active (assigning x at (read_back k f at))) z) e (record { place = here; process = assigning x at (read_back k f at);
+          on = refl; pair = pair_second i v })
   standing (at_second i v) (in_first a) p h = absurd (cc h)
   standing (at_second i v) (in_branch k a) p h = absurd (cc h)
   standing (both_in_sequence a ms) here p h = absurd (cc h)
   standing (both_in_sequence a ms) (in_branch k b) p h = absurd (cc h)
-  standing (both_in_sequence a ms) (in_first b) p h = let r = standing a b p h in record { place = in_first r.place; process = r.process; on = r.on; pair = r.pair }
+  standing (both_in_sequence a ms) (in_first b) p h = let r = standing a b p h in
+      record { place = in_first r.place; process = r.process; on = r.on; pair = r.pair }
   standing (both_in_parallel a) here p h = absurd (cc h)
   standing (both_in_parallel a) (in_first b) p h = absurd (cc h)
-  standing (both_in_parallel a) (in_branch k b) p h = let r = standing_branch a k b p h in record { place = in_branch k r.place; process = r.process; on = r.on; pair = r.pair }
+  standing (both_in_parallel a) (in_branch k b) p h = let r = standing_branch a k b p h in
+      record { place = in_branch k r.place; process = r.process; on = r.on; pair = r.pair }
 
-  standing_branch : {N M : ℕ} {old new : List ℕ} {ts us : Terms} → EachAlike N M old new ts us → (k : ℕ) (a : Place) (p : Process) → branch_at ts k a ≡ Some p → StandingBranch N M old new us k p
+  standing_branch : {N M : ℕ} {old new : List ℕ} {ts us : Terms} → EachAlike N M old new ts us → (k : ℕ) (a : Place) (p : Process) → branch_at ts k a ≡ Some p →
+      StandingBranch N M old new us k p
   standing_branch alike_none k b p h = absurd (cc h)
   standing_branch (alike_more a each) zero b p h = let r = standing a b p h in record { place = r.place; process = r.process; on = r.on; pair = r.pair }
-  standing_branch (alike_more a each) (suc k) b p h = let r = standing_branch each k b p h in record { place = r.place; process = r.process; on = r.on; pair = r.pair }
+  standing_branch (alike_more a each) (suc k) b p h = let r = standing_branch each k b p h in
+      record { place = r.place; process = r.process; on = r.on; pair = r.pair }
 
 -- to put an active statement where it is changes nothing
 mutual

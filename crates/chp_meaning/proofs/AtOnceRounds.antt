@@ -27,7 +27,8 @@ use Rattle.chp_meaning.proofs.Planning.{one_below}
 use Rattle.chp_meaning.proofs.Tables.{active_in, active_at, receive_noted, noted_receives, send_noted, noted_sends, none_there}
 
 abbrev pub outset_for : Configuration → Outset
-outset_for c = record { store = c.store; rests = c.rests; sends = fold (noted_send true) (replicate (length c.rests) false) (actives c.term); receives = fold (noted_receive true) (replicate (length c.rests) None) (actives c.term) }
+outset_for c = record { store = c.store; rests = c.rests; sends = fold (noted_send true) (replicate (length c.rests) false) (actives c.term); receives =
+    fold (noted_receive true) (replicate (length c.rests) None) (actives c.term) }
 
 -- each active statement has what its run asks for
 abbrev pub AllRun : Configuration → ℕ → Type 0
@@ -38,16 +39,19 @@ runs_at c m run a q h = run q (active_in c.term a q h)
 
 -- the tables
 
-one_receiving : (c : Configuration) (w v : Place) (k x y : ℕ) (s u s' u' : Span) → Fits c.term → statement_at c.term w ≡ Some (receiving k s x u) → statement_at c.term v ≡ Some (receiving k s' y u') → (w ≡ v) × (y ≡ x)
+one_receiving : (c : Configuration) (w v : Place) (k x y : ℕ) (s u s' u' : Span) → Fits c.term → statement_at c.term w ≡ Some (receiving k s x u) →
+    statement_at c.term v ≡ Some (receiving k s' y u') → (w ≡ v) × (y ≡ x)
 one_receiving c w v k x y s u s' u' f g h = by_place (same_place w v)
   where
     by_place : (w ≡ v) ⊎ (w ≢ v) → (w ≡ v) × (y ≡ x)
-    by_place (inr ne) = absurd (places_apart c.term w v (receiving k s x u) (receiving k s' y u') f ne g h (done_at (receives_on k) s) (done_at (receives_on k) s') (inl refl) (inl refl) refl)
+    by_place (inr ne) = absurd (places_apart c.term w v (receiving k s x u) (receiving k s' y u') f ne g h (done_at (receives_on k) s)
+        (done_at (receives_on k) s') (inl refl) (inl refl) refl)
     by_place (inl e) =
         let same : Some (receiving k s x u) ≡ Some (receiving k s' y u') = sym g ∙ (ap (λ p. statement_at c.term p) e ∙ h) in
         (e, cc same)
 
-receive_waits : (c : Configuration) (m : ℕ) → Fits c.term → AllRun c m → (w : Place) (k x : ℕ) (s u : Span) → statement_at c.term w ≡ Some (receiving k s x u) → slice_index_or (outset_for c).receives k None ≡ Some x
+receive_waits : (c : Configuration) (m : ℕ) → Fits c.term → AllRun c m → (w : Place) (k x : ℕ) (s u : Span) → statement_at c.term w ≡ Some (receiving k s x u) →
+    slice_index_or (outset_for c).receives k None ≡ Some x
 receive_waits c m f run w k x s u h =
     let r = runs_at c m run w (receiving k s x u) h in
     let none : Option ℕ = None in
@@ -55,22 +59,28 @@ receive_waits c m f run w k x s u h =
     (λ s' u' y i. let v = active_at c.term (receiving k s' y u') i in (one_receiving c w v.0 k x y s u s' u' f h v.1).1)
     (inr (s, u, active_in c.term w (receiving k s x u) h))
 
-waits_receive : (c : Configuration) (k x : ℕ) → slice_index_or (outset_for c).receives k None ≡ Some x → (w : Place) × (s : Span) × (u : Span) × (statement_at c.term w ≡ Some (receiving k s x u))
+waits_receive : (c : Configuration) (k x : ℕ) → slice_index_or (outset_for c).receives k None ≡ Some x →
+    (w : Place) × (s : Span) × (u : Span) × (statement_at c.term w ≡ Some (receiving k s x u))
 waits_receive c k x e = by_case (noted_receives (actives c.term) (replicate (length c.rests) None) k x e)
   where
-    by_case : (get_or (replicate (length c.rests) None) k None ≡ Some x) ⊎ ((s : Span) × (u : Span) × In (actives c.term) (receiving k s x u)) → (w : Place) × (s : Span) × (u : Span) × (statement_at c.term w ≡ Some (receiving k s x u))
+    by_case : (get_or (replicate (length c.rests) None) k None ≡ Some x) ⊎ ((s : Span) × (u : Span) × In (actives c.term) (receiving k s x u)) →
+        (w : Place) × (s : Span) × (u : Span) × (statement_at c.term w ≡ Some (receiving k s x u))
     by_case (inl g) = absurd (cc (sym (none_there (length c.rests) k None) ∙ g))
     by_case (inr (s, u, i)) = let v = active_at c.term (receiving k s x u) i in (v.0, s, u, v.1)
 
-send_waits : (c : Configuration) (m : ℕ) → AllRun c m → (w : Place) (k : ℕ) (s : Span) (e : Formula) → statement_at c.term w ≡ Some (sending k s e) → slice_index_or (outset_for c).sends k false ≡ true
+send_waits : (c : Configuration) (m : ℕ) → AllRun c m → (w : Place) (k : ℕ) (s : Span) (e : Formula) → statement_at c.term w ≡ Some (sending k s e) →
+    slice_index_or (outset_for c).sends k false ≡ true
 send_waits c m run w k s e h =
     let r = runs_at c m run w (sending k s e) h in
-    send_noted true (actives c.term) (replicate (length c.rests) false) k (omega (arith, r.0.0, length-replicate (length c.rests) false)) (inr (s, e, active_in c.term w (sending k s e) h))
+    send_noted true (actives c.term) (replicate (length c.rests) false) k (omega (arith, r.0.0, length-replicate (length c.rests) false))
+        (inr (s, e, active_in c.term w (sending k s e) h))
 
-waits_send : (c : Configuration) (k : ℕ) → slice_index_or (outset_for c).sends k false ≡ true → (w : Place) × (s : Span) × (e : Formula) × (statement_at c.term w ≡ Some (sending k s e))
+waits_send : (c : Configuration) (k : ℕ) → slice_index_or (outset_for c).sends k false ≡ true → (w : Place) × (s : Span) × (e : Formula)
+    × (statement_at c.term w ≡ Some (sending k s e))
 waits_send c k e = by_case (noted_sends (actives c.term) (replicate (length c.rests) false) k e)
   where
-    by_case : (get_or (replicate (length c.rests) false) k false ≡ true) ⊎ ((s : Span) × (d : Formula) × In (actives c.term) (sending k s d)) → (w : Place) × (s : Span) × (d : Formula) × (statement_at c.term w ≡ Some (sending k s d))
+    by_case : (get_or (replicate (length c.rests) false) k false ≡ true) ⊎ ((s : Span) × (d : Formula) × In (actives c.term) (sending k s d)) →
+        (w : Place) × (s : Span) × (d : Formula) × (statement_at c.term w ≡ Some (sending k s d))
     by_case (inl g) = absurd (cc (sym (none_there (length c.rests) k false) ∙ g))
     by_case (inr (s, d, i)) = let v = active_at c.term (sending k s d) i in (v.0, s, d, v.1)
 
@@ -78,7 +88,8 @@ waits_send c k e = by_case (noted_sends (actives c.term) (replicate (length c.re
 
 shifted : (j : ℕ) (ks : List ℕ) → map (λ k. j + k) (map suc ks) ≡ map (λ k. (j + 1) + k) ks
 shifted j [] = refl
-shifted j (k ∷ ks) = let e : j + suc k ≡ (j + 1) + k = omega arith in ap (λ x. x ∷ map (λ i. j + i) (map suc ks)) e ∙ ap (λ xs. ((j + 1) + k) ∷ xs) (shifted j ks)
+shifted j (k ∷ ks) = let e : j + suc k ≡ (j + 1) + k = omega arith in ap (λ x. x ∷ map (λ i. j + i) (map suc ks)) e
+    ∙ ap (λ xs. ((j + 1) + k) ∷ xs) (shifted j ks)
 
 later_branches : (g : Formula) (p : Process) (more : Choices) (ks : List ℕ) → map (branch_of (and_choice g p more)) (map suc ks) ≡ map (branch_of more) ks
 later_branches g p more [] = refl
@@ -92,10 +103,12 @@ guards_numbered c j no_choices = ([], refl, refl)
 guards_numbered c j (and_choice g p more) = by_test (value (slice_index c.store) g == 1) (guards_numbered c (j + 1) more)
   where
     by_test : (b : Bool) → Numbered c (j + 1) more
-        → (ks : List ℕ) × ((if b then j ∷ true_guards c.store (j + 1) more else true_guards c.store (j + 1) more) ≡ map (λ k. j + k) ks) × ((if b then p ∷ open_branches c more else open_branches c more) ≡ map (branch_of (and_choice g p more)) ks)
+        → (ks : List ℕ) × ((if b then j ∷ true_guards c.store (j + 1) more else true_guards c.store (j + 1) more) ≡ map (λ k. j + k) ks)
+            × ((if b then p ∷ open_branches c more else open_branches c more) ≡ map (branch_of (and_choice g p more)) ks)
     by_test true (ks, e, f) =
         let z : j ≡ j + 0 = omega arith in
-        (0 ∷ map suc ks, ap (λ x. x ∷ true_guards c.store (j + 1) more) z ∙ ap (λ xs. (j + 0) ∷ xs) (e ∙ sym (shifted j ks)), ap (λ ps. p ∷ ps) (f ∙ sym (later_branches g p more ks)))
+        (0 ∷ map suc ks, ap (λ x. x ∷ true_guards c.store (j + 1) more) z ∙ ap (λ xs. (j + 0) ∷ xs) (e ∙ sym (shifted j ks)),
+            ap (λ ps. p ∷ ps) (f ∙ sym (later_branches g p more ks)))
     by_test false (ks, e, f) = (map suc ks, e ∙ sym (shifted j ks), f ∙ sym (later_branches g p more ks))
 
 plain_numbers : (ks : List ℕ) → map (λ k. 0 + k) ks ≡ ks
@@ -105,10 +118,12 @@ plain_numbers (k ∷ ks) = let e : 0 + k ≡ k = omega arith in ap (λ x. x ∷ 
 from_start : (c : Configuration) (cs : Choices) → (ks : List ℕ) × (true_guards c.store 0 cs ≡ ks) × (open_branches c cs ≡ map (branch_of cs) ks)
 from_start c cs = let r = guards_numbered c 0 cs in (r.0, r.1 ∙ plain_numbers r.0, r.2)
 
-one_open : (c : Configuration) (cs : Choices) (p : Process) → open_branches c cs ≡ p ∷ [] → (k : ℕ) × (counted (true_guards c.store 0 cs) ≡ One k) × (branch_of cs k ≡ p)
+one_open : (c : Configuration) (cs : Choices) (p : Process) → open_branches c cs ≡ p ∷ [] → (k : ℕ) × (counted (true_guards c.store 0 cs) ≡ One k)
+    × (branch_of cs k ≡ p)
 one_open c cs p e = let r = from_start c cs in by_list r.0 r.1 (sym r.2 ∙ e)
   where
-    by_list : (ks : List ℕ) → true_guards c.store 0 cs ≡ ks → map (branch_of cs) ks ≡ p ∷ [] → (k : ℕ) × (counted (true_guards c.store 0 cs) ≡ One k) × (branch_of cs k ≡ p)
+    by_list : (ks : List ℕ) → true_guards c.store 0 cs ≡ ks → map (branch_of cs) ks ≡ p ∷ [] → (k : ℕ) × (counted (true_guards c.store 0 cs) ≡ One k)
+        × (branch_of cs k ≡ p)
     by_list [] g h = absurd (cc h)
     by_list (k ∷ []) g h = (k, ap counted g, cc h)
     by_list (k ∷ j ∷ ks) g h = absurd (cc h)
@@ -156,7 +171,8 @@ one_move again g k e = ap (choosing_move again) e ∙ by_again again
     by_again true = refl
     by_again false = refl
 
-step_move : {c d : Configuration} {a : Place} (m : ℕ) → Fits c.term → AllRun c m → (s : Step c a d) (q : Process) → statement_at c.term a ≡ Some q → move_of (outset_for c) q ≡ Some (move_from (deal s))
+step_move : {c d : Configuration} {a : Place} (m : ℕ) → Fits c.term → AllRun c m → (s : Step c a d) (q : Process) → statement_at c.term a ≡ Some q →
+    move_of (outset_for c) q ≡ Some (move_from (deal s))
 step_move {c = c} m f run (a_skip on) q h = let e : skipping ≡ q = cc (on, h) in subst (λ p. move_of (outset_for c) p ≡ Some plain_move) e refl
 step_move {c = c} m f run (an_assignment {x = x} {s = s} {e = i} on) q h =
     let e : assigning x s i ≡ q = cc (on, h) in
@@ -200,12 +216,15 @@ ends_finished : (q : Process) (x : Option Move) (m : Move) (met : Bool) → x �
 ends_finished q x m met e = ap (λ y. term_of q (ended y met)) e
 
 -- a branch, begun
-branch_begins : (n m : ℕ) (again : Bool) (cs : Choices) (store : List ℕ) (k : ℕ) → IsRunnable n m (choosing again cs) → counted (true_guards store 0 cs) ≡ One k → Begins (branch_of cs k)
+branch_begins : (n m : ℕ) (again : Bool) (cs : Choices) (store : List ℕ) (k : ℕ) → IsRunnable n m (choosing again cs) → counted (true_guards store 0 cs) ≡ One k
+    → Begins (branch_of cs k)
 branch_begins n m again cs store k r e = begins n m (branch_of cs k) (part_runnable n m (choosing again cs) k (one_below store cs k (sym e)) r)
 
-step_left : {c d : Configuration} {a : Place} (m : ℕ) → Fits c.term → AllRun c m → (s : Step c a d) (q : Process) → statement_at c.term a ≡ Some q → left_of (outset_for c) q ≡ (deal s).left
+step_left : {c d : Configuration} {a : Place} (m : ℕ) → Fits c.term → AllRun c m → (s : Step c a d) (q : Process) → statement_at c.term a ≡ Some q →
+    left_of (outset_for c) q ≡ (deal s).left
 step_left {c = c} m f run (a_skip on) q h = let e : skipping ≡ q = cc (on, h) in subst (λ p. left_of (outset_for c) p ≡ finished) e refl
-step_left {c = c} m f run (an_assignment {x = x} {s = s} {e = i} on) q h = let e : assigning x s i ≡ q = cc (on, h) in subst (λ p. left_of (outset_for c) p ≡ finished) e refl
+step_left {c = c} m f run (an_assignment {x = x} {s = s} {e = i} on) q h = let e : assigning x s i ≡ q = cc (on, h) in
+    subst (λ p. left_of (outset_for c) p ≡ finished) e refl
 step_left {c = c} {a = a} m f run (a_selection {choices = cs} {p = p} on true_ones) q h =
     let e : choosing false cs ≡ q = cc (on, h) in
     let o = one_open c cs p true_ones in
@@ -223,7 +242,8 @@ step_left {c = c} {a = a} m f run (a_turn {choices = cs} {p = p} on true_ones) q
     ∙ ap (λ r. followed (opened r) (and_member (choosing true cs) no_members)) o.2)))
 step_left {c = c} m f run (an_end {choices = cs} on true_ones) q h =
     let e : choosing true cs ≡ q = cc (on, h) in
-    subst (λ r. left_of (outset_for c) r ≡ finished) e (ap (λ g. term_of (choosing true cs) (chosen_remains (choosing true cs) true g)) (none_open c cs true_ones))
+    subst (λ r. left_of (outset_for c) r ≡ finished) e (ap (λ g. term_of (choosing true cs) (chosen_remains (choosing true cs) true g))
+        (none_open c cs true_ones))
 step_left {c = c} {a = a} m f run (a_repetition {p = p} on) q h =
     let e : repeating p ≡ q = cc (on, h) in
     let b = begins (length c.rests) m p (runs_at c m run a (repeating p) on).0 in
@@ -231,21 +251,26 @@ step_left {c = c} {a = a} m f run (a_repetition {p = p} on) q h =
     (ap (λ t. in_sequence t (and_member (repeating p) no_members)) b.term ∙ sym (in_order (opened p) (repeating p) (begun_goes p b)))
 step_left {c = c} m f run (a_communication {at = a} other {k = k} {s = s} {e = i} on there inside) q h =
     let e : sending k s i ≡ q = cc (on, h) in
-    subst (λ r. left_of (outset_for c) r ≡ finished) e (ends_finished (sending k s i) (ending_move (outset_for c) (sending k s i)) _ false (step_move m f run (a_communication {c = c} other on there inside) (sending k s i) on))
+    subst (λ r. left_of (outset_for c) r ≡ finished) e (ends_finished (sending k s i) (ending_move (outset_for c) (sending k s i)) _ false
+        (step_move m f run (a_communication {c = c} other on there inside) (sending k s i) on))
 step_left {c = c} m f run (a_delivery {k = k} {s = s} {e = i} on offered more) q h =
     let e : sending k s i ≡ q = cc (on, h) in
-    subst (λ r. left_of (outset_for c) r ≡ finished) e (ends_finished (sending k s i) (ending_move (outset_for c) (sending k s i)) _ false (step_move m f run (a_delivery {c = c} on offered more) (sending k s i) on))
+    subst (λ r. left_of (outset_for c) r ≡ finished) e (ends_finished (sending k s i) (ending_move (outset_for c) (sending k s i)) _ false
+        (step_move m f run (a_delivery {c = c} on offered more) (sending k s i) on))
 step_left {c = c} m f run (an_arrival {k = k} {x = x} {s = s} {t = t} on offered) q h =
     let e : receiving k s x t ≡ q = cc (on, h) in
-    subst (λ r. left_of (outset_for c) r ≡ finished) e (ends_finished (receiving k s x t) (ending_move (outset_for c) (receiving k s x t)) _ (is_met (outset_for c) (receiving k s x t)) (step_move m f run (an_arrival {c = c} on offered) (receiving k s x t) on))
+    subst (λ r. left_of (outset_for c) r ≡ finished) e (ends_finished (receiving k s x t) (ending_move (outset_for c) (receiving k s x t)) _
+        (is_met (outset_for c) (receiving k s x t)) (step_move m f run (an_arrival {c = c} on offered) (receiving k s x t) on))
 
 -- where a statement has a move there is a step
 
-sent_can : (c : Configuration) (a : Place) (k : ℕ) (s : Span) (e : Formula) (m : Move) → statement_at c.term a ≡ Some (sending k s e) → (o : OfferValue) → offer_at c.rests k ≡ o → sent_move (outset_for c) k (value_in c e) o ≡ Some m → Can c a
+sent_can : (c : Configuration) (a : Place) (k : ℕ) (s : Span) (e : Formula) (m : Move) → statement_at c.term a ≡ Some (sending k s e) → (o : OfferValue) →
+    offer_at c.rests k ≡ o → sent_move (outset_for c) k (value_in c e) o ≡ Some m → Can c a
 sent_can c a k s e m h (gives vs) offered is = absurd (cc is)
 sent_can c a k s e m h (takes count) offered is = by_count (is_over count 0) refl is
   where
-    by_count : (b : Bool) → is_over count 0 ≡ b → (if b then Some (record { write = None; uses = Some k; pass = Some (k, value_in c e) }) else None) ≡ Some m → Can c a
+    by_count : (b : Bool) → is_over count 0 ≡ b → (if b then Some (record { write = None; uses = Some k; pass = Some (k, value_in c e) }) else None) ≡ Some m →
+        Can c a
     by_count true more g = (_, a_delivery h offered more)
     by_count false more g = absurd (cc g)
 sent_can c a k s e m h nothing offered is = by_receive (slice_index_or (outset_for c).receives k None) refl is
@@ -254,13 +279,15 @@ sent_can c a k s e m h nothing offered is = by_receive (slice_index_or (outset_f
     by_receive None g i = absurd (cc i)
     by_receive (Some x) g i = let w = waits_receive c k x g in (_, a_communication w.0 h w.3 offered)
 
-received_can : (c : Configuration) (a : Place) (k x : ℕ) (s t : Span) (m : Move) → statement_at c.term a ≡ Some (receiving k s x t) → (o : OfferValue) → offer_at c.rests k ≡ o → received_move k x (next_of o) ≡ Some m → Can c a
+received_can : (c : Configuration) (a : Place) (k x : ℕ) (s t : Span) (m : Move) → statement_at c.term a ≡ Some (receiving k s x t) → (o : OfferValue) →
+    offer_at c.rests k ≡ o → received_move k x (next_of o) ≡ Some m → Can c a
 received_can c a k x s t m h (gives []) offered is = absurd (cc is)
 received_can c a k x s t m h (gives (v ∷ more)) offered is = (_, an_arrival h offered)
 received_can c a k x s t m h (takes count) offered is = absurd (cc is)
 received_can c a k x s t m h nothing offered is = absurd (cc is)
 
-chosen_can : (c : Configuration) (a : Place) (again : Bool) (cs : Choices) (m : Move) → statement_at c.term a ≡ Some (choosing again cs) → (g : TrueGuards) → counted (true_guards c.store 0 cs) ≡ g → choosing_move again g ≡ Some m → Can c a
+chosen_can : (c : Configuration) (a : Place) (again : Bool) (cs : Choices) (m : Move) → statement_at c.term a ≡ Some (choosing again cs) → (g : TrueGuards) →
+    counted (true_guards c.store 0 cs) ≡ g → choosing_move again g ≡ Some m → Can c a
 chosen_can c a true cs m h Zero e is = (_, an_end h (open_none c cs e))
 chosen_can c a false cs m h Zero e is = absurd (cc is)
 chosen_can c a true cs m h (One k) e is = let o = open_one c cs k e in (_, a_turn h o.1)
@@ -285,23 +312,29 @@ is_nothing (gives vs) e = absurd (cc e)
 is_nothing (takes count) e = absurd (cc e)
 is_nothing nothing e = refl
 
-met_by : (c : Configuration) (k x : ℕ) (s t : Span) → is_met (outset_for c) (receiving k s x t) ≡ true → (offer_at c.rests k ≡ nothing) × (w : Place) × (u : Span) × (e : Formula) × (statement_at c.term w ≡ Some (sending k u e))
+met_by : (c : Configuration) (k x : ℕ) (s t : Span) → is_met (outset_for c) (receiving k s x t) ≡ true → (offer_at c.rests k ≡ nothing) × (w : Place)
+    × (u : Span) × (e : Formula) × (statement_at c.term w ≡ Some (sending k u e))
 met_by c k x s t h = by_offer (is_inside (offer_at c.rests k)) refl h
   where
-    by_offer : (b : Bool) → is_inside (offer_at c.rests k) ≡ b → (if b then slice_index_or (outset_for c).sends k false else false) ≡ true → (offer_at c.rests k ≡ nothing) × (w : Place) × (u : Span) × (e : Formula) × (statement_at c.term w ≡ Some (sending k u e))
+    by_offer : (b : Bool) → is_inside (offer_at c.rests k) ≡ b → (if b then slice_index_or (outset_for c).sends k false else false) ≡ true →
+        (offer_at c.rests k ≡ nothing) × (w : Place) × (u : Span) × (e : Formula) × (statement_at c.term w ≡ Some (sending k u e))
     by_offer true g i = let v = waits_send c k i in (is_nothing (offer_at c.rests k) g, v.0, v.1, v.2, v.3)
     by_offer false g i = absurd (cc i)
 
-other_left : {c d : Configuration} {b : Place} (m : ℕ) → AllRun c m → (s : Step c b d) (o : Place) (q : Process) → (deal s).other ≡ Some o → statement_at c.term o ≡ Some q → left_of (outset_for c) q ≡ finished
+other_left : {c d : Configuration} {b : Place} (m : ℕ) → AllRun c m → (s : Step c b d) (o : Place) (q : Process) → (deal s).other ≡ Some o →
+    statement_at c.term o ≡ Some q → left_of (outset_for c) q ≡ finished
 other_left {c = c} m run (a_communication {at = b} other {k = k} {x = x} {s = s} {t = t} {u = u} {e = i} on there inside) o q h g =
     let place : other ≡ o = cc h in
     let e : receiving k t x u ≡ q = cc (there, g, place) in
     let none : ending_move (outset_for c) (receiving k t x u) ≡ None = ap (λ v. received_move k x (next_of v)) inside in
-    let met : is_met (outset_for c) (receiving k t x u) ≡ true = ap (λ v. if is_inside v then slice_index_or (outset_for c).sends k false else false) inside ∙ send_waits c m run b k s i on in
-    subst (λ r. left_of (outset_for c) r ≡ finished) e (ap (λ y. term_of (receiving k t x u) (ended y (is_met (outset_for c) (receiving k t x u)))) none ∙ ap (λ y. term_of (receiving k t x u) (ended None y)) met)
+    let met : is_met (outset_for c) (receiving k t x u) ≡ true = ap (λ v. if is_inside v then slice_index_or (outset_for c).sends k false else false) inside
+        ∙ send_waits c m run b k s i on in
+    subst (λ r. left_of (outset_for c) r ≡ finished) e (ap (λ y. term_of (receiving k t x u) (ended y (is_met (outset_for c) (receiving k t x u)))) none
+        ∙ ap (λ y. term_of (receiving k t x u) (ended None y)) met)
 other_left m run _ o q h g = absurd (cc h)
 
-other_is : {c d : Configuration} {b : Place} (m : ℕ) → Fits c.term → (s : Step c b d) (a : Place) (k x : ℕ) (t u v : Span) (e : Formula) → statement_at c.term b ≡ Some (sending k t e) → offer_at c.rests k ≡ nothing → statement_at c.term a ≡ Some (receiving k u x v) → (deal s).other ≡ Some a
+other_is : {c d : Configuration} {b : Place} (m : ℕ) → Fits c.term → (s : Step c b d) (a : Place) (k x : ℕ) (t u v : Span) (e : Formula) →
+    statement_at c.term b ≡ Some (sending k t e) → offer_at c.rests k ≡ nothing → statement_at c.term a ≡ Some (receiving k u x v) → (deal s).other ≡ Some a
 other_is m f (a_skip on) a k x t u v e h inside g = absurd (cc (on, h))
 other_is m f (an_assignment on) a k x t u v e h inside g = absurd (cc (on, h))
 other_is m f (a_selection on true_ones) a k x t u v e h inside g = absurd (cc (on, h))
@@ -353,24 +386,30 @@ all_kept_self : {c : Configuration} {ps : List Place} (ss : StepsAt c ps) → Al
 all_kept_self no_steps = tt
 all_kept_self (and_step s ss) = (kept_self s, all_kept_self ss)
 
-kept_on : {c d e : Configuration} {a b : Place} (s : Step c a d) (u : Step c b e) → Fits c.term → a ≢ b → (g : Configuration) → Kept u g → Kept u (dealt g a (deal s))
+kept_on : {c d e : Configuration} {a b : Place} (s : Step c a d) (u : Step c b e) → Fits c.term → a ≢ b → (g : Configuration) → Kept u g →
+    Kept u (dealt g a (deal s))
 kept_on {c = c} {a = a} {b = b} s u f ne g kept = record {
-  stays = λ w p takes_part h. left_stays g.term a (deal s).left (deal s).other w p (parts_apart s u f ne a w (inl refl) takes_part) (λ o e. parts_apart s u f ne o w (inr e) takes_part) (kept.stays w p takes_part h);
+  stays = λ w p takes_part h. left_stays g.term a (deal s).left (deal s).other w p (parts_apart s u f ne a w (inl refl) takes_part)
+      (λ o e. parts_apart s u f ne o w (inr e) takes_part) (kept.stays w p takes_part h);
   agrees = λ q h x t i. unwritten g.store (deal s).write x (λ v e.
       let r = writer s x v e in
-      places_apart c.term r.place b r.process q f (parts_apart s u f ne r.place b r.part (inl refl)) r.is h (done_at (writes_var x) r.var_at) (done_at (reads_var x) t) r.writes i refl) ∙ kept.agrees q h x t i;
+      places_apart c.term r.place b r.process q f (parts_apart s u f ne r.place b r.part (inl refl)) r.is h (done_at (writes_var x) r.var_at)
+          (done_at (reads_var x) t) r.writes i refl) ∙ kept.agrees q h x t i;
   offers = λ k port. unoffered g.rests (deal s).offer k (λ v e. ports_apart c a b k f ne (offer_port s k v e) port) ∙ kept.offers k port;
 }
 
-all_kept_on : {c d : Configuration} {a : Place} {ps : List Place} (s : Step c a d) (ss : StepsAt c ps) → Fits c.term → ((y : Place) → In ps y → a ≢ y) → (g : Configuration) → AllKept ss g → AllKept ss (dealt g a (deal s))
+all_kept_on : {c d : Configuration} {a : Place} {ps : List Place} (s : Step c a d) (ss : StepsAt c ps) → Fits c.term → ((y : Place) → In ps y → a ≢ y) →
+    (g : Configuration) → AllKept ss g → AllKept ss (dealt g a (deal s))
 all_kept_on s no_steps f ne g kept = tt
 all_kept_on s (and_step {a = b} u us) f ne g kept = (kept_on s u f (ne b (inl refl)) g kept.0, all_kept_on s us f (λ y i. ne y (inr i)) g kept.1)
 
-taken_dealt : {c : Configuration} {ps : List Place} (ss : StepsAt c ps) → Fits c.term → Distinct ps → (e : Configuration) → Fits e.term → AllKept ss e → fold taken e ps ≡ dealt_all ss e
+taken_dealt : {c : Configuration} {ps : List Place} (ss : StepsAt c ps) → Fits c.term → Distinct ps → (e : Configuration) → Fits e.term → AllKept ss e →
+    fold taken e ps ≡ dealt_all ss e
 taken_dealt no_steps f distinct e fits kept = refl
 taken_dealt (and_step {a = a} {ps = ps} s ss) f distinct e fits kept =
     let next = again s e kept.0 in
-    ap (λ x. fold taken x ps) (taken_is fits next) ∙ taken_dealt ss f distinct.1 (dealt e a (deal s)) (step_fits fits next) (all_kept_on s ss f distinct.0 e kept.1)
+    ap (λ x. fold taken x ps) (taken_is fits next)
+        ∙ taken_dealt ss f distinct.1 (dealt e a (deal s)) (step_fits fits next) (all_kept_on s ss f distinct.0 e kept.1)
 
 -- part by part
 
@@ -382,7 +421,8 @@ one_passed : (histories : List (List ℕ)) (w : Option (Entry ℕ)) → appended
 one_passed histories None = refl
 one_passed histories (Some (entry k v)) = refl
 
-one_used : {c d : Configuration} {a : Place} (s : Step c a d) (rests : List OfferValue) → ((k : ℕ) → Port c a k → offer_at rests k ≡ offer_at c.rests k) → put rests (deal s).offer ≡ used_on rests (number_of (deal s).offer)
+one_used : {c d : Configuration} {a : Place} (s : Step c a d) (rests : List OfferValue) → ((k : ℕ) → Port c a k → offer_at rests k ≡ offer_at c.rests k) →
+    put rests (deal s).offer ≡ used_on rests (number_of (deal s).offer)
 one_used {c = c} (a_delivery {k = k} {count = count} on offered more) rests same =
     ap (λ o. slice_set rests k o) (sym (ap less (same k (sends on (λ vs g. absurd (cc (offered, g)))) ∙ offered)))
 one_used {c = c} (an_arrival {k = k} on offered) rests same =
@@ -393,14 +433,17 @@ store_all : {c : Configuration} {ps : List Place} (ss : StepsAt c ps) (e : Confi
 store_all no_steps e = refl
 store_all (and_step {a = a} s ss) e = store_all ss (dealt e a (deal s)) ∙ ap (λ x. fold written x (moves_in ss)) (one_written e.store (deal s).write)
 
-histories_all : {c : Configuration} {ps : List Place} (ss : StepsAt c ps) (e : Configuration) → (dealt_all ss e).histories ≡ fold passed e.histories (moves_in ss)
+histories_all : {c : Configuration} {ps : List Place} (ss : StepsAt c ps) (e : Configuration) →
+    (dealt_all ss e).histories ≡ fold passed e.histories (moves_in ss)
 histories_all no_steps e = refl
 histories_all (and_step {a = a} s ss) e = histories_all ss (dealt e a (deal s)) ∙ ap (λ x. fold passed x (moves_in ss)) (one_passed e.histories (deal s).pass)
 
-rests_all : {c : Configuration} {ps : List Place} (ss : StepsAt c ps) → Fits c.term → Distinct ps → (e : Configuration) → AllKept ss e → (dealt_all ss e).rests ≡ fold used e.rests (moves_in ss)
+rests_all : {c : Configuration} {ps : List Place} (ss : StepsAt c ps) → Fits c.term → Distinct ps → (e : Configuration) → AllKept ss e →
+    (dealt_all ss e).rests ≡ fold used e.rests (moves_in ss)
 rests_all no_steps f distinct e kept = refl
 rests_all (and_step {a = a} s ss) f distinct e kept =
-    rests_all ss f distinct.1 (dealt e a (deal s)) (all_kept_on s ss f distinct.0 e kept.1) ∙ ap (λ x. fold used x (moves_in ss)) (one_used s e.rests kept.0.offers)
+    rests_all ss f distinct.1 (dealt e a (deal s)) (all_kept_on s ss f distinct.0 e kept.1)
+        ∙ ap (λ x. fold used x (moves_in ss)) (one_used s e.rests kept.0.offers)
 
 leave_append : (t : Term) (xs ys : List Part) → leave_all t (xs ++ ys) ≡ leave_all (leave_all t xs) ys
 leave_append t [] ys = refl
@@ -429,28 +472,33 @@ other_stands s (Some w) e = (part_stands s w (inr e), tt)
 
 all_stand : {c : Configuration} {ps : List Place} (ss : StepsAt c ps) → Stand c.term (parts_in ss)
 all_stand no_steps = tt
-all_stand {c = c} (and_step s ss) = (stands s, stand_append c.term (other_parts (deal s).other) (parts_in ss) (other_stands s (deal s).other refl) (all_stand ss))
+all_stand {c = c} (and_step s ss) = (stands s,
+    stand_append c.term (other_parts (deal s).other) (parts_in ss) (other_stands s (deal s).other refl) (all_stand ss))
 
 others_append : (w : Place) (xs ys : List Part) → Other w xs → Other w ys → Other w (xs ++ ys)
 others_append w [] ys a b = b
 others_append w (part p l ∷ xs) ys a b = (a.0, others_append w xs ys a.1 b)
 
-apart_from : {c d e : Configuration} {a b : Place} (s : Step c a d) (u : Step c b e) → Fits c.term → a ≢ b → (w : Place) → Takes s w → (o : Option Place) → (deal u).other ≡ o → Other w (other_parts o)
+apart_from : {c d e : Configuration} {a b : Place} (s : Step c a d) (u : Step c b e) → Fits c.term → a ≢ b → (w : Place) → Takes s w → (o : Option Place) →
+    (deal u).other ≡ o → Other w (other_parts o)
 apart_from s u f ne w takes_part None e = tt
 apart_from s u f ne w takes_part (Some o) e = (parts_apart s u f ne w o takes_part (inr e), tt)
 
-apart_from_all : {c d : Configuration} {a : Place} {ps : List Place} (s : Step c a d) (ss : StepsAt c ps) → Fits c.term → ((y : Place) → In ps y → a ≢ y) → (w : Place) → Takes s w → Other w (parts_in ss)
+apart_from_all : {c d : Configuration} {a : Place} {ps : List Place} (s : Step c a d) (ss : StepsAt c ps) → Fits c.term → ((y : Place) → In ps y → a ≢ y) →
+    (w : Place) → Takes s w → Other w (parts_in ss)
 apart_from_all s no_steps f ne w takes_part = tt
 apart_from_all s (and_step {a = b} u us) f ne w takes_part = (
   parts_apart s u f (ne b (inl refl)) w b takes_part (inl refl),
-  others_append w (other_parts (deal u).other) (parts_in us) (apart_from s u f (ne b (inl refl)) w takes_part (deal u).other refl) (apart_from_all s us f (λ y i. ne y (inr i)) w takes_part),
+  others_append w (other_parts (deal u).other) (parts_in us) (apart_from s u f (ne b (inl refl)) w takes_part (deal u).other refl)
+      (apart_from_all s us f (λ y i. ne y (inr i)) w takes_part),
 )
 
 own_other : {c d : Configuration} {a : Place} (s : Step c a d) (o : Option Place) → (deal s).other ≡ o → Other a (other_parts o)
 own_other s None e = tt
 own_other s (Some w) e = (own_apart s w e, tt)
 
-other_single : {c d : Configuration} {a : Place} {ps : List Place} (s : Step c a d) (ss : StepsAt c ps) → Fits c.term → ((y : Place) → In ps y → a ≢ y) → (o : Option Place) → (deal s).other ≡ o → Single (parts_in ss) → Single (other_parts o ++ parts_in ss)
+other_single : {c d : Configuration} {a : Place} {ps : List Place} (s : Step c a d) (ss : StepsAt c ps) → Fits c.term → ((y : Place) → In ps y → a ≢ y) →
+    (o : Option Place) → (deal s).other ≡ o → Single (parts_in ss) → Single (other_parts o ++ parts_in ss)
 other_single s ss f ne None e rest = rest
 other_single s ss f ne (Some w) e rest = (apart_from_all s ss f ne w (inr e), rest)
 
@@ -470,7 +518,9 @@ look_up : (xs : List Part) (a : Place) (other : Term) → Found xs a other
 look_up [] a other = inr (λ l i. i, refl)
 look_up (part b m ∷ xs) a other = by_place (same_place b a) (look_up xs a other)
   where
-    by_place : (d : (b ≡ a) ⊎ (b ≢ a)) → Found xs a other → ((l : Term) × In (part b m ∷ xs) (part a l) × (or_else d m (at_or xs a other) ≡ l)) ⊎ (((l : Term) → ¬ In (part b m ∷ xs) (part a l)) × (or_else d m (at_or xs a other) ≡ other))
+    by_place : (d : (b ≡ a) ⊎ (b ≢ a)) → Found xs a other →
+        ((l : Term) × In (part b m ∷ xs) (part a l) × (or_else d m (at_or xs a other) ≡ l)) ⊎ (((l : Term) → ¬ In (part b m ∷ xs) (part a l))
+        × (or_else d m (at_or xs a other) ≡ other))
     by_place (inl e) rest = inl (m, inl (ap (λ p. part p m) e), refl)
     by_place (inr n) (inl (l, i, e)) = inl (l, inr i, e)
     by_place (inr n) (inr (no_part, e)) = inr (λ l i. neither l i, e)
@@ -490,15 +540,18 @@ in_other (Some w) a l (inl e) = (ap Some (place_is e), left_is e)
     left_is g = cc g
 in_other (Some w) a l (inr i) = absurd i
 
-part_says : {c : Configuration} {ps : List Place} (m : ℕ) → Fits c.term → AllRun c m → (ss : StepsAt c ps) (a : Place) (l : Term) (q : Process) → In (parts_in ss) (part a l) → statement_at c.term a ≡ Some q → left_of (outset_for c) q ≡ l
+part_says : {c : Configuration} {ps : List Place} (m : ℕ) → Fits c.term → AllRun c m → (ss : StepsAt c ps) (a : Place) (l : Term) (q : Process) →
+    In (parts_in ss) (part a l) → statement_at c.term a ≡ Some q → left_of (outset_for c) q ≡ l
 part_says m f run no_steps a l q i h = absurd i
 part_says {c = c} m f run (and_step {a = b} s ss) a l q (inl e) h =
     let place : b ≡ a = cc e in
     let same : (deal s).left ≡ l = cc e in
     step_left m f run s q (ap (λ p. statement_at c.term p) place ∙ h) ∙ same
-part_says {c = c} m f run (and_step {a = b} s ss) a l q (inr i) h = by_side (in_either (other_parts (deal s).other) (parts_in ss) (part a l) i) (λ j. part_says m f run ss a l q j h)
+part_says {c = c} m f run (and_step {a = b} s ss) a l q (inr i) h =
+    by_side (in_either (other_parts (deal s).other) (parts_in ss) (part a l) i) (λ j. part_says m f run ss a l q j h)
   where
-    by_side : In (other_parts (deal s).other) (part a l) ⊎ In (parts_in ss) (part a l) → (In (parts_in ss) (part a l) → left_of (outset_for c) q ≡ l) → left_of (outset_for c) q ≡ l
+    by_side : In (other_parts (deal s).other) (part a l) ⊎ In (parts_in ss) (part a l) → (In (parts_in ss) (part a l) → left_of (outset_for c) q ≡ l) →
+        left_of (outset_for c) q ≡ l
     by_side (inl j) rest = let r = in_other (deal s).other a l j in other_left m run s a q r.0 h ∙ r.1
     by_side (inr j) rest = rest j
 
@@ -507,9 +560,12 @@ step_part no_steps a i = absurd i
 step_part (and_step {a = b} s ss) a (inl e) = ((deal s).left, inl (ap (λ p. part p (deal s).left) e))
 step_part (and_step {a = b} s ss) a (inr i) = let r = step_part ss a i in (r.0, inr (in_right (other_parts (deal s).other) (parts_in ss) (part a r.0) r.1))
 
-other_part : {c : Configuration} {ps : List Place} (ss : StepsAt c ps) (b a : Place) → In ps b → ((d : Configuration) (s : Step c b d) → (deal s).other ≡ Some a) → In (parts_in ss) (part a finished)
+other_part : {c : Configuration} {ps : List Place} (ss : StepsAt c ps) (b a : Place) → In ps b →
+    ((d : Configuration) (s : Step c b d) → (deal s).other ≡ Some a) → In (parts_in ss) (part a finished)
 other_part no_steps b a i all = absurd i
-other_part {c = c} (and_step {a = w} {d = d} s ss) b a (inl e) all = inr (in_left (other_parts (deal s).other) (parts_in ss) (part a finished) (subst (λ o. In (other_parts o) (part a finished)) (sym (at_place w s e)) (inl refl)))
+other_part {c = c} (and_step {a = w} {d = d} s ss) b a (inl e) all =
+    inr (in_left (other_parts (deal s).other) (parts_in ss) (part a finished)
+    (subst (λ o. In (other_parts o) (part a finished)) (sym (at_place w s e)) (inl refl)))
   where
     at_place : (v : Place) (u : Step c v d) → v ≡ b → (deal u).other ≡ Some a
     at_place v u g = subst (λ (x : Place). (y : Step c x d) → (deal y).other ≡ Some a) (sym g) (λ y. all d y) u
@@ -521,7 +577,8 @@ stays_ended : (q : Process) (x : Option Move) (met : Bool) → x ≡ None → (m
 stays_ended q x true e unmet = absurd (unmet refl)
 stays_ended q x false e unmet = ap (λ y. term_of q (ended y false)) e
 
-stays_chosen : (again : Bool) (cs : Choices) (g : TrueGuards) → choosing_move again g ≡ None → term_of (choosing again cs) (chosen_remains (choosing again cs) again g) ≡ active (choosing again cs)
+stays_chosen : (again : Bool) (cs : Choices) (g : TrueGuards) → choosing_move again g ≡ None →
+    term_of (choosing again cs) (chosen_remains (choosing again cs) again g) ≡ active (choosing again cs)
 stays_chosen true cs Zero e = absurd (cc e)
 stays_chosen false cs Zero e = refl
 stays_chosen true cs (One k) e = absurd (cc e)
@@ -547,7 +604,8 @@ move_or_none (Some m) = inr (m, refl)
 abbrev all_steps : (c : Configuration) → StepsAt c (enabled_places c)
 all_steps c = steps_for c (enabled_places c) (can_each c)
 
-unmet : (c : Configuration) (m : ℕ) → Fits c.term → (a : Place) (q : Process) → statement_at c.term a ≡ Some q → ((l : Term) → ¬ In (parts_in (all_steps c)) (part a l)) → is_met (outset_for c) q ≡ true → ⊥
+unmet : (c : Configuration) (m : ℕ) → Fits c.term → (a : Place) (q : Process) → statement_at c.term a ≡ Some q →
+    ((l : Term) → ¬ In (parts_in (all_steps c)) (part a l)) → is_met (outset_for c) q ≡ true → ⊥
 unmet c m f a skipping h nowhere e = absurd (cc e)
 unmet c m f a (assigning x s i) h nowhere e = absurd (cc e)
 unmet c m f a (sending k s i) h nowhere e = absurd (cc e)
@@ -563,7 +621,8 @@ unmet c m f a (receiving k s x t) h nowhere e =
 all_say : (c : Configuration) (m : ℕ) → Fits c.term → AllRun c m → Says (left_of (outset_for c)) c.term (parts_in (all_steps c))
 all_say c m f run a q h = by_place (look_up (parts_in (all_steps c)) a (active q))
   where
-    no_move : ((l : Term) → ¬ In (parts_in (all_steps c)) (part a l)) → (move_of (outset_for c) q ≡ None) ⊎ ((w : Move) × (move_of (outset_for c) q ≡ Some w)) → active q ≡ left_of (outset_for c) q
+    no_move : ((l : Term) → ¬ In (parts_in (all_steps c)) (part a l)) → (move_of (outset_for c) q ≡ None) ⊎ ((w : Move) × (move_of (outset_for c) q ≡ Some w)) →
+        active q ≡ left_of (outset_for c) q
     no_move nowhere (inl e) = sym (stays_whole (outset_for c) q e (unmet c m f a q h nowhere))
     no_move nowhere (inr (w, e)) =
         let can = move_can c a q w h e in
@@ -587,7 +646,8 @@ at_append t [] bs (p ∷ ps) qs h g = absurd h
 at_append t (a ∷ spots) bs [] qs h g = absurd h
 at_append t (a ∷ spots) bs (p ∷ ps) qs h g = (h.0, at_append t spots bs ps qs h.1 g)
 
-at_map : (t u : Term) (f : Place → Place) → ((a : Place) (q : Process) → statement_at t a ≡ Some q → statement_at u (f a) ≡ Some q) → (spots : List Place) (qs : List Process) → At t spots qs → At u (map f spots) qs
+at_map : (t u : Term) (f : Place → Place) → ((a : Place) (q : Process) → statement_at t a ≡ Some q → statement_at u (f a) ≡ Some q) →
+    (spots : List Place) (qs : List Process) → At t spots qs → At u (map f spots) qs
 at_map t u f lift [] [] h = tt
 at_map t u f lift [] (q ∷ qs) h = absurd h
 at_map t u f lift (a ∷ spots) [] h = absurd h
@@ -600,27 +660,33 @@ mutual
   places_at (in_sequence t more) = at_map t (in_sequence t more) in_first (λ a q h. h) (places t) (actives t) (places_at t)
   places_at (in_parallel ts) = branches_at ts ts 0 (λ j a q h. let e : 0 + j ≡ j = omega arith in subst (λ n. branch_at ts n a ≡ Some q) (sym e) h)
 
-  branches_at : (ts us : Terms) (k : ℕ) → ((j : ℕ) (a : Place) (q : Process) → branch_at us j a ≡ Some q → branch_at ts (k + j) a ≡ Some q) → At (in_parallel ts) (branch_places k us) (branch_actives us)
+  branches_at : (ts us : Terms) (k : ℕ) → ((j : ℕ) (a : Place) (q : Process) → branch_at us j a ≡ Some q → branch_at ts (k + j) a ≡ Some q) →
+      At (in_parallel ts) (branch_places k us) (branch_actives us)
   branches_at ts no_branches k lift = tt
   branches_at ts (and_branch t more) k lift =
       at_append (in_parallel ts) (map (in_branch k) (places t)) (branch_places (suc k) more) (actives t) (branch_actives more)
-      (at_map t (in_parallel ts) (in_branch k) (λ a q h. let e : k + 0 ≡ k = omega arith in subst (λ n. branch_at ts n a ≡ Some q) e (lift 0 a q h)) (places t) (actives t) (places_at t))
+      (at_map t (in_parallel ts) (in_branch k) (λ a q h. let e : k + 0 ≡ k = omega arith in subst (λ n. branch_at ts n a ≡ Some q) e (lift 0 a q h)) (places t)
+          (actives t) (places_at t))
       (branches_at ts more (suc k) (λ j a q h. let e : k + suc j ≡ suc k + j = omega arith in subst (λ n. branch_at ts n a ≡ Some q) e (lift (suc j) a q h)))
 
-moves_are : (c : Configuration) (m : ℕ) → Fits c.term → AllRun c m → (spots : List Place) (qs : List Process) → At c.term spots qs → (ss : StepsAt c (filter (is_enabled c) spots)) → moves_in ss ≡ moves_of (outset_for c) qs
+moves_are : (c : Configuration) (m : ℕ) → Fits c.term → AllRun c m → (spots : List Place) (qs : List Process) → At c.term spots qs →
+    (ss : StepsAt c (filter (is_enabled c) spots)) → moves_in ss ≡ moves_of (outset_for c) qs
 moves_are c m f run [] [] h no_steps = refl
 moves_are c m f run [] (q ∷ qs) h ss = absurd h
 moves_are c m f run (a ∷ spots) [] h ss = absurd h
 moves_are c m f run (a ∷ spots) (q ∷ qs) h ss = by_test (is_enabled c a) refl ss (moves_are c m f run spots qs h.1)
   where
-    disabled : is_enabled c a ≡ false → (move_of (outset_for c) q ≡ None) ⊎ ((w : Move) × (move_of (outset_for c) q ≡ Some w)) → moves_of (outset_for c) qs ≡ option_to_list (move_of (outset_for c) q) ++ moves_of (outset_for c) qs
+    disabled : is_enabled c a ≡ false → (move_of (outset_for c) q ≡ None) ⊎ ((w : Move) × (move_of (outset_for c) q ≡ Some w)) →
+        moves_of (outset_for c) qs ≡ option_to_list (move_of (outset_for c) q) ++ moves_of (outset_for c) qs
     disabled off (inl e) = sym (ap (λ x. option_to_list x ++ moves_of (outset_for c) qs) e)
     disabled off (inr (w, e)) =
         let can = move_can c a q w h.0 e in
         let on : is_enabled c a ≡ true = ap is_some (found f can.1) in
         absurd (cc (sym off ∙ on))
 
-    by_test : (b : Bool) → is_enabled c a ≡ b → (us : StepsAt c (cond b (a ∷ filter (is_enabled c) spots) (filter (is_enabled c) spots))) → ((vs : StepsAt c (filter (is_enabled c) spots)) → moves_in vs ≡ moves_of (outset_for c) qs) → moves_in us ≡ option_to_list (move_of (outset_for c) q) ++ moves_of (outset_for c) qs
+    by_test : (b : Bool) → is_enabled c a ≡ b → (us : StepsAt c (cond b (a ∷ filter (is_enabled c) spots) (filter (is_enabled c) spots))) →
+        ((vs : StepsAt c (filter (is_enabled c) spots)) → moves_in vs ≡ moves_of (outset_for c) qs) → moves_in us ≡ option_to_list (move_of (outset_for c) q)
+        ++ moves_of (outset_for c) qs
     by_test true e (and_step s vs) rest =
         ap (λ ms. move_from (deal s) ∷ ms) (rest vs) ∙ sym (ap (λ x. option_to_list x ++ moves_of (outset_for c) qs) (step_move m f run s q h.0))
     by_test false e us rest = rest us ∙ disabled e (move_or_none (move_of (outset_for c) q))
@@ -640,7 +706,8 @@ at_once c m f v run =
     let whole : round c ≡ dealt_all ss c = taken_dealt ss f distinct c f (all_kept_self ss) in
     let moves : moves_in ss ≡ moves_of (outset_for c) (actives c.term) = moves_are c m f run (places c.term) (actives c.term) (places_at c.term) ss in
     record {
-      term = ap (λ (x : Configuration). x.term) whole ∙ (term_all ss c ∙ left_at_once (left_of (outset_for c)) c.term (parts_in ss) v (all_stand ss) (all_single ss f distinct) (all_say c m f run));
+      term = ap (λ (x : Configuration). x.term) whole
+          ∙ (term_all ss c ∙ left_at_once (left_of (outset_for c)) c.term (parts_in ss) v (all_stand ss) (all_single ss f distinct) (all_say c m f run));
       store = ap (λ (x : Configuration). x.store) whole ∙ (store_all ss c ∙ ap (fold written c.store) moves);
       rests = ap (λ (x : Configuration). x.rests) whole ∙ (rests_all ss f distinct c (all_kept_self ss) ∙ ap (fold used c.rests) moves);
       histories = ap (λ (x : Configuration). x.histories) whole ∙ (histories_all ss c ∙ ap (fold passed c.histories) moves);
@@ -657,20 +724,25 @@ has_move o [] q w i e none = i
 has_move o (p ∷ qs) q w (inl same) e none = absurd (cc (sym (ap (λ x. option_to_list x ++ moves_of o qs) (ap (move_of o) same ∙ e)) ∙ none))
 has_move o (p ∷ qs) q w (inr i) e none = has_move o qs q w i e (no_front (move_of o p) (moves_of o qs) none)
 
-pub still_if_none : (c : Configuration) (m : ℕ) → Fits c.term → AllRun c m → moves_of (outset_for c) (actives c.term) ≡ [] → (a : Place) (d : Configuration) → ¬ Step c a d
+pub still_if_none : (c : Configuration) (m : ℕ) → Fits c.term → AllRun c m → moves_of (outset_for c) (actives c.term) ≡ [] → (a : Place) (d : Configuration) →
+    ¬ Step c a d
 still_if_none c m f run none a d s =
     let q = stands s in
     has_move (outset_for c) (actives c.term) q.0 (move_from (deal s)) (active_in c.term a q.0 q.1) (step_move m f run s q.0 q.1) none
 
-some_move : (o : Outset) (qs : List Process) (w : Move) (ws : List Move) → moves_of o qs ≡ w ∷ ws → (q : Process) × (u : Move) × In qs q × (move_of o q ≡ Some u)
+some_move : (o : Outset) (qs : List Process) (w : Move) (ws : List Move) → moves_of o qs ≡ w ∷ ws →
+    (q : Process) × (u : Move) × In qs q × (move_of o q ≡ Some u)
 some_move o [] w ws e = absurd (cc e)
 some_move o (p ∷ qs) w ws e = by_first (move_or_none (move_of o p)) (some_move o qs w ws)
   where
-    by_first : (move_of o p ≡ None) ⊎ ((u : Move) × (move_of o p ≡ Some u)) → (moves_of o qs ≡ w ∷ ws → (q : Process) × (u : Move) × In qs q × (move_of o q ≡ Some u)) → (q : Process) × (u : Move) × In (p ∷ qs) q × (move_of o q ≡ Some u)
+    by_first : (move_of o p ≡ None) ⊎ ((u : Move) × (move_of o p ≡ Some u)) →
+        (moves_of o qs ≡ w ∷ ws → (q : Process) × (u : Move) × In qs q × (move_of o q ≡ Some u)) → (q : Process) × (u : Move) × In (p ∷ qs) q
+        × (move_of o q ≡ Some u)
     by_first (inr (u, g)) rest = (p, u, inl refl, g)
     by_first (inl g) rest = let r = rest (sym (ap (λ x. option_to_list x ++ moves_of o qs) g) ∙ e) in (r.0, r.1, inr r.2, r.3)
 
-pub step_if_some : (c : Configuration) (w : Move) (ws : List Move) → moves_of (outset_for c) (actives c.term) ≡ w ∷ ws → (a : Place) × (d : Configuration) × Step c a d
+pub step_if_some : (c : Configuration) (w : Move) (ws : List Move) → moves_of (outset_for c) (actives c.term) ≡ w ∷ ws →
+    (a : Place) × (d : Configuration) × Step c a d
 step_if_some c w ws e =
     let r = some_move (outset_for c) (actives c.term) w ws e in
     let p = active_at c.term r.0 r.2 in

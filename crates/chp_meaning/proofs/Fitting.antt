@@ -75,7 +75,8 @@ conflict_clashes _ _ h = absurd h
 pub meeting_sound : (p : Process) → MeetsSharing p → Sound p
 meeting_sound p meets = clean_sound p (λ a b h c. by_code a b h (conflict_clashes a.deed b.deed c))
   where
-    by_code : (a b : Occurrence) → Parallel p a b → Clashes code.SharedVariable a.deed b.deed ⊎ (Clashes code.SharedSend a.deed b.deed ⊎ Clashes code.SharedReceive a.deed b.deed) → ⊥
+    by_code : (a b : Occurrence) → Parallel p a b →
+        Clashes code.SharedVariable a.deed b.deed ⊎ (Clashes code.SharedSend a.deed b.deed ⊎ Clashes code.SharedReceive a.deed b.deed) → ⊥
     by_code a b h (inl c) = meets.variables a b h c
     by_code a b h (inr (inl c)) = meets.sends a b h c
     by_code a b h (inr (inr c)) = meets.receives a b h c
@@ -109,7 +110,8 @@ mutual
   turn_within no_members u h = h
   turn_within (and_member p no_members) u h = in_left (occurrences p) [] u (opened_within p u h)
   turn_within (and_member p (and_member q more)) u h =
-      within_append (uses (opened p)) (occurrences_of_each (and_member q more)) (occurrences p) (occurrences_of_each (and_member q more)) (opened_within p) (λ v k. k) u h
+      within_append (uses (opened p)) (occurrences_of_each (and_member q more)) (occurrences p) (occurrences_of_each (and_member q more)) (opened_within p)
+          (λ v k. k) u h
 
   each_within : (members : Processes) → Within (uses_of_each (opened_each members)) (occurrences_of_each members)
   each_within no_members u h = h
@@ -188,7 +190,8 @@ mutual
 
 -- the statements at two places aren't in conflict
 mutual
-  pub places_apart : (t : Term) (a b : Place) (p q : Process) → Fits t → a ≢ b → statement_at t a ≡ Some p → statement_at t b ≡ Some q → Apart (occurrences p) (occurrences q)
+  pub places_apart : (t : Term) (a b : Place) (p q : Process) → Fits t → a ≢ b → statement_at t a ≡ Some p → statement_at t b ≡ Some q →
+      Apart (occurrences p) (occurrences q)
   places_apart finished a b p q f ne g h = absurd (cc h)
   places_apart (active r) here here p q f ne g h = absurd (ne refl)
   places_apart (active r) (in_first a) b p q f ne g h = absurd (cc g)
@@ -206,7 +209,8 @@ mutual
   places_apart (in_parallel ts) (in_branch i a) (in_first b) p q f ne g h = absurd (cc h)
   places_apart (in_parallel ts) (in_branch i a) (in_branch j b) p q f ne g h = branches_apart ts i a j b p q f ne g h
 
-  branches_apart : (ts : Terms) (i : ℕ) (a : Place) (j : ℕ) (b : Place) (p q : Process) → FitEach ts → in_branch i a ≢ in_branch j b → branch_at ts i a ≡ Some p → branch_at ts j b ≡ Some q → Apart (occurrences p) (occurrences q)
+  branches_apart : (ts : Terms) (i : ℕ) (a : Place) (j : ℕ) (b : Place) (p q : Process) → FitEach ts → in_branch i a ≢ in_branch j b →
+      branch_at ts i a ≡ Some p → branch_at ts j b ≡ Some q → Apart (occurrences p) (occurrences q)
   branches_apart no_branches i a j b p q f ne g h = absurd (cc h)
   branches_apart (and_branch t more) zero a zero b p q f ne g h = places_apart t a b p q f.0 (λ e. ne (ap (in_branch zero) e)) g h
   branches_apart (and_branch t more) zero a (suc j) b p q f ne g h = λ u v hu hv. f.1 u v (statement_within t a p g u hu) (branch_within more j b q h v hv)
@@ -216,26 +220,32 @@ mutual
 
 -- what is left of a statement, in its place
 mutual
-  left_within : (t : Term) (a : Place) (l : Term) (p : Process) → statement_at t a ≡ Some p → Within (uses l) (occurrences p) → Within (uses (with_left t a l)) (uses t)
+  left_within : (t : Term) (a : Place) (l : Term) (p : Process) → statement_at t a ≡ Some p → Within (uses l) (occurrences p) →
+      Within (uses (with_left t a l)) (uses t)
   left_within finished a l p h w = absurd (cc h)
   left_within (active q) here l p h w = let e : q ≡ p = cc h in subst (λ r. Within (uses l) (occurrences r)) (sym e) w
   left_within (active q) (in_first a) l p h w = absurd (cc h)
   left_within (active q) (in_branch i a) l p h w = absurd (cc h)
   left_within (in_sequence t more) here l p h w = absurd (cc h)
   left_within (in_sequence t more) (in_first a) l p h w = λ u k.
-      within_append (uses (with_left t a l)) (occurrences_of_each more) (uses t) (occurrences_of_each more) (left_within t a l p h w) (λ v x. x) u (followed_within (with_left t a l) more u k)
+      within_append (uses (with_left t a l)) (occurrences_of_each more) (uses t) (occurrences_of_each more) (left_within t a l p h w) (λ v x. x) u
+          (followed_within (with_left t a l) more u k)
   left_within (in_sequence t more) (in_branch i a) l p h w = absurd (cc h)
   left_within (in_parallel ts) here l p h w = absurd (cc h)
   left_within (in_parallel ts) (in_first a) l p h w = absurd (cc h)
   left_within (in_parallel ts) (in_branch i a) l p h w = λ u k. branch_left_within ts i a l p h w u (together_within (with_branch ts i a l) u k)
 
-  branch_left_within : (ts : Terms) (i : ℕ) (a : Place) (l : Term) (p : Process) → branch_at ts i a ≡ Some p → Within (uses l) (occurrences p) → Within (uses_of_each (with_branch ts i a l)) (uses_of_each ts)
+  branch_left_within : (ts : Terms) (i : ℕ) (a : Place) (l : Term) (p : Process) → branch_at ts i a ≡ Some p → Within (uses l) (occurrences p) →
+      Within (uses_of_each (with_branch ts i a l)) (uses_of_each ts)
   branch_left_within no_branches i a l p h w = absurd (cc h)
-  branch_left_within (and_branch t more) zero a l p h w = within_append (uses (with_left t a l)) (uses_of_each more) (uses t) (uses_of_each more) (left_within t a l p h w) (λ u k. k)
-  branch_left_within (and_branch t more) (suc i) a l p h w = within_append (uses t) (uses_of_each (with_branch more i a l)) (uses t) (uses_of_each more) (λ u k. k) (branch_left_within more i a l p h w)
+  branch_left_within (and_branch t more) zero a l p h w =
+      within_append (uses (with_left t a l)) (uses_of_each more) (uses t) (uses_of_each more) (left_within t a l p h w) (λ u k. k)
+  branch_left_within (and_branch t more) (suc i) a l p h w =
+      within_append (uses t) (uses_of_each (with_branch more i a l)) (uses t) (uses_of_each more) (λ u k. k) (branch_left_within more i a l p h w)
 
 mutual
-  pub left_fits : (t : Term) (a : Place) (l : Term) (p : Process) → Fits t → statement_at t a ≡ Some p → Fits l → Within (uses l) (occurrences p) → Fits (with_left t a l)
+  pub left_fits : (t : Term) (a : Place) (l : Term) (p : Process) → Fits t → statement_at t a ≡ Some p → Fits l → Within (uses l) (occurrences p) →
+      Fits (with_left t a l)
   left_fits finished a l p f h g w = absurd (cc h)
   left_fits (active q) here l p f h g w = g
   left_fits (active q) (in_first a) l p f h g w = absurd (cc h)
@@ -247,20 +257,28 @@ mutual
   left_fits (in_parallel ts) (in_first a) l p f h g w = absurd (cc h)
   left_fits (in_parallel ts) (in_branch i a) l p f h g w = together_fits (with_branch ts i a l) (branch_left_fits ts i a l p f h g w)
 
-  branch_left_fits : (ts : Terms) (i : ℕ) (a : Place) (l : Term) (p : Process) → FitEach ts → branch_at ts i a ≡ Some p → Fits l → Within (uses l) (occurrences p) → FitEach (with_branch ts i a l)
+  branch_left_fits : (ts : Terms) (i : ℕ) (a : Place) (l : Term) (p : Process) → FitEach ts → branch_at ts i a ≡ Some p → Fits l →
+      Within (uses l) (occurrences p) → FitEach (with_branch ts i a l)
   branch_left_fits no_branches i a l p f h g w = absurd (cc h)
   branch_left_fits (and_branch t more) zero a l p f h g w = (left_fits t a l p f.0 h g w, λ u v hu hv. f.1 u v (left_within t a l p h w u hu) hv, f.2)
-  branch_left_fits (and_branch t more) (suc i) a l p f h g w = (f.0, λ u v hu hv. f.1 u v hu (branch_left_within more i a l p h w v hv), branch_left_fits more i a l p f.2 h g w)
+  branch_left_fits (and_branch t more) (suc i) a l p f h g w =
+      (f.0, λ u v hu hv. f.1 u v hu (branch_left_within more i a l p h w v hv), branch_left_fits more i a l p f.2 h g w)
 
 -- a branch that may be chosen
-pub open_sound : (c : Configuration) (options : Choices) (p : Process) → ChoicesSound options → In (open_branches c options) p → Sound p × Within (occurrences p) (occurrences_of_choices options)
+pub open_sound : (c : Configuration) (options : Choices) (p : Process) → ChoicesSound options → In (open_branches c options) p →
+    Sound p × Within (occurrences p) (occurrences_of_choices options)
 open_sound c no_choices p s h = absurd h
 open_sound c (and_choice g q more) p s h = by_guard (value_in c g == 1) h (open_sound c more p s.1)
   where
     deeper : Sound p × Within (occurrences p) (occurrences_of_choices more) → Sound p × Within (occurrences p) (occurrences_of_choices (and_choice g q more))
-    deeper r = (r.0, λ u k. in_right (reads_of g) (occurrences q ++ occurrences_of_choices more) u (in_right (occurrences q) (occurrences_of_choices more) u (r.1 u k)))
+    deeper r = (r.0, λ u k. in_right (reads_of g) (occurrences q ++ occurrences_of_choices more) u
+        (in_right (occurrences q) (occurrences_of_choices more) u (r.1 u k)))
 
-    by_guard : (b : Bool) → In (if b then q ∷ open_branches c more else open_branches c more) p → (In (open_branches c more) p → Sound p × Within (occurrences p) (occurrences_of_choices more)) → Sound p × Within (occurrences p) (occurrences_of_choices (and_choice g q more))
-    by_guard true (inl e) rest = (subst Sound e s.0, λ u k. in_right (reads_of g) (occurrences q ++ occurrences_of_choices more) u (in_left (occurrences q) (occurrences_of_choices more) u (subst (λ r. In (occurrences r) u) (sym e) k)))
+    by_guard : (b : Bool) → In (if b then q ∷ open_branches c more else open_branches c more) p →
+        (In (open_branches c more) p → Sound p × Within (occurrences p) (occurrences_of_choices more)) →
+        Sound p × Within (occurrences p) (occurrences_of_choices (and_choice g q more))
+    by_guard true (inl e) rest = (subst Sound e s.0,
+        λ u k. in_right (reads_of g) (occurrences q ++ occurrences_of_choices more) u
+        (in_left (occurrences q) (occurrences_of_choices more) u (subst (λ r. In (occurrences r) u) (sym e) k)))
     by_guard true (inr k) rest = deeper (rest k)
     by_guard false k rest = deeper (rest k)

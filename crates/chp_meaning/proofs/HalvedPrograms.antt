@@ -76,28 +76,34 @@ mutual
   formula_below vars (reading var high low s) f = below_cons (length vars) (done_at (reads_var var) s) [] f.0 (λ u i. absurd i)
   formula_below vars (joined parts) f = formulas_below vars parts f
   formula_below vars (inverted e) f = formula_below vars e f
-  formula_below vars (chained e more) f = below_append (length vars) (reads_of e) (reads_of_operations more) (formula_below vars e f.0) (chain_below vars more f.1)
+  formula_below vars (chained e more) f = below_append (length vars) (reads_of e) (reads_of_operations more) (formula_below vars e f.0)
+      (chain_below vars more f.1)
   formula_below vars (compared op e d) f = below_append (length vars) (reads_of e) (reads_of d) (formula_below vars e f.0) (formula_below vars d f.1)
 
   formulas_below : (vars : List Var) (parts : Formulas) → EachReadsFrom vars parts → Below (length vars) (reads_of_parts parts)
   formulas_below vars no_parts f = λ u i. absurd i
-  formulas_below vars (and_part e more) f = below_append (length vars) (reads_of e) (reads_of_parts more) (formula_below vars e f.0) (formulas_below vars more f.1)
+  formulas_below vars (and_part e more) f =
+      below_append (length vars) (reads_of e) (reads_of_parts more) (formula_below vars e f.0) (formulas_below vars more f.1)
 
   chain_below : (vars : List Var) (more : Operations) → AllReadFrom vars more → Below (length vars) (reads_of_operations more)
   chain_below vars no_operations f = λ u i. absurd i
-  chain_below vars (and_operation op e more) f = below_append (length vars) (reads_of e) (reads_of_operations more) (formula_below vars e f.0) (chain_below vars more f.1)
+  chain_below vars (and_operation op e more) f =
+      below_append (length vars) (reads_of e) (reads_of_operations more) (formula_below vars e f.0) (chain_below vars more f.1)
 
 reads_below : (vars : List Var) (e : Formula) → ReadsFrom vars e → ReadsBelow (length vars) e
 reads_below vars e f x at i = formula_below vars e f (done_at (reads_var x) at) i
 
 -- a statement goes with itself in halves
 
-assign_like : (vars : List Var) (M n x : ℕ) (at : Span) (e : Formula) (b : Bool) → x < length vars → IsOfWidth vars (var_width vars x) e → length vars ≤ n → n + length (hidden_of b e) ≤ M → Like (length vars) M (assigning x at e) (halved_assign b n x at e)
+assign_like : (vars : List Var) (M n x : ℕ) (at : Span) (e : Formula) (b : Bool) → x < length vars → IsOfWidth vars (var_width vars x) e → length vars ≤ n →
+    n + length (hidden_of b e) ≤ M → Like (length vars) M (assigning x at e) (halved_assign b n x at e)
 assign_like vars M n x at e false target typed from to = alone (same_assign target (reads_below vars e typed.reads))
-assign_like vars M n x at e true target typed from to = halves (record { target = target; below = reads_below vars e typed.reads; hidden = from; within = omega arith; formed = typed.formed })
+assign_like vars M n x at e true target typed from to =
+    halves (record { target = target; below = reads_below vars e typed.reads; hidden = from; within = omega arith; formed = typed.formed })
 
 mutual
-  pub like_halved : (channels : List Channel) (vars : List Var) (M n : ℕ) (p : Process) → IsProcess channels vars p → length vars ≤ n → n + length (hidden_vars p) ≤ M → Like (length vars) M p (halved n p)
+  pub like_halved : (channels : List Channel) (vars : List Var) (M n : ℕ) (p : Process) → IsProcess channels vars p → length vars ≤ n →
+      n + length (hidden_vars p) ≤ M → Like (length vars) M p (halved n p)
   like_halved channels vars M n skipping typed from to = alone same_skip
   like_halved channels vars M n (assigning x at e) typed from to = assign_like vars M n x at e (reads x e) typed.0 typed.1 from to
   like_halved channels vars M n (sending k at e) typed from to = alone (same_send (reads_below vars e typed.sent.reads))
@@ -107,46 +113,59 @@ mutual
   like_halved channels vars M n (choosing again choices) typed from to = alone (same_choice (choices_like channels vars M n choices typed.2 from to))
   like_halved channels vars M n (repeating p) typed from to = alone (same_repeat (like_halved channels vars M n p typed from to))
 
-  each_like : (channels : List Channel) (vars : List Var) (M n : ℕ) (members : Processes) → AreProcesses channels vars members → length vars ≤ n → n + length (hidden_in_each members) ≤ M → EachLike (length vars) M members (halved_each n members)
+  each_like : (channels : List Channel) (vars : List Var) (M n : ℕ) (members : Processes) → AreProcesses channels vars members → length vars ≤ n →
+      n + length (hidden_in_each members) ≤ M → EachLike (length vars) M members (halved_each n members)
   each_like channels vars M n no_members typed from to = each_none
   each_like channels vars M n (and_member p more) typed from to =
       let both = length-append (hidden_vars p) (hidden_in_each more) in
-      each_more (like_halved channels vars M n p typed.0 from (omega arith)) (each_like channels vars M (n + length (hidden_vars p)) more typed.1 (omega arith) (omega arith))
+      each_more (like_halved channels vars M n p typed.0 from (omega arith)) (each_like channels vars M (n + length (hidden_vars p)) more typed.1 (omega arith)
+          (omega arith))
 
-  choices_like : (channels : List Channel) (vars : List Var) (M n : ℕ) (choices : Choices) → AreChoices channels vars choices → length vars ≤ n → n + length (hidden_in_choices choices) ≤ M → ChoicesLike (length vars) M choices (halved_choices n choices)
+  choices_like : (channels : List Channel) (vars : List Var) (M n : ℕ) (choices : Choices) → AreChoices channels vars choices → length vars ≤ n →
+      n + length (hidden_in_choices choices) ≤ M → ChoicesLike (length vars) M choices (halved_choices n choices)
   choices_like channels vars M n no_choices typed from to = choice_none
   choices_like channels vars M n (and_choice g p more) typed from to =
       let both = length-append (hidden_vars p) (hidden_in_choices more) in
-      choice_more (reads_below vars g typed.0.reads) (like_halved channels vars M n p typed.1 from (omega arith)) (choices_like channels vars M (n + length (hidden_vars p)) more typed.2 (omega arith) (omega arith))
+      choice_more (reads_below vars g typed.0.reads) (like_halved channels vars M n p typed.1 from (omega arith))
+          (choices_like channels vars M (n + length (hidden_vars p)) more typed.2 (omega arith) (omega arith))
 
 -- what a statement reads and writes is declared
 
 mutual
   process_below : (channels : List Channel) (vars : List Var) (p : Process) → IsProcess channels vars p → Below (length vars) (occurrences p)
   process_below channels vars skipping typed = λ u i. absurd i
-  process_below channels vars (assigning x at e) typed = below_cons (length vars) (done_at (writes_var x) at) (reads_of e) typed.0 (formula_below vars e typed.1.reads)
-  process_below channels vars (sending k at e) typed = below_cons (length vars) (done_at (sends_on k) at) (reads_of e) tt (formula_below vars e typed.sent.reads)
-  process_below channels vars (receiving k s x t) typed = below_cons (length vars) (done_at (receives_on k) s) (done_at (writes_var x) t ∷ []) tt (below_cons (length vars) (done_at (writes_var x) t) [] typed.target (λ u i. absurd i))
+  process_below channels vars (assigning x at e) typed =
+      below_cons (length vars) (done_at (writes_var x) at) (reads_of e) typed.0 (formula_below vars e typed.1.reads)
+  process_below channels vars (sending k at e) typed =
+      below_cons (length vars) (done_at (sends_on k) at) (reads_of e) tt (formula_below vars e typed.sent.reads)
+  process_below channels vars (receiving k s x t) typed =
+      below_cons (length vars) (done_at (receives_on k) s) (done_at (writes_var x) t ∷ []) tt
+      (below_cons (length vars) (done_at (writes_var x) t) [] typed.target (λ u i. absurd i))
   process_below channels vars (in_turn members) typed = each_below channels vars members typed.1
   process_below channels vars (side_by_side members) typed = each_below channels vars members typed.1
   process_below channels vars (choosing again choices) typed = choices_below channels vars choices typed.2
   process_below channels vars (repeating p) typed = process_below channels vars p typed
 
-  each_below : (channels : List Channel) (vars : List Var) (members : Processes) → AreProcesses channels vars members → Below (length vars) (occurrences_of_each members)
+  each_below : (channels : List Channel) (vars : List Var) (members : Processes) → AreProcesses channels vars members →
+      Below (length vars) (occurrences_of_each members)
   each_below channels vars no_members typed = λ u i. absurd i
-  each_below channels vars (and_member p more) typed = below_append (length vars) (occurrences p) (occurrences_of_each more) (process_below channels vars p typed.0) (each_below channels vars more typed.1)
+  each_below channels vars (and_member p more) typed =
+      below_append (length vars) (occurrences p) (occurrences_of_each more) (process_below channels vars p typed.0) (each_below channels vars more typed.1)
 
-  choices_below : (channels : List Channel) (vars : List Var) (choices : Choices) → AreChoices channels vars choices → Below (length vars) (occurrences_of_choices choices)
+  choices_below : (channels : List Channel) (vars : List Var) (choices : Choices) → AreChoices channels vars choices →
+      Below (length vars) (occurrences_of_choices choices)
   choices_below channels vars no_choices typed = λ u i. absurd i
   choices_below channels vars (and_choice g p more) typed =
       below_append (length vars) (reads_of g) (occurrences p ++ occurrences_of_choices more) (formula_below vars g typed.0.reads)
-      (below_append (length vars) (occurrences p) (occurrences_of_choices more) (process_below channels vars p typed.1) (choices_below channels vars more typed.2))
+      (below_append (length vars) (occurrences p) (occurrences_of_choices more) (process_below channels vars p typed.1)
+          (choices_below channels vars more typed.2))
 
 -- in halves it does the same, and reads and writes its hidden variables
 abbrev Known : List Occurrence → (from to : ℕ) → List Occurrence → Type 0
 Known xs from to ys = (u : Occurrence) → In ys u → In xs u ⊎ DeedWithin from to u.deed
 
-known_append : (xs us ys vs : List Occurrence) (from mid to : ℕ) → from ≤ mid → mid ≤ to → Known xs from mid ys → Known us mid to vs → Known (xs ++ us) from to (ys ++ vs)
+known_append : (xs us ys vs : List Occurrence) (from mid to : ℕ) → from ≤ mid → mid ≤ to → Known xs from mid ys → Known us mid to vs →
+    Known (xs ++ us) from to (ys ++ vs)
 known_append xs us ys vs from mid to le ge f g u i = by_side (in_either ys vs u i)
   where
     first : In xs u ⊎ DeedWithin from mid u.deed → In (xs ++ us) u ⊎ DeedWithin from to u.deed
@@ -164,12 +183,14 @@ known_append xs us ys vs from mid to le ge f g u i = by_side (in_either ys vs u 
 known_reads : (from : ℕ) (g : Formula) → Known (reads_of g) from from (reads_of g)
 known_reads from g u i = inl i
 
-known_assign : (n x : ℕ) (at : Span) (e : Formula) (b : Bool) → Known (occurrences (assigning x at e)) n (n + length (hidden_of b e)) (occurrences (halved_assign b n x at e))
+known_assign : (n x : ℕ) (at : Span) (e : Formula) (b : Bool) →
+    Known (occurrences (assigning x at e)) n (n + length (hidden_of b e)) (occurrences (halved_assign b n x at e))
 known_assign n x at e false u i = inl i
 known_assign n x at e true u (inl same) = inr (subst (λ (z : Occurrence). DeedWithin n (n + 1) z.deed) same (omega arith, omega arith))
 known_assign n x at e true u (inr i) = by_side (in_either (reads_of e) (done_at (writes_var x) at ∷ done_at (reads_var n) at ∷ []) u i)
   where
-    by_side : In (reads_of e) u ⊎ In (done_at (writes_var x) at ∷ done_at (reads_var n) at ∷ []) u → In (done_at (writes_var x) at ∷ reads_of e) u ⊎ DeedWithin n (n + 1) u.deed
+    by_side : In (reads_of e) u ⊎ In (done_at (writes_var x) at ∷ done_at (reads_var n) at ∷ []) u →
+        In (done_at (writes_var x) at ∷ reads_of e) u ⊎ DeedWithin n (n + 1) u.deed
     by_side (inl h) = inl (inr h)
     by_side (inr (inl same)) = inl (inl same)
     by_side (inr (inr (inl same))) = inr (subst (λ (z : Occurrence). DeedWithin n (n + 1) z.deed) same (omega arith, omega arith))
@@ -189,29 +210,36 @@ mutual
   known n (choosing again choices) = choices_known n choices
   known n (repeating p) = known n p
 
-  each_known : (n : ℕ) (members : Processes) → Known (occurrences_of_each members) n (n + length (hidden_in_each members)) (occurrences_of_each (halved_each n members))
+  each_known : (n : ℕ) (members : Processes) →
+      Known (occurrences_of_each members) n (n + length (hidden_in_each members)) (occurrences_of_each (halved_each n members))
   each_known n no_members = λ u i. absurd i
   each_known n (and_member p more) =
       let l = length-append (hidden_vars p) (hidden_in_each more) in
       up_to (occurrences p ++ occurrences_of_each more) (occurrences (halved n p) ++ occurrences_of_each (halved_each (n + length (hidden_vars p)) more)) n
       (n + length (hidden_vars p) + length (hidden_in_each more)) (n + length (hidden_vars p ++ hidden_in_each more)) (omega arith)
-      (known_append (occurrences p) (occurrences_of_each more) (occurrences (halved n p)) (occurrences_of_each (halved_each (n + length (hidden_vars p)) more)) n (n + length (hidden_vars p)) (n + length (hidden_vars p) + length (hidden_in_each more)) (omega arith) (omega arith)
+      (known_append (occurrences p) (occurrences_of_each more) (occurrences (halved n p)) (occurrences_of_each (halved_each (n + length (hidden_vars p)) more))
+          n (n + length (hidden_vars p)) (n + length (hidden_vars p) + length (hidden_in_each more)) (omega arith) (omega arith)
       (known n p) (each_known (n + length (hidden_vars p)) more))
 
-  choices_known : (n : ℕ) (choices : Choices) → Known (occurrences_of_choices choices) n (n + length (hidden_in_choices choices)) (occurrences_of_choices (halved_choices n choices))
+  choices_known : (n : ℕ) (choices : Choices) →
+      Known (occurrences_of_choices choices) n (n + length (hidden_in_choices choices)) (occurrences_of_choices (halved_choices n choices))
   choices_known n no_choices = λ u i. absurd i
   choices_known n (and_choice g p more) =
       let l = length-append (hidden_vars p) (hidden_in_choices more) in
       let mid = n + length (hidden_vars p) in
-      up_to (reads_of g ++ (occurrences p ++ occurrences_of_choices more)) (reads_of g ++ (occurrences (halved n p) ++ occurrences_of_choices (halved_choices mid more))) n
+      up_to (reads_of g ++ (occurrences p ++ occurrences_of_choices more)) (reads_of g
+          ++ (occurrences (halved n p) ++ occurrences_of_choices (halved_choices mid more))) n
       (mid + length (hidden_in_choices more)) (n + length (hidden_vars p ++ hidden_in_choices more)) (omega arith)
-      (known_append (reads_of g) (occurrences p ++ occurrences_of_choices more) (reads_of g) (occurrences (halved n p) ++ occurrences_of_choices (halved_choices mid more)) n n (mid + length (hidden_in_choices more)) (omega arith) (omega arith) (known_reads n g)
-      (known_append (occurrences p) (occurrences_of_choices more) (occurrences (halved n p)) (occurrences_of_choices (halved_choices mid more)) n mid (mid + length (hidden_in_choices more)) (omega arith) (omega arith)
+      (known_append (reads_of g) (occurrences p ++ occurrences_of_choices more) (reads_of g) (occurrences (halved n p)
+          ++ occurrences_of_choices (halved_choices mid more)) n n (mid + length (hidden_in_choices more)) (omega arith) (omega arith) (known_reads n g)
+      (known_append (occurrences p) (occurrences_of_choices more) (occurrences (halved n p)) (occurrences_of_choices (halved_choices mid more)) n mid
+          (mid + length (hidden_in_choices more)) (omega arith) (omega arith)
       (known n p) (choices_known mid more)))
 
 -- no two parallel branches are in conflict, as before
 
-apart_known : (N n mid to : ℕ) (xs us ys vs : List Occurrence) → N ≤ n → n ≤ mid → Below N xs → Below N us → Known xs n mid ys → Known us mid to vs → Apart xs us → Apart ys vs
+apart_known : (N n mid to : ℕ) (xs us ys vs : List Occurrence) → N ≤ n → n ≤ mid → Below N xs → Below N us → Known xs n mid ys → Known us mid to vs →
+    Apart xs us → Apart ys vs
 apart_known N n mid to xs us ys vs le ge first second f g apart u v hu hv c = by_side (f u hu) (g v hv)
   where
     by_side : In xs u ⊎ DeedWithin n mid u.deed → In us v ⊎ DeedWithin mid to v.deed → ⊥
@@ -231,25 +259,33 @@ mutual
   halved_sound channels vars n (sending k at e) typed le s = tt
   halved_sound channels vars n (receiving k t x u) typed le s = tt
   halved_sound channels vars n (in_turn members) typed le s = each_halved_sound channels vars n members typed.1 le s
-  halved_sound channels vars n (side_by_side members) typed le s = (each_halved_sound channels vars n members typed.1 le s.0, each_halved_apart channels vars n members typed.1 le s.1)
+  halved_sound channels vars n (side_by_side members) typed le s =
+      (each_halved_sound channels vars n members typed.1 le s.0, each_halved_apart channels vars n members typed.1 le s.1)
   halved_sound channels vars n (choosing again choices) typed le s = choices_halved_sound channels vars n choices typed.2 le s
   halved_sound channels vars n (repeating p) typed le s = halved_sound channels vars n p typed le s
 
-  each_halved_sound : (channels : List Channel) (vars : List Var) (n : ℕ) (members : Processes) → AreProcesses channels vars members → length vars ≤ n → EachSound members → EachSound (halved_each n members)
+  each_halved_sound : (channels : List Channel) (vars : List Var) (n : ℕ) (members : Processes) → AreProcesses channels vars members → length vars ≤ n →
+      EachSound members → EachSound (halved_each n members)
   each_halved_sound channels vars n no_members typed le s = tt
-  each_halved_sound channels vars n (and_member p more) typed le s = (halved_sound channels vars n p typed.0 le s.0, each_halved_sound channels vars (n + length (hidden_vars p)) more typed.1 (omega arith) s.1)
+  each_halved_sound channels vars n (and_member p more) typed le s =
+      (halved_sound channels vars n p typed.0 le s.0, each_halved_sound channels vars (n + length (hidden_vars p)) more typed.1 (omega arith) s.1)
 
-  each_halved_apart : (channels : List Channel) (vars : List Var) (n : ℕ) (members : Processes) → AreProcesses channels vars members → length vars ≤ n → EachApart members → EachApart (halved_each n members)
+  each_halved_apart : (channels : List Channel) (vars : List Var) (n : ℕ) (members : Processes) → AreProcesses channels vars members → length vars ≤ n →
+      EachApart members → EachApart (halved_each n members)
   each_halved_apart channels vars n no_members typed le s = tt
   each_halved_apart channels vars n (and_member p more) typed le s = (
-    apart_known (length vars) n (n + length (hidden_vars p)) (n + length (hidden_vars p) + length (hidden_in_each more)) (occurrences p) (occurrences_of_each more) (occurrences (halved n p)) (occurrences_of_each (halved_each (n + length (hidden_vars p)) more))
-        le (omega arith) (process_below channels vars p typed.0) (each_below channels vars more typed.1) (known n p) (each_known (n + length (hidden_vars p)) more) s.0,
+    apart_known (length vars) n (n + length (hidden_vars p)) (n + length (hidden_vars p) + length (hidden_in_each more)) (occurrences p)
+        (occurrences_of_each more) (occurrences (halved n p)) (occurrences_of_each (halved_each (n + length (hidden_vars p)) more))
+        le (omega arith) (process_below channels vars p typed.0) (each_below channels vars more typed.1) (known n p)
+            (each_known (n + length (hidden_vars p)) more) s.0,
     each_halved_apart channels vars (n + length (hidden_vars p)) more typed.1 (omega arith) s.1,
   )
 
-  choices_halved_sound : (channels : List Channel) (vars : List Var) (n : ℕ) (choices : Choices) → AreChoices channels vars choices → length vars ≤ n → ChoicesSound choices → ChoicesSound (halved_choices n choices)
+  choices_halved_sound : (channels : List Channel) (vars : List Var) (n : ℕ) (choices : Choices) → AreChoices channels vars choices → length vars ≤ n →
+      ChoicesSound choices → ChoicesSound (halved_choices n choices)
   choices_halved_sound channels vars n no_choices typed le s = tt
-  choices_halved_sound channels vars n (and_choice g p more) typed le s = (halved_sound channels vars n p typed.1 le s.0, choices_halved_sound channels vars (n + length (hidden_vars p)) more typed.2 (omega arith) s.1)
+  choices_halved_sound channels vars n (and_choice g p more) typed le s =
+      (halved_sound channels vars n p typed.1 le s.0, choices_halved_sound channels vars (n + length (hidden_vars p)) more typed.2 (omega arith) s.1)
 
 -- so the sharing rule is met
 
@@ -310,5 +346,7 @@ sound_meets p s = record {
   receives = λ a b h c. sound_clean p a b s h (receives_conflict a.deed b.deed c);
 }
 
-pub halved_meets : (channels : List Channel) (vars : List Var) (p : Process) → IsProcess channels vars p → MeetsSharing p → MeetsSharing (halved (length vars) p)
-halved_meets channels vars p typed meets = sound_meets (halved (length vars) p) (halved_sound channels vars (length vars) p typed (omega arith) (meeting_sound p meets))
+pub halved_meets : (channels : List Channel) (vars : List Var) (p : Process) → IsProcess channels vars p → MeetsSharing p →
+    MeetsSharing (halved (length vars) p)
+halved_meets channels vars p typed meets =
+    sound_meets (halved (length vars) p) (halved_sound channels vars (length vars) p typed (omega arith) (meeting_sound p meets))

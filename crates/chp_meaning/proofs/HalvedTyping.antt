@@ -50,11 +50,13 @@ mutual
 
   operations_unread : (vars : List Var) (n : ℕ) (more : Operations) → AllReadFrom vars more → length vars ≤ n → reads_in_operations n more ≡ false
   operations_unread vars n no_operations f le = refl
-  operations_unread vars n (and_operation op e more) f le = neither (reads n e) (reads_in_operations n more) (unread vars n e f.0 le) (operations_unread vars n more f.1 le)
+  operations_unread vars n (and_operation op e more) f le =
+      neither (reads n e) (reads_in_operations n more) (unread vars n e f.0 le) (operations_unread vars n more f.1 le)
 
 -- so no assignment in halves reads its own target
 
-assign_plain : (vars : List Var) (n x : ℕ) (at : Span) (e : Formula) (b : Bool) → reads x e ≡ b → ReadsFrom vars e → x < length vars → length vars ≤ n → ReadsNoTarget (halved_assign b n x at e)
+assign_plain : (vars : List Var) (n x : ℕ) (at : Span) (e : Formula) (b : Bool) → reads x e ≡ b → ReadsFrom vars e → x < length vars → length vars ≤ n →
+    ReadsNoTarget (halved_assign b n x at e)
 assign_plain vars n x at e false none f below le = none
 assign_plain vars n x at e true some f below le = (unread vars n e f le, (apart (eqb_tells n x), tt))
   where
@@ -73,13 +75,17 @@ mutual
   halved_plain channels vars n (choosing again choices) typed le = choices_plain channels vars n choices typed.2 le
   halved_plain channels vars n (repeating p) typed le = halved_plain channels vars n p typed le
 
-  each_plain : (channels : List Channel) (vars : List Var) (n : ℕ) (members : Processes) → AreProcesses channels vars members → length vars ≤ n → EachReadsNoTarget (halved_each n members)
+  each_plain : (channels : List Channel) (vars : List Var) (n : ℕ) (members : Processes) → AreProcesses channels vars members → length vars ≤ n →
+      EachReadsNoTarget (halved_each n members)
   each_plain channels vars n no_members typed le = tt
-  each_plain channels vars n (and_member p more) typed le = (halved_plain channels vars n p typed.0 le, each_plain channels vars (n + length (hidden_vars p)) more typed.1 (omega arith))
+  each_plain channels vars n (and_member p more) typed le =
+      (halved_plain channels vars n p typed.0 le, each_plain channels vars (n + length (hidden_vars p)) more typed.1 (omega arith))
 
-  choices_plain : (channels : List Channel) (vars : List Var) (n : ℕ) (choices : Choices) → AreChoices channels vars choices → length vars ≤ n → ChoicesReadNoTarget (halved_choices n choices)
+  choices_plain : (channels : List Channel) (vars : List Var) (n : ℕ) (choices : Choices) → AreChoices channels vars choices → length vars ≤ n →
+      ChoicesReadNoTarget (halved_choices n choices)
   choices_plain channels vars n no_choices typed le = tt
-  choices_plain channels vars n (and_choice g p more) typed le = (halved_plain channels vars n p typed.1 le, choices_plain channels vars (n + length (hidden_vars p)) more typed.2 (omega arith))
+  choices_plain channels vars n (and_choice g p more) typed le =
+      (halved_plain channels vars n p typed.1 le, choices_plain channels vars (n + length (hidden_vars p)) more typed.2 (omega arith))
 
 -- more variables
 
@@ -118,11 +124,14 @@ placed_on vars seen (v ∷ vs) =
     let number : length vars + length (seen ++ v ∷ []) ≡ suc (length vars + length seen) = omega arith in (
       omega arith,
       width_after vars (seen ++ v ∷ vs) (length seen) ∙ at_seen,
-      subst (λ xs. Placed (vars ++ xs) (suc (length vars + length seen)) vs) (sym shifted) (placed_from (vars ++ ((seen ++ v ∷ []) ++ vs)) (length vars + length (seen ++ v ∷ [])) (suc (length vars + length seen)) vs number (placed_on vars (seen ++ v ∷ []) vs)),
+      subst (λ xs. Placed (vars ++ xs) (suc (length vars + length seen)) vs) (sym shifted)
+          (placed_from (vars ++ ((seen ++ v ∷ []) ++ vs)) (length vars + length (seen ++ v ∷ [])) (suc (length vars + length seen)) vs number
+          (placed_on vars (seen ++ v ∷ []) vs)),
     )
 
 placed_behind : (vars vs : List Var) → Placed (vars ++ vs) (length vars) vs
-placed_behind vars vs = let e : length vars + 0 ≡ length vars = omega arith in placed_from (vars ++ vs) (length vars + 0) (length vars) vs e (placed_on vars [] vs)
+placed_behind vars vs = let e : length vars + 0 ≡ length vars = omega arith in
+    placed_from (vars ++ vs) (length vars + 0) (length vars) vs e (placed_on vars [] vs)
 
 width_before : (vars vs : List Var) (x : ℕ) → x < length vars → var_width (vars ++ vs) x ≡ var_width vars x
 width_before [] vs x l = absurd (omega (arith, l))
@@ -152,9 +161,11 @@ mutual
 width_still : (vars vs : List Var) (w : ℕ) (e : Formula) → IsOfWidth vars w e → IsOfWidth (vars ++ vs) w e
 width_still vars vs w e h = record { formed = h.formed; reads = reads_still vars vs e h.reads; agrees = h.agrees }
 
-assign_typed : (channels : List Channel) (vars vs : List Var) (n x : ℕ) (at : Span) (e : Formula) (b : Bool) → x < length vars → IsOfWidth vars (var_width vars x) e → Placed (vars ++ vs) n (hidden_of b e) → IsProcess channels (vars ++ vs) (halved_assign b n x at e)
+assign_typed : (channels : List Channel) (vars vs : List Var) (n x : ℕ) (at : Span) (e : Formula) (b : Bool) → x < length vars →
+    IsOfWidth vars (var_width vars x) e → Placed (vars ++ vs) n (hidden_of b e) → IsProcess channels (vars ++ vs) (halved_assign b n x at e)
 assign_typed channels vars vs n x at e false below typed placed =
-    (declared_still vars vs x below, subst (λ w. IsOfWidth (vars ++ vs) w e) (sym (width_before vars vs x below)) (width_still vars vs (var_width vars x) e typed))
+    (declared_still vars vs x below, subst (λ w. IsOfWidth (vars ++ vs) w e) (sym (width_before vars vs x below))
+        (width_still vars vs (var_width vars x) e typed))
 assign_typed channels vars vs n x at e true below typed placed =
     let some = width_some e typed.formed in
     let most = width_most e typed.formed in
@@ -177,14 +188,19 @@ choices_count n no_choices = refl
 choices_count n (and_choice g p more) = ap suc (choices_count (n + length (hidden_vars p)) more)
 
 mutual
-  halved_typed : (channels : List Channel) (vars vs : List Var) (n : ℕ) (p : Process) → IsProcess channels vars p → Placed (vars ++ vs) n (hidden_vars p) → IsProcess channels (vars ++ vs) (halved n p)
+  halved_typed : (channels : List Channel) (vars vs : List Var) (n : ℕ) (p : Process) → IsProcess channels vars p → Placed (vars ++ vs) n (hidden_vars p) →
+      IsProcess channels (vars ++ vs) (halved n p)
   halved_typed channels vars vs n skipping typed placed = tt
   halved_typed channels vars vs n (assigning x at e) typed placed = assign_typed channels vars vs n x at e (reads x e) typed.0 typed.1 placed
-  halved_typed channels vars vs n (sending k at e) typed placed = record { within = typed.within; direction = typed.direction; sent = width_still vars vs _ e typed.sent }
+  halved_typed channels vars vs n (sending k at e) typed placed =
+      record { within = typed.within; direction = typed.direction; sent = width_still vars vs _ e typed.sent }
   halved_typed channels vars vs n (receiving k s x t) typed placed =
-      record { within = typed.within; direction = typed.direction; target = declared_still vars vs x typed.target; widths = width_before vars vs x typed.target ∙ typed.widths }
-  halved_typed channels vars vs n (in_turn members) typed placed = (let e = each_count n members in let two = typed.0 in omega arith, each_typed channels vars vs n members typed.1 placed)
-  halved_typed channels vars vs n (side_by_side members) typed placed = (let e = each_count n members in let two = typed.0 in omega arith, each_typed channels vars vs n members typed.1 placed)
+      record { within = typed.within; direction = typed.direction; target = declared_still vars vs x typed.target; widths =
+          width_before vars vs x typed.target ∙ typed.widths }
+  halved_typed channels vars vs n (in_turn members) typed placed =
+      (let e = each_count n members in let two = typed.0 in omega arith, each_typed channels vars vs n members typed.1 placed)
+  halved_typed channels vars vs n (side_by_side members) typed placed =
+      (let e = each_count n members in let two = typed.0 in omega arith, each_typed channels vars vs n members typed.1 placed)
   halved_typed channels vars vs n (choosing again choices) typed placed =
       let e = choices_count n choices in
       let some = typed.0 in
@@ -192,14 +208,16 @@ mutual
       (omega arith, omega arith, choices_typed channels vars vs n choices typed.2 placed)
   halved_typed channels vars vs n (repeating p) typed placed = halved_typed channels vars vs n p typed placed
 
-  each_typed : (channels : List Channel) (vars vs : List Var) (n : ℕ) (members : Processes) → AreProcesses channels vars members → Placed (vars ++ vs) n (hidden_in_each members) → AreProcesses channels (vars ++ vs) (halved_each n members)
+  each_typed : (channels : List Channel) (vars vs : List Var) (n : ℕ) (members : Processes) → AreProcesses channels vars members →
+      Placed (vars ++ vs) n (hidden_in_each members) → AreProcesses channels (vars ++ vs) (halved_each n members)
   each_typed channels vars vs n no_members typed placed = tt
   each_typed channels vars vs n (and_member p more) typed placed = (
     halved_typed channels vars vs n p typed.0 (placed_left (vars ++ vs) n (hidden_vars p) (hidden_in_each more) placed),
     each_typed channels vars vs (n + length (hidden_vars p)) more typed.1 (placed_right (vars ++ vs) n (hidden_vars p) (hidden_in_each more) placed),
   )
 
-  choices_typed : (channels : List Channel) (vars vs : List Var) (n : ℕ) (choices : Choices) → AreChoices channels vars choices → Placed (vars ++ vs) n (hidden_in_choices choices) → AreChoices channels (vars ++ vs) (halved_choices n choices)
+  choices_typed : (channels : List Channel) (vars vs : List Var) (n : ℕ) (choices : Choices) → AreChoices channels vars choices →
+      Placed (vars ++ vs) n (hidden_in_choices choices) → AreChoices channels (vars ++ vs) (halved_choices n choices)
   choices_typed channels vars vs n no_choices typed placed = tt
   choices_typed channels vars vs n (and_choice g p more) typed placed = (
     width_still vars vs 1 g typed.0,
@@ -212,7 +230,8 @@ mutual
 hidden_sized : (vars : List Var) (w : ℕ) (e : Formula) (b : Bool) → IsOfWidth vars w e → All IsSizedVar (hidden_of b e)
 hidden_sized vars w e false typed = All-nil IsSizedVar
 hidden_sized vars w e true typed =
-    All-cons IsSizedVar (hidden_var e) [] (record { some = width_some e typed.formed; most = width_most e typed.formed; first = pow_pos (width_of e) }) (All-nil IsSizedVar)
+    All-cons IsSizedVar (hidden_var e) [] (record { some = width_some e typed.formed; most = width_most e typed.formed; first = pow_pos (width_of e) })
+        (All-nil IsSizedVar)
 
 mutual
   each_sized : (channels : List Channel) (vars : List Var) (p : Process) → IsProcess channels vars p → All IsSizedVar (hidden_vars p)
@@ -225,13 +244,17 @@ mutual
   each_sized channels vars (choosing again choices) typed = choices_sized channels vars choices typed.2
   each_sized channels vars (repeating p) typed = each_sized channels vars p typed
 
-  members_sized : (channels : List Channel) (vars : List Var) (members : Processes) → AreProcesses channels vars members → All IsSizedVar (hidden_in_each members)
+  members_sized : (channels : List Channel) (vars : List Var) (members : Processes) → AreProcesses channels vars members →
+      All IsSizedVar (hidden_in_each members)
   members_sized channels vars no_members typed = All-nil IsSizedVar
-  members_sized channels vars (and_member p more) typed = All-append IsSizedVar (hidden_vars p) (hidden_in_each more) (each_sized channels vars p typed.0) (members_sized channels vars more typed.1)
+  members_sized channels vars (and_member p more) typed =
+      All-append IsSizedVar (hidden_vars p) (hidden_in_each more) (each_sized channels vars p typed.0) (members_sized channels vars more typed.1)
 
-  choices_sized : (channels : List Channel) (vars : List Var) (choices : Choices) → AreChoices channels vars choices → All IsSizedVar (hidden_in_choices choices)
+  choices_sized : (channels : List Channel) (vars : List Var) (choices : Choices) → AreChoices channels vars choices →
+      All IsSizedVar (hidden_in_choices choices)
   choices_sized channels vars no_choices typed = All-nil IsSizedVar
-  choices_sized channels vars (and_choice g p more) typed = All-append IsSizedVar (hidden_vars p) (hidden_in_choices more) (each_sized channels vars p typed.1) (choices_sized channels vars more typed.2)
+  choices_sized channels vars (and_choice g p more) typed =
+      All-append IsSizedVar (hidden_vars p) (hidden_in_choices more) (each_sized channels vars p typed.1) (choices_sized channels vars more typed.2)
 
 declared_sized : (vars : List Var) → All IsDeclaredVar vars → All IsSizedVar vars
 declared_sized [] h = All-nil IsSizedVar
@@ -258,14 +281,17 @@ halves_plain p typed meets = record {
 abbrev first_values : List Var → List ℕ
 first_values vars = map (λ (v : Var). v.first) vars
 
-start_near : (p : TypedProgram) (script : List OfferValue) → IsTyped p.channels p.vars p.body → MeetsSharing p.body → Near (length p.vars) (length (p.vars ++ hidden_vars p.body)) (start_of p script) (start_of (halved_program p) script)
+start_near : (p : TypedProgram) (script : List OfferValue) → IsTyped p.channels p.vars p.body → MeetsSharing p.body →
+    Near (length p.vars) (length (p.vars ++ hidden_vars p.body)) (start_of p script) (start_of (halved_program p) script)
 start_near p script typed meets =
     let l = length-append p.vars (hidden_vars p.body) in
     record {
-      alike = like_opened (like_halved p.channels p.vars (length (p.vars ++ hidden_vars p.body)) (length p.vars) p.body typed.body_is (omega arith) (omega arith));
+      alike = like_opened (like_halved p.channels p.vars (length (p.vars ++ hidden_vars p.body)) (length p.vars) p.body typed.body_is (omega arith)
+          (omega arith));
       stores = λ x below.
           let e = length-map p.vars (λ (v : Var). v.first) in
-          let first : slice_index (first_values p.vars ++ first_values (hidden_vars p.body)) x ≡ slice_index (first_values p.vars) x = get_or-append (first_values p.vars) (first_values (hidden_vars p.body)) 0 x (omega arith) in
+          let first : slice_index (first_values p.vars ++ first_values (hidden_vars p.body)) x ≡ slice_index (first_values p.vars) x =
+              get_or-append (first_values p.vars) (first_values (hidden_vars p.body)) 0 x (omega arith) in
           sym (ap (λ s. slice_index s x) (map-append (λ (v : Var). v.first) p.vars (hidden_vars p.body)) ∙ first);
       old_length = length-map p.vars (λ (v : Var). v.first);
       new_length = length-map (p.vars ++ hidden_vars p.body) (λ (v : Var). v.first);
@@ -273,7 +299,8 @@ start_near p script typed meets =
       rests = refl;
       histories = refl;
       fits = opened_fits p.body (meeting_sound p.body meets);
-      new_fits = opened_fits (halved (length p.vars) p.body) (meeting_sound (halved (length p.vars) p.body) (halved_meets p.channels p.vars p.body typed.body_is meets));
+      new_fits = opened_fits (halved (length p.vars) p.body)
+          (meeting_sound (halved (length p.vars) p.body) (halved_meets p.channels p.vars p.body typed.body_is meets));
     }
 
 pub halves_follow : HalvesFollow

@@ -60,10 +60,12 @@ data AllLike (N M : ℕ) : List Process → List Process → Type 0 where
 open_alike : (N M : ℕ) (c d : Configuration) → Near N M c d → {cs ds : Choices} → ChoicesLike N M cs ds → AllLike N M (open_branches c cs) (open_branches d ds)
 open_alike N M c d n choice_none = like_none
 open_alike N M c d n (choice_more {g = g} {p = p} {q = q} {cs = cs} {ds = ds} below l more) =
-    subst (λ v. AllLike N M (open_branches c (and_choice g p cs)) (if v == 1 then q ∷ open_branches d ds else open_branches d ds)) (values_near N M c d n g below)
+    subst (λ v. AllLike N M (open_branches c (and_choice g p cs)) (if v == 1 then q ∷ open_branches d ds else open_branches d ds))
+        (values_near N M c d n g below)
     (by_test (value_in c g == 1) (open_alike N M c d n more))
   where
-    by_test : (b : Bool) → AllLike N M (open_branches c cs) (open_branches d ds) → AllLike N M (if b then p ∷ open_branches c cs else open_branches c cs) (if b then q ∷ open_branches d ds else open_branches d ds)
+    by_test : (b : Bool) → AllLike N M (open_branches c cs) (open_branches d ds) →
+        AllLike N M (if b then p ∷ open_branches c cs else open_branches c cs) (if b then q ∷ open_branches d ds else open_branches d ds)
     by_test true rest = like_more l rest
     by_test false rest = rest
 
@@ -91,29 +93,37 @@ nothing_kept : (store : List ℕ) (t : Term) (a : Place) → OthersKept store st
 nothing_kept store t a w p n h x at i = refl
 
 -- a written variable is read at no other place
-write_kept : (store : List ℕ) (t : Term) (a : Place) (q : Process) (y v : ℕ) (s : Span) → Fits t → statement_at t a ≡ Some q → In (occurrences q) (done_at (writes_var y) s) → OthersKept store (slice_set store y v) t a
+write_kept : (store : List ℕ) (t : Term) (a : Place) (q : Process) (y v : ℕ) (s : Span) → Fits t → statement_at t a ≡ Some q →
+    In (occurrences q) (done_at (writes_var y) s) → OthersKept store (slice_set store y v) t a
 write_kept store t a q y v s f on i w p n h x at j =
     get_or-set_other store y x v 0 (λ e. places_apart t w a p q f n h on (done_at (reads_var x) at) (done_at (writes_var y) s) j i e)
 
-written_both : (old new : List ℕ) (N x v : ℕ) → x < length old → x < length new → ((y : ℕ) → y < N → slice_index old y ≡ slice_index new y) → (y : ℕ) → y < N → slice_index (slice_set old x v) y ≡ slice_index (slice_set new x v) y
+written_both : (old new : List ℕ) (N x v : ℕ) → x < length old → x < length new → ((y : ℕ) → y < N → slice_index old y ≡ slice_index new y) → (y : ℕ) → y < N →
+    slice_index (slice_set old x v) y ≡ slice_index (slice_set new x v) y
 written_both old new N x v first second same y below = by_number (cases_eq y x)
   where
     by_number : (y ≡ x) ⊎ (y ≡ x → ⊥) → slice_index (slice_set old x v) y ≡ slice_index (slice_set new x v) y
-    by_number (inl e) = ap (λ k. slice_index (slice_set old x v) k) e ∙ (get_or-set_same old x v 0 first ∙ (sym (get_or-set_same new x v 0 second) ∙ sym (ap (λ k. slice_index (slice_set new x v) k) e)))
+    by_number (inl e) = ap (λ k. slice_index (slice_set old x v) k) e
+        ∙ (get_or-set_same old x v 0 first ∙ (sym (get_or-set_same new x v 0 second) ∙ sym (ap (λ k. slice_index (slice_set new x v) k) e)))
     by_number (inr n) = get_or-set_other old x y v 0 n ∙ (same y below ∙ sym (get_or-set_other new x y v 0 n))
 
 -- steps that leave the stores as they are
-quiet : (N M : ℕ) (c d : Configuration) → Near N M c d → (a b : Place) (l m : Term) → Step c a (leaving c a l) → Step d b (leaving d b m) → Alike N M c.store d.store (with_left c.term a l) (with_left d.term b m) → Followed N M c (leaving d b m)
+quiet : (N M : ℕ) (c d : Configuration) → Near N M c d → (a b : Place) (l m : Term) → Step c a (leaving c a l) → Step d b (leaving d b m) →
+    Alike N M c.store d.store (with_left c.term a l) (with_left d.term b m) → Followed N M c (leaving d b m)
 quiet N M c d n a b l m s u alike = record {
   to = leaving c a l;
   steps = 1;
   few = omega arith;
   leads = one_step s no_step;
-  near = record { alike = alike; stores = n.stores; old_length = n.old_length; new_length = n.new_length; more = n.more; rests = n.rests; histories = n.histories; fits = step_fits n.fits s; new_fits = step_fits n.new_fits u };
+  near = record { alike = alike; stores = n.stores; old_length = n.old_length; new_length = n.new_length; more = n.more; rests = n.rests; histories =
+      n.histories; fits = step_fits n.fits s; new_fits = step_fits n.new_fits u };
 }
 
 -- both write one value
-wrote : (N M : ℕ) (c d : Configuration) → Near N M c d → (a b : Place) (x v : ℕ) → x < N → Step c a (storing (leaving c a finished) x v) → Step d b (storing (leaving d b finished) x v) → Alike N M (slice_set c.store x v) (slice_set d.store x v) (with_left c.term a finished) (with_left d.term b finished) → Followed N M c (storing (leaving d b finished) x v)
+wrote : (N M : ℕ) (c d : Configuration) → Near N M c d → (a b : Place) (x v : ℕ) → x < N → Step c a (storing (leaving c a finished) x v) →
+    Step d b (storing (leaving d b finished) x v) →
+    Alike N M (slice_set c.store x v) (slice_set d.store x v) (with_left c.term a finished) (with_left d.term b finished) →
+    Followed N M c (storing (leaving d b finished) x v)
 wrote N M c d n a b x v below s u alike = record {
   to = storing (leaving c a finished) x v;
   steps = 1;
@@ -133,8 +143,11 @@ wrote N M c d n a b x v below s u alike = record {
 }
 
 -- a first half: the program makes no step
-begun : (N M : ℕ) (c d : Configuration) → Near N M c d → (b : Place) (x h : ℕ) (at : Span) (e : Formula) (i : Halving N M x h e) → statement_at d.term b ≡ Some (assigning h at e) → (a : Place) → statement_at c.term a ≡ Some (assigning x at e)
-    → ((old' new' : List ℕ) (l m : Term) → OthersKept c.store old' c.term a → OthersKept d.store new' d.term b → Alike N M old' new' l (followed m (and_member (assigning x at (read_back h e at)) no_members)) → Alike N M old' new' (with_left c.term a l) (with_left d.term b m))
+begun : (N M : ℕ) (c d : Configuration) → Near N M c d → (b : Place) (x h : ℕ) (at : Span) (e : Formula) (i : Halving N M x h e) →
+    statement_at d.term b ≡ Some (assigning h at e) → (a : Place) → statement_at c.term a ≡ Some (assigning x at e)
+    → ((old' new' : List ℕ) (l m : Term) → OthersKept c.store old' c.term a → OthersKept d.store new' d.term b →
+        Alike N M old' new' l (followed m (and_member (assigning x at (read_back h e at)) no_members)) →
+        Alike N M old' new' (with_left c.term a l) (with_left d.term b m))
     → Followed N M c (storing (leaving d b finished) h (value_in d e))
 begun N M c d n b x h at e i there a on put = record {
   to = c;
@@ -160,7 +173,8 @@ begun N M c d n b x h at e i there a on put = record {
     full =
         let l : h < length d.store = let k = i.within in let m = n.new_length in omega arith in
         ap (λ v. v / 2 ^ 0 % 2 ^ (width_of e - 1 + 1 - 0)) (get_or-set_same d.store h (value_in d e) 0 l)
-        ∙ (whole_value (value_in d e) (width_of e) (width_some e i.formed) (value_fits (slice_index d.store) e i.formed) ∙ sym (values_near N M c d n e i.below))
+        ∙ (whole_value (value_in d e) (width_of e) (width_some e i.formed) (value_fits (slice_index d.store) e i.formed)
+            ∙ sym (values_near N M c d n e i.below))
 
 -- statements that are no assignments go along with their own kind
 
@@ -178,15 +192,19 @@ record Plainly (N M : ℕ) (old new : List ℕ) (t u : Term) (b : Place) (q : Pr
   process : Process
   on : statement_at t place ≡ Some process
   same : Same N M process q
-  put : (old' new' : List ℕ) (l m : Term) → OthersKept old old' t place → OthersKept new new' u b → Alike N M old' new' l m → Alike N M old' new' (with_left t place l) (with_left u b m)
+  put : (old' new' : List ℕ) (l m : Term) → OthersKept old old' t place → OthersKept new new' u b → Alike N M old' new' l m →
+      Alike N M old' new' (with_left t place l) (with_left u b m)
 
-plainly_by : (N M : ℕ) (old new : List ℕ) (t u : Term) (b : Place) (q : Process) → is_assigning q ≡ false → (w : Place) (p : Process) → statement_at t w ≡ Some p → (pair : Pair N M old new p q)
-    → ((old' new' : List ℕ) (l m : Term) → OthersKept old old' t w → OthersKept new new' u b → Alike N M old' new' l (behind pair m) → Alike N M old' new' (with_left t w l) (with_left u b m)) → Plainly N M old new t u b q
+plainly_by : (N M : ℕ) (old new : List ℕ) (t u : Term) (b : Place) (q : Process) → is_assigning q ≡ false → (w : Place) (p : Process) →
+    statement_at t w ≡ Some p → (pair : Pair N M old new p q)
+    → ((old' new' : List ℕ) (l m : Term) → OthersKept old old' t w → OthersKept new new' u b → Alike N M old' new' l (behind pair m) →
+        Alike N M old' new' (with_left t w l) (with_left u b m)) → Plainly N M old new t u b q
 plainly_by N M old new t u b q calm w p there (pair_same s) put = record { place = w; process = p; on = there; same = s; put = put }
 plainly_by N M old new t u b q calm w p there (pair_first i) put = absurd (cc calm)
 plainly_by N M old new t u b q calm w p there (pair_second i v) put = absurd (cc calm)
 
-plainly : (N M : ℕ) (old new : List ℕ) (t u : Term) (b : Place) (q : Process) → is_assigning q ≡ false → Alike N M old new t u → statement_at u b ≡ Some q → Plainly N M old new t u b q
+plainly : (N M : ℕ) (old new : List ℕ) (t u : Term) (b : Place) (q : Process) → is_assigning q ≡ false → Alike N M old new t u → statement_at u b ≡ Some q →
+    Plainly N M old new t u b q
 plainly N M old new t u b q calm a on = let r = find a b q on in plainly_by N M old new t u b q calm r.place r.process r.on r.pair r.put
 
 skip_before : {N M : ℕ} {p : Process} → Same N M p skipping → p ≡ skipping
@@ -207,10 +225,12 @@ receive_before (same_receive x) = (refl, x)
 receive_after : {N M k x : ℕ} {s t : Span} {q : Process} → Same N M (receiving k s x t) q → (q ≡ receiving k s x t) × (x < N)
 receive_after (same_receive x) = (refl, x)
 
-choice_before : {N M : ℕ} {again : Bool} {ds : Choices} {p : Process} → Same N M p (choosing again ds) → (cs : Choices) × (p ≡ choosing again cs) × ChoicesLike N M cs ds
+choice_before : {N M : ℕ} {again : Bool} {ds : Choices} {p : Process} → Same N M p (choosing again ds) → (cs : Choices) × (p ≡ choosing again cs)
+    × ChoicesLike N M cs ds
 choice_before (same_choice {cs = cs} l) = (cs, refl, l)
 
-choice_after : {N M : ℕ} {again : Bool} {cs : Choices} {q : Process} → Same N M (choosing again cs) q → (ds : Choices) × (q ≡ choosing again ds) × ChoicesLike N M cs ds
+choice_after : {N M : ℕ} {again : Bool} {cs : Choices} {q : Process} → Same N M (choosing again cs) q → (ds : Choices) × (q ≡ choosing again ds)
+    × ChoicesLike N M cs ds
 choice_after (same_choice {ds = ds} l) = (ds, refl, l)
 
 repeat_before : {N M : ℕ} {q p : Process} → Same N M p (repeating q) → (r : Process) × (p ≡ repeating r) × Like N M r q
@@ -221,33 +241,42 @@ repeat_after (same_repeat {q = q} l) = (q, refl, l)
 
 -- a step of the program in halves, by the statement that it is of
 
-assigned : (N M : ℕ) (c d : Configuration) → Near N M c d → (a b : Place) (x : ℕ) (s : Span) (e f : Formula) → x < N → statement_at c.term a ≡ Some (assigning x s e) → statement_at d.term b ≡ Some (assigning x s f) → value_in c e ≡ value_in d f
-    → ((old' new' : List ℕ) (l m : Term) → OthersKept c.store old' c.term a → OthersKept d.store new' d.term b → Alike N M old' new' l m → Alike N M old' new' (with_left c.term a l) (with_left d.term b m))
+assigned : (N M : ℕ) (c d : Configuration) → Near N M c d → (a b : Place) (x : ℕ) (s : Span) (e f : Formula) → x < N →
+    statement_at c.term a ≡ Some (assigning x s e) → statement_at d.term b ≡ Some (assigning x s f) → value_in c e ≡ value_in d f
+    → ((old' new' : List ℕ) (l m : Term) → OthersKept c.store old' c.term a → OthersKept d.store new' d.term b → Alike N M old' new' l m →
+        Alike N M old' new' (with_left c.term a l) (with_left d.term b m))
     → Followed N M c (storing (leaving d b finished) x (value_in d f))
 assigned N M c d n a b x s e f below on there same put =
     let v = value_in d f in
     let first : Step c a (storing (leaving c a finished) x v) = subst (λ w. Step c a (storing (leaving c a finished) x w)) same (an_assignment on) in
     wrote N M c d n a b x v below first (an_assignment there)
     (put (slice_set c.store x v) (slice_set d.store x v) finished finished
-    (write_kept c.store c.term a (assigning x s e) x v s n.fits on (inl refl)) (write_kept d.store d.term b (assigning x s f) x v s n.new_fits there (inl refl)) both_finished)
+    (write_kept c.store c.term a (assigning x s e) x v s n.fits on (inl refl)) (write_kept d.store d.term b (assigning x s f) x v s n.new_fits there (inl refl))
+        both_finished)
 
-assign_by : (N M : ℕ) (c d : Configuration) → Near N M c d → (a b : Place) (x : ℕ) (s : Span) (e : Formula) (p : Process) → statement_at c.term a ≡ Some p → statement_at d.term b ≡ Some (assigning x s e) → (pair : Pair N M c.store d.store p (assigning x s e))
-    → ((old' new' : List ℕ) (l m : Term) → OthersKept c.store old' c.term a → OthersKept d.store new' d.term b → Alike N M old' new' l (behind pair m) → Alike N M old' new' (with_left c.term a l) (with_left d.term b m))
+assign_by : (N M : ℕ) (c d : Configuration) → Near N M c d → (a b : Place) (x : ℕ) (s : Span) (e : Formula) (p : Process) → statement_at c.term a ≡ Some p →
+    statement_at d.term b ≡ Some (assigning x s e) → (pair : Pair N M c.store d.store p (assigning x s e))
+    → ((old' new' : List ℕ) (l m : Term) → OthersKept c.store old' c.term a → OthersKept d.store new' d.term b → Alike N M old' new' l (behind pair m) →
+        Alike N M old' new' (with_left c.term a l) (with_left d.term b m))
     → Followed N M c (storing (leaving d b finished) x (value_in d e))
-assign_by N M c d n a b x s e p on there (pair_same (same_assign below reads)) put = assigned N M c d n a b x s e e below on there (values_near N M c d n e reads) put
+assign_by N M c d n a b x s e p on there (pair_same (same_assign below reads)) put =
+    assigned N M c d n a b x s e e below on there (values_near N M c d n e reads) put
 assign_by N M c d n a b x s e p on there (pair_first {x = y} i) put = begun N M c d n b y x s e i there a on put
 assign_by N M c d n a b x s e p on there (pair_second {h = h} {e = f} i v) put = assigned N M c d n a b x s f (read_back h f s) i.target on there (sym v) put
 
-communicated : (N M : ℕ) (c d : Configuration) → Near N M c d → (b other : Place) (k x : ℕ) (s t u : Span) (e : Formula) → statement_at d.term b ≡ Some (sending k s e) → statement_at d.term other ≡ Some (receiving k t x u) → offer_at d.rests k ≡ nothing
+communicated : (N M : ℕ) (c d : Configuration) → Near N M c d → (b other : Place) (k x : ℕ) (s t u : Span) (e : Formula) →
+    statement_at d.term b ≡ Some (sending k s e) → statement_at d.term other ≡ Some (receiving k t x u) → offer_at d.rests k ≡ nothing
     → Followed N M c (passing (storing (leaving (leaving d b finished) other finished) x (value_in d e)) k (value_in d e))
 communicated N M c d n b other k x s t u e on there inside =
-    let step : Step d b (passing (storing (leaving (leaving d b finished) other finished) x (value_in d e)) k (value_in d e)) = a_communication other on there inside in
+    let step : Step d b (passing (storing (leaving (leaving d b finished) other finished) x (value_in d e)) k (value_in d e)) =
+        a_communication other on there inside in
     let r = plainly N M c.store d.store c.term d.term b (sending k s e) refl n.alike on in
     let sends = send_before r.same in
     let on_c : statement_at c.term r.place ≡ Some (sending k s e) = r.on ∙ ap Some sends.0 in
     let left_c = with_left c.term r.place finished in
     let left_d = with_left d.term b finished in
-    let alike : Alike N M c.store d.store left_c left_d = r.put c.store d.store finished finished (nothing_kept c.store c.term r.place) (nothing_kept d.store d.term b) both_finished in
+    let alike : Alike N M c.store d.store left_c left_d =
+        r.put c.store d.store finished finished (nothing_kept c.store c.term r.place) (nothing_kept d.store d.term b) both_finished in
     let fits_c : Fits left_c = left_fits c.term r.place finished (sending k s e) n.fits on_c tt (λ z h. absurd h) in
     let fits_d : Fits left_d = left_fits d.term b finished (sending k s e) n.new_fits on tt (λ z h. absurd h) in
     let there_d : statement_at left_d other ≡ Some (receiving k t x u) = still d.term b other finished (receiving k t x u) (own_apart step other refl) there in
@@ -263,7 +292,8 @@ communicated N M c d n b other k x s t u e on there inside =
     let same : value_in c e ≡ value_in d e = values_near N M c d n e sends.1 in
     let v = value_in d e in
     let first : Step c r.place (passing (storing (leaving (leaving c r.place finished) w.place finished) x v) k v) =
-    subst (λ z. Step c r.place (passing (storing (leaving (leaving c r.place finished) w.place finished) x z) k z)) same (a_communication w.place on_c on_w (ap (λ z. offer_at z k) n.rests ∙ inside)) in
+    subst (λ z. Step c r.place (passing (storing (leaving (leaving c r.place finished) w.place finished) x z) k z)) same
+        (a_communication w.place on_c on_w (ap (λ z. offer_at z k) n.rests ∙ inside)) in
     record {
       to = passing (storing (leaving (leaving c r.place finished) w.place finished) x v) k v;
       steps = 1;
@@ -284,9 +314,11 @@ communicated N M c d n b other k x s t u e on there inside =
       };
     }
   where
-    one_place : (l : Term) (w o : Place) → Fits l → statement_at l w ≡ Some (receiving k t x u) → statement_at l o ≡ Some (receiving k t x u) → (w ≡ o) ⊎ (w ≢ o) → w ≡ o
+    one_place : (l : Term) (w o : Place) → Fits l → statement_at l w ≡ Some (receiving k t x u) → statement_at l o ≡ Some (receiving k t x u) →
+        (w ≡ o) ⊎ (w ≢ o) → w ≡ o
     one_place l w o f g h (inl same) = same
-    one_place l w o f g h (inr ne) = absurd (places_apart l w o (receiving k t x u) (receiving k t x u) f ne g h (done_at (receives_on k) t) (done_at (receives_on k) t) (inl refl) (inl refl) refl)
+    one_place l w o f g h (inr ne) = absurd (places_apart l w o (receiving k t x u) (receiving k t x u) f ne g h (done_at (receives_on k) t)
+        (done_at (receives_on k) t) (inl refl) (inl refl) refl)
 
 follow : (N M : ℕ) {c d e : Configuration} {b : Place} → Near N M c d → Step d b e → Followed N M c e
 follow N M {c = c} {d = d} {b = b} n (a_skip on) =
@@ -309,7 +341,8 @@ follow N M {c = c} {d = d} {b = b} n (a_turn {choices = ds} {p = q} on true_ones
     let l = followed (opened p.0) (and_member (choosing true cs.0) no_members) in
     let m = followed (opened q) (and_member (choosing true ds) no_members) in
     quiet N M c d n r.place b l m (a_turn (r.on ∙ ap Some cs.1) p.1) (a_turn on true_ones)
-    (r.put c.store d.store l m (nothing_kept c.store c.term r.place) (nothing_kept d.store d.term b) (followed_alike (like_opened p.2) (each_more (alone (same_choice cs.2)) each_none)))
+    (r.put c.store d.store l m (nothing_kept c.store c.term r.place) (nothing_kept d.store d.term b)
+        (followed_alike (like_opened p.2) (each_more (alone (same_choice cs.2)) each_none)))
 follow N M {c = c} {d = d} {b = b} n (an_end {choices = ds} on true_ones) =
     let r = plainly N M c.store d.store c.term d.term b (choosing true ds) refl n.alike on in
     let cs = choice_before r.same in
@@ -321,8 +354,10 @@ follow N M {c = c} {d = d} {b = b} n (a_repetition {p = q} on) =
     let l = followed (opened p.0) (and_member (repeating p.0) no_members) in
     let m = followed (opened q) (and_member (repeating q) no_members) in
     quiet N M c d n r.place b l m (a_repetition (r.on ∙ ap Some p.1)) (a_repetition on)
-    (r.put c.store d.store l m (nothing_kept c.store c.term r.place) (nothing_kept d.store d.term b) (followed_alike (like_opened p.2) (each_more (alone (same_repeat p.2)) each_none)))
-follow N M {c = c} {d = d} {b = b} n (a_communication other {k = k} {x = x} {s = s} {t = t} {u = u} {e = e} on there inside) = communicated N M c d n b other k x s t u e on there inside
+    (r.put c.store d.store l m (nothing_kept c.store c.term r.place) (nothing_kept d.store d.term b)
+        (followed_alike (like_opened p.2) (each_more (alone (same_repeat p.2)) each_none)))
+follow N M {c = c} {d = d} {b = b} n (a_communication other {k = k} {x = x} {s = s} {t = t} {u = u} {e = e} on there inside) =
+    communicated N M c d n b other k x s t u e on there inside
 follow N M {c = c} {d = d} {b = b} n (a_delivery {k = k} {s = s} {e = e} {count = count} on offered more) =
     let r = plainly N M c.store d.store c.term d.term b (sending k s e) refl n.alike on in
     let sends = send_before r.same in
@@ -353,7 +388,8 @@ follow N M {c = c} {d = d} {b = b} n (an_arrival {k = k} {x = x} {v = v} {s = s}
     let hears = receive_before r.same in
     let below : x < N = hears.1 in
     let on_c : statement_at c.term r.place ≡ Some (receiving k s x t) = r.on ∙ ap Some hears.0 in
-    let first : Step c r.place (passing (storing (offering (leaving c r.place finished) k (gives more)) x v) k v) = an_arrival on_c (ap (λ z. offer_at z k) n.rests ∙ offered) in
+    let first : Step c r.place (passing (storing (offering (leaving c r.place finished) k (gives more)) x v) k v) =
+        an_arrival on_c (ap (λ z. offer_at z k) n.rests ∙ offered) in
     let second : Step d b (passing (storing (offering (leaving d b finished) k (gives more)) x v) k v) = an_arrival on offered in
     record {
       to = passing (storing (offering (leaving c r.place finished) k (gives more)) x v) k v;
@@ -377,7 +413,8 @@ follow N M {c = c} {d = d} {b = b} n (an_arrival {k = k} {x = x} {v = v} {s = s}
 
 -- a step of the program: the program in halves can go on too
 
-assign_after : {N M : ℕ} {old new : List ℕ} {x : ℕ} {s : Span} {e : Formula} {q : Process} → Pair N M old new (assigning x s e) q → (y : ℕ) × (t : Span) × (f : Formula) × (q ≡ assigning y t f)
+assign_after : {N M : ℕ} {old new : List ℕ} {x : ℕ} {s : Span} {e : Formula} {q : Process} → Pair N M old new (assigning x s e) q →
+    (y : ℕ) × (t : Span) × (f : Formula) × (q ≡ assigning y t f)
 assign_after {x = x} {s = s} {e = e} (pair_same (same_assign below reads)) = (x, s, e, refl)
 assign_after {s = s} {e = e} (pair_first {h = h} i) = (h, s, e, refl)
 assign_after {x = x} {s = s} {e = e} (pair_second {h = h} i v) = (x, s, read_back h e s, refl)
@@ -411,7 +448,8 @@ goes_on N M {a = a} n (a_repetition {p = p} on) =
 goes_on N M {a = a} n (a_communication other {k = k} {x = x} {s = s} {t = t} {u = u} {e = e} on there inside) =
     let r = standing n.alike a (sending k s e) on in
     let w = standing n.alike other (receiving k t x u) there in
-    (r.place, _, a_communication w.place (r.on ∙ ap Some (send_after (same_of r.pair refl)).0) (w.on ∙ ap Some (receive_after (same_of w.pair refl)).0) (sym (ap (λ z. offer_at z k) n.rests) ∙ inside))
+    (r.place, _, a_communication w.place (r.on ∙ ap Some (send_after (same_of r.pair refl)).0) (w.on ∙ ap Some (receive_after (same_of w.pair refl)).0)
+        (sym (ap (λ z. offer_at z k) n.rests) ∙ inside))
 goes_on N M {a = a} n (a_delivery {k = k} {s = s} {e = e} on offered more) =
     let r = standing n.alike a (sending k s e) on in
     (r.place, _, a_delivery (r.on ∙ ap Some (send_after (same_of r.pair refl)).0) (sym (ap (λ z. offer_at z k) n.rests) ∙ offered) more)
@@ -427,7 +465,8 @@ abreast N M c d n = record {
 }
 
 -- runs
-pub follow_run : (N M : ℕ) {d e : Configuration} {m : ℕ} (c : Configuration) → Near N M c d → Leads d m e → (to : Configuration) × (n : ℕ) × (n ≤ m) × Leads c n to × Near N M to e
+pub follow_run : (N M : ℕ) {d e : Configuration} {m : ℕ} (c : Configuration) → Near N M c d → Leads d m e → (to : Configuration) × (n : ℕ) × (n ≤ m)
+    × Leads c n to × Near N M to e
 follow_run N M c n no_step = (c, 0, omega arith, no_step, n)
 follow_run N M c n (one_step s l) =
     let a = follow N M n s in

@@ -92,7 +92,8 @@ take_or : {a b : Place} (d : (b ≡ a) ⊎ (b ≢ a)) (l other : Term) → b ≡
 take_or (inl e) l other same = refl
 take_or (inr n) l other same = absurd (n same)
 
-same_or : {a b c d : Place} (x : (b ≡ a) ⊎ (b ≢ a)) (y : (d ≡ c) ⊎ (d ≢ c)) (l other other' : Term) → (b ≡ a → d ≡ c) → (d ≡ c → b ≡ a) → other ≡ other' → or_else x l other ≡ or_else y l other'
+same_or : {a b c d : Place} (x : (b ≡ a) ⊎ (b ≢ a)) (y : (d ≡ c) ⊎ (d ≢ c)) (l other other' : Term) → (b ≡ a → d ≡ c) → (d ≡ c → b ≡ a) → other ≡ other' →
+    or_else x l other ≡ or_else y l other'
 same_or (inl e) (inl f) l other other' there back same = refl
 same_or (inl e) (inr n) l other other' there back same = absurd (n (there e))
 same_or (inr n) (inl f) l other other' there back same = absurd (n (back f))
@@ -101,11 +102,15 @@ same_or (inr n) (inr m) l other other' there back same = same
 first_at : (xs : List Part) (a : Place) (other : Term) → at_or (first_parts xs) a other ≡ at_or xs (in_first a) other
 first_at [] a other = refl
 first_at (part here l ∷ xs) a other = first_at xs a other ∙ sym (skip_other (same_place here (in_first a)) l (at_or xs (in_first a) other) (λ e. absurd (cc e)))
-first_at (part (in_branch k b) l ∷ xs) a other = first_at xs a other ∙ sym (skip_other (same_place (in_branch k b) (in_first a)) l (at_or xs (in_first a) other) (λ e. absurd (cc e)))
-first_at (part (in_first b) l ∷ xs) a other = same_or (same_place b a) (same_place (in_first b) (in_first a)) l (at_or (first_parts xs) a other) (at_or xs (in_first a) other) (λ e. ap in_first e) (λ e. cc e) (first_at xs a other)
+first_at (part (in_branch k b) l ∷ xs) a other =
+    first_at xs a other ∙ sym (skip_other (same_place (in_branch k b) (in_first a)) l (at_or xs (in_first a) other) (λ e. absurd (cc e)))
+first_at (part (in_first b) l ∷ xs) a other =
+    same_or (same_place b a) (same_place (in_first b) (in_first a)) l (at_or (first_parts xs) a other) (at_or xs (in_first a) other) (λ e. ap in_first e)
+    (λ e. cc e) (first_at xs a other)
 
 next_sequence : (t : Term) (a : Place) (l : Term) (more : Processes) (rest : List Part) → Other (in_first a) rest → Stand (in_sequence t more) rest
-    → ((u : Term) → is_finished u ≡ false → Stand (in_sequence u more) rest → leave_all (in_sequence u more) rest ≡ followed (leave_all u (first_parts rest)) more)
+    → ((u : Term) → is_finished u ≡ false → Stand (in_sequence u more) rest →
+        leave_all (in_sequence u more) rest ≡ followed (leave_all u (first_parts rest)) more)
     → leave_all (followed (with_left t a l) more) rest ≡ followed (leave_all (with_left t a l) (first_parts rest)) more
 next_sequence t a l more [] o s later = refl
 next_sequence t a l more (part here m ∷ xs) o s later = absurd (cc s.0.1)
@@ -118,7 +123,8 @@ next_sequence t a l more (part (in_first b) m ∷ xs) o s later =
     let stands = stand_on (in_sequence t more) (in_first a) l rest o s in
     ap (λ x. leave_all x rest) goes ∙ later (with_left t a l) (term_on (with_left t a l) b s.0.0 on) (subst (λ x. Stand x rest) goes stands)
 
-sequence_left : (t : Term) (more : Processes) (xs : List Part) → is_finished t ≡ false → Stand (in_sequence t more) xs → Single xs → leave_all (in_sequence t more) xs ≡ followed (leave_all t (first_parts xs)) more
+sequence_left : (t : Term) (more : Processes) (xs : List Part) → is_finished t ≡ false → Stand (in_sequence t more) xs → Single xs →
+    leave_all (in_sequence t more) xs ≡ followed (leave_all t (first_parts xs)) more
 sequence_left t more [] h s d = sym (unfinished t more h)
 sequence_left t more (part here l ∷ rest) h s d = absurd (cc s.0.1)
 sequence_left t more (part (in_branch k a) l ∷ rest) h s d = absurd (cc s.0.1)
@@ -145,7 +151,8 @@ next_parallel ts k a l (part (in_branch j b) m ∷ xs) o s later =
     let stands = stand_on (in_parallel ts) (in_branch k a) l rest o s in
     ap (λ x. leave_all x rest) goes ∙ later (with_branch ts k a l) (branches_on (with_branch ts k a l) j b s.0.0 on) (subst (λ x. Stand x rest) goes stands)
 
-parallel_left : (ts : Terms) (xs : List Part) → all_finished ts ≡ false → Stand (in_parallel ts) xs → Single xs → leave_all (in_parallel ts) xs ≡ together (leave_branches ts xs)
+parallel_left : (ts : Terms) (xs : List Part) → all_finished ts ≡ false → Stand (in_parallel ts) xs → Single xs →
+    leave_all (in_parallel ts) xs ≡ together (leave_branches ts xs)
 parallel_left ts [] h s d = sym (ap (λ b. if b then finished else in_parallel ts) h)
 parallel_left ts (part here l ∷ rest) h s d = absurd (cc s.0.1)
 parallel_left ts (part (in_first a) l ∷ rest) h s d = absurd (cc s.0.1)
@@ -166,7 +173,8 @@ later_parts (part (in_branch zero a) l ∷ xs) = later_parts xs
 later_parts (part here l ∷ xs) = later_parts xs
 later_parts (part (in_first a) l ∷ xs) = later_parts xs
 
-branches_left : (t : Term) (more : Terms) (xs : List Part) → leave_branches (and_branch t more) xs ≡ and_branch (leave_all t (zero_parts xs)) (leave_branches more (later_parts xs))
+branches_left : (t : Term) (more : Terms) (xs : List Part) →
+    leave_branches (and_branch t more) xs ≡ and_branch (leave_all t (zero_parts xs)) (leave_branches more (later_parts xs))
 branches_left t more [] = refl
 branches_left t more (part here l ∷ xs) = branches_left t more xs
 branches_left t more (part (in_first a) l ∷ xs) = branches_left t more xs
@@ -230,17 +238,27 @@ later_single (part (in_branch (suc k) a) l ∷ xs) s = (later_other k a xs s.0, 
 
 zero_at : (xs : List Part) (a : Place) (other : Term) → at_or (zero_parts xs) a other ≡ at_or xs (in_branch zero a) other
 zero_at [] a other = refl
-zero_at (part here l ∷ xs) a other = zero_at xs a other ∙ sym (skip_other (same_place here (in_branch zero a)) l (at_or xs (in_branch zero a) other) (λ e. absurd (cc e)))
-zero_at (part (in_first b) l ∷ xs) a other = zero_at xs a other ∙ sym (skip_other (same_place (in_first b) (in_branch zero a)) l (at_or xs (in_branch zero a) other) (λ e. absurd (cc e)))
-zero_at (part (in_branch zero b) l ∷ xs) a other = same_or (same_place b a) (same_place (in_branch zero b) (in_branch zero a)) l (at_or (zero_parts xs) a other) (at_or xs (in_branch zero a) other) (λ e. ap (in_branch zero) e) (λ e. cc e) (zero_at xs a other)
-zero_at (part (in_branch (suc k) b) l ∷ xs) a other = zero_at xs a other ∙ sym (skip_other (same_place (in_branch (suc k) b) (in_branch zero a)) l (at_or xs (in_branch zero a) other) (λ e. absurd (cc e)))
+zero_at (part here l ∷ xs) a other = zero_at xs a other
+    ∙ sym (skip_other (same_place here (in_branch zero a)) l (at_or xs (in_branch zero a) other) (λ e. absurd (cc e)))
+zero_at (part (in_first b) l ∷ xs) a other =
+    zero_at xs a other ∙ sym (skip_other (same_place (in_first b) (in_branch zero a)) l (at_or xs (in_branch zero a) other) (λ e. absurd (cc e)))
+zero_at (part (in_branch zero b) l ∷ xs) a other =
+    same_or (same_place b a) (same_place (in_branch zero b) (in_branch zero a)) l (at_or (zero_parts xs) a other) (at_or xs (in_branch zero a) other)
+    (λ e. ap (in_branch zero) e) (λ e. cc e) (zero_at xs a other)
+zero_at (part (in_branch (suc k) b) l ∷ xs) a other =
+    zero_at xs a other ∙ sym (skip_other (same_place (in_branch (suc k) b) (in_branch zero a)) l (at_or xs (in_branch zero a) other) (λ e. absurd (cc e)))
 
 later_at : (xs : List Part) (k : ℕ) (a : Place) (other : Term) → at_or (later_parts xs) (in_branch k a) other ≡ at_or xs (in_branch (suc k) a) other
 later_at [] k a other = refl
-later_at (part here l ∷ xs) k a other = later_at xs k a other ∙ sym (skip_other (same_place here (in_branch (suc k) a)) l (at_or xs (in_branch (suc k) a) other) (λ e. absurd (cc e)))
-later_at (part (in_first b) l ∷ xs) k a other = later_at xs k a other ∙ sym (skip_other (same_place (in_first b) (in_branch (suc k) a)) l (at_or xs (in_branch (suc k) a) other) (λ e. absurd (cc e)))
-later_at (part (in_branch zero b) l ∷ xs) k a other = later_at xs k a other ∙ sym (skip_other (same_place (in_branch zero b) (in_branch (suc k) a)) l (at_or xs (in_branch (suc k) a) other) (λ e. absurd (cc e)))
-later_at (part (in_branch (suc j) b) l ∷ xs) k a other = same_or (same_place (in_branch j b) (in_branch k a)) (same_place (in_branch (suc j) b) (in_branch (suc k) a)) l (at_or (later_parts xs) (in_branch k a) other) (at_or xs (in_branch (suc k) a) other) (λ e. cc e) (λ e. cc e) (later_at xs k a other)
+later_at (part here l ∷ xs) k a other = later_at xs k a other
+    ∙ sym (skip_other (same_place here (in_branch (suc k) a)) l (at_or xs (in_branch (suc k) a) other) (λ e. absurd (cc e)))
+later_at (part (in_first b) l ∷ xs) k a other =
+    later_at xs k a other ∙ sym (skip_other (same_place (in_first b) (in_branch (suc k) a)) l (at_or xs (in_branch (suc k) a) other) (λ e. absurd (cc e)))
+later_at (part (in_branch zero b) l ∷ xs) k a other =
+    later_at xs k a other ∙ sym (skip_other (same_place (in_branch zero b) (in_branch (suc k) a)) l (at_or xs (in_branch (suc k) a) other) (λ e. absurd (cc e)))
+later_at (part (in_branch (suc j) b) l ∷ xs) k a other =
+    same_or (same_place (in_branch j b) (in_branch k a)) (same_place (in_branch (suc j) b) (in_branch (suc k) a)) l
+    (at_or (later_parts xs) (in_branch k a) other) (at_or xs (in_branch (suc k) a) other) (λ e. cc e) (λ e. cc e) (later_at xs k a other)
 
 -- the term in which this is left of each active statement
 abbrev mutual
@@ -277,12 +295,14 @@ mutual
   left_at_once f (active p) xs v s d says = whole_left p xs s d ∙ says here p refl
   left_at_once f (in_sequence t more) xs v s d says =
       sequence_left t more xs v.0 s d
-      ∙ ap (λ x. followed x more) (left_at_once f t (first_parts xs) v.1 (first_stand t more xs s) (first_single xs d) (λ a q h. first_at xs a (active q) ∙ says (in_first a) q h))
+      ∙ ap (λ x. followed x more) (left_at_once f t (first_parts xs) v.1 (first_stand t more xs s) (first_single xs d) (λ a q h. first_at xs a (active q)
+          ∙ says (in_first a) q h))
   left_at_once f (in_parallel ts) xs v s d says =
       parallel_left ts xs v.0 s d
       ∙ ap together (branches_at_once f ts xs v.1 (branches_stand ts xs s) d (λ k a q h. says (in_branch k a) q h))
 
-  branches_at_once : (f : Process → Term) (ts : Terms) (xs : List Part) → EachLively ts → BranchesStand ts xs → Single xs → BranchesSay f ts xs → leave_branches ts xs ≡ each_left f ts
+  branches_at_once : (f : Process → Term) (ts : Terms) (xs : List Part) → EachLively ts → BranchesStand ts xs → Single xs → BranchesSay f ts xs →
+      leave_branches ts xs ≡ each_left f ts
   branches_at_once f no_branches xs v s d says = nothing_left xs s
     where
       nothing_left : (xs : List Part) → BranchesStand no_branches xs → leave_branches no_branches xs ≡ no_branches
@@ -292,5 +312,7 @@ mutual
       nothing_left (part (in_branch k a) l ∷ xs) s = absurd (cc s.0.1)
   branches_at_once f (and_branch t more) xs v s d says =
       branches_left t more xs
-      ∙ (ap (λ x. and_branch x (leave_branches more (later_parts xs))) (left_at_once f t (zero_parts xs) v.0 (zero_stand t more xs s) (zero_single xs d) (λ a q h. zero_at xs a (active q) ∙ says zero a q h))
-      ∙ ap (and_branch (all_left f t)) (branches_at_once f more (later_parts xs) v.1 (later_stand t more xs s) (later_single xs d) (λ k a q h. later_at xs k a (active q) ∙ says (suc k) a q h)))
+      ∙ (ap (λ x. and_branch x (leave_branches more (later_parts xs))) (left_at_once f t (zero_parts xs) v.0 (zero_stand t more xs s) (zero_single xs d)
+          (λ a q h. zero_at xs a (active q) ∙ says zero a q h))
+      ∙ ap (and_branch (all_left f t)) (branches_at_once f more (later_parts xs) v.1 (later_stand t more xs s) (later_single xs d)
+          (λ k a q h. later_at xs k a (active q) ∙ says (suc k) a q h)))

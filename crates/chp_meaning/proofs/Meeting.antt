@@ -19,31 +19,37 @@ use Rattle.chp_meaning.proofs.Moves.{dealt, deal, step_deals, again, undisturbed
 abbrev receiver_at : Place → ℕ → Waiting
 receiver_at o x = record { at = o; var = x }
 
-one_receiver : (t : Term) (o : Place) (k x : ℕ) (s u : Span) → Fits t → statement_at t o ≡ Some (receiving k s x u) → (w : Waiting) → IsReceiver t k w → w ≡ receiver_at o x
+one_receiver : (t : Term) (o : Place) (k x : ℕ) (s u : Span) → Fits t → statement_at t o ≡ Some (receiving k s x u) → (w : Waiting) → IsReceiver t k w →
+    w ≡ receiver_at o x
 one_receiver t o k x s u f h w r = by_place (same_place w.at o)
   where
     by_place : (w.at ≡ o) ⊎ (w.at ≢ o) → w ≡ receiver_at o x
-    by_place (inr ne) = absurd (places_apart t w.at o (receiving k r.chan_at w.var r.var_at) (receiving k s x u) f ne r.is h (done_at (receives_on k) r.chan_at) (done_at (receives_on k) s) (inl refl) (inl refl) refl)
+    by_place (inr ne) = absurd (places_apart t w.at o (receiving k r.chan_at w.var r.var_at) (receiving k s x u) f ne r.is h (done_at (receives_on k) r.chan_at)
+        (done_at (receives_on k) s) (inl refl) (inl refl) refl)
     by_place (inl e) =
         let same : Some (receiving k r.chan_at w.var r.var_at) ≡ Some (receiving k s x u) = sym r.is ∙ (ap (λ p. statement_at t p) e ∙ h) in
         let var : w.var ≡ x = cc same in
         λ i. record { at = e i; var = var i }
 
-waits_here : (t : Term) (o : Place) (k x : ℕ) (s u : Span) → statement_at t o ≡ Some (receiving k s x u) → waits_on k o (statement_at t o) ≡ Some (receiver_at o x)
+waits_here : (t : Term) (o : Place) (k x : ℕ) (s u : Span) → statement_at t o ≡ Some (receiving k s x u) →
+    waits_on k o (statement_at t o) ≡ Some (receiver_at o x)
 waits_here t o k x s u h = ap (λ p. waits_on k o p) h ∙ ap (λ b. if b then Some (receiver_at o x) else None) (eq-eqb k k refl)
 
-found_among : (t : Term) (o : Place) (k x : ℕ) (s u : Span) → Fits t → statement_at t o ≡ Some (receiving k s x u) → (ps : List Place) → In ps o → receiver_among t k ps ≡ Some (receiver_at o x)
+found_among : (t : Term) (o : Place) (k x : ℕ) (s u : Span) → Fits t → statement_at t o ≡ Some (receiving k s x u) → (ps : List Place) → In ps o →
+    receiver_among t k ps ≡ Some (receiver_at o x)
 found_among t o k x s u f h [] i = absurd i
 found_among t o k x s u f h (p ∷ ps) i = by_wait (waits_on k p (statement_at t p)) refl i (found_among t o k x s u f h ps)
   where
-    by_wait : (v : Option Waiting) → waits_on k p (statement_at t p) ≡ v → In (p ∷ ps) o → (In ps o → receiver_among t k ps ≡ Some (receiver_at o x)) → or_later v (receiver_among t k ps) ≡ Some (receiver_at o x)
+    by_wait : (v : Option Waiting) → waits_on k p (statement_at t p) ≡ v → In (p ∷ ps) o → (In ps o → receiver_among t k ps ≡ Some (receiver_at o x)) →
+        or_later v (receiver_among t k ps) ≡ Some (receiver_at o x)
     by_wait None e (inl same) rest =
         let on : waits_on k p (statement_at t p) ≡ Some (receiver_at o x) = ap (λ q. waits_on k q (statement_at t q)) same ∙ waits_here t o k x s u h in
         absurd (cc (sym e ∙ on))
     by_wait None e (inr j) rest = rest j
     by_wait (Some w) e j rest = ap Some (one_receiver t o k x s u f h w (waiting_is t k p (statement_at t p) w refl e))
 
-pub receiver_found : (t : Term) (o : Place) (k x : ℕ) (s u : Span) → Fits t → statement_at t o ≡ Some (receiving k s x u) → receiver_on t k ≡ Some (receiver_at o x)
+pub receiver_found : (t : Term) (o : Place) (k x : ℕ) (s u : Span) → Fits t → statement_at t o ≡ Some (receiving k s x u) →
+    receiver_on t k ≡ Some (receiver_at o x)
 receiver_found t o k x s u f h = found_among t o k x s u f h (places t) (listed t o (receiving k s x u) h)
 
 -- what is done at a step's place is the step
@@ -69,7 +75,8 @@ found f (an_arrival {c = c} {at = at} {k = k} {x = x} on offered) = ap (λ p. st
 nothing_within : (p : Process) → Within [] (occurrences p)
 nothing_within p u h = absurd h
 
-once_more : (t : Term) (p q : Process) → Within (uses t) (occurrences p) → Within (occurrences q) (occurrences p) → Within (uses (followed t (and_member q no_members))) (occurrences p)
+once_more : (t : Term) (p q : Process) → Within (uses t) (occurrences p) → Within (occurrences q) (occurrences p) →
+    Within (uses (followed t (and_member q no_members))) (occurrences p)
 once_more t p q f g u h = by_side (in_either (uses t) (occurrences q ++ []) u (followed_within t (and_member q no_members) u h))
   where
     by_end : In (occurrences q) u ⊎ In [] u → In (occurrences p) u
@@ -80,12 +87,14 @@ once_more t p q f g u h = by_side (in_either (uses t) (occurrences q ++ []) u (f
     by_side (inl k) = f u k
     by_side (inr k) = by_end (in_either (occurrences q) [] u k)
 
-branch_sound : (c : Configuration) (options : Choices) (p : Process) → ChoicesSound options → open_branches c options ≡ p ∷ [] → Sound p × Within (occurrences p) (occurrences_of_choices options)
+branch_sound : (c : Configuration) (options : Choices) (p : Process) → ChoicesSound options → open_branches c options ≡ p ∷ [] →
+    Sound p × Within (occurrences p) (occurrences_of_choices options)
 branch_sound c options p s true_ones = open_sound c options p s (subst (λ ps. In ps p) (sym true_ones) (inl refl))
 
 pub step_fits : {c d : Configuration} {at : Place} → Fits c.term → Step c at d → Fits d.term
 step_fits f (a_skip {c = c} {at = at} on) = left_fits c.term at finished skipping f on tt (nothing_within skipping)
-step_fits f (an_assignment {c = c} {at = at} {x = x} {s = s} {e = e} on) = left_fits c.term at finished (assigning x s e) f on tt (nothing_within (assigning x s e))
+step_fits f (an_assignment {c = c} {at = at} {x = x} {s = s} {e = e} on) =
+    left_fits c.term at finished (assigning x s e) f on tt (nothing_within (assigning x s e))
 step_fits f (a_selection {c = c} {at = at} {choices = options} {p = p} on true_ones) =
     let r = branch_sound c options p (statement_sound c.term at (choosing false options) f on) true_ones in
     left_fits c.term at (opened p) (choosing false options) f on (opened_fits p r.0) (λ u k. r.1 u (opened_within p u k))
@@ -95,7 +104,8 @@ step_fits f (a_turn {c = c} {at = at} {choices = options} {p = p} on true_ones) 
     left_fits c.term at (followed (opened p) (and_member (choosing true options) no_members)) (choosing true options) f on
     (followed_fits (opened p) (and_member (choosing true options) no_members) (opened_fits p r.0) (all, tt))
     (once_more (opened p) (choosing true options) (choosing true options) (λ u k. r.1 u (opened_within p u k)) (λ u k. k))
-step_fits f (an_end {c = c} {at = at} {choices = options} on true_ones) = left_fits c.term at finished (choosing true options) f on tt (nothing_within (choosing true options))
+step_fits f (an_end {c = c} {at = at} {choices = options} on true_ones) =
+    left_fits c.term at finished (choosing true options) f on tt (nothing_within (choosing true options))
 step_fits f (a_repetition {c = c} {at = at} {p = p} on) =
     let all = statement_sound c.term at (repeating p) f on in
     left_fits c.term at (followed (opened p) (and_member (repeating p) no_members)) (repeating p) f on
@@ -106,8 +116,10 @@ step_fits f (a_communication {c = c} {at = at} other {k = k} {x = x} {s = s} {t 
     (left_fits c.term at finished (sending k s e) f on tt (nothing_within (sending k s e)))
     (still c.term at other finished (receiving k t x u) (own_apart (a_communication {c = c} other on there inside) other refl) there)
     tt (nothing_within (receiving k t x u))
-step_fits f (a_delivery {c = c} {at = at} {k = k} {s = s} {e = e} on offered more) = left_fits c.term at finished (sending k s e) f on tt (nothing_within (sending k s e))
-step_fits f (an_arrival {c = c} {at = at} {k = k} {x = x} {s = s} {t = t} on offered) = left_fits c.term at finished (receiving k s x t) f on tt (nothing_within (receiving k s x t))
+step_fits f (a_delivery {c = c} {at = at} {k = k} {s = s} {e = e} on offered more) =
+    left_fits c.term at finished (sending k s e) f on tt (nothing_within (sending k s e))
+step_fits f (an_arrival {c = c} {at = at} {k = k} {x = x} {s = s} {t = t} on offered) =
+    left_fits c.term at finished (receiving k s x t) f on tt (nothing_within (receiving k s x t))
 
 -- two steps from one configuration
 
@@ -135,7 +147,8 @@ diamond {c = c} {d = d} {e = e} {a = a} {b = b} f s u = by_place (same_place a b
 
 pub lead_on : {x y z : Configuration} {m n : ℕ} → Leads x m y → Leads y n z → Leads x (m + n) z
 lead_on {x = x} {z = z} {n = n} no_step k = let e : n ≡ 0 + n = omega arith in subst (λ i. Leads x i z) e k
-lead_on {z = z} {n = n} (one_step {c = x} {n = m} s l) k = let e : suc (m + n) ≡ suc m + n = omega arith in subst (λ i. Leads x i z) e (one_step s (lead_on l k))
+lead_on {z = z} {n = n} (one_step {c = x} {n = m} s l) k = let e : suc (m + n) ≡ suc m + n = omega arith in
+    subst (λ i. Leads x i z) e (one_step s (lead_on l k))
 
 pub leads_fit : {x y : Configuration} {n : ℕ} → Fits x.term → Leads x n y → Fits y.term
 leads_fit f no_step = f
@@ -145,7 +158,8 @@ leads_fit f (one_step s l) = leads_fit (step_fits f s) l
 abbrev Met : Configuration → ℕ → Configuration → ℕ → Type 0
 Met y m z n = (u : Configuration) × (k : ℕ) × (j : ℕ) × (k ≤ m) × (j ≤ n) × Leads y k u × Leads z j u
 
-by_diamond : (y w z : Configuration) (a b : Place) (n : ℕ) → Leads w n z → (y ≡ w) ⊎ ((g : Configuration) × Step y b g × Step w a g) → ((v : Configuration) → Step w a v → Met v n z 1) → Met y (suc n) z 1
+by_diamond : (y w z : Configuration) (a b : Place) (n : ℕ) → Leads w n z → (y ≡ w) ⊎ ((g : Configuration) × Step y b g × Step w a g) →
+    ((v : Configuration) → Step w a v → Met v n z 1) → Met y (suc n) z 1
 by_diamond y w z a b n l (inl e) go = (z, n, 0, omega arith, omega arith, subst (λ x. Leads x n z) (sym e) l, no_step)
 by_diamond y w z a b n l (inr (g, p, q)) go = let r = go g q in (r.0, suc r.1, r.2, omega (arith, r.3), r.4, one_step p r.5, r.6)
 

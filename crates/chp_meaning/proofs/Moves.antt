@@ -43,7 +43,8 @@ appended histories None = histories
 appended histories (Some (entry k v)) = slice_set histories k (history_at histories k ++ v ∷ [])
 
 abbrev pub dealt : Configuration → Place → Deal → Configuration
-dealt c at x = record { term = leave c.term at x.left x.other; store = written c.store x.write; rests = put c.rests x.offer; histories = appended c.histories x.pass }
+dealt c at x = record { term = leave c.term at x.left x.other; store = written c.store x.write; rests = put c.rests x.offer; histories =
+    appended c.histories x.pass }
 
 abbrev becoming : Term → Deal
 becoming left = record { left = left; other = None; write = None; offer = None; pass = None }
@@ -55,9 +56,12 @@ deal (a_selection {p = p} on true_ones) = becoming (opened p)
 deal (a_turn {choices = choices} {p = p} on true_ones) = becoming (followed (opened p) (and_member (choosing true choices) no_members))
 deal (an_end on true_ones) = becoming finished
 deal (a_repetition {p = p} on) = becoming (followed (opened p) (and_member (repeating p) no_members))
-deal (a_communication {c = c} other {k = k} {x = x} {e = e} on there inside) = record { left = finished; other = Some other; write = Some (entry x (value_in c e)); offer = None; pass = Some (entry k (value_in c e)) }
-deal (a_delivery {c = c} {k = k} {e = e} {count = count} on offered more) = record { left = finished; other = None; write = None; offer = Some (entry k (takes (one_fewer count))); pass = Some (entry k (value_in c e)) }
-deal (an_arrival {k = k} {x = x} {v = v} {more = more} on offered) = record { left = finished; other = None; write = Some (entry x v); offer = Some (entry k (gives more)); pass = Some (entry k v) }
+deal (a_communication {c = c} other {k = k} {x = x} {e = e} on there inside) =
+    record { left = finished; other = Some other; write = Some (entry x (value_in c e)); offer = None; pass = Some (entry k (value_in c e)) }
+deal (a_delivery {c = c} {k = k} {e = e} {count = count} on offered more) =
+    record { left = finished; other = None; write = None; offer = Some (entry k (takes (one_fewer count))); pass = Some (entry k (value_in c e)) }
+deal (an_arrival {k = k} {x = x} {v = v} {more = more} on offered) =
+    record { left = finished; other = None; write = Some (entry x v); offer = Some (entry k (gives more)); pass = Some (entry k v) }
 
 pub step_deals : {c d : Configuration} {at : Place} (s : Step c at d) → dealt c at (deal s) ≡ d
 step_deals (a_skip on) = refl
@@ -81,7 +85,8 @@ ports_apart c a b k f ne (sends {s = s} {e = e} g n) (sends {s = t} {e = i} h m)
 ports_apart c a b k f ne (sends g n) (receives {vs = vs} h m) = n vs m
 ports_apart c a b k f ne (receives {vs = vs} g n) (sends h m) = m vs n
 ports_apart c a b k f ne (receives {s = s} {t = t} {x = x} g n) (receives {s = s'} {t = t'} {x = x'} h m) =
-    places_apart c.term a b (receiving k s x t) (receiving k s' x' t') f ne g h (done_at (receives_on k) s) (done_at (receives_on k) s') (inl refl) (inl refl) refl
+    places_apart c.term a b (receiving k s x t) (receiving k s' x' t') f ne g h (done_at (receives_on k) s) (done_at (receives_on k) s') (inl refl) (inl refl)
+        refl
 
 pub record Receiver (c : Configuration) (o : Place) (k : ℕ) : Type 0 where
   pub chan_at : Span
@@ -92,7 +97,8 @@ pub record Receiver (c : Configuration) (o : Place) (k : ℕ) : Type 0 where
 pub other_port : {c d : Configuration} {at : Place} (s : Step c at d) (o : Place) → (deal s).other ≡ Some o → (k : ℕ) × Receiver c o k × Port c at k
 other_port (a_communication {c = c} other {k = k} {x = x} {t = t} {u = u} on there inside) o e =
     let same : other ≡ o = cc e in
-    (k, record { chan_at = t; var = x; var_at = u; is = subst (λ w. statement_at c.term w ≡ Some (receiving k t x u)) same there }, sends on (λ vs g. absurd (cc (inside, g))))
+    (k, record { chan_at = t; var = x; var_at = u; is = subst (λ w. statement_at c.term w ≡ Some (receiving k t x u)) same there },
+        sends on (λ vs g. absurd (cc (inside, g))))
 other_port _ o e = absurd (cc e)
 
 receive_port : {c d : Configuration} {at : Place} (s : Step c at d) (k x : ℕ) (t u : Span) → statement_at c.term at ≡ Some (receiving k t x u) → Port c at k
@@ -109,13 +115,16 @@ receive_port (an_arrival {c = c} {k = l} {v = v} {more = more} on offered) k x t
     receives h (subst (λ n. offer_at c.rests n ≡ gives (v ∷ more)) same offered)
 
 pass_port : {c d : Configuration} {at : Place} (s : Step c at d) (k v : ℕ) → (deal s).pass ≡ Some (entry k v) → Port c at k
-pass_port (a_communication {c = c} {at = at} other {k = l} on there inside) k v e = let same : l ≡ k = cc e in subst (λ n. Port c at n) same (sends on (λ vs g. absurd (cc (inside, g))))
-pass_port (a_delivery {c = c} {at = at} {k = l} on offered more) k v e = let same : l ≡ k = cc e in subst (λ n. Port c at n) same (sends on (λ vs g. absurd (cc (offered, g))))
+pass_port (a_communication {c = c} {at = at} other {k = l} on there inside) k v e = let same : l ≡ k = cc e in
+    subst (λ n. Port c at n) same (sends on (λ vs g. absurd (cc (inside, g))))
+pass_port (a_delivery {c = c} {at = at} {k = l} on offered more) k v e = let same : l ≡ k = cc e in
+    subst (λ n. Port c at n) same (sends on (λ vs g. absurd (cc (offered, g))))
 pass_port (an_arrival {c = c} {at = at} {k = l} on offered) k v e = let same : l ≡ k = cc e in subst (λ n. Port c at n) same (receives on offered)
 pass_port _ k v e = absurd (cc e)
 
 pub offer_port : {c d : Configuration} {at : Place} (s : Step c at d) (k : ℕ) (o : OfferValue) → (deal s).offer ≡ Some (entry k o) → Port c at k
-offer_port (a_delivery {c = c} {at = at} {k = l} on offered more) k o e = let same : l ≡ k = cc e in subst (λ n. Port c at n) same (sends on (λ vs g. absurd (cc (offered, g))))
+offer_port (a_delivery {c = c} {at = at} {k = l} on offered more) k o e = let same : l ≡ k = cc e in
+    subst (λ n. Port c at n) same (sends on (λ vs g. absurd (cc (offered, g))))
 offer_port (an_arrival {c = c} {at = at} {k = l} on offered) k o e = let same : l ≡ k = cc e in subst (λ n. Port c at n) same (receives on offered)
 offer_port _ k o e = absurd (cc e)
 
@@ -206,19 +215,24 @@ mutual
   joined_same : (f g : ℕ → ℕ) (parts : Formulas) → Agree f g (reads_of_parts parts) → joined_value f parts ≡ joined_value g parts
   joined_same f g no_parts h = refl
   joined_same f g (and_part e more) h =
-      rw (value_same f g e (agree_left f g (reads_of e) (reads_of_parts more) h), joined_same f g more (agree_right f g (reads_of e) (reads_of_parts more) h)) refl
+      rw (value_same f g e (agree_left f g (reads_of e) (reads_of_parts more) h), joined_same f g more (agree_right f g (reads_of e) (reads_of_parts more) h))
+          refl
 
-  chained_same : (f g : ℕ → ℕ) (width v : ℕ) (more : Operations) → Agree f g (reads_of_operations more) → chained_value f width v more ≡ chained_value g width v more
+  chained_same : (f g : ℕ → ℕ) (width v : ℕ) (more : Operations) → Agree f g (reads_of_operations more) →
+      chained_value f width v more ≡ chained_value g width v more
   chained_same f g width v no_operations h = refl
   chained_same f g width v (and_operation op e more) h =
       ap (λ n. chained_value f width (operated op width v n) more) (value_same f g e (agree_left f g (reads_of e) (reads_of_operations more) h))
       ∙ chained_same f g width (operated op width v (value g e)) more (agree_right f g (reads_of e) (reads_of_operations more) h)
 
-open_same : (c d : Configuration) (options : Choices) → Agree (slice_index c.store) (slice_index d.store) (occurrences_of_choices options) → open_branches c options ≡ open_branches d options
+open_same : (c d : Configuration) (options : Choices) → Agree (slice_index c.store) (slice_index d.store) (occurrences_of_choices options) →
+    open_branches c options ≡ open_branches d options
 open_same c d no_choices h = refl
 open_same c d (and_choice g p more) h =
-    let here_same = value_same (slice_index c.store) (slice_index d.store) g (agree_left (slice_index c.store) (slice_index d.store) (reads_of g) (occurrences p ++ occurrences_of_choices more) h) in
-    let more_same = open_same c d more (agree_right (slice_index c.store) (slice_index d.store) (occurrences p) (occurrences_of_choices more) (agree_right (slice_index c.store) (slice_index d.store) (reads_of g) (occurrences p ++ occurrences_of_choices more) h)) in
+    let here_same = value_same (slice_index c.store) (slice_index d.store) g (agree_left (slice_index c.store) (slice_index d.store) (reads_of g) (occurrences p
+        ++ occurrences_of_choices more) h) in
+    let more_same = open_same c d more (agree_right (slice_index c.store) (slice_index d.store) (occurrences p) (occurrences_of_choices more)
+        (agree_right (slice_index c.store) (slice_index d.store) (reads_of g) (occurrences p ++ occurrences_of_choices more) h)) in
     ap (λ v. if v == 1 then p ∷ open_branches c more else open_branches c more) here_same
     ∙ ap (λ ps. if value_in d g == 1 then p ∷ ps else ps) more_same
 
@@ -243,7 +257,8 @@ again (a_repetition {at = at} on) e kept = a_repetition (kept.stays at _ (inl re
 again (a_communication {c = c} {at = at} other {k = k} {x = x} {s = s} {t = t} {u = u} {e = f} on there inside) e kept =
     let same : value_in e f ≡ value_in c f = value_same (slice_index e.store) (slice_index c.store) f (λ y z i. kept.agrees _ on y z (inr i)) in
     subst (λ v. Step e at (passing (storing (leaving (leaving e at finished) other finished) x v) k v)) same
-    (a_communication other (kept.stays at _ (inl refl) on) (kept.stays other _ (inr refl) there) (kept.offers k (sends on (λ vs g. absurd (cc (inside, g)))) ∙ inside))
+    (a_communication other (kept.stays at _ (inl refl) on) (kept.stays other _ (inr refl) there) (kept.offers k (sends on (λ vs g. absurd (cc (inside, g))))
+        ∙ inside))
 again (a_delivery {c = c} {at = at} {k = k} {e = f} {count = count} on offered more) e kept =
     let same : value_in e f ≡ value_in c f = value_same (slice_index e.store) (slice_index c.store) f (λ y z i. kept.agrees _ on y z (inr i)) in
     subst (λ v. Step e at (passing (offering (leaving e at finished) k (takes (one_fewer count))) k v)) same
@@ -253,7 +268,8 @@ again (an_arrival {at = at} {k = k} on offered) e kept =
 
 -- what a step at another place leaves alone
 
-pub left_stays : (t : Term) (a : Place) (l : Term) (o : Option Place) (b : Place) (q : Process) → a ≢ b → ((w : Place) → o ≡ Some w → w ≢ b) → statement_at t b ≡ Some q → statement_at (leave t a l o) b ≡ Some q
+pub left_stays : (t : Term) (a : Place) (l : Term) (o : Option Place) (b : Place) (q : Process) → a ≢ b → ((w : Place) → o ≡ Some w → w ≢ b) →
+    statement_at t b ≡ Some q → statement_at (leave t a l o) b ≡ Some q
 left_stays t a l None b q ne other h = still t a b l q ne h
 left_stays t a l (Some w) b q ne other h = still (with_left t a l) w b finished q (other w refl) (still t a b l q ne h)
 
@@ -261,22 +277,26 @@ pub unwritten : (store : List ℕ) (w : Option (Entry ℕ)) (x : ℕ) → ((v : 
 unwritten store None x h = refl
 unwritten store (Some (entry y v)) x h = get_or-set_other store y x v 0 (λ e. h v (ap (λ z. Some (entry z v)) (sym e)))
 
-pub unoffered : (rests : List OfferValue) (o : Option (Entry OfferValue)) (k : ℕ) → ((v : OfferValue) → o ≢ Some (entry k v)) → offer_at (put rests o) k ≡ offer_at rests k
+pub unoffered : (rests : List OfferValue) (o : Option (Entry OfferValue)) (k : ℕ) → ((v : OfferValue) → o ≢ Some (entry k v)) →
+    offer_at (put rests o) k ≡ offer_at rests k
 unoffered rests None k h = refl
 unoffered rests (Some (entry l v)) k h = get_or-set_other rests l k v nothing (λ e. h v (ap (λ z. Some (entry z v)) (sym e)))
 
 pub undisturbed : {c d e : Configuration} {a b : Place} (s : Step c a d) (u : Step c b e) → Fits c.term → a ≢ b → Kept u (dealt c a (deal s))
 undisturbed {c = c} {a = a} {b = b} s u f ne = record {
-  stays = λ w p part h. left_stays c.term a (deal s).left (deal s).other w p (parts_apart s u f ne a w (inl refl) part) (λ o e. parts_apart s u f ne o w (inr e) part) h;
+  stays = λ w p part h. left_stays c.term a (deal s).left (deal s).other w p (parts_apart s u f ne a w (inl refl) part)
+      (λ o e. parts_apart s u f ne o w (inr e) part) h;
   agrees = λ q h x t i. unwritten c.store (deal s).write x (λ v e.
       let r = writer s x v e in
-      places_apart c.term r.place b r.process q f (parts_apart s u f ne r.place b r.part (inl refl)) r.is h (done_at (writes_var x) r.var_at) (done_at (reads_var x) t) r.writes i refl);
+      places_apart c.term r.place b r.process q f (parts_apart s u f ne r.place b r.part (inl refl)) r.is h (done_at (writes_var x) r.var_at)
+          (done_at (reads_var x) t) r.writes i refl);
   offers = λ k port. unoffered c.rests (deal s).offer k (λ v e. ports_apart c a b k f ne (offer_port s k v e) port);
 }
 
 -- two steps in either order come to the same
 
-pair_swapped : (t : Term) (a : Place) (l : Term) (o : Place) (b : Place) (m : Term) (p r q : Process) → a ≢ b → o ≢ b → a ≢ o → statement_at t a ≡ Some p → statement_at t o ≡ Some r → statement_at t b ≡ Some q
+pair_swapped : (t : Term) (a : Place) (l : Term) (o : Place) (b : Place) (m : Term) (p r q : Process) → a ≢ b → o ≢ b → a ≢ o → statement_at t a ≡ Some p →
+    statement_at t o ≡ Some r → statement_at t b ≡ Some q
     → with_left (with_left (with_left t a l) o finished) b m ≡ with_left (with_left (with_left t b m) a l) o finished
 pair_swapped t a l o b m p r q ab ob ao ha ho hb =
     swapped (with_left t a l) o b finished m r q ob (still t a o l r ao ho) (still t a b l q ab hb)
@@ -301,7 +321,8 @@ leaves_swap t a l None b m (Some w) first second apart own own' =
     let p = first a (inl refl) in
     let q = second b (inl refl) in
     let r = second w (inr refl) in
-    sym (pair_swapped t b m w a l q.0 r.0 p.0 (λ e. apart a b (inl refl) (inl refl) (sym e)) (λ e. apart a w (inl refl) (inr refl) (sym e)) (own' w refl) q.1 r.1 p.1)
+    sym (pair_swapped t b m w a l q.0 r.0 p.0 (λ e. apart a b (inl refl) (inl refl) (sym e)) (λ e. apart a w (inl refl) (inr refl) (sym e)) (own' w refl) q.1
+        r.1 p.1)
 leaves_swap t a l (Some o) b m (Some w) first second apart own own' =
     let p = first a (inl refl) in
     let r = first o (inr refl) in
@@ -314,17 +335,20 @@ leaves_swap t a l (Some o) b m (Some w) first second apart own own' =
     ∙ pair_swapped (with_left t b m) a l o w finished p.0 r.0 z.0 (apart a w (inl refl) (inr refl)) (apart o w (inr refl) (inr refl)) (own o refl)
     (bb a p.0 (λ e. ab (sym e)) p.1) (bb o r.0 (λ e. ob (sym e)) r.1) (bb w z.0 (own' w refl) z.1)
 
-writes_swap : (store : List ℕ) (w z : Option (Entry ℕ)) → ((x u v : ℕ) → w ≡ Some (entry x u) → z ≢ Some (entry x v)) → written (written store w) z ≡ written (written store z) w
+writes_swap : (store : List ℕ) (w z : Option (Entry ℕ)) → ((x u v : ℕ) → w ≡ Some (entry x u) → z ≢ Some (entry x v)) →
+    written (written store w) z ≡ written (written store z) w
 writes_swap store None z apart = refl
 writes_swap store (Some w) None apart = refl
 writes_swap store (Some (entry x u)) (Some (entry y v)) apart = set_comm store x y u v (λ e. apart x u v refl (ap (λ n. Some (entry n v)) (sym e)))
 
-offers_swap : (rests : List OfferValue) (w z : Option (Entry OfferValue)) → ((x : ℕ) (u v : OfferValue) → w ≡ Some (entry x u) → z ≢ Some (entry x v)) → put (put rests w) z ≡ put (put rests z) w
+offers_swap : (rests : List OfferValue) (w z : Option (Entry OfferValue)) → ((x : ℕ) (u v : OfferValue) → w ≡ Some (entry x u) → z ≢ Some (entry x v)) →
+    put (put rests w) z ≡ put (put rests z) w
 offers_swap rests None z apart = refl
 offers_swap rests (Some w) None apart = refl
 offers_swap rests (Some (entry x u)) (Some (entry y v)) apart = set_comm rests x y u v (λ e. apart x u v refl (ap (λ n. Some (entry n v)) (sym e)))
 
-passes_swap : (histories : List (List ℕ)) (w z : Option (Entry ℕ)) → ((x u v : ℕ) → w ≡ Some (entry x u) → z ≢ Some (entry x v)) → appended (appended histories w) z ≡ appended (appended histories z) w
+passes_swap : (histories : List (List ℕ)) (w z : Option (Entry ℕ)) → ((x u v : ℕ) → w ≡ Some (entry x u) → z ≢ Some (entry x v)) →
+    appended (appended histories w) z ≡ appended (appended histories z) w
 passes_swap histories None z apart = refl
 passes_swap histories (Some w) None apart = refl
 passes_swap histories (Some (entry x u)) (Some (entry y v)) apart =
@@ -344,12 +368,15 @@ own_apart _ w h e = cc h
 same_configuration : (c d : Configuration) → c.term ≡ d.term → c.store ≡ d.store → c.rests ≡ d.rests → c.histories ≡ d.histories → c ≡ d
 same_configuration c d e f g h = λ i. record { term = e i; store = f i; rests = g i; histories = h i }
 
-pub either_order : {c d e : Configuration} {a b : Place} (s : Step c a d) (u : Step c b e) → Fits c.term → a ≢ b → dealt (dealt c a (deal s)) b (deal u) ≡ dealt (dealt c b (deal u)) a (deal s)
+pub either_order : {c d e : Configuration} {a b : Place} (s : Step c a d) (u : Step c b e) → Fits c.term → a ≢ b →
+    dealt (dealt c a (deal s)) b (deal u) ≡ dealt (dealt c b (deal u)) a (deal s)
 either_order {c = c} {a = a} {b = b} s u f ne = same_configuration (dealt (dealt c a (deal s)) b (deal u)) (dealt (dealt c b (deal u)) a (deal s))
-    (leaves_swap c.term a (deal s).left (deal s).other b (deal u).left (deal u).other (part_stands s) (part_stands u) (parts_apart s u f ne) (own_apart s) (own_apart u))
+    (leaves_swap c.term a (deal s).left (deal s).other b (deal u).left (deal u).other (part_stands s) (part_stands u) (parts_apart s u f ne) (own_apart s)
+        (own_apart u))
     (writes_swap c.store (deal s).write (deal u).write (λ x m n g h.
     let r = writer s x m g in
     let q = writer u x n h in
-    places_apart c.term r.place q.place r.process q.process f (parts_apart s u f ne r.place q.place r.part q.part) r.is q.is (done_at (writes_var x) r.var_at) (done_at (writes_var x) q.var_at) r.writes q.writes refl))
+    places_apart c.term r.place q.place r.process q.process f (parts_apart s u f ne r.place q.place r.part q.part) r.is q.is (done_at (writes_var x) r.var_at)
+        (done_at (writes_var x) q.var_at) r.writes q.writes refl))
     (offers_swap c.rests (deal s).offer (deal u).offer (λ k m n g h. ports_apart c a b k f ne (offer_port s k m g) (offer_port u k n h)))
     (passes_swap c.histories (deal s).pass (deal u).pass (λ k m n g h. ports_apart c a b k f ne (pass_port s k m g) (pass_port u k n h)))

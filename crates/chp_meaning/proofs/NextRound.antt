@@ -41,7 +41,8 @@ in_moves o (p ∷ ps) w i = by_side (in_either (option_to_list (move_of o p)) (m
     here (Some u) (inl e) = ap Some e
     here (Some u) (inr j) = absurd j
 
-    by_side : In (option_to_list (move_of o p)) w ⊎ In (moves_of o ps) w → (In (moves_of o ps) w → (q : Process) × In ps q × (move_of o q ≡ Some w)) → (q : Process) × In (p ∷ ps) q × (move_of o q ≡ Some w)
+    by_side : In (option_to_list (move_of o p)) w ⊎ In (moves_of o ps) w → (In (moves_of o ps) w → (q : Process) × In ps q × (move_of o q ≡ Some w)) →
+        (q : Process) × In (p ∷ ps) q × (move_of o q ≡ Some w)
     by_side (inl j) rest = (p, inl refl, here (move_of o p) j)
     by_side (inr j) rest = let r = rest j in (r.0, inr r.1, r.2)
 
@@ -68,7 +69,8 @@ meeting_within n m k v (Some x) w lt below e =
     let same : made ≡ w = cc e in
     subst (Within n m) same (record { passes = lt-ltb k n lt; writes = lt-ltb x m (below x refl); uses = refl })
 
-sent_within : (n m : ℕ) (o : Outset) (k v : ℕ) (offer : OfferValue) (w : Move) → k < n → ((y : ℕ) → slice_index_or o.receives k None ≡ Some y → y < m) → sent_move o k v offer ≡ Some w → Within n m w
+sent_within : (n m : ℕ) (o : Outset) (k v : ℕ) (offer : OfferValue) (w : Move) → k < n → ((y : ℕ) → slice_index_or o.receives k None ≡ Some y → y < m) →
+    sent_move o k v offer ≡ Some w → Within n m w
 sent_within n m o k v (gives vs) w lt below e = absurd (cc e)
 sent_within n m o k v nothing w lt below e = meeting_within n m k v (slice_index_or o.receives k None) w lt below e
 sent_within n m o k v (takes count) w lt below e = by_count (is_over count 0) e
@@ -77,7 +79,8 @@ sent_within n m o k v (takes count) w lt below e = by_count (is_over count 0) e
     made = record { write = None; uses = Some k; pass = Some (k, v) }
 
     by_count : (b : Bool) → (if b then Some (record { write = None; uses = Some k; pass = Some (k, v) }) else None) ≡ Some w → Within n m w
-    by_count true g = let same : ◌≡◌ {A = Move} (record { write = None; uses = Some k; pass = Some (k, v) }) w = cc g in subst (Within n m) same (record { passes = lt-ltb k n lt; writes = refl; uses = lt-ltb k n lt })
+    by_count true g = let same : ◌≡◌ {A = Move} (record { write = None; uses = Some k; pass = Some (k, v) }) w = cc g in
+        subst (Within n m) same (record { passes = lt-ltb k n lt; writes = refl; uses = lt-ltb k n lt })
     by_count false g = absurd (cc g)
 
 received_within : (n m k x : ℕ) (v : Option ℕ) (w : Move) → k < n → x < m → received_move k x v ≡ Some w → Within n m w
@@ -94,7 +97,8 @@ chosen_within n m false (One k) w e = plain_within n m w e
 chosen_within n m true Many w e = absurd (cc e)
 chosen_within n m false Many w e = absurd (cc e)
 
-move_within : (n m : ℕ) (o : Outset) (q : Process) (w : Move) → IsRunnable n m q → ((k y : ℕ) → slice_index_or o.receives k None ≡ Some y → y < m) → move_of o q ≡ Some w → Within n m w
+move_within : (n m : ℕ) (o : Outset) (q : Process) (w : Move) → IsRunnable n m q → ((k y : ℕ) → slice_index_or o.receives k None ≡ Some y → y < m) →
+    move_of o q ≡ Some w → Within n m w
 move_within n m o skipping w r below e = plain_within n m w e
 move_within n m o (assigning x s i) w r below e =
     let same : ◌≡◌ {A = Move} (record { write = Some (x, value (λ j. slice_index_or o.store j 0) i); uses = None; pass = None }) w = cc e in
@@ -108,13 +112,16 @@ move_within n m o (repeating p) w r below e = plain_within n m w e
 
 -- how a program stands
 
-all_run : (body : Process) (c : Config) → IsStanding body c → (q : Process) → In (statements body (remains_of c.left)) q → Runs (length c.rests.items) (length c.store.items) q
+all_run : (body : Process) (c : Config) → IsStanding body c → (q : Process) → In (statements body (remains_of c.left)) q →
+    Runs (length c.rests.items) (length c.store.items) q
 all_run body c s q i = statements_run (length c.rests.items) (length c.store.items) body (remains_of c.left) s.runnable s.remains q i
 
-noted_below : (body : Process) (c : Config) → IsStanding body c → (k y : ℕ) → slice_index_or (next_outset body c).receives k None ≡ Some y → y < length c.store.items
+noted_below : (body : Process) (c : Config) → IsStanding body c → (k y : ℕ) → slice_index_or (next_outset body c).receives k None ≡ Some y →
+    y < length c.store.items
 noted_below body c s k y e = by_case (noted_receives (statements body (remains_of c.left)) (replicate (length c.rests.items) None) k y e)
   where
-    by_case : (get_or (replicate (length c.rests.items) None) k None ≡ Some y) ⊎ ((a : Span) × (b : Span) × In (statements body (remains_of c.left)) (receiving k a y b)) → y < length c.store.items
+    by_case : (get_or (replicate (length c.rests.items) None) k None ≡ Some y) ⊎ ((a : Span) × (b : Span)
+        × In (statements body (remains_of c.left)) (receiving k a y b)) → y < length c.store.items
     by_case (inl g) = absurd (cc (sym (none_there (length c.rests.items) k None) ∙ g))
     by_case (inr (a, b, i)) = (all_run body c s (receiving k a y b) i).0.1
 
@@ -125,7 +132,8 @@ each_within body c s w i =
 
 pub plan_within : (body : Process) (c : Config) (moves : List Move) → IsStanding body c → moves ≡ next_moves body c → AreWithin c moves
 plan_within body c moves s e = subst (AreWithin c) (sym e) (record {
-  passes = all_from_in (λ (w : Move). is_below (length c.histories.items) w.pass ≡ true) (next_moves body c) (λ w i. subst (λ n. is_below n w.pass ≡ true) (sym s.histories) (each_within body c s w i).passes);
+  passes = all_from_in (λ (w : Move). is_below (length c.histories.items) w.pass ≡ true) (next_moves body c)
+      (λ w i. subst (λ n. is_below n w.pass ≡ true) (sym s.histories) (each_within body c s w i).passes);
   writes = all_from_in (λ (w : Move). is_below (length c.store.items) w.write ≡ true) (next_moves body c) (λ w i. (each_within body c s w i).writes);
   uses = all_from_in (λ (w : Move). number_below (length c.rests.items) w.uses ≡ true) (next_moves body c) (λ w i. (each_within body c s w i).uses);
 })
@@ -150,22 +158,26 @@ used_length rests (w ∷ ms) = used_length (used rests w) ms ∙ one w.uses
 
 settled_rests : (c d : Config) (left : Left) (moves : List Move) → IsSettled c d left moves → length d.rests.items ≡ length c.rests.items
 settled_rests c d left moves s =
-    sym (length-map d.rests.items rest_of) ∙ (ap (λ (xs : List OfferValue). length xs) s.rests ∙ (used_length (map rest_of c.rests.items) moves ∙ length-map c.rests.items rest_of))
+    sym (length-map d.rests.items rest_of) ∙ (ap (λ (xs : List OfferValue). length xs) s.rests
+        ∙ (used_length (map rest_of c.rests.items) moves ∙ length-map c.rests.items rest_of))
 
 settled_store : (c d : Config) (left : Left) (moves : List Move) → IsSettled c d left moves → length d.store.items ≡ length c.store.items
 settled_store c d left moves s = ap (λ (xs : List ℕ). length xs) s.store ∙ written_length c.store.items moves
 
 settled_histories : (c d : Config) (left : Left) (moves : List Move) → IsSettled c d left moves → length d.histories.items ≡ length c.histories.items
 settled_histories c d left moves s =
-    sym (length-map d.histories.items (λ h. h.items)) ∙ (ap (λ (xs : List (List ℕ)). length xs) s.histories ∙ (all_passed_length (histories_of c) moves ∙ length-map c.histories.items (λ h. h.items)))
+    sym (length-map d.histories.items (λ h. h.items))
+        ∙ (ap (λ (xs : List (List ℕ)). length xs) s.histories ∙ (all_passed_length (histories_of c) moves ∙ length-map c.histories.items (λ h. h.items)))
 
-pub settled_stands : (body : Process) (c d : Config) (left : Left) (moves : List Move) → IsStanding body c → IsPlan body c left moves → IsSettled c d left moves → IsStanding body d
+pub settled_stands : (body : Process) (c d : Config) (left : Left) (moves : List Move) → IsStanding body c → IsPlan body c left moves →
+    IsSettled c d left moves → IsStanding body d
 settled_stands body c d left moves s p t =
     let n = settled_rests c d left moves t in
     let m = settled_store c d left moves t in
     record {
       runnable = subst (λ k. IsRunnable k (length d.store.items) body) (sym n) (subst (λ k. IsRunnable (length c.rests.items) k body) (sym m) s.runnable);
-      remains = subst (CanRemain body) (sym (ap remains_of t.left_is ∙ p.left_is)) (advanced_can (length c.rests.items) (length c.store.items) (next_outset body c) body (remains_of c.left) s.runnable s.remains);
+      remains = subst (CanRemain body) (sym (ap remains_of t.left_is ∙ p.left_is))
+          (advanced_can (length c.rests.items) (length c.store.items) (next_outset body c) body (remains_of c.left) s.runnable s.remains);
       histories = settled_histories c d left moves t ∙ (s.histories ∙ sym n);
       sends = t.sends ∙ (s.sends ∙ ap (λ k. replicate k false) (sym n));
       receives = t.receives ∙ (s.receives ∙ ap (λ k. replicate k None) (sym n));
@@ -180,7 +192,8 @@ outset_same body c =
     ap (λ (k : ℕ). outset_of k (actives (term_of body (remains_of c.left)))) n ∙ ap (λ (ps : List Process). outset_of (length c.rests.items) ps) ss
   where
     outset_of : ℕ → List Process → Outset
-    outset_of k ps = record { store = c.store.items; rests = map rest_of c.rests.items; sends = fold (noted_send true) (replicate k false) ps; receives = fold (noted_receive true) (replicate k None) ps }
+    outset_of k ps = record { store = c.store.items; rests = map rest_of c.rests.items; sends = fold (noted_send true) (replicate k false) ps; receives =
+        fold (noted_receive true) (replicate k None) ps }
 
 runs_all : (body : Process) (c : Config) → IsStanding body c → AllRun (configuration_of body c) (length c.store.items)
 runs_all body c s q i =
@@ -191,12 +204,14 @@ round_parts : (body : Process) (c : Config) → IsStanding body c → Fits (conf
 round_parts body c s f = at_once (configuration_of body c) (length c.store.items) f (lively body (remains_of c.left) s.remains) (runs_all body c s)
 
 moves_same : (body : Process) (c : Config) → moves_of (outset_for (configuration_of body c)) (actives (configuration_of body c).term) ≡ next_moves body c
-moves_same body c = ap (λ o. moves_of o (actives (term_of body (remains_of c.left)))) (outset_same body c) ∙ ap (moves_of (next_outset body c)) (sym (statements_are body (remains_of c.left)))
+moves_same body c = ap (λ o. moves_of o (actives (term_of body (remains_of c.left)))) (outset_same body c)
+    ∙ ap (moves_of (next_outset body c)) (sym (statements_are body (remains_of c.left)))
 
 same_parts : (c d : Configuration) → c.term ≡ d.term → c.store ≡ d.store → c.rests ≡ d.rests → c.histories ≡ d.histories → c ≡ d
 same_parts c d e f g h = λ i. record { term = e i; store = f i; rests = g i; histories = h i }
 
-pub settled_round : (body : Process) (c d : Config) (left : Left) (moves : List Move) → IsStanding body c → Fits (configuration_of body c).term → IsPlan body c left moves → IsSettled c d left moves → configuration_of body d ≡ round (configuration_of body c)
+pub settled_round : (body : Process) (c d : Config) (left : Left) (moves : List Move) → IsStanding body c → Fits (configuration_of body c).term →
+    IsPlan body c left moves → IsSettled c d left moves → configuration_of body d ≡ round (configuration_of body c)
 settled_round body c d left moves s f p t =
     let r = round_parts body c s f in
     let ms : moves ≡ moves_of (outset_for (configuration_of body c)) (actives (configuration_of body c).term) = p.moves_are ∙ sym (moves_same body c) in
@@ -208,22 +223,26 @@ settled_round body c d left moves s f p t =
     (t.rests ∙ (ap (fold used (map rest_of c.rests.items)) ms ∙ sym r.rests))
     (t.histories ∙ (ap (fold passed (histories_of c)) ms ∙ sym r.histories))
 
-pub no_step_planned : (body : Process) (c : Config) → IsStanding body c → Fits (configuration_of body c).term → next_moves body c ≡ [] → (at : Place) (d : Configuration) → ¬ Step (configuration_of body c) at d
+pub no_step_planned : (body : Process) (c : Config) → IsStanding body c → Fits (configuration_of body c).term → next_moves body c ≡ [] →
+    (at : Place) (d : Configuration) → ¬ Step (configuration_of body c) at d
 no_step_planned body c s f e = still_if_none (configuration_of body c) (length c.store.items) f (runs_all body c s) (moves_same body c ∙ e)
 
-pub step_planned : (body : Process) (c : Config) (w : Move) (ws : List Move) → next_moves body c ≡ w ∷ ws → (at : Place) × (d : Configuration) × Step (configuration_of body c) at d
+pub step_planned : (body : Process) (c : Config) (w : Move) (ws : List Move) → next_moves body c ≡ w ∷ ws →
+    (at : Place) × (d : Configuration) × Step (configuration_of body c) at d
 step_planned body c w ws e = step_if_some (configuration_of body c) w ws (moves_same body c ∙ e)
 
 -- nothing has changed
 
 pub unchanged_same : (body : Process) (c d : Config) → IsUnchanged c d → configuration_of body d ≡ configuration_of body c
-unchanged_same body c d u = same_parts (configuration_of body d) (configuration_of body c) (ap (λ l. term_of body (remains_of l)) u.left_is) u.store (ap (λ v. map rest_of v.items) u.rests) u.histories
+unchanged_same body c d u = same_parts (configuration_of body d) (configuration_of body c) (ap (λ l. term_of body (remains_of l)) u.left_is) u.store
+    (ap (λ v. map rest_of v.items) u.rests) u.histories
 
 pub unchanged_stands : (body : Process) (c d : Config) → IsStanding body c → IsUnchanged c d → IsStanding body d
 unchanged_stands body c d s u =
     let n : length d.rests.items ≡ length c.rests.items = ap (λ v. length v.items) u.rests in
     let m : length d.store.items ≡ length c.store.items = ap (λ (xs : List ℕ). length xs) u.store in
-    let h : length d.histories.items ≡ length c.histories.items = sym (length-map d.histories.items (λ x. x.items)) ∙ (ap (λ (xs : List (List ℕ)). length xs) u.histories ∙ length-map c.histories.items (λ x. x.items)) in
+    let h : length d.histories.items ≡ length c.histories.items = sym (length-map d.histories.items (λ x. x.items))
+        ∙ (ap (λ (xs : List (List ℕ)). length xs) u.histories ∙ length-map c.histories.items (λ x. x.items)) in
     record {
       runnable = subst (λ k. IsRunnable k (length d.store.items) body) (sym n) (subst (λ k. IsRunnable (length c.rests.items) k body) (sym m) s.runnable);
       remains = subst (λ l. CanRemain body (remains_of l)) (sym u.left_is) s.remains;
@@ -237,7 +256,8 @@ unchanged_stands body c d s u =
 pub held_set : (hs : List (List ℕ)) (k : ℕ) (h : List ℕ) → k < length hs → held (set hs k (get_or hs k [] ++ h)) ≡ held hs + length h
 held_set [] k h lt = absurd (omega (arith, lt))
 held_set (x ∷ xs) zero h lt = omega (arith, sum_by-cons length (x ++ h) xs, sum_by-cons length x xs, length-append x h)
-held_set (x ∷ xs) (suc k) h lt = omega (arith, sum_by-cons length x (set xs k (get_or xs k [] ++ h)), sum_by-cons length x xs, held_set xs k h (omega (arith, lt)))
+held_set (x ∷ xs) (suc k) h lt = omega (arith, sum_by-cons length x (set xs k (get_or xs k [] ++ h)), sum_by-cons length x xs,
+    held_set xs k h (omega (arith, lt)))
 
 abbrev pub passing : List Move → ℕ
 passing ms = count_by (λ (w : Move). is_some w.pass) ms
@@ -250,13 +270,15 @@ passed_length : (hs : List (List ℕ)) (x : Option (ℕ × ℕ)) → length (pas
 passed_length hs None = refl
 passed_length hs (Some p) = length-set hs p.0 (history_at hs p.0 ++ p.1 ∷ [])
 
-pub held_passed : (ms : List Move) (hs : List (List ℕ)) → ((w : Move) → In ms w → is_below (length hs) w.pass ≡ true) → held (fold passed hs ms) ≡ held hs + passing ms
+pub held_passed : (ms : List Move) (hs : List (List ℕ)) → ((w : Move) → In ms w → is_below (length hs) w.pass ≡ true) →
+    held (fold passed hs ms) ≡ held hs + passing ms
 held_passed [] hs below = omega arith
 held_passed (w ∷ ms) hs below =
     let next = held_passed ms (passed hs w) (λ u i. subst (λ n. is_below n u.pass ≡ true) (sym (passed_length hs w.pass)) (below u (inr i))) in
     omega (arith, next, one_held hs w.pass (below w (inl refl)), sum_by-cons (λ (x : Move). cond (is_some x.pass) 1 0) w ms)
 
-pub settled_held : (body : Process) (c d : Config) (left : Left) (moves : List Move) → IsStanding body c → IsPlan body c left moves → IsSettled c d left moves → held (histories_of d) ≡ held (histories_of c) + passing moves
+pub settled_held : (body : Process) (c d : Config) (left : Left) (moves : List Move) → IsStanding body c → IsPlan body c left moves → IsSettled c d left moves →
+    held (histories_of d) ≡ held (histories_of c) + passing moves
 settled_held body c d left moves s p t =
     ap held t.histories ∙ held_passed moves (histories_of c) (λ w i.
     let j = subst (λ (ms : List Move). In ms w) p.moves_are i in
@@ -268,7 +290,8 @@ pub within_after : (c d : Config) (moves : List Move) → IsUnchanged c d → Ar
 within_after c d moves u w =
     let n : length d.rests.items ≡ length c.rests.items = ap (λ v. length v.items) u.rests in
     let m : length d.store.items ≡ length c.store.items = ap (λ (xs : List ℕ). length xs) u.store in
-    let h : length d.histories.items ≡ length c.histories.items = sym (length-map d.histories.items (λ x. x.items)) ∙ (ap (λ (xs : List (List ℕ)). length xs) u.histories ∙ length-map c.histories.items (λ x. x.items)) in
+    let h : length d.histories.items ≡ length c.histories.items = sym (length-map d.histories.items (λ x. x.items))
+        ∙ (ap (λ (xs : List (List ℕ)). length xs) u.histories ∙ length-map c.histories.items (λ x. x.items)) in
     record {
       passes = subst (λ k. All (λ (x : Move). is_below k x.pass ≡ true) moves) (sym h) w.passes;
       writes = subst (λ k. All (λ (x : Move). is_below k x.write ≡ true) moves) (sym m) w.writes;
@@ -299,14 +322,17 @@ pub planned_of : (body : Process) (c : Config) (left : Left) (all some : List Mo
 planned_of body c left all some e p = record { left_is = p.left_is; moves_are = e ∙ p.moves_are }
 
 -- the histories from a place on
-pub held_next : (hs : List (Vec ℕ Global)) (i : ℕ) (h : Vec ℕ Global) → i < length hs → h ≡ get_or hs i h → held (items_of (drop i hs)) ≡ length h.items + held (items_of (drop (i + 1) hs))
+pub held_next : (hs : List (Vec ℕ Global)) (i : ℕ) (h : Vec ℕ Global) → i < length hs → h ≡ get_or hs i h →
+    held (items_of (drop i hs)) ≡ length h.items + held (items_of (drop (i + 1) hs))
 held_next hs i h lt at =
-    ap (λ xs. held (items_of xs)) (drop_more hs i h lt) ∙ (ap (λ (x : Vec ℕ Global). held (x.items ∷ items_of (drop (i + 1) hs))) (sym at) ∙ sum_by-cons length h.items (items_of (drop (i + 1) hs)))
+    ap (λ xs. held (items_of xs)) (drop_more hs i h lt) ∙ (ap (λ (x : Vec ℕ Global). held (x.items ∷ items_of (drop (i + 1) hs))) (sym at)
+        ∙ sum_by-cons length h.items (items_of (drop (i + 1) hs)))
 
 pub held_last : (hs : List (Vec ℕ Global)) (i : ℕ) → length hs ≤ i → held (items_of (drop i hs)) ≡ 0
 held_last hs i le = ap (λ xs. held (items_of xs)) (drop_all i hs le)
 
-pub planned_held : (body : Process) (c : Config) (left : Left) (moves : List Move) → IsStanding body c → Fits (configuration_of body c).term → IsPlan body c left moves → held (round (configuration_of body c)).histories ≡ held (histories_of c) + passing moves
+pub planned_held : (body : Process) (c : Config) (left : Left) (moves : List Move) → IsStanding body c → Fits (configuration_of body c).term →
+    IsPlan body c left moves → held (round (configuration_of body c)).histories ≡ held (histories_of c) + passing moves
 planned_held body c left moves s f p =
     let r = round_parts body c s f in
     let ms : moves ≡ moves_of (outset_for (configuration_of body c)) (actives (configuration_of body c).term) = p.moves_are ∙ sym (moves_same body c) in

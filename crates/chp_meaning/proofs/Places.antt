@@ -47,7 +47,8 @@ pub in_filtered : {X : Type 0} (f : X → Bool) (xs : List X) (x : X) → In (fi
 in_filtered f [] x h = absurd h
 in_filtered f (y ∷ xs) x h = by_test (f y) refl h (in_filtered f xs x)
   where
-    by_test : (b : Bool) → f y ≡ b → In (cond b (y ∷ filter f xs) (filter f xs)) x → (In (filter f xs) x → In xs x × (f x ≡ true)) → In (y ∷ xs) x × (f x ≡ true)
+    by_test : (b : Bool) → f y ≡ b → In (cond b (y ∷ filter f xs) (filter f xs)) x → (In (filter f xs) x → In xs x × (f x ≡ true)) →
+        In (y ∷ xs) x × (f x ≡ true)
     by_test true e (inl same) rest = (inl same, sym (ap f same) ∙ e)
     by_test true e (inr k) rest = (inr (rest k).0, (rest k).1)
     by_test false e k rest = (inr (rest k).0, (rest k).1)
@@ -147,7 +148,8 @@ mutual
       let on = branch_still ts i a j b l q ne h in
       ap (λ x. statement_at x (in_branch j b)) (together_on (with_branch ts i a l) j b q on) ∙ on
 
-  pub branch_still : (ts : Terms) (i : ℕ) (a : Place) (j : ℕ) (b : Place) (l : Term) (q : Process) → in_branch i a ≢ in_branch j b → branch_at ts j b ≡ Some q → branch_at (with_branch ts i a l) j b ≡ Some q
+  pub branch_still : (ts : Terms) (i : ℕ) (a : Place) (j : ℕ) (b : Place) (l : Term) (q : Process) → in_branch i a ≢ in_branch j b → branch_at ts j b ≡ Some q →
+      branch_at (with_branch ts i a l) j b ≡ Some q
   branch_still no_branches i a j b l q ne h = absurd (cc h)
   branch_still (and_branch t more) zero a zero b l q ne h = still t a b l q (λ e. ne (ap (in_branch zero) e)) h
   branch_still (and_branch t more) zero a (suc j) b l q ne h = h
@@ -156,7 +158,8 @@ mutual
 
 -- what is left at two places may be left in either order
 mutual
-  pub swapped : (t : Term) (a b : Place) (l m : Term) (p q : Process) → a ≢ b → statement_at t a ≡ Some p → statement_at t b ≡ Some q → with_left (with_left t a l) b m ≡ with_left (with_left t b m) a l
+  pub swapped : (t : Term) (a b : Place) (l m : Term) (p q : Process) → a ≢ b → statement_at t a ≡ Some p → statement_at t b ≡ Some q →
+      with_left (with_left t a l) b m ≡ with_left (with_left t b m) a l
   swapped finished a b l m p q ne g h = absurd (cc h)
   swapped (active r) here here l m p q ne g h = absurd (ne refl)
   swapped (active r) (in_first a) b l m p q ne g h = absurd (cc g)
@@ -183,7 +186,8 @@ mutual
       ∙ (ap together (branch_swapped ts i a j b l m p q ne g h)
       ∙ sym (ap (λ x. with_left x (in_branch i a) l) (together_on (with_branch ts j b m) i a p (branch_still ts j b i a m p back g))))
 
-  branch_swapped : (ts : Terms) (i : ℕ) (a : Place) (j : ℕ) (b : Place) (l m : Term) (p q : Process) → in_branch i a ≢ in_branch j b → branch_at ts i a ≡ Some p → branch_at ts j b ≡ Some q → with_branch (with_branch ts i a l) j b m ≡ with_branch (with_branch ts j b m) i a l
+  branch_swapped : (ts : Terms) (i : ℕ) (a : Place) (j : ℕ) (b : Place) (l m : Term) (p q : Process) → in_branch i a ≢ in_branch j b →
+      branch_at ts i a ≡ Some p → branch_at ts j b ≡ Some q → with_branch (with_branch ts i a l) j b m ≡ with_branch (with_branch ts j b m) i a l
   branch_swapped no_branches i a j b l m p q ne g h = refl
   branch_swapped (and_branch t more) zero a zero b l m p q ne g h = ap (λ x. and_branch x more) (swapped t a b l m p q (λ e. ne (ap (in_branch zero) e)) g h)
   branch_swapped (and_branch t more) zero a (suc j) b l m p q ne g h = refl
@@ -202,22 +206,26 @@ mutual
   listed (in_sequence t more) (in_branch i a) p h = absurd (cc h)
   listed (in_parallel ts) here p h = absurd (cc h)
   listed (in_parallel ts) (in_first a) p h = absurd (cc h)
-  listed (in_parallel ts) (in_branch i a) p h = let e : 0 + i ≡ i = omega arith in subst (λ k. In (branch_places 0 ts) (in_branch k a)) e (branch_listed 0 ts i a p h)
+  listed (in_parallel ts) (in_branch i a) p h = let e : 0 + i ≡ i = omega arith in
+      subst (λ k. In (branch_places 0 ts) (in_branch k a)) e (branch_listed 0 ts i a p h)
 
   branch_listed : (k : ℕ) (ts : Terms) (i : ℕ) (a : Place) (p : Process) → branch_at ts i a ≡ Some p → In (branch_places k ts) (in_branch (k + i) a)
   branch_listed k no_branches i a p h = absurd (cc h)
   branch_listed k (and_branch t more) zero a p h =
       let e : k ≡ k + 0 = omega arith in
-      in_left (map (in_branch k) (places t)) (branch_places (suc k) more) (in_branch (k + 0) a) (subst (λ i. In (map (in_branch k) (places t)) (in_branch i a)) e (in_map (in_branch k) (places t) a (listed t a p h)))
+      in_left (map (in_branch k) (places t)) (branch_places (suc k) more) (in_branch (k + 0) a)
+          (subst (λ i. In (map (in_branch k) (places t)) (in_branch i a)) e (in_map (in_branch k) (places t) a (listed t a p h)))
   branch_listed k (and_branch t more) (suc i) a p h =
       let e : suc k + i ≡ k + suc i = omega arith in
-      in_right (map (in_branch k) (places t)) (branch_places (suc k) more) (in_branch (k + suc i) a) (subst (λ n. In (branch_places (suc k) more) (in_branch n a)) e (branch_listed (suc k) more i a p h))
+      in_right (map (in_branch k) (places t)) (branch_places (suc k) more) (in_branch (k + suc i) a)
+          (subst (λ n. In (branch_places (suc k) more) (in_branch n a)) e (branch_listed (suc k) more i a p h))
 
 numbered : (k : ℕ) (ts : Terms) (a : Place) → In (branch_places k ts) a → (i : ℕ) × (b : Place) × (k ≤ i) × (in_branch i b ≡ a)
 numbered k no_branches a h = absurd h
 numbered k (and_branch t more) a h = by_side (in_either (map (in_branch k) (places t)) (branch_places (suc k) more) a h) (numbered (suc k) more a)
   where
-    by_side : In (map (in_branch k) (places t)) a ⊎ In (branch_places (suc k) more) a → (In (branch_places (suc k) more) a → (i : ℕ) × (b : Place) × (suc k ≤ i) × (in_branch i b ≡ a)) → (i : ℕ) × (b : Place) × (k ≤ i) × (in_branch i b ≡ a)
+    by_side : In (map (in_branch k) (places t)) a ⊎ In (branch_places (suc k) more) a →
+        (In (branch_places (suc k) more) a → (i : ℕ) × (b : Place) × (suc k ≤ i) × (in_branch i b ≡ a)) → (i : ℕ) × (b : Place) × (k ≤ i) × (in_branch i b ≡ a)
     by_side (inl x) rest = let r = in_mapped (in_branch k) (places t) a x in (k, r.0, omega arith, r.2)
     by_side (inr x) rest = let r = rest x in (r.0, r.1, omega (arith, r.2), r.3)
 

@@ -27,15 +27,18 @@ guards_formed : (n m : ℕ) (cs : Choices) → ChoicesRunnable n m cs → Guards
 guards_formed n m no_choices r = tt
 guards_formed n m (and_choice g p more) r = (r.0, guards_formed n m more r.2)
 
-pub guards_have : (n m : ℕ) (s : TStmt) (again : Bool) (v : Vec TArm Global) (xs : List TArm) → s ≡ Select again v → xs ≡ v.items → IsRunnable n m (process_of s) → GuardsHaveValues (choices_of xs)
+pub guards_have : (n m : ℕ) (s : TStmt) (again : Bool) (v : Vec TArm Global) (xs : List TArm) → s ≡ Select again v → xs ≡ v.items →
+    IsRunnable n m (process_of s) → GuardsHaveValues (choices_of xs)
 guards_have n m s again v xs is same r =
-    subst (λ (ys : List TArm). GuardsHaveValues (choices_of ys)) (sym same) (guards_formed n m (choices_of v.items) (subst (λ p. IsRunnable n m p) (select_said s again v is) r))
+    subst (λ (ys : List TArm). GuardsHaveValues (choices_of ys)) (sym same)
+        (guards_formed n m (choices_of v.items) (subst (λ p. IsRunnable n m p) (select_said s again v is) r))
 
 guards_below : (store : List ℕ) (j : ℕ) (cs : Choices) (k : ℕ) → In (true_guards store j cs) k → k < j + choice_count cs
 guards_below store j no_choices k i = absurd i
 guards_below store j (and_choice g p more) k i = by_test (value (slice_index store) g == 1) i (guards_below store (j + 1) more k)
   where
-    by_test : (b : Bool) → In (if b then j ∷ true_guards store (j + 1) more else true_guards store (j + 1) more) k → (In (true_guards store (j + 1) more) k → k < j + 1 + choice_count more) → k < j + suc (choice_count more)
+    by_test : (b : Bool) → In (if b then j ∷ true_guards store (j + 1) more else true_guards store (j + 1) more) k →
+        (In (true_guards store (j + 1) more) k → k < j + 1 + choice_count more) → k < j + suc (choice_count more)
     by_test true (inl e) rest = omega (arith, e)
     by_test true (inr h) rest = omega (arith, rest h)
     by_test false h rest = omega (arith, rest h)
@@ -48,20 +51,24 @@ one_counted (j ∷ i ∷ ks) k e = absurd (cc e)
 pub one_below : (store : List ℕ) (cs : Choices) (k : ℕ) → One k ≡ counted (true_guards store 0 cs) → k < choice_count cs
 one_below store cs k e = let below = guards_below store 0 cs k (one_counted (true_guards store 0 cs) k e) in omega (arith, below)
 
-pub one_within : (store : List ℕ) (s : TStmt) (again : Bool) (v : Vec TArm Global) (xs : List TArm) (k : ℕ) → s ≡ Select again v → xs ≡ v.items → One k ≡ counted (true_guards store 0 (choices_of xs)) → k < part_count (process_of s)
+pub one_within : (store : List ℕ) (s : TStmt) (again : Bool) (v : Vec TArm Global) (xs : List TArm) (k : ℕ) → s ≡ Select again v → xs ≡ v.items →
+    One k ≡ counted (true_guards store 0 (choices_of xs)) → k < part_count (process_of s)
 one_within store s again v xs k is same e =
     let below = guards_below store 0 (choices_of xs) k (one_counted (true_guards store 0 (choices_of xs)) k e) in
-    let count : choice_count (choices_of xs) ≡ part_count (process_of s) = ap (λ (ys : List TArm). choice_count (choices_of ys)) same ∙ ap part_count (sym (select_said s again v is)) in
+    let count : choice_count (choices_of xs) ≡ part_count (process_of s) = ap (λ (ys : List TArm). choice_count (choices_of ys)) same
+        ∙ ap part_count (sym (select_said s again v is)) in
     omega (arith, below, count)
 
-pub select_remains : (o : Outset) (s : TStmt) (again : Bool) (v : Vec TArm Global) (xs : List TArm) (g : TrueGuards) → s ≡ Select again v → xs ≡ v.items → g ≡ counted (true_guards o.store 0 (choices_of xs))
+pub select_remains : (o : Outset) (s : TStmt) (again : Bool) (v : Vec TArm Global) (xs : List TArm) (g : TrueGuards) → s ≡ Select again v → xs ≡ v.items →
+    g ≡ counted (true_guards o.store 0 (choices_of xs))
     → step_remains o (process_of s) ≡ chosen_remains (process_of s) again g
 select_remains o s again v xs g is same e =
     ap (step_remains o) (select_said s again v is)
     ∙ (ap (λ p. chosen_remains p again (counted (true_guards o.store 0 (choices_of v.items)))) (sym (select_said s again v is))
     ∙ ap (chosen_remains (process_of s) again) (ap (λ (ys : List TArm). counted (true_guards o.store 0 (choices_of ys))) (sym same) ∙ sym e))
 
-pub select_move : (o : Outset) (s : TStmt) (again : Bool) (v : Vec TArm Global) (xs : List TArm) (g : TrueGuards) → s ≡ Select again v → xs ≡ v.items → g ≡ counted (true_guards o.store 0 (choices_of xs))
+pub select_move : (o : Outset) (s : TStmt) (again : Bool) (v : Vec TArm Global) (xs : List TArm) (g : TrueGuards) → s ≡ Select again v → xs ≡ v.items →
+    g ≡ counted (true_guards o.store 0 (choices_of xs))
     → move_of o (process_of s) ≡ choosing_move again g
 select_move o s again v xs g is same e =
     ap (move_of o) (select_said s again v is)
@@ -69,19 +76,23 @@ select_move o s again v xs g is same e =
 
 -- what is left of a part
 
-pub inner_remains : (l : Left) (k : ℕ) (b : Box Left Global) (p : Process) → l ≡ Inside k b → CanRemain p (remains_of l) → (k < part_count p) × CanRemain (part_of p k) (remains_of b.value)
+pub inner_remains : (l : Left) (k : ℕ) (b : Box Left Global) (p : Process) → l ≡ Inside k b → CanRemain p (remains_of l) →
+    (k < part_count p) × CanRemain (part_of p k) (remains_of b.value)
 inner_remains l k b p is h = let r = subst (λ x. CanRemain p x) (inside_said l k b is) h in (r.0, r.3)
 
-pub branch_remains : (l : Left) (v : Vec Left Global) (p : Process) → l ≡ Branches v → CanRemain p (remains_of l) → (length v.items ≡ part_count p) × EachCanRemain p 0 (several_of v.items)
+pub branch_remains : (l : Left) (v : Vec Left Global) (p : Process) → l ≡ Branches v → CanRemain p (remains_of l) →
+    (length v.items ≡ part_count p) × EachCanRemain p 0 (several_of v.items)
 branch_remains l v p is h = let r = subst (λ x. CanRemain p x) (branches_said l v is) h in (sym (count_lefts v.items) ∙ r.1, r.3)
 
-pub left_more : (xs : List Left) (i : ℕ) (x : Left) → i < length xs → x ≡ get_or xs i x → several_of (drop i xs) ≡ and_left (remains_of x) (several_of (drop (i + 1) xs))
+pub left_more : (xs : List Left) (i : ℕ) (x : Left) → i < length xs → x ≡ get_or xs i x →
+    several_of (drop i xs) ≡ and_left (remains_of x) (several_of (drop (i + 1) xs))
 left_more xs i x lt at = ap several_of (drop_more xs i x lt) ∙ ap (λ y. and_left (remains_of y) (several_of (drop (i + 1) xs))) (sym at)
 
 pub no_left_more : (xs : List Left) (i : ℕ) → length xs ≤ i → several_of (drop i xs) ≡ no_more
 no_left_more xs i all = ap several_of (drop_all i xs all)
 
-pub remains_more : (p : Process) (xs : List Left) (i : ℕ) (x : Left) → i < length xs → x ≡ get_or xs i x → EachCanRemain p i (several_of (drop i xs)) → CanRemain (part_of p i) (remains_of x) × EachCanRemain p (suc i) (several_of (drop (i + 1) xs))
+pub remains_more : (p : Process) (xs : List Left) (i : ℕ) (x : Left) → i < length xs → x ≡ get_or xs i x → EachCanRemain p i (several_of (drop i xs)) →
+    CanRemain (part_of p i) (remains_of x) × EachCanRemain p (suc i) (several_of (drop (i + 1) xs))
 remains_more p xs i x lt at h = subst (EachCanRemain p i) (left_more xs i x lt at) h
 
 pub runs_part : (n : ℕ) (p : Process) (k : ℕ) → k < part_count p → RunsOn n p → RunsOn n (part_of p k)
@@ -94,10 +105,12 @@ pub whatever : {X E : Type 0} (r : Result X E) (P : Type 0) → P → OnOk r P
 whatever (Ok x) P h = h
 whatever (Err e) P h = tt
 
-pub one_more : (o : Outset) (s : TStmt) (again : Bool) (k : ℕ) (before after : List Move) (m : Move) → move_of o (process_of s) ≡ choosing_move again (One k) → m ≡ plain_move → after ≡ before ++ m ∷ [] → after ≡ before ++ option_to_list (move_of o (process_of s))
+pub one_more : (o : Outset) (s : TStmt) (again : Bool) (k : ℕ) (before after : List Move) (m : Move) → move_of o (process_of s) ≡ choosing_move again (One k) →
+    m ≡ plain_move → after ≡ before ++ m ∷ [] → after ≡ before ++ option_to_list (move_of o (process_of s))
 one_more o s again k before after m is plain e = e ∙ (ap (λ x. before ++ x ∷ []) plain ∙ ap (λ x. before ++ option_to_list x) (sym is))
 
-pub end_more : (o : Outset) (s : TStmt) (again : Bool) (before after : List Move) (m : Move) → move_of o (process_of s) ≡ choosing_move again Zero → again ≡ true → m ≡ plain_move → after ≡ before ++ m ∷ [] → after ≡ before ++ option_to_list (move_of o (process_of s))
+pub end_more : (o : Outset) (s : TStmt) (again : Bool) (before after : List Move) (m : Move) → move_of o (process_of s) ≡ choosing_move again Zero →
+    again ≡ true → m ≡ plain_move → after ≡ before ++ m ∷ [] → after ≡ before ++ option_to_list (move_of o (process_of s))
 end_more o s true before after m is again_is plain e = e ∙ (ap (λ x. before ++ x ∷ []) plain ∙ ap (λ x. before ++ option_to_list x) (sym is))
 end_more o s false before after m is again_is plain e = absurd (cc again_is)
 
@@ -162,9 +175,11 @@ pub statements_more : (p : Process) (xs : List Left) (i : ℕ) (x : Left) → i 
     → each_statements p i (several_of (drop i xs)) ≡ statements (part_of p i) (remains_of x) ++ each_statements p (i + 1) (several_of (drop (i + 1) xs))
 statements_more p xs i x lt at =
     let e : suc i ≡ i + 1 = omega arith in
-    ap (each_statements p i) (left_more xs i x lt at) ∙ ap (λ k. statements (part_of p i) (remains_of x) ++ each_statements p k (several_of (drop (i + 1) xs))) e
+    ap (each_statements p i) (left_more xs i x lt at) ∙ ap (λ k. statements (part_of p i) (remains_of x) ++ each_statements p k (several_of (drop (i + 1) xs)))
+        e
 
-pub folded_more : {B : Type 0} (f : B → Process → B) (p : Process) (xs : List Left) (i : ℕ) (x : Left) (before after all : B) → i < length xs → x ≡ get_or xs i x → after ≡ fold f before (statements (part_of p i) (remains_of x))
+pub folded_more : {B : Type 0} (f : B → Process → B) (p : Process) (xs : List Left) (i : ℕ) (x : Left) (before after all : B) → i < length xs →
+    x ≡ get_or xs i x → after ≡ fold f before (statements (part_of p i) (remains_of x))
     → fold f before (each_statements p i (several_of (drop i xs))) ≡ all → fold f after (each_statements p (i + 1) (several_of (drop (i + 1) xs))) ≡ all
 folded_more f p xs i x before after all lt at is so_far =
     ap (λ b. fold f b (each_statements p (i + 1) (several_of (drop (i + 1) xs)))) is
@@ -173,17 +188,21 @@ folded_more f p xs i x before after all lt at is so_far =
 
 pub folded_start : {B : Type 0} (f : B → Process → B) (p : Process) (l : Left) (v : Vec Left Global) (xs : List Left) (b : B) → l ≡ Branches v → xs ≡ v.items
     → fold f b (each_statements p 0 (several_of (drop 0 xs))) ≡ fold f b (statements p (remains_of l))
-folded_start f p l v xs b is same = ap (λ (ys : List Left). fold f b (each_statements p 0 (several_of ys))) same ∙ ap (λ r. fold f b (statements p r)) (sym (branches_said l v is))
+folded_start f p l v xs b is same = ap (λ (ys : List Left). fold f b (each_statements p 0 (several_of ys))) same
+    ∙ ap (λ r. fold f b (statements p r)) (sym (branches_said l v is))
 
-pub folded_end : {B : Type 0} (f : B → Process → B) (p : Process) (xs : List Left) (i : ℕ) (b all : B) → length xs ≤ i → fold f b (each_statements p i (several_of (drop i xs))) ≡ all → b ≡ all
+pub folded_end : {B : Type 0} (f : B → Process → B) (p : Process) (xs : List Left) (i : ℕ) (b all : B) → length xs ≤ i →
+    fold f b (each_statements p i (several_of (drop i xs))) ≡ all → b ≡ all
 folded_end f p xs i b all le so_far = ap (λ s. fold f b (each_statements p i s)) (sym (no_left_more xs i le)) ∙ so_far
 
-pub remains_start : (l : Left) (v : Vec Left Global) (xs : List Left) (p : Process) → l ≡ Branches v → xs ≡ v.items → CanRemain p (remains_of l) → (length xs ≡ part_count p) × EachCanRemain p 0 (several_of (drop 0 xs))
+pub remains_start : (l : Left) (v : Vec Left Global) (xs : List Left) (p : Process) → l ≡ Branches v → xs ≡ v.items → CanRemain p (remains_of l) →
+    (length xs ≡ part_count p) × EachCanRemain p 0 (several_of (drop 0 xs))
 remains_start l v xs p is same h =
     let r = branch_remains l v p is h in
     (ap (λ (ys : List Left). length ys) same ∙ r.0, subst (λ (ys : List Left). EachCanRemain p 0 (several_of ys)) (sym same) r.1)
 
-pub remains_next : (p : Process) (xs : List Left) (i : ℕ) (x : Left) → i < length xs → x ≡ get_or xs i x → EachCanRemain p i (several_of (drop i xs)) → EachCanRemain p (i + 1) (several_of (drop (i + 1) xs))
+pub remains_next : (p : Process) (xs : List Left) (i : ℕ) (x : Left) → i < length xs → x ≡ get_or xs i x → EachCanRemain p i (several_of (drop i xs)) →
+    EachCanRemain p (i + 1) (several_of (drop (i + 1) xs))
 remains_next p xs i x lt at h =
     let e : suc i ≡ i + 1 = omega arith in
     subst (λ k. EachCanRemain p k (several_of (drop (i + 1) xs))) e (remains_more p xs i x lt at h).1
@@ -192,10 +211,13 @@ remains_next p xs i x lt at h =
 
 moves_append : (o : Outset) (xs ys : List Process) → moves_of o (xs ++ ys) ≡ moves_of o xs ++ moves_of o ys
 moves_append o [] ys = refl
-moves_append o (p ∷ xs) ys = ap (λ ms. option_to_list (move_of o p) ++ ms) (moves_append o xs ys) ∙ sym (append_assoc (option_to_list (move_of o p)) (moves_of o xs) (moves_of o ys))
+moves_append o (p ∷ xs) ys = ap (λ ms. option_to_list (move_of o p) ++ ms) (moves_append o xs ys)
+    ∙ sym (append_assoc (option_to_list (move_of o p)) (moves_of o xs) (moves_of o ys))
 
-pub moves_more : (o : Outset) (p : Process) (xs : List Left) (i : ℕ) (x : Left) (before after all : List Move) → i < length xs → x ≡ get_or xs i x → after ≡ before ++ moves_of o (statements (part_of p i) (remains_of x))
-    → before ++ moves_of o (each_statements p i (several_of (drop i xs))) ≡ all → after ++ moves_of o (each_statements p (i + 1) (several_of (drop (i + 1) xs))) ≡ all
+pub moves_more : (o : Outset) (p : Process) (xs : List Left) (i : ℕ) (x : Left) (before after all : List Move) → i < length xs → x ≡ get_or xs i x →
+    after ≡ before ++ moves_of o (statements (part_of p i) (remains_of x))
+    → before ++ moves_of o (each_statements p i (several_of (drop i xs))) ≡ all →
+        after ++ moves_of o (each_statements p (i + 1) (several_of (drop (i + 1) xs))) ≡ all
 moves_more o p xs i x before after all lt at is so_far =
     let here_moves = moves_of o (statements (part_of p i) (remains_of x)) in
     let rest = each_statements p (i + 1) (several_of (drop (i + 1) xs)) in
@@ -206,9 +228,11 @@ moves_more o p xs i x before after all lt at is so_far =
 
 pub moves_start : (o : Outset) (p : Process) (l : Left) (v : Vec Left Global) (xs : List Left) (before : List Move) → l ≡ Branches v → xs ≡ v.items
     → before ++ moves_of o (each_statements p 0 (several_of (drop 0 xs))) ≡ before ++ moves_of o (statements p (remains_of l))
-moves_start o p l v xs before is same = ap (λ ss. before ++ moves_of o ss) (ap (λ (ys : List Left). each_statements p 0 (several_of ys)) same ∙ ap (λ r. statements p r) (sym (branches_said l v is)))
+moves_start o p l v xs before is same = ap (λ ss. before ++ moves_of o ss) (ap (λ (ys : List Left). each_statements p 0 (several_of ys)) same
+    ∙ ap (λ r. statements p r) (sym (branches_said l v is)))
 
-pub lefts_more : (o : Outset) (p : Process) (xs : List Left) (i : ℕ) (x : Left) (ls : List Left) (l : Left) (all : Several) → i < length xs → x ≡ get_or xs i x → remains_of l ≡ advanced o (part_of p i) (remains_of x)
+pub lefts_more : (o : Outset) (p : Process) (xs : List Left) (i : ℕ) (x : Left) (ls : List Left) (l : Left) (all : Several) → i < length xs →
+    x ≡ get_or xs i x → remains_of l ≡ advanced o (part_of p i) (remains_of x)
     → front ls (each_advanced o p i (several_of (drop i xs))) ≡ all → front (ls ++ l ∷ []) (each_advanced o p (i + 1) (several_of (drop (i + 1) xs))) ≡ all
 lefts_more o p xs i x ls l all lt at is so_far =
     let e : suc i ≡ i + 1 = omega arith in
@@ -218,8 +242,10 @@ lefts_more o p xs i x ls l all lt at is so_far =
     ∙ (ap (λ r. front ls (and_left r (each_advanced o p (suc i) rest))) is
     ∙ (ap (λ s. front ls (each_advanced o p i s)) (sym (left_more xs i x lt at)) ∙ so_far)))
 
-pub lefts_end : (o : Outset) (p : Process) (l : Left) (v : Vec Left Global) (xs : List Left) (i : ℕ) (ls : List Left) → l ≡ Branches v → xs ≡ v.items → length xs ≤ i
+pub lefts_end : (o : Outset) (p : Process) (l : Left) (v : Vec Left Global) (xs : List Left) (i : ℕ) (ls : List Left) → l ≡ Branches v → xs ≡ v.items →
+    length xs ≤ i
     → front ls (each_advanced o p i (several_of (drop i xs))) ≡ each_advanced o p 0 (several_of xs) → gathered (several_of ls) ≡ advanced o p (remains_of l)
 lefts_end o p l v xs i ls is same le so_far =
-    ap gathered (sym (front_all ls) ∙ (ap (λ s. front ls (each_advanced o p i s)) (sym (no_left_more xs i le)) ∙ (so_far ∙ ap (λ (ys : List Left). each_advanced o p 0 (several_of ys)) same)))
+    ap gathered (sym (front_all ls) ∙ (ap (λ s. front ls (each_advanced o p i s)) (sym (no_left_more xs i le))
+        ∙ (so_far ∙ ap (λ (ys : List Left). each_advanced o p 0 (several_of ys)) same)))
     ∙ ap (advanced o p) (sym (branches_said l v is))

@@ -39,7 +39,8 @@ mutual
 
   each_are : (p : Process) (k : ℕ) (rs : Several) → each_statements p k rs ≡ branch_actives (terms_of p k rs)
   each_are p k no_more = refl
-  each_are p k (and_left r rest) = ap (λ xs. xs ++ each_statements p (suc k) rest) (statements_are (part_of p k) r) ∙ ap (λ xs. actives (term_of (part_of p k) r) ++ xs) (each_are p (suc k) rest)
+  each_are p k (and_left r rest) = ap (λ xs. xs ++ each_statements p (suc k) rest) (statements_are (part_of p k) r)
+      ∙ ap (λ xs. actives (term_of (part_of p k) r) ++ xs) (each_are p (suc k) rest)
 
 -- finished is what is over
 
@@ -61,7 +62,8 @@ finished_is p (alongside rs) c = refl
 
 all_finished_is : (p : Process) (k : ℕ) (rs : Several) → EachCanRemain p k rs → all_finished (terms_of p k rs) ≡ all_over rs
 all_finished_is p k no_more c = refl
-all_finished_is p k (and_left r rest) c = ap (λ b. b && all_finished (terms_of p (suc k) rest)) (finished_is (part_of p k) r c.0) ∙ ap (λ b. is_over r && b) (all_finished_is p (suc k) rest c.1)
+all_finished_is p k (and_left r rest) c = ap (λ b. b && all_finished (terms_of p (suc k) rest)) (finished_is (part_of p k) r c.0)
+    ∙ ap (λ b. is_over r && b) (all_finished_is p (suc k) rest c.1)
 
 before_lively : (t : Term) (more : Processes) → is_finished t ≡ false → Lively t → Lively (before t more)
 before_lively t no_members h v = v
@@ -121,7 +123,8 @@ begun_goes p b = sym (ap is_finished b.term) ∙ goes_on p (begun p) b.can b.goe
 beside_begins : (ms : Processes) → 1 ≤ member_count ms → EachBegins (side_by_side ms) 0 ms → Begins (side_by_side ms)
 beside_begins no_members some each = absurd (omega (arith, some))
 beside_begins (and_member p more) some each = record {
-  term = ap in_parallel each.terms ∙ sym (ap (λ x. if x then finished else in_parallel (opened_each (and_member p more))) (ap (λ x. x && all_finished (opened_each more)) each.go.1));
+  term = ap in_parallel each.terms ∙ sym (ap (λ x. if x then finished else in_parallel (opened_each (and_member p more)))
+      (ap (λ x. x && all_finished (opened_each more)) each.go.1));
   can = (refl, count_begun (and_member p more), ap (λ x. x && all_over (each_begun more)) each.go.0, each.can);
   goes = refl;
 }
@@ -153,14 +156,16 @@ mutual
       let rest = each_begins n m all more (suc k) (from_next all k p more from) r.1 in
       let at = from_at all k p more from in
       record {
-        terms = ap (λ q. and_branch (term_of q (begun p)) (terms_of (side_by_side all) (suc k) (each_begun more))) at ∙ (ap (λ t. and_branch t (terms_of (side_by_side all) (suc k) (each_begun more))) b.term ∙ ap (and_branch (opened p)) rest.terms);
+        terms = ap (λ q. and_branch (term_of q (begun p)) (terms_of (side_by_side all) (suc k) (each_begun more))) at
+            ∙ (ap (λ t. and_branch t (terms_of (side_by_side all) (suc k) (each_begun more))) b.term ∙ ap (and_branch (opened p)) rest.terms);
         can = (subst (λ q. CanRemain q (begun p)) (sym at) b.can, rest.can);
         go = (b.goes, begun_goes p b, rest.go);
       }
 
 -- behind a part that has ended
 
-turned : (n m : ℕ) (ms : Processes) (k : ℕ) → AreRunnable n m ms → k < member_count ms → before (term_of (member_at ms k) (begun (member_at ms k))) (members_from ms (suc k)) ≡ opened_turn (members_from ms k)
+turned : (n m : ℕ) (ms : Processes) (k : ℕ) → AreRunnable n m ms → k < member_count ms →
+    before (term_of (member_at ms k) (begun (member_at ms k))) (members_from ms (suc k)) ≡ opened_turn (members_from ms k)
 turned n m no_members k r lt = absurd (omega (arith, lt))
 turned n m (and_member p no_members) zero r lt = (begins n m p r.0).term
 turned n m (and_member p (and_member q more)) zero r lt = ap (λ t. in_sequence t (and_member q more)) (begins n m p r.0).term
@@ -183,8 +188,11 @@ after_term n m (choosing false cs) k r = refl
 after_term n m (repeating p) k r = refl
 after_term n m (in_turn ms) k r = by_test (nat_lt (k + 1) (member_count ms)) refl
   where
-    by_test : (b : Bool) → nat_lt (k + 1) (member_count ms) ≡ b → term_of (in_turn ms) (if b then within (k + 1) (begun (member_at ms (k + 1))) else over) ≡ opened_turn (members_from ms (suc k))
-    by_test true e = let s : k + 1 ≡ suc k = omega arith in subst (λ j. term_of (in_turn ms) (within j (begun (member_at ms j))) ≡ opened_turn (members_from ms (suc k))) (sym s) (turned n m ms (suc k) r.1 (omega (arith, ltb-true (k + 1) (member_count ms) e)))
+    by_test : (b : Bool) → nat_lt (k + 1) (member_count ms) ≡ b → term_of (in_turn ms) (if b then within (k + 1) (begun (member_at ms (k + 1))) else over) ≡
+        opened_turn (members_from ms (suc k))
+    by_test true e = let s : k + 1 ≡ suc k = omega arith in
+        subst (λ j. term_of (in_turn ms) (within j (begun (member_at ms j))) ≡ opened_turn (members_from ms (suc k))) (sym s)
+        (turned n m ms (suc k) r.1 (omega (arith, ltb-true (k + 1) (member_count ms) e)))
     by_test false e = sym (ap opened_turn (none_from ms (suc k) (omega (arith, ltb-false (k + 1) (member_count ms) e))))
 
 pub after_can : (n m : ℕ) (p : Process) (k : ℕ) → IsRunnable n m p → CanRemain p (after_part p k)
@@ -215,7 +223,8 @@ ended_can p (Some step) met g = tt
 ended_can p None true g = tt
 ended_can p None false g = g
 
-chosen_can : (n m : ℕ) (again : Bool) (cs : Choices) (g : TrueGuards) → IsRunnable n m (choosing again cs) → ((k : ℕ) → g ≡ One k → k < part_count (choosing again cs)) → CanRemain (choosing again cs) (chosen_remains (choosing again cs) again g)
+chosen_can : (n m : ℕ) (again : Bool) (cs : Choices) (g : TrueGuards) → IsRunnable n m (choosing again cs) →
+    ((k : ℕ) → g ≡ One k → k < part_count (choosing again cs)) → CanRemain (choosing again cs) (chosen_remains (choosing again cs) again g)
 chosen_can n m true cs Zero r below = tt
 chosen_can n m false cs Zero r below = refl
 chosen_can n m true cs (One k) r below = entered_can n m (choosing true cs) k r refl (below k refl)
@@ -235,7 +244,8 @@ step_can n m o (repeating p) r g = entered_can n m (repeating p) 0 r refl (omega
 
 -- what a round leaves
 
-resumed_can : (n m : ℕ) (p : Process) (k : ℕ) (r : Remains) → IsRunnable n m p → k < part_count p → is_beside p ≡ false → CanRemain (part_of p k) r → CanRemain p (resumed p k r)
+resumed_can : (n m : ℕ) (p : Process) (k : ℕ) (r : Remains) → IsRunnable n m p → k < part_count p → is_beside p ≡ false → CanRemain (part_of p k) r →
+    CanRemain p (resumed p k r)
 resumed_can n m p k over r lt plain c = after_can n m p k r
 resumed_can n m p k whole r lt plain c = (lt, plain, refl, c)
 resumed_can n m p k (within j s) r lt plain c = (lt, plain, refl, c)
@@ -256,10 +266,13 @@ mutual
   pub advanced_can : (n m : ℕ) (o : Outset) (p : Process) (r : Remains) → IsRunnable n m p → CanRemain p r → CanRemain p (advanced o p r)
   advanced_can n m o p over q c = tt
   advanced_can n m o p whole q c = step_can n m o p q c
-  advanced_can n m o p (within k r) q c = resumed_can n m p k (advanced o (part_of p k) r) q c.0 c.1 (advanced_can n m o (part_of p k) r (part_runnable n m p k c.0 q) c.3)
-  advanced_can n m o p (alongside rs) q c = gathered_can p (each_advanced o p 0 rs) c.0 (count_advanced o p 0 rs ∙ c.1) (each_advanced_can n m o p 0 rs q (λ k lt. omega (arith, lt, c.1)) c.3)
+  advanced_can n m o p (within k r) q c = resumed_can n m p k (advanced o (part_of p k) r) q c.0 c.1
+      (advanced_can n m o (part_of p k) r (part_runnable n m p k c.0 q) c.3)
+  advanced_can n m o p (alongside rs) q c =
+      gathered_can p (each_advanced o p 0 rs) c.0 (count_advanced o p 0 rs ∙ c.1) (each_advanced_can n m o p 0 rs q (λ k lt. omega (arith, lt, c.1)) c.3)
 
-  each_advanced_can : (n m : ℕ) (o : Outset) (p : Process) (k : ℕ) (rs : Several) → IsRunnable n m p → ((j : ℕ) → j < how_many rs → k + j < part_count p) → EachCanRemain p k rs → EachCanRemain p k (each_advanced o p k rs)
+  each_advanced_can : (n m : ℕ) (o : Outset) (p : Process) (k : ℕ) (rs : Several) → IsRunnable n m p → ((j : ℕ) → j < how_many rs → k + j < part_count p) →
+      EachCanRemain p k rs → EachCanRemain p k (each_advanced o p k rs)
   each_advanced_can n m o p k no_more q lt c = tt
   each_advanced_can n m o p k (and_left r rest) q lt c = (
     advanced_can n m o (part_of p k) r (part_runnable n m p k (let first = lt 0 (omega arith) in omega (arith, first)) q) c.0,
@@ -271,7 +284,8 @@ mutual
 abbrev pub left_of : Outset → Process → Term
 left_of o q = term_of q (step_remains o q)
 
-all_left_before : (f : Process → Term) (t : Term) (more : Processes) (u : Term) → all_left f t ≡ u → is_finished u ≡ false → all_left f (before t more) ≡ before u more
+all_left_before : (f : Process → Term) (t : Term) (more : Processes) (u : Term) → all_left f t ≡ u → is_finished u ≡ false →
+    all_left f (before t more) ≡ before u more
 all_left_before f t no_members u e h = e
 all_left_before f t (and_member p more) u e h = ap (λ x. followed x (and_member p more)) e ∙ unfinished u (and_member p more) h
   where
@@ -285,10 +299,12 @@ all_left_over : (f : Process → Term) (t : Term) (more : Processes) → all_lef
 all_left_over f t no_members e = e
 all_left_over f t (and_member p more) e = ap (λ x. followed x (and_member p more)) e
 
-resumed_term : (n m : ℕ) (f : Process → Term) (p : Process) (k : ℕ) (t : Term) (r : Remains) → IsRunnable n m p → CanRemain (part_of p k) r → all_left f t ≡ term_of (part_of p k) r → term_of p (resumed p k r) ≡ all_left f (before t (coming p k))
+resumed_term : (n m : ℕ) (f : Process → Term) (p : Process) (k : ℕ) (t : Term) (r : Remains) → IsRunnable n m p → CanRemain (part_of p k) r →
+    all_left f t ≡ term_of (part_of p k) r → term_of p (resumed p k r) ≡ all_left f (before t (coming p k))
 resumed_term n m f p k t over q c e = after_term n m p k q ∙ sym (all_left_over f t (coming p k) e)
 resumed_term n m f p k t whole q c e = sym (all_left_before f t (coming p k) (term_of (part_of p k) whole) e (goes_on (part_of p k) whole c refl))
-resumed_term n m f p k t (within j s) q c e = sym (all_left_before f t (coming p k) (term_of (part_of p k) (within j s)) e (goes_on (part_of p k) (within j s) c refl))
+resumed_term n m f p k t (within j s) q c e =
+    sym (all_left_before f t (coming p k) (term_of (part_of p k) (within j s)) e (goes_on (part_of p k) (within j s) c refl))
 resumed_term n m f p k t (alongside rs) q c e = sym (all_left_before f t (coming p k) (term_of (part_of p k) (alongside rs)) e refl)
 
 gathered_term : (p : Process) (rs : Several) → EachCanRemain p 0 rs → term_of p (gathered rs) ≡ together (terms_of p 0 rs)
@@ -299,22 +315,27 @@ gathered_term p rs c = by_test (all_over rs) ∙ ap (λ b. if b then finished el
     by_test false = refl
 
 mutual
-  pub advanced_term : (n m : ℕ) (o : Outset) (p : Process) (r : Remains) → IsRunnable n m p → CanRemain p r → term_of p (advanced o p r) ≡ all_left (left_of o) (term_of p r)
+  pub advanced_term : (n m : ℕ) (o : Outset) (p : Process) (r : Remains) → IsRunnable n m p → CanRemain p r →
+      term_of p (advanced o p r) ≡ all_left (left_of o) (term_of p r)
   advanced_term n m o p over q c = refl
   advanced_term n m o p whole q c = refl
   advanced_term n m o p (within k r) q c =
       let inner = part_runnable n m p k c.0 q in
-      resumed_term n m (left_of o) p k (term_of (part_of p k) r) (advanced o (part_of p k) r) q (advanced_can n m o (part_of p k) r inner c.3) (sym (advanced_term n m o (part_of p k) r inner c.3))
+      resumed_term n m (left_of o) p k (term_of (part_of p k) r) (advanced o (part_of p k) r) q (advanced_can n m o (part_of p k) r inner c.3)
+          (sym (advanced_term n m o (part_of p k) r inner c.3))
   advanced_term n m o p (alongside rs) q c =
       let below : (j : ℕ) → j < how_many rs → 0 + j < part_count p = λ j lt. omega (arith, lt, c.1) in
       gathered_term p (each_advanced o p 0 rs) (each_advanced_can n m o p 0 rs q below c.3) ∙ ap together (each_advanced_terms n m o p 0 rs q below c.3)
 
-  each_advanced_terms : (n m : ℕ) (o : Outset) (p : Process) (k : ℕ) (rs : Several) → IsRunnable n m p → ((j : ℕ) → j < how_many rs → k + j < part_count p) → EachCanRemain p k rs
+  each_advanced_terms : (n m : ℕ) (o : Outset) (p : Process) (k : ℕ) (rs : Several) → IsRunnable n m p → ((j : ℕ) → j < how_many rs → k + j < part_count p) →
+      EachCanRemain p k rs
       → terms_of p k (each_advanced o p k rs) ≡ each_left (left_of o) (terms_of p k rs)
   each_advanced_terms n m o p k no_more q lt c = refl
   each_advanced_terms n m o p k (and_left r rest) q lt c =
-      ap (λ t. and_branch t (terms_of p (suc k) (each_advanced o p (suc k) rest))) (advanced_term n m o (part_of p k) r (part_runnable n m p k (let first = lt 0 (omega arith) in omega (arith, first)) q) c.0)
-      ∙ ap (and_branch (all_left (left_of o) (term_of (part_of p k) r))) (each_advanced_terms n m o p (suc k) rest q (λ j h. let later = lt (suc j) (omega (arith, h)) in omega (arith, later)) c.1)
+      ap (λ t. and_branch t (terms_of p (suc k) (each_advanced o p (suc k) rest)))
+          (advanced_term n m o (part_of p k) r (part_runnable n m p k (let first = lt 0 (omega arith) in omega (arith, first)) q) c.0)
+      ∙ ap (and_branch (all_left (left_of o) (term_of (part_of p k) r))) (each_advanced_terms n m o p (suc k) rest q (λ j h. let later =
+          lt (suc j) (omega (arith, h)) in omega (arith, later)) c.1)
 
 -- each active statement is one of the program
 
@@ -329,12 +350,14 @@ mutual
   statements_run n m p (within k r) a c q i = statements_run n m (part_of p k) r (part_runnable n m p k c.0 a) c.3 q i
   statements_run n m p (alongside rs) a c q i = each_run n m p 0 rs a (λ j lt. omega (arith, lt, c.1)) c.3 q i
 
-  each_run : (n m : ℕ) (p : Process) (k : ℕ) (rs : Several) → IsRunnable n m p → ((j : ℕ) → j < how_many rs → k + j < part_count p) → EachCanRemain p k rs → (q : Process) → In (each_statements p k rs) q → Runs n m q
+  each_run : (n m : ℕ) (p : Process) (k : ℕ) (rs : Several) → IsRunnable n m p → ((j : ℕ) → j < how_many rs → k + j < part_count p) → EachCanRemain p k rs →
+      (q : Process) → In (each_statements p k rs) q → Runs n m q
   each_run n m p k no_more a lt c q i = absurd i
   each_run n m p k (and_left r rest) a lt c q i = either (in_either (statements (part_of p k) r) (each_statements p (suc k) rest) q i)
       (statements_run n m (part_of p k) r (part_runnable n m p k (let first = lt 0 (omega arith) in omega (arith, first)) a) c.0 q)
       (each_run n m p (suc k) rest a (λ j h. let later = lt (suc j) (omega (arith, h)) in omega (arith, later)) c.1 q)
     where
-      either : In (statements (part_of p k) r) q ⊎ In (each_statements p (suc k) rest) q → (In (statements (part_of p k) r) q → Runs n m q) → (In (each_statements p (suc k) rest) q → Runs n m q) → Runs n m q
+      either : In (statements (part_of p k) r) q ⊎ In (each_statements p (suc k) rest) q → (In (statements (part_of p k) r) q → Runs n m q) →
+          (In (each_statements p (suc k) rest) q → Runs n m q) → Runs n m q
       either (inl x) f g = f x
       either (inr x) f g = g x

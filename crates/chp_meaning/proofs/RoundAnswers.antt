@@ -34,7 +34,8 @@ reached_fits t c meeting r = leads_fit (opened_fits (process_of t.body) (meeting
 pub reached_on : (t : TypedValue) (c : Configuration) (n : ℕ) → Fits c.term → IsReached t c → IsReached t (rounds_from c n)
 reached_on t c n f r = let l = rounds_lead n c f in (r.0, r.1 + l.0, r.2, lead_on r.3 l.1)
 
-pub round_reached : {X E : Type 0} (t : TypedValue) (c d : Configuration) (r : Result X E) → Fits c.term → IsReached t c → OnOk r (d ≡ round c) → OnErr r (d ≡ c) → IsReached t d
+pub round_reached : {X E : Type 0} (t : TypedValue) (c d : Configuration) (r : Result X E) → Fits c.term → IsReached t c → OnOk r (d ≡ round c) →
+    OnErr r (d ≡ c) → IsReached t d
 round_reached t c d (Ok x) f reached ok err = subst (IsReached t) (sym ok) (reached_on t c 1 f reached)
 round_reached t c d (Err e) f reached ok err = subst (IsReached t) (sym err) reached
 
@@ -42,7 +43,8 @@ some_or_not : {X : Type 0} (xs : List X) → (xs ≡ []) ⊎ ((x : X) × (rest :
 some_or_not [] = inl refl
 some_or_not (x ∷ xs) = inr (x, xs, refl)
 
-pub took_is : (body : Process) (c : Config) (took : Bool) → IsStanding body c → Fits (configuration_of body c).term → took ≡ is_some_step (next_moves body c) → (took ≡ true) ↔ CanStep (configuration_of body c)
+pub took_is : (body : Process) (c : Config) (took : Bool) → IsStanding body c → Fits (configuration_of body c).term → took ≡ is_some_step (next_moves body c) →
+    (took ≡ true) ↔ CanStep (configuration_of body c)
 took_is body c took s f e = by_moves (some_or_not (next_moves body c))
   where
     by_moves : (next_moves body c ≡ []) ⊎ ((w : Move) × (ws : List Move) × (next_moves body c ≡ w ∷ ws)) → (took ≡ true) ↔ CanStep (configuration_of body c)
@@ -109,14 +111,17 @@ at_fits body old i c d f a = subst (λ (x : Configuration). Fits x.term) (sym a.
 now_is : (body : Process) (old : Configuration) (i : ℕ) (c d : Config) → IsAt body old i c d → configuration_of body d ≡ rounds_from old i
 now_is body old i c d a = unchanged_same body c d a.unchanged ∙ a.so_far
 
-pub stopped : {X E : Type 0} (r : Result X E) (body : Process) (old : Configuration) (i n : ℕ) (c d : Config) → IsAt body old i c d → i ≤ n → OnErr r (IsWithin n old (configuration_of body d))
+pub stopped : {X E : Type 0} (r : Result X E) (body : Process) (old : Configuration) (i n : ℕ) (c d : Config) → IsAt body old i c d → i ≤ n →
+    OnErr r (IsWithin n old (configuration_of body d))
 stopped r body old i n c d a le = on_err r (IsWithin n old (configuration_of body d)) (i, le, now_is body old i c d a)
 
 -- the histories hold no more than they did
-pub still_few : {X E : Type 0} (r : Result X E) (count most : ℕ) (c d : Config) → IsUnchanged c d → count ≡ held (histories_of c) → count ≤ most → OnErr r (held (histories_of d) ≤ most)
+pub still_few : {X E : Type 0} (r : Result X E) (count most : ℕ) (c d : Config) → IsUnchanged c d → count ≡ held (histories_of c) → count ≤ most →
+    OnErr r (held (histories_of d) ≤ most)
 still_few r count most c d u is few = on_err r (held (histories_of d) ≤ most) (omega (arith, ap held u.histories, is, few))
 
-rest_there : (body : Process) (old : Configuration) (i : ℕ) (c d : Config) → Fits old.term → IsAt body old i c d → next_moves body c ≡ [] → ¬ CanStep (configuration_of body d)
+rest_there : (body : Process) (old : Configuration) (i : ℕ) (c d : Config) → Fits old.term → IsAt body old i c d → next_moves body c ≡ [] →
+    ¬ CanStep (configuration_of body d)
 rest_there body old i c d f a none can =
     let e = unchanged_same body c d a.unchanged in
     let there : CanStep (configuration_of body c) = subst CanStep e can in
@@ -125,15 +130,19 @@ rest_there body old i c d f a none can =
 held_there : (body : Process) (old : Configuration) (i : ℕ) (c d : Config) → IsAt body old i c d → held_in (configuration_of body d) ≡ held (histories_of c)
 held_there body old i c d a = ap held a.unchanged.histories
 
-pub rested : (body : Process) (old : Configuration) (i n most : ℕ) (c d : Config) (left : Left) (moves : List Move) → Fits old.term → IsAt body old i c d → IsPlan body c left moves → moves ≡ [] → i ≤ n → held (histories_of c) ≤ most → IsEnd n most old (configuration_of body d) Rest
+pub rested : (body : Process) (old : Configuration) (i n most : ℕ) (c d : Config) (left : Left) (moves : List Move) → Fits old.term → IsAt body old i c d →
+    IsPlan body c left moves → moves ≡ [] → i ≤ n → held (histories_of c) ≤ most → IsEnd n most old (configuration_of body d) Rest
 rested body old i n most c d left moves f a p none le few =
     let rest = rest_there body old i c d f a (sym p.moves_are ∙ none) in
     let there = now_is body old i c d a in
     let e : i + (n - i) ≡ n = omega (arith, le) in
-    let last : configuration_of body d ≡ rounds_from old n = sym (rounds_rest (n - i) (configuration_of body d) rest) ∙ (ap (λ x. rounds_from x (n - i)) there ∙ (rounds_more i (n - i) old ∙ ap (rounds_from old) e)) in
+    let last : configuration_of body d ≡ rounds_from old n = sym (rounds_rest (n - i) (configuration_of body d) rest)
+        ∙ (ap (λ x. rounds_from x (n - i)) there ∙ (rounds_more i (n - i) old ∙ ap (rounds_from old) e)) in
     (omega (arith, few, held_there body old i c d a, ap held_in last), last, rest)
 
-pub overfull : (body : Process) (old : Configuration) (i n most : ℕ) (c d : Config) (left : Left) (moves : List Move) → Fits old.term → IsAt body old i c d → IsPlan body c left moves → i < n → held (histories_of c) ≤ most → most < held (histories_of c) + passing moves → IsEnd n most old (configuration_of body d) TooMany
+pub overfull : (body : Process) (old : Configuration) (i n most : ℕ) (c d : Config) (left : Left) (moves : List Move) → Fits old.term → IsAt body old i c d →
+    IsPlan body c left moves → i < n → held (histories_of c) ≤ most → most < held (histories_of c) + passing moves →
+    IsEnd n most old (configuration_of body d) TooMany
 overfull body old i n most c d left moves f a p lt few many =
     let there = now_is body old i c d a in
     let next : held_in (rounds_from old (suc i)) ≡ held (histories_of c) + passing moves =
@@ -141,14 +150,16 @@ overfull body old i n most c d left moves f a p lt few many =
     let more = rounds_held (suc i) n old f (omega (arith, lt)) in
     (omega (arith, next, many, more), (i, lt, there, omega (arith, few, held_there body old i c d a), omega (arith, next, many)))
 
-pub ended : (body : Process) (old : Configuration) (n most : ℕ) (c d : Config) (left : Left) (moves : List Move) → Fits old.term → IsAt body old n c d → IsPlan body c left moves → held (histories_of c) ≤ most → (xs : List Move) → xs ≡ moves → IsEnd n most old (configuration_of body d) (end_by xs)
+pub ended : (body : Process) (old : Configuration) (n most : ℕ) (c d : Config) (left : Left) (moves : List Move) → Fits old.term → IsAt body old n c d →
+    IsPlan body c left moves → held (histories_of c) ≤ most → (xs : List Move) → xs ≡ moves → IsEnd n most old (configuration_of body d) (end_by xs)
 ended body old n most c d left moves f a p few [] e = rested body old n n most c d left moves f a p (sym e) (omega arith) few
 ended body old n most c d left moves f a p few (x ∷ xs) e =
     let last = now_is body old n c d a in
     let can = step_planned body c x xs (sym (e ∙ p.moves_are)) in
     (omega (arith, few, held_there body old n c d a, ap held_in last), last, subst CanStep (sym (unchanged_same body c d a.unchanged)) can)
 
-pub after_round : (body : Process) (old : Configuration) (i : ℕ) (c d e : Config) (left : Left) (moves : List Move) → Fits old.term → IsAt body old i c d → IsPlan body c left moves → IsSettled d e left moves → configuration_of body e ≡ rounds_from old (i + 1)
+pub after_round : (body : Process) (old : Configuration) (i : ℕ) (c d e : Config) (left : Left) (moves : List Move) → Fits old.term → IsAt body old i c d →
+    IsPlan body c left moves → IsSettled d e left moves → configuration_of body e ≡ rounds_from old (i + 1)
 after_round body old i c d e left moves f a p s =
     let k : suc i ≡ i + 1 = omega arith in
     settled_round body c e left moves a.standing (at_fits body old i c d f a) p (settled_after c d e left moves a.unchanged s)
@@ -158,13 +169,15 @@ pub nothing_in : {X : Type 0} (xs : List X) (n : ℕ) → n ≡ length xs → (n
 nothing_in xs n len e = nil_from_length xs (sym len ∙ eqb-true n 0 e)
 
 -- a run of rounds ends after some of them
-some_rounds : {E : Type 0} (n most : ℕ) (old new : Configuration) (r : Result RunEnd E) → IfOk r (λ end. IsEnd n most old new end) → OnErr r (IsWithin n old new) → (k : ℕ) × (new ≡ rounds_from old k)
+some_rounds : {E : Type 0} (n most : ℕ) (old new : Configuration) (r : Result RunEnd E) → IfOk r (λ end. IsEnd n most old new end) →
+    OnErr r (IsWithin n old new) → (k : ℕ) × (new ≡ rounds_from old k)
 some_rounds n most old new (Ok Rest) ok err = (n, ok.1)
 some_rounds n most old new (Ok Spent) ok err = (n, ok.1)
 some_rounds n most old new (Ok TooMany) ok err = (ok.1.0, ok.1.2)
 some_rounds n most old new (Err e) ok err = (err.0, err.2)
 
-pub run_reached : {E : Type 0} (t : TypedValue) (n most : ℕ) (old new : Configuration) (r : Result RunEnd E) → Fits old.term → IsReached t old → IfOk r (λ end. IsEnd n most old new end) → OnErr r (IsWithin n old new) → IsReached t new
+pub run_reached : {E : Type 0} (t : TypedValue) (n most : ℕ) (old new : Configuration) (r : Result RunEnd E) → Fits old.term → IsReached t old →
+    IfOk r (λ end. IsEnd n most old new end) → OnErr r (IsWithin n old new) → IsReached t new
 run_reached t n most old new r f reached ok err = let k = some_rounds n most old new r ok err in subst (IsReached t) (sym k.1) (reached_on t old k.0 f reached)
 
 -- there is a history for each channel

@@ -32,7 +32,8 @@ all_taken (p ∷ ps) c f d each =
     one_step r.1 (subst (λ x. Leads r.0 (length ps) (fold taken x ps)) (sym (taken_is f r.1)) (all_taken ps r.0 (step_fits f r.1) d.1 later))
 
 -- from the configuration after any one of them the others lead on to the same
-any_first : (ps : List Place) (c : Configuration) → Fits c.term → Distinct ps → ((q : Place) → In ps q → Can c q) → (p : Place) (d : Configuration) → In ps p → Step c p d → (n : ℕ) × Leads d n (fold taken c ps)
+any_first : (ps : List Place) (c : Configuration) → Fits c.term → Distinct ps → ((q : Place) → In ps q → Can c q) → (p : Place) (d : Configuration) → In ps p →
+    Step c p d → (n : ℕ) × Leads d n (fold taken c ps)
 any_first [] c f distinct each p d i s = absurd i
 any_first (q ∷ ps) c f distinct each p d (inl e) s =
     let first : Step c q d = subst (λ x. Step c x d) (sym e) s in
@@ -92,13 +93,16 @@ longer : (histories : List (List ℕ)) (w : Option (Entry ℕ)) (k : ℕ) → (r
 longer histories None k = ([], sym (append-nil (history_at histories k)))
 longer histories (Some (entry j v)) k = by_number (cases_eq k j) (cases_lt j (length histories))
   where
-    as_before : history_at (slice_set histories j (history_at histories j ++ v ∷ [])) k ≡ history_at histories k → (rest : List ℕ) × (history_at (slice_set histories j (history_at histories j ++ v ∷ [])) k ≡ history_at histories k ++ rest)
+    as_before : history_at (slice_set histories j (history_at histories j ++ v ∷ [])) k ≡ history_at histories k →
+        (rest : List ℕ) × (history_at (slice_set histories j (history_at histories j ++ v ∷ [])) k ≡ history_at histories k ++ rest)
     as_before e = ([], e ∙ sym (append-nil (history_at histories k)))
 
-    by_number : (k ≡ j) ⊎ (k ≡ j → ⊥) → (j < length histories) ⊎ (length histories ≤ j) → (rest : List ℕ) × (history_at (slice_set histories j (history_at histories j ++ v ∷ [])) k ≡ history_at histories k ++ rest)
+    by_number : (k ≡ j) ⊎ (k ≡ j → ⊥) → (j < length histories) ⊎ (length histories ≤ j) →
+        (rest : List ℕ) × (history_at (slice_set histories j (history_at histories j ++ v ∷ [])) k ≡ history_at histories k ++ rest)
     by_number (inr ne) within = as_before (get_or-set_other histories j k (history_at histories j ++ v ∷ []) [] ne)
     by_number (inl e) (inr past) = as_before (ap (λ hs. history_at hs k) (set_past histories j (history_at histories j ++ v ∷ []) past))
-    by_number (inl e) (inl within) = (v ∷ [], ap (λ n. history_at (slice_set histories j (history_at histories j ++ v ∷ [])) n) e ∙ (get_or-set_same histories j (history_at histories j ++ v ∷ []) [] within ∙ ap (λ n. history_at histories n ++ v ∷ []) (sym e)))
+    by_number (inl e) (inl within) = (v ∷ [], ap (λ n. history_at (slice_set histories j (history_at histories j ++ v ∷ [])) n) e
+        ∙ (get_or-set_same histories j (history_at histories j ++ v ∷ []) [] within ∙ ap (λ n. history_at histories n ++ v ∷ []) (sym e)))
 
 step_behind : {c d : Configuration} {at : Place} → Step c at d → IsBehind c d
 step_behind {c = c} {d = d} {at = at} s k =

@@ -93,14 +93,18 @@ beside_count s v is = ap part_count (beside_said s v is) ∙ count_members v.ite
 pub select_count : (s : TStmt) (again : Bool) (v : Vec TArm Global) → s ≡ Select again v → part_count (process_of s) ≡ length v.items
 select_count s again v is = ap part_count (select_said s again v is) ∙ count_arms v.items
 
-pub then_part : (s : TStmt) (v : Vec TStmt Global) (i : ℕ) (x : TStmt) → s ≡ Then v → i < length v.items → x ≡ get_or v.items i x → process_of x ≡ part_of (process_of s) i
+pub then_part : (s : TStmt) (v : Vec TStmt Global) (i : ℕ) (x : TStmt) → s ≡ Then v → i < length v.items → x ≡ get_or v.items i x →
+    process_of x ≡ part_of (process_of s) i
 then_part s v i x is lt at = ap process_of at ∙ (sym (member_is v.items i x lt) ∙ ap (λ p. part_of p i) (sym (then_said s v is)))
 
-pub beside_part : (s : TStmt) (v : Vec TStmt Global) (i : ℕ) (x : TStmt) → s ≡ Beside v → i < length v.items → x ≡ get_or v.items i x → process_of x ≡ part_of (process_of s) i
+pub beside_part : (s : TStmt) (v : Vec TStmt Global) (i : ℕ) (x : TStmt) → s ≡ Beside v → i < length v.items → x ≡ get_or v.items i x →
+    process_of x ≡ part_of (process_of s) i
 beside_part s v i x is lt at = ap process_of at ∙ (sym (member_is v.items i x lt) ∙ ap (λ p. part_of p i) (sym (beside_said s v is)))
 
-pub select_part : (s : TStmt) (again : Bool) (v : Vec TArm Global) (i : ℕ) (x : TArm) → s ≡ Select again v → i < length v.items → x ≡ get_or v.items i x → process_of x.body ≡ part_of (process_of s) i
-select_part s again v i x is lt at = ap (λ (a : TArm). process_of a.body) at ∙ (sym (branch_is v.items i x lt) ∙ ap (λ p. part_of p i) (sym (select_said s again v is)))
+pub select_part : (s : TStmt) (again : Bool) (v : Vec TArm Global) (i : ℕ) (x : TArm) → s ≡ Select again v → i < length v.items → x ≡ get_or v.items i x →
+    process_of x.body ≡ part_of (process_of s) i
+select_part s again v i x is lt at = ap (λ (a : TArm). process_of a.body) at
+    ∙ (sym (branch_is v.items i x lt) ∙ ap (λ p. part_of p i) (sym (select_said s again v is)))
 
 -- what is asked of a statement is asked of its parts
 member_runnable : (n m : ℕ) (ms : Processes) (k : ℕ) → k < member_count ms → AreRunnable n m ms → IsRunnable n m (member_at ms k)
@@ -136,7 +140,8 @@ first_is : (ms : Processes) → 0 < member_count ms → first_begun ms ≡ begun
 first_is no_members lt = absurd (omega (arith, lt))
 first_is (and_member p more) lt = refl
 
-pub then_begun : (s : TStmt) (v : Vec TStmt Global) (x : TStmt) → s ≡ Then v → 0 < length v.items → x ≡ get_or v.items 0 x → begun (process_of s) ≡ within 0 (begun (process_of x))
+pub then_begun : (s : TStmt) (v : Vec TStmt Global) (x : TStmt) → s ≡ Then v → 0 < length v.items → x ≡ get_or v.items 0 x →
+    begun (process_of s) ≡ within 0 (begun (process_of x))
 then_begun s v x is lt at =
     ap begun (then_said s v is)
     ∙ (ap (within 0) (first_is (members_of v.items) (omega (arith, lt, count_members v.items)))
@@ -155,13 +160,15 @@ pub front_all : (ls : List Left) → front ls no_more ≡ several_of ls
 front_all [] = refl
 front_all (l ∷ ls) = ap (and_left (remains_of l)) (front_all ls)
 
-pub member_more : (xs : List TStmt) (i : ℕ) (x : TStmt) → i < length xs → x ≡ get_or xs i x → members_of (drop i xs) ≡ and_member (process_of x) (members_of (drop (i + 1) xs))
+pub member_more : (xs : List TStmt) (i : ℕ) (x : TStmt) → i < length xs → x ≡ get_or xs i x →
+    members_of (drop i xs) ≡ and_member (process_of x) (members_of (drop (i + 1) xs))
 member_more xs i x lt at = ap members_of (drop_more xs i x lt) ∙ ap (λ y. and_member (process_of y) (members_of (drop (i + 1) xs))) (sym at)
 
 pub no_member_more : (xs : List TStmt) (i : ℕ) → length xs ≤ i → members_of (drop i xs) ≡ no_members
 no_member_more xs i all = ap members_of (drop_all i xs all)
 
-pub begun_more : (ls : List Left) (l : Left) (xs : List TStmt) (i : ℕ) (x : TStmt) (all : Several) → i < length xs → x ≡ get_or xs i x → remains_of l ≡ begun (process_of x)
+pub begun_more : (ls : List Left) (l : Left) (xs : List TStmt) (i : ℕ) (x : TStmt) (all : Several) → i < length xs → x ≡ get_or xs i x →
+    remains_of l ≡ begun (process_of x)
     → front ls (each_begun (members_of (drop i xs))) ≡ all → front (ls ++ l ∷ []) (each_begun (members_of (drop (i + 1) xs))) ≡ all
 begun_more ls l xs i x all lt at is so_far =
     front_push ls l (each_begun (members_of (drop (i + 1) xs)))
@@ -172,7 +179,8 @@ pub begun_all : (s : TStmt) (v : Vec TStmt Global) (xs : List TStmt) (ls : Vec L
     → front ls.items (each_begun (members_of (drop i xs))) ≡ each_begun (members_of xs) → remains_of (Branches ls) ≡ begun (process_of s)
 begun_all s v xs ls i is same all whole_of =
     branches_is ls
-    ∙ (ap alongside (sym (front_all ls.items) ∙ (ap (λ ms. front ls.items (each_begun ms)) (sym (no_member_more xs i all)) ∙ (whole_of ∙ ap (λ (ys : List TStmt). each_begun (members_of ys)) same)))
+    ∙ (ap alongside (sym (front_all ls.items)
+        ∙ (ap (λ ms. front ls.items (each_begun ms)) (sym (no_member_more xs i all)) ∙ (whole_of ∙ ap (λ (ys : List TStmt). each_begun (members_of ys)) same)))
     ∙ ap begun (sym (beside_said s v is)))
 
 pub first_members : (s : TStmt) (v : Vec TStmt Global) (x : TStmt) → s ≡ Then v → x ≡ get_or v.items 0 x → HasMembers (process_of s) → HasMembers (process_of x)
@@ -180,32 +188,40 @@ first_members s v x is at h =
     let lt = then_some s v is h in
     subst HasMembers (sym (then_part s v 0 x is lt at)) (part_members (process_of s) 0 (omega (arith, lt, then_count s v is)) h)
 
-pub branch_members : (s : TStmt) (v : Vec TStmt Global) (xs : List TStmt) (i : ℕ) (x : TStmt) → s ≡ Beside v → xs ≡ v.items → i < length xs → x ≡ get_or xs i x → HasMembers (process_of s) → HasMembers (process_of x)
+pub branch_members : (s : TStmt) (v : Vec TStmt Global) (xs : List TStmt) (i : ℕ) (x : TStmt) → s ≡ Beside v → xs ≡ v.items → i < length xs →
+    x ≡ get_or xs i x → HasMembers (process_of s) → HasMembers (process_of x)
 branch_members s v xs i x is same lt at h =
     let lt' : i < length v.items = subst (λ (ys : List TStmt). i < length ys) same lt in
     let at' : x ≡ get_or v.items i x = subst (λ (ys : List TStmt). x ≡ get_or ys i x) same at in
     subst HasMembers (sym (beside_part s v i x is lt' at')) (part_members (process_of s) i (omega (arith, lt', beside_count s v is)) h)
 
 -- behind a part that has ended
-pub then_next : (s : TStmt) (v : Vec TStmt Global) (k : ℕ) → s ≡ Then v → k + 1 < length v.items → after_part (process_of s) k ≡ within (k + 1) (begun (part_of (process_of s) (k + 1)))
+pub then_next : (s : TStmt) (v : Vec TStmt Global) (k : ℕ) → s ≡ Then v → k + 1 < length v.items →
+    after_part (process_of s) k ≡ within (k + 1) (begun (part_of (process_of s) (k + 1)))
 then_next s v k is lt =
     let count = count_members v.items in
     ap (λ p. after_part p k) (then_said s v is)
-    ∙ (ap (λ b. if b then within (k + 1) (begun (member_at (members_of v.items) (k + 1))) else over) (lt-ltb (k + 1) (member_count (members_of v.items)) (omega (arith, lt, count)))
+    ∙ (ap (λ b. if b then within (k + 1) (begun (member_at (members_of v.items) (k + 1))) else over)
+        (lt-ltb (k + 1) (member_count (members_of v.items)) (omega (arith, lt, count)))
     ∙ ap (λ p. within (k + 1) (begun (part_of p (k + 1)))) (sym (then_said s v is)))
 
 pub then_last : (s : TStmt) (v : Vec TStmt Global) (k : ℕ) → s ≡ Then v → length v.items ≤ k + 1 → after_part (process_of s) k ≡ over
 then_last s v k is le =
     let count = count_members v.items in
     ap (λ p. after_part p k) (then_said s v is)
-    ∙ ap (λ b. if b then within (k + 1) (begun (member_at (members_of v.items) (k + 1))) else over) (le-ltb (k + 1) (member_count (members_of v.items)) (omega (arith, le, count)))
+    ∙ ap (λ b. if b then within (k + 1) (begun (member_at (members_of v.items) (k + 1))) else over)
+        (le-ltb (k + 1) (member_count (members_of v.items)) (omega (arith, le, count)))
 
 all_are_over : (ls : List Left) → list_all (λ l. is_over (remains_of l)) ls ≡ all_over (several_of ls)
 all_are_over [] = refl
 all_are_over (l ∷ ls) = ap (λ b. is_over (remains_of l) && b) (all_are_over ls)
 
-pub gathered_over : (v : Vec Left Global) (xs : List Left) → xs ≡ v.items → list_all (λ l. is_over (remains_of l)) xs ≡ true → over ≡ gathered (several_of v.items)
-gathered_over v xs same all = ap (λ b. if b then over else alongside (several_of v.items)) (sym all ∙ (all_are_over xs ∙ ap (λ (ys : List Left). all_over (several_of ys)) same))
+pub gathered_over : (v : Vec Left Global) (xs : List Left) → xs ≡ v.items → list_all (λ l. is_over (remains_of l)) xs ≡ true →
+    over ≡ gathered (several_of v.items)
+gathered_over v xs same all = ap (λ b. if b then over else alongside (several_of v.items)) (sym all
+    ∙ (all_are_over xs ∙ ap (λ (ys : List Left). all_over (several_of ys)) same))
 
-pub gathered_left : (v : Vec Left Global) (xs : List Left) → xs ≡ v.items → list_all (λ l. is_over (remains_of l)) xs ≡ false → remains_of (Branches v) ≡ gathered (several_of v.items)
-gathered_left v xs same not_all = branches_is v ∙ ap (λ b. if b then over else alongside (several_of v.items)) (sym not_all ∙ (all_are_over xs ∙ ap (λ (ys : List Left). all_over (several_of ys)) same))
+pub gathered_left : (v : Vec Left Global) (xs : List Left) → xs ≡ v.items → list_all (λ l. is_over (remains_of l)) xs ≡ false →
+    remains_of (Branches v) ≡ gathered (several_of v.items)
+gathered_left v xs same not_all = branches_is v
+    ∙ ap (λ b. if b then over else alongside (several_of v.items)) (sym not_all ∙ (all_are_over xs ∙ ap (λ (ys : List Left). all_over (several_of ys)) same))

@@ -21,19 +21,22 @@ history_is [] k d lt = absurd (omega (arith, lt))
 history_is (h ∷ hs) zero d lt = refl
 history_is (h ∷ hs) (suc k) d lt = history_is hs k d (omega (arith, lt))
 
-pub pushed : (hs : List (Vec ℕ Global)) (k : ℕ) (d new : Vec ℕ Global) (v : ℕ) (step : Move) → k < length hs → step.pass ≡ Some (k, v) → new.items ≡ (get_or hs k d).items ++ v ∷ []
+pub pushed : (hs : List (Vec ℕ Global)) (k : ℕ) (d new : Vec ℕ Global) (v : ℕ) (step : Move) → k < length hs → step.pass ≡ Some (k, v) →
+    new.items ≡ (get_or hs k d).items ++ v ∷ []
     → items_of (slice_set hs k new) ≡ passed (items_of hs) step
 pushed hs k d new v step lt is items =
     map-set (λ (h : Vec ℕ Global). h.items) hs k new
     ∙ (ap (λ (xs : List ℕ). slice_set (items_of hs) k xs) (items ∙ ap (λ xs. xs ++ v ∷ []) (sym (history_is hs k d lt)))
     ∙ ap (λ w. passed_on (items_of hs) w) (sym is))
 
-pub unpushed : (hs : List (Vec ℕ Global)) (k : ℕ) (d new : Vec ℕ Global) → k < length hs → new.items ≡ (get_or hs k d).items → items_of (slice_set hs k new) ≡ items_of hs
+pub unpushed : (hs : List (Vec ℕ Global)) (k : ℕ) (d new : Vec ℕ Global) → k < length hs → new.items ≡ (get_or hs k d).items →
+    items_of (slice_set hs k new) ≡ items_of hs
 unpushed hs k d new lt items =
     map-set (λ (h : Vec ℕ Global). h.items) hs k new
     ∙ (ap (λ (xs : List ℕ). slice_set (items_of hs) k xs) (items ∙ sym (history_is hs k d lt)) ∙ set-get_or (items_of hs) k [])
 
-pub popped : (hs : List (Vec ℕ Global)) (k : ℕ) (d new : Vec ℕ Global) (v n : ℕ) (pass : Option (ℕ × ℕ)) → k < length hs → pass ≡ Some (k, v) → n ≡ length (get_or hs k d).items → new.items ≡ take (n - 1) (get_or hs k d).items
+pub popped : (hs : List (Vec ℕ Global)) (k : ℕ) (d new : Vec ℕ Global) (v n : ℕ) (pass : Option (ℕ × ℕ)) → k < length hs → pass ≡ Some (k, v) →
+    n ≡ length (get_or hs k d).items → new.items ≡ take (n - 1) (get_or hs k d).items
     → items_of (slice_set hs k new) ≡ withdrawn_on (items_of hs) pass
 popped hs k d new v n pass lt is len items =
     map-set (λ (h : Vec ℕ Global). h.items) hs k new
@@ -43,7 +46,8 @@ popped hs k d new v n pass lt is len items =
 -- what has passed last, taken away, leaves what was before
 
 shorter_push : (xs : List ℕ) (v : ℕ) → shorter (xs ++ v ∷ []) ≡ xs
-shorter_push xs v = let e : length xs ≡ length (xs ++ v ∷ []) - 1 = omega (arith, length-append xs (v ∷ [])) in take_at xs (v ∷ []) (length (xs ++ v ∷ []) - 1) e
+shorter_push xs v = let e : length xs ≡ length (xs ++ v ∷ []) - 1 = omega (arith, length-append xs (v ∷ [])) in
+    take_at xs (v ∷ []) (length (xs ++ v ∷ []) - 1) e
 
 below_is : (n : ℕ) (w : ℕ × ℕ) → is_below n (Some w) ≡ true → w.0 < n
 below_is n w e = ltb-true w.0 n e
@@ -73,7 +77,8 @@ fold_push : {A B : Type 0} (f : B → A → B) (b : B) (xs : List A) (x : A) →
 fold_push f b [] x = refl
 fold_push f b (y ∷ xs) x = fold_push f (f b y) xs x
 
-pub fold_more : {A B : Type 0} (f : B → A → B) (b : B) (xs : List A) (i : ℕ) (d : A) → i < length xs → fold f b (take (i + 1) xs) ≡ f (fold f b (take i xs)) (get_or xs i d)
+pub fold_more : {A B : Type 0} (f : B → A → B) (b : B) (xs : List A) (i : ℕ) (d : A) → i < length xs →
+    fold f b (take (i + 1) xs) ≡ f (fold f b (take i xs)) (get_or xs i d)
 fold_more f b xs i d lt = ap (fold f b) (take_more xs i d lt) ∙ fold_push f b (take i xs) (get_or xs i d)
 
 pub less_given : (vs : List ℕ) (i : ℕ) → i < length vs → gives (drop (i + 1) vs) ≡ less (gives (drop i vs))
@@ -86,7 +91,8 @@ pub in_range : (n : ℕ) (pass : Option (ℕ × ℕ)) (k v : ℕ) → pass ≡ S
 in_range n pass k v is b = below_is n (k, v) (sym (ap (is_below n) is) ∙ b)
 
 -- one value fewer is taken away
-pub withdrawn_more : (before now new : List (List ℕ)) (ms : List Move) (n len : ℕ) (d : Move) → 0 < n → n ≤ length ms → length now ≡ len → is_below len (get_or ms (n - 1) d).pass ≡ true
+pub withdrawn_more : (before now new : List (List ℕ)) (ms : List Move) (n len : ℕ) (d : Move) → 0 < n → n ≤ length ms → length now ≡ len →
+    is_below len (get_or ms (n - 1) d).pass ≡ true
     → new ≡ withdrawn_on now (get_or ms (n - 1) d).pass → now ≡ fold passed before (take n ms) → new ≡ fold passed before (take (n - 1) ms)
 withdrawn_more before now new ms n len d some le same below is so_far =
     let e : n ≡ (n - 1) + 1 = omega arith in
@@ -101,7 +107,8 @@ rest_is [] k d lt = absurd (omega (arith, lt))
 rest_is (r ∷ rs) zero d lt = refl
 rest_is (r ∷ rs) (suc k) d lt = rest_is rs k d (omega (arith, lt))
 
-pub used_one : (rs : List Rest) (k : ℕ) (d new : Rest) (step : Move) → k < length rs → step.uses ≡ Some k → rest_of new ≡ less (rest_of (get_or rs k d)) → map rest_of (slice_set rs k new) ≡ used (map rest_of rs) step
+pub used_one : (rs : List Rest) (k : ℕ) (d new : Rest) (step : Move) → k < length rs → step.uses ≡ Some k → rest_of new ≡ less (rest_of (get_or rs k d)) →
+    map rest_of (slice_set rs k new) ≡ used (map rest_of rs) step
 used_one rs k d new step lt is e =
     map-set rest_of rs k new
     ∙ (ap (λ o. slice_set (map rest_of rs) k o) (e ∙ ap less (sym (rest_is rs k d lt)))

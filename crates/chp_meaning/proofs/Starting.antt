@@ -31,11 +31,13 @@ mutual
   process_runs channels vars (choosing again choices) r = choices_run channels vars choices r.2
   process_runs channels vars (repeating p) r = process_runs channels vars p r
 
-  processes_run : (channels : List Channel) (vars : List Var) (members : Processes) → AreProcesses channels vars members → AreRunnable (length channels) (length vars) members
+  processes_run : (channels : List Channel) (vars : List Var) (members : Processes) → AreProcesses channels vars members →
+      AreRunnable (length channels) (length vars) members
   processes_run channels vars no_members r = tt
   processes_run channels vars (and_member p more) r = (process_runs channels vars p r.0, processes_run channels vars more r.1)
 
-  choices_run : (channels : List Channel) (vars : List Var) (choices : Choices) → AreChoices channels vars choices → ChoicesRunnable (length channels) (length vars) choices
+  choices_run : (channels : List Channel) (vars : List Var) (choices : Choices) → AreChoices channels vars choices →
+      ChoicesRunnable (length channels) (length vars) choices
   choices_run channels vars no_choices r = tt
   choices_run channels vars (and_choice g p more) r = (r.0.formed, process_runs channels vars p r.1, choices_run channels vars more r.2)
 
@@ -54,11 +56,13 @@ pub record IsFirst (body : Process) (channels : ℕ) (script : List OfferValue) 
   pub sends : c.sends.items ≡ replicate channels false
   pub receives : c.receives.items ≡ replicate channels None
 
-pub first_stands : (body : Process) (channels : ℕ) (script : List OfferValue) (c : Config) → IsFirst body channels script c → length script ≡ channels → IsStanding body c
+pub first_stands : (body : Process) (channels : ℕ) (script : List OfferValue) (c : Config) → IsFirst body channels script c → length script ≡ channels →
+    IsStanding body c
 first_stands body channels script c f fits =
     let n : channels ≡ length c.rests.items = sym fits ∙ (ap (λ (xs : List OfferValue). length xs) (sym f.rests) ∙ length-map c.rests.items rest_of) in
     let none : List ℕ = [] in
-    let h : length c.histories.items ≡ channels = sym (length-map c.histories.items (λ x. x.items)) ∙ (ap (λ (xs : List (List ℕ)). length xs) f.histories ∙ length-replicate channels none) in
+    let h : length c.histories.items ≡ channels = sym (length-map c.histories.items (λ x. x.items))
+        ∙ (ap (λ (xs : List (List ℕ)). length xs) f.histories ∙ length-replicate channels none) in
     record {
       runnable = subst (λ k. IsRunnable k (length c.store.items) body) n f.runnable;
       remains = rw f.left_is (begins channels (length c.store.items) body f.runnable).can;
@@ -67,12 +71,14 @@ first_stands body channels script c f fits =
       receives = f.receives ∙ ap (λ k. replicate k None) n;
     }
 
-pub first_is : (body : Process) (channels : ℕ) (script : List OfferValue) (c : Config) → IsFirst body channels script c → configuration_of body c ≡ record { term = opened body; store = c.store.items; rests = script; histories = replicate channels [] }
+pub first_is : (body : Process) (channels : ℕ) (script : List OfferValue) (c : Config) → IsFirst body channels script c →
+    configuration_of body c ≡ record { term = opened body; store = c.store.items; rests = script; histories = replicate channels [] }
 first_is body channels script c f =
     let t : term_of body (remains_of c.left) ≡ opened body = ap (term_of body) f.left_is ∙ (begins channels (length c.store.items) body f.runnable).term in
     λ i. record { term = t i; store = c.store.items; rests = f.rests i; histories = f.histories i }
 
-pub begins_of : (t : TypedValue) (script : List OfferValue) (c : Config) → IsScript t.channels script → IsStanding (process_of t.body) c → seen t c ≡ start_of (program_of t) script → IsOf t c
+pub begins_of : (t : TypedValue) (script : List OfferValue) (c : Config) → IsScript t.channels script → IsStanding (process_of t.body) c →
+    seen t c ≡ start_of (program_of t) script → IsOf t c
 begins_of t script c fits standing is =
     let there : IsReached t (seen t c) = (script, 0, fits, rw is no_step) in
     record { standing = standing; reached = there; channels = reached_channels t (seen t c) there }
@@ -81,18 +87,23 @@ begins_of t script c fits standing is =
 abbrev pub first_of : TypedValue → List ℕ → List OfferValue → ℕ → Configuration
 first_of t store script channels = record { term = opened (process_of t.body); store = store; rests = script; histories = replicate channels [] }
 
-pub all_begun : {E : Type 0} (t : TypedValue) (script : List OfferValue) (store : List ℕ) (n : ℕ) (r : Result Config E) → IsScript t.channels script → store ≡ map (λ (v : Var). v.first) t.vars → n ≡ length t.channels
+pub all_begun : {E : Type 0} (t : TypedValue) (script : List OfferValue) (store : List ℕ) (n : ℕ) (r : Result Config E) → IsScript t.channels script →
+    store ≡ map (λ (v : Var). v.first) t.vars → n ≡ length t.channels
     → IfOk r (λ c. IsStanding (process_of t.body) c) → IfOk r (λ c. configuration_of (process_of t.body) c ≡ first_of t store script n) → IfOk r (λ c. IsOf t c)
 all_begun t script store n (Err e) fits first count standing is = tt
-all_begun t script store n (Ok c) fits first count standing is = begins_of t script c fits standing (is ∙ (ap (λ xs. first_of t xs script n) first ∙ ap (first_of t (map (λ (v : Var). v.first) t.vars) script) count))
+all_begun t script store n (Ok c) fits first count standing is =
+    begins_of t script c fits standing (is ∙ (ap (λ xs. first_of t xs script n) first ∙ ap (first_of t (map (λ (v : Var). v.first) t.vars) script) count))
 
-pub program_runs : (t : TypedValue) (n m : ℕ) → IsProcess t.channels t.vars (process_of t.body) → n ≡ length t.channels → m ≡ length t.vars → IsRunnable n m (process_of t.body)
-program_runs t n m is e f = subst (λ k. IsRunnable k m (process_of t.body)) (sym e) (subst (λ k. IsRunnable (length t.channels) k (process_of t.body)) (sym f) (process_runs t.channels t.vars (process_of t.body) is))
+pub program_runs : (t : TypedValue) (n m : ℕ) → IsProcess t.channels t.vars (process_of t.body) → n ≡ length t.channels → m ≡ length t.vars →
+    IsRunnable n m (process_of t.body)
+program_runs t n m is e f = subst (λ k. IsRunnable k m (process_of t.body)) (sym e)
+    (subst (λ k. IsRunnable (length t.channels) k (process_of t.body)) (sym f) (process_runs t.channels t.vars (process_of t.body) is))
 
 -- before the first step no value has passed
 none_held : (n : ℕ) → held (replicate n []) ≡ 0
 none_held zero = refl
 none_held (suc n) = let none : List ℕ = [] in omega (arith, sum_by-cons length none (replicate n none), none_held n)
 
-pub held_at_first : (body : Process) (c : Config) (store : List ℕ) (script : List OfferValue) (n most : ℕ) → configuration_of body c ≡ record { term = opened body; store = store; rests = script; histories = replicate n [] } → held (histories_of c) ≤ most
+pub held_at_first : (body : Process) (c : Config) (store : List ℕ) (script : List OfferValue) (n most : ℕ) →
+    configuration_of body c ≡ record { term = opened body; store = store; rests = script; histories = replicate n [] } → held (histories_of c) ≤ most
 held_at_first body c store script n most e = omega (arith, ap (λ (x : Configuration). held x.histories) e, none_held n)

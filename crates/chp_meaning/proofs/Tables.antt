@@ -43,7 +43,9 @@ mutual
   branch_active no_branches q i = absurd i
   branch_active (and_branch t more) q i = by_side (in_either (actives t) (branch_actives more) q i) (active_at t q) (branch_active more q)
     where
-      by_side : In (actives t) q ⊎ In (branch_actives more) q → (In (actives t) q → (a : Place) × (statement_at t a ≡ Some q)) → (In (branch_actives more) q → (k : ℕ) × (a : Place) × (branch_at more k a ≡ Some q)) → (k : ℕ) × (a : Place) × (branch_at (and_branch t more) k a ≡ Some q)
+      by_side : In (actives t) q ⊎ In (branch_actives more) q → (In (actives t) q → (a : Place) × (statement_at t a ≡ Some q)) →
+          (In (branch_actives more) q → (k : ℕ) × (a : Place) × (branch_at more k a ≡ Some q)) →
+          (k : ℕ) × (a : Place) × (branch_at (and_branch t more) k a ≡ Some q)
       by_side (inl x) f g = let r = f x in (0, r.0, r.1)
       by_side (inr x) f g = let r = g x in (suc r.0, r.1, r.2)
 
@@ -52,7 +54,8 @@ mutual
 set_cases : {X : Type 0} (xs : List X) (j k : ℕ) (y d : X) → ((k ≡ j) × (get_or (set xs j y) k d ≡ y)) ⊎ (get_or (set xs j y) k d ≡ get_or xs k d)
 set_cases xs j k y d = by_number (cases_eq k j) (cases_lt j (length xs))
   where
-    by_number : (k ≡ j) ⊎ (k ≡ j → ⊥) → (j < length xs) ⊎ (length xs ≤ j) → ((k ≡ j) × (get_or (set xs j y) k d ≡ y)) ⊎ (get_or (set xs j y) k d ≡ get_or xs k d)
+    by_number : (k ≡ j) ⊎ (k ≡ j → ⊥) → (j < length xs) ⊎ (length xs ≤ j) →
+        ((k ≡ j) × (get_or (set xs j y) k d ≡ y)) ⊎ (get_or (set xs j y) k d ≡ get_or xs k d)
     by_number (inr ne) within = inr (get_or-set_other xs j k y d ne)
     by_number (inl e) (inr past) = inr (ap (λ ys. get_or ys k d) (set_past xs j y past))
     by_number (inl e) (inl within) = inl (e, ap (λ n. get_or (set xs j y) n d) e ∙ get_or-set_same xs j y d within)
@@ -68,7 +71,8 @@ Receiving ps k x = (s : Span) × (u : Span) × In ps (receiving k s x u)
 later_receiving : (p : Process) (ps : List Process) (k x : ℕ) → Receiving ps k x → Receiving (p ∷ ps) k x
 later_receiving p ps k x (s, u, i) = (s, u, inr i)
 
-noted_once : (table : List (Option ℕ)) (p : Process) (ps : List Process) (k x : ℕ) → get_or (noted_receive true table p) k None ≡ Some x → (get_or table k None ≡ Some x) ⊎ Receiving (p ∷ ps) k x
+noted_once : (table : List (Option ℕ)) (p : Process) (ps : List Process) (k x : ℕ) → get_or (noted_receive true table p) k None ≡ Some x →
+    (get_or table k None ≡ Some x) ⊎ Receiving (p ∷ ps) k x
 noted_once table skipping ps k x h = inl h
 noted_once table (assigning y s e) ps k x h = inl h
 noted_once table (sending j s e) ps k x h = inl h
@@ -78,11 +82,13 @@ noted_once table (choosing again cs) ps k x h = inl h
 noted_once table (repeating q) ps k x h = inl h
 noted_once table (receiving j s y u) ps k x h = by_case (set_cases table j k (Some y) None)
   where
-    by_case : ((k ≡ j) × (get_or (set table j (Some y)) k None ≡ Some y)) ⊎ (get_or (set table j (Some y)) k None ≡ get_or table k None) → (get_or table k None ≡ Some x) ⊎ Receiving (receiving j s y u ∷ ps) k x
+    by_case : ((k ≡ j) × (get_or (set table j (Some y)) k None ≡ Some y)) ⊎ (get_or (set table j (Some y)) k None ≡ get_or table k None) →
+        (get_or table k None ≡ Some x) ⊎ Receiving (receiving j s y u ∷ ps) k x
     by_case (inr e) = inl (sym e ∙ h)
     by_case (inl (e, f)) = let same : y ≡ x = cc (f, h) in inr (s, u, inl (cc (e, same)))
 
-pub noted_receives : (ps : List Process) (table : List (Option ℕ)) (k x : ℕ) → get_or (fold (noted_receive true) table ps) k None ≡ Some x → (get_or table k None ≡ Some x) ⊎ Receiving ps k x
+pub noted_receives : (ps : List Process) (table : List (Option ℕ)) (k x : ℕ) → get_or (fold (noted_receive true) table ps) k None ≡ Some x →
+    (get_or table k None ≡ Some x) ⊎ Receiving ps k x
 noted_receives [] table k x h = inl h
 noted_receives (p ∷ ps) table k x h = by_rest (noted_receives ps (noted_receive true table p) k x h)
   where
@@ -93,7 +99,8 @@ noted_receives (p ∷ ps) table k x h = by_rest (noted_receives ps (noted_receiv
 abbrev OneReceives : List Process → ℕ → ℕ → Type 0
 OneReceives ps k x = (s u : Span) (y : ℕ) → In ps (receiving k s y u) → y ≡ x
 
-keeps_note : (table : List (Option ℕ)) (p : Process) (ps : List Process) (k x : ℕ) → OneReceives (p ∷ ps) k x → get_or table k None ≡ Some x → get_or (noted_receive true table p) k None ≡ Some x
+keeps_note : (table : List (Option ℕ)) (p : Process) (ps : List Process) (k x : ℕ) → OneReceives (p ∷ ps) k x → get_or table k None ≡ Some x →
+    get_or (noted_receive true table p) k None ≡ Some x
 keeps_note table skipping ps k x one h = h
 keeps_note table (assigning y s e) ps k x one h = h
 keeps_note table (sending j s e) ps k x one h = h
@@ -103,15 +110,18 @@ keeps_note table (choosing again cs) ps k x one h = h
 keeps_note table (repeating q) ps k x one h = h
 keeps_note table (receiving j s y u) ps k x one h = by_case (set_cases table j k (Some y) None)
   where
-    by_case : ((k ≡ j) × (get_or (set table j (Some y)) k None ≡ Some y)) ⊎ (get_or (set table j (Some y)) k None ≡ get_or table k None) → get_or (set table j (Some y)) k None ≡ Some x
+    by_case : ((k ≡ j) × (get_or (set table j (Some y)) k None ≡ Some y)) ⊎ (get_or (set table j (Some y)) k None ≡ get_or table k None) →
+        get_or (set table j (Some y)) k None ≡ Some x
     by_case (inr e) = e ∙ h
     by_case (inl (e, f)) = f ∙ ap Some (one s u y (inl (ap (λ n. receiving n s y u) (sym e))))
 
-pub receive_noted : (ps : List Process) (table : List (Option ℕ)) (k x : ℕ) → k < length table → OneReceives ps k x → (get_or table k None ≡ Some x) ⊎ Receiving ps k x → get_or (fold (noted_receive true) table ps) k None ≡ Some x
+pub receive_noted : (ps : List Process) (table : List (Option ℕ)) (k x : ℕ) → k < length table → OneReceives ps k x →
+    (get_or table k None ≡ Some x) ⊎ Receiving ps k x → get_or (fold (noted_receive true) table ps) k None ≡ Some x
 receive_noted [] table k x lt one (inl e) = e
 receive_noted [] table k x lt one (inr (s, u, i)) = absurd i
 receive_noted (p ∷ ps) table k x lt one start =
-    receive_noted ps (noted_receive true table p) k x (subst (λ n. k < n) (sym (receive_length true table p)) lt) (λ s u y i. one s u y (inr i)) (by_start start)
+    receive_noted ps (noted_receive true table p) k x (subst (λ n. k < n) (sym (receive_length true table p)) lt) (λ s u y i. one s u y (inr i))
+        (by_start start)
   where
     by_start : (get_or table k None ≡ Some x) ⊎ Receiving (p ∷ ps) k x → (get_or (noted_receive true table p) k None ≡ Some x) ⊎ Receiving ps k x
     by_start (inl e) = inl (keeps_note table p ps k x one e)
@@ -123,7 +133,8 @@ receive_noted (p ∷ ps) table k x lt one start =
 abbrev Sending : List Process → ℕ → Type 0
 Sending ps k = (s : Span) × (e : Formula) × In ps (sending k s e)
 
-send_once : (table : List Bool) (p : Process) (ps : List Process) (k : ℕ) → get_or (noted_send true table p) k false ≡ true → (get_or table k false ≡ true) ⊎ Sending (p ∷ ps) k
+send_once : (table : List Bool) (p : Process) (ps : List Process) (k : ℕ) → get_or (noted_send true table p) k false ≡ true →
+    (get_or table k false ≡ true) ⊎ Sending (p ∷ ps) k
 send_once table skipping ps k h = inl h
 send_once table (assigning y s e) ps k h = inl h
 send_once table (receiving j s y u) ps k h = inl h
@@ -133,11 +144,13 @@ send_once table (choosing again cs) ps k h = inl h
 send_once table (repeating q) ps k h = inl h
 send_once table (sending j s e) ps k h = by_case (set_cases table j k true false)
   where
-    by_case : ((k ≡ j) × (get_or (set table j true) k false ≡ true)) ⊎ (get_or (set table j true) k false ≡ get_or table k false) → (get_or table k false ≡ true) ⊎ Sending (sending j s e ∷ ps) k
+    by_case : ((k ≡ j) × (get_or (set table j true) k false ≡ true)) ⊎ (get_or (set table j true) k false ≡ get_or table k false) →
+        (get_or table k false ≡ true) ⊎ Sending (sending j s e ∷ ps) k
     by_case (inr f) = inl (sym f ∙ h)
     by_case (inl (f, g)) = inr (s, e, inl (ap (λ n. sending n s e) (sym f)))
 
-pub noted_sends : (ps : List Process) (table : List Bool) (k : ℕ) → get_or (fold (noted_send true) table ps) k false ≡ true → (get_or table k false ≡ true) ⊎ Sending ps k
+pub noted_sends : (ps : List Process) (table : List Bool) (k : ℕ) → get_or (fold (noted_send true) table ps) k false ≡ true →
+    (get_or table k false ≡ true) ⊎ Sending ps k
 noted_sends [] table k h = inl h
 noted_sends (p ∷ ps) table k h = by_rest (noted_sends ps (noted_send true table p) k h)
   where
@@ -159,7 +172,8 @@ keeps_send w table (sending j s e) k h = by_case (set_cases table j k w false)
     by_case (inr f) = f ∙ h
     by_case (inl (f, g)) = g
 
-pub send_noted : (w : Bool) (ps : List Process) (table : List Bool) (k : ℕ) → k < length table → (get_or table k false ≡ w) ⊎ Sending ps k → get_or (fold (noted_send w) table ps) k false ≡ w
+pub send_noted : (w : Bool) (ps : List Process) (table : List Bool) (k : ℕ) → k < length table → (get_or table k false ≡ w) ⊎ Sending ps k →
+    get_or (fold (noted_send w) table ps) k false ≡ w
 send_noted w [] table k lt (inl e) = e
 send_noted w [] table k lt (inr (s, e, i)) = absurd i
 send_noted w (p ∷ ps) table k lt start = send_noted w ps (noted_send w table p) k (subst (λ n. k < n) (sym (send_length w table p)) lt) (by_start start)
@@ -181,16 +195,20 @@ clears_receive table (choosing again cs) k h = h
 clears_receive table (repeating q) k h = h
 clears_receive table (receiving j s y u) k h = by_case (set_cases table j k None None)
   where
-    by_case : ((k ≡ j) × (get_or (set table j None) k None ≡ None)) ⊎ (get_or (set table j None) k None ≡ get_or table k None) → get_or (set table j None) k None ≡ None
+    by_case : ((k ≡ j) × (get_or (set table j None) k None ≡ None)) ⊎ (get_or (set table j None) k None ≡ get_or table k None) →
+        get_or (set table j None) k None ≡ None
     by_case (inr e) = e ∙ h
     by_case (inl (e, f)) = f
 
-receive_cleared : (ps : List Process) (table : List (Option ℕ)) (k : ℕ) → k < length table → (get_or table k None ≡ None) ⊎ ((x : ℕ) × Receiving ps k x) → get_or (fold (noted_receive false) table ps) k None ≡ None
+receive_cleared : (ps : List Process) (table : List (Option ℕ)) (k : ℕ) → k < length table → (get_or table k None ≡ None) ⊎ ((x : ℕ) × Receiving ps k x) →
+    get_or (fold (noted_receive false) table ps) k None ≡ None
 receive_cleared [] table k lt (inl e) = e
 receive_cleared [] table k lt (inr (x, (s, u, i))) = absurd i
-receive_cleared (p ∷ ps) table k lt start = receive_cleared ps (noted_receive false table p) k (subst (λ n. k < n) (sym (receive_length false table p)) lt) (by_start start)
+receive_cleared (p ∷ ps) table k lt start =
+    receive_cleared ps (noted_receive false table p) k (subst (λ n. k < n) (sym (receive_length false table p)) lt) (by_start start)
   where
-    by_start : (get_or table k None ≡ None) ⊎ ((x : ℕ) × Receiving (p ∷ ps) k x) → (get_or (noted_receive false table p) k None ≡ None) ⊎ ((x : ℕ) × Receiving ps k x)
+    by_start : (get_or table k None ≡ None) ⊎ ((x : ℕ) × Receiving (p ∷ ps) k x) →
+        (get_or (noted_receive false table p) k None ≡ None) ⊎ ((x : ℕ) × Receiving ps k x)
     by_start (inl e) = inl (clears_receive table p k e)
     by_start (inr (x, (s, u, inl e))) = inl (ap (λ q. get_or (noted_receive false table q) k None) e ∙ set_at table k None None lt)
     by_start (inr (x, (s, u, inr i))) = inr (x, (s, u, i))
@@ -212,7 +230,8 @@ some_or_none : (o : Option ℕ) → (o ≡ None) ⊎ ((x : ℕ) × (o ≡ Some x
 some_or_none None = inl refl
 some_or_none (Some x) = inr (x, refl)
 
-send_then_clear : (n : ℕ) (ps : List Process) (k : ℕ) → k < n → get_or (fold (noted_send false) (fold (noted_send true) (replicate n false) ps) ps) k false ≡ false
+send_then_clear : (n : ℕ) (ps : List Process) (k : ℕ) → k < n → get_or (fold (noted_send false) (fold (noted_send true) (replicate n false) ps) ps) k false ≡
+    false
 send_then_clear n ps k lt = send_noted false ps noted k (subst (λ m. k < m) (sym count) lt) (by_entry (either (get_or noted k false)))
   where
     noted : List Bool
@@ -221,36 +240,47 @@ send_then_clear n ps k lt = send_noted false ps noted k (subst (λ m. k < m) (sy
     count : length (fold (noted_send true) (replicate n false) ps) ≡ n
     count = sends_length true (replicate n false) ps ∙ length-replicate n false
 
-    by_noted : (get_or (replicate n false) k false ≡ true) ⊎ Sending ps k → (get_or (fold (noted_send true) (replicate n false) ps) k false ≡ false) ⊎ Sending ps k
+    by_noted : (get_or (replicate n false) k false ≡ true) ⊎ Sending ps k →
+        (get_or (fold (noted_send true) (replicate n false) ps) k false ≡ false) ⊎ Sending ps k
     by_noted (inl e) = absurd (cc (sym (none_there n k false) ∙ e))
     by_noted (inr s) = inr s
 
-    by_entry : (get_or (fold (noted_send true) (replicate n false) ps) k false ≡ false) ⊎ (get_or (fold (noted_send true) (replicate n false) ps) k false ≡ true) → (get_or (fold (noted_send true) (replicate n false) ps) k false ≡ false) ⊎ Sending ps k
+    by_entry : (get_or (fold (noted_send true) (replicate n false) ps) k false ≡ false) ⊎ (get_or (fold (noted_send true) (replicate n false) ps) k false ≡
+        true) → (get_or (fold (noted_send true) (replicate n false) ps) k false ≡ false) ⊎ Sending ps k
     by_entry (inl e) = inl e
     by_entry (inr e) = by_noted (noted_sends ps (replicate n false) k e)
 
-receive_then_clear : (n : ℕ) (ps : List Process) (k : ℕ) → k < n → get_or (fold (noted_receive false) (fold (noted_receive true) (replicate n None) ps) ps) k None ≡ None
-receive_then_clear n ps k lt = receive_cleared ps (fold (noted_receive true) (replicate n None) ps) k (subst (λ m. k < m) (sym count) lt) (by_entry (some_or_none (get_or (fold (noted_receive true) (replicate n None) ps) k None)))
+receive_then_clear : (n : ℕ) (ps : List Process) (k : ℕ) → k < n →
+    get_or (fold (noted_receive false) (fold (noted_receive true) (replicate n None) ps) ps) k None ≡ None
+receive_then_clear n ps k lt = receive_cleared ps (fold (noted_receive true) (replicate n None) ps) k (subst (λ m. k < m) (sym count) lt)
+    (by_entry (some_or_none (get_or (fold (noted_receive true) (replicate n None) ps) k None)))
   where
     count : length (fold (noted_receive true) (replicate n None) ps) ≡ n
     count = receives_length true (replicate n None) ps ∙ length-replicate n None
 
-    by_noted : (x : ℕ) → (get_or (replicate n None) k None ≡ Some x) ⊎ Receiving ps k x → (get_or (fold (noted_receive true) (replicate n None) ps) k None ≡ None) ⊎ ((y : ℕ) × Receiving ps k y)
+    by_noted : (x : ℕ) → (get_or (replicate n None) k None ≡ Some x) ⊎ Receiving ps k x →
+        (get_or (fold (noted_receive true) (replicate n None) ps) k None ≡ None) ⊎ ((y : ℕ) × Receiving ps k y)
     by_noted x (inl e) = absurd (cc (sym (none_there n k None) ∙ e))
     by_noted x (inr r) = inr (x, r)
 
-    by_entry : (get_or (fold (noted_receive true) (replicate n None) ps) k None ≡ None) ⊎ ((x : ℕ) × (get_or (fold (noted_receive true) (replicate n None) ps) k None ≡ Some x)) → (get_or (fold (noted_receive true) (replicate n None) ps) k None ≡ None) ⊎ ((y : ℕ) × Receiving ps k y)
+    by_entry : (get_or (fold (noted_receive true) (replicate n None) ps) k None ≡ None) ⊎ ((x : ℕ)
+        × (get_or (fold (noted_receive true) (replicate n None) ps) k None ≡ Some x)) →
+        (get_or (fold (noted_receive true) (replicate n None) ps) k None ≡ None) ⊎ ((y : ℕ) × Receiving ps k y)
     by_entry (inl e) = inl e
     by_entry (inr (x, e)) = by_noted x (noted_receives ps (replicate n None) k x e)
 
 pub sends_clear : (n : ℕ) (ps : List Process) → fold (noted_send false) (fold (noted_send true) (replicate n false) ps) ps ≡ replicate n false
 sends_clear n ps =
     let noted = fold (noted_send true) (replicate n false) ps in
-    let count : length (fold (noted_send false) noted ps) ≡ n = sends_length false noted ps ∙ (sends_length true (replicate n false) ps ∙ length-replicate n false) in
-    ext_get_or false (fold (noted_send false) noted ps) (replicate n false) (count ∙ sym (length-replicate n false)) (λ k lt. send_then_clear n ps k (subst (λ m. k < m) count lt) ∙ sym (none_there n k false))
+    let count : length (fold (noted_send false) noted ps) ≡ n =
+        sends_length false noted ps ∙ (sends_length true (replicate n false) ps ∙ length-replicate n false) in
+    ext_get_or false (fold (noted_send false) noted ps) (replicate n false) (count ∙ sym (length-replicate n false))
+        (λ k lt. send_then_clear n ps k (subst (λ m. k < m) count lt) ∙ sym (none_there n k false))
 
 pub receives_clear : (n : ℕ) (ps : List Process) → fold (noted_receive false) (fold (noted_receive true) (replicate n None) ps) ps ≡ replicate n None
 receives_clear n ps =
     let noted = fold (noted_receive true) (replicate n None) ps in
-    let count : length (fold (noted_receive false) noted ps) ≡ n = receives_length false noted ps ∙ (receives_length true (replicate n None) ps ∙ length-replicate n None) in
-    ext_get_or None (fold (noted_receive false) noted ps) (replicate n None) (count ∙ sym (length-replicate n None)) (λ k lt. receive_then_clear n ps k (subst (λ m. k < m) count lt) ∙ sym (none_there n k None))
+    let count : length (fold (noted_receive false) noted ps) ≡ n =
+        receives_length false noted ps ∙ (receives_length true (replicate n None) ps ∙ length-replicate n None) in
+    ext_get_or None (fold (noted_receive false) noted ps) (replicate n None) (count ∙ sym (length-replicate n None))
+        (λ k lt. receive_then_clear n ps k (subst (λ m. k < m) count lt) ∙ sym (none_there n k None))

@@ -40,15 +40,18 @@ among_is : (t : Term) (k : ℕ) (ps : List Place) (w : Waiting) → receiver_amo
 among_is t k [] w found = absurd (cc found)
 among_is t k (at ∷ more) w found = by_place (waits_on k at (statement_at t at)) refl found (among_is t k more w)
   where
-    by_place : (o : Option Waiting) → waits_on k at (statement_at t at) ≡ o → or_later o (receiver_among t k more) ≡ Some w → (receiver_among t k more ≡ Some w → IsReceiver t k w) → IsReceiver t k w
+    by_place : (o : Option Waiting) → waits_on k at (statement_at t at) ≡ o → or_later o (receiver_among t k more) ≡ Some w →
+        (receiver_among t k more ≡ Some w → IsReceiver t k w) → IsReceiver t k w
     by_place None e same later = later same
     by_place (Some v) e same later = waiting_is t k at (statement_at t at) w refl (e ∙ same)
 
-sent_is : (c d : Configuration) (at : Place) (k : ℕ) (s : Span) (e : Formula) → statement_at c.term at ≡ Some (sending k s e) → (offer : OfferValue) → offer_at c.rests k ≡ offer → sent c at k (value_in c e) offer ≡ Some d → Step c at d
+sent_is : (c d : Configuration) (at : Place) (k : ℕ) (s : Span) (e : Formula) → statement_at c.term at ≡ Some (sending k s e) → (offer : OfferValue) →
+    offer_at c.rests k ≡ offer → sent c at k (value_in c e) offer ≡ Some d → Step c at d
 sent_is c d at k s e here (gives values) offered taken = absurd (cc taken)
 sent_is c d at k s e here (takes count) offered taken = by_count (is_over count 0) refl taken
   where
-    by_count : (b : Bool) → is_over count 0 ≡ b → (if b then Some (passing (offering (leaving c at finished) k (takes (one_fewer count))) k (value_in c e)) else None) ≡ Some d → Step c at d
+    by_count : (b : Bool) → is_over count 0 ≡ b →
+        (if b then Some (passing (offering (leaving c at finished) k (takes (one_fewer count))) k (value_in c e)) else None) ≡ Some d → Step c at d
     by_count true more same = one_step _ d same (a_delivery here offered more)
     by_count false more same = absurd (cc same)
 sent_is c d at k s e here nothing offered taken = by_receiver (receiver_on c.term k) refl taken
@@ -59,13 +62,15 @@ sent_is c d at k s e here nothing offered taken = by_receiver (receiver_on c.ter
         let r = among_is c.term k (places c.term) w found in
         one_step _ d same (a_communication w.at here r.is offered)
 
-received_is : (c d : Configuration) (at : Place) (k x : ℕ) (s t : Span) → statement_at c.term at ≡ Some (receiving k s x t) → (offer : OfferValue) → offer_at c.rests k ≡ offer → received c at k x offer ≡ Some d → Step c at d
+received_is : (c d : Configuration) (at : Place) (k x : ℕ) (s t : Span) → statement_at c.term at ≡ Some (receiving k s x t) → (offer : OfferValue) →
+    offer_at c.rests k ≡ offer → received c at k x offer ≡ Some d → Step c at d
 received_is c d at k x s t here (gives []) offered taken = absurd (cc taken)
 received_is c d at k x s t here (gives (v ∷ more)) offered taken = one_step _ d taken (an_arrival here offered)
 received_is c d at k x s t here (takes count) offered taken = absurd (cc taken)
 received_is c d at k x s t here nothing offered taken = absurd (cc taken)
 
-chosen_is : (c d : Configuration) (at : Place) (again : Bool) (options : Choices) → statement_at c.term at ≡ Some (choosing again options) → (ps : List Process) → open_branches c options ≡ ps → chosen c at again options ps ≡ Some d → Step c at d
+chosen_is : (c d : Configuration) (at : Place) (again : Bool) (options : Choices) → statement_at c.term at ≡ Some (choosing again options) →
+    (ps : List Process) → open_branches c options ≡ ps → chosen c at again options ps ≡ Some d → Step c at d
 chosen_is c d at true options here [] true_ones taken = one_step _ d taken (an_end here true_ones)
 chosen_is c d at false options here [] true_ones taken = absurd (cc taken)
 chosen_is c d at true options here (p ∷ []) true_ones taken = one_step _ d taken (a_turn here true_ones)

@@ -32,7 +32,8 @@ meeting_move k v (Some x) = Some (record { write = Some (x, v); uses = None; pas
 
 abbrev pub sent_move : Outset → ℕ → ℕ → OfferValue → Option Move
 sent_move o k v nothing = meeting_move k v (slice_index_or o.receives k None)
-sent_move o k v (takes count) = if is_over count 0 then Some (record { write = None; uses = Some k; pass = Some (k, v) }) else None
+sent_move o k v (takes count) =
+    if is_over count 0 then Some (record { write = None; uses = Some k; pass = Some (k, v) }) else None
 sent_move o k v (gives vs) = None
 
 abbrev pub received_move : ℕ → ℕ → Option ℕ → Option Move
@@ -42,7 +43,8 @@ received_move k x (Some v) = Some (record { write = Some (x, v); uses = Some k; 
 -- the step of an active statement that it ends with
 abbrev pub ending_move : Outset → Process → Option Move
 ending_move o skipping = Some plain_move
-ending_move o (assigning x s e) = Some (record { write = Some (x, value (slice_index o.store) e); uses = None; pass = None })
+ending_move o (assigning x s e) =
+    Some (record { write = Some (x, value (slice_index o.store) e); uses = None; pass = None })
 ending_move o (sending k s e) = sent_move o k (value (slice_index o.store) e) (offer_at o.rests k)
 ending_move o (receiving k s x t) = received_move k x (next_of (offer_at o.rests k))
 ending_move o _ = None
@@ -59,7 +61,8 @@ is_met o _ = false
 -- the numbers of the guards that are true, from a number on
 abbrev pub true_guards : List ℕ → ℕ → Choices → List ℕ
 true_guards store k no_choices = []
-true_guards store k (and_choice g p more) = if value (slice_index store) g == 1 then k ∷ true_guards store (k + 1) more else true_guards store (k + 1) more
+true_guards store k (and_choice g p more) = if value (slice_index store) g == 1 then k
+    ∷ true_guards store (k + 1) more else true_guards store (k + 1) more
 
 abbrev pub counted : List ℕ → TrueGuards
 counted [] = Zero
@@ -92,7 +95,8 @@ ended None false = whole
 
 -- what is left of an active statement
 abbrev pub step_remains : Outset → Process → Remains
-step_remains o (choosing again choices) = chosen_remains (choosing again choices) again (counted (true_guards o.store 0 choices))
+step_remains o (choosing again choices) =
+    chosen_remains (choosing again choices) again (counted (true_guards o.store 0 choices))
 step_remains o (repeating p) = entered (repeating p) 0
 step_remains o p = ended (ending_move o p) (is_met o p)
 

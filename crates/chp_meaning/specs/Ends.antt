@@ -18,7 +18,8 @@ seen program c = configuration_of (process_of program.body) c
 
 -- the program's steps under some script of its channels lead there
 abbrev pub IsReached : TypedValue → Configuration → Type 0
-IsReached program c = (script : List OfferValue) × (n : ℕ) × IsScript program.channels script × Leads (start_of (program_of program) script) n c
+IsReached program c = (script : List OfferValue) × (n : ℕ) × IsScript program.channels script
+    × Leads (start_of (program_of program) script) n c
 
 -- the configuration is one of the program
 pub record IsOf (program : TypedValue) (c : Config) : Type 0 where
@@ -33,10 +34,12 @@ CanStep c = (at : Place) × (d : Configuration) × Step c at d
 abbrev pub held_in : Configuration → ℕ
 held_in c = held c.histories
 
--- From the first configuration n rounds are wanted, and the histories may hold so many values. They would hold more, and
--- this is the last configuration in which they don't; or they hold no more, and no step is left, or one is.
+-- From the first configuration n rounds are wanted, and the histories may hold so many values. They would hold more,
+-- and this is the last configuration in which they don't; or they hold no more, and no step is left, or one is.
 abbrev pub IsEnd : (n most : ℕ) → Configuration → Configuration → RunEnd → Type 0
-IsEnd n most old new TooMany = (most < held_in (rounds_from old n)) × ((k : ℕ) × (k < n) × (new ≡ rounds_from old k) × (held_in new ≤ most) × (most < held_in (rounds_from old (suc k))))
+IsEnd n most old new TooMany = (most < held_in (rounds_from old n))
+    × ((k : ℕ) × (k < n) × (new ≡ rounds_from old k) × (held_in new ≤ most)
+    × (most < held_in (rounds_from old (suc k))))
 IsEnd n most old new Rest = (held_in (rounds_from old n) ≤ most) × (new ≡ rounds_from old n) × ¬ CanStep new
 IsEnd n most old new Spent = (held_in (rounds_from old n) ≤ most) × (new ≡ rounds_from old n) × CanStep new
 

@@ -1,5 +1,5 @@
--- Assignments that read their own target, in two halves: `x := e` with x in e is `h := e; x := h` with a variable h that
--- nothing else has.
+-- Assignments that read their own target, in two halves: `x := e` with x in e is `h := e; x := h` with a variable h
+-- that nothing else has.
 use Rattle.std.specs.Prelude.{◌≡◌, ℕ, ◌+◌, ◌-◌, ◌^◌, ◌<◌, ◌≤◌, Bool, true, false, List, [], ◌∷◌, ◌++◌, length, All, ◌↔◌}
 use Rattle.chp_base.specs.declared.span.Span.{Span}
 use Rattle.chp_base.specs.declared.channel.Channel.{Channel}
@@ -75,7 +75,8 @@ abbrev mutual
 
 -- the hidden variables are declared behind all others
 abbrev pub halved_program : TypedProgram → TypedProgram
-halved_program p = record { channels = p.channels; vars = p.vars ++ hidden_vars p.body; body = halved (length p.vars) p.body }
+halved_program p = record { channels = p.channels; vars = p.vars ++ hidden_vars p.body; body =
+    halved (length p.vars) p.body }
 
 -- no assignment reads its own target
 abbrev mutual
@@ -129,8 +130,10 @@ Follows p q script = (m : ℕ) (d : Configuration) → Leads (start_of q script)
 
 -- so the program follows the program in halves
 abbrev pub HalvesFollow : Type 0
-HalvesFollow = (p : TypedProgram) (script : List OfferValue) → IsTyped p.channels p.vars p.body → MeetsSharing p.body → Follows p (halved_program p) script
+HalvesFollow = (p : TypedProgram) (script : List OfferValue) → IsTyped p.channels p.vars p.body → MeetsSharing p.body →
+    Follows p (halved_program p) script
 
 -- which a circuit can be made of
 abbrev pub HalvesArePlain : Type 0
-HalvesArePlain = (p : TypedProgram) → IsTyped p.channels p.vars p.body → MeetsSharing p.body → IsPlain (halved_program p)
+HalvesArePlain = (p : TypedProgram) → IsTyped p.channels p.vars p.body → MeetsSharing p.body →
+    IsPlain (halved_program p)

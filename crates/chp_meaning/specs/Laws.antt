@@ -12,8 +12,10 @@ IsBehind c d = (k : ℕ) → (rest : List ℕ) × (history_at d.histories k ≡ 
 
 -- from each configuration that a run of m steps leads to, a run leads to that after m rounds
 abbrev pub OneHistory : TypedProgram → List OfferValue → Type 0
-OneHistory p script = (m : ℕ) (c : Configuration) → Leads (start_of p script) m c → (n : ℕ) × Leads c n (rounds p script m)
+OneHistory p script = (m : ℕ) (c : Configuration) → Leads (start_of p script) m c →
+    (n : ℕ) × Leads c n (rounds p script m)
 
 -- each number of rounds is a run, and one more round only appends to the histories
 abbrev pub RoundsHold : TypedProgram → List OfferValue → Type 0
-RoundsHold p script = (n : ℕ) → (m : ℕ) × Leads (start_of p script) m (rounds p script n) × IsBehind (rounds p script n) (rounds p script (suc n))
+RoundsHold p script = (n : ℕ) → (m : ℕ) × Leads (start_of p script) m (rounds p script n)
+    × IsBehind (rounds p script n) (rounds p script (suc n))

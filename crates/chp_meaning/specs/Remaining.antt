@@ -123,8 +123,10 @@ abbrev mutual
   pub CanRemain : Process → Remains → Type 0
   CanRemain p over = Unit {0}
   CanRemain p whole = is_group p ≡ false
-  CanRemain p (within k r) = (k < part_count p) × (is_beside p ≡ false) × (is_over r ≡ false) × CanRemain (part_of p k) r
-  CanRemain p (alongside rs) = (is_beside p ≡ true) × (how_many rs ≡ part_count p) × (all_over rs ≡ false) × EachCanRemain p 0 rs
+  CanRemain p (within k r) = (k < part_count p) × (is_beside p ≡ false) × (is_over r ≡ false)
+      × CanRemain (part_of p k) r
+  CanRemain p (alongside rs) = (is_beside p ≡ true) × (how_many rs ≡ part_count p) × (all_over rs ≡ false)
+      × EachCanRemain p 0 rs
 
   pub EachCanRemain : Process → ℕ → Several → Type 0
   EachCanRemain p k no_more = Unit {0}
@@ -147,7 +149,8 @@ abbrev mutual
 
 -- part k has ended
 abbrev pub after_part : Process → ℕ → Remains
-after_part (in_turn members) k = if nat_lt (k + 1) (member_count members) then within (k + 1) (begun (member_at members (k + 1))) else over
+after_part (in_turn members) k =
+    if nat_lt (k + 1) (member_count members) then within (k + 1) (begun (member_at members (k + 1))) else over
 after_part (choosing true cs) k = whole
 after_part (repeating p) k = whole
 after_part _ k = over
@@ -178,7 +181,8 @@ abbrev mutual
 
   pub ChoicesRunnable : (channels vars : ℕ) → Choices → Type 0
   ChoicesRunnable channels vars no_choices = Unit {0}
-  ChoicesRunnable channels vars (and_choice g p more) = IsWellFormed g × IsRunnable channels vars p × ChoicesRunnable channels vars more
+  ChoicesRunnable channels vars (and_choice g p more) = IsWellFormed g × IsRunnable channels vars p
+      × ChoicesRunnable channels vars more
 
 -- of some numbers of channels and variables
 abbrev pub HasMembers : Process → Type 0

@@ -33,15 +33,19 @@ communicated c at k v (Some w) = Some (passing (storing (leaving (leaving c at f
 
 abbrev pub sent : Configuration → Place → ℕ → ℕ → OfferValue → Option Configuration
 sent c at k v nothing = communicated c at k v (receiver_on c.term k)
-sent c at k v (takes count) = if is_over count 0 then Some (passing (offering (leaving c at finished) k (takes (one_fewer count))) k v) else None
+sent c at k v (takes count) = if is_over count 0 then Some
+    (passing (offering (leaving c at finished) k (takes (one_fewer count))) k v) else None
 sent c at k v (gives values) = None
 
 abbrev pub received : Configuration → Place → ℕ → ℕ → OfferValue → Option Configuration
-received c at k x (gives (v ∷ more)) = Some (passing (storing (offering (leaving c at finished) k (gives more)) x v) k v)
+received c at k x (gives (v ∷ more)) =
+    Some (passing (storing (offering (leaving c at finished) k (gives more)) x v) k v)
 received c at k x _ = None
 
 abbrev pub chosen : Configuration → Place → Bool → Choices → List Process → Option Configuration
-chosen c at again options (p ∷ []) = Some (leaving c at (if again then followed (opened p) (and_member (choosing true options) no_members) else opened p))
+chosen c at again options (p ∷ []) =
+    Some (leaving c at (if again then followed (opened p) (and_member (choosing true options) no_members) else opened
+    p))
 chosen c at true options [] = Some (leaving c at finished)
 chosen c at again options _ = None
 

@@ -23,17 +23,19 @@ abbrev pub items_of : List (Vec ℕ Global) → List (List ℕ)
 items_of histories = map (λ h. h.items) histories
 
 abbrev pub outset_of : Config → Outset
-outset_of c = record { store = c.store.items; rests = map rest_of c.rests.items; sends = c.sends.items; receives = c.receives.items }
+outset_of c = record { store = c.store.items; rests = map rest_of c.rests.items; sends = c.sends.items; receives =
+    c.receives.items }
 
 abbrev pub histories_of : Config → List (List ℕ)
 histories_of c = items_of c.histories.items
 
 -- of a program that does this
 abbrev pub configuration_of : Process → Config → Configuration
-configuration_of body c = record { term = term_of body (remains_of c.left); store = c.store.items; rests = map rest_of c.rests.items; histories = histories_of c }
+configuration_of body c = record { term = term_of body (remains_of c.left); store = c.store.items; rests =
+    map rest_of c.rests.items; histories = histories_of c }
 
--- What is kept between rounds of a program that does this: its numbers are within the lists, what is left can be left of
--- it, and no end is noted.
+-- What is kept between rounds of a program that does this: its numbers are within the lists, what is left can be left
+-- of it, and no end is noted.
 pub record IsStanding (body : Process) (c : Config) : Type 0 where
   pub runnable : IsRunnable (length c.rests.items) (length c.store.items) body
   pub remains : CanRemain body (remains_of c.left)

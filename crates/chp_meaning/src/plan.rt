@@ -23,8 +23,10 @@ pub(crate) fn note(
     requires remains { CanRemain (process_of stmt.now) (remains_of left.now) }
     requires channels { RunsOn (length sends.old) (process_of stmt.now) }
     requires tables { length receives.old ≡ length sends.old }
-    ensures sends { sends.new ≡ fold (noted_send waits) sends.old (statements (process_of stmt.now) (remains_of left.now)) }
-    ensures receives { receives.new ≡ fold (noted_receive waits) receives.old (statements (process_of stmt.now) (remains_of left.now)) }
+    ensures sends { sends.new ≡ fold (noted_send waits) sends.old
+        (statements (process_of stmt.now) (remains_of left.now)) }
+    ensures receives { receives.new ≡
+        fold (noted_receive waits) receives.old (statements (process_of stmt.now) (remains_of left.now)) }
 {
     match left {
         Left::Done => {}
@@ -53,7 +55,8 @@ fn stepped(
 ) -> Result<Left, AllocError>
     requires { CanRun config.now (process_of stmt.now) }
     ensures left { IfOk result (λ left. remains_of left ≡ step_remains (outset_of config.now) (process_of stmt.now)) }
-    ensures moves { OnOk result (moves.new.items ≡ moves.old.items ++ option_to_list (move_of (outset_of config.now) (process_of stmt.now))) }
+    ensures moves { OnOk result (moves.new.items ≡ moves.old.items
+        ++ option_to_list (move_of (outset_of config.now) (process_of stmt.now))) }
 {
     match stmt {
         TStmt::Select { again, arms } => match chosen(arms, &config.store) {
@@ -100,8 +103,10 @@ pub(crate) fn advanced(
 ) -> Result<Left, AllocError>
     requires remains { CanRemain (process_of stmt.now) (remains_of left.now) }
     requires numbers { CanRun config.now (process_of stmt.now) }
-    ensures left { IfOk result (λ left'. remains_of left' ≡ advanced (outset_of config.now) (process_of stmt.now) (remains_of left.now)) }
-    ensures moves { OnOk result (moves.new.items ≡ moves.old.items ++ moves_of (outset_of config.now) (statements (process_of stmt.now) (remains_of left.now))) }
+    ensures left { IfOk result (λ left'. remains_of left' ≡ advanced (outset_of config.now) (process_of stmt.now)
+        (remains_of left.now)) }
+    ensures moves { OnOk result (moves.new.items ≡ moves.old.items
+        ++ moves_of (outset_of config.now) (statements (process_of stmt.now) (remains_of left.now))) }
 {
     match left {
         Left::Done => Ok(Left::Done),

@@ -36,8 +36,10 @@ pub enum RunEnd {
 fn plan(alloc: Global, config: &Config, body: &TStmt) -> Result<(Left, Vec<Move>), AllocError>
     requires remains { CanRemain (process_of body.now) (remains_of config.now.left) }
     requires numbers { CanRun config.now (process_of body.now) }
-    ensures left { IfOk result (λ plan. remains_of plan.0 ≡ advanced (outset_of config.now) (process_of body.now) (remains_of config.now.left)) }
-    ensures moves { IfOk result (λ plan. plan.1.items ≡ moves_of (outset_of config.now) (statements (process_of body.now) (remains_of config.now.left))) }
+    ensures left { IfOk result (λ plan. remains_of plan.0 ≡ advanced (outset_of config.now) (process_of body.now)
+        (remains_of config.now.left)) }
+    ensures moves { IfOk result (λ plan. plan.1.items ≡
+        moves_of (outset_of config.now) (statements (process_of body.now) (remains_of config.now.left))) }
 {
     let mut moves = Vec::new(alloc);
     let left = advanced(alloc, &config.left, body, config, &mut moves)?;
@@ -89,17 +91,20 @@ fn settled(config: &mut Config, left: Left, moves: &[Move]) -> Result<(), AllocE
 pub(crate) fn round_of(alloc: Global, config: &mut Config, body: &TStmt) -> Result<bool, AllocError>
     requires { IsStanding (process_of body.now) config.old }
     ensures standing { IsStanding (process_of body.now) config.new }
-    ensures round { Fits (configuration_of (process_of body.now) config.old).term → OnOk result (configuration_of (process_of body.now) config.new ≡ round (configuration_of (process_of body.now) config.old)) }
+    ensures round { Fits (configuration_of (process_of body.now) config.old).term →
+        OnOk result (configuration_of (process_of body.now) config.new ≡
+        round (configuration_of (process_of body.now) config.old)) }
     ensures took { IfOk result (λ took. took ≡ is_some_step (next_moves (process_of body.now) config.old)) }
-    ensures err { OnErr result (configuration_of (process_of body.now) config.new ≡ configuration_of (process_of body.now) config.old) }
+    ensures err { OnErr result (configuration_of (process_of body.now) config.new ≡
+        configuration_of (process_of body.now) config.old) }
 {
     let (left, moves) = planned(alloc, config, body)?;
     settled(config, left, &moves)?;
     Ok(!moves.is_empty())
 }
 
-/// Makes one round: each step that is enabled now is taken once, in the order of the places (Martin). Answers whether there
-/// was one. Where memory runs out nothing is changed.
+/// Makes one round: each step that is enabled now is taken once, in the order of the places (Martin). Answers whether
+/// there was one. Where memory runs out nothing is changed.
 pub fn round(alloc: Global, config: &mut Config, program: &Typed) -> Result<bool, AllocError>
     requires sharing { MeetsSharing (process_of program.now.body) }
     requires of { IsOf program.now config.old }
@@ -156,8 +161,12 @@ pub(crate) fn run_of(
     requires standing { IsStanding (process_of body.now) config.old }
     requires held { held (histories_of config.old) ≤ most }
     ensures standing { IsStanding (process_of body.now) config.new }
-    ensures end { Fits (configuration_of (process_of body.now) config.old).term → IfOk result (λ end. IsEnd n most (configuration_of (process_of body.now) config.old) (configuration_of (process_of body.now) config.new) end) }
-    ensures err { Fits (configuration_of (process_of body.now) config.old).term → OnErr result (IsWithin n (configuration_of (process_of body.now) config.old) (configuration_of (process_of body.now) config.new)) }
+    ensures end { Fits (configuration_of (process_of body.now) config.old).term →
+        IfOk result (λ end. IsEnd n most (configuration_of (process_of body.now) config.old)
+        (configuration_of (process_of body.now) config.new) end) }
+    ensures err { Fits (configuration_of (process_of body.now) config.old).term →
+        OnErr result (IsWithin n (configuration_of (process_of body.now) config.old)
+        (configuration_of (process_of body.now) config.new)) }
     ensures few { OnErr result (held (histories_of config.new) ≤ most) }
 {
     let mut count = held(&config.histories, most);
@@ -176,8 +185,8 @@ pub(crate) fn run_of(
     Ok(end_by(&moves))
 }
 
-/// Makes `n` rounds, but none that would bring the values that have passed over `most` in all. Stops early where no step
-/// is left. Where memory runs out some of the rounds have been made, and no more than `most` values have passed.
+/// Makes `n` rounds, but none that would bring the values that have passed over `most` in all. Stops early where no
+/// step is left. Where memory runs out some of the rounds have been made, and no more than `most` values have passed.
 pub fn run_rounds(
     alloc: Global,
     config: &mut Config,

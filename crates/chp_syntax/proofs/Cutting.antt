@@ -115,7 +115,8 @@ same_token at text kind other n m a b =
     (e, spells_once kind other (take n text) a.spells (subst (λ k. Spells other (take k text)) (sym e) b.spells))
 
 -- two cuts that can't go on are one
-pub meet : {at to end : ℕ} {ts us : List Token} {text rest left : List ℕ} → Cuts at ts text to rest → Stuck rest → Cuts at us text end left → Stuck left → SameCut ts us to end rest left
+pub meet : {at to end : ℕ} {ts us : List Token} {text rest left : List ℕ} → Cuts at ts text to rest → Stuck rest → Cuts at us text end left → Stuck left →
+    SameCut ts us to end rest left
 meet so_far s so_far t = record { tokens = refl; place = refl; behind = refl }
 meet so_far s (a_gap n g k) t = absurd (s.no_gap n g)
 meet so_far s (a_token kind n is k) t = absurd (s.no_token kind n is)
@@ -153,7 +154,8 @@ one_bad text s t a b =
     same_span from to start end f g = cc
 
 -- a cut goes on with a cut of what is left
-pub cut_more : {at mid to : ℕ} {ts us : List Token} {text left rest : List ℕ} → Cuts at ts text mid left → Cuts mid us left to rest → Cuts at (ts ++ us) text to rest
+pub cut_more : {at mid to : ℕ} {ts us : List Token} {text left rest : List ℕ} → Cuts at ts text mid left → Cuts mid us left to rest →
+    Cuts at (ts ++ us) text to rest
 cut_more so_far k = k
 cut_more (a_gap n g h) k = a_gap n g (cut_more h k)
 cut_more (a_token kind n is h) k = a_token kind n is (cut_more h k)
@@ -162,9 +164,11 @@ cut_more (a_token kind n is h) k = a_token kind n is (cut_more h k)
 pub cut_gap : (text : List ℕ) (ts : List Token) (i n : ℕ) → Cuts 0 ts text i (drop i text) → IsGap n (drop i text) → Cuts 0 ts text (i + n) (drop (i + n) text)
 cut_gap text ts i n h g =
     let rest : drop n (drop i text) ≡ drop (i + n) text = drop-drop n i text in
-    subst (λ us. Cuts 0 us text (i + n) (drop (i + n) text)) (append-nil ts) (cut_more h (a_gap n g (subst (λ r. Cuts (i + n) [] (drop n (drop i text)) (i + n) r) rest so_far)))
+    subst (λ us. Cuts 0 us text (i + n) (drop (i + n) text)) (append-nil ts)
+    (cut_more h (a_gap n g (subst (λ r. Cuts (i + n) [] (drop n (drop i text)) (i + n) r) rest so_far)))
 
-pub cut_token : (text : List ℕ) (ts : List Token) (i n : ℕ) (kind : TokenKind) → Cuts 0 ts text i (drop i text) → IsToken kind n (drop i text) → Cuts 0 (ts ++ token_at kind i (i + n) ∷ []) text (i + n) (drop (i + n) text)
+pub cut_token : (text : List ℕ) (ts : List Token) (i n : ℕ) (kind : TokenKind) → Cuts 0 ts text i (drop i text) → IsToken kind n (drop i text) →
+    Cuts 0 (ts ++ token_at kind i (i + n) ∷ []) text (i + n) (drop (i + n) text)
 cut_token text ts i n kind h is =
     let rest : drop n (drop i text) ≡ drop (i + n) text = drop-drop n i text in
     cut_more h (a_token kind n is (subst (λ r. Cuts (i + n) [] (drop n (drop i text)) (i + n) r) rest so_far))

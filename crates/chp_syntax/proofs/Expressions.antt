@@ -27,10 +27,12 @@ pub record Level : Type 1 where
   pub op : TokenKind → Option Op
   pub k : ℕ
   pub w_in : (l mid rest : List Token) (c : Covered) (us : Tail) → R l mid c → M mid rest us → W l rest (chain_of c us)
-  pub w_out : (l rest : List Token) (a : Covered) → W l rest a → (mid : List Token) × (c : Covered) × (us : Tail) × R l mid c × M mid rest us × (a ≡ chain_of c us)
+  pub w_out : (l rest : List Token) (a : Covered) → W l rest a → (mid : List Token) × (c : Covered) × (us : Tail) × R l mid c × M mid rest us
+      × (a ≡ chain_of c us)
   pub m_none : (l : List Token) → M l l no_tail
   pub m_more : (l x mid rest : List Token) (o : Op) (c : Covered) (us : Tail) → Operator op l x o → R x mid c → M mid rest us → M l rest (longer o c us)
-  pub m_out : (l rest : List Token) (us : Tail) → M l rest us → Further R M (Operator op) (λ o c. let p : Op × Covered = (o, c) in p) no_tail (λ x us. longer x.0 x.1 us) l rest us
+  pub m_out : (l rest : List Token) (us : Tail) → M l rest us →
+      Further R M (Operator op) (λ o c. let p : Op × Covered = (o, c) in p) no_tail (λ x us. longer x.0 x.1 us) l rest us
   pub ranked : (j : TokenKind) (o : Op) → op j ≡ Some o → rank j ≡ k
   pub ends : Ends R
   pub ends_sign : Ends (Operator op)
@@ -115,7 +117,9 @@ pub record Chained (v : Level) (xs left : List Token) (c : Covered) (links : Lis
 pub chained_first : (v : Level) {xs left : List Token} {c : Covered} → Good v.R (Stops (suc v.k)) xs left c → Chained v xs left c [] c.at
 chained_first v good = record { got = []; so = group_first (grouping_of v) good; same = refl; ends = refl }
 
-pub chained_more : (v : Level) {xs left mid to : List Token} {c n : Covered} {links : List (Op × Expression)} {last : Span} {o : Op} → Chained v xs left c links last → Good (Operator v.op) Anything left mid o → Good v.R (Stops (suc v.k)) mid to n → Chained v xs to c (links ++ ((o, n.expression) ∷ [])) n.at
+pub chained_more : (v : Level) {xs left mid to : List Token} {c n : Covered} {links : List (Op × Expression)} {last : Span} {o : Op} →
+    Chained v xs left c links last → Good (Operator v.op) Anything left mid o → Good v.R (Stops (suc v.k)) mid to n →
+    Chained v xs to c (links ++ ((o, n.expression) ∷ [])) n.at
 chained_more v {c = c} {n = n} {o = o} s sign good = record {
   got = s.got ++ ((o, n) ∷ []);
   so = group_more (grouping_of v) s.so sign good;
@@ -123,13 +127,16 @@ chained_more v {c = c} {n = n} {o = o} s sign good = record {
   ends = last_more c s.got o n;
 }
 
-pub chained_bad : (v : Level) {xs left mid to : List Token} {c : Covered} {links : List (Op × Expression)} {last : Span} {o : Op} → Chained v xs left c links last → Good (Operator v.op) Anything left mid o → Bad v.R (Stops (suc v.k)) mid to → Bad v.W (Stops v.k) xs to
+pub chained_bad : (v : Level) {xs left mid to : List Token} {c : Covered} {links : List (Op × Expression)} {last : Span} {o : Op} →
+    Chained v xs left c links last → Good (Operator v.op) Anything left mid o → Bad v.R (Stops (suc v.k)) mid to → Bad v.W (Stops v.k) xs to
 chained_bad v s sign bad = group_bad (grouping_of v) s.so sign bad
 
-pub chained_end : (v : Level) {xs left : List Token} {c a : Covered} {links : List (Op × Expression)} {last : Span} → Chained v xs left c links last → reads v.op (sees left) ≡ None → a ≡ chained_to c links last → Good v.W (Stops v.k) xs left a
+pub chained_end : (v : Level) {xs left : List Token} {c a : Covered} {links : List (Op × Expression)} {last : Span} → Chained v xs left c links last →
+    reads v.op (sees left) ≡ None → a ≡ chained_to c links last → Good v.W (Stops v.k) xs left a
 chained_end v {xs} {left} {c} {a} {links} {last} s none e =
     subst (λ (b : Covered). Good v.W (Stops v.k) xs left b)
-    (chain_is c s.got ∙ (ap (λ (ls : List (Op × Expression)). chained_to c ls (last_of c s.got)) s.same ∙ (ap (λ (p : Span). chained_to c links p) s.ends ∙ sym e)))
+    (chain_is c s.got ∙ (ap (λ (ls : List (Op × Expression)). chained_to c ls (last_of c s.got)) s.same
+    ∙ (ap (λ (p : Span). chained_to c links p) s.ends ∙ sym e)))
     (group_end (grouping_of v) s.so (λ h. let x : ◌≡◌ {A = Option Op} None (Some h.0) = sym none ∙ h.1 in cc x))
 
 pub ends_primary : Ends Primary
@@ -149,14 +156,17 @@ sum_ranked (Word w) o e = absurd (cc e)
 sum_ranked (Ident w) o e = absurd (cc e)
 sum_ranked (Number w) o e = absurd (cc e)
 
-pub sum_out : {l rest : List Token} {a : Covered} → Sum l rest a → (mid : List Token) × (c : Covered) × (us : Tail) × Negated l mid c × MoreSum mid rest us × (a ≡ chain_of c us)
+pub sum_out : {l rest : List Token} {a : Covered} → Sum l rest a → (mid : List Token) × (c : Covered) × (us : Tail) × Negated l mid c × MoreSum mid rest us
+    × (a ≡ chain_of c us)
 sum_out (the_sum {mid = mid} {c = c} {us = us} a n) = (mid, c, us, a, n, refl)
 
-pub sum_more : {l rest : List Token} {us : Tail} → MoreSum l rest us → Further Negated MoreSum (Operator sum_of) (λ o c. let p : Op × Covered = (o, c) in p) no_tail (λ x us. longer x.0 x.1 us) l rest us
+pub sum_more : {l rest : List Token} {us : Tail} → MoreSum l rest us → Further Negated MoreSum (Operator sum_of) (λ o c. let p : Op × Covered = (o, c) in
+    p) no_tail (λ x us. longer x.0 x.1 us) l rest us
 sum_more no_more_sum = no_further
 sum_more (one_more_sum e a n) = a_further (operator e) a n
 
-pub sum_in : {l x mid rest : List Token} {o : Op} {c : Covered} {us : Tail} → Operator sum_of l x o → Negated x mid c → MoreSum mid rest us → MoreSum l rest (longer o c us)
+pub sum_in : {l x mid rest : List Token} {o : Op} {c : Covered} {us : Tail} → Operator sum_of l x o → Negated x mid c → MoreSum mid rest us →
+    MoreSum l rest (longer o c us)
 sum_in (operator e) a n = one_more_sum e a n
 
 abbrev pub sum_level : Level
@@ -189,14 +199,17 @@ conjunction_ranked (Word w) o e = absurd (cc e)
 conjunction_ranked (Ident w) o e = absurd (cc e)
 conjunction_ranked (Number w) o e = absurd (cc e)
 
-pub conjunction_out : {l rest : List Token} {a : Covered} → Conjunction l rest a → (mid : List Token) × (c : Covered) × (us : Tail) × Comparison l mid c × MoreConjunction mid rest us × (a ≡ chain_of c us)
+pub conjunction_out : {l rest : List Token} {a : Covered} → Conjunction l rest a → (mid : List Token) × (c : Covered) × (us : Tail) × Comparison l mid c
+    × MoreConjunction mid rest us × (a ≡ chain_of c us)
 conjunction_out (the_conjunction {mid = mid} {c = c} {us = us} a n) = (mid, c, us, a, n, refl)
 
-pub conjunction_more : {l rest : List Token} {us : Tail} → MoreConjunction l rest us → Further Comparison MoreConjunction (Operator and_of) (λ o c. let p : Op × Covered = (o, c) in p) no_tail (λ x us. longer x.0 x.1 us) l rest us
+pub conjunction_more : {l rest : List Token} {us : Tail} → MoreConjunction l rest us →
+    Further Comparison MoreConjunction (Operator and_of) (λ o c. let p : Op × Covered = (o, c) in p) no_tail (λ x us. longer x.0 x.1 us) l rest us
 conjunction_more no_more_conjunction = no_further
 conjunction_more (one_more_conjunction e a n) = a_further (operator e) a n
 
-pub conjunction_in : {l x mid rest : List Token} {o : Op} {c : Covered} {us : Tail} → Operator and_of l x o → Comparison x mid c → MoreConjunction mid rest us → MoreConjunction l rest (longer o c us)
+pub conjunction_in : {l x mid rest : List Token} {o : Op} {c : Covered} {us : Tail} → Operator and_of l x o → Comparison x mid c → MoreConjunction mid rest us →
+    MoreConjunction l rest (longer o c us)
 conjunction_in (operator e) a n = one_more_conjunction e a n
 
 abbrev pub conjunction_level : Level
@@ -226,14 +239,17 @@ exclusive_ranked (Word w) o e = absurd (cc e)
 exclusive_ranked (Ident w) o e = absurd (cc e)
 exclusive_ranked (Number w) o e = absurd (cc e)
 
-pub exclusive_out : {l rest : List Token} {a : Covered} → Exclusive l rest a → (mid : List Token) × (c : Covered) × (us : Tail) × Conjunction l mid c × MoreExclusive mid rest us × (a ≡ chain_of c us)
+pub exclusive_out : {l rest : List Token} {a : Covered} → Exclusive l rest a → (mid : List Token) × (c : Covered) × (us : Tail) × Conjunction l mid c
+    × MoreExclusive mid rest us × (a ≡ chain_of c us)
 exclusive_out (the_exclusive {mid = mid} {c = c} {us = us} a n) = (mid, c, us, a, n, refl)
 
-pub exclusive_more : {l rest : List Token} {us : Tail} → MoreExclusive l rest us → Further Conjunction MoreExclusive (Operator xor_of) (λ o c. let p : Op × Covered = (o, c) in p) no_tail (λ x us. longer x.0 x.1 us) l rest us
+pub exclusive_more : {l rest : List Token} {us : Tail} → MoreExclusive l rest us →
+    Further Conjunction MoreExclusive (Operator xor_of) (λ o c. let p : Op × Covered = (o, c) in p) no_tail (λ x us. longer x.0 x.1 us) l rest us
 exclusive_more no_more_exclusive = no_further
 exclusive_more (one_more_exclusive e a n) = a_further (operator e) a n
 
-pub exclusive_in : {l x mid rest : List Token} {o : Op} {c : Covered} {us : Tail} → Operator xor_of l x o → Conjunction x mid c → MoreExclusive mid rest us → MoreExclusive l rest (longer o c us)
+pub exclusive_in : {l x mid rest : List Token} {o : Op} {c : Covered} {us : Tail} → Operator xor_of l x o → Conjunction x mid c → MoreExclusive mid rest us →
+    MoreExclusive l rest (longer o c us)
 exclusive_in (operator e) a n = one_more_exclusive e a n
 
 abbrev pub exclusive_level : Level
@@ -263,14 +279,17 @@ disjunction_ranked (Word w) o e = absurd (cc e)
 disjunction_ranked (Ident w) o e = absurd (cc e)
 disjunction_ranked (Number w) o e = absurd (cc e)
 
-pub disjunction_out : {l rest : List Token} {a : Covered} → Disjunction l rest a → (mid : List Token) × (c : Covered) × (us : Tail) × Exclusive l mid c × MoreDisjunction mid rest us × (a ≡ chain_of c us)
+pub disjunction_out : {l rest : List Token} {a : Covered} → Disjunction l rest a → (mid : List Token) × (c : Covered) × (us : Tail) × Exclusive l mid c
+    × MoreDisjunction mid rest us × (a ≡ chain_of c us)
 disjunction_out (the_disjunction {mid = mid} {c = c} {us = us} a n) = (mid, c, us, a, n, refl)
 
-pub disjunction_more : {l rest : List Token} {us : Tail} → MoreDisjunction l rest us → Further Exclusive MoreDisjunction (Operator or_of) (λ o c. let p : Op × Covered = (o, c) in p) no_tail (λ x us. longer x.0 x.1 us) l rest us
+pub disjunction_more : {l rest : List Token} {us : Tail} → MoreDisjunction l rest us →
+    Further Exclusive MoreDisjunction (Operator or_of) (λ o c. let p : Op × Covered = (o, c) in p) no_tail (λ x us. longer x.0 x.1 us) l rest us
 disjunction_more no_more_disjunction = no_further
 disjunction_more (one_more_disjunction e a n) = a_further (operator e) a n
 
-pub disjunction_in : {l x mid rest : List Token} {o : Op} {c : Covered} {us : Tail} → Operator or_of l x o → Exclusive x mid c → MoreDisjunction mid rest us → MoreDisjunction l rest (longer o c us)
+pub disjunction_in : {l x mid rest : List Token} {o : Op} {c : Covered} {us : Tail} → Operator or_of l x o → Exclusive x mid c → MoreDisjunction mid rest us →
+    MoreDisjunction l rest (longer o c us)
 disjunction_in (operator e) a n = one_more_disjunction e a n
 
 abbrev pub disjunction_level : Level
@@ -347,16 +366,22 @@ right_seam c o = record {
   ends = λ d. ends_done (chain_of c (longer o d no_tail));
 }
 
-pub uncompared : {xs left : List Token} {c : Covered} → SoFar Comparison (Stops 8) xs left (After_sum c) → reads comparison_of (sees left) ≡ None → SoFar Comparison (Stops 8) xs left (Done c)
+pub uncompared : {xs left : List Token} {c : Covered} → SoFar Comparison (Stops 8) xs left (After_sum c) → reads comparison_of (sees left) ≡ None →
+    SoFar Comparison (Stops 8) xs left (Done c)
 uncompared {xs} {left} {c} so none = not_other so never
   where
     never : (l rest : List Token) (a : Covered) → sees l ≡ sees left → Stops 8 (sees rest) → Compared c l rest a → ⊥
-    never l rest a s f (and_then {b = o} p q) = let x : ◌≡◌ {A = Option Op} None (Some o) = sym none ∙ (sym (ap (λ (t : Option Token). reads comparison_of t) s) ∙ operator_seen p) in cc x
+    never l rest a s f (and_then {b = o} p q) = let x : ◌≡◌ {A = Option Op} None (Some o) =
+        sym none ∙ (sym (ap (λ (t : Option Token). reads comparison_of t) s) ∙ operator_seen p) in cc x
 
-pub with_comparison : {xs left : List Token} {c : Covered} (o : Op) → SoFar Comparison (Stops 8) xs left (After_sum c) → reads comparison_of (sees left) ≡ Some o → SoFar Comparison (Stops 8) xs left (Compared c)
-with_comparison {xs} {left} {c} o so h = not_one so (λ l rest a s f q. compared_8 (sees l) o (ap (λ (t : Option Token). reads comparison_of t) s ∙ h) (stops_done (Stops 8) l rest f q))
+pub with_comparison : {xs left : List Token} {c : Covered} (o : Op) → SoFar Comparison (Stops 8) xs left (After_sum c) →
+    reads comparison_of (sees left) ≡ Some o → SoFar Comparison (Stops 8) xs left (Compared c)
+with_comparison {xs} {left} {c} o so h = not_one so (λ l rest a s f q. compared_8 (sees l) o (ap (λ (t : Option Token). reads comparison_of t) s ∙ h)
+    (stops_done (Stops 8) l rest f q))
 
-pub compared_is : {xs left : List Token} (c d : Covered) (o : Op) {x : Covered} {links : List (Op × Expression)} → Good Comparison (Stops 8) xs left (chain_of c (longer o d no_tail)) → x ≡ chained_to c links d.at → links ≡ (o, d.expression) ∷ [] → Good Comparison (Stops 8) xs left x
+pub compared_is : {xs left : List Token} (c d : Covered) (o : Op) {x : Covered} {links : List (Op × Expression)} →
+    Good Comparison (Stops 8) xs left (chain_of c (longer o d no_tail)) → x ≡ chained_to c links d.at → links ≡ (o, d.expression) ∷ [] →
+    Good Comparison (Stops 8) xs left x
 compared_is {xs} {left} c d o {x} {links} good e is =
     subst (λ (b : Covered). Good Comparison (Stops 8) xs left b) (sym (e ∙ ap (λ (ls : List (Op × Expression)). chained_to c ls d.at) is)) good
 
@@ -401,7 +426,8 @@ plain_seam = last_seam (λ c. c)
 abbrev negation_of : Span → Covered → Covered
 negation_of t c = cover (negation c.expression (from_to t c.at)) (from_to t c.at)
 
-pub tilde_seam : Seam (Exactly (Sign mark.Tilde)) Anything (Stops 10) (λ t. Then Primary (λ c. Done (cover (negation c.expression (from_to t c.at)) (from_to t c.at))))
+pub tilde_seam : Seam (Exactly (Sign mark.Tilde)) Anything (Stops 10)
+    (λ t. Then Primary (λ c. Done (cover (negation c.expression (from_to t c.at)) (from_to t c.at))))
 tilde_seam = any_seam (λ t. ends_then ends_primary (λ c. ends_done (negation_of t c)))
 
 pub inner_seam : (t : Span) → Seam Primary (Stops 10) (Stops 10) (λ c. Done (cover (negation c.expression (from_to t c.at)) (from_to t c.at)))
@@ -454,12 +480,17 @@ After_name i = Either (Done (cover (whole i) i.at)) (Indexed i)
 named_in : {l rest : List Token} {a : Covered} → Then AName After_name l rest a → Primary l rest a
 named_in (and_then the_name (one all_done)) = a_name
 named_in (and_then the_name (other (and_then exactly (and_then the_number (one (and_then exactly all_done)))))) = a_bit
-named_in (and_then the_name (other (and_then exactly (and_then the_number (other (and_then exactly (and_then the_number (and_then exactly all_done)))))))) = a_slice
+named_in (and_then the_name (other (and_then exactly (and_then the_number (other (and_then exactly (and_then the_number (and_then exactly all_done)))))))) =
+    a_slice
 
 named_out : {l rest : List Token} {a : Covered} → primary_front (sees l) ≡ primary.Name → Primary l rest a → Then AName After_name l rest a
 named_out h (a_name {n = n} {s = s}) = and_then {b = named n s} the_name (one all_done)
-named_out h (a_bit {n = n} {i = i} {s = s} {p = p}) = and_then {b = named n s} the_name (other (and_then exactly (and_then {b = record { value = i; at = p }} the_number (one (and_then exactly all_done)))))
-named_out h (a_slice {n = n} {h = i} {l = j} {s = s} {p = p} {q = q}) = and_then {b = named n s} the_name (other (and_then exactly (and_then {b = record { value = i; at = p }} the_number (other (and_then exactly (and_then {b = record { value = j; at = q }} the_number (and_then exactly all_done)))))))
+named_out h (a_bit {n = n} {i = i} {s = s} {p = p}) =
+    and_then {b = named n s} the_name (other (and_then exactly (and_then {b = record { value = i; at = p }} the_number (one (and_then exactly all_done)))))
+named_out h (a_slice {n = n} {h = i} {l = j} {s = s} {p = p} {q = q}) =
+    and_then {b = named n s} the_name (other (and_then exactly
+    (and_then {b = record { value = i; at = p }} the_number
+    (other (and_then exactly (and_then {b = record { value = j; at = q }} the_number (and_then exactly all_done)))))))
 named_out h _ = absurd (cc h)
 
 pub named_start : (xs : List Token) → primary_front (sees xs) ≡ primary.Name → SoFar Primary F10 xs xs (Then AName After_name)
@@ -492,24 +523,29 @@ low_seam i n = any_seam (slice_ends i n)
 pub slice_seam : (i : Named) (n m : Numeral) → Seam (Exactly (Sign mark.CloseSquare)) Anything F10 (λ c. Done (slice_cover i n m c))
 slice_seam i n m = last_any (slice_cover i n m)
 
-pub unindexed : {xs left : List Token} {i : Named} → SoFar Primary F10 xs left (After_name i) → (IsKind (Sign mark.OpenSquare) (sees left) → ⊥) → SoFar Primary F10 xs left (Done (cover (whole i) i.at))
+pub unindexed : {xs left : List Token} {i : Named} → SoFar Primary F10 xs left (After_name i) → (IsKind (Sign mark.OpenSquare) (sees left) → ⊥) →
+    SoFar Primary F10 xs left (Done (cover (whole i) i.at))
 unindexed so never = not_other so (λ l rest a s f q. never (subst (λ (t : Option Token). IsKind (Sign mark.OpenSquare) t) s (then_kind q)))
 
 square_10 : (t : Option Token) → IsKind (Sign mark.OpenSquare) t → Stops 10 t → ⊥
 square_10 None h f = h
 square_10 (Some t) h f = let lt : rank t.kind < 10 = f in let e : rank t.kind ≡ 10 = ap rank h in omega (arith, lt, e)
 
-pub indexed : {xs left : List Token} {i : Named} → SoFar Primary F10 xs left (After_name i) → IsKind (Sign mark.OpenSquare) (sees left) → SoFar Primary F10 xs left (Indexed i)
-indexed so h = not_one so (λ l rest a s f q. square_10 (sees l) (subst (λ (t : Option Token). IsKind (Sign mark.OpenSquare) t) (sym s) h) (stops_done F10 l rest f q))
+pub indexed : {xs left : List Token} {i : Named} → SoFar Primary F10 xs left (After_name i) → IsKind (Sign mark.OpenSquare) (sees left) →
+    SoFar Primary F10 xs left (Indexed i)
+indexed so h = not_one so (λ l rest a s f q. square_10 (sees l) (subst (λ (t : Option Token). IsKind (Sign mark.OpenSquare) t) (sym s) h)
+    (stops_done F10 l rest f q))
 
-pub unsliced : {xs left : List Token} (i : Named) (n : Numeral) → SoFar Primary F10 xs left (Placed i n) → (IsKind (Sign mark.Colon) (sees left) → ⊥) → SoFar Primary F10 xs left (Bitten i n)
+pub unsliced : {xs left : List Token} (i : Named) (n : Numeral) → SoFar Primary F10 xs left (Placed i n) → (IsKind (Sign mark.Colon) (sees left) → ⊥) →
+    SoFar Primary F10 xs left (Bitten i n)
 unsliced i n so never = not_other so (λ l rest a s f q. never (subst (λ (t : Option Token). IsKind (Sign mark.Colon) t) s (then_kind q)))
 
 not_both : (t : Option Token) → IsKind (Sign mark.Colon) t → IsKind (Sign mark.CloseSquare) t → ⊥
 not_both None h k = h
 not_both (Some t) h k = let e : Sign mark.Colon ≡ Sign mark.CloseSquare = sym h ∙ k in cc e
 
-pub sliced : {xs left : List Token} (i : Named) (n : Numeral) → SoFar Primary F10 xs left (Placed i n) → IsKind (Sign mark.Colon) (sees left) → SoFar Primary F10 xs left (Sliced i n)
+pub sliced : {xs left : List Token} (i : Named) (n : Numeral) → SoFar Primary F10 xs left (Placed i n) → IsKind (Sign mark.Colon) (sees left) →
+    SoFar Primary F10 xs left (Sliced i n)
 sliced i n so h = not_one so (λ l rest a s f q. not_both (sees l) (subst (λ (t : Option Token). IsKind (Sign mark.Colon) t) (sym s) h) (then_kind q))
 
 abbrev pub join_cover : Span → Expressions → Span → Covered
@@ -572,14 +608,17 @@ pub primary_bad : (xs : List Token) → primary_front (sees xs) ≡ primary.Othe
 primary_bad xs h = bad_here (start Primary F10 xs) (λ l rest a s f w. no_primary (ap primary_front s ∙ h) w) ends_primary
 
 -- expr { "," expr }
-pub parts_out : {l rest : List Token} {a : Expressions} → Parts l rest a → (mid : List Token) × (c : Covered) × (es : Expressions) × Disjunction l mid c × MoreParts mid rest es × (a ≡ and_part c.expression es)
+pub parts_out : {l rest : List Token} {a : Expressions} → Parts l rest a → (mid : List Token) × (c : Covered) × (es : Expressions) × Disjunction l mid c
+    × MoreParts mid rest es × (a ≡ and_part c.expression es)
 parts_out (the_parts {mid = mid} {e = e} {es = es} {s = s} d n) = (mid, cover e s, es, d, n, refl)
 
-pub parts_more : {l rest : List Token} {es : Expressions} → MoreParts l rest es → Further Disjunction MoreParts (Exactly (Sign mark.Comma)) (λ p c. c.expression) no_parts and_part l rest es
+pub parts_more : {l rest : List Token} {es : Expressions} → MoreParts l rest es →
+    Further Disjunction MoreParts (Exactly (Sign mark.Comma)) (λ p c. c.expression) no_parts and_part l rest es
 parts_more no_more_parts = no_further
 parts_more (one_more_part {e = e} {s = s} d n) = a_further {b = cover e s} exactly d n
 
-pub parts_in : {l x mid rest : List Token} {o : Span} {c : Covered} {es : Expressions} → Exactly (Sign mark.Comma) l x o → Disjunction x mid c → MoreParts mid rest es → MoreParts l rest (and_part c.expression es)
+pub parts_in : {l x mid rest : List Token} {o : Span} {c : Covered} {es : Expressions} → Exactly (Sign mark.Comma) l x o → Disjunction x mid c →
+    MoreParts mid rest es → MoreParts l rest (and_part c.expression es)
 parts_in exactly d n = one_more_part d n
 
 pub comma_5 : (t : Option Token) → IsKind (Sign mark.Comma) t → Stops 5 t

@@ -70,32 +70,37 @@ mutual
 
   more_sum_narrow : {ts rest : List Token} {us : Tail} → MoreSum ts rest us → (ns : List ℕ) → is_narrow ns ts ≡ is_narrow ns rest
   more_sum_narrow no_more_sum ns = refl
-  more_sum_narrow (one_more_sum {ts = ts} {t = t} {o = o} e p m) ns = over_ranked ns t ts 9 (omega arith) (omega arith) (sum_ranked t.kind o e) ∙ (negated_narrow p ns ∙ more_sum_narrow m ns)
+  more_sum_narrow (one_more_sum {ts = ts} {t = t} {o = o} e p m) ns = over_ranked ns t ts 9 (omega arith) (omega arith) (sum_ranked t.kind o e)
+      ∙ (negated_narrow p ns ∙ more_sum_narrow m ns)
 
   conjunction_narrow : {ts rest : List Token} {c : Covered} → Conjunction ts rest c → (ns : List ℕ) → is_narrow ns ts ≡ is_narrow ns rest
   conjunction_narrow (the_conjunction p m) ns = comparison_narrow p ns ∙ more_conjunction_narrow m ns
 
   more_conjunction_narrow : {ts rest : List Token} {us : Tail} → MoreConjunction ts rest us → (ns : List ℕ) → is_narrow ns ts ≡ is_narrow ns rest
   more_conjunction_narrow no_more_conjunction ns = refl
-  more_conjunction_narrow (one_more_conjunction {ts = ts} {t = t} {o = o} e p m) ns = over_ranked ns t ts 7 (omega arith) (omega arith) (conjunction_ranked t.kind o e) ∙ (comparison_narrow p ns ∙ more_conjunction_narrow m ns)
+  more_conjunction_narrow (one_more_conjunction {ts = ts} {t = t} {o = o} e p m) ns =
+      over_ranked ns t ts 7 (omega arith) (omega arith) (conjunction_ranked t.kind o e) ∙ (comparison_narrow p ns ∙ more_conjunction_narrow m ns)
 
   exclusive_narrow : {ts rest : List Token} {c : Covered} → Exclusive ts rest c → (ns : List ℕ) → is_narrow ns ts ≡ is_narrow ns rest
   exclusive_narrow (the_exclusive p m) ns = conjunction_narrow p ns ∙ more_exclusive_narrow m ns
 
   more_exclusive_narrow : {ts rest : List Token} {us : Tail} → MoreExclusive ts rest us → (ns : List ℕ) → is_narrow ns ts ≡ is_narrow ns rest
   more_exclusive_narrow no_more_exclusive ns = refl
-  more_exclusive_narrow (one_more_exclusive {ts = ts} {t = t} {o = o} e p m) ns = over_ranked ns t ts 6 (omega arith) (omega arith) (exclusive_ranked t.kind o e) ∙ (conjunction_narrow p ns ∙ more_exclusive_narrow m ns)
+  more_exclusive_narrow (one_more_exclusive {ts = ts} {t = t} {o = o} e p m) ns =
+      over_ranked ns t ts 6 (omega arith) (omega arith) (exclusive_ranked t.kind o e) ∙ (conjunction_narrow p ns ∙ more_exclusive_narrow m ns)
 
   disjunction_narrow : {ts rest : List Token} {c : Covered} → Disjunction ts rest c → (ns : List ℕ) → is_narrow ns ts ≡ is_narrow ns rest
   disjunction_narrow (the_disjunction p m) ns = exclusive_narrow p ns ∙ more_disjunction_narrow m ns
 
   more_disjunction_narrow : {ts rest : List Token} {us : Tail} → MoreDisjunction ts rest us → (ns : List ℕ) → is_narrow ns ts ≡ is_narrow ns rest
   more_disjunction_narrow no_more_disjunction ns = refl
-  more_disjunction_narrow (one_more_disjunction {ts = ts} {t = t} {o = o} e p m) ns = over_ranked ns t ts 5 (omega arith) (omega arith) (disjunction_ranked t.kind o e) ∙ (exclusive_narrow p ns ∙ more_disjunction_narrow m ns)
+  more_disjunction_narrow (one_more_disjunction {ts = ts} {t = t} {o = o} e p m) ns =
+      over_ranked ns t ts 5 (omega arith) (omega arith) (disjunction_ranked t.kind o e) ∙ (exclusive_narrow p ns ∙ more_disjunction_narrow m ns)
 
   comparison_narrow : {ts rest : List Token} {c : Covered} → Comparison ts rest c → (ns : List ℕ) → is_narrow ns ts ≡ is_narrow ns rest
   comparison_narrow (not_compared p) ns = sum_narrow p ns
-  comparison_narrow (compared {mid = mid} {t = t} {o = o} p e q) ns = sum_narrow p ns ∙ (over_ranked ns t mid 8 (omega arith) (omega arith) (compared_ranked t.kind o e) ∙ sum_narrow q ns)
+  comparison_narrow (compared {mid = mid} {t = t} {o = o} p e q) ns =
+      sum_narrow p ns ∙ (over_ranked ns t mid 8 (omega arith) (omega arith) (compared_ranked t.kind o e) ∙ sum_narrow q ns)
 
 and_assoc : (a b c : Bool) → ((a && b) && c) ≡ (a && (b && c))
 and_assoc true b c = refl
@@ -141,11 +146,13 @@ le_short : (n : ℕ) → n < 15 → nat_le 15 n ≡ false
 le_short n h = grind (arith, nat_tests)
 
 -- one arm more, or one too many
-one_arm : (n c : ℕ) (t f z x y : Bool) → n ≤ 15 → x ≡ (not (nat_le 15 n) && y) → (n < 15 → y ≡ (t && ((nat_le (suc n + c) 15 && f) && z))) → x ≡ ((nat_le (n + suc c) 15 && (t && f)) && z)
+one_arm : (n c : ℕ) (t f z x y : Bool) → n ≤ 15 → x ≡ (not (nat_le 15 n) && y) → (n < 15 → y ≡ (t && ((nat_le (suc n + c) 15 && f) && z))) →
+    x ≡ ((nat_le (n + suc c) 15 && (t && f)) && z)
 one_arm n c t f z x y le h k = elim (cases_lt n 15) [ inl lt ↦ few lt | inr ge ↦ many ge ]
   where
     few : n < 15 → x ≡ ((nat_le (n + suc c) 15 && (t && f)) && z)
-    few lt = h ∙ (ap (λ (v : Bool). not v && y) (le_short n lt) ∙ (k lt ∙ (and_swap t (nat_le (suc n + c) 15) f z ∙ ap (λ (v : Bool). (v && (t && f)) && z) (le_sum n c))))
+    few lt = h ∙ (ap (λ (v : Bool). not v && y) (le_short n lt)
+        ∙ (k lt ∙ (and_swap t (nat_le (suc n + c) 15) f z ∙ ap (λ (v : Bool). (v && (t && f)) && z) (le_sum n c))))
 
     many : 15 ≤ n → x ≡ ((nat_le (n + suc c) 15 && (t && f)) && z)
     many ge = h ∙ (ap (λ (v : Bool). not v && y) (le_full n ge) ∙ sym (ap (λ (v : Bool). (v && (t && f)) && z) (le_over n c ge)))
@@ -165,36 +172,49 @@ mutual
   branch_narrow : {ts rest : List Token} {b : Guarded} → Branch ts rest b → (ns : List ℕ) → is_narrow ns ts ≡ (few_arms b.body && is_narrow ns rest)
   branch_narrow (the_branch d p) ns = disjunction_narrow d ns ∙ par_narrow p ns
 
-  choices_narrow : {ts rest : List Token} {bs : Arms} → Choices ts rest bs → (ns : List ℕ) (z : Bool) → ((c : ℕ) → is_narrow (c ∷ ns) rest ≡ z) → is_narrow (0 ∷ ns) ts ≡ ((nat_le (arm_count bs) 16 && few_arms_in bs) && z)
+  choices_narrow : {ts rest : List Token} {bs : Arms} → Choices ts rest bs → (ns : List ℕ) (z : Bool) → ((c : ℕ) → is_narrow (c ∷ ns) rest ≡ z) →
+      is_narrow (0 ∷ ns) ts ≡ ((nat_le (arm_count bs) 16 && few_arms_in bs) && z)
   choices_narrow (the_choices {t = t} {bs = bs} b m) ns z h =
-      branch_narrow b (0 ∷ ns) ∙ (ap (λ (v : Bool). few_arms t && v) (more_choices_narrow m 0 ns z h (omega arith)) ∙ (and_swap (few_arms t) (nat_le (0 + arm_count bs) 15) (few_arms_in bs) z ∙ ap (λ (v : Bool). (v && (few_arms t && few_arms_in bs)) && z) (le_zero (arm_count bs))))
+      branch_narrow b (0 ∷ ns) ∙ (ap (λ (v : Bool). few_arms t && v) (more_choices_narrow m 0 ns z h (omega arith))
+      ∙ (and_swap (few_arms t) (nat_le (0 + arm_count bs) 15) (few_arms_in bs) z
+      ∙ ap (λ (v : Bool). (v && (few_arms t && few_arms_in bs)) && z) (le_zero (arm_count bs))))
 
-  more_choices_narrow : {ts rest : List Token} {bs : Arms} → MoreChoices ts rest bs → (n : ℕ) (ns : List ℕ) (z : Bool) → ((c : ℕ) → is_narrow (c ∷ ns) rest ≡ z) → n ≤ 15 → is_narrow (n ∷ ns) ts ≡ ((nat_le (n + arm_count bs) 15 && few_arms_in bs) && z)
+  more_choices_narrow : {ts rest : List Token} {bs : Arms} → MoreChoices ts rest bs → (n : ℕ) (ns : List ℕ) (z : Bool) →
+      ((c : ℕ) → is_narrow (c ∷ ns) rest ≡ z) → n ≤ 15 → is_narrow (n ∷ ns) ts ≡ ((nat_le (n + arm_count bs) 15 && few_arms_in bs) && z)
   more_choices_narrow no_more_choices n ns z h le = h n ∙ sym (ap (λ (v : Bool). (v && true) && z) (le_here n le))
   more_choices_narrow (one_more_choice {ts = ts} {mid = mid} {t = t} {bs = bs} b m) n ns z h le =
       one_arm n (arm_count bs) (few_arms t) (few_arms_in bs) z _ (is_narrow (suc n ∷ ns) ts) le refl
       (λ lt. branch_narrow b (suc n ∷ ns) ∙ ap (λ (v : Bool). few_arms t && v) (more_choices_narrow m (suc n) ns z h (omega (arith, lt))))
 
   both_narrow : {ts rest : List Token} {t : Statement} → Both ts rest t → (ns : List ℕ) → is_narrow ns ts ≡ (few_arms t && is_narrow ns rest)
-  both_narrow (the_both {mid = mid} {rest = rest} {t = t} {us = us} a m) ns = both_parts (few_arms t) (few_arms_each us) (few_arms (parallel_of t us)) (is_narrow ns rest) _ (is_narrow ns mid) (atom_narrow a ns) (more_both_narrow m ns) (few_parallel t us)
+  both_narrow (the_both {mid = mid} {rest = rest} {t = t} {us = us} a m) ns =
+      both_parts (few_arms t) (few_arms_each us) (few_arms (parallel_of t us)) (is_narrow ns rest) _ (is_narrow ns mid) (atom_narrow a ns)
+      (more_both_narrow m ns) (few_parallel t us)
 
   more_both_narrow : {ts rest : List Token} {us : Statements} → MoreBoth ts rest us → (ns : List ℕ) → is_narrow ns ts ≡ (few_arms_each us && is_narrow ns rest)
   more_both_narrow no_more_both ns = refl
-  more_both_narrow (one_more_both {mid = mid} {rest = rest} {t = t} {us = us} a m) ns = both_parts (few_arms t) (few_arms_each us) _ (is_narrow ns rest) _ (is_narrow ns mid) (atom_narrow a ns) (more_both_narrow m ns) refl
+  more_both_narrow (one_more_both {mid = mid} {rest = rest} {t = t} {us = us} a m) ns =
+      both_parts (few_arms t) (few_arms_each us) _ (is_narrow ns rest) _ (is_narrow ns mid) (atom_narrow a ns) (more_both_narrow m ns) refl
 
   seq_narrow : {ts rest : List Token} {t : Statement} → Seq ts rest t → (ns : List ℕ) → is_narrow ns ts ≡ (few_arms t && is_narrow ns rest)
-  seq_narrow (the_seq {mid = mid} {rest = rest} {t = t} {us = us} a m) ns = both_parts (few_arms t) (few_arms_each us) (few_arms (sequence_of t us)) (is_narrow ns rest) _ (is_narrow ns mid) (both_narrow a ns) (more_seq_narrow m ns) (few_sequence t us)
+  seq_narrow (the_seq {mid = mid} {rest = rest} {t = t} {us = us} a m) ns =
+      both_parts (few_arms t) (few_arms_each us) (few_arms (sequence_of t us)) (is_narrow ns rest) _ (is_narrow ns mid) (both_narrow a ns)
+      (more_seq_narrow m ns) (few_sequence t us)
 
   more_seq_narrow : {ts rest : List Token} {us : Statements} → MoreSeq ts rest us → (ns : List ℕ) → is_narrow ns ts ≡ (few_arms_each us && is_narrow ns rest)
   more_seq_narrow no_more_seq ns = refl
-  more_seq_narrow (one_more_seq {mid = mid} {rest = rest} {t = t} {us = us} a m) ns = both_parts (few_arms t) (few_arms_each us) _ (is_narrow ns rest) _ (is_narrow ns mid) (both_narrow a ns) (more_seq_narrow m ns) refl
+  more_seq_narrow (one_more_seq {mid = mid} {rest = rest} {t = t} {us = us} a m) ns =
+      both_parts (few_arms t) (few_arms_each us) _ (is_narrow ns rest) _ (is_narrow ns mid) (both_narrow a ns) (more_seq_narrow m ns) refl
 
   pub par_narrow : {ts rest : List Token} {t : Statement} → Par ts rest t → (ns : List ℕ) → is_narrow ns ts ≡ (few_arms t && is_narrow ns rest)
-  par_narrow (the_par {mid = mid} {rest = rest} {t = t} {us = us} a m) ns = both_parts (few_arms t) (few_arms_each us) (few_arms (parallel_of t us)) (is_narrow ns rest) _ (is_narrow ns mid) (seq_narrow a ns) (more_par_narrow m ns) (few_parallel t us)
+  par_narrow (the_par {mid = mid} {rest = rest} {t = t} {us = us} a m) ns =
+      both_parts (few_arms t) (few_arms_each us) (few_arms (parallel_of t us)) (is_narrow ns rest) _ (is_narrow ns mid) (seq_narrow a ns) (more_par_narrow m ns)
+      (few_parallel t us)
 
   more_par_narrow : {ts rest : List Token} {us : Statements} → MorePar ts rest us → (ns : List ℕ) → is_narrow ns ts ≡ (few_arms_each us && is_narrow ns rest)
   more_par_narrow no_more_par ns = refl
-  more_par_narrow (one_more_par {mid = mid} {rest = rest} {t = t} {us = us} a m) ns = both_parts (few_arms t) (few_arms_each us) _ (is_narrow ns rest) _ (is_narrow ns mid) (seq_narrow a ns) (more_par_narrow m ns) refl
+  more_par_narrow (one_more_par {mid = mid} {rest = rest} {t = t} {us = us} a m) ns =
+      both_parts (few_arms t) (few_arms_each us) _ (is_narrow ns rest) _ (is_narrow ns mid) (seq_narrow a ns) (more_par_narrow m ns) refl
 
 -- declarations
 abbrev few_in_item : Item → Bool
@@ -204,14 +224,16 @@ few_in_item (defined p) = few_arms p.body
 abbrev few_in_procs : List Procedure → Bool
 few_in_procs ps = list_all (λ (q : Procedure). few_arms q.body) ps
 
-over_channel : (j : TokenKind) (k : DeclKind) (at : Span) (ns : List ℕ) (ts : List Token) → channel_of j ≡ Some k → is_narrow ns (record { kind = j; at = at } ∷ ts) ≡ is_narrow ns ts
+over_channel : (j : TokenKind) (k : DeclKind) (at : Span) (ns : List ℕ) (ts : List Token) → channel_of j ≡ Some k →
+    is_narrow ns (record { kind = j; at = at } ∷ ts) ≡ is_narrow ns ts
 over_channel (Word w) k at ns ts e = refl
 over_channel (Ident w) k at ns ts e = refl
 over_channel (Number w) k at ns ts e = refl
 over_channel (Sign m) k at ns ts e = absurd (cc e)
 
 declaration_narrow : {ts rest : List Token} {d : Item} → Declaration ts rest d → (ns : List ℕ) → is_narrow ns ts ≡ (few_in_item d && is_narrow ns rest)
-declaration_narrow (a_channel {rest = rest} {t = t} {kind = k} {n = n} {w = w} {s = s} {c = c} {p = p} {e = q} e) ns = over_channel t.kind k t.at ns (name n s ∷ sign mark.Colon c ∷ numeral w p ∷ sign mark.Semicolon q ∷ rest) e
+declaration_narrow (a_channel {rest = rest} {t = t} {kind = k} {n = n} {w = w} {s = s} {c = c} {p = p} {e = q} e) ns =
+    over_channel t.kind k t.at ns (name n s ∷ sign mark.Colon c ∷ numeral w p ∷ sign mark.Semicolon q ∷ rest) e
 declaration_narrow a_variable ns = refl
 declaration_narrow a_variable_with_first ns = refl
 declaration_narrow (a_procedure p) ns = atom_narrow p ns
@@ -220,12 +242,15 @@ few_items : (d : Item) (more : Declared) → (few_in_item d && few_in_procs more
 few_items (valued d) more = refl
 few_items (defined p) more = refl
 
-declarations_narrow : {ts rest : List Token} {d : Declared} → Declarations ts rest d → (ns : List ℕ) → is_narrow ns ts ≡ (few_in_procs d.procs && is_narrow ns rest)
+declarations_narrow : {ts rest : List Token} {d : Declared} → Declarations ts rest d → (ns : List ℕ) →
+    is_narrow ns ts ≡ (few_in_procs d.procs && is_narrow ns rest)
 declarations_narrow no_declaration ns = refl
 declarations_narrow (one_more_declaration {mid = mid} {rest = rest} {d = d} {more = more} r m) ns =
-    both_parts (few_in_item d) (few_in_procs more.procs) (few_in_procs (and_item d more).procs) (is_narrow ns rest) _ (is_narrow ns mid) (declaration_narrow r ns) (declarations_narrow m ns) (few_items d more)
+    both_parts (few_in_item d) (few_in_procs more.procs) (few_in_procs (and_item d more).procs) (is_narrow ns rest) _ (is_narrow ns mid)
+    (declaration_narrow r ns) (declarations_narrow m ns) (few_items d more)
 
-pub program_narrow : {ts : List Token} {p : ProgramTree} → Derives ts p → is_narrow [] ts ≡ (list_all (λ (q : Procedure). few_arms q.body) p.procs && (few_arms p.body && true))
+pub program_narrow : {ts : List Token} {p : ProgramTree} → Derives ts p →
+    is_narrow [] ts ≡ (list_all (λ (q : Procedure). few_arms q.body) p.procs && (few_arms p.body && true))
 program_narrow (the_program {d = d} {t = t} r p) = declarations_narrow r [] ∙ ap (λ (v : Bool). few_in_procs d.procs && v) (par_narrow p [])
 
 -- the tokens up to one
@@ -236,7 +261,8 @@ counts-append ns (t ∷ ts) us = counts-append (counted ns t.kind) ts us
 narrow-append : (ns : List ℕ) (ts us : List Token) → is_narrow ns (ts ++ us) ≡ (is_narrow ns ts && is_narrow (counts ns ts) us)
 narrow-append ns [] us = refl
 narrow-append ns (t ∷ ts) us =
-    ap (λ (v : Bool). not (is_seventeenth ns t.kind) && v) (narrow-append (counted ns t.kind) ts us) ∙ sym (and_assoc (not (is_seventeenth ns t.kind)) (is_narrow (counted ns t.kind) ts) (is_narrow (counts (counted ns t.kind) ts) us))
+    ap (λ (v : Bool). not (is_seventeenth ns t.kind) && v) (narrow-append (counted ns t.kind) ts us)
+    ∙ sym (and_assoc (not (is_seventeenth ns t.kind)) (is_narrow (counted ns t.kind) ts) (is_narrow (counts (counted ns t.kind) ts) us))
 
 -- a list is what stands before a token, the token, and what stands behind it
 split_at : (ts : List Token) (i : ℕ) (t : Token) → i < length ts → t ≡ get_or ts i t → ts ≡ take i ts ++ t ∷ drop (i + 1) ts
@@ -250,7 +276,8 @@ seventeenth_kind (Word w) ns h = absurd (cc h)
 seventeenth_kind (Ident w) ns h = absurd (cc h)
 seventeenth_kind (Number w) ns h = absurd (cc h)
 
-pub seventeenth_at : (ts : List Token) (i : ℕ) (t : Token) (ns : List ℕ) → i < length ts → t ≡ get_or ts i t → ns ≡ counts [] (take i ts) → is_narrow [] (take i ts) ≡ true → is_seventeenth ns t.kind ≡ true → IsSeventeenth ts t.at
+pub seventeenth_at : (ts : List Token) (i : ℕ) (t : Token) (ns : List ℕ) → i < length ts → t ≡ get_or ts i t → ns ≡ counts [] (take i ts) →
+    is_narrow [] (take i ts) ≡ true → is_seventeenth ns t.kind ≡ true → IsSeventeenth ts t.at
 seventeenth_at ts i t ns lt is so narrow h =
     let x = seventeenth_kind t.kind ns h in
     record {
@@ -261,12 +288,14 @@ seventeenth_at ts i t ns lt is so narrow h =
       full = ap is_full (sym so) ∙ x.1;
     }
 
-pub counted_more : (ts : List Token) (i : ℕ) (t : Token) (ns ms : List ℕ) → i < length ts → t ≡ get_or ts i t → ns ≡ counts [] (take i ts) → ms ≡ counted ns t.kind → ms ≡ counts [] (take (i + 1) ts)
+pub counted_more : (ts : List Token) (i : ℕ) (t : Token) (ns ms : List ℕ) → i < length ts → t ≡ get_or ts i t → ns ≡ counts [] (take i ts) →
+    ms ≡ counted ns t.kind → ms ≡ counts [] (take (i + 1) ts)
 counted_more ts i t ns ms lt is so e =
     let more : take (i + 1) ts ≡ take i ts ++ t ∷ [] = take_more ts i t lt ∙ ap (λ u. take i ts ++ u ∷ []) (sym is) in
     e ∙ (ap (λ (ks : List ℕ). counted ks t.kind) so ∙ (sym (counts-append [] (take i ts) (t ∷ [])) ∙ sym (ap (λ (us : List Token). counts [] us) more)))
 
-pub narrow_more : (ts : List Token) (i : ℕ) (t : Token) (ns : List ℕ) → i < length ts → t ≡ get_or ts i t → ns ≡ counts [] (take i ts) → is_narrow [] (take i ts) ≡ true → is_seventeenth ns t.kind ≡ false → is_narrow [] (take (i + 1) ts) ≡ true
+pub narrow_more : (ts : List Token) (i : ℕ) (t : Token) (ns : List ℕ) → i < length ts → t ≡ get_or ts i t → ns ≡ counts [] (take i ts) →
+    is_narrow [] (take i ts) ≡ true → is_seventeenth ns t.kind ≡ false → is_narrow [] (take (i + 1) ts) ≡ true
 narrow_more ts i t ns lt is so narrow h =
     let more : take (i + 1) ts ≡ take i ts ++ t ∷ [] = take_more ts i t lt ∙ ap (λ u. take i ts ++ u ∷ []) (sym is) in
     let passes : is_seventeenth (counts [] (take i ts)) t.kind ≡ false = ap (λ (ks : List ℕ). is_seventeenth ks t.kind) (sym so) ∙ h in
@@ -287,10 +316,13 @@ both_true true false h = absurd (cc h)
 both_true false b h = absurd (cc h)
 
 -- the trees of narrow tokens have few arms
-pub few_in_program : {ts : List Token} {p : ProgramTree} → Derives ts p → is_narrow [] ts ≡ true → (list_all (λ (q : Procedure). few_arms q.body) p.procs ≡ true) × (few_arms p.body ≡ true)
+pub few_in_program : {ts : List Token} {p : ProgramTree} → Derives ts p → is_narrow [] ts ≡ true →
+    (list_all (λ (q : Procedure). few_arms q.body) p.procs ≡ true) × (few_arms p.body ≡ true)
 few_in_program {ts} {p} d h = both_true (list_all (λ (q : Procedure). few_arms q.body) p.procs) (few_arms p.body) (sym (program_narrow d) ∙ h)
 
 -- and those of others haven't
-pub many_in_program : {ts : List Token} {p : ProgramTree} {place : Span} → Derives ts p → IsSeventeenth ts place → list_all (λ (q : Procedure). few_arms q.body) p.procs ≡ true → few_arms p.body ≡ true → ⊥
+pub many_in_program : {ts : List Token} {p : ProgramTree} {place : Span} → Derives ts p → IsSeventeenth ts place →
+    list_all (λ (q : Procedure). few_arms q.body) p.procs ≡ true → few_arms p.body ≡ true → ⊥
 many_in_program {ts} {p} d s a b =
-    let e : true ≡ false = sym (program_narrow d ∙ (ap (λ (v : Bool). v && (few_arms p.body && true)) a ∙ ap (λ (v : Bool). v && true) b)) ∙ not_narrow s in cc e
+    let e : true ≡ false = sym (program_narrow d ∙ (ap (λ (v : Bool). v && (few_arms p.body && true)) a ∙ ap (λ (v : Bool). v && true) b)) ∙ not_narrow s in
+    cc e

@@ -44,7 +44,8 @@ word_front : (bs : List ℕ) → list_all word_part (take (prefix_len word_part 
 word_front [] = refl
 word_front (b ∷ bs) = here (word_front bs) (word_part b) refl
   where
-    here : list_all word_part (take (prefix_len word_part bs) bs) ≡ true → (e : Bool) → word_part b ≡ e → list_all word_part (take (cond e (1 + prefix_len word_part bs) 0) (b ∷ bs)) ≡ true
+    here : list_all word_part (take (prefix_len word_part bs) bs) ≡ true → (e : Bool) → word_part b ≡ e →
+        list_all word_part (take (cond e (1 + prefix_len word_part bs) 0) (b ∷ bs)) ≡ true
     here rest true is =
         let more : 1 + prefix_len word_part bs ≡ suc (prefix_len word_part bs) = omega arith in
         rw more (ap (λ x. x && list_all word_part (take (prefix_len word_part bs) bs)) is ∙ rest)
@@ -83,7 +84,8 @@ pub run_bad : (n : ℕ) (text : List ℕ) → 0 < n → n ≡ prefix_len word_pa
 run_bad n text some is none = inl (run_longest n text some is, none)
 
 -- where no run is, a piece is a sign
-only_sign : (m : ℕ) (text : List ℕ) → prefix_len word_part text ≤ 0 → m ≤ length text → IsPiece (take m text) → (l : Mark) × HasSign text l × (m ≡ length (sign_text l))
+only_sign : (m : ℕ) (text : List ℕ) → prefix_len word_part text ≤ 0 → m ≤ length text → IsPiece (take m text) →
+    (l : Mark) × HasSign text l × (m ≡ length (sign_text l))
 only_sign m text no_run le (inl run) =
     let piece : IsPiece (take m text) = inl run in
     absurd (cc (run_part (take m text) run, taken_part m text (piece_size m text piece), no_part text no_run))
@@ -102,11 +104,13 @@ sign_token m n text no_run sign size = record { longest = record { within = with
     most : (k : ℕ) → k ≤ length text → IsPiece (take k text) → k ≤ n
     most k le piece = let s = only_sign k text no_run le piece in omega (arith, sign.longest s.0 s.1, s.2)
 
-pub nothing : (text : List ℕ) → 0 < length text → ((n : ℕ) → IsGap n text → ⊥) → prefix_len word_part text ≤ 0 → ((m : Mark) → HasSign text m → ⊥) → IsNoToken 1 text
+pub nothing : (text : List ℕ) → 0 < length text → ((n : ℕ) → IsGap n text → ⊥) → prefix_len word_part text ≤ 0 → ((m : Mark) → HasSign text m → ⊥) →
+    IsNoToken 1 text
 nothing text some no_gap no_run no_sign = inr (refl, some, no_gap, none)
   where
     none : (m : ℕ) → m ≤ length text → IsPiece (take m text) → ⊥
     none m le piece = let s = only_sign m text no_run le piece in no_sign s.0 s.1
 
-pub front_at : (text : List ℕ) (i : ℕ) (found front : Front) → IsFront (take (length text - i) (drop i text)) found → found ≡ front → IsFront (drop i text) front
+pub front_at : (text : List ℕ) (i : ℕ) (found front : Front) → IsFront (take (length text - i) (drop i text)) found → found ≡ front →
+    IsFront (drop i text) front
 front_at text i found front is e = subst (λ f. IsFront (drop i text) f) e (subst (λ t. IsFront t found) (take_rest text i) is)

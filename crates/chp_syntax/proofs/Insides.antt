@@ -130,10 +130,16 @@ shared_here [] [] s h k = absurd (cc h)
 shared_here [] (y ∷ m) s h k = absurd (cc s)
 shared_here (x ∷ l) [] s h k = absurd (cc s)
 shared_here (x ∷ l) (y ∷ m) s h k =
-    let e : y ≡ x = cc s in
-    (x, refl, first_shared (atom_kind x.kind) (begins_par m) (begins_par l) (sees m) (sees l) (subst (λ (z : Token). begins_par_with (atom_kind z.kind) (begins_par m) (sees m) ≡ true) e h) k)
+    let e : y ≡ x = cc s in (
+      x,
+      refl,
+      first_shared (atom_kind x.kind) (begins_par m) (begins_par l) (sees m) (sees l)
+          (subst (λ (z : Token). begins_par_with (atom_kind z.kind) (begins_par m) (sees m) ≡ true) e h) k,
+    )
 
-shared_step : (f : AtomFront) (d l m : List Token) → sees l ≡ sees m → (begins_par (d ++ m) ≡ true → begins_par (d ++ l) ≡ false → Shared d l) → begins_par_with f (begins_par (d ++ m)) (sees (d ++ m)) ≡ true → begins_par_with f (begins_par (d ++ l)) (sees (d ++ l)) ≡ false → (x : Token) × (sees l ≡ Some x) × undecided_with f (Undecided (d ++ (x ∷ []))) (d ++ (x ∷ []))
+shared_step : (f : AtomFront) (d l m : List Token) → sees l ≡ sees m → (begins_par (d ++ m) ≡ true → begins_par (d ++ l) ≡ false → Shared d l) →
+    begins_par_with f (begins_par (d ++ m)) (sees (d ++ m)) ≡ true → begins_par_with f (begins_par (d ++ l)) (sees (d ++ l)) ≡ false →
+    (x : Token) × (sees l ≡ Some x) × undecided_with f (Undecided (d ++ (x ∷ []))) (d ++ (x ∷ []))
 shared_step atom.Round d l m s rec h k = rec h k
 shared_step atom.Name d l m s rec h k =
     absurd (let e : true ≡ false = sym h ∙ (ap (λ (t : Option Token). acts (action_front t)) (sym (sees_same d l m s)) ∙ k) in cc e)
@@ -152,13 +158,19 @@ abbrev Goes_on : {A : Type 0} → (List Token → List Token → A → Type 0) �
 Goes_on {A} R ds = (k : List Token) × (a : A) × ((rest : List Token) → R (ds ++ (k ++ rest)) rest a)
 
 primary_alone : {l rest : List Token} {c : Covered} → Primary l rest c → Disjunction l rest c
-primary_alone p = the_disjunction (the_exclusive (the_conjunction (not_compared (the_sum (plain p) no_more_sum)) no_more_conjunction) no_more_exclusive) no_more_disjunction
+primary_alone p = the_disjunction (the_exclusive (the_conjunction (not_compared (the_sum (plain p) no_more_sum)) no_more_conjunction) no_more_exclusive)
+    no_more_disjunction
 
-statement_kind : (k : TokenKind) (s : Span) (ts : List Token) → undecided_with (atom_kind k) (Undecided ts) ts → (Undecided ts → Goes_on Par ts) → Goes_on Par (record { kind = k; at = s } ∷ ts)
+statement_kind : (k : TokenKind) (s : Span) (ts : List Token) → undecided_with (atom_kind k) (Undecided ts) ts → (Undecided ts → Goes_on Par ts) →
+    Goes_on Par (record { kind = k; at = s } ∷ ts)
 statement_kind (Sign mark.OpenRound) s ts u rec =
     let r = rec u in
-    let close = sign mark.CloseRound zero_span in
-    (r.0 ++ (close ∷ []), r.1, λ rest. atom_par (in_round (subst (λ (x : List Token). Par (ts ++ x) (close ∷ rest) r.1) (sym (append_assoc r.0 (close ∷ []) rest)) (r.2 (close ∷ rest)))))
+    let close = sign mark.CloseRound zero_span in (
+      r.0 ++ (close ∷ []),
+      r.1,
+      λ rest. atom_par
+          (in_round (subst (λ (x : List Token). Par (ts ++ x) (close ∷ rest) r.1) (sym (append_assoc r.0 (close ∷ []) rest)) (r.2 (close ∷ rest)))),
+    )
 statement_kind (Ident n) s [] u rec = (word_becomes, _, λ rest. atom_par (an_assignment (primary_alone a_number)))
   where
     word_becomes : List Token
@@ -174,11 +186,16 @@ statement_on : (ds : List Token) → Undecided ds → Goes_on Par ds
 statement_on [] u = (word key.Skip zero_span ∷ [], skips zero_span, λ rest. atom_par a_skip)
 statement_on (t ∷ ts) u = statement_kind t.kind t.at ts u (λ v. statement_on ts v)
 
-expression_kind : (k : TokenKind) (s : Span) (ts : List Token) → undecided_with (atom_kind k) (Undecided ts) ts → (Undecided ts → Goes_on Disjunction ts) → Goes_on Disjunction (record { kind = k; at = s } ∷ ts)
+expression_kind : (k : TokenKind) (s : Span) (ts : List Token) → undecided_with (atom_kind k) (Undecided ts) ts → (Undecided ts → Goes_on Disjunction ts) →
+    Goes_on Disjunction (record { kind = k; at = s } ∷ ts)
 expression_kind (Sign mark.OpenRound) s ts u rec =
     let r = rec u in
-    let close = sign mark.CloseRound zero_span in
-    (r.0 ++ (close ∷ []), _, λ rest. primary_alone (in_brackets (subst (λ (x : List Token). Disjunction (ts ++ x) (close ∷ rest) r.1) (sym (append_assoc r.0 (close ∷ []) rest)) (r.2 (close ∷ rest)))))
+    let close = sign mark.CloseRound zero_span in (
+      r.0 ++ (close ∷ []),
+      _,
+      λ rest. primary_alone
+          (in_brackets (subst (λ (x : List Token). Disjunction (ts ++ x) (close ∷ rest) r.1) (sym (append_assoc r.0 (close ∷ []) rest)) (r.2 (close ∷ rest)))),
+    )
 expression_kind (Ident n) s [] u rec = ([], _, λ rest. primary_alone a_name)
 expression_kind (Ident n) s (t ∷ ts) u rec = absurd u
 expression_kind (Word key.Skip) s ts u rec = absurd u
@@ -194,8 +211,12 @@ expression_on (t ∷ ts) u = expression_kind t.kind t.at ts u (λ v. expression_
 arms_on : (ds : List Token) → Undecided ds → Goes_on Choices ds
 arms_on ds u =
     let r = expression_on ds u in
-    let more = sign mark.Arrow zero_span ∷ word key.Skip zero_span ∷ [] in
-    (r.0 ++ more, _, λ rest. the_choices (the_branch (subst (λ (x : List Token). Disjunction (ds ++ x) (more ++ rest) r.1) (sym (append_assoc r.0 more rest)) (r.2 (more ++ rest))) (atom_par a_skip)) no_more_choices)
+    let more = sign mark.Arrow zero_span ∷ word key.Skip zero_span ∷ [] in (
+      r.0 ++ more,
+      _,
+      λ rest. the_choices (the_branch (subst (λ (x : List Token). Disjunction (ds ++ x) (more ++ rest) r.1) (sym (append_assoc r.0 more rest))
+          (r.2 (more ++ rest))) (atom_par a_skip)) no_more_choices,
+    )
 
 pub body_good : {xs left : List Token} {t : Statement} → Good Par (Stops 2) xs left t → Good Inside (Stops 1) xs left (repeats t)
 body_good {xs} {left} {t} good = record { done = good.done; is = good.is; derives = λ l. a_body (good.derives l); only = only }
@@ -207,12 +228,14 @@ body_good {xs} {left} {t} good = record { done = good.done; is = good.is; derive
 pub arms_good : {xs left : List Token} {bs : Arms} → Good Choices (Stops 1) xs left bs → Good Inside (Stops 1) xs left (selects true bs)
 arms_good {xs} {left} {bs} good = record { done = good.done; is = good.is; derives = λ l. some_arms (good.derives l); only = only }
   where
-    only : (l rest : List Token) (b : Statement) → sees l ≡ sees left → Stops 1 (sees rest) → Inside (good.done ++ l) rest b → (rest ≡ l) × (b ≡ selects true bs)
+    only : (l rest : List Token) (b : Statement) → sees l ≡ sees left → Stops 1 (sees rest) → Inside (good.done ++ l) rest b →
+        (rest ≡ l) × (b ≡ selects true bs)
     only l rest b s f (some_arms {bs = cs} p) = let e = good.only l rest cs s f p in (e.0, ap (λ ds. selects true ds) e.1)
     only l rest b s f (a_body p) = absurd (let e : true ≡ false = sym (par_begins p) ∙ choices_begin (good.derives l) in cc e)
 
 -- a fault of tokens that both may begin with is no fault of one of them
-clash : {A : Type 0} (R : List Token → List Token → A → Type 0) (d left : List Token) (x : Token) → ((l rest : List Token) (b : A) → sees l ≡ sees left → Stops 1 (sees rest) → R (d ++ l) rest b → ⊥) → sees left ≡ Some x → Goes_on R (d ++ (x ∷ [])) → ⊥
+clash : {A : Type 0} (R : List Token → List Token → A → Type 0) (d left : List Token) (x : Token) →
+    ((l rest : List Token) (b : A) → sees l ≡ sees left → Stops 1 (sees rest) → R (d ++ l) rest b → ⊥) → sees left ≡ Some x → Goes_on R (d ++ (x ∷ [])) → ⊥
 clash {A} R d left x stuck s g =
     stuck (x ∷ (g.0 ++ [])) [] g.1 (sym s) tt (subst (λ (y : List Token). R y [] g.1) (append_assoc d (x ∷ []) (g.0 ++ [])) (g.2 []))
 
@@ -228,7 +251,8 @@ body_bad {xs} {left} begins bad = record {
     stuck l rest b s f (a_body {t = u} p) = bad.stuck l rest u s (stops_more 1 2 (sees rest) (omega arith) f) p
     stuck l rest b s f (some_arms p) =
         let x = shared bad.done l left s (ap begins_par (sym bad.is) ∙ begins) (choices_begin p) in
-        clash Par bad.done left x.0 (λ l rest b s f p. bad.stuck l rest b s (stops_more 1 2 (sees rest) (omega arith) f) p) (sym s ∙ x.1) (statement_on (bad.done ++ (x.0 ∷ [])) x.2)
+        clash Par bad.done left x.0 (λ l rest b s f p. bad.stuck l rest b s (stops_more 1 2 (sees rest) (omega arith) f) p) (sym s ∙ x.1)
+        (statement_on (bad.done ++ (x.0 ∷ [])) x.2)
 
 pub arms_bad : {xs left : List Token} → begins_par xs ≡ false → Bad Choices (Stops 1) xs left → Bad Inside (Stops 1) xs left
 arms_bad {xs} {left} begins bad = record {

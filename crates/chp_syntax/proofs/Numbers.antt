@@ -19,7 +19,8 @@ grows base n (b ∷ bs) some =
     let more : n * 1 ≤ n * base = mul-le-mul_left n some in
     omega (arith, more, grows base (step base n b) bs some)
 
-pub number_more : (base : ℕ) (bs : List ℕ) (i : ℕ) → i < length bs → number_in base (take (i + 1) bs) ≡ base * number_in base (take i bs) + digit_value (get_or bs i 0)
+pub number_more : (base : ℕ) (bs : List ℕ) (i : ℕ) → i < length bs →
+    number_in base (take (i + 1) bs) ≡ base * number_in base (take i bs) + digit_value (get_or bs i 0)
 number_more base bs i lt = fold_more (step base) 0 bs i 0 lt
 
 -- the digits behind make no number smaller
@@ -29,7 +30,8 @@ number_part base bs i some =
     sym (ap (number_in base) (take-append-drop i bs)) ∙ fold-append (step base) 0 (take i bs) (drop i bs) in
     omega (arith, whole, grows base (number_in base (take i bs)) (drop i bs) some)
 
-pub too_large : (base value i : ℕ) (bs : List ℕ) → 1 ≤ base → i < length bs → value ≡ number_in base (take i bs) → (base * value + digit_value (get_or bs i 0) < 2 ^ 64 → ⊥) → 2 ^ 64 ≤ number_in base bs
+pub too_large : (base value i : ℕ) (bs : List ℕ) → 1 ≤ base → i < length bs → value ≡ number_in base (take i bs) →
+    (base * value + digit_value (get_or bs i 0) < 2 ^ 64 → ⊥) → 2 ^ 64 ≤ number_in base bs
 too_large base value i bs some lt is over =
     let e : base * value ≡ base * number_in base (take i bs) = ap (λ x. base * x) is in
     omega (arith, e, number_more base bs i lt, number_part base bs (i + 1) some, over)

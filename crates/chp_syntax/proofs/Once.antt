@@ -137,7 +137,8 @@ mutual
       (w.0, longer_same (one_value sum_of t.kind e i) h.1 w.1)
 
   comparison_once : {ts r q : List Token} {a b : Covered} → Comparison ts r a → Comparison ts q b → Stops 8 (sees r) → Stops 8 (sees q) → Same r a q b
-  comparison_once {r = r} {q = q} (not_compared a) (not_compared b) f g = sum_once a b (stops_more 8 9 (sees r) (omega arith) f) (stops_more 8 9 (sees q) (omega arith) g)
+  comparison_once {r = r} {q = q} (not_compared a) (not_compared b) f g =
+      sum_once a b (stops_more 8 9 (sees r) (omega arith) f) (stops_more 8 9 (sees q) (omega arith) g)
   comparison_once {r = r} (not_compared a) (compared {mid = mid} {t = t} {o = o} b e y) f g =
       let ranked = compared_ranked t.kind o e in
       let h = sum_once a b (stops_more 8 9 (sees r) (omega arith) f) (omega (arith, ranked)) in
@@ -148,7 +149,8 @@ mutual
       absurd (ranked_apart 8 t mid ranked (subst (λ (x : List Token). Stops 8 (sees x)) (sym h.0) g))
   comparison_once {r = r} {q = q} (compared {t = t} {o = o} {d = d} a e x) (compared {t = u} {o = p} b i y) f g =
       let h = sum_once a b (omega (arith, compared_ranked t.kind o e)) (omega (arith, compared_ranked u.kind p i)) in
-      let w = sum_once (subst (λ (l : List Token). Sum l r d) (behind_same h.0) x) y (stops_more 8 9 (sees r) (omega arith) f) (stops_more 8 9 (sees q) (omega arith) g) in
+      let w = sum_once (subst (λ (l : List Token). Sum l r d) (behind_same h.0) x) y (stops_more 8 9 (sees r) (omega arith) f)
+      (stops_more 8 9 (sees q) (omega arith) g) in
       let same = one_value comparison_of u.kind (subst (λ (k : TokenKind). comparison_of k ≡ Some o) (kind_same h.0) e) i in
       (w.0, both_same (λ (c : Covered) (us : Tail). chain_of c us) h.1 (longer_same {us = no_tail} {vs = no_tail} same w.1 refl))
 
@@ -158,10 +160,13 @@ mutual
       let w = more_conjunction_once (subst (λ (x : List Token). MoreConjunction x r us) h.0 n) m f g in
       (w.0, both_same (λ (c : Covered) (us : Tail). chain_of c us) h.1 w.1)
 
-  more_conjunction_once : {ts r q : List Token} {us vs : Tail} → MoreConjunction ts r us → MoreConjunction ts q vs → Stops 7 (sees r) → Stops 7 (sees q) → Same r us q vs
+  more_conjunction_once : {ts r q : List Token} {us vs : Tail} → MoreConjunction ts r us → MoreConjunction ts q vs → Stops 7 (sees r) → Stops 7 (sees q) →
+      Same r us q vs
   more_conjunction_once no_more_conjunction no_more_conjunction f g = (refl, refl)
-  more_conjunction_once no_more_conjunction (one_more_conjunction {ts = ts} {t = t} {o = o} e b m) f g = absurd (ranked_apart 7 t ts (conjunction_ranked t.kind o e) f)
-  more_conjunction_once (one_more_conjunction {ts = ts} {t = t} {o = o} e a n) no_more_conjunction f g = absurd (ranked_apart 7 t ts (conjunction_ranked t.kind o e) g)
+  more_conjunction_once no_more_conjunction (one_more_conjunction {ts = ts} {t = t} {o = o} e b m) f g =
+      absurd (ranked_apart 7 t ts (conjunction_ranked t.kind o e) f)
+  more_conjunction_once (one_more_conjunction {ts = ts} {t = t} {o = o} e a n) no_more_conjunction f g =
+      absurd (ranked_apart 7 t ts (conjunction_ranked t.kind o e) g)
   more_conjunction_once {r = r} (one_more_conjunction {t = t} {us = us} e a n) (one_more_conjunction i b m) f g =
       let h = comparison_once a b (conjunction_stops n f) (conjunction_stops m g) in
       let w = more_conjunction_once (subst (λ (x : List Token). MoreConjunction x r us) h.0 n) m f g in
@@ -173,7 +178,8 @@ mutual
       let w = more_exclusive_once (subst (λ (x : List Token). MoreExclusive x r us) h.0 n) m f g in
       (w.0, both_same (λ (c : Covered) (us : Tail). chain_of c us) h.1 w.1)
 
-  more_exclusive_once : {ts r q : List Token} {us vs : Tail} → MoreExclusive ts r us → MoreExclusive ts q vs → Stops 6 (sees r) → Stops 6 (sees q) → Same r us q vs
+  more_exclusive_once : {ts r q : List Token} {us vs : Tail} → MoreExclusive ts r us → MoreExclusive ts q vs → Stops 6 (sees r) → Stops 6 (sees q) →
+      Same r us q vs
   more_exclusive_once no_more_exclusive no_more_exclusive f g = (refl, refl)
   more_exclusive_once no_more_exclusive (one_more_exclusive {ts = ts} {t = t} {o = o} e b m) f g = absurd (ranked_apart 6 t ts (exclusive_ranked t.kind o e) f)
   more_exclusive_once (one_more_exclusive {ts = ts} {t = t} {o = o} e a n) no_more_exclusive f g = absurd (ranked_apart 6 t ts (exclusive_ranked t.kind o e) g)
@@ -188,10 +194,13 @@ mutual
       let w = more_disjunction_once (subst (λ (x : List Token). MoreDisjunction x r us) h.0 n) m f g in
       (w.0, both_same (λ (c : Covered) (us : Tail). chain_of c us) h.1 w.1)
 
-  more_disjunction_once : {ts r q : List Token} {us vs : Tail} → MoreDisjunction ts r us → MoreDisjunction ts q vs → Stops 5 (sees r) → Stops 5 (sees q) → Same r us q vs
+  more_disjunction_once : {ts r q : List Token} {us vs : Tail} → MoreDisjunction ts r us → MoreDisjunction ts q vs → Stops 5 (sees r) → Stops 5 (sees q) →
+      Same r us q vs
   more_disjunction_once no_more_disjunction no_more_disjunction f g = (refl, refl)
-  more_disjunction_once no_more_disjunction (one_more_disjunction {ts = ts} {t = t} {o = o} e b m) f g = absurd (ranked_apart 5 t ts (disjunction_ranked t.kind o e) f)
-  more_disjunction_once (one_more_disjunction {ts = ts} {t = t} {o = o} e a n) no_more_disjunction f g = absurd (ranked_apart 5 t ts (disjunction_ranked t.kind o e) g)
+  more_disjunction_once no_more_disjunction (one_more_disjunction {ts = ts} {t = t} {o = o} e b m) f g =
+      absurd (ranked_apart 5 t ts (disjunction_ranked t.kind o e) f)
+  more_disjunction_once (one_more_disjunction {ts = ts} {t = t} {o = o} e a n) no_more_disjunction f g =
+      absurd (ranked_apart 5 t ts (disjunction_ranked t.kind o e) g)
   more_disjunction_once {r = r} (one_more_disjunction {t = t} {us = us} e a n) (one_more_disjunction i b m) f g =
       let h = exclusive_once a b (disjunction_stops n f) (disjunction_stops m g) in
       let w = more_disjunction_once (subst (λ (x : List Token). MoreDisjunction x r us) h.0 n) m f g in
@@ -290,7 +299,8 @@ mutual
       (w.0, both_same and_member h.1 w.1)
 
 declaration_once : {ts r q : List Token} {a b : Item} → Declaration ts r a → Declaration ts q b → Same r a q b
-declaration_once (a_channel {t = t} {n = n} {w = w} {s = s} {p = p} e) (a_channel i) = (refl, ap (λ (k : DeclKind). valued (unset k (named n s) w p)) (one_value channel_of t.kind e i))
+declaration_once (a_channel {t = t} {n = n} {w = w} {s = s} {p = p} e) (a_channel i) =
+    (refl, ap (λ (k : DeclKind). valued (unset k (named n s) w p)) (one_value channel_of t.kind e i))
 declaration_once (a_channel e) a_variable = absurd (cc e)
 declaration_once a_variable (a_channel i) = absurd (cc i)
 declaration_once a_variable a_variable = (refl, refl)
@@ -302,7 +312,8 @@ declaration_once (a_procedure {n = n} {s = s} p) (a_procedure x) =
 declares_nothing : {ts rest : List Token} {d : Item} → Undeclared (sees ts) → Declaration ts rest d → ⊥
 declares_nothing {ts} {rest} {d} u x = let bad = declaration_bad ts u in bad.stuck ts rest d refl tt (subst (λ (l : List Token). Declaration l rest d) bad.is x)
 
-declarations_once : {ts r q : List Token} {d c : Declared} → Declarations ts r d → Declarations ts q c → Undeclared (sees r) → Undeclared (sees q) → Same r d q c
+declarations_once : {ts r q : List Token} {d c : Declared} → Declarations ts r d → Declarations ts q c → Undeclared (sees r) → Undeclared (sees q) →
+    Same r d q c
 declarations_once no_declaration no_declaration f g = (refl, refl)
 declarations_once no_declaration (one_more_declaration b m) f g = absurd (declares_nothing f b)
 declarations_once (one_more_declaration a n) no_declaration f g = absurd (declares_nothing g a)

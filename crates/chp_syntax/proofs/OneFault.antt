@@ -15,7 +15,8 @@ pub clash : {b : Bool} → b ≡ true → b ≡ false → ⊥
 clash h k = let e : true ≡ false = sym h ∙ k in cc e
 
 -- two tokens of a list, of which neither stands before the other, are one
-pub one_place : (b c d e : List Token) (x y : Token) → b ++ x ∷ d ≡ c ++ y ∷ e → ((m : List Token) → c ≡ b ++ x ∷ m → ⊥) → ((m : List Token) → b ≡ c ++ y ∷ m → ⊥) → x ≡ y
+pub one_place : (b c d e : List Token) (x y : Token) → b ++ x ∷ d ≡ c ++ y ∷ e → ((m : List Token) → c ≡ b ++ x ∷ m → ⊥) →
+    ((m : List Token) → b ≡ c ++ y ∷ m → ⊥) → x ≡ y
 one_place [] [] d e x y h f g = cc h
 one_place [] (z ∷ c) d e x y h f g = absurd (f c (let k : x ≡ z = cc h in ap (λ (t : Token). t ∷ c) (sym k)))
 one_place (z ∷ b) [] d e x y h f g = absurd (g b (let k : z ≡ y = cc h in ap (λ (t : Token). t ∷ b) k))
@@ -39,13 +40,24 @@ no_later : {ts : List Token} {n m : ℕ} → FirstFault ts n → FirstFault ts m
 no_later {ts} {n} {m} f g lt =
     let v = g.viable in
     let between = drop (n + 1) (take m ts) in
-    let front : take m ts ≡ take (n + 1) ts ++ between = sym (take-append-drop (n + 1) (take m ts)) ∙ ap (λ (us : List Token). us ++ between) (take-take (n + 1) m ts (omega (arith, lt))) in
+    let front : take m ts ≡ take (n + 1) ts ++ between = sym (take-append-drop (n + 1) (take m ts))
+    ∙ ap (λ (us : List Token). us ++ between) (take-take (n + 1) m ts (omega (arith, lt))) in
     f.never (omega (arith, lt, g.within)) (between ++ v.0) v.1
     (subst (λ (us : List Token). Derives us v.1) (ap (λ (us : List Token). us ++ v.0) front ∙ append_assoc (take (n + 1) ts) between v.0) v.2)
 
 fault_once : {ts : List Token} {n m : ℕ} → FirstFault ts n → FirstFault ts m → n ≡ m
 fault_once {ts} {n} {m} f g =
-    elim (cases_lt n m) [ inl lt ↦ absurd (no_later f g lt) | inr ge ↦ elim (cases_lt m n) [ inl lt ↦ absurd (no_later g f lt) | inr le ↦ omega (arith, ge, le) ] ]
+    elim (cases_lt n m) [
+      | inl lt ↦ absurd (no_later f g lt)
+      | inr ge ↦ elim (cases_lt m n) [
+        | inl lt ↦ absurd (no_later g f lt)
+        | inr le ↦ omega (
+          arith,
+          ge,
+          le,
+        )
+      ]
+    ]
 
 pub spot_once : {ts : List Token} {n m : ℕ} (end : ℕ) → FirstFault ts n → FirstFault ts m → spot (drop n ts) end ≡ spot (drop m ts) end
 spot_once {ts} end f g = ap (λ (place : ℕ). spot (drop place ts) end) (fault_once f g)

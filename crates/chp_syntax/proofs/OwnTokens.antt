@@ -107,7 +107,8 @@ mutual
 
   more_amp_own : {ts rest : List Token} {v : Tail} → MoreConjunction ts rest v → has_foreign ts ≡ has_foreign rest
   more_amp_own no_more_conjunction = refl
-  more_amp_own (one_more_conjunction {ts = ts} {t = t} {o = o} e p m) = over_token t.kind t.at ts (conjunction_own t.kind o e) ∙ (compared_own p ∙ more_amp_own m)
+  more_amp_own (one_more_conjunction {ts = ts} {t = t} {o = o} e p m) = over_token t.kind t.at ts (conjunction_own t.kind o e)
+      ∙ (compared_own p ∙ more_amp_own m)
 
   caret_own : {ts rest : List Token} {v : Covered} → Exclusive ts rest v → has_foreign ts ≡ has_foreign rest
   caret_own (the_exclusive p m) = amp_own p ∙ more_caret_own m
@@ -171,7 +172,8 @@ mutual
   more_par_own (one_more_par a m) = seq_own a ∙ more_par_own m
 
 declaration_own : {ts rest : List Token} {d : Item} → Declaration ts rest d → has_foreign ts ≡ has_foreign rest
-declaration_own (a_channel {rest = rest} {t = t} {kind = k} {n = n} {w = w} {s = s} {c = c} {p = p} {e = q} e) = over_token t.kind t.at (name n s ∷ sign mark.Colon c ∷ numeral w p ∷ sign mark.Semicolon q ∷ rest) (channel_own t.kind k e)
+declaration_own (a_channel {rest = rest} {t = t} {kind = k} {n = n} {w = w} {s = s} {c = c} {p = p} {e = q} e) =
+    over_token t.kind t.at (name n s ∷ sign mark.Colon c ∷ numeral w p ∷ sign mark.Semicolon q ∷ rest) (channel_own t.kind k e)
 declaration_own a_variable = refl
 declaration_own a_variable_with_first = refl
 declaration_own (a_procedure p) = atom_own p
@@ -183,7 +185,8 @@ declarations_own (one_more_declaration r m) = declaration_own r ∙ declarations
 program_own : {ts : List Token} {p : ProgramTree} → Derives ts p → has_foreign ts ≡ false
 program_own (the_program r p) = declarations_own r ∙ par_own p
 
-front_probe : (j : TokenKind) (at : Span) (ts : List Token) → (has_foreign ts ≡ false → has_kind is_probe ts ≡ false) → has_foreign (record { kind = j; at = at } ∷ ts) ≡ false → has_kind is_probe (record { kind = j; at = at } ∷ ts) ≡ false
+front_probe : (j : TokenKind) (at : Span) (ts : List Token) → (has_foreign ts ≡ false → has_kind is_probe ts ≡ false) →
+    has_foreign (record { kind = j; at = at } ∷ ts) ≡ false → has_kind is_probe (record { kind = j; at = at } ∷ ts) ≡ false
 front_probe (Sign mark.Hash) at ts rec h = absurd (cc h)
 front_probe (Sign mark.BracketBar) at ts rec h = absurd (cc h)
 front_probe (Sign _) at ts rec h = rec h
@@ -198,7 +201,8 @@ own_probe (t ∷ ts) h = front_probe t.kind t.at ts (λ k. own_probe ts k) h
 pub no_probe : {ts : List Token} {p : ProgramTree} → Derives ts p → has_kind is_probe ts ≡ false
 no_probe {ts} d = own_probe ts (program_own d)
 
-front_arbiter : (j : TokenKind) (at : Span) (ts : List Token) → (has_foreign ts ≡ false → has_kind is_arbiter ts ≡ false) → has_foreign (record { kind = j; at = at } ∷ ts) ≡ false → has_kind is_arbiter (record { kind = j; at = at } ∷ ts) ≡ false
+front_arbiter : (j : TokenKind) (at : Span) (ts : List Token) → (has_foreign ts ≡ false → has_kind is_arbiter ts ≡ false) →
+    has_foreign (record { kind = j; at = at } ∷ ts) ≡ false → has_kind is_arbiter (record { kind = j; at = at } ∷ ts) ≡ false
 front_arbiter (Sign mark.Hash) at ts rec h = absurd (cc h)
 front_arbiter (Sign mark.BracketBar) at ts rec h = absurd (cc h)
 front_arbiter (Sign _) at ts rec h = rec h

@@ -11,8 +11,16 @@ split_at : (ts : List Token) (i : ℕ) (t : Token) → i < length ts → t ≡ g
 split_at ts i t lt is =
     sym (take-append-drop i ts) ∙ ap (λ us. take i ts ++ us) (drop_more ts i t lt ∙ ap (λ u. u ∷ drop (i + 1) ts) (sym is))
 
-pub first_at : (test : TokenKind → Bool) (ts : List Token) (i : ℕ) (t : Token) → i < length ts → t ≡ get_or ts i t → has_kind test (take i ts) ≡ false → test t.kind ≡ true → IsFirst test ts t.at
-first_at test ts i t lt is none passes = record { before = take i ts; kind = t.kind; behind = drop (i + 1) ts; is = split_at ts i t lt is; passes = passes; none = none }
+pub first_at : (test : TokenKind → Bool) (ts : List Token) (i : ℕ) (t : Token) → i < length ts → t ≡ get_or ts i t → has_kind test (take i ts) ≡ false →
+    test t.kind ≡ true → IsFirst test ts t.at
+first_at test ts i t lt is none passes = record {
+  before = take i ts;
+  kind = t.kind;
+  behind = drop (i + 1) ts;
+  is = split_at ts i t lt is;
+  passes = passes;
+  none = none;
+}
 
 depth-append : (n : ℕ) (ts us : List Token) → depth_of n (ts ++ us) ≡ depth_of (depth_of n ts) us
 depth-append n [] us = refl
@@ -32,12 +40,14 @@ shallow_push ts t shallow here n = cases (within n (length ts))
         let all : length (ts ++ t ∷ []) ≤ n = omega (arith, length_push ts t) in
         rw (take_all n (ts ++ t ∷ []) all) here
 
-pub over_at : (ts : List Token) (i depth : ℕ) (t : Token) → i < length ts → t ≡ get_or ts i t → IsShallow (take i ts) → depth ≡ depth_of 0 (take i ts) → 256 < opened depth t.kind → GoesOver ts t.at
+pub over_at : (ts : List Token) (i depth : ℕ) (t : Token) → i < length ts → t ≡ get_or ts i t → IsShallow (take i ts) → depth ≡ depth_of 0 (take i ts) →
+    256 < opened depth t.kind → GoesOver ts t.at
 over_at ts i depth t lt is shallow so over =
     let e : opened depth t.kind ≡ depth_of 0 (take i ts ++ t ∷ []) = ap (λ n. opened n t.kind) so ∙ sym (depth-append 0 (take i ts) (t ∷ [])) in
     record { before = take i ts; kind = t.kind; behind = drop (i + 1) ts; is = split_at ts i t lt is; shallow = shallow; over = omega (arith, e) }
 
-pub shallow_more : (ts : List Token) (i depth : ℕ) (t : Token) → i < length ts → t ≡ get_or ts i t → IsShallow (take i ts) → depth ≡ depth_of 0 (take i ts) → opened depth t.kind ≤ 256 → (opened depth t.kind ≡ depth_of 0 (take (i + 1) ts)) × IsShallow (take (i + 1) ts)
+pub shallow_more : (ts : List Token) (i depth : ℕ) (t : Token) → i < length ts → t ≡ get_or ts i t → IsShallow (take i ts) → depth ≡ depth_of 0 (take i ts) →
+    opened depth t.kind ≤ 256 → (opened depth t.kind ≡ depth_of 0 (take (i + 1) ts)) × IsShallow (take (i + 1) ts)
 shallow_more ts i depth t lt is shallow so few =
     let e : opened depth t.kind ≡ depth_of 0 (take i ts ++ t ∷ []) = ap (λ n. opened n t.kind) so ∙ sym (depth-append 0 (take i ts) (t ∷ [])) in
     let more : take (i + 1) ts ≡ take i ts ++ t ∷ [] = take_more ts i t lt ∙ ap (λ u. take i ts ++ u ∷ []) (sym is) in

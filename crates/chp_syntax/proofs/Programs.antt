@@ -40,7 +40,9 @@ channel_in : {l rest : List Token} {a : Item} → Channelled l rest a → Declar
 channel_in (and_then (operator e) (and_then the_name (and_then exactly (and_then the_number (and_then exactly all_done))))) = a_channel e
 
 channel_out : {l rest : List Token} {a : Item} (k : DeclKind) → decl_front (sees l) ≡ decl.Channel k → Declaration l rest a → Channelled l rest a
-channel_out k h (a_channel {n = n} {w = w} {s = s} {p = p} e) = and_then (operator e) (and_then {b = named n s} the_name (and_then exactly (and_then {b = record { value = w; at = p }} the_number (and_then exactly all_done))))
+channel_out k h (a_channel {n = n} {w = w} {s = s} {p = p} e) =
+    and_then (operator e) (and_then {b = named n s} the_name
+    (and_then exactly (and_then {b = record { value = w; at = p }} the_number (and_then exactly all_done))))
 channel_out k h a_variable = absurd (cc h)
 channel_out k h a_variable_with_first = absurd (cc h)
 channel_out k h (a_procedure p) = absurd (cc h)
@@ -104,7 +106,8 @@ Variable = Then (Exactly (Word key.Var)) (λ v. Then AName (λ i. Width_then (Af
 
 variable_in : {l rest : List Token} {a : Item} → Variable l rest a → Declaration l rest a
 variable_in (and_then exactly (and_then the_name (and_then exactly (and_then the_number (one (and_then exactly all_done)))))) = a_variable
-variable_in (and_then exactly (and_then the_name (and_then exactly (and_then the_number (other (and_then exactly (and_then the_number (and_then exactly all_done)))))))) = a_variable_with_first
+variable_in (and_then exactly (and_then the_name
+    (and_then exactly (and_then the_number (other (and_then exactly (and_then the_number (and_then exactly all_done)))))))) = a_variable_with_first
 
 channel_declares : (j : TokenKind) (k : DeclKind) → channel_of j ≡ Some k → decl_kind j ≡ decl.Channel k
 channel_declares (Word key.In) k h = let e : declares.In ≡ k = cc h in ap (λ (d : DeclKind). decl.Channel d) e
@@ -117,8 +120,13 @@ channel_declares (Sign m) k h = absurd (cc h)
 
 variable_out : {l rest : List Token} {a : Item} → decl_front (sees l) ≡ decl.Variable → Declaration l rest a → Variable l rest a
 variable_out h (a_channel {t = t} {kind = k} e) = absurd (let x : decl.Channel k ≡ decl.Variable = sym (channel_declares t.kind k e) ∙ h in cc x)
-variable_out h (a_variable {n = n} {w = w} {s = s} {p = p}) = and_then exactly (and_then {b = named n s} the_name (and_then exactly (and_then {b = record { value = w; at = p }} the_number (one (and_then exactly all_done)))))
-variable_out h (a_variable_with_first {n = n} {w = w} {x = x} {s = s} {p = p} {r = r}) = and_then exactly (and_then {b = named n s} the_name (and_then exactly (and_then {b = record { value = w; at = p }} the_number (other (and_then exactly (and_then {b = record { value = x; at = r }} the_number (and_then exactly all_done)))))))
+variable_out h (a_variable {n = n} {w = w} {s = s} {p = p}) =
+    and_then exactly (and_then {b = named n s} the_name
+    (and_then exactly (and_then {b = record { value = w; at = p }} the_number (one (and_then exactly all_done)))))
+variable_out h (a_variable_with_first {n = n} {w = w} {x = x} {s = s} {p = p} {r = r}) =
+    and_then exactly (and_then {b = named n s} the_name
+    (and_then exactly (and_then {b = record { value = w; at = p }} the_number
+    (other (and_then exactly (and_then {b = record { value = x; at = r }} the_number (and_then exactly all_done)))))))
 variable_out h (a_procedure p) = absurd (cc h)
 
 pub variable_start : (xs : List Token) → decl_front (sees xs) ≡ decl.Variable → SoFar Declaration FD xs xs Variable
@@ -145,14 +153,16 @@ equal_seam i w = any_seam (λ q. ends_then ends_number (λ x. semicolon_ends (se
 pub first_seam : (i : Named) (w : Numeral) → Seam ANumber Anything FD (λ x. Semicolon_then (set_of i w x))
 first_seam i w = any_seam (λ x. semicolon_ends (set_of i w x))
 
-pub without_first : {xs left : List Token} (i : Named) (w : Numeral) → SoFar Declaration FD xs left (After_width i w) → (IsKind (Sign mark.Equal) (sees left) → ⊥) → SoFar Declaration FD xs left (Semicolon_then (decl_of declares.Var i w))
+pub without_first : {xs left : List Token} (i : Named) (w : Numeral) → SoFar Declaration FD xs left (After_width i w) →
+    (IsKind (Sign mark.Equal) (sees left) → ⊥) → SoFar Declaration FD xs left (Semicolon_then (decl_of declares.Var i w))
 without_first i w so never = not_other so (λ l rest a s f q. never (subst (λ (t : Option Token). IsKind (Sign mark.Equal) t) s (then_kind q)))
 
 not_both : (t : Option Token) → IsKind (Sign mark.Equal) t → IsKind (Sign mark.Semicolon) t → ⊥
 not_both None h k = h
 not_both (Some t) h k = let e : Sign mark.Equal ≡ Sign mark.Semicolon = sym h ∙ k in cc e
 
-pub with_first : {xs left : List Token} (i : Named) (w : Numeral) → SoFar Declaration FD xs left (After_width i w) → IsKind (Sign mark.Equal) (sees left) → SoFar Declaration FD xs left (First i w)
+pub with_first : {xs left : List Token} (i : Named) (w : Numeral) → SoFar Declaration FD xs left (After_width i w) → IsKind (Sign mark.Equal) (sees left) →
+    SoFar Declaration FD xs left (First i w)
 with_first i w so h = not_one so (λ l rest a s f q. not_both (sees l) (subst (λ (t : Option Token). IsKind (Sign mark.Equal) t) (sym s) h) (then_kind q))
 
 -- a procedure
@@ -169,7 +179,8 @@ procedure_out : {l rest : List Token} {a : Item} → decl_front (sees l) ≡ dec
 procedure_out h (a_channel {t = t} {kind = k} e) = absurd (let x : decl.Channel k ≡ decl.Procedure = sym (channel_declares t.kind k e) ∙ h in cc x)
 procedure_out h a_variable = absurd (cc h)
 procedure_out h a_variable_with_first = absurd (cc h)
-procedure_out h (a_procedure {n = n} {s = s} p) = and_then exactly (and_then {b = named n s} the_name (and_then exactly (and_then p (and_then exactly all_done))))
+procedure_out h (a_procedure {n = n} {s = s} p) =
+    and_then exactly (and_then {b = named n s} the_name (and_then exactly (and_then p (and_then exactly all_done))))
 
 pub procedure_start : (xs : List Token) → decl_front (sees xs) ≡ decl.Procedure → SoFar Declaration FD xs xs Procedured
 procedure_start xs h = instead Procedured (start Declaration FD xs) (λ l rest a q. procedure_in q) (λ l rest a s f w. procedure_out (ap decl_front s ∙ h) w)
@@ -177,7 +188,8 @@ procedure_start xs h = instead Procedured (start Declaration FD xs) (λ l rest a
 proc_ends : (i : Named) → Ends (Then Atom (λ b. Semicolon_then (proc_of i b)))
 proc_ends i = ends_then ends_atom (λ b. semicolon_ends (proc_of i b))
 
-pub procedure_1 : Seam (Exactly (Word key.Proc)) Anything FD (λ v. Then AName (λ i. Then (Exactly (Sign mark.Equal)) (λ q. Then Atom (λ b. Semicolon_then (proc_of i b)))))
+pub procedure_1 : Seam (Exactly (Word key.Proc)) Anything FD
+    (λ v. Then AName (λ i. Then (Exactly (Sign mark.Equal)) (λ q. Then Atom (λ b. Semicolon_then (proc_of i b)))))
 procedure_1 = any_seam (λ v. ends_then ends_name (λ i. ends_then (ends_exactly (Sign mark.Equal)) (λ q. proc_ends i)))
 
 pub procedure_2 : Seam AName Anything FD (λ i. Then (Exactly (Sign mark.Equal)) (λ q. Then Atom (λ b. Semicolon_then (proc_of i b))))
@@ -197,7 +209,11 @@ declaration_front a_variable_with_first h = cc h
 declaration_front (a_procedure p) h = cc h
 
 pub ends_declaration : Ends Declaration
-ends_declaration = (word key.Var zero_span ∷ name [] zero_span ∷ sign mark.Colon zero_span ∷ numeral 0 zero_span ∷ sign mark.Semicolon zero_span ∷ [], _, λ rest. a_variable)
+ends_declaration = (
+  word key.Var zero_span ∷ name [] zero_span ∷ sign mark.Colon zero_span ∷ numeral 0 zero_span ∷ sign mark.Semicolon zero_span ∷ [],
+  _,
+  λ rest. a_variable,
+)
 
 pub declaration_bad : (xs : List Token) → Undeclared (sees xs) → Bad Declaration FD xs xs
 declaration_bad xs h = bad_here (start Declaration FD xs) (λ l rest a s f w. declaration_front w (ap decl_front s ∙ h)) ends_declaration
@@ -213,7 +229,8 @@ pub record Declaring (xs left : List Token) (d : Declared) : Type 0 where
 pub declaring_start : (xs : List Token) → Declaring xs xs no_declared
 declaring_start xs = record {
   got = [];
-  so = instead (Rest []) (start Declarations Undeclared xs) (λ l rest a q. subst (λ (d : Declared). Declarations l rest d) (sym q.2) q.1) (λ l rest a s f w. (a, w, refl));
+  so = instead (Rest []) (start Declarations Undeclared xs) (λ l rest a q. subst (λ (d : Declared). Declarations l rest d) (sym q.2) q.1)
+      (λ l rest a s f w. (a, w, refl));
   same = refl;
 }
 
@@ -239,34 +256,41 @@ more_in got l rest a q =
     let p = then_parts q in
     (and_item p.1 p.3.0, one_more_declaration p.2 p.3.1, p.3.2 ∙ onto_end and_item got p.1 p.3.0)
 
-more_out : (got : List Item) (a : Declared) {l rest : List Token} {us : Declared} → Declarations l rest us → a ≡ onto and_item got us → (Undeclared (sees l) → ⊥) → Undeclared (sees rest) → Then Declaration (λ x. Rest (got ++ (x ∷ []))) l rest a
+more_out : (got : List Item) (a : Declared) {l rest : List Token} {us : Declared} → Declarations l rest us → a ≡ onto and_item got us →
+    (Undeclared (sees l) → ⊥) → Undeclared (sees rest) → Then Declaration (λ x. Rest (got ++ (x ∷ []))) l rest a
 more_out got a no_declaration e never f = absurd (never f)
 more_out got a (one_more_declaration {d = d} {more = us} r m) e never f = and_then r (us, m, e ∙ sym (onto_end and_item got d us))
 
-next : {xs left : List Token} (got : List Item) → SoFar Declarations Undeclared xs left (Rest got) → (Undeclared (sees left) → ⊥) → SoFar Declarations Undeclared xs left (Then Declaration (λ x. Rest (got ++ (x ∷ []))))
-next got so never = instead (Then Declaration (λ x. Rest (got ++ (x ∷ [])))) so (more_in got) (λ l rest a s f q. more_out got a q.1 q.2 (λ u. never (subst (λ (t : Option Token). Undeclared t) s u)) f)
+next : {xs left : List Token} (got : List Item) → SoFar Declarations Undeclared xs left (Rest got) → (Undeclared (sees left) → ⊥) →
+    SoFar Declarations Undeclared xs left (Then Declaration (λ x. Rest (got ++ (x ∷ []))))
+next got so never = instead (Then Declaration (λ x. Rest (got ++ (x ∷ [])))) so (more_in got)
+    (λ l rest a s f q. more_out got a q.1 q.2 (λ u. never (subst (λ (t : Option Token). Undeclared t) s u)) f)
 
 next_seam : (got : List Item) → Seam Declaration Anything Undeclared (λ x. Rest (got ++ (x ∷ [])))
 next_seam got = any_seam (λ x. rest_ends (got ++ (x ∷ [])))
 
-pub declaring_bad : {xs left to : List Token} {d : Declared} → Declaring xs left d → (Undeclared (sees left) → ⊥) → Bad Declaration Anything left to → Bad Declarations Undeclared xs to
+pub declaring_bad : {xs left to : List Token} {d : Declared} → Declaring xs left d → (Undeclared (sees left) → ⊥) → Bad Declaration Anything left to →
+    Bad Declarations Undeclared xs to
 declaring_bad s never bad = part_bad (next_seam s.got) (next s.got s.so never) bad
 
-pub declaring_more : {xs left to : List Token} {d : Declared} {x : Item} → Declaring xs left d → (Undeclared (sees left) → ⊥) → Good Declaration Anything left to x → Declaring xs to (with_item d x)
+pub declaring_more : {xs left to : List Token} {d : Declared} {x : Item} → Declaring xs left d → (Undeclared (sees left) → ⊥) →
+    Good Declaration Anything left to x → Declaring xs to (with_item d x)
 declaring_more {x = x} s never good = record {
   got = s.got ++ (x ∷ []);
   so = by_part (next_seam s.got) (next s.got s.so never) good;
   same = item_more s.got x ∙ ap (λ d. with_item d x) s.same;
 }
 
-end_only : (got : List Item) (a : Declared) {l rest : List Token} {us : Declared} → Declarations l rest us → a ≡ onto and_item got us → Undeclared (sees l) → (rest ≡ l) × (a ≡ onto and_item got no_declared)
+end_only : (got : List Item) (a : Declared) {l rest : List Token} {us : Declared} → Declarations l rest us → a ≡ onto and_item got us → Undeclared (sees l) →
+    (rest ≡ l) × (a ≡ onto and_item got no_declared)
 end_only got a no_declaration e u = (refl, e)
 end_only got a (one_more_declaration r m) e u = absurd (declaration_front r u)
 
 pub declaring_end : {xs left : List Token} {d : Declared} → Declaring xs left d → Undeclared (sees left) → Good Declarations Undeclared xs left d
 declaring_end {xs} {left} {d} s u =
     subst (λ (e : Declared). Good Declarations Undeclared xs left e) s.same
-    (good_here (onto and_item s.got no_declared) s.so (λ l. (no_declared, no_declaration, refl)) (λ l rest b same f q. end_only s.got b q.1 q.2 (ap decl_front same ∙ u)))
+    (good_here (onto and_item s.got no_declared) s.so (λ l. (no_declared, no_declaration, refl))
+    (λ l rest b same f q. end_only s.got b q.1 q.2 (ap decl_front same ∙ u)))
 
 -- the whole program
 abbrev pub whole_of : Declared → Statement → ProgramTree
@@ -313,11 +337,13 @@ some_left : (xs : List Token) → 0 < length xs → Nothing (sees xs) → ⊥
 some_left [] h f = absurd (omega (arith, h))
 some_left (x ∷ xs) h f = f
 
-pub more_behind : {xs : List Token} {p : ProgramTree} (all : List Token) (at : ℕ) → SoFar Programs Nothing xs (drop at all) (Done p) → at < length all → Bad Programs Nothing xs (drop at all)
+pub more_behind : {xs : List Token} {p : ProgramTree} (all : List Token) (at : ℕ) → SoFar Programs Nothing xs (drop at all) (Done p) → at < length all →
+    Bad Programs Nothing xs (drop at all)
 more_behind {p = p} all at so more =
     let left : 0 < length (drop at all) = omega (arith, more, length-drop at all) in
     bad_here so
-    (λ l rest a s f q. some_left (drop at all) left (subst (λ (o : Option Token). Nothing o) s (subst (λ (x : List Token). Nothing (sees x)) (done_parts q).0 f)))
+    (λ l rest a s f q. some_left (drop at all) left
+    (subst (λ (o : Option Token). Nothing o) s (subst (λ (x : List Token). Nothing (sees x)) (done_parts q).0 f)))
     (ends_done p)
 
 pub reads_it : {ts left : List Token} {p : ProgramTree} → left ≡ [] → Good Programs Nothing ts left p → Derives ts p

@@ -44,22 +44,29 @@ not_shallow {ts} {s} g shallow =
     omega (arith, few, g.over)
 
 no_derivation : {ts : List Token} {n : ℕ} {p : ProgramTree} → FirstFault ts n → Derives ts p → ⊥
-no_derivation {ts} {n} {p} f d = elim (cases_lt n (length ts)) [ inl lt ↦ f.never lt (drop (n + 1) ts) p (subst (λ (us : List Token). Derives us p) (sym (take-append-drop (n + 1) ts)) d) | inr ge ↦ f.short (omega (arith, ge, f.within)) p d ]
+no_derivation {ts} {n} {p} f d = elim (cases_lt n (length ts)) [
+  | inl lt ↦ f.never lt (drop (n + 1) ts) p (subst (λ (us : List Token). Derives us p) (sym (take-append-drop (n + 1) ts)) d)
+  | inr ge ↦ f.short
+      (omega (arith, ge, f.within)) p d
+]
 
-reads_none : {ts : List Token} {end : ℕ} {k : FaultCode} {s : Span} {p : ProgramTree} {text : List ℕ} → RefusedTokens ts end k s → Derives ts p → IsShallow ts → Reads text p → ⊥
+reads_none : {ts : List Token} {end : ℕ} {k : FaultCode} {s : Span} {p : ProgramTree} {text : List ℕ} → RefusedTokens ts end k s → Derives ts p → IsShallow ts →
+    Reads text p → ⊥
 reads_none (a_probe f) d shallow r = let e : true ≡ false = sym (first_has is_probe f) ∙ no_probe d in cc e
 reads_none (an_arbiter n f) d shallow r = let e : true ≡ false = sym (first_has is_arbiter f) ∙ no_arbiter d in cc e
 reads_none (too_deep n g) d shallow r = not_shallow g shallow
 reads_none (no_program n s f) d shallow r = no_derivation f d
 reads_none (too_many_arms p n s e g) d shallow r = many_in_program d g r.few_in_procs r.few_in_body
 
-pub refused_none : {text : List ℕ} {ts : List Token} {end : ℕ} {k : FaultCode} {s : Span} → ((us : List Token) → Tokens text us → us ≡ ts) → RefusedTokens ts end k s → (p : ProgramTree) → Reads text p → ⊥
+pub refused_none : {text : List ℕ} {ts : List Token} {end : ℕ} {k : FaultCode} {s : Span} → ((us : List Token) → Tokens text us → us ≡ ts) →
+    RefusedTokens ts end k s → (p : ProgramTree) → Reads text p → ⊥
 refused_none {text} {ts} only refused p r =
     let e = only r.tokens r.cut in
     reads_none refused (subst (λ (us : List Token). Derives us p) e r.derives) (subst (λ (us : List Token). IsShallow us) e r.shallow) r
 
 -- tokens are refused for at most one cause, at one place
-first_before : {test : TokenKind → Bool} {ts c : List Token} {s : Span} (a : IsFirst test ts s) (m : List Token) → c ≡ a.before ++ record { kind = a.kind; at = s } ∷ m → IsFirst test c s
+first_before : {test : TokenKind → Bool} {ts c : List Token} {s : Span} (a : IsFirst test ts s) (m : List Token) →
+    c ≡ a.before ++ record { kind = a.kind; at = s } ∷ m → IsFirst test c s
 first_before a m i = record { before = a.before; kind = a.kind; behind = m; is = i; passes = a.passes; none = a.none }
 
 first_once : (test : TokenKind → Bool) {ts : List Token} {s t : Span} → IsFirst test ts s → IsFirst test ts t → s ≡ t

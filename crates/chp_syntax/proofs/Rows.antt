@@ -30,10 +30,13 @@ arms_row end_of-Arm = refl
 arms_row (more_of-Arm guard body rest) = ap (λ us. and_arm (expression_of guard) (statement_of body) us) (arms_row rest)
 
 pub join_tree : (v : Vec Expr Global) (at : Span) → expression_of (Join v at) ≡ join (onto and_part (map expression_of v.items) no_parts) at
-join_tree v at = ap (λ us. join us at) (exprs_row (hidden-the_row-Expr-0 v) ∙ ap (λ xs. onto and_part (map expression_of xs) no_parts) (items_hidden-the_row-Expr-0 v))
+join_tree v at = ap (λ us. join us at) (exprs_row (hidden-the_row-Expr-0 v)
+    ∙ ap (λ xs. onto and_part (map expression_of xs) no_parts) (items_hidden-the_row-Expr-0 v))
 
-pub chain_tree : (first : Box Expr Global) (v : Vec Link Global) (at : Span) → expression_of (Chain first v at) ≡ chain (expression_of first.value) (onto and_pair (map link_of v.items) no_links) at
-chain_tree first v at = ap (λ us. chain (expression_of first.value) us at) (links_row (hidden-the_row-Link-1 v) ∙ ap (λ xs. onto and_pair (map link_of xs) no_links) (items_hidden-the_row-Link-1 v))
+pub chain_tree : (first : Box Expr Global) (v : Vec Link Global) (at : Span) →
+    expression_of (Chain first v at) ≡ chain (expression_of first.value) (onto and_pair (map link_of v.items) no_links) at
+chain_tree first v at = ap (λ us. chain (expression_of first.value) us at) (links_row (hidden-the_row-Link-1 v)
+    ∙ ap (λ xs. onto and_pair (map link_of xs) no_links) (items_hidden-the_row-Link-1 v))
 
 pub then_tree : (v : Vec Stmt Global) → statement_of (Then v) ≡ follows (onto and_member (map statement_of v.items) no_members)
 then_tree v = ap follows (stmts_row (hidden-the_row-Stmt-0 v) ∙ ap (λ xs. onto and_member (map statement_of xs) no_members) (items_hidden-the_row-Stmt-0 v))
@@ -42,4 +45,5 @@ pub beside_tree : (v : Vec Stmt Global) → statement_of (Beside v) ≡ besides 
 beside_tree v = ap besides (stmts_row (hidden-the_row-Stmt-0 v) ∙ ap (λ xs. onto and_member (map statement_of xs) no_members) (items_hidden-the_row-Stmt-0 v))
 
 pub select_tree : (again : Bool) (v : Vec Arm Global) → statement_of (Select again v) ≡ selects again (onto and_guarded (map guarded_of v.items) no_arms)
-select_tree again v = ap (λ us. selects again us) (arms_row (hidden-the_row-Arm-1 v) ∙ ap (λ xs. onto and_guarded (map guarded_of xs) no_arms) (items_hidden-the_row-Arm-1 v))
+select_tree again v = ap (λ us. selects again us) (arms_row (hidden-the_row-Arm-1 v)
+    ∙ ap (λ xs. onto and_guarded (map guarded_of xs) no_arms) (items_hidden-the_row-Arm-1 v))

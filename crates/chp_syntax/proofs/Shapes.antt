@@ -93,7 +93,8 @@ mutual
 
   more_sum_shaped : {ts rest : List Token} {us : Tail} → MoreSum ts rest us → PlainLinks us.links
   more_sum_shaped no_more_sum = (refl, tt)
-  more_sum_shaped (one_more_sum {t = t} {o = o} {c = c} {us = us} e p m) = plain_more o c.expression us.links (sum_plain t.kind o e) (negated_shaped p) (more_sum_shaped m)
+  more_sum_shaped (one_more_sum {t = t} {o = o} {c = c} {us = us} e p m) =
+      plain_more o c.expression us.links (sum_plain t.kind o e) (negated_shaped p) (more_sum_shaped m)
 
   comparison_shaped : {ts rest : List Token} {c : Covered} → Comparison ts rest c → IsShapedExpression c.expression
   comparison_shaped (not_compared p) = sum_shaped p
@@ -104,31 +105,36 @@ mutual
 
   more_conjunction_shaped : {ts rest : List Token} {us : Tail} → MoreConjunction ts rest us → PlainLinks us.links
   more_conjunction_shaped no_more_conjunction = (refl, tt)
-  more_conjunction_shaped (one_more_conjunction {t = t} {o = o} {c = c} {us = us} e p m) = plain_more o c.expression us.links (and_plain t.kind o e) (comparison_shaped p) (more_conjunction_shaped m)
+  more_conjunction_shaped (one_more_conjunction {t = t} {o = o} {c = c} {us = us} e p m) =
+      plain_more o c.expression us.links (and_plain t.kind o e) (comparison_shaped p) (more_conjunction_shaped m)
 
   exclusive_shaped : {ts rest : List Token} {c : Covered} → Exclusive ts rest c → IsShapedExpression c.expression
   exclusive_shaped (the_exclusive {c = c} {us = us} p m) = chain_shaped c.expression us.links _ (conjunction_shaped p) (more_exclusive_shaped m)
 
   more_exclusive_shaped : {ts rest : List Token} {us : Tail} → MoreExclusive ts rest us → PlainLinks us.links
   more_exclusive_shaped no_more_exclusive = (refl, tt)
-  more_exclusive_shaped (one_more_exclusive {t = t} {o = o} {c = c} {us = us} e p m) = plain_more o c.expression us.links (xor_plain t.kind o e) (conjunction_shaped p) (more_exclusive_shaped m)
+  more_exclusive_shaped (one_more_exclusive {t = t} {o = o} {c = c} {us = us} e p m) =
+      plain_more o c.expression us.links (xor_plain t.kind o e) (conjunction_shaped p) (more_exclusive_shaped m)
 
   disjunction_shaped : {ts rest : List Token} {c : Covered} → Disjunction ts rest c → IsShapedExpression c.expression
   disjunction_shaped (the_disjunction {c = c} {us = us} p m) = chain_shaped c.expression us.links _ (exclusive_shaped p) (more_disjunction_shaped m)
 
   more_disjunction_shaped : {ts rest : List Token} {us : Tail} → MoreDisjunction ts rest us → PlainLinks us.links
   more_disjunction_shaped no_more_disjunction = (refl, tt)
-  more_disjunction_shaped (one_more_disjunction {t = t} {o = o} {c = c} {us = us} e p m) = plain_more o c.expression us.links (or_plain t.kind o e) (exclusive_shaped p) (more_disjunction_shaped m)
+  more_disjunction_shaped (one_more_disjunction {t = t} {o = o} {c = c} {us = us} e p m) =
+      plain_more o c.expression us.links (or_plain t.kind o e) (exclusive_shaped p) (more_disjunction_shaped m)
 
 -- statements with few arms
 
-sequence_shaped : (t : Statement) (us : Statements) → (few_arms t ≡ true → IsShapedStatement t) → (few_arms_each us ≡ true → AreShapedMembers us) → few_arms (sequence_of t us) ≡ true → IsShapedStatement (sequence_of t us)
+sequence_shaped : (t : Statement) (us : Statements) → (few_arms t ≡ true → IsShapedStatement t) → (few_arms_each us ≡ true → AreShapedMembers us) →
+    few_arms (sequence_of t us) ≡ true → IsShapedStatement (sequence_of t us)
 sequence_shaped t no_members here more few = here few
 sequence_shaped t (and_member u us) here more few =
     let each = both_true (few_arms t) (few_arms_each (and_member u us)) few in
     (omega arith, (here each.0, more each.1))
 
-parallel_shaped : (t : Statement) (us : Statements) → (few_arms t ≡ true → IsShapedStatement t) → (few_arms_each us ≡ true → AreShapedMembers us) → few_arms (parallel_of t us) ≡ true → IsShapedStatement (parallel_of t us)
+parallel_shaped : (t : Statement) (us : Statements) → (few_arms t ≡ true → IsShapedStatement t) → (few_arms_each us ≡ true → AreShapedMembers us) →
+    few_arms (parallel_of t us) ≡ true → IsShapedStatement (parallel_of t us)
 parallel_shaped t no_members here more few = here few
 parallel_shaped t (and_member u us) here more few =
     let each = both_true (few_arms t) (few_arms_each (and_member u us)) few in
@@ -149,7 +155,8 @@ mutual
   atom_shaped (a_guarded_loop p) few = choices_shaped p few
   atom_shaped (a_selection p) few = choices_shaped p few
 
-  choices_shaped : {ts rest : List Token} {bs : Arms} → Choices ts rest bs → (nat_le (arm_count bs) 16 && few_arms_in bs) ≡ true → (1 ≤ arm_count bs) × (arm_count bs ≤ 16) × AreShapedArms bs
+  choices_shaped : {ts rest : List Token} {bs : Arms} → Choices ts rest bs → (nat_le (arm_count bs) 16 && few_arms_in bs) ≡ true →
+      (1 ≤ arm_count bs) × (arm_count bs ≤ 16) × AreShapedArms bs
   choices_shaped (the_choices {t = t} {bs = bs} b m) few =
       let most = both_true (nat_le (suc (arm_count bs)) 16) (few_arms t && few_arms_in bs) few in
       let each = both_true (few_arms t) (few_arms_in bs) most.1 in
@@ -171,21 +178,24 @@ mutual
 
   more_both_shaped : {ts rest : List Token} {us : Statements} → MoreBoth ts rest us → few_arms_each us ≡ true → AreShapedMembers us
   more_both_shaped no_more_both few = tt
-  more_both_shaped (one_more_both {t = t} {us = us} a m) few = let each = both_true (few_arms t) (few_arms_each us) few in (atom_shaped a each.0, more_both_shaped m each.1)
+  more_both_shaped (one_more_both {t = t} {us = us} a m) few = let each = both_true (few_arms t) (few_arms_each us) few in
+      (atom_shaped a each.0, more_both_shaped m each.1)
 
   seq_shaped : {ts rest : List Token} {t : Statement} → Seq ts rest t → few_arms t ≡ true → IsShapedStatement t
   seq_shaped (the_seq {t = t} {us = us} a m) few = sequence_shaped t us (λ f. both_shaped a f) (λ f. more_seq_shaped m f) few
 
   more_seq_shaped : {ts rest : List Token} {us : Statements} → MoreSeq ts rest us → few_arms_each us ≡ true → AreShapedMembers us
   more_seq_shaped no_more_seq few = tt
-  more_seq_shaped (one_more_seq {t = t} {us = us} a m) few = let each = both_true (few_arms t) (few_arms_each us) few in (both_shaped a each.0, more_seq_shaped m each.1)
+  more_seq_shaped (one_more_seq {t = t} {us = us} a m) few = let each = both_true (few_arms t) (few_arms_each us) few in
+      (both_shaped a each.0, more_seq_shaped m each.1)
 
   par_shaped : {ts rest : List Token} {t : Statement} → Par ts rest t → few_arms t ≡ true → IsShapedStatement t
   par_shaped (the_par {t = t} {us = us} a m) few = parallel_shaped t us (λ f. seq_shaped a f) (λ f. more_par_shaped m f) few
 
   more_par_shaped : {ts rest : List Token} {us : Statements} → MorePar ts rest us → few_arms_each us ≡ true → AreShapedMembers us
   more_par_shaped no_more_par few = tt
-  more_par_shaped (one_more_par {t = t} {us = us} a m) few = let each = both_true (few_arms t) (few_arms_each us) few in (seq_shaped a each.0, more_par_shaped m each.1)
+  more_par_shaped (one_more_par {t = t} {us = us} a m) few = let each = both_true (few_arms t) (few_arms_each us) few in
+      (seq_shaped a each.0, more_par_shaped m each.1)
 
 -- names among tokens
 
@@ -332,7 +342,8 @@ pub record AllShaped (d : Declared) : Type 0 where
   pub decls : All IsShapedDecl d.decls
   pub procs : All IsShapedProcedure d.procs
 
-item_shaped : (d : Item) (more : Declared) → (FewIn d → IsShapedItem d) → (FewInProcs more.procs → AllShaped more) → FewInProcs (and_item d more).procs → AllShaped (and_item d more)
+item_shaped : (d : Item) (more : Declared) → (FewIn d → IsShapedItem d) → (FewInProcs more.procs → AllShaped more) → FewInProcs (and_item d more).procs →
+    AllShaped (and_item d more)
 item_shaped (valued d) more here rest few = let all = rest few in record { decls = All-cons IsShapedDecl d more.decls (here tt) all.decls; procs = all.procs }
 item_shaped (defined p) more here rest few =
     let each = both_true (few_arms p.body) (list_all (λ (q : Procedure). few_arms q.body) more.procs) few in
@@ -341,10 +352,12 @@ item_shaped (defined p) more here rest few =
 
 declarations_shaped : {ts rest : List Token} {d : Declared} → Declarations ts rest d → AreNamed ts → FewInProcs d.procs → AllShaped d
 declarations_shaped no_declaration h few = record { decls = All-nil IsShapedDecl; procs = All-nil IsShapedProcedure }
-declarations_shaped (one_more_declaration {d = d} {more = more} r m) h few = item_shaped d more (λ f. declaration_shaped r h f) (λ f. declarations_shaped m (declaration_left r h) f) few
+declarations_shaped (one_more_declaration {d = d} {more = more} r m) h few =
+    item_shaped d more (λ f. declaration_shaped r h f) (λ f. declarations_shaped m (declaration_left r h) f) few
 
 derived_shaped : {ts : List Token} {p : ProgramTree} → Derives ts p → AreNamed ts → FewInProcs p.procs → few_arms p.body ≡ true → IsShaped p
-derived_shaped (the_program r p) h procs body = let all = declarations_shaped r h procs in record { decls = all.decls; procs = all.procs; body = par_shaped p body }
+derived_shaped (the_program r p) h procs body = let all = declarations_shaped r h procs in
+    record { decls = all.decls; procs = all.procs; body = par_shaped p body }
 
 pub read_shaped : (text : List ℕ) (p : ProgramTree) → Reads text p → IsShaped p
 read_shaped text p r = derived_shaped r.derives (cut_named r.cut) r.few_in_procs r.few_in_body

@@ -21,7 +21,8 @@ two_begin (p ∷ []) b c n x y = absurd (omega arith)
 two_begin (p ∷ q ∷ rest) b c n x y = (rest, cc)
 
 -- a sign of two bytes is the longest
-pub long_longest : (text : List ℕ) (m : Mark) (b c : ℕ) → 2 ≤ length text → b ≡ get_or text 0 0 → c ≡ get_or text 1 0 → b ∷ c ∷ [] ≡ sign_text m → LongestSign text m
+pub long_longest : (text : List ℕ) (m : Mark) (b c : ℕ) → 2 ≤ length text → b ≡ get_or text 0 0 → c ≡ get_or text 1 0 → b ∷ c ∷ [] ≡ sign_text m →
+    LongestSign text m
 long_longest text m b c n x y h =
     let t = two_begin text b c n x y in record {
       begins = (t.0, t.1 ∙ ap (λ s. s ++ t.0) h);
@@ -29,7 +30,8 @@ long_longest text m b c n x y h =
     }
 
 -- a sign of one byte is, where it and the byte behind it are none
-pub short_longest : (text : List ℕ) (m : Mark) (b c : ℕ) → 2 ≤ length text → b ≡ get_or text 0 0 → c ≡ get_or text 1 0 → ((l : Mark) → b ∷ c ∷ [] ≢ sign_text l) → b ∷ [] ≡ sign_text m → LongestSign text m
+pub short_longest : (text : List ℕ) (m : Mark) (b c : ℕ) → 2 ≤ length text → b ≡ get_or text 0 0 → c ≡ get_or text 1 0 →
+    ((l : Mark) → b ∷ c ∷ [] ≢ sign_text l) → b ∷ [] ≡ sign_text m → LongestSign text m
 short_longest text m b c n x y none h =
     let t = two_begin text b c n x y in record {
       begins = (c ∷ t.0, t.1 ∙ ap (λ s. s ++ c ∷ t.0) h);
@@ -41,6 +43,7 @@ short_longest text m b c n x y none h =
     few (suc zero) le = inl (omega arith)
     few (suc (suc k)) le = inr (omega arith)
 
-    most : (other : Mark) (rest : List ℕ) → text ≡ sign_text other ++ rest → (length (sign_text other) ≤ 1) ⊎ (length (sign_text other) ≡ 2) → length (sign_text other) ≤ length (sign_text m)
+    most : (other : Mark) (rest : List ℕ) → text ≡ sign_text other ++ rest → (length (sign_text other) ≤ 1) ⊎ (length (sign_text other) ≡ 2) →
+        length (sign_text other) ≤ length (sign_text m)
     most other rest e (inl le) = omega (arith, ap length h)
     most other rest e (inr two) = absurd (none other (two_long text (sign_text other) rest b c e two (sym x) (sym y)))

@@ -22,7 +22,9 @@ right_true true b h = h
 right_true false b h = absurd (cc h)
 
 marks : List Mark
-marks = mark.BarBar ∷ mark.Choice ∷ mark.BracketBar ∷ mark.Becomes ∷ mark.Arrow ∷ mark.NotEqual ∷ mark.AtMost ∷ mark.AtLeast ∷ mark.Semicolon ∷ mark.Comma ∷ mark.Colon ∷ mark.Bang ∷ mark.Question ∷ mark.OpenRound ∷ mark.CloseRound ∷ mark.OpenSquare ∷ mark.CloseSquare ∷ mark.OpenCurly ∷ mark.CloseCurly ∷ mark.Star ∷ mark.Hash ∷ mark.Tilde ∷ mark.Amp ∷ mark.Bar ∷ mark.Caret ∷ mark.Plus ∷ mark.Minus ∷ mark.Equal ∷ mark.Less ∷ mark.Greater ∷ []
+marks = mark.BarBar ∷ mark.Choice ∷ mark.BracketBar ∷ mark.Becomes ∷ mark.Arrow ∷ mark.NotEqual ∷ mark.AtMost ∷ mark.AtLeast ∷ mark.Semicolon ∷ mark.Comma
+    ∷ mark.Colon ∷ mark.Bang ∷ mark.Question ∷ mark.OpenRound ∷ mark.CloseRound ∷ mark.OpenSquare ∷ mark.CloseSquare ∷ mark.OpenCurly ∷ mark.CloseCurly
+    ∷ mark.Star ∷ mark.Hash ∷ mark.Tilde ∷ mark.Amp ∷ mark.Bar ∷ mark.Caret ∷ mark.Plus ∷ mark.Minus ∷ mark.Equal ∷ mark.Less ∷ mark.Greater ∷ []
 
 mark_of : List ℕ → Option Mark
 mark_of bs = find (λ m. bytes_eq (sign_text m) bs) marks

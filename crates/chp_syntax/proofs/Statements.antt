@@ -26,14 +26,17 @@ ends_atom = (word key.Skip zero_span ∷ [], skips zero_span, λ rest. a_skip)
 pub atom_par : {l rest : List Token} {t : Statement} → Atom l rest t → Par l rest t
 atom_par a = the_par (the_seq (the_both a no_more_both) no_more_seq) no_more_par
 
-pub both_out : {l rest : List Token} {a : Statement} → Both l rest a → (mid : List Token) × (b : Statement) × (us : Statements) × Atom l mid b × MoreBoth mid rest us × (a ≡ parallel_of b us)
+pub both_out : {l rest : List Token} {a : Statement} → Both l rest a → (mid : List Token) × (b : Statement) × (us : Statements) × Atom l mid b
+    × MoreBoth mid rest us × (a ≡ parallel_of b us)
 both_out (the_both {mid = mid} {t = t} {us = us} a n) = (mid, t, us, a, n, refl)
 
-pub both_more : {l rest : List Token} {us : Statements} → MoreBoth l rest us → Further Atom MoreBoth (Exactly (Sign mark.Comma)) (λ p b. b) no_members and_member l rest us
+pub both_more : {l rest : List Token} {us : Statements} → MoreBoth l rest us →
+    Further Atom MoreBoth (Exactly (Sign mark.Comma)) (λ p b. b) no_members and_member l rest us
 both_more no_more_both = no_further
 both_more (one_more_both a n) = a_further exactly a n
 
-pub both_in : {l x mid rest : List Token} {o : Span} {b : Statement} {us : Statements} → Exactly (Sign mark.Comma) l x o → Atom x mid b → MoreBoth mid rest us → MoreBoth l rest (and_member b us)
+pub both_in : {l x mid rest : List Token} {o : Span} {b : Statement} {us : Statements} → Exactly (Sign mark.Comma) l x o → Atom x mid b → MoreBoth mid rest us →
+    MoreBoth l rest (and_member b us)
 both_in exactly a n = one_more_both a n
 
 pub both_marked : (t : Option Token) → IsKind (Sign mark.Comma) t → Stops 5 t
@@ -78,14 +81,17 @@ both_group = record {
 pub ends_both : Ends Both
 ends_both = group_ends both_group
 
-pub seq_out : {l rest : List Token} {a : Statement} → Seq l rest a → (mid : List Token) × (b : Statement) × (us : Statements) × Both l mid b × MoreSeq mid rest us × (a ≡ sequence_of b us)
+pub seq_out : {l rest : List Token} {a : Statement} → Seq l rest a → (mid : List Token) × (b : Statement) × (us : Statements) × Both l mid b
+    × MoreSeq mid rest us × (a ≡ sequence_of b us)
 seq_out (the_seq {mid = mid} {t = t} {us = us} a n) = (mid, t, us, a, n, refl)
 
-pub seq_more : {l rest : List Token} {us : Statements} → MoreSeq l rest us → Further Both MoreSeq (Exactly (Sign mark.Semicolon)) (λ p b. b) no_members and_member l rest us
+pub seq_more : {l rest : List Token} {us : Statements} → MoreSeq l rest us →
+    Further Both MoreSeq (Exactly (Sign mark.Semicolon)) (λ p b. b) no_members and_member l rest us
 seq_more no_more_seq = no_further
 seq_more (one_more_seq a n) = a_further exactly a n
 
-pub seq_in : {l x mid rest : List Token} {o : Span} {b : Statement} {us : Statements} → Exactly (Sign mark.Semicolon) l x o → Both x mid b → MoreSeq mid rest us → MoreSeq l rest (and_member b us)
+pub seq_in : {l x mid rest : List Token} {o : Span} {b : Statement} {us : Statements} → Exactly (Sign mark.Semicolon) l x o → Both x mid b →
+    MoreSeq mid rest us → MoreSeq l rest (and_member b us)
 seq_in exactly a n = one_more_seq a n
 
 pub seq_marked : (t : Option Token) → IsKind (Sign mark.Semicolon) t → Stops 4 t
@@ -130,14 +136,17 @@ seq_group = record {
 pub ends_seq : Ends Seq
 ends_seq = group_ends seq_group
 
-pub par_out : {l rest : List Token} {a : Statement} → Par l rest a → (mid : List Token) × (b : Statement) × (us : Statements) × Seq l mid b × MorePar mid rest us × (a ≡ parallel_of b us)
+pub par_out : {l rest : List Token} {a : Statement} → Par l rest a → (mid : List Token) × (b : Statement) × (us : Statements) × Seq l mid b
+    × MorePar mid rest us × (a ≡ parallel_of b us)
 par_out (the_par {mid = mid} {t = t} {us = us} a n) = (mid, t, us, a, n, refl)
 
-pub par_more : {l rest : List Token} {us : Statements} → MorePar l rest us → Further Seq MorePar (Exactly (Sign mark.BarBar)) (λ p b. b) no_members and_member l rest us
+pub par_more : {l rest : List Token} {us : Statements} → MorePar l rest us →
+    Further Seq MorePar (Exactly (Sign mark.BarBar)) (λ p b. b) no_members and_member l rest us
 par_more no_more_par = no_further
 par_more (one_more_par a n) = a_further exactly a n
 
-pub par_in : {l x mid rest : List Token} {o : Span} {b : Statement} {us : Statements} → Exactly (Sign mark.BarBar) l x o → Seq x mid b → MorePar mid rest us → MorePar l rest (and_member b us)
+pub par_in : {l x mid rest : List Token} {o : Span} {b : Statement} {us : Statements} → Exactly (Sign mark.BarBar) l x o → Seq x mid b → MorePar mid rest us →
+    MorePar l rest (and_member b us)
 par_in exactly a n = one_more_par a n
 
 pub par_marked : (t : Option Token) → IsKind (Sign mark.BarBar) t → Stops 3 t
@@ -183,9 +192,13 @@ pub ends_par : Ends Par
 ends_par = group_ends par_group
 
 -- several members
-pub several : (V : Statements → Statement) (build : Statement → Statements → Statement) → ((t u : Statement) (us : Statements) → build t (and_member u us) ≡ V (and_member t (and_member u us))) → (t : Statement) (bs : List Statement) → t ≡ V (onto and_member bs no_members) → (length bs ≡ 1 → ⊥) → (b : Statement) (got : List Statement) → b ∷ got ≡ bs → t ≡ build b (onto and_member got no_members)
+pub several : (V : Statements → Statement) (build : Statement → Statements → Statement) →
+    ((t u : Statement) (us : Statements) → build t (and_member u us) ≡ V (and_member t (and_member u us))) → (t : Statement) (bs : List Statement) →
+    t ≡ V (onto and_member bs no_members) → (length bs ≡ 1 → ⊥) → (b : Statement) (got : List Statement) → b ∷ got ≡ bs →
+    t ≡ build b (onto and_member got no_members)
 several V build is t bs e n b [] h = absurd (n (ap length (sym h)))
-several V build is t bs e n b (x ∷ got) h = e ∙ (ap (λ (ys : List Statement). V (onto and_member ys no_members)) (sym h) ∙ sym (is b x (onto and_member got no_members)))
+several V build is t bs e n b (x ∷ got) h =
+    e ∙ (ap (λ (ys : List Statement). V (onto and_member ys no_members)) (sym h) ∙ sym (is b x (onto and_member got no_members)))
 
 -- expr "->" par
 abbrev pub Body : Covered → Part Guarded
@@ -220,14 +233,17 @@ ends_branch =
     let e = ends_then ends_disjunction (λ e. ends_then (ends_exactly (Sign mark.Arrow)) (λ p. body_ends e)) in
     (e.0, e.1, λ rest. branch_in (e.2 rest))
 
-pub choices_out : {l rest : List Token} {a : Arms} → Choices l rest a → (mid : List Token) × (b : Guarded) × (us : Arms) × Branch l mid b × MoreChoices mid rest us × (a ≡ and_guarded b us)
+pub choices_out : {l rest : List Token} {a : Arms} → Choices l rest a → (mid : List Token) × (b : Guarded) × (us : Arms) × Branch l mid b
+    × MoreChoices mid rest us × (a ≡ and_guarded b us)
 choices_out (the_choices {mid = mid} {e = e} {t = t} {bs = us} a n) = (mid, guarded e t, us, a, n, refl)
 
-pub choices_more : {l rest : List Token} {us : Arms} → MoreChoices l rest us → Further Branch MoreChoices (Exactly (Sign mark.Choice)) (λ p b. b) no_arms and_guarded l rest us
+pub choices_more : {l rest : List Token} {us : Arms} → MoreChoices l rest us →
+    Further Branch MoreChoices (Exactly (Sign mark.Choice)) (λ p b. b) no_arms and_guarded l rest us
 choices_more no_more_choices = no_further
 choices_more (one_more_choice {e = e} {t = t} a n) = a_further {b = guarded e t} exactly a n
 
-pub choices_in : {l x mid rest : List Token} {o : Span} {b : Guarded} {us : Arms} → Exactly (Sign mark.Choice) l x o → Branch x mid b → MoreChoices mid rest us → MoreChoices l rest (and_guarded b us)
+pub choices_in : {l x mid rest : List Token} {o : Span} {b : Guarded} {us : Arms} → Exactly (Sign mark.Choice) l x o → Branch x mid b →
+    MoreChoices mid rest us → MoreChoices l rest (and_guarded b us)
 choices_in exactly a n = one_more_choice a n
 
 pub choices_marked : (t : Option Token) → IsKind (Sign mark.Choice) t → Stops 2 t
@@ -343,7 +359,8 @@ act_in (and_then the_name (other (other (and_then exactly (and_then the_name all
 act_out : {l rest : List Token} {a : Statement} → atom_front (sees l) ≡ atom.Name → Atom l rest a → Acted l rest a
 act_out h (an_assignment {n = n} {s = s} d) = and_then {b = named n s} the_name (one (and_then exactly (and_then d all_done)))
 act_out h (a_send {n = n} {s = s} d) = and_then {b = named n s} the_name (other (one (and_then exactly (and_then d all_done))))
-act_out h (a_receive {n = n} {m = m} {s = s} {r = r}) = and_then {b = named n s} the_name (other (other (and_then exactly (and_then {b = named m r} the_name all_done))))
+act_out h (a_receive {n = n} {m = m} {s = s} {r = r}) =
+    and_then {b = named n s} the_name (other (other (and_then exactly (and_then {b = named m r} the_name all_done))))
 act_out h _ = absurd (cc h)
 
 pub act_start : (xs : List Token) → atom_front (sees xs) ≡ atom.Name → SoFar Atom F5 xs xs Acted
@@ -451,7 +468,8 @@ action_is k (Some t) h = ap action_kind h
 assigned_out : {i : Named} {l rest : List Token} {a : Statement} → action_front (sees l) ≡ action.Assign → After_target i l rest a → Assigned i l rest a
 assigned_out h (one q) = q
 assigned_out {l = l} h (other (one q)) = absurd (let e : action.Assign ≡ action.Send = sym h ∙ action_is (Sign mark.Bang) (sees l) (then_kind q) in cc e)
-assigned_out {l = l} h (other (other q)) = absurd (let e : action.Assign ≡ action.Receive = sym h ∙ action_is (Sign mark.Question) (sees l) (then_kind q) in cc e)
+assigned_out {l = l} h (other (other q)) = absurd (let e : action.Assign ≡ action.Receive = sym h ∙ action_is (Sign mark.Question) (sees l) (then_kind q) in
+    cc e)
 
 sent_out : {i : Named} {l rest : List Token} {a : Statement} → action_front (sees l) ≡ action.Send → After_target i l rest a → Sent i l rest a
 sent_out {l = l} h (one q) = absurd (let e : action.Send ≡ action.Assign = sym h ∙ action_is (Sign mark.Becomes) (sees l) (then_kind q) in cc e)
@@ -468,13 +486,16 @@ no_action {l = l} h (one q) = let e : action.Other ≡ action.Assign = sym h ∙
 no_action {l = l} h (other (one q)) = let e : action.Other ≡ action.Send = sym h ∙ action_is (Sign mark.Bang) (sees l) (then_kind q) in cc e
 no_action {l = l} h (other (other q)) = let e : action.Other ≡ action.Receive = sym h ∙ action_is (Sign mark.Question) (sees l) (then_kind q) in cc e
 
-pub assigned_start : {xs left : List Token} (i : Named) → SoFar Atom F5 xs left (After_target i) → action_front (sees left) ≡ action.Assign → SoFar Atom F5 xs left (Assigned i)
+pub assigned_start : {xs left : List Token} (i : Named) → SoFar Atom F5 xs left (After_target i) → action_front (sees left) ≡ action.Assign →
+    SoFar Atom F5 xs left (Assigned i)
 assigned_start i so h = instead (Assigned i) so (λ l rest a q. one q) (λ l rest a s f q. assigned_out {i = i} (ap action_front s ∙ h) q)
 
-pub sent_start : {xs left : List Token} (i : Named) → SoFar Atom F5 xs left (After_target i) → action_front (sees left) ≡ action.Send → SoFar Atom F5 xs left (Sent i)
+pub sent_start : {xs left : List Token} (i : Named) → SoFar Atom F5 xs left (After_target i) → action_front (sees left) ≡ action.Send →
+    SoFar Atom F5 xs left (Sent i)
 sent_start i so h = instead (Sent i) so (λ l rest a q. other (one q)) (λ l rest a s f q. sent_out {i = i} (ap action_front s ∙ h) q)
 
-pub received_start : {xs left : List Token} (i : Named) → SoFar Atom F5 xs left (After_target i) → action_front (sees left) ≡ action.Receive → SoFar Atom F5 xs left (Received i)
+pub received_start : {xs left : List Token} (i : Named) → SoFar Atom F5 xs left (After_target i) → action_front (sees left) ≡ action.Receive →
+    SoFar Atom F5 xs left (Received i)
 received_start i so h = instead (Received i) so (λ l rest a q. other (other q)) (λ l rest a s f q. received_out {i = i} (ap action_front s ∙ h) q)
 
 pub action_bad : {xs left : List Token} (i : Named) → SoFar Atom F5 xs left (After_target i) → action_front (sees left) ≡ action.Other → Bad Atom F5 xs left

@@ -16,7 +16,8 @@ use Rattle.chp_syntax.specs.Grammar.{name, numeral}
 use Rattle.chp_syntax.specs.Parts.{Part, sees, here, IsKind, reads, rank, name_of, number_of, Stops, Anything, Exactly, exactly, Operator, operator, AName, the_name, ANumber, the_number, Good, Bad, WhenFault}
 
 -- a part of the grammar, and then what is to come after it
-pub data Then {A B : Type 0} (R : List Token → List Token → B → Type 0) (Q : B → List Token → List Token → A → Type 0) : List Token → List Token → A → Type 0 where
+pub data Then {A B : Type 0} (R : List Token → List Token → B → Type 0) (Q : B → List Token → List Token → A → Type 0) : List Token → List Token → A →
+    Type 0 where
   and_then : {l mid rest : List Token} {b : B} {a : A} → R l mid b → Q b mid rest a → Then R Q l rest a
 
 pub data Done {A : Type 0} (a : A) : List Token → List Token → A → Type 0 where
@@ -26,14 +27,16 @@ pub data Either {A : Type 0} (P Q : List Token → List Token → A → Type 0) 
   one : {l rest : List Token} {a : A} → P l rest a → Either P Q l rest a
   other : {l rest : List Token} {a : A} → Q l rest a → Either P Q l rest a
 
-pub then_parts : {A B : Type 0} {R : Part B} {Q : B → Part A} {l rest : List Token} {a : A} → Then R Q l rest a → (mid : List Token) × (b : B) × R l mid b × Q b mid rest a
+pub then_parts : {A B : Type 0} {R : Part B} {Q : B → Part A} {l rest : List Token} {a : A} → Then R Q l rest a → (mid : List Token) × (b : B) × R l mid b
+    × Q b mid rest a
 then_parts (and_then {mid = mid} {b = b} r q) = (mid, b, r, q)
 
 pub done_parts : {A : Type 0} {a b : A} {l rest : List Token} → Done a l rest b → (rest ≡ l) × (b ≡ a)
 done_parts all_done = (refl, refl)
 
 -- ts has been read up to left, and what is left has to be read by Q for ts to be read by W
-pub record SoFar {A : Type 0} (W : List Token → List Token → A → Type 0) (F : Option Token → Type 0) (ts left : List Token) (Q : List Token → List Token → A → Type 0) : Type 0 where
+pub record SoFar {A : Type 0} (W : List Token → List Token → A → Type 0) (F : Option Token → Type 0) (ts left : List Token) (Q : List Token → List Token → A →
+    Type 0) : Type 0 where
   pub done : List Token
   pub is : ts ≡ done ++ left
   pub into : (l rest : List Token) (a : A) → Q l rest a → W (done ++ l) rest a
@@ -44,7 +47,8 @@ abbrev pub Ends : {A : Type 0} → Part A → Type 0
 Ends {A} Q = (l : List Token) × (a : A) × ((rest : List Token) → Q (l ++ rest) rest a)
 
 -- where a part ends and what is to come begins: that stops the part, and can be ended
-pub record Seam {A B : Type 0} (R : List Token → List Token → B → Type 0) (G : Option Token → Type 0) (F : Option Token → Type 0) (Q : B → List Token → List Token → A → Type 0) : Type 0 where
+pub record Seam {A B : Type 0} (R : List Token → List Token → B → Type 0) (G : Option Token → Type 0) (F : Option Token → Type 0) (Q : B → List Token →
+    List Token → A → Type 0) : Type 0 where
   pub stops : (b : B) (l rest : List Token) (a : A) → F (sees rest) → Q b l rest a → G (sees l)
   pub ends : (b : B) → Ends (Q b)
 
@@ -56,7 +60,9 @@ sees_same [] l left e = e
 sees_same (t ∷ d) l left e = refl
 
 -- another way to say what is to come
-pub instead : {A : Type 0} {W : Part A} {F : Option Token → Type 0} {ts left : List Token} {Q : Part A} (P : Part A) → SoFar W F ts left Q → ((l rest : List Token) (a : A) → P l rest a → Q l rest a) → ((l rest : List Token) (a : A) → sees l ≡ sees left → F (sees rest) → Q l rest a → P l rest a) → SoFar W F ts left P
+pub instead : {A : Type 0} {W : Part A} {F : Option Token → Type 0} {ts left : List Token} {Q : Part A} (P : Part A) → SoFar W F ts left Q →
+    ((l rest : List Token) (a : A) → P l rest a → Q l rest a) → ((l rest : List Token) (a : A) → sees l ≡ sees left → F (sees rest) → Q l rest a → P l rest a) →
+    SoFar W F ts left P
 instead P so i o = record {
   done = so.done;
   is = so.is;
@@ -64,11 +70,13 @@ instead P so i o = record {
   out = λ l rest a s f w. o l rest a s f (so.out l rest a s f w);
 }
 
-pub by_part : {A B : Type 0} {W : Part A} {F : Option Token → Type 0} {ts mid left : List Token} {R : Part B} {G : Option Token → Type 0} {b : B} {Q : B → Part A} → Seam R G F Q → SoFar W F ts mid (Then R Q) → Good R G mid left b → SoFar W F ts left (Q b)
+pub by_part : {A B : Type 0} {W : Part A} {F : Option Token → Type 0} {ts mid left : List Token} {R : Part B} {G : Option Token → Type 0} {b : B} {Q : B →
+    Part A} → Seam R G F Q → SoFar W F ts mid (Then R Q) → Good R G mid left b → SoFar W F ts left (Q b)
 by_part {A} {B} {W} {F} {ts} {mid} {left} {R} {G} {b} {Q} seam so good = record {
   done = so.done ++ good.done;
   is = so.is ∙ (ap (λ x. so.done ++ x) good.is ∙ sym (append_assoc so.done good.done left));
-  into = λ l rest a q. subst (λ (x : List Token). W x rest a) (sym (append_assoc so.done good.done l)) (so.into (good.done ++ l) rest a (and_then (good.derives l) q));
+  into = λ l rest a q. subst (λ (x : List Token). W x rest a) (sym (append_assoc so.done good.done l))
+      (so.into (good.done ++ l) rest a (and_then (good.derives l) q));
   out = λ l rest a s f w.
       let same : sees (good.done ++ l) ≡ sees mid = sees_same good.done l left s ∙ ap sees (sym good.is) in
       let p = then_parts (so.out (good.done ++ l) rest a same f (subst (λ (x : List Token). W x rest a) (append_assoc so.done good.done l) w)) in
@@ -76,7 +84,8 @@ by_part {A} {B} {W} {F} {ts} {mid} {left} {R} {G} {b} {Q} seam so good = record 
       subst (λ (c : B). Q c l rest a) e.1 (subst (λ (x : List Token). Q p.1 x rest a) e.0 p.3);
 }
 
-pub part_bad : {A B : Type 0} {W : Part A} {F : Option Token → Type 0} {ts mid left : List Token} {R : Part B} {G : Option Token → Type 0} {Q : B → Part A} → Seam R G F Q → SoFar W F ts mid (Then R Q) → Bad R G mid left → Bad W F ts left
+pub part_bad : {A B : Type 0} {W : Part A} {F : Option Token → Type 0} {ts mid left : List Token} {R : Part B} {G : Option Token → Type 0} {Q : B → Part A} →
+    Seam R G F Q → SoFar W F ts mid (Then R Q) → Bad R G mid left → Bad W F ts left
 part_bad {A} {B} {W} {F} {ts} {mid} {left} {R} {G} {Q} seam so bad = record {
   done = so.done ++ bad.done;
   is = so.is ∙ (ap (λ x. so.done ++ x) bad.is ∙ sym (append_assoc so.done bad.done left));
@@ -97,7 +106,8 @@ part_bad {A} {B} {W} {F} {ts} {mid} {left} {R} {G} {Q} seam so bad = record {
 }
 
 -- nothing that begins as what is left can be read
-pub bad_here : {A : Type 0} {W : Part A} {F : Option Token → Type 0} {ts left : List Token} {Q : Part A} → SoFar W F ts left Q → ((l rest : List Token) (a : A) → sees l ≡ sees left → F (sees rest) → Q l rest a → ⊥) → Ends Q → Bad W F ts left
+pub bad_here : {A : Type 0} {W : Part A} {F : Option Token → Type 0} {ts left : List Token} {Q : Part A} → SoFar W F ts left Q →
+    ((l rest : List Token) (a : A) → sees l ≡ sees left → F (sees rest) → Q l rest a → ⊥) → Ends Q → Bad W F ts left
 bad_here so never e = record {
   done = so.done;
   is = so.is;
@@ -105,7 +115,8 @@ bad_here so never e = record {
   viable = (e.0, e.1, λ rest. so.into (e.0 ++ rest) rest e.1 (e.2 rest));
 }
 
-pub good_here : {A : Type 0} {W : Part A} {F : Option Token → Type 0} {ts left : List Token} {Q : Part A} (a : A) → SoFar W F ts left Q → ((l : List Token) → Q l l a) → ((l rest : List Token) (b : A) → sees l ≡ sees left → F (sees rest) → Q l rest b → (rest ≡ l) × (b ≡ a)) → Good W F ts left a
+pub good_here : {A : Type 0} {W : Part A} {F : Option Token → Type 0} {ts left : List Token} {Q : Part A} (a : A) → SoFar W F ts left Q →
+    ((l : List Token) → Q l l a) → ((l rest : List Token) (b : A) → sees l ≡ sees left → F (sees rest) → Q l rest b → (rest ≡ l) × (b ≡ a)) → Good W F ts left a
 good_here a so i o = record {
   done = so.done;
   is = so.is;
@@ -117,14 +128,16 @@ pub good_done : {A : Type 0} {W : Part A} {F : Option Token → Type 0} {ts left
 good_done {a = a} so = good_here a so (λ l. all_done) (λ l rest b s g q. done_parts q)
 
 -- a choice of which the front tells that it isn't the other
-pub not_other : {A : Type 0} {W : Part A} {F : Option Token → Type 0} {ts left : List Token} {P Q : Part A} → SoFar W F ts left (Either P Q) → ((l rest : List Token) (a : A) → sees l ≡ sees left → F (sees rest) → Q l rest a → ⊥) → SoFar W F ts left P
+pub not_other : {A : Type 0} {W : Part A} {F : Option Token → Type 0} {ts left : List Token} {P Q : Part A} → SoFar W F ts left (Either P Q) →
+    ((l rest : List Token) (a : A) → sees l ≡ sees left → F (sees rest) → Q l rest a → ⊥) → SoFar W F ts left P
 not_other {A} {W} {F} {ts} {left} {P} {Q} so never = instead P so (λ l rest a p. one p) (λ l rest a s f q. pick l rest a s f q)
   where
     pick : (l rest : List Token) (a : A) → sees l ≡ sees left → F (sees rest) → Either P Q l rest a → P l rest a
     pick l rest a s f (one p) = p
     pick l rest a s f (other q) = absurd (never l rest a s f q)
 
-pub not_one : {A : Type 0} {W : Part A} {F : Option Token → Type 0} {ts left : List Token} {P Q : Part A} → SoFar W F ts left (Either P Q) → ((l rest : List Token) (a : A) → sees l ≡ sees left → F (sees rest) → P l rest a → ⊥) → SoFar W F ts left Q
+pub not_one : {A : Type 0} {W : Part A} {F : Option Token → Type 0} {ts left : List Token} {P Q : Part A} → SoFar W F ts left (Either P Q) →
+    ((l rest : List Token) (a : A) → sees l ≡ sees left → F (sees rest) → P l rest a → ⊥) → SoFar W F ts left Q
 not_one {A} {W} {F} {ts} {left} {P} {Q} so never = instead Q so (λ l rest a p. other p) (λ l rest a s f q. pick l rest a s f q)
   where
     pick : (l rest : List Token) (a : A) → sees l ≡ sees left → F (sees rest) → Either P Q l rest a → Q l rest a
@@ -159,8 +172,10 @@ exactly_here k xs h = record {
   only = λ l rest s same f e. exactly_only k (here xs) l rest s e;
 }
 
-pub exactly_good : (k : TokenKind) (all : List Token) (at : ℕ) → IsKind k (sees (drop at all)) → Good (Exactly k) Anything (drop at all) (drop (at + 1) all) (here (drop at all))
-exactly_good k all at h = subst (λ (l : List Token). Good (Exactly k) Anything (drop at all) l (here (drop at all))) (drop-drop 1 at all) (exactly_here k (drop at all) h)
+pub exactly_good : (k : TokenKind) (all : List Token) (at : ℕ) → IsKind k (sees (drop at all)) →
+    Good (Exactly k) Anything (drop at all) (drop (at + 1) all) (here (drop at all))
+exactly_good k all at h = subst (λ (l : List Token). Good (Exactly k) Anything (drop at all) l (here (drop at all))) (drop-drop 1 at all)
+    (exactly_here k (drop at all) h)
 
 pub exactly_seen : {k : TokenKind} {l rest : List Token} {s : Span} → Exactly k l rest s → IsKind k (sees l)
 exactly_seen exactly = refl
@@ -200,7 +215,8 @@ pub name_bad : (xs : List Token) → reads name_of (sees xs) ≡ None → Bad AN
 name_bad xs none = record {
   done = [];
   is = refl;
-  stuck = λ l rest i same f e. let x : ◌≡◌ {A = Option (List ℕ)} None (Some i.name) = sym none ∙ (sym (ap (λ (o : Option Token). reads name_of o) same) ∙ name_seen e) in cc x;
+  stuck = λ l rest i same f e. let x : ◌≡◌ {A = Option (List ℕ)} None (Some i.name) =
+      sym none ∙ (sym (ap (λ (o : Option Token). reads name_of o) same) ∙ name_seen e) in cc x;
   viable = ends_name;
 }
 
@@ -228,8 +244,10 @@ number_here xs n h = record {
   only = λ l rest j same f e. number_only (record { value = n; at = here xs }) j l rest e;
 }
 
-pub number_good : (all : List Token) (at n : ℕ) → reads number_of (sees (drop at all)) ≡ Some n → Good ANumber Anything (drop at all) (drop (at + 1) all) (record { value = n; at = here (drop at all) })
-number_good all at n h = subst (λ (l : List Token). Good ANumber Anything (drop at all) l (record { value = n; at = here (drop at all) })) (drop-drop 1 at all) (number_here (drop at all) n h)
+pub number_good : (all : List Token) (at n : ℕ) → reads number_of (sees (drop at all)) ≡ Some n →
+    Good ANumber Anything (drop at all) (drop (at + 1) all) (record { value = n; at = here (drop at all) })
+number_good all at n h = subst (λ (l : List Token). Good ANumber Anything (drop at all) l (record { value = n; at = here (drop at all) })) (drop-drop 1 at all)
+    (number_here (drop at all) n h)
 
 pub ends_number : Ends ANumber
 ends_number = let n : Numeral = record { value = 0; at = zero_span } in (numeral 0 zero_span ∷ [], n, λ rest. the_number)
@@ -238,14 +256,16 @@ pub number_bad : (xs : List Token) → reads number_of (sees xs) ≡ None → Ba
 number_bad xs none = record {
   done = [];
   is = refl;
-  stuck = λ l rest n same f e. let x : ◌≡◌ {A = Option ℕ} None (Some n.value) = sym none ∙ (sym (ap (λ (o : Option Token). reads number_of o) same) ∙ number_seen e) in cc x;
+  stuck = λ l rest n same f e. let x : ◌≡◌ {A = Option ℕ} None (Some n.value) =
+      sym none ∙ (sym (ap (λ (o : Option Token). reads number_of o) same) ∙ number_seen e) in cc x;
   viable = ends_number;
 }
 
 pub operator_seen : {O : Type 0} {op : TokenKind → Option O} {l rest : List Token} {o : O} → Operator op l rest o → reads op (sees l) ≡ Some o
 operator_seen (operator e) = e
 
-operator_only : {O : Type 0} (op : TokenKind → Option O) (t : Token) (o p : O) (l rest : List Token) → op t.kind ≡ Some o → Operator op (t ∷ l) rest p → (rest ≡ l) × (p ≡ o)
+operator_only : {O : Type 0} (op : TokenKind → Option O) (t : Token) (o p : O) (l rest : List Token) → op t.kind ≡ Some o → Operator op (t ∷ l) rest p →
+    (rest ≡ l) × (p ≡ o)
 operator_only {O} op t o p l rest h (operator e) = (refl, let x : ◌≡◌ {A = Option O} (Some p) (Some o) = sym e ∙ h in cc x)
 
 operator_here : {O : Type 0} (op : TokenKind → Option O) (xs : List Token) (o : O) → reads op (sees xs) ≡ Some o → Good (Operator op) Anything xs (drop 1 xs) o
@@ -257,8 +277,10 @@ operator_here op (t ∷ xs) o h = record {
   only = λ l rest p same f e. operator_only op t o p l rest h e;
 }
 
-pub operator_good : {O : Type 0} (op : TokenKind → Option O) (all : List Token) (at : ℕ) (o : O) → reads op (sees (drop at all)) ≡ Some o → Good (Operator op) Anything (drop at all) (drop (at + 1) all) o
-operator_good op all at o h = subst (λ (l : List Token). Good (Operator op) Anything (drop at all) l o) (drop-drop 1 at all) (operator_here op (drop at all) o h)
+pub operator_good : {O : Type 0} (op : TokenKind → Option O) (all : List Token) (at : ℕ) (o : O) → reads op (sees (drop at all)) ≡ Some o →
+    Good (Operator op) Anything (drop at all) (drop (at + 1) all) o
+operator_good op all at o h = subst (λ (l : List Token). Good (Operator op) Anything (drop at all) l o) (drop-drop 1 at all)
+    (operator_here op (drop at all) o h)
 
 -- what ends, and what stops
 pub ends_done : {A : Type 0} (a : A) → Ends (Done a)
@@ -283,7 +305,8 @@ pub then_kind : {A : Type 0} {k : TokenKind} {Q : Span → Part A} {l rest : Lis
 then_kind (and_then e q) = exactly_seen e
 
 -- a part before a token of this kind
-pub kind_seam : {A B : Type 0} {R : Part B} {F : Option Token → Type 0} (k : TokenKind) (n : ℕ) {Q : B → Span → Part A} → rank k < n → ((b : B) (s : Span) → Ends (Q b s)) → Seam R (Stops n) F (λ b. Then (Exactly k) (Q b))
+pub kind_seam : {A B : Type 0} {R : Part B} {F : Option Token → Type 0} (k : TokenKind) (n : ℕ) {Q : B → Span → Part A} → rank k < n →
+    ((b : B) (s : Span) → Ends (Q b s)) → Seam R (Stops n) F (λ b. Then (Exactly k) (Q b))
 kind_seam k n lt e = record {
   stops = λ b l rest a f q. kind_stops k n (sees l) lt (then_kind q);
   ends = λ b. ends_then (ends_exactly k) (e b);

@@ -145,108 +145,148 @@ mutual
   pub data Primary : List Token → List Token → Covered → Type 0 where
     a_number : {rest : List Token} {n : ℕ} {s : Span} → Primary (numeral n s ∷ rest) rest (cover (number n s) s)
     a_name : {rest : List Token} {n : List ℕ} {s : Span} → Primary (name n s ∷ rest) rest (cover (whole (named n s)) s)
-    a_bit : {rest : List Token} {n : List ℕ} {i : ℕ} {s o p c : Span} → Primary (name n s ∷ sign mark.OpenSquare o ∷ numeral i p ∷ sign mark.CloseSquare c ∷ rest) rest (cover (bit (named n s) i (from_to s c)) (from_to s c))
-    a_slice : {rest : List Token} {n : List ℕ} {h l : ℕ} {s o p d q c : Span} → Primary (name n s ∷ sign mark.OpenSquare o ∷ numeral h p ∷ sign mark.Colon d ∷ numeral l q ∷ sign mark.CloseSquare c ∷ rest) rest (cover (slice (named n s) h l (from_to s c)) (from_to s c))
-    a_join : {ts rest : List Token} {es : Expressions} {o c : Span} → Parts ts (sign mark.CloseCurly c ∷ rest) es → Primary (sign mark.OpenCurly o ∷ ts) rest (cover (join es (from_to o c)) (from_to o c))
-    in_brackets : {ts rest : List Token} {e : Expression} {s o c : Span} → Disjunction ts (sign mark.CloseRound c ∷ rest) (cover e s) → Primary (sign mark.OpenRound o ∷ ts) rest (cover e (from_to o c))
+    a_bit : {rest : List Token} {n : List ℕ} {i : ℕ} {s o p c : Span} →
+        Primary (name n s ∷ sign mark.OpenSquare o ∷ numeral i p ∷ sign mark.CloseSquare c ∷ rest) rest
+        (cover (bit (named n s) i (from_to s c)) (from_to s c))
+    a_slice : {rest : List Token} {n : List ℕ} {h l : ℕ} {s o p d q c : Span} →
+        Primary (name n s ∷ sign mark.OpenSquare o ∷ numeral h p ∷ sign mark.Colon d ∷ numeral l q
+        ∷ sign mark.CloseSquare c ∷ rest) rest (cover (slice (named n s) h l (from_to s c)) (from_to s c))
+    a_join : {ts rest : List Token} {es : Expressions} {o c : Span} → Parts ts (sign mark.CloseCurly c ∷ rest) es →
+        Primary (sign mark.OpenCurly o ∷ ts) rest (cover (join es (from_to o c)) (from_to o c))
+    in_brackets : {ts rest : List Token} {e : Expression} {s o c : Span} →
+        Disjunction ts (sign mark.CloseRound c ∷ rest) (cover e s) →
+        Primary (sign mark.OpenRound o ∷ ts) rest (cover e (from_to o c))
 
   -- expr { "," expr }
   pub data Parts : List Token → List Token → Expressions → Type 0 where
-    the_parts : {ts mid rest : List Token} {e : Expression} {es : Expressions} {s : Span} → Disjunction ts mid (cover e s) → MoreParts mid rest es → Parts ts rest (and_part e es)
+    the_parts : {ts mid rest : List Token} {e : Expression} {es : Expressions} {s : Span} →
+        Disjunction ts mid (cover e s) → MoreParts mid rest es → Parts ts rest (and_part e es)
 
   pub data MoreParts : List Token → List Token → Expressions → Type 0 where
     no_more_parts : {rest : List Token} → MoreParts rest rest no_parts
-    one_more_part : {ts mid rest : List Token} {e : Expression} {es : Expressions} {s p : Span} → Disjunction ts mid (cover e s) → MoreParts mid rest es → MoreParts (sign mark.Comma p ∷ ts) rest (and_part e es)
+    one_more_part : {ts mid rest : List Token} {e : Expression} {es : Expressions} {s p : Span} →
+        Disjunction ts mid (cover e s) → MoreParts mid rest es → MoreParts (sign mark.Comma p ∷ ts) rest (and_part e es)
 
   -- e5
   pub data Negated : List Token → List Token → Covered → Type 0 where
     plain : {ts rest : List Token} {c : Covered} → Primary ts rest c → Negated ts rest c
-    negated : {ts rest : List Token} {e : Expression} {s t : Span} → Primary ts rest (cover e s) → Negated (sign mark.Tilde t ∷ ts) rest (cover (negation e (from_to t s)) (from_to t s))
+    negated : {ts rest : List Token} {e : Expression} {s t : Span} → Primary ts rest (cover e s) →
+        Negated (sign mark.Tilde t ∷ ts) rest (cover (negation e (from_to t s)) (from_to t s))
 
   -- e4
   pub data Sum : List Token → List Token → Covered → Type 0 where
-    the_sum : {ts mid rest : List Token} {c : Covered} {us : Tail} → Negated ts mid c → MoreSum mid rest us → Sum ts rest (chain_of c us)
+    the_sum : {ts mid rest : List Token} {c : Covered} {us : Tail} → Negated ts mid c → MoreSum mid rest us →
+        Sum ts rest (chain_of c us)
 
   pub data MoreSum : List Token → List Token → Tail → Type 0 where
     no_more_sum : {rest : List Token} → MoreSum rest rest no_tail
-    one_more_sum : {ts mid rest : List Token} {t : Token} {o : Op} {c : Covered} {us : Tail} → sum_of t.kind ≡ Some o → Negated ts mid c → MoreSum mid rest us → MoreSum (t ∷ ts) rest (longer o c us)
+    one_more_sum : {ts mid rest : List Token} {t : Token} {o : Op} {c : Covered} {us : Tail} → sum_of t.kind ≡ Some o →
+        Negated ts mid c → MoreSum mid rest us → MoreSum (t ∷ ts) rest (longer o c us)
 
   -- e3
   pub data Comparison : List Token → List Token → Covered → Type 0 where
     not_compared : {ts rest : List Token} {c : Covered} → Sum ts rest c → Comparison ts rest c
-    compared : {ts mid rest : List Token} {t : Token} {o : Op} {c d : Covered} → Sum ts (t ∷ mid) c → comparison_of t.kind ≡ Some o → Sum mid rest d → Comparison ts rest (chain_of c (longer o d no_tail))
+    compared : {ts mid rest : List Token} {t : Token} {o : Op} {c d : Covered} → Sum ts (t ∷ mid) c →
+        comparison_of t.kind ≡ Some o → Sum mid rest d → Comparison ts rest (chain_of c (longer o d no_tail))
 
   -- e2
   pub data Conjunction : List Token → List Token → Covered → Type 0 where
-    the_conjunction : {ts mid rest : List Token} {c : Covered} {us : Tail} → Comparison ts mid c → MoreConjunction mid rest us → Conjunction ts rest (chain_of c us)
+    the_conjunction : {ts mid rest : List Token} {c : Covered} {us : Tail} → Comparison ts mid c →
+        MoreConjunction mid rest us → Conjunction ts rest (chain_of c us)
 
   pub data MoreConjunction : List Token → List Token → Tail → Type 0 where
     no_more_conjunction : {rest : List Token} → MoreConjunction rest rest no_tail
-    one_more_conjunction : {ts mid rest : List Token} {t : Token} {o : Op} {c : Covered} {us : Tail} → and_of t.kind ≡ Some o → Comparison ts mid c → MoreConjunction mid rest us → MoreConjunction (t ∷ ts) rest (longer o c us)
+    one_more_conjunction : {ts mid rest : List Token} {t : Token} {o : Op} {c : Covered} {us : Tail} →
+        and_of t.kind ≡ Some o → Comparison ts mid c → MoreConjunction mid rest us →
+        MoreConjunction (t ∷ ts) rest (longer o c us)
 
   -- e1
   pub data Exclusive : List Token → List Token → Covered → Type 0 where
-    the_exclusive : {ts mid rest : List Token} {c : Covered} {us : Tail} → Conjunction ts mid c → MoreExclusive mid rest us → Exclusive ts rest (chain_of c us)
+    the_exclusive : {ts mid rest : List Token} {c : Covered} {us : Tail} → Conjunction ts mid c →
+        MoreExclusive mid rest us → Exclusive ts rest (chain_of c us)
 
   pub data MoreExclusive : List Token → List Token → Tail → Type 0 where
     no_more_exclusive : {rest : List Token} → MoreExclusive rest rest no_tail
-    one_more_exclusive : {ts mid rest : List Token} {t : Token} {o : Op} {c : Covered} {us : Tail} → xor_of t.kind ≡ Some o → Conjunction ts mid c → MoreExclusive mid rest us → MoreExclusive (t ∷ ts) rest (longer o c us)
+    one_more_exclusive : {ts mid rest : List Token} {t : Token} {o : Op} {c : Covered} {us : Tail} →
+        xor_of t.kind ≡ Some o → Conjunction ts mid c → MoreExclusive mid rest us →
+        MoreExclusive (t ∷ ts) rest (longer o c us)
 
   -- expr
   pub data Disjunction : List Token → List Token → Covered → Type 0 where
-    the_disjunction : {ts mid rest : List Token} {c : Covered} {us : Tail} → Exclusive ts mid c → MoreDisjunction mid rest us → Disjunction ts rest (chain_of c us)
+    the_disjunction : {ts mid rest : List Token} {c : Covered} {us : Tail} → Exclusive ts mid c →
+        MoreDisjunction mid rest us → Disjunction ts rest (chain_of c us)
 
   pub data MoreDisjunction : List Token → List Token → Tail → Type 0 where
     no_more_disjunction : {rest : List Token} → MoreDisjunction rest rest no_tail
-    one_more_disjunction : {ts mid rest : List Token} {t : Token} {o : Op} {c : Covered} {us : Tail} → or_of t.kind ≡ Some o → Exclusive ts mid c → MoreDisjunction mid rest us → MoreDisjunction (t ∷ ts) rest (longer o c us)
+    one_more_disjunction : {ts mid rest : List Token} {t : Token} {o : Op} {c : Covered} {us : Tail} →
+        or_of t.kind ≡ Some o → Exclusive ts mid c → MoreDisjunction mid rest us →
+        MoreDisjunction (t ∷ ts) rest (longer o c us)
 
 mutual
   pub data Atom : List Token → List Token → Statement → Type 0 where
     a_skip : {rest : List Token} {s : Span} → Atom (word key.Skip s ∷ rest) rest (skips s)
-    an_assignment : {ts rest : List Token} {n : List ℕ} {s b r : Span} {e : Expression} → Disjunction ts rest (cover e r) → Atom (name n s ∷ sign mark.Becomes b ∷ ts) rest (assigns (named n s) e)
-    a_send : {ts rest : List Token} {n : List ℕ} {s b r : Span} {e : Expression} → Disjunction ts rest (cover e r) → Atom (name n s ∷ sign mark.Bang b ∷ ts) rest (sends (named n s) e)
-    a_receive : {rest : List Token} {n m : List ℕ} {s b r : Span} → Atom (name n s ∷ sign mark.Question b ∷ name m r ∷ rest) rest (receives (named n s) (named m r))
-    a_call : {rest : List Token} {n : List ℕ} {s c : Span} → Atom (word key.Call c ∷ name n s ∷ rest) rest (calls (named n s))
-    in_round : {ts rest : List Token} {t : Statement} {o c : Span} → Par ts (sign mark.CloseRound c ∷ rest) t → Atom (sign mark.OpenRound o ∷ ts) rest t
-    a_loop : {ts rest : List Token} {t : Statement} {s o c : Span} → Par ts (sign mark.CloseSquare c ∷ rest) t → Atom (sign mark.Star s ∷ sign mark.OpenSquare o ∷ ts) rest (repeats t)
-    a_guarded_loop : {ts rest : List Token} {bs : Arms} {s o c : Span} → Choices ts (sign mark.CloseSquare c ∷ rest) bs → Atom (sign mark.Star s ∷ sign mark.OpenSquare o ∷ ts) rest (selects true bs)
-    a_selection : {ts rest : List Token} {bs : Arms} {o c : Span} → Choices ts (sign mark.CloseSquare c ∷ rest) bs → Atom (sign mark.OpenSquare o ∷ ts) rest (selects false bs)
+    an_assignment : {ts rest : List Token} {n : List ℕ} {s b r : Span} {e : Expression} →
+        Disjunction ts rest (cover e r) → Atom (name n s ∷ sign mark.Becomes b ∷ ts) rest (assigns (named n s) e)
+    a_send : {ts rest : List Token} {n : List ℕ} {s b r : Span} {e : Expression} → Disjunction ts rest (cover e r) →
+        Atom (name n s ∷ sign mark.Bang b ∷ ts) rest (sends (named n s) e)
+    a_receive : {rest : List Token} {n m : List ℕ} {s b r : Span} →
+        Atom (name n s ∷ sign mark.Question b ∷ name m r ∷ rest) rest (receives (named n s) (named m r))
+    a_call : {rest : List Token} {n : List ℕ} {s c : Span} →
+        Atom (word key.Call c ∷ name n s ∷ rest) rest (calls (named n s))
+    in_round : {ts rest : List Token} {t : Statement} {o c : Span} → Par ts (sign mark.CloseRound c ∷ rest) t →
+        Atom (sign mark.OpenRound o ∷ ts) rest t
+    a_loop : {ts rest : List Token} {t : Statement} {s o c : Span} → Par ts (sign mark.CloseSquare c ∷ rest) t →
+        Atom (sign mark.Star s ∷ sign mark.OpenSquare o ∷ ts) rest (repeats t)
+    a_guarded_loop : {ts rest : List Token} {bs : Arms} {s o c : Span} → Choices ts (sign mark.CloseSquare c ∷ rest) bs
+        → Atom (sign mark.Star s ∷ sign mark.OpenSquare o ∷ ts) rest (selects true bs)
+    a_selection : {ts rest : List Token} {bs : Arms} {o c : Span} → Choices ts (sign mark.CloseSquare c ∷ rest) bs →
+        Atom (sign mark.OpenSquare o ∷ ts) rest (selects false bs)
 
   -- arm
   pub data Branch : List Token → List Token → Guarded → Type 0 where
-    the_branch : {ts mid rest : List Token} {e : Expression} {r p : Span} {t : Statement} → Disjunction ts (sign mark.Arrow p ∷ mid) (cover e r) → Par mid rest t → Branch ts rest (guarded e t)
+    the_branch : {ts mid rest : List Token} {e : Expression} {r p : Span} {t : Statement} →
+        Disjunction ts (sign mark.Arrow p ∷ mid) (cover e r) → Par mid rest t → Branch ts rest (guarded e t)
 
   -- arm { "[]" arm }
   pub data Choices : List Token → List Token → Arms → Type 0 where
-    the_choices : {ts mid rest : List Token} {e : Expression} {t : Statement} {bs : Arms} → Branch ts mid (guarded e t) → MoreChoices mid rest bs → Choices ts rest (and_arm e t bs)
+    the_choices : {ts mid rest : List Token} {e : Expression} {t : Statement} {bs : Arms} →
+        Branch ts mid (guarded e t) → MoreChoices mid rest bs → Choices ts rest (and_arm e t bs)
 
   pub data MoreChoices : List Token → List Token → Arms → Type 0 where
     no_more_choices : {rest : List Token} → MoreChoices rest rest no_arms
-    one_more_choice : {ts mid rest : List Token} {e : Expression} {t : Statement} {bs : Arms} {p : Span} → Branch ts mid (guarded e t) → MoreChoices mid rest bs → MoreChoices (sign mark.Choice p ∷ ts) rest (and_arm e t bs)
+    one_more_choice : {ts mid rest : List Token} {e : Expression} {t : Statement} {bs : Arms} {p : Span} →
+        Branch ts mid (guarded e t) → MoreChoices mid rest bs →
+        MoreChoices (sign mark.Choice p ∷ ts) rest (and_arm e t bs)
 
   -- both
   pub data Both : List Token → List Token → Statement → Type 0 where
-    the_both : {ts mid rest : List Token} {t : Statement} {us : Statements} → Atom ts mid t → MoreBoth mid rest us → Both ts rest (parallel_of t us)
+    the_both : {ts mid rest : List Token} {t : Statement} {us : Statements} → Atom ts mid t → MoreBoth mid rest us →
+        Both ts rest (parallel_of t us)
 
   pub data MoreBoth : List Token → List Token → Statements → Type 0 where
     no_more_both : {rest : List Token} → MoreBoth rest rest no_members
-    one_more_both : {ts mid rest : List Token} {t : Statement} {us : Statements} {p : Span} → Atom ts mid t → MoreBoth mid rest us → MoreBoth (sign mark.Comma p ∷ ts) rest (and_member t us)
+    one_more_both : {ts mid rest : List Token} {t : Statement} {us : Statements} {p : Span} → Atom ts mid t →
+        MoreBoth mid rest us → MoreBoth (sign mark.Comma p ∷ ts) rest (and_member t us)
 
   -- seq
   pub data Seq : List Token → List Token → Statement → Type 0 where
-    the_seq : {ts mid rest : List Token} {t : Statement} {us : Statements} → Both ts mid t → MoreSeq mid rest us → Seq ts rest (sequence_of t us)
+    the_seq : {ts mid rest : List Token} {t : Statement} {us : Statements} → Both ts mid t → MoreSeq mid rest us →
+        Seq ts rest (sequence_of t us)
 
   pub data MoreSeq : List Token → List Token → Statements → Type 0 where
     no_more_seq : {rest : List Token} → MoreSeq rest rest no_members
-    one_more_seq : {ts mid rest : List Token} {t : Statement} {us : Statements} {p : Span} → Both ts mid t → MoreSeq mid rest us → MoreSeq (sign mark.Semicolon p ∷ ts) rest (and_member t us)
+    one_more_seq : {ts mid rest : List Token} {t : Statement} {us : Statements} {p : Span} → Both ts mid t →
+        MoreSeq mid rest us → MoreSeq (sign mark.Semicolon p ∷ ts) rest (and_member t us)
 
   -- par
   pub data Par : List Token → List Token → Statement → Type 0 where
-    the_par : {ts mid rest : List Token} {t : Statement} {us : Statements} → Seq ts mid t → MorePar mid rest us → Par ts rest (parallel_of t us)
+    the_par : {ts mid rest : List Token} {t : Statement} {us : Statements} → Seq ts mid t → MorePar mid rest us →
+        Par ts rest (parallel_of t us)
 
   pub data MorePar : List Token → List Token → Statements → Type 0 where
     no_more_par : {rest : List Token} → MorePar rest rest no_members
-    one_more_par : {ts mid rest : List Token} {t : Statement} {us : Statements} {p : Span} → Seq ts mid t → MorePar mid rest us → MorePar (sign mark.BarBar p ∷ ts) rest (and_member t us)
+    one_more_par : {ts mid rest : List Token} {t : Statement} {us : Statements} {p : Span} → Seq ts mid t →
+        MorePar mid rest us → MorePar (sign mark.BarBar p ∷ ts) rest (and_member t us)
 
 -- what the declarations are: channels and variables, and procedures, each in order of the text
 pub record Declared : Type 0 where
@@ -280,19 +320,31 @@ set i w p x r = record { kind = declares.Var; name = i; width = w; width_at = p;
 
 -- decl
 pub data Declaration : List Token → List Token → Item → Type 0 where
-  a_channel : {rest : List Token} {t : Token} {kind : DeclKind} {n : List ℕ} {w : ℕ} {s c p e : Span} → channel_of t.kind ≡ Some kind → Declaration (t ∷ name n s ∷ sign mark.Colon c ∷ numeral w p ∷ sign mark.Semicolon e ∷ rest) rest (valued (unset kind (named n s) w p))
-  a_variable : {rest : List Token} {n : List ℕ} {w : ℕ} {v s c p e : Span} → Declaration (word key.Var v ∷ name n s ∷ sign mark.Colon c ∷ numeral w p ∷ sign mark.Semicolon e ∷ rest) rest (valued (unset declares.Var (named n s) w p))
-  a_variable_with_first : {rest : List Token} {n : List ℕ} {w x : ℕ} {v s c p q r e : Span} → Declaration (word key.Var v ∷ name n s ∷ sign mark.Colon c ∷ numeral w p ∷ sign mark.Equal q ∷ numeral x r ∷ sign mark.Semicolon e ∷ rest) rest (valued (set (named n s) w p x r))
-  a_procedure : {ts rest : List Token} {n : List ℕ} {b : Statement} {v s q e : Span} → Atom ts (sign mark.Semicolon e ∷ rest) b → Declaration (word key.Proc v ∷ name n s ∷ sign mark.Equal q ∷ ts) rest (defined (record { name = named n s; body = b }))
+  a_channel : {rest : List Token} {t : Token} {kind : DeclKind} {n : List ℕ} {w : ℕ} {s c p e : Span} →
+      channel_of t.kind ≡ Some kind →
+      Declaration (t ∷ name n s ∷ sign mark.Colon c ∷ numeral w p ∷ sign mark.Semicolon e ∷ rest) rest
+      (valued (unset kind (named n s) w p))
+  a_variable : {rest : List Token} {n : List ℕ} {w : ℕ} {v s c p e : Span} →
+      Declaration (word key.Var v ∷ name n s ∷ sign mark.Colon c ∷ numeral w p ∷ sign mark.Semicolon e ∷ rest) rest
+      (valued (unset declares.Var (named n s) w p))
+  a_variable_with_first : {rest : List Token} {n : List ℕ} {w x : ℕ} {v s c p q r e : Span} →
+      Declaration (word key.Var v ∷ name n s ∷ sign mark.Colon c ∷ numeral w p ∷ sign mark.Equal q ∷ numeral x r
+      ∷ sign mark.Semicolon e ∷ rest) rest (valued (set (named n s) w p x r))
+  a_procedure : {ts rest : List Token} {n : List ℕ} {b : Statement} {v s q e : Span} →
+      Atom ts (sign mark.Semicolon e ∷ rest) b →
+      Declaration (word key.Proc v ∷ name n s ∷ sign mark.Equal q ∷ ts) rest
+      (defined (record { name = named n s; body = b }))
 
 -- decl, any number of them
 pub data Declarations : List Token → List Token → Declared → Type 0 where
   no_declaration : {rest : List Token} → Declarations rest rest no_declared
-  one_more_declaration : {ts mid rest : List Token} {d : Item} {more : Declared} → Declaration ts mid d → Declarations mid rest more → Declarations ts rest (and_item d more)
+  one_more_declaration : {ts mid rest : List Token} {d : Item} {more : Declared} → Declaration ts mid d →
+      Declarations mid rest more → Declarations ts rest (and_item d more)
 
 -- program
 pub data Programs : List Token → List Token → ProgramTree → Type 0 where
-  the_program : {ts mid rest : List Token} {d : Declared} {t : Statement} {b e : Span} → Declarations ts (word key.Begin b ∷ mid) d → Par mid (word key.End e ∷ rest) t
+  the_program : {ts mid rest : List Token} {d : Declared} {t : Statement} {b e : Span} →
+      Declarations ts (word key.Begin b ∷ mid) d → Par mid (word key.End e ∷ rest) t
       → Programs ts rest (record { decls = d.decls; procs = d.procs; body = t })
 
 -- the tokens are the program

@@ -104,14 +104,17 @@ pub data Inside : List Token → List Token → Statement → Type 0 where
   some_arms : {ts rest : List Token} {bs : Arms} → Choices ts rest bs → Inside ts rest (selects true bs)
 
 -- the tokens ts are read as a, by R, and what is left is left: whatever stands there with the same first token
-pub record Good {A : Type 0} (R : List Token → List Token → A → Type 0) (F : Option Token → Type 0) (ts left : List Token) (a : A) : Type 0 where
+pub record Good {A : Type 0} (R : List Token → List Token → A → Type 0) (F : Option Token →
+    Type 0) (ts left : List Token) (a : A) : Type 0 where
   pub done : List Token
   pub is : ts ≡ done ++ left
   pub derives : (l : List Token) → R (done ++ l) l a
-  pub only : (l rest : List Token) (b : A) → sees l ≡ sees left → F (sees rest) → R (done ++ l) rest b → (rest ≡ l) × (b ≡ a)
+  pub only : (l rest : List Token) (b : A) → sees l ≡ sees left → F (sees rest) → R (done ++ l) rest b →
+      (rest ≡ l) × (b ≡ a)
 
 -- the first token of what is left is the first with which R never goes on
-pub record Bad {A : Type 0} (R : List Token → List Token → A → Type 0) (F : Option Token → Type 0) (ts left : List Token) : Type 0 where
+pub record Bad {A : Type 0} (R : List Token → List Token → A → Type 0) (F : Option Token →
+    Type 0) (ts left : List Token) : Type 0 where
   pub done : List Token
   pub is : ts ≡ done ++ left
   pub stuck : (l rest : List Token) (b : A) → sees l ≡ sees left → F (sees rest) → ¬ R (done ++ l) rest b

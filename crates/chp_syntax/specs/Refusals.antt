@@ -38,10 +38,13 @@ pub data RefusedTokens (ts : List Token) (end : ℕ) : FaultCode → Span → Ty
   a_probe : {s : Span} → IsFirst is_probe ts s → RefusedTokens ts end code.Probe s
   an_arbiter : {s : Span} → has_kind is_probe ts ≡ false → IsFirst is_arbiter ts s → RefusedTokens ts end code.Arbiter s
   too_deep : {s : Span} → IsPlain ts → GoesOver ts s → RefusedTokens ts end code.TooDeep s
-  no_program : {n : ℕ} → IsPlain ts → IsShallow ts → FirstFault ts n → RefusedTokens ts end code.Syntax (spot (drop n ts) end)
-  too_many_arms : {s : Span} (p : ProgramTree) → IsPlain ts → IsShallow ts → Derives ts p → IsSeventeenth ts s → RefusedTokens ts end code.TooManyGuards s
+  no_program : {n : ℕ} → IsPlain ts → IsShallow ts → FirstFault ts n →
+      RefusedTokens ts end code.Syntax (spot (drop n ts) end)
+  too_many_arms : {s : Span} (p : ProgramTree) → IsPlain ts → IsShallow ts → Derives ts p → IsSeventeenth ts s →
+      RefusedTokens ts end code.TooManyGuards s
 
 -- why a text is refused, and where
 pub data RefusedText (text : List ℕ) : FaultCode → Span → Type 0 where
   bad_token : {s : Span} → BadToken text s → RefusedText text code.BadToken s
-  bad_tokens : {k : FaultCode} {s : Span} (ts : List Token) → Tokens text ts → RefusedTokens ts (length text) k s → RefusedText text k s
+  bad_tokens : {k : FaultCode} {s : Span} (ts : List Token) → Tokens text ts → RefusedTokens ts (length text) k s →
+      RefusedText text k s

@@ -38,7 +38,8 @@ abbrev mutual
   pub IsShapedExpression : Expression → Type 0
   IsShapedExpression (join parts at) = (1 ≤ part_count parts) × AreShapedParts parts
   IsShapedExpression (negation e at) = IsShapedExpression e
-  IsShapedExpression (chain e more at) = (1 ≤ link_count more) × (some_compares more ≡ true → link_count more ≡ 1) × IsShapedExpression e × AreShapedLinks more
+  IsShapedExpression (chain e more at) = (1 ≤ link_count more) × (some_compares more ≡ true → link_count more ≡ 1)
+      × IsShapedExpression e × AreShapedLinks more
   IsShapedExpression _ = Unit {0}
 
   pub AreShapedParts : Expressions → Type 0

@@ -57,8 +57,10 @@ span from to = record { from = from; to = to }
 -- place `to`, where this rest of it is left
 pub data Cuts : ℕ → List Token → List ℕ → ℕ → List ℕ → Type 0 where
   so_far : {at : ℕ} {text : List ℕ} → Cuts at [] text at text
-  a_gap : {at to : ℕ} {ts : List Token} {text rest : List ℕ} (n : ℕ) → IsGap n text → Cuts (at + n) ts (drop n text) to rest → Cuts at ts text to rest
-  a_token : {at to : ℕ} {ts : List Token} {text rest : List ℕ} (kind : TokenKind) (n : ℕ) → IsToken kind n text → Cuts (at + n) ts (drop n text) to rest → Cuts at (record { kind = kind; at = span at (at + n) } ∷ ts) text to rest
+  a_gap : {at to : ℕ} {ts : List Token} {text rest : List ℕ} (n : ℕ) → IsGap n text →
+      Cuts (at + n) ts (drop n text) to rest → Cuts at ts text to rest
+  a_token : {at to : ℕ} {ts : List Token} {text rest : List ℕ} (kind : TokenKind) (n : ℕ) → IsToken kind n text →
+      Cuts (at + n) ts (drop n text) to rest → Cuts at (record { kind = kind; at = span at (at + n) } ∷ ts) text to rest
 
 -- the whole text is cut into these tokens
 abbrev pub Tokens : List ℕ → List Token → Type 0

@@ -14,7 +14,10 @@ pub fn one_program()
 
 /// A text is refused for at most one cause, at one place, and only where it reads as no program.
 pub fn one_fault()
-    ensures cause { (text : List ℕ) (k j : FaultCode) (s t : Span) → RefusedText text k s → RefusedText text j t → k ≡ j }
-    ensures place { (text : List ℕ) (k j : FaultCode) (s t : Span) → RefusedText text k s → RefusedText text j t → s ≡ t }
-    ensures unread { (text : List ℕ) (k : FaultCode) (s : Span) (p : ProgramTree) → RefusedText text k s → ¬ Reads text p }
+    ensures cause { (text : List ℕ) (k j : FaultCode) (s t : Span) → RefusedText text k s → RefusedText text j t →
+        k ≡ j }
+    ensures place { (text : List ℕ) (k j : FaultCode) (s t : Span) → RefusedText text k s → RefusedText text j t →
+        s ≡ t }
+    ensures unread { (text : List ℕ) (k : FaultCode) (s : Span) (p : ProgramTree) → RefusedText text k s →
+        ¬ Reads text p }
 {}

@@ -81,7 +81,8 @@ fn parse_list(alloc: Global, tokens: &[Token], end: u32) -> Result<Program, Text
     ensures derives { IfOk result (λ p. Derives tokens.now (program_of p)) }
     ensures only { IfOk result (λ p. (q : ProgramTree) → Derives tokens.now q → q ≡ program_of p) }
     ensures shallow { IfOk result (λ p. IsShallow tokens.now) }
-    ensures few_in_procs { IfOk result (λ p. list_all (λ (q : Procedure). few_arms q.body) (program_of p).procs ≡ true) }
+    ensures few_in_procs { IfOk result (λ p. list_all (λ (q : Procedure). few_arms q.body) (program_of p).procs ≡
+        true) }
     ensures few_in_body { IfOk result (λ p. few_arms (program_of p).body ≡ true) }
     ensures other { IfErr result (IfRefused (λ f. f.other ≡ f.at)) }
     ensures place { IfErr result (IfRefused (λ f. RefusedTokens tokens.now end f.code f.at)) }
@@ -113,7 +114,8 @@ fn parse_list(alloc: Global, tokens: &[Token], end: u32) -> Result<Program, Text
     Ok(program)
 }
 
-/// The program that a text of at most 262,144 bytes is. It has the shape of the grammar, and what it declares has names.
+/// The program that a text of at most 262,144 bytes is. It has the shape of the grammar, and what it declares has
+/// names.
 ///
 /// A text is refused at its first bytes that are no token (10), else at the first `#` (13), at the first `[|` (14), at
 /// the first token behind which more than 256 brackets are open (12), at the first token with which no program goes on,

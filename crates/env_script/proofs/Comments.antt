@@ -16,7 +16,8 @@ comment_at : (line : List ℕ) (k : ℕ) → k + 1 < length line → get_or line
 comment_at line k within one two =
     rw (two_at line k within, eq-eqb (get_or line k 0) 47 one, eq-eqb (get_or line (k + 1) 0) 47 two) refl
 
-none_at : (line : List ℕ) (k : ℕ) → k + 1 < length line → (get_or line k 0 == 47 && get_or line (k + 1) 0 == 47) ≡ false → uncommented (drop k line) ≡ get_or line k 0 ∷ uncommented (drop (k + 1) line)
+none_at : (line : List ℕ) (k : ℕ) → k + 1 < length line → (get_or line k 0 == 47 && get_or line (k + 1) 0 == 47) ≡ false →
+    uncommented (drop k line) ≡ get_or line k 0 ∷ uncommented (drop (k + 1) line)
 none_at line k within none =
     let next : k + 1 + 1 ≡ k + 2 = omega arith in
     rw (two_at line k within, none, drop_more line (k + 1) 0 within, next) refl
@@ -24,7 +25,8 @@ none_at line k within none =
 abbrev SoFar : List ℕ → ℕ → Type 0
 SoFar line k = uncommented line ≡ take k line ++ uncommented (drop k line)
 
-pub comment_here : (line : List ℕ) (at : ℕ) → 1 ≤ at → at < length line → get_or line (at - 1) 0 ≡ 47 → get_or line at 0 ≡ 47 → SoFar line (at - 1) → take (at - 1) line ≡ uncommented line
+pub comment_here : (line : List ℕ) (at : ℕ) → 1 ≤ at → at < length line → get_or line (at - 1) 0 ≡ 47 → get_or line at 0 ≡ 47 → SoFar line (at - 1) →
+    take (at - 1) line ≡ uncommented line
 comment_here line at some within one two so_far =
     let same : at - 1 + 1 ≡ at = omega arith in
     let two_here : get_or line (at - 1 + 1) 0 ≡ 47 = ap (λ i. get_or line i 0) same ∙ two in
@@ -33,13 +35,17 @@ comment_here line at some within one two so_far =
 more_at : (line : List ℕ) (k : ℕ) → k + 1 < length line → (get_or line k 0 == 47 && get_or line (k + 1) 0 == 47) ≡ false → SoFar line k → SoFar line (k + 1)
 more_at line k within none so_far =
     let here : k < length line = omega arith in
-    so_far ∙ ap (λ xs. take k line ++ xs) (none_at line k within none) ∙ sym (append_assoc (take k line) (get_or line k 0 ∷ []) (uncommented (drop (k + 1) line))) ∙ ap (λ xs. xs ++ uncommented (drop (k + 1) line)) (sym (take_more line k 0 here))
+    so_far ∙ ap (λ xs. take k line ++ xs) (none_at line k within none)
+        ∙ sym (append_assoc (take k line) (get_or line k 0 ∷ []) (uncommented (drop (k + 1) line)))
+        ∙ ap (λ xs. xs ++ uncommented (drop (k + 1) line)) (sym (take_more line k 0 here))
 
-pub no_comment : (line : List ℕ) (at : ℕ) → 1 ≤ at → at < length line → (get_or line (at - 1) 0 == 47 && get_or line at 0 == 47) ≡ false → SoFar line (at - 1) → SoFar line (at + 1 - 1)
+pub no_comment : (line : List ℕ) (at : ℕ) → 1 ≤ at → at < length line → (get_or line (at - 1) 0 == 47 && get_or line at 0 == 47) ≡ false → SoFar line (at - 1) →
+    SoFar line (at + 1 - 1)
 no_comment line at some within none so_far =
     let same : at - 1 + 1 ≡ at = omega arith in
     let next : at + 1 - 1 ≡ at - 1 + 1 = omega arith in
-    let none_here : (get_or line (at - 1) 0 == 47 && get_or line (at - 1 + 1) 0 == 47) ≡ false = ap (λ i. get_or line (at - 1) 0 == 47 && get_or line i 0 == 47) same ∙ none in
+    let none_here : (get_or line (at - 1) 0 == 47 && get_or line (at - 1 + 1) 0 == 47) ≡ false =
+        ap (λ i. get_or line (at - 1) 0 == 47 && get_or line i 0 == 47) same ∙ none in
     rw next (more_at line (at - 1) (omega arith) none_here so_far)
 
 last_byte : (xs : List ℕ) → length xs ≤ 1 → uncommented xs ≡ xs
@@ -49,4 +55,5 @@ last_byte (x ∷ y ∷ xs) few = absurd (omega arith)
 
 pub no_more : (line : List ℕ) (at : ℕ) → length line ≤ at → SoFar line (at - 1) → line ≡ uncommented line
 no_more line at past so_far =
-    sym (so_far ∙ ap (λ xs. take (at - 1) line ++ xs) (last_byte (drop (at - 1) line) (omega (arith, length-drop (at - 1) line))) ∙ take-append-drop (at - 1) line)
+    sym (so_far ∙ ap (λ xs. take (at - 1) line ++ xs) (last_byte (drop (at - 1) line) (omega (arith, length-drop (at - 1) line)))
+        ∙ take-append-drop (at - 1) line)

@@ -9,10 +9,12 @@ use Rattle.env_script.specs.Runs.{RunState, move_enabled, moved, after, IsRun, I
 use Rattle.env_script.specs.OneLength.{AllSafe, times_moved, IsAlike, EndsAll}
 use Rattle.env_script.proofs.Commuting.{commute}
 
-safe_move : (net : NetValue) (script : List OfferValue) (st : RunState) (n : ℕ) → AllSafe net script st → move_enabled net script st n ≡ true → IsSafeMove net script st n
+safe_move : (net : NetValue) (script : List OfferValue) (st : RunState) (n : ℕ) → AllSafe net script st → move_enabled net script st n ≡ true →
+    IsSafeMove net script st n
 safe_move net script st n all enabled = (all (n ∷ []) (enabled, tt)).1
 
-safe_behind : (net : NetValue) (script : List OfferValue) (st : RunState) (n : ℕ) → AllSafe net script st → move_enabled net script st n ≡ true → AllSafe net script (moved net st n)
+safe_behind : (net : NetValue) (script : List OfferValue) (st : RunState) (n : ℕ) → AllSafe net script st → move_enabled net script st n ≡ true →
+    AllSafe net script (moved net st n)
 safe_behind net script st n all enabled ns run = (all (n ∷ ns) (enabled, run)).2
 
 once_more : ℕ → ℕ → ℕ
@@ -22,11 +24,13 @@ times_more : (node n : ℕ) (ns : List ℕ) → times_moved node (n ∷ ns) ≡ 
 unfolding once_more
 times_more node n ns = sum_by-cons (λ m. cond (m == node) 1 0) n ns
 
-times_behind : (node a b : ℕ) (ns rest : List ℕ) → times_moved node ns ≡ times_moved node (a ∷ rest) → times_moved node (b ∷ ns) ≡ times_moved node (a ∷ b ∷ rest)
+times_behind : (node a b : ℕ) (ns rest : List ℕ) → times_moved node ns ≡ times_moved node (a ∷ rest) →
+    times_moved node (b ∷ ns) ≡ times_moved node (a ∷ b ∷ rest)
 times_behind node a b ns rest same =
     omega (arith, times_more node b ns, times_more node a (b ∷ rest), times_more node b rest, times_more node a rest)
 
-times_same : (node m : ℕ) (ms ns rest : List ℕ) → times_moved node ns ≡ times_moved node (m ∷ rest) → times_moved node ms ≡ times_moved node rest → times_moved node (m ∷ ms) ≡ times_moved node ns
+times_same : (node m : ℕ) (ms ns rest : List ℕ) → times_moved node ns ≡ times_moved node (m ∷ rest) → times_moved node ms ≡ times_moved node rest →
+    times_moved node (m ∷ ms) ≡ times_moved node ns
 times_same node m ms ns rest one two = omega (arith, times_more node m rest, times_more node m ms)
 
 -- the run with the move at its front, without it
@@ -37,9 +41,12 @@ record Fronted (net : NetValue) (script : List OfferValue) (st : RunState) (a : 
   moves : length ns ≡ suc (length rest)
   each : (node : ℕ) → times_moved node ns ≡ times_moved node (a ∷ rest)
 
-bring_front : (net : NetValue) (script : List OfferValue) → IsNet net → (a : ℕ) (ns : List ℕ) (st : RunState) → AllSafe net script st → move_enabled net script st a ≡ true → IsRun net script st ns → IsAtRest net script (after net st ns) → Fronted net script st a ns
+bring_front : (net : NetValue) (script : List OfferValue) → IsNet net → (a : ℕ) (ns : List ℕ) (st : RunState) → AllSafe net script st →
+    move_enabled net script st a ≡ true → IsRun net script st ns → IsAtRest net script (after net st ns) → Fronted net script st a ns
 bring_front net script is a [] st all enabled run rests = absurd (both_ways _ (rests a) enabled)
-bring_front net script is a (b ∷ ns) st all enabled run rests = by_move (cases_eq b a) (λ apart. bring_front net script is a ns (moved net st b) (safe_behind net script st b all run.0) ((safe_move net script st b all run.0).stable a (λ e. apart (sym e)) enabled) run.1 rests)
+bring_front net script is a (b ∷ ns) st all enabled run rests =
+    by_move (cases_eq b a) (λ apart. bring_front net script is a ns (moved net st b) (safe_behind net script st b all run.0)
+    ((safe_move net script st b all run.0).stable a (λ e. apart (sym e)) enabled) run.1 rests)
   where
     by_move : (b ≡ a) ⊎ (b ≡ a → ⊥) → ((b ≡ a → ⊥) → Fronted net script (moved net st b) a ns) → Fronted net script st a (b ∷ ns)
     by_move (inl same) later =
@@ -48,7 +55,8 @@ bring_front net script is a (b ∷ ns) st all enabled run rests = by_move (cases
         let more = later apart in
         let one = safe_move net script st a all enabled in
         let two = safe_move net script st b all run.0 in
-        let meet : moved net (moved net st a) b ≡ moved net (moved net st b) a = commute net script st a b is (λ e. apart (sym e)) enabled run.0 one.phases two.phases in
+        let meet : moved net (moved net st a) b ≡ moved net (moved net st b) a =
+            commute net script st a b is (λ e. apart (sym e)) enabled run.0 one.phases two.phases in
         record {
           rest = b ∷ more.rest;
           run = (one.stable b apart run.0, subst (λ (s : RunState). IsRun net script s more.rest) (sym meet) more.run);
@@ -57,7 +65,8 @@ bring_front net script is a (b ∷ ns) st all enabled run rests = by_move (cases
           each = λ node. times_behind node a b ns more.rest (more.each node);
         }
 
-bounded : (net : NetValue) (script : List OfferValue) → IsNet net → (ms ns : List ℕ) (st : RunState) → AllSafe net script st → IsRun net script st ns → IsAtRest net script (after net st ns) → IsRun net script st ms → length ms ≤ length ns
+bounded : (net : NetValue) (script : List OfferValue) → IsNet net → (ms ns : List ℕ) (st : RunState) → AllSafe net script st → IsRun net script st ns →
+    IsAtRest net script (after net st ns) → IsRun net script st ms → length ms ≤ length ns
 bounded net script is [] ns st all run rests other = omega arith
 bounded net script is (m ∷ ms) ns st all run rests other =
     let front = bring_front net script is m ns st all other.0 run rests in
@@ -69,7 +78,8 @@ nothing_left : (net : NetValue) (script : List OfferValue) (st : RunState) (ns :
 nothing_left net script st [] rests run = refl
 nothing_left net script st (n ∷ ns) rests run = absurd (both_ways _ (rests n) run.0)
 
-all_alike : (net : NetValue) (script : List OfferValue) → IsNet net → (ms ns : List ℕ) (st : RunState) → AllSafe net script st → IsRun net script st ns → IsAtRest net script (after net st ns) → IsRun net script st ms → IsAtRest net script (after net st ms) → IsAlike net st ms ns
+all_alike : (net : NetValue) (script : List OfferValue) → IsNet net → (ms ns : List ℕ) (st : RunState) → AllSafe net script st → IsRun net script st ns →
+    IsAtRest net script (after net st ns) → IsRun net script st ms → IsAtRest net script (after net st ms) → IsAlike net st ms ns
 all_alike net script is [] ns st all run rests other ended =
     subst (λ (xs : List ℕ). IsAlike net st [] xs) (sym (nothing_left net script st ns ended run)) (record { moves = refl; each = λ node. refl; state = refl })
 all_alike net script is (m ∷ ms) ns st all run rests other ended =
@@ -82,7 +92,8 @@ all_alike net script is (m ∷ ms) ns st all run rests other ended =
       state = alike.state ∙ front.ends;
     }
 
-pub ends_all : (net : NetValue) (script : List OfferValue) (st : RunState) → IsNet net → AllSafe net script st → (ns : List ℕ) → IsRun net script st ns → IsAtRest net script (after net st ns) → EndsAll net script st ns
+pub ends_all : (net : NetValue) (script : List OfferValue) (st : RunState) → IsNet net → AllSafe net script st → (ns : List ℕ) → IsRun net script st ns →
+    IsAtRest net script (after net st ns) → EndsAll net script st ns
 ends_all net script st is all ns run rests = record {
   most = λ ms other. bounded net script is ms ns st all run rests other;
   alike = λ ms other ended. all_alike net script is ms ns st all run rests other ended;

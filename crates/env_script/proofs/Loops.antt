@@ -21,16 +21,22 @@ and_skips : (b c : Bool) → b ≡ true → (b && c) ≡ c
 and_skips true c e = refl
 and_skips false c e = absurd (cc e)
 
-pub raises_found : (v : ℕ → Bool) (value k n : ℕ) (rails : List ℕ) → 2 * k + 1 < length rails → raises_bit v (is_odd value) (get_or rails (2 * k) 0) (get_or rails (2 * k + 1) 0) n ≡ true → raises_value v value (drop (2 * k) rails) n ≡ true
+pub raises_found : (v : ℕ → Bool) (value k n : ℕ) (rails : List ℕ) → 2 * k + 1 < length rails →
+    raises_bit v (is_odd value) (get_or rails (2 * k) 0) (get_or rails (2 * k + 1) 0) n ≡ true → raises_value v value (drop (2 * k) rails) n ≡ true
 raises_found v value k n rails within here = rw (pair_front rails k within) (or_left _ _ here)
 
-pub raises_more : (v : ℕ → Bool) (value k n : ℕ) (rails : List ℕ) → 2 * k + 1 < length rails → raises_bit v (is_odd value) (get_or rails (2 * k) 0) (get_or rails (2 * k + 1) 0) n ≡ false → raises_value v (value / 2) (drop (2 * (k + 1)) rails) n ≡ raises_value v value (drop (2 * k) rails) n
+pub raises_more : (v : ℕ → Bool) (value k n : ℕ) (rails : List ℕ) → 2 * k + 1 < length rails →
+    raises_bit v (is_odd value) (get_or rails (2 * k) 0) (get_or rails (2 * k + 1) 0) n ≡ false →
+    raises_value v (value / 2) (drop (2 * (k + 1)) rails) n ≡ raises_value v value (drop (2 * k) rails) n
 raises_more v value k n rails within here = rw (pair_front rails k within) (sym (or_skips _ _ here))
 
-pub keeps_not : (v : ℕ → Bool) (ack k n : ℕ) (rails : List ℕ) → 2 * k + 1 < length rails → pair_keeps v ack (get_or rails (2 * k) 0) (get_or rails (2 * k + 1) 0) n ≡ false → rails_keep v ack (drop (2 * k) rails) n ≡ false
+pub keeps_not : (v : ℕ → Bool) (ack k n : ℕ) (rails : List ℕ) → 2 * k + 1 < length rails →
+    pair_keeps v ack (get_or rails (2 * k) 0) (get_or rails (2 * k + 1) 0) n ≡ false → rails_keep v ack (drop (2 * k) rails) n ≡ false
 keeps_not v ack k n rails within here = rw (pair_front rails k within) (and_left _ _ here)
 
-pub keeps_more : (v : ℕ → Bool) (ack k n : ℕ) (rails : List ℕ) → 2 * k + 1 < length rails → pair_keeps v ack (get_or rails (2 * k) 0) (get_or rails (2 * k + 1) 0) n ≡ true → rails_keep v ack (drop (2 * (k + 1)) rails) n ≡ rails_keep v ack (drop (2 * k) rails) n
+pub keeps_more : (v : ℕ → Bool) (ack k n : ℕ) (rails : List ℕ) → 2 * k + 1 < length rails →
+    pair_keeps v ack (get_or rails (2 * k) 0) (get_or rails (2 * k + 1) 0) n ≡ true →
+    rails_keep v ack (drop (2 * (k + 1)) rails) n ≡ rails_keep v ack (drop (2 * k) rails) n
 keeps_more v ack k n rails within here = rw (pair_front rails k within) (sym (and_skips _ _ here))
 
 -- a number that fails

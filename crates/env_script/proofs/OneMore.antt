@@ -20,14 +20,16 @@ pub other_name : (xs ys : List ℕ) → bytes_eq xs ys ≡ false → xs ≢ ys
 other_name xs ys no_match e = both_ways (bytes_eq xs ys) no_match (same xs ys e)
 
 -- a map that differs at one place
-map_same : {X : Type 0} (f g : Channel → X) (cs : List Channel) → ((j : ℕ) (d : Channel) → j < length cs → g (get_or cs j d) ≡ f (get_or cs j d)) → map g cs ≡ map f cs
+map_same : {X : Type 0} (f g : Channel → X) (cs : List Channel) → ((j : ℕ) (d : Channel) → j < length cs → g (get_or cs j d) ≡ f (get_or cs j d)) →
+    map g cs ≡ map f cs
 map_same f g [] agree = refl
 map_same {X} f g (c ∷ cs) agree =
     let head : g c ≡ f c = agree 0 c (omega arith) in
     let tail : map g cs ≡ map f cs = map_same f g cs (λ j d within. agree (suc j) d (omega arith)) in
     ap (λ (x : X). x ∷ map g cs) head ∙ ap (λ (xs : List X). f c ∷ xs) tail
 
-map_set : {X : Type 0} (f g : Channel → X) (cs : List Channel) (k : ℕ) (c : Channel) (y : X) → k < length cs → ((d : Channel) → get_or cs k d ≡ c) → g c ≡ y → ((j : ℕ) (d : Channel) → j < length cs → j ≢ k → g (get_or cs j d) ≡ f (get_or cs j d)) → map g cs ≡ set (map f cs) k y
+map_set : {X : Type 0} (f g : Channel → X) (cs : List Channel) (k : ℕ) (c : Channel) (y : X) → k < length cs → ((d : Channel) → get_or cs k d ≡ c) → g c ≡ y →
+    ((j : ℕ) (d : Channel) → j < length cs → j ≢ k → g (get_or cs j d) ≡ f (get_or cs j d)) → map g cs ≡ set (map f cs) k y
 map_set f g [] k c y within is here others = absurd (omega arith)
 map_set {X} f g (b ∷ bs) zero c y within is here others =
     let head : g b ≡ y = ap g (is b) ∙ here in
@@ -35,7 +37,8 @@ map_set {X} f g (b ∷ bs) zero c y within is here others =
     ap (λ (x : X). x ∷ map g bs) head ∙ ap (λ (xs : List X). y ∷ xs) tail
 map_set {X} f g (b ∷ bs) (suc k) c y within is here others =
     let head : g b ≡ f b = others 0 b (omega arith) (omega arith) in
-    let tail : map g bs ≡ set (map f bs) k y = map_set f g bs k c y (omega arith) is here (λ j d in_range apart. others (suc j) d (omega arith) (λ e. apart (omega arith))) in
+    let tail : map g bs ≡ set (map f bs) k y =
+        map_set f g bs k c y (omega arith) is here (λ j d in_range apart. others (suc j) d (omega arith) (λ e. apart (omega arith))) in
     ap (λ (x : X). x ∷ map g bs) head ∙ ap (λ (xs : List X). f b ∷ xs) tail
 
 -- what is said of a name behind one more line
@@ -62,7 +65,8 @@ abbrev pub AreDistinct : List Channel → Type 0
 AreDistinct channels = AllPairs (λ (a b : Channel). a.name ≢ b.name) channels
 
 -- the channels at other places have other names
-others_named : (channels : List Channel) (name : List ℕ) (k : ℕ) (c : Channel) → AreDistinct channels → IsPlace channels name k c → (j : ℕ) (d : Channel) → j < length channels → j ≢ k → name ≢ (get_or channels j d).name
+others_named : (channels : List Channel) (name : List ℕ) (k : ℕ) (c : Channel) → AreDistinct channels → IsPlace channels name k c → (j : ℕ) (d : Channel) →
+    j < length channels → j ≢ k → name ≢ (get_or channels j d).name
 others_named channels name k c distinct here j d within apart e = by_order (cases_order j k)
   where
     at_k : (get_or channels k d).name ≡ name
@@ -73,19 +77,25 @@ others_named channels name k c distinct here j d within apart e = by_order (case
     by_order (inr (inl before)) = distinct j k d before here.within (sym e ∙ sym at_k)
     by_order (inr (inr behind)) = distinct k j d behind within (at_k ∙ e)
 
-pub script_more : (channels : List Channel) (ls : List Line) (l : Line) (k : ℕ) (c : Channel) → AreDistinct channels → IsPlace channels l.name k c → is_told ls l.name ≡ false → script_of channels (ls ++ l ∷ []) ≡ set (script_of channels ls) k (offer_of c.kind (Some l.said))
+pub script_more : (channels : List Channel) (ls : List Line) (l : Line) (k : ℕ) (c : Channel) → AreDistinct channels → IsPlace channels l.name k c →
+    is_told ls l.name ≡ false → script_of channels (ls ++ l ∷ []) ≡ set (script_of channels ls) k (offer_of c.kind (Some l.said))
 script_more channels ls l k c distinct here fresh =
-    map_set (λ (x : Channel). offer_of x.kind (said_of ls x.name)) (λ (x : Channel). offer_of x.kind (said_of (ls ++ l ∷ []) x.name)) channels k c (offer_of c.kind (Some l.said)) here.within here.is
+    map_set (λ (x : Channel). offer_of x.kind (said_of ls x.name)) (λ (x : Channel). offer_of x.kind (said_of (ls ++ l ∷ []) x.name)) channels k c
+        (offer_of c.kind (Some l.said)) here.within here.is
     (ap (offer_of c.kind) (ap (said_of (ls ++ l ∷ [])) here.named ∙ said_more ls l fresh))
-    (λ j d within apart. ap (offer_of (get_or channels j d).kind) (said_other ls l (get_or channels j d).name (others_named channels l.name k c distinct here j d within apart)))
+    (λ j d within apart. ap (offer_of (get_or channels j d).kind)
+        (said_other ls l (get_or channels j d).name (others_named channels l.name k c distinct here j d within apart)))
 
-pub flags_more : (channels : List Channel) (ls : List Line) (l : Line) (k : ℕ) (c : Channel) → AreDistinct channels → IsPlace channels l.name k c → map (λ (x : Channel). is_told (ls ++ l ∷ []) x.name) channels ≡ set (map (λ (x : Channel). is_told ls x.name) channels) k true
+pub flags_more : (channels : List Channel) (ls : List Line) (l : Line) (k : ℕ) (c : Channel) → AreDistinct channels → IsPlace channels l.name k c →
+    map (λ (x : Channel). is_told (ls ++ l ∷ []) x.name) channels ≡ set (map (λ (x : Channel). is_told ls x.name) channels) k true
 flags_more channels ls l k c distinct here =
     map_set (λ (x : Channel). is_told ls x.name) (λ (x : Channel). is_told (ls ++ l ∷ []) x.name) channels k c true here.within here.is
     (ap (is_told (ls ++ l ∷ [])) here.named ∙ told_more ls l)
     (λ j d within apart. told_other ls l (get_or channels j d).name (others_named channels l.name k c distinct here j d within apart))
 
 -- whether a channel was told of
-pub flag_at : (channels : List Channel) (ls : List Line) (told : List Bool) (name : List ℕ) (k : ℕ) (c : Channel) → told ≡ map (λ (x : Channel). is_told ls x.name) channels → IsPlace channels name k c → told_at told k ≡ is_told ls name
+pub flag_at : (channels : List Channel) (ls : List Line) (told : List Bool) (name : List ℕ) (k : ℕ) (c : Channel) →
+    told ≡ map (λ (x : Channel). is_told ls x.name) channels → IsPlace channels name k c → told_at told k ≡ is_told ls name
 flag_at channels ls told name k c is here =
-    ap (λ (bs : List Bool). told_at bs k) is ∙ get_or-map (λ (x : Channel). is_told ls x.name) channels k c false here.within ∙ ap (λ (x : Channel). is_told ls x.name) (here.is c) ∙ ap (is_told ls) here.named
+    ap (λ (bs : List Bool). told_at bs k) is ∙ get_or-map (λ (x : Channel). is_told ls x.name) channels k c false here.within
+        ∙ ap (λ (x : Channel). is_told ls x.name) (here.is c) ∙ ap (is_told ls) here.named

@@ -101,7 +101,8 @@ suits_outside Chan said suited = absurd (cc suited)
 not_told : (fs : List Line) (name : List ℕ) → ((k : ℕ) (d : Line) → k < length fs → (get_or fs k d).name ≢ name) → is_told fs name ≡ false
 not_told [] name apart = refl
 not_told (f ∷ fs) name apart =
-    or_from (bytes_eq f.name name) (is_told fs name) (differ f.name name (apart 0 f (omega arith))) (not_told fs name (λ k d within. apart (suc k) d (omega arith)))
+    or_from (bytes_eq f.name name) (is_told fs name) (differ f.name name (apart 0 f (omega arith)))
+        (not_told fs name (λ k d within. apart (suc k) d (omega arith)))
 
 at_end : {X : Type 0} (fs : List X) (l : X) (rest : List X) (d : X) → get_or (fs ++ l ∷ rest) (length fs) d ≡ l
 at_end [] l rest d = refl
@@ -116,7 +117,8 @@ in_front [] rest k d within = absurd (omega arith)
 in_front (f ∷ fs) rest zero d within = refl
 in_front (f ∷ fs) rest (suc k) d within = in_front fs rest k d (omega arith)
 
-no_fault : (c : Channel) (again : Bool) (before : ℕ) (said : Said) → again ≡ false → suits c.kind said ≡ true → fits c.kind c.width said ≡ true → before + values_in c.kind said ≤ 65536 → fault_on c again before said ≡ None
+no_fault : (c : Channel) (again : Bool) (before : ℕ) (said : Said) → again ≡ false → suits c.kind said ≡ true → fits c.kind c.width said ≡ true →
+    before + values_in c.kind said ≤ 65536 → fault_on c again before said ≡ None
 no_fault c again before said fresh suited fitting few =
     rw (suits_outside c.kind said suited, fresh, suited, fitting, le-ltb 65536 (before + values_in c.kind said) few) refl
 
@@ -124,12 +126,17 @@ faultless : (channels : List Channel) (fs : List Line) (l : Line) (rest : List L
 faultless channels fs l rest good =
     let here : IsLineOf channels l = subst (IsLineOf channels) (at_end fs l rest l) (good.each (length fs) l (long_enough fs l rest)) in
     let c : Channel = here.channel in
-    let fresh : is_told fs l.name ≡ false = not_told fs l.name (λ k d within same. good.once k (length fs) d within (long_enough fs l rest) (ap (λ (m : Line). m.name) (in_front fs (l ∷ rest) k d within) ∙ same ∙ ap (λ (m : Line). m.name) (sym (at_end fs l rest d)))) in
+    let fresh : is_told fs l.name ≡ false = not_told fs l.name
+        (λ k d within same. good.once k (length fs) d within (long_enough fs l rest) (ap (λ (m : Line). m.name) (in_front fs (l ∷ rest) k d within) ∙ same
+        ∙ ap (λ (m : Line). m.name) (sym (at_end fs l rest d)))) in
     let value : Line → ℕ = λ m. values_on (channel_named channels m.name) m.said in
-    let parts : values_told channels (fs ++ l ∷ rest) ≡ values_told channels fs + values_told channels (l ∷ rest) = sum_by-append (λ (m : Line). values_on (channel_named channels m.name) m.said) fs (l ∷ rest) in
-    let first : values_told channels (l ∷ rest) ≡ values_on (channel_named channels l.name) l.said + values_told channels rest = sum_by-cons (λ (m : Line). values_on (channel_named channels m.name) m.said) l rest in
+    let parts : values_told channels (fs ++ l ∷ rest) ≡ values_told channels fs + values_told channels (l ∷ rest) =
+        sum_by-append (λ (m : Line). values_on (channel_named channels m.name) m.said) fs (l ∷ rest) in
+    let first : values_told channels (l ∷ rest) ≡ values_on (channel_named channels l.name) l.said + values_told channels rest =
+        sum_by-cons (λ (m : Line). values_on (channel_named channels m.name) m.said) l rest in
     let own : values_on (channel_named channels l.name) l.said ≡ values_in c.kind l.said = ap (λ (o : Option Channel). values_on o l.said) here.named in
-    ap (λ (o : Option Channel). fault_at o (is_told fs l.name) (values_told channels fs) l.said) here.named ∙ no_fault c (is_told fs l.name) (values_told channels fs) l.said fresh here.suited here.fitting (omega (arith, good.few))
+    ap (λ (o : Option Channel). fault_at o (is_told fs l.name) (values_told channels fs) l.said) here.named
+        ∙ no_fault c (is_told fs l.name) (values_told channels fs) l.said fresh here.suited here.fitting (omega (arith, good.few))
 
 -- Lines of a text in front of a line.
 
@@ -137,7 +144,8 @@ abbrev worded : List (List ℕ) → List (List (List ℕ))
 worded lines = filter is_some_line (map words_of lines)
 
 worded_parts : (before : List (List ℕ)) (here : List ℕ) (behind : List (List ℕ)) → worded (before ++ here ∷ behind) ≡ worded before ++ worded (here ∷ behind)
-worded_parts before here behind = ap (filter is_some_line) (map-append words_of before (here ∷ behind)) ∙ filter-append is_some_line (map words_of before) (map words_of (here ∷ behind))
+worded_parts before here behind = ap (filter is_some_line) (map-append words_of before (here ∷ behind))
+    ∙ filter-append is_some_line (map words_of before) (map words_of (here ∷ behind))
 
 worded_here : (here : List ℕ) (behind : List (List ℕ)) → 0 < length (words_of here) → worded (here ∷ behind) ≡ words_of here ∷ worded behind
 worded_here here behind some = rw (is_some (length (words_of here)) some) refl
@@ -162,7 +170,8 @@ parted (w ∷ wss) vss (l ∷ ls) all =
 says_some : (words : List (List ℕ)) (l : Line) → Says words l → 0 < length words
 says_some words l says = let e : length words ≡ suc (length says.behind) = ap length says.spelled in omega arith
 
-no_fault_at : (channels : List Channel) (fs : List Line) (words : List (List ℕ)) (wss : List (List (List ℕ))) (back : List Line) (fault : ScriptFault) → IsGood channels (fs ++ back) → AllZip Says (words ∷ wss) back → LineFault channels fs words fault → ⊥
+no_fault_at : (channels : List Channel) (fs : List Line) (words : List (List ℕ)) (wss : List (List (List ℕ))) (back : List Line) (fault : ScriptFault) →
+    IsGood channels (fs ++ back) → AllZip Says (words ∷ wss) back → LineFault channels fs words fault → ⊥
 no_fault_at channels fs words wss [] fault good all is = all
 no_fault_at channels fs words wss (l ∷ back) fault good all (bad_line some none) = none l all.0
 no_fault_at channels fs words wss (l ∷ back) fault good all (of_line m says is) =
@@ -175,21 +184,27 @@ fault_some channels fs words fault (bad_line some none) = some
 fault_some channels fs words fault (of_line l says is) = says_some words l says
 
 -- lines that are told have no fault among them
-no_fault_within : (channels : List Channel) (lines : List (List ℕ)) (ls : List Line) (before : List (List ℕ)) (here : List ℕ) (behind : List (List ℕ)) (fs : List Line) (fault : ScriptFault) → IsTold channels lines ls → lines ≡ before ++ here ∷ behind → IsTold channels before fs → LineFault channels fs (words_of here) fault → ⊥
+no_fault_within : (channels : List Channel) (lines : List (List ℕ)) (ls : List Line) (before : List (List ℕ)) (here : List ℕ) (behind : List (List ℕ))
+    (fs : List Line) (fault : ScriptFault) → IsTold channels lines ls → lines ≡ before ++ here ∷ behind → IsTold channels before fs →
+    LineFault channels fs (words_of here) fault → ⊥
 no_fault_within channels lines ls before here behind fs fault told parts front fault_here =
-    let cut : worded lines ≡ worded before ++ (words_of here ∷ worded behind) = ap worded parts ∙ worded_parts before here behind ∙ ap (λ (v : List (List (List ℕ))). worded before ++ v) (worded_here here behind (fault_some channels fs (words_of here) fault fault_here)) in
+    let cut : worded lines ≡ worded before ++ (words_of here ∷ worded behind) = ap worded parts ∙ worded_parts before here behind
+        ∙ ap (λ (v : List (List (List ℕ))). worded before ++ v) (worded_here here behind (fault_some channels fs (words_of here) fault fault_here)) in
     let two = parted (worded before) (words_of here ∷ worded behind) ls (subst (λ (v : List (List (List ℕ))). AllZip Says v ls) cut told.says) in
     let one : two.front ≡ fs = lines_once (worded before) two.front fs two.fronts front.says in
     let good : IsGood channels (fs ++ two.back) = subst (IsGood channels) (two.whole ∙ ap (λ (v : List Line). v ++ two.back) one) told.good in
     no_fault_at channels fs (words_of here) (worded behind) two.back fault good two.backs fault_here
 
-pub no_script : (channels : List Channel) (text : List ℕ) (s : List OfferValue) (fault : ScriptFault) (line : ℕ) → IsRefused channels text fault line → IsScriptText channels text s → ⊥
+pub no_script : (channels : List Channel) (text : List ℕ) (s : List OfferValue) (fault : ScriptFault) (line : ℕ) → IsRefused channels text fault line →
+    IsScriptText channels text s → ⊥
 no_script channels text s fault line refused is =
-    no_fault_within channels (lines_of text) is.lines refused.before refused.here refused.behind refused.lines fault is.told refused.parts refused.told refused.fault_here
+    no_fault_within channels (lines_of text) is.lines refused.before refused.here refused.behind refused.lines fault is.told refused.parts refused.told
+        refused.fault_here
 
 -- Two refusals are one.
 
-fault_once : (channels : List Channel) (fs : List Line) (words : List (List ℕ)) (f g : ScriptFault) → LineFault channels fs words f → LineFault channels fs words g → f ≡ g
+fault_once : (channels : List Channel) (fs : List Line) (words : List (List ℕ)) (f g : ScriptFault) → LineFault channels fs words f →
+    LineFault channels fs words g → f ≡ g
 fault_once channels fs words f g (bad_line some none) (bad_line some_too none_too) = refl
 fault_once channels fs words f g (bad_line some none) (of_line l says is) = absurd (none l says)
 fault_once channels fs words f g (of_line l says is) (bad_line some none) = absurd (none l says)
@@ -201,7 +216,8 @@ record Longer (before : List (List ℕ)) (here : List ℕ) (others : List (List 
   between : List (List ℕ)
   whole : others ≡ before ++ here ∷ between
 
-longer : (before : List (List ℕ)) (here : List ℕ) (behind others : List (List ℕ)) (there : List ℕ) (rest : List (List ℕ)) → before ++ here ∷ behind ≡ others ++ there ∷ rest → length before < length others → Longer before here others
+longer : (before : List (List ℕ)) (here : List ℕ) (behind others : List (List ℕ)) (there : List ℕ) (rest : List (List ℕ)) →
+    before ++ here ∷ behind ≡ others ++ there ∷ rest → length before < length others → Longer before here others
 longer before here behind [] there rest same less = absurd (omega arith)
 longer [] here behind (o ∷ others) there rest same less =
     let e : here ≡ o = cc same in
@@ -216,7 +232,8 @@ record SameFront (before others : List (List ℕ)) (here there : List ℕ) : Typ
   fronts : before ≡ others
   heres : here ≡ there
 
-same_front : (before : List (List ℕ)) (here : List ℕ) (behind others : List (List ℕ)) (there : List ℕ) (rest : List (List ℕ)) → before ++ here ∷ behind ≡ others ++ there ∷ rest → length before ≡ length others → SameFront before others here there
+same_front : (before : List (List ℕ)) (here : List ℕ) (behind others : List (List ℕ)) (there : List ℕ) (rest : List (List ℕ)) →
+    before ++ here ∷ behind ≡ others ++ there ∷ rest → length before ≡ length others → SameFront before others here there
 same_front [] here behind [] there rest same count = record { fronts = refl; heres = cc same }
 same_front [] here behind (o ∷ others) there rest same count = absurd (omega arith)
 same_front (b ∷ before) here behind [] there rest same count = absurd (omega arith)
@@ -226,7 +243,8 @@ same_front (b ∷ before) here behind (o ∷ others) there rest same count =
     let more = same_front before here behind others there rest tail (omega arith) in
     record { fronts = ap (λ (x : List ℕ). x ∷ before) head ∙ ap (λ (xs : List (List ℕ)). o ∷ xs) more.fronts; heres = more.heres }
 
-pub one_refusal : (channels : List Channel) (text : List ℕ) (f g : ScriptFault) (n m : ℕ) → IsRefused channels text f n → IsRefused channels text g m → (f ≡ g) × (n ≡ m)
+pub one_refusal : (channels : List Channel) (text : List ℕ) (f g : ScriptFault) (n m : ℕ) → IsRefused channels text f n → IsRefused channels text g m →
+    (f ≡ g) × (n ≡ m)
 one_refusal channels text f g n m one two = by_order (cases_order (length one.before) (length two.before))
   where
     same : one.before ++ one.here ∷ one.behind ≡ two.before ++ two.here ∷ two.behind
@@ -237,7 +255,9 @@ one_refusal channels text f g n m one two = by_order (cases_order (length one.be
         let front = same_front one.before one.here one.behind two.before two.here two.behind same count in
         let told : IsTold channels two.before one.lines = subst (λ (v : List (List ℕ)). IsTold channels v one.lines) front.fronts one.told in
         let lines : one.lines ≡ two.lines = lines_once (worded two.before) one.lines two.lines told.says two.told.says in
-        let moved : LineFault channels two.lines (words_of two.here) f = subst (λ (v : List ℕ). LineFault channels two.lines (words_of v) f) front.heres (subst (λ (ls : List Line). LineFault channels ls (words_of one.here) f) lines one.fault_here) in
+        let moved : LineFault channels two.lines (words_of two.here) f =
+            subst (λ (v : List ℕ). LineFault channels two.lines (words_of v) f) front.heres
+            (subst (λ (ls : List Line). LineFault channels ls (words_of one.here) f) lines one.fault_here) in
         (fault_once channels two.lines (words_of two.here) f g moved two.fault_here, omega (arith, one.number, two.number))
     by_order (inr (inl less)) =
         let more = longer one.before one.here one.behind two.before two.here two.behind same less in

@@ -12,12 +12,15 @@ use Rattle.env_script.specs.ScriptText.{Says, channel_named}
 use Rattle.env_script.specs.LineSteps.{IsPlace}
 use Rattle.env_script.proofs.Sayings.{Words, texts}
 
-pub position_cases : {X : Type 0} (p : X → Bool) (x : X) (xs : List X) (b : Bool) → p x ≡ b → position p (x ∷ xs) ≡ cond b (Some 0) (option_map (λ k. suc k) (position p xs))
+pub position_cases : {X : Type 0} (p : X → Bool) (x : X) (xs : List X) (b : Bool) → p x ≡ b →
+    position p (x ∷ xs) ≡ cond b (Some 0) (option_map (λ k. suc k) (position p xs))
 position_cases p x xs true is = rw is (ap (λ t. cond t (Some 0) None) (lt-ltb 0 (suc (length xs)) (omega arith)))
 position_cases p x xs false is = rw is (by_order (cases_lt (position_or_len p xs) (length xs)))
   where
-    by_order : (position_or_len p xs < length xs) ⊎ (length xs ≤ position_or_len p xs) → cond (nat_lt (1 + position_or_len p xs) (suc (length xs))) (Some (1 + position_or_len p xs)) None ≡ option_map (λ k. suc k) (position p xs)
-    by_order (inl below) = rw (lt-ltb (1 + position_or_len p xs) (suc (length xs)) (omega arith), lt-ltb (position_or_len p xs) (length xs) below) (ap Some (omega arith))
+    by_order : (position_or_len p xs < length xs) ⊎ (length xs ≤ position_or_len p xs) →
+        cond (nat_lt (1 + position_or_len p xs) (suc (length xs))) (Some (1 + position_or_len p xs)) None ≡ option_map (λ k. suc k) (position p xs)
+    by_order (inl below) = rw (lt-ltb (1 + position_or_len p xs) (suc (length xs)) (omega arith), lt-ltb (position_or_len p xs) (length xs) below)
+        (ap Some (omega arith))
     by_order (inr past) = rw (le-ltb (1 + position_or_len p xs) (suc (length xs)) (omega arith), le-ltb (position_or_len p xs) (length xs) past) refl
 
 named_as : List ℕ → Channel → Bool
@@ -30,7 +33,8 @@ at_place [] (Some k) = None
 at_place (c ∷ cs) (Some zero) = Some c
 at_place (c ∷ cs) (Some (suc k)) = at_place cs (Some k)
 
-named_at : (channels : List Channel) (name : List ℕ) → channel_named channels name ≡ at_place channels (position (λ (c : Channel). bytes_eq c.name name) channels)
+named_at : (channels : List Channel) (name : List ℕ) →
+    channel_named channels name ≡ at_place channels (position (λ (c : Channel). bytes_eq c.name name) channels)
 named_at [] name = refl
 named_at (c ∷ cs) name = by_name (bytes_eq c.name name) refl (named_at cs name)
   where
@@ -41,9 +45,11 @@ named_at (c ∷ cs) name = by_name (bytes_eq c.name name) refl (named_at cs name
     further None = refl
     further (Some k) = refl
 
-    by_name : (b : Bool) → bytes_eq c.name name ≡ b → channel_named cs name ≡ at_place cs (position (λ (c : Channel). bytes_eq c.name name) cs) → (if b then Some c else channel_named cs name) ≡ at_place (c ∷ cs) (position (λ (c : Channel). bytes_eq c.name name) (c ∷ cs))
+    by_name : (b : Bool) → bytes_eq c.name name ≡ b → channel_named cs name ≡ at_place cs (position (λ (c : Channel). bytes_eq c.name name) cs) →
+        (if b then Some c else channel_named cs name) ≡ at_place (c ∷ cs) (position (λ (c : Channel). bytes_eq c.name name) (c ∷ cs))
     by_name true is later = sym (ap (at_place (c ∷ cs)) (position_cases (λ (c : Channel). bytes_eq c.name name) c cs true is))
-    by_name false is later = later ∙ sym (ap (at_place (c ∷ cs)) (position_cases (λ (c : Channel). bytes_eq c.name name) c cs false is) ∙ further (position (λ (c : Channel). bytes_eq c.name name) cs))
+    by_name false is later = later ∙ sym (ap (at_place (c ∷ cs)) (position_cases (λ (c : Channel). bytes_eq c.name name) c cs false is)
+        ∙ further (position (λ (c : Channel). bytes_eq c.name name) cs))
 
 at_within : (channels : List Channel) (k : ℕ) (d : Channel) → k < length channels → at_place channels (Some k) ≡ Some (get_or channels k d)
 at_within [] k d within = absurd (omega arith)
@@ -55,7 +61,8 @@ any_default [] k c d within is = absurd (omega arith)
 any_default (b ∷ bs) zero c d within is = sym is
 any_default (b ∷ bs) (suc k) c d within is = any_default bs k c d (omega arith) is
 
-place_is : (channels : List Channel) (name : List ℕ) (k : ℕ) (c : Channel) → position (λ (c : Channel). bytes_eq c.name name) channels ≡ Some k → c ≡ get_or channels k c → IsPlace channels name k c
+place_is : (channels : List Channel) (name : List ℕ) (k : ℕ) (c : Channel) → position (λ (c : Channel). bytes_eq c.name name) channels ≡ Some k →
+    c ≡ get_or channels k c → IsPlace channels name k c
 place_is channels name k c found is =
     let here = position-Some (λ (d : Channel). bytes_eq d.name name) channels k c found in
     record {
@@ -69,20 +76,24 @@ place_is channels name k c found is =
 abbrev Answers : List Channel → List ℕ → Option ℕ → Type 0
 Answers channels bytes answer = answer ≡ position (λ (c : Channel). bytes_eq c.name bytes) channels
 
-pub is_place : (channels : List Channel) (bytes name : List ℕ) (answer : Option ℕ) (k : ℕ) (c : Channel) → bytes ≡ name → Answers channels bytes answer → answer ≡ Some k → c ≡ get_or channels k c → IsPlace channels name k c
+pub is_place : (channels : List Channel) (bytes name : List ℕ) (answer : Option ℕ) (k : ℕ) (c : Channel) → bytes ≡ name → Answers channels bytes answer →
+    answer ≡ Some k → c ≡ get_or channels k c → IsPlace channels name k c
 is_place channels bytes name answer k c same answers found is =
     subst (λ (n : List ℕ). IsPlace channels n k c) same (place_is channels bytes k c (sym answers ∙ found) is)
 
-pub no_place : (channels : List Channel) (bytes name : List ℕ) (answer : Option ℕ) → bytes ≡ name → Answers channels bytes answer → answer ≡ None → channel_named channels name ≡ None
+pub no_place : (channels : List Channel) (bytes name : List ℕ) (answer : Option ℕ) → bytes ≡ name → Answers channels bytes answer → answer ≡ None →
+    channel_named channels name ≡ None
 no_place channels bytes name answer same answers none =
     ap (channel_named channels) (sym same) ∙ named_at channels bytes ∙ ap (at_place channels) (sym answers ∙ none)
 
-pub said_so : (words list : Words) (ws : List (List ℕ)) (l : Line) (o : Option Line) → list ≡ words → texts words ≡ ws → IfSome o (Says (texts list)) → o ≡ Some l → Says ws l
+pub said_so : (words list : Words) (ws : List (List ℕ)) (l : Line) (o : Option Line) → list ≡ words → texts words ≡ ws → IfSome o (Says (texts list)) →
+    o ≡ Some l → Says ws l
 said_so words list ws l o same is says found =
     let told : Says (texts list) l = rw found at says in
     subst (λ (xs : List (List ℕ)). Says xs l) (ap texts same ∙ is) told
 
-pub said_nothing : (words list : Words) (ws : List (List ℕ)) (o : Option Line) → list ≡ words → texts words ≡ ws → IfNone o ((l : Line) → Says (texts list) l → ⊥) → o ≡ None → (l : Line) → Says ws l → ⊥
+pub said_nothing : (words list : Words) (ws : List (List ℕ)) (o : Option Line) → list ≡ words → texts words ≡ ws →
+    IfNone o ((l : Line) → Says (texts list) l → ⊥) → o ≡ None → (l : Line) → Says ws l → ⊥
 said_nothing words list ws o same is none nothing l says =
     let never : (l : Line) → Says (texts list) l → ⊥ = rw nothing at none in
     never l (subst (λ (xs : List (List ℕ)). Says xs l) (sym (ap texts same ∙ is)) says)

@@ -26,12 +26,15 @@ texts_append : (vs ws : Words) → texts (vs ++ ws) ≡ texts vs ++ texts ws
 texts_append [] ws = refl
 texts_append (v ∷ vs) ws = ap (λ xs. v.now ∷ xs) (texts_append vs ws)
 
-pub numbers_more : (words : Words) (i : ℕ) (d : Bor (List ℕ)) (ns : List ℕ) (n : ℕ) → i < length words → AllZip IsNumber (texts (take i words)) ns → IsNumber (get_or words i d).now n → AllZip IsNumber (texts (take (i + 1) words)) (ns ++ n ∷ [])
+pub numbers_more : (words : Words) (i : ℕ) (d : Bor (List ℕ)) (ns : List ℕ) (n : ℕ) → i < length words → AllZip IsNumber (texts (take i words)) ns →
+    IsNumber (get_or words i d).now n → AllZip IsNumber (texts (take (i + 1) words)) (ns ++ n ∷ [])
 numbers_more words i d ns n within all is =
-    let more : texts (take (i + 1) words) ≡ texts (take i words) ++ (get_or words i d).now ∷ [] = ap texts (take_more words i d within) ∙ texts_append (take i words) (get_or words i d ∷ []) in
+    let more : texts (take (i + 1) words) ≡ texts (take i words) ++ (get_or words i d).now ∷ [] =
+        ap texts (take_more words i d within) ∙ texts_append (take i words) (get_or words i d ∷ []) in
     subst (λ (ws : List (List ℕ)). AllZip IsNumber ws (ns ++ n ∷ [])) (sym more) (zip_push (texts (take i words)) ns (get_or words i d).now n all is)
 
-pub no_numbers : (words : Words) (i : ℕ) (d : Bor (List ℕ)) → i < length words → ((n : ℕ) → IsNumber (get_or words i d).now n → ⊥) → (ns : List ℕ) → AllZip IsNumber (texts words) ns → ⊥
+pub no_numbers : (words : Words) (i : ℕ) (d : Bor (List ℕ)) → i < length words → ((n : ℕ) → IsNumber (get_or words i d).now n → ⊥) → (ns : List ℕ) →
+    AllZip IsNumber (texts words) ns → ⊥
 no_numbers [] i d within none ns all = omega arith
 no_numbers (w ∷ words) i d within none [] all = all
 no_numbers (w ∷ words) zero d within none (n ∷ ns) all = none n all.0

@@ -36,7 +36,8 @@ one_each net script is = script_length net.channels script is
 
 -- a net has no more channels than nodes
 
-different_acks : (net : NetValue) → IsNet net → (i j : ℕ) (d : Wires) → i < j → j < length net.channels → (get_or net.channels i d).ack ≢ (get_or net.channels j d).ack
+different_acks : (net : NetValue) → IsNet net → (i j : ℕ) (d : Wires) → i < j → j < length net.channels →
+    (get_or net.channels i d).ack ≢ (get_or net.channels j d).ack
 different_acks net is i j d less within same =
     let v : Wires = get_or net.channels i d in
     let w : Wires = get_or net.channels j d in
@@ -56,13 +57,16 @@ all_apart : (ws : List Wires) → ((i j : ℕ) (d : Wires) → i < j → j < len
 unfolding acks IsDistinct
 all_apart [] apart = tt
 all_apart (w ∷ ws) apart =
-    (apart_from w.ack ws (λ k d within. apart 0 (suc k) d (omega arith) (omega arith)), all_apart ws (λ i j d less within. apart (suc i) (suc j) d (omega arith) (omega arith)))
+    (apart_from w.ack ws (λ k d within. apart 0 (suc k) d (omega arith) (omega arith)),
+        all_apart ws (λ i j d less within. apart (suc i) (suc j) d (omega arith) (omega arith)))
 
-all_under : (count : ℕ) (ws : List Wires) → ((k : ℕ) (d : Wires) → k < length ws → (get_or ws k d).ack < count) → (q : ℕ) → list_any (eqb q) (acks ws) ≡ true → q < count
+all_under : (count : ℕ) (ws : List Wires) → ((k : ℕ) (d : Wires) → k < length ws → (get_or ws k d).ack < count) → (q : ℕ) → list_any (eqb q) (acks ws) ≡ true →
+    q < count
 unfolding acks
 all_under count [] under q among = absurd (cc among)
 all_under count (w ∷ ws) under q among =
-    ⊎_elim (λ e. let same = eqb-true q w.ack e in let here = under 0 w (omega arith) in omega arith) (λ e. all_under count ws (λ k d within. under (suc k) d (omega arith)) q e) (or_cases _ _ among)
+    ⊎_elim (λ e. let same = eqb-true q w.ack e in let here = under 0 w (omega arith) in
+        omega arith) (λ e. all_under count ws (λ k d within. under (suc k) d (omega arith)) q e) (or_cases _ _ among)
 
 count_acks : (ws : List Wires) → length (acks ws) ≡ length ws
 unfolding acks
@@ -70,7 +74,8 @@ count_acks ws = length-map ws (λ (w : Wires). w.ack)
 
 pub few_channels : (net : NetValue) → IsNet net → length net.channels ≤ length net.first
 few_channels net is =
-    let most = length-le_from_distinct_below (acks net.channels) (length net.first) (all_apart net.channels (different_acks net is)) (all_under (length net.first) net.channels (λ k d within. (is.channels k d within).ack_within)) in
+    let most = length-le_from_distinct_below (acks net.channels) (length net.first) (all_apart net.channels (different_acks net is))
+        (all_under (length net.first) net.channels (λ k d within. (is.channels k d within).ack_within)) in
     omega (arith, count_acks net.channels)
 
 placed : (p : Wires → Bool) (k : ℕ) (ws : List Wires) → position p ws ≡ Some k → k < length ws
@@ -90,6 +95,7 @@ place_fits net is p k found =
     few_nodes (Some node) = omega arith
 
 -- the channel that is read at a place
-pub wired_read : (net : NetValue) → IsNet net → (count : ℕ) → count ≡ length net.first → (ws : List Wires) → ws ≡ net.channels → (k : ℕ) (w : Wires) → k < length ws → w ≡ get_or ws k w → IsWired count w
+pub wired_read : (net : NetValue) → IsNet net → (count : ℕ) → count ≡ length net.first → (ws : List Wires) → ws ≡ net.channels → (k : ℕ) (w : Wires) →
+    k < length ws → w ≡ get_or ws k w → IsWired count w
 wired_read net is count whole ws all k w within here =
     subst (λ (v : Wires). IsWired count v) (sym here) (rw (all, whole) (wired_at net is k w (omega (arith, ap length all))))

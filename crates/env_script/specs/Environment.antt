@@ -71,7 +71,8 @@ offer_moves v w nothing done n = false
 -- the same for some of these channels, which are numbered from c on
 abbrev pub channels_move : (ℕ → Bool) → (ℕ → OfferValue) → (ℕ → ℕ) → ℕ → List Wires → ℕ → Bool
 channels_move v script done c [] n = false
-channels_move v script done c (w ∷ ws) n = offer_moves v w (script c) (done c) n || channels_move v script done (suc c) ws n
+channels_move v script done c (w ∷ ws) n =
+    offer_moves v w (script c) (done c) n || channels_move v script done (suc c) ws n
 
 -- go rises, and never falls
 abbrev pub raises_go : (ℕ → Bool) → ℕ → Bool
@@ -81,4 +82,5 @@ raises_go v n = (n == 0) && not (v 0)
 -- it moves that node alone, and only where no rule is enabled; the reset node never rises.
 abbrev pub env_enabled : NetValue → List OfferValue → (ℕ → ℕ) → (ℕ → Bool) → ℕ → Bool
 env_enabled net script done v n =
-    if in_reset net.reset v then is_reset net.reset n && rules_rest net v else raises_go v n || channels_move v (offer_at script) done 0 net.channels n
+    if in_reset net.reset v then is_reset net.reset n && rules_rest net v else raises_go v n
+        || channels_move v (offer_at script) done 0 net.channels n

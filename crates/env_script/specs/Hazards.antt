@@ -19,13 +19,17 @@ least_below (suc n) p = or_else (least_below n p) (if p n then Some n else None)
 
 -- the move of the node n takes away that of the node m
 abbrev pub takes_away : NetValue → List OfferValue → RunState → ℕ → ℕ → Bool
-takes_away net script st n m = not (m == n) && (move_enabled net script st m && not (move_enabled net script (moved net st n) m))
+takes_away net script st n m = not (m == n)
+    && (move_enabled net script st m && not (move_enabled net script (moved net st n) m))
 
 -- in a state: the least node that is pulled both ways
 abbrev pub first_hazard : NetValue → RunState → Option Hazard
 first_hazard net st = option_map BothWays (least_below (length net.first) (both_ways net (high st.values)))
 
--- after the move of the node n: nodes that are pulled both ways come first, then moves that were taken away, then phases
+-- after the move of the node n: nodes that are pulled both ways come first, then moves that were taken away, then
+-- phases
 abbrev pub hazard_of : NetValue → List OfferValue → RunState → ℕ → Option Hazard
 hazard_of net script st n =
-    or_else (first_hazard net (moved net st n)) (or_else (option_map Unstable (least_below (length net.first) (takes_away net script st n))) (option_map Protocol (phase_fault net (high st.values) n)))
+    or_else (first_hazard net (moved net st n))
+        (or_else (option_map Unstable (least_below (length net.first) (takes_away net script st n)))
+        (option_map Protocol (phase_fault net (high st.values) n)))

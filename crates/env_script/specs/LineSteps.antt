@@ -22,13 +22,18 @@ pub record IsPlace (channels : List Channel) (name : List ℕ) (place : ℕ) (c 
   pub found : channel_named channels name ≡ Some c
 
 -- why the words are refused, where these channels were told of and so many values came before
-pub data StepFault (channels : List Channel) (told : List Bool) (values : ℕ) (words : List (List ℕ)) : ScriptFault → Type 0 where
+pub data StepFault (channels : List Channel) (told : List Bool) (values : ℕ) (words : List (List ℕ)) : ScriptFault →
+    Type 0 where
   says_nothing : 0 < length words → ((l : Line) → ¬ Says words l) → StepFault channels told values words BadLine
-  of_nothing : (l : Line) → Says words l → channel_named channels l.name ≡ None → StepFault channels told values words NoSuchChannel
-  of_channel : (l : Line) (c : Channel) (place : ℕ) {fault : ScriptFault} → Says words l → IsPlace channels l.name place c → fault_on c (told_at told place) values l.said ≡ Some fault → StepFault channels told values words fault
+  of_nothing : (l : Line) → Says words l → channel_named channels l.name ≡ None →
+      StepFault channels told values words NoSuchChannel
+  of_channel : (l : Line) (c : Channel) (place : ℕ) {fault : ScriptFault} → Says words l →
+      IsPlace channels l.name place c → fault_on c (told_at told place) values l.said ≡ Some fault →
+      StepFault channels told values words fault
 
 -- the words are a line without a fault, and this is what it changes
-pub record IsStep (channels : List Channel) (told : List Bool) (values : ℕ) (words : List (List ℕ)) (t : Taken) : Type 0 where
+pub record IsStep (channels : List Channel) (told : List Bool) (values : ℕ) (words : List (List ℕ)) (t : Taken) : Type 0
+    where
   pub line : Line
   pub channel : Channel
   pub says : Says words line
@@ -43,7 +48,8 @@ IsStepOf channels told values words (Refused fault) = StepFault channels told va
 IsStepOf channels told values words (Take t) = IsStep channels told values words t
 
 -- what was read of the lines
-pub record IsReadSoFar (channels : List Channel) (lines : List (List ℕ)) (ls : List Line) (offers : List OfferValue) (told : List Bool) (values : ℕ) : Type 0 where
+pub record IsReadSoFar (channels : List Channel) (lines : List (List ℕ)) (ls : List Line) (offers : List OfferValue)
+    (told : List Bool) (values : ℕ) : Type 0 where
   pub lines_told : IsTold channels lines ls
   pub made : offers ≡ script_of channels ls
   pub flags : told ≡ map (λ (c : Channel). is_told ls c.name) channels

@@ -21,7 +21,8 @@ completed histories channel = length (history_at histories channel)
 
 -- a move of the node is enabled, a rule's or the environment's
 abbrev pub move_enabled : NetValue → List OfferValue → RunState → ℕ → Bool
-move_enabled net script st n = rule_enabled net (high st.values) n || env_enabled net script (completed st.histories) (high st.values) n
+move_enabled net script st n = rule_enabled net (high st.values) n
+    || env_enabled net script (completed st.histories) (high st.values) n
 
 -- the value that the move of the node completes on the channel: the one on the rails where the acknowledge rises
 abbrev pub completes : (ℕ → Bool) → Wires → ℕ → Option ℕ
@@ -38,7 +39,8 @@ with_values v n (w ∷ ws) (h ∷ hs) = with_value (completes v w n) h ∷ with_
 
 -- nothing is completed while a reset node is high
 abbrev pub histories_after : NetValue → RunState → ℕ → List (List ℕ)
-histories_after net st n = if in_reset net.reset (high st.values) then st.histories else with_values (high st.values) n net.channels st.histories
+histories_after net st n = if in_reset net.reset (high st.values) then st.histories else with_values (high st.values) n
+    net.channels st.histories
 
 -- the state after the move of the node
 abbrev pub moved : NetValue → RunState → ℕ → RunState
@@ -75,7 +77,8 @@ pub record IsSafeMove (net : NetValue) (script : List OfferValue) (st : RunState
 
 abbrev pub IsSafeRun : NetValue → List OfferValue → RunState → List ℕ → Type 0
 IsSafeRun net script st [] = IsApart net st
-IsSafeRun net script st (n ∷ ns) = IsApart net st × IsSafeMove net script st n × IsSafeRun net script (moved net st n) ns
+IsSafeRun net script st (n ∷ ns) = IsApart net st × IsSafeMove net script st n
+    × IsSafeRun net script (moved net st n) ns
 
 -- Reset runs. Each node that has rules has any value at first, and every other node its first value.
 pub record IsPowered (net : NetValue) (values : List Bool) : Type 0 where

@@ -130,11 +130,13 @@ fault_at None again before said = Some NoSuchChannel
 fault_at (Some c) again before said = fault_on c again before said
 
 abbrev pub line_fault : List Channel → List Line → Line → Option ScriptFault
-line_fault channels before l = fault_at (channel_named channels l.name) (is_told before l.name) (values_told channels before) l.said
+line_fault channels before l = fault_at (channel_named channels l.name) (is_told before l.name)
+    (values_told channels before) l.said
 
 pub data LineFault (channels : List Channel) (before : List Line) (words : List (List ℕ)) : ScriptFault → Type 0 where
   bad_line : 0 < length words → ((l : Line) → ¬ Says words l) → LineFault channels before words BadLine
-  of_line : (l : Line) {fault : ScriptFault} → Says words l → line_fault channels before l ≡ Some fault → LineFault channels before words fault
+  of_line : (l : Line) {fault : ScriptFault} → Says words l → line_fault channels before l ≡ Some fault →
+      LineFault channels before words fault
 
 -- the text is refused for this cause at this line, the first one with a fault
 pub record IsRefused (channels : List Channel) (text : List ℕ) (fault : ScriptFault) (line : ℕ) : Type 0 where
@@ -149,7 +151,8 @@ pub record IsRefused (channels : List Channel) (text : List ℕ) (fault : Script
 
 -- it is refused for no other cause, and at no other line
 abbrev pub IsOnlyRefusal : List Channel → List ℕ → ScriptFault → ℕ → Type 0
-IsOnlyRefusal channels text fault line = (f : ScriptFault) (n : ℕ) → IsRefused channels text f n → (f ≡ fault) × (n ≡ line)
+IsOnlyRefusal channels text fault line = (f : ScriptFault) (n : ℕ) → IsRefused channels text f n →
+    (f ≡ fault) × (n ≡ line)
 
 -- a fact of the cause and the line for which a text is refused; want of memory is no refusal
 abbrev pub OfRefusal : (ScriptFault → ℕ → Type 0) → ScriptError → Type 0

@@ -140,7 +140,8 @@ fn channels_move(net: &Net, script: &Script, done: &[u64], state: &State, node: 
     requires done { length done.now ≡ length net.now.channels }
     requires state { length state.now ≡ length net.now.first }
     requires node { node < length net.now.first }
-    ensures { result ≡ channels_move (high state.now) (offer_at script.now) (slice_index done.now) 0 net.now.channels node }
+    ensures { result ≡ channels_move (high state.now) (offer_at script.now) (slice_index done.now) 0 net.now.channels
+        node }
 {
     let channels = net.channels();
     let offers = script.offers();

@@ -35,7 +35,9 @@ not_before list i ascending within = none (take i list) (get_or list i 0) (λ k 
     none [] m apart = refl
     none (x ∷ xs) m apart = or_from _ _ (ne_eqb x m (apart 0 (omega arith))) (none xs m (λ k less. apart (suc k) (omega arith)))
 
-pub one_noted : (now i node : ℕ) (list : List ℕ) (old table : List Presence) (was : Presence) → AllPairs (λ (a b : ℕ). a < b) list → i < length list → node ≡ get_or list i 0 → node < length old → was ≡ get_or table node was → IsNoted now (take i list) old table → IsNoted now (take (i + 1) list) old (set table node (renewed now was))
+pub one_noted : (now i node : ℕ) (list : List ℕ) (old table : List Presence) (was : Presence) → AllPairs (λ (a b : ℕ). a < b) list → i < length list →
+    node ≡ get_or list i 0 → node < length old → was ≡ get_or table node was → IsNoted now (take i list) old table →
+    IsNoted now (take (i + 1) list) old (set table node (renewed now was))
 one_noted now i node list old table was ascending within at node_in here noted = record {
   count = length-set table node (renewed now was) ∙ noted.count;
   each = λ k d less. by_place k d less (cases_eq node k);
@@ -60,9 +62,13 @@ one_noted now i node list old table was ascending within at node_in here noted =
     pick_false true x y off = absurd (cc off)
     pick_false false x y off = refl
 
-    by_place : (k : ℕ) (d : Presence) → k < length old → (node ≡ k) ⊎ (node ≡ k → ⊥) → get_or (set table node (renewed now was)) k d ≡ (if list_any (λ n. n == k) (take (i + 1) list) then renewed now (get_or old k d) else get_or old k d)
+    by_place : (k : ℕ) (d : Presence) → k < length old → (node ≡ k) ⊎ (node ≡ k → ⊥) →
+        get_or (set table node (renewed now was)) k d ≡ (if list_any (λ n. n == k) (take (i + 1) list) then renewed now (get_or old k d) else get_or old k d)
     by_place k d less (inl same) =
-        subst (λ (j : ℕ). get_or (set table node (renewed now was)) j d ≡ (if list_any (λ n. n == j) (take (i + 1) list) then renewed now (get_or old j d) else get_or old j d)) same (get_or-set_same table node (renewed now was) d (omega (arith, noted.count)) ∙ ap (renewed now) unchanged ∙ pick_true (list_any (λ n. n == node) (take (i + 1) list)) _ _ (more node ∙ or_true _ _ (eq-eqb (get_or list i 0) node (sym at))))
+        subst (λ (j : ℕ). get_or (set table node (renewed now was)) j d ≡
+            (if list_any (λ n. n == j) (take (i + 1) list) then renewed now (get_or old j d) else get_or old j d)) same
+            (get_or-set_same table node (renewed now was) d (omega (arith, noted.count)) ∙ ap (renewed now) unchanged
+            ∙ pick_true (list_any (λ n. n == node) (take (i + 1) list)) _ _ (more node ∙ or_true _ _ (eq-eqb (get_or list i 0) node (sym at))))
       where
         fresh : list_any (λ n. n == node) (take i list) ≡ false
         fresh = ap (λ (m : ℕ). list_any (λ n. n == m) (take i list)) at ∙ not_before list i ascending within
@@ -70,15 +76,20 @@ one_noted now i node list old table was ascending within at node_in here noted =
         unchanged : was ≡ get_or old node d
         unchanged = here ∙ any_default table node was d (omega (arith, noted.count)) ∙ noted.each node d node_in ∙ pick_false _ _ _ fresh
     by_place k d less (inr apart) =
-        get_or-set_other table node k (renewed now was) d (λ e. apart (sym e)) ∙ noted.each k d less ∙ ap (λ (b : Bool). if b then renewed now (get_or old k d) else get_or old k d) (sym (more k ∙ or_none _ _ (ne_eqb (get_or list i 0) k (λ e. apart (at ∙ e)))))
+        get_or-set_other table node k (renewed now was) d (λ e. apart (sym e)) ∙ noted.each k d less
+            ∙ ap (λ (b : Bool). if b then renewed now (get_or old k d) else get_or old k d)
+            (sym (more k ∙ or_none _ _ (ne_eqb (get_or list i 0) k (λ e. apart (at ∙ e)))))
 
 -- one more node of the list
-pub next_noted : (now i : ℕ) (list : List ℕ) (old table : List Presence) (e result : Presence) → AllPairs (λ (a b : ℕ). a < b) list → i < length list → get_or list i 0 < length old → result ≡ renewed now (get_or table (get_or list i 0) e) → IsNoted now (take i list) old table → IsNoted now (take (i + 1) list) old (set table (get_or list i 0) result)
+pub next_noted : (now i : ℕ) (list : List ℕ) (old table : List Presence) (e result : Presence) → AllPairs (λ (a b : ℕ). a < b) list → i < length list →
+    get_or list i 0 < length old → result ≡ renewed now (get_or table (get_or list i 0) e) → IsNoted now (take i list) old table →
+    IsNoted now (take (i + 1) list) old (set table (get_or list i 0) result)
 next_noted now i list old table e result ascending within node_in is noted =
     let node = get_or list i 0 in
     let was = get_or table node e in
     let here : was ≡ get_or table node was = any_default table node e was (omega (arith, noted.count)) in
-    subst (λ (p : Presence). IsNoted now (take (i + 1) list) old (set table node p)) (sym is) (one_noted now i node list old table was ascending within refl node_in here noted)
+    subst (λ (p : Presence). IsNoted now (take (i + 1) list) old (set table node p)) (sym is)
+        (one_noted now i node list old table was ascending within refl node_in here noted)
 
 pub all_noted : (now i : ℕ) (list : List ℕ) (old table : List Presence) → length list ≤ i → IsNoted now (take i list) old table → IsNoted now list old table
 all_noted now i list old table past noted = subst (λ (xs : List ℕ). IsNoted now xs old table) (take_all i list past) noted
@@ -95,20 +106,27 @@ age_renewed now p past = rw (eq-eqb (now + 1) (now + 1) refl) (by_last (p.last =
 age_gone : (now : ℕ) (p : Presence) → IsPast now p → age_at (now + 1) p ≡ 0
 age_gone now p past = rw (ne_eqb p.last (now + 1) (omega (arith, past.seen))) refl
 
-pub ages_are : (now : ℕ) (list : List ℕ) (old new : List Presence) → All (IsPast now) old → IsNoted now list old new → ages_at (now + 1) new ≡ aged list (ages_at now old)
+pub ages_are : (now : ℕ) (list : List ℕ) (old new : List Presence) → All (IsPast now) old → IsNoted now list old new →
+    ages_at (now + 1) new ≡ aged list (ages_at now old)
 ages_are now list old new past noted =
-    subst (λ (n : ℕ). ages_at (now + 1) new ≡ map (λ node. if list_any (λ n. n == node) list then slice_index (ages_at now old) node + 1 else 0) (range_with_len 0 n)) (sym (length-map old (age_at now))) (fill_by_all (λ node. if list_any (λ n. n == node) list then slice_index (ages_at now old) node + 1 else 0) (ages_at (now + 1) new) (length old) 0 (length-map new (age_at (now + 1)) ∙ noted.count) each)
+    subst (λ (n : ℕ). ages_at (now + 1) new ≡ map (λ node. if list_any (λ n. n == node) list then slice_index (ages_at now old) node + 1 else 0)
+        (range_with_len 0 n)) (sym (length-map old (age_at now)))
+        (fill_by_all (λ node. if list_any (λ n. n == node) list then slice_index (ages_at now old) node + 1 else 0) (ages_at (now + 1) new) (length old) 0
+        (length-map new (age_at (now + 1)) ∙ noted.count) each)
   where
     d : Presence
     d = record { since = 0; last = 0 }
 
-    by_test : (b : Bool) (k : ℕ) → k < length old → age_at (now + 1) (if b then renewed now (get_or old k d) else get_or old k d) ≡ (if b then age_at now (get_or old k d) + 1 else 0)
+    by_test : (b : Bool) (k : ℕ) → k < length old →
+        age_at (now + 1) (if b then renewed now (get_or old k d) else get_or old k d) ≡ (if b then age_at now (get_or old k d) + 1 else 0)
     by_test true k less = age_renewed now (get_or old k d) (past k d less)
     by_test false k less = age_gone now (get_or old k d) (past k d less)
 
     each : (k : ℕ) → k < length old → get_or (ages_at (now + 1) new) k 0 ≡ (if list_any (λ n. n == k) list then slice_index (ages_at now old) k + 1 else 0)
     each k less =
-        get_or-map (age_at (now + 1)) new k d 0 (omega (arith, noted.count)) ∙ ap (age_at (now + 1)) (noted.each k d less) ∙ by_test (list_any (λ n. n == k) list) k less ∙ ap (λ (a : ℕ). if list_any (λ n. n == k) list then a + 1 else 0) (sym (get_or-map (age_at now) old k d 0 less))
+        get_or-map (age_at (now + 1)) new k d 0 (omega (arith, noted.count)) ∙ ap (age_at (now + 1)) (noted.each k d less)
+            ∙ by_test (list_any (λ n. n == k) list) k less
+            ∙ ap (λ (a : ℕ). if list_any (λ n. n == k) list then a + 1 else 0) (sym (get_or-map (age_at now) old k d 0 less))
 
 pub past_too : (now : ℕ) (list : List ℕ) (old new : List Presence) → All (IsPast now) old → IsNoted now list old new → All (IsPast (now + 1)) new
 past_too now list old new past noted = λ k d less.
@@ -125,7 +143,8 @@ past_too now list old new past noted = λ k d less.
 
 -- the first place that passes
 
-first_place : (p : ℕ → Bool) (xs : List ℕ) (b : ℕ) → b < length xs → p (get_or xs b 0) ≡ true → ((k : ℕ) → k < b → p (get_or xs k 0) ≡ false) → b ≡ position_or_len p xs
+first_place : (p : ℕ → Bool) (xs : List ℕ) (b : ℕ) → b < length xs → p (get_or xs b 0) ≡ true → ((k : ℕ) → k < b → p (get_or xs k 0) ≡ false) →
+    b ≡ position_or_len p xs
 first_place p [] b within passes before = absurd (omega arith)
 first_place p (x ∷ xs) zero within passes before = rw passes refl
 first_place p (x ∷ xs) (suc b) within passes before =
@@ -150,11 +169,15 @@ lt_of a b less = lt-leb a b (ltb-true b a less)
 
 pub greatest_is : (xs : List ℕ) (b : ℕ) → IsFirstBest (λ x y. nat_lt y x) xs (length xs) b → b ≡ first_greatest xs
 greatest_is xs b best =
-    first_place (λ x. list_all (λ y. nat_le y x) xs) xs b best.0 (all_pass (λ y. nat_le y (get_or xs b 0)) xs (λ k less. le_of (get_or xs k 0) (get_or xs b 0) (best.1 k 0 less))) (λ k less. one_fails (λ y. nat_le y (get_or xs k 0)) xs b best.0 (lt_of (get_or xs b 0) (get_or xs k 0) (best.2 k 0 less)))
+    first_place (λ x. list_all (λ y. nat_le y x) xs) xs b best.0
+        (all_pass (λ y. nat_le y (get_or xs b 0)) xs (λ k less. le_of (get_or xs k 0) (get_or xs b 0) (best.1 k 0 less)))
+        (λ k less. one_fails (λ y. nat_le y (get_or xs k 0)) xs b best.0 (lt_of (get_or xs b 0) (get_or xs k 0) (best.2 k 0 less)))
 
 pub least_is : (xs : List ℕ) (b : ℕ) → IsFirstBest nat_lt xs (length xs) b → b ≡ first_least xs
 least_is xs b best =
-    first_place (λ x. list_all (λ y. nat_le x y) xs) xs b best.0 (all_pass (λ y. nat_le (get_or xs b 0) y) xs (λ k less. le_of (get_or xs b 0) (get_or xs k 0) (best.1 k 0 less))) (λ k less. one_fails (λ y. nat_le (get_or xs k 0) y) xs b best.0 (lt_of (get_or xs k 0) (get_or xs b 0) (best.2 k 0 less)))
+    first_place (λ x. list_all (λ y. nat_le x y) xs) xs b best.0
+        (all_pass (λ y. nat_le (get_or xs b 0) y) xs (λ k less. le_of (get_or xs b 0) (get_or xs k 0) (best.1 k 0 less)))
+        (λ k less. one_fails (λ y. nat_le (get_or xs k 0) y) xs b best.0 (lt_of (get_or xs k 0) (get_or xs b 0) (best.2 k 0 less)))
 
 at_place : (f : ℕ → ℕ) (list : List ℕ) (i x : ℕ) → i < length list → x ≡ f (get_or list i 0) → x ≡ get_or (map f list) i x
 at_place f list i x within is = is ∙ sym (get_or-map f list i 0 x within)
@@ -165,21 +188,29 @@ older = IsStrictWeakOrder-flip nat_lt (IsStrictWeakOrder-by_number (λ x. x))
 newer : IsStrictWeakOrder nat_lt
 newer = IsStrictWeakOrder-by_number (λ x. x)
 
-pub older_takes : (f : ℕ → ℕ) (list : List ℕ) (i b x y : ℕ) → i < length list → x ≡ f (get_or list i 0) → y ≡ f (get_or list b 0) → IsFirstBest (λ x y. nat_lt y x) (map f list) i b → y < x → IsFirstBest (λ x y. nat_lt y x) (map f list) (i + 1) i
+pub older_takes : (f : ℕ → ℕ) (list : List ℕ) (i b x y : ℕ) → i < length list → x ≡ f (get_or list i 0) → y ≡ f (get_or list b 0) →
+    IsFirstBest (λ x y. nat_lt y x) (map f list) i b → y < x → IsFirstBest (λ x y. nat_lt y x) (map f list) (i + 1) i
 older_takes f list i b x y within is is_b best less =
-    IsFirstBest-takes older (map f list) i b x y best (omega (arith, length-map list f)) (at_place f list i x within is) (at_place f list b y (omega (arith, best.0)) is_b) (lt-ltb y x less)
+    IsFirstBest-takes older (map f list) i b x y best (omega (arith, length-map list f)) (at_place f list i x within is)
+        (at_place f list b y (omega (arith, best.0)) is_b) (lt-ltb y x less)
 
-pub older_keeps : (f : ℕ → ℕ) (list : List ℕ) (i b x y : ℕ) → i < length list → x ≡ f (get_or list i 0) → y ≡ f (get_or list b 0) → IsFirstBest (λ x y. nat_lt y x) (map f list) i b → x ≤ y → IsFirstBest (λ x y. nat_lt y x) (map f list) (i + 1) b
+pub older_keeps : (f : ℕ → ℕ) (list : List ℕ) (i b x y : ℕ) → i < length list → x ≡ f (get_or list i 0) → y ≡ f (get_or list b 0) →
+    IsFirstBest (λ x y. nat_lt y x) (map f list) i b → x ≤ y → IsFirstBest (λ x y. nat_lt y x) (map f list) (i + 1) b
 older_keeps f list i b x y within is is_b best less =
-    IsFirstBest-keeps older (map f list) i b x y best (omega (arith, length-map list f)) (at_place f list i x within is) (at_place f list b y (omega (arith, best.0)) is_b) (le-ltb y x less)
+    IsFirstBest-keeps older (map f list) i b x y best (omega (arith, length-map list f)) (at_place f list i x within is)
+        (at_place f list b y (omega (arith, best.0)) is_b) (le-ltb y x less)
 
-pub newer_takes : (f : ℕ → ℕ) (list : List ℕ) (i b x y : ℕ) → i < length list → x ≡ f (get_or list i 0) → y ≡ f (get_or list b 0) → IsFirstBest nat_lt (map f list) i b → x < y → IsFirstBest nat_lt (map f list) (i + 1) i
+pub newer_takes : (f : ℕ → ℕ) (list : List ℕ) (i b x y : ℕ) → i < length list → x ≡ f (get_or list i 0) → y ≡ f (get_or list b 0) →
+    IsFirstBest nat_lt (map f list) i b → x < y → IsFirstBest nat_lt (map f list) (i + 1) i
 newer_takes f list i b x y within is is_b best less =
-    IsFirstBest-takes newer (map f list) i b x y best (omega (arith, length-map list f)) (at_place f list i x within is) (at_place f list b y (omega (arith, best.0)) is_b) (lt-ltb x y less)
+    IsFirstBest-takes newer (map f list) i b x y best (omega (arith, length-map list f)) (at_place f list i x within is)
+        (at_place f list b y (omega (arith, best.0)) is_b) (lt-ltb x y less)
 
-pub newer_keeps : (f : ℕ → ℕ) (list : List ℕ) (i b x y : ℕ) → i < length list → x ≡ f (get_or list i 0) → y ≡ f (get_or list b 0) → IsFirstBest nat_lt (map f list) i b → y ≤ x → IsFirstBest nat_lt (map f list) (i + 1) b
+pub newer_keeps : (f : ℕ → ℕ) (list : List ℕ) (i b x y : ℕ) → i < length list → x ≡ f (get_or list i 0) → y ≡ f (get_or list b 0) →
+    IsFirstBest nat_lt (map f list) i b → y ≤ x → IsFirstBest nat_lt (map f list) (i + 1) b
 newer_keeps f list i b x y within is is_b best less =
-    IsFirstBest-keeps newer (map f list) i b x y best (omega (arith, length-map list f)) (at_place f list i x within is) (at_place f list b y (omega (arith, best.0)) is_b) (le-ltb x y less)
+    IsFirstBest-keeps newer (map f list) i b x y best (omega (arith, length-map list f)) (at_place f list i x within is)
+        (at_place f list b y (omega (arith, best.0)) is_b) (le-ltb x y less)
 
 pub all_fresh : (now count : ℕ) → ages_at now (replicate count (record { since = now; last = now })) ≡ replicate count 0
 all_fresh now zero = refl

@@ -30,7 +30,9 @@ pub record HasPicked (s : SimValue) (before now : List ℕ) (count : ℕ) (stage
   pub counted : length picks ≡ count
   pub underway : IsUnderway s picks stage last
 
-pub begun : (stage : StageValue) (steps : ℕ) (start : Bool) (last : Option Hazard) (before : List ℕ) → IsUnbegun stage steps start → last ≡ first_hazard stage.net (now_of stage) → HasPicked (record { net = stage.net; script = stage.script; steps = steps; high = start }) before before 0 stage last
+pub begun : (stage : StageValue) (steps : ℕ) (start : Bool) (last : Option Hazard) (before : List ℕ) → IsUnbegun stage steps start →
+    last ≡ first_hazard stage.net (now_of stage) →
+    HasPicked (record { net = stage.net; script = stage.script; steps = steps; high = start }) before before 0 stage last
 begun stage steps start last before is hazard = record {
   picks = [];
   grown = sym (append-nil before);
@@ -52,7 +54,9 @@ begun stage steps start last before is hazard = record {
 
     there : now_of stage ≡ start_at s
     there =
-        ap (λ (ps : List (ℕ × ℕ)). record { values = stage.values; histories = channel_histories (length stage.net.channels) ps }) is.passed ∙ ap (λ (hs : List (List ℕ)). record { values = stage.values; histories = hs }) (histories_none (length stage.net.channels)) ∙ ap (λ (vs : List Bool). record { values = vs; histories = replicate (length stage.net.channels) [] }) is.values
+        ap (λ (ps : List (ℕ × ℕ)). record { values = stage.values; histories = channel_histories (length stage.net.channels) ps }) is.passed
+            ∙ ap (λ (hs : List (List ℕ)). record { values = stage.values; histories = hs }) (histories_none (length stage.net.channels))
+            ∙ ap (λ (vs : List Bool). record { values = vs; histories = replicate (length stage.net.channels) [] }) is.values
 
 drop_front : (xs ys : List ℕ) → drop (length xs) (xs ++ ys) ≡ ys
 drop_front [] ys = refl
@@ -67,20 +71,25 @@ goes_on None (x ∷ xs) none = omega arith
 goes_on (Some h) xs none = absurd (cc none)
 
 -- the list that a pick is from
-pub choice_list : (s : SimValue) (picks : List ℕ) (stage : StageValue) (last : Option Hazard) (nodes : ℕ) (xs : List ℕ) → IsUnderway s picks stage last → xs ≡ moves_now stage → end_with last xs false ≡ None → length s.net.first ≤ nodes → IsChoiceList nodes xs
+pub choice_list : (s : SimValue) (picks : List ℕ) (stage : StageValue) (last : Option Hazard) (nodes : ℕ) (xs : List ℕ) → IsUnderway s picks stage last →
+    xs ≡ moves_now stage → end_with last xs false ≡ None → length s.net.first ≤ nodes → IsChoiceList nodes xs
 choice_list s picks stage last nodes xs is listed none wide = record {
   some = goes_on last xs none;
   ascending = subst (λ (ys : List ℕ). AllPairs (λ (a b : ℕ). a < b) ys) (sym whole) (ascending _ 0 (length s.net.first));
-  below = subst (λ (ys : List ℕ). All (λ n. n < nodes) ys) (sym whole) (λ k d within. let less = enabled_below s.net s.script (after s.net (start_at s) (follow s.net s.script (start_at s) picks)) k d within in omega arith);
+  below = subst (λ (ys : List ℕ). All (λ n. n < nodes) ys) (sym whole) (λ k d within. let less =
+      enabled_below s.net s.script (after s.net (start_at s) (follow s.net s.script (start_at s) picks)) k d within in omega arith);
 }
   where
     whole : xs ≡ enabled_moves s.net s.script (after s.net (start_at s) (follow s.net s.script (start_at s) picks))
     whole = listed ∙ moves_are s picks stage last is
 
 -- the node that is picked is one of the net's
-pub picked_within : (s : SimValue) (picks : List ℕ) (stage : StageValue) (last : Option Hazard) (xs : List ℕ) (p d : ℕ) → IsUnderway s picks stage last → xs ≡ moves_now stage → p < length xs → get_or xs p d < length stage.net.first
+pub picked_within : (s : SimValue) (picks : List ℕ) (stage : StageValue) (last : Option Hazard) (xs : List ℕ) (p d : ℕ) → IsUnderway s picks stage last →
+    xs ≡ moves_now stage → p < length xs → get_or xs p d < length stage.net.first
 picked_within s picks stage last xs p d is listed within =
-    subst (λ (w : NetValue). get_or xs p d < length w.first) (sym is.net) (subst (λ (ys : List ℕ). All (λ n. n < length s.net.first) ys) (sym whole) (enabled_below s.net s.script (after s.net (start_at s) (follow s.net s.script (start_at s) picks))) p d within)
+    subst (λ (w : NetValue). get_or xs p d < length w.first) (sym is.net)
+        (subst (λ (ys : List ℕ). All (λ n. n < length s.net.first) ys) (sym whole)
+        (enabled_below s.net s.script (after s.net (start_at s) (follow s.net s.script (start_at s) picks))) p d within)
   where
     whole : xs ≡ enabled_moves s.net s.script (after s.net (start_at s) (follow s.net s.script (start_at s) picks))
     whole = listed ∙ moves_are s picks stage last is
@@ -109,7 +118,9 @@ rest_empties (Some h) (x ∷ xs) spent ended = absurd (by_hazard h ended)
     by_hazard (Lost n) e = cc e
     by_hazard (Broken c) e = cc e
 
-pub finish : (s : SimValue) (before now : List ℕ) (count : ℕ) (stage : StageValue) (last : Option Hazard) (spent : Bool) (end : End) → IsNet s.net → HasPicked s before now count stage last → (count == s.steps) ≡ spent → end_with last (moves_now stage) spent ≡ Some end → IsFinished s before now count stage end
+pub finish : (s : SimValue) (before now : List ℕ) (count : ℕ) (stage : StageValue) (last : Option Hazard) (spent : Bool) (end : End) → IsNet s.net →
+    HasPicked s before now count stage last → (count == s.steps) ≡ spent → end_with last (moves_now stage) spent ≡ Some end →
+    IsFinished s before now count stage end
 finish s before now count stage last spent end net is counted ended = record {
   log = is.grown ∙ ap (λ (xs : List ℕ). before ++ xs) (sym same);
   picks = subst (λ (xs : List ℕ). ArePicks s.net s.script (start_at s) xs) (sym same) is.underway.picks;
@@ -118,10 +129,13 @@ finish s before now count stage last spent end net is counted ended = record {
     ended = sym (end_is s is.picks stage last spent is.underway (ap (λ (k : ℕ). k == s.steps) is.counted ∙ counted)) ∙ ended;
     not_before = λ k below. is.underway.no_end k (omega (arith, follow_length s.net s.script (start_at s) is.picks));
   });
-  moves = sym is.counted ∙ sym (follow_length s.net s.script (start_at s) is.picks) ∙ ap (λ (xs : List ℕ). length (follow s.net s.script (start_at s) xs)) (sym same);
-  done = ap (λ (r : RunState). high r.values 1) is.underway.now ∙ ap (λ (xs : List ℕ). high (after s.net (start_at s) (follow s.net s.script (start_at s) xs)).values 1) (sym same);
+  moves = sym is.counted ∙ sym (follow_length s.net s.script (start_at s) is.picks)
+      ∙ ap (λ (xs : List ℕ). length (follow s.net s.script (start_at s) xs)) (sym same);
+  done = ap (λ (r : RunState). high r.values 1) is.underway.now
+      ∙ ap (λ (xs : List ℕ). high (after s.net (start_at s) (follow s.net s.script (start_at s) xs)).values 1) (sym same);
   passed = is.underway.passed ∙ ap (λ (xs : List ℕ). passed_in s.net (start_at s) (follow s.net s.script (start_at s) xs)) (sym same);
-  one_length = subst (λ (xs : List ℕ). AllSafe s.net s.script (start_at s) → end ≡ AtRest → EndsAll s.net s.script (start_at s) (follow s.net s.script (start_at s) xs)) (sym same) alone;
+  one_length = subst (λ (xs : List ℕ). AllSafe s.net s.script (start_at s) → end ≡ AtRest →
+      EndsAll s.net s.script (start_at s) (follow s.net s.script (start_at s) xs)) (sym same) alone;
   net = is.underway.net;
   within = end_within s.net s.script (start_at s) (follow s.net s.script (start_at s) is.picks) (moves_now stage) spent last end is.underway.hazard ended;
 }
@@ -134,4 +148,7 @@ finish s before now count stage last spent end net is counted ended = record {
 
     alone : AllSafe s.net s.script (start_at s) → end ≡ AtRest → EndsAll s.net s.script (start_at s) (follow s.net s.script (start_at s) is.picks)
     alone safe e =
-        ends_all s.net s.script (start_at s) net safe (follow s.net s.script (start_at s) is.picks) (picked_run s.net s.script (start_at s) is.picks is.underway.picks) (rests s.net s.script (after s.net (start_at s) (follow s.net s.script (start_at s) is.picks)) net (sym (moves_are s is.picks stage last is.underway) ∙ rest_empties last (moves_now stage) spent (ended ∙ ap Some e)))
+        ends_all s.net s.script (start_at s) net safe (follow s.net s.script (start_at s) is.picks)
+            (picked_run s.net s.script (start_at s) is.picks is.underway.picks)
+            (rests s.net s.script (after s.net (start_at s) (follow s.net s.script (start_at s) is.picks)) net
+            (sym (moves_are s is.picks stage last is.underway) ∙ rest_empties last (moves_now stage) spent (ended ∙ ap Some e)))

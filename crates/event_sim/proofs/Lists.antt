@@ -28,7 +28,8 @@ least_agrees zero p q agree = refl
 least_agrees (suc n) p q agree = rw (least_agrees n p q (λ k h. agree k (omega arith)), agree n (omega arith)) refl
 
 range_more : (n : ℕ) → range_with_len 0 (n + 1) ≡ range_with_len 0 n ++ n ∷ []
-range_more n = sym (map-id (range_with_len 0 (n + 1))) ∙ map-range_with_len_more (λ k. k) 0 n n (omega arith) ∙ ap (λ xs. xs ++ n ∷ []) (map-id (range_with_len 0 n))
+range_more n = sym (map-id (range_with_len 0 (n + 1))) ∙ map-range_with_len_more (λ k. k) 0 n n (omega arith)
+    ∙ ap (λ xs. xs ++ n ∷ []) (map-id (range_with_len 0 n))
 
 -- one more number that may pass
 pub passes_more : (p : ℕ → Bool) (n : ℕ) → filter p (range_with_len 0 (n + 1)) ≡ filter p (range_with_len 0 n) ++ cond (p n) (n ∷ []) []
@@ -43,7 +44,8 @@ first_of_both : (q : ℕ → Bool) (xs ys : List ℕ) → find q (xs ++ ys) ≡ 
 first_of_both q [] ys = refl
 first_of_both q (x ∷ xs) ys = by_test (q x) (first_of_both q xs ys)
   where
-    by_test : (b : Bool) → find q (xs ++ ys) ≡ or_else (find q xs) (find q ys) → (if b then Some x else find q (xs ++ ys)) ≡ or_else (if b then Some x else find q xs) (find q ys)
+    by_test : (b : Bool) → find q (xs ++ ys) ≡ or_else (find q xs) (find q ys) →
+        (if b then Some x else find q (xs ++ ys)) ≡ or_else (if b then Some x else find q xs) (find q ys)
     by_test true rest = refl
     by_test false rest = rest
 
@@ -51,7 +53,8 @@ first_of_both q (x ∷ xs) ys = by_test (q x) (first_of_both q xs ys)
 pub first_is_least : (p q : ℕ → Bool) (n : ℕ) → find q (filter p (range_with_len 0 n)) ≡ least_below n (λ k. p k && q k)
 first_is_least p q zero = refl
 first_is_least p q (suc n) =
-    ap (find q) (passes_suc p n) ∙ first_of_both q _ _ ∙ ap (λ o. or_else o (find q (cond (p n) (n ∷ []) []))) (first_is_least p q n) ∙ ap (or_else (least_below n (λ k. p k && q k))) (last (p n))
+    ap (find q) (passes_suc p n) ∙ first_of_both q _ _ ∙ ap (λ o. or_else o (find q (cond (p n) (n ∷ []) []))) (first_is_least p q n)
+        ∙ ap (or_else (least_below n (λ k. p k && q k))) (last (p n))
   where
     last : (b : Bool) → find q (cond b (n ∷ []) []) ≡ (if b && q n then Some n else None)
     last true = refl
@@ -68,7 +71,8 @@ any_of_both t (x ∷ xs) ys = by_test (t x) (any_of_both t xs ys)
 none_past : (p : ℕ → Bool) (n m : ℕ) → n ≤ m → list_any (λ k. k == m) (filter p (range_with_len 0 n)) ≡ false
 none_past p zero m past = refl
 none_past p (suc n) m past =
-    ap (list_any (λ k. k == m)) (passes_suc p n) ∙ any_of_both (λ k. k == m) (filter p (range_with_len 0 n)) (cond (p n) (n ∷ []) []) ∙ or_from _ _ (none_past p n m (omega arith)) (last (p n))
+    ap (list_any (λ k. k == m)) (passes_suc p n) ∙ any_of_both (λ k. k == m) (filter p (range_with_len 0 n)) (cond (p n) (n ∷ []) [])
+        ∙ or_from _ _ (none_past p n m (omega arith)) (last (p n))
   where
     last : (b : Bool) → list_any (λ k. k == m) (cond b (n ∷ []) []) ≡ false
     last true = or_from _ _ (ne_eqb n m (omega arith)) refl
@@ -78,7 +82,8 @@ none_past p (suc n) m past =
 pub among_is : (p : ℕ → Bool) (n m : ℕ) → m < n → list_any (λ k. k == m) (filter p (range_with_len 0 n)) ≡ p m
 among_is p zero m within = absurd (omega arith)
 among_is p (suc n) m within =
-    ap (list_any (λ k. k == m)) (passes_suc p n) ∙ any_of_both (λ k. k == m) (filter p (range_with_len 0 n)) (cond (p n) (n ∷ []) []) ∙ by_place (cases_eq m n) (λ less. among_is p n m less)
+    ap (list_any (λ k. k == m)) (passes_suc p n) ∙ any_of_both (λ k. k == m) (filter p (range_with_len 0 n)) (cond (p n) (n ∷ []) [])
+        ∙ by_place (cases_eq m n) (λ less. among_is p n m less)
   where
     last : (b : Bool) → n ≡ m → list_any (λ k. k == m) (cond b (n ∷ []) []) ≡ b
     last true same = or_left _ _ (eq-eqb n m same)
@@ -92,7 +97,8 @@ among_is p (suc n) m within =
     or_none true y none = refl
     or_none false y none = none
 
-    by_place : (m ≡ n) ⊎ (m ≡ n → ⊥) → (m < n → list_any (λ k. k == m) (filter p (range_with_len 0 n)) ≡ p m) → (list_any (λ k. k == m) (filter p (range_with_len 0 n)) || list_any (λ k. k == m) (cond (p n) (n ∷ []) [])) ≡ p m
+    by_place : (m ≡ n) ⊎ (m ≡ n → ⊥) → (m < n → list_any (λ k. k == m) (filter p (range_with_len 0 n)) ≡ p m) →
+        (list_any (λ k. k == m) (filter p (range_with_len 0 n)) || list_any (λ k. k == m) (cond (p n) (n ∷ []) [])) ≡ p m
     by_place (inl same) below =
         let past : n ≤ m = omega arith in
         rw (none_past p n m past) (last (p n) (sym same) ∙ ap p (sym same))

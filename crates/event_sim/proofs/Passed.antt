@@ -33,26 +33,32 @@ none_unknown net v n unknown = by_reset (in_reset net.reset v) (channel_acknowle
     by_reset true o none = refl
     by_reset false o none = ap (found_at (completed_on v net.channels n)) (sym none)
 
-pub completion_is : (net : NetValue) (v : ℕ → Bool) (n c : ℕ) (w : Wires) (o : Option ℕ) → in_reset net.reset v ≡ false → Some c ≡ channel_acknowledged net.channels n → w ≡ get_or net.channels c w → o ≡ completes v w n → paired c o ≡ completion net v n
+pub completion_is : (net : NetValue) (v : ℕ → Bool) (n c : ℕ) (w : Wires) (o : Option ℕ) → in_reset net.reset v ≡ false →
+    Some c ≡ channel_acknowledged net.channels n → w ≡ get_or net.channels c w → o ≡ completes v w n → paired c o ≡ completion net v n
 completion_is net v n c w o off found here is =
     let within = channel_within net.channels n c found in
     let read = slice_get_read net.channels (length net.channels) c w refl within here in
-    by_reset (in_reset net.reset v) (channel_acknowledged net.channels n) off found (ap (paired c) (is ∙ sym (ap (option_and_then (λ (x : Wires). completes v x n)) read)))
+    by_reset (in_reset net.reset v) (channel_acknowledged net.channels n) off found
+        (ap (paired c) (is ∙ sym (ap (option_and_then (λ (x : Wires). completes v x n)) read)))
   where
-    by_reset : (b : Bool) (f : Option ℕ) → b ≡ false → Some c ≡ f → paired c o ≡ paired c (completed_on v net.channels n c) → paired c o ≡ unless b (found_at (completed_on v net.channels n) f)
+    by_reset : (b : Bool) (f : Option ℕ) → b ≡ false → Some c ≡ f → paired c o ≡ paired c (completed_on v net.channels n c) →
+        paired c o ≡ unless b (found_at (completed_on v net.channels n) f)
     by_reset true f off found one = absurd (cc off)
     by_reset false f off found one = one ∙ ap (found_at (completed_on v net.channels n)) found
 
 -- the channel is one of the net's
-pub completion_within : (net : NetValue) (v : ℕ → Bool) (n : ℕ) (o : Option (ℕ × ℕ)) (count : ℕ) → o ≡ completion net v n → count ≡ length net.channels → IfSome o (λ (p : ℕ × ℕ). p.0 < count)
+pub completion_within : (net : NetValue) (v : ℕ → Bool) (n : ℕ) (o : Option (ℕ × ℕ)) (count : ℕ) → o ≡ completion net v n → count ≡ length net.channels →
+    IfSome o (λ (p : ℕ × ℕ). p.0 < count)
 completion_within net v n o count is whole =
-    subst (λ (q : Option (ℕ × ℕ)). IfSome q (λ (p : ℕ × ℕ). p.0 < count)) (sym is) (by_reset (in_reset net.reset v) (channel_acknowledged net.channels n) (λ c found. let within = channel_within net.channels n c found in omega arith))
+    subst (λ (q : Option (ℕ × ℕ)). IfSome q (λ (p : ℕ × ℕ). p.0 < count)) (sym is)
+        (by_reset (in_reset net.reset v) (channel_acknowledged net.channels n) (λ c found. let within = channel_within net.channels n c found in omega arith))
   where
     pair_within : (c : ℕ) (o : Option ℕ) → c < count → IfSome (paired c o) (λ (p : ℕ × ℕ). p.0 < count)
     pair_within c None less = tt
     pair_within c (Some value) less = less
 
-    by_reset : (b : Bool) (f : Option ℕ) → ((c : ℕ) → Some c ≡ f → c < count) → IfSome (unless b (found_at (completed_on v net.channels n) f)) (λ (p : ℕ × ℕ). p.0 < count)
+    by_reset : (b : Bool) (f : Option ℕ) → ((c : ℕ) → Some c ≡ f → c < count) →
+        IfSome (unless b (found_at (completed_on v net.channels n) f)) (λ (p : ℕ × ℕ). p.0 < count)
     by_reset true f within = tt
     by_reset false None within = tt
     by_reset false (Some c) within = pair_within c (completed_on v net.channels n c) (within c refl)

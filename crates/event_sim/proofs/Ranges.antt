@@ -25,13 +25,15 @@ raises_in : (v : ℕ → Bool) (value count n : ℕ) (rails : List ℕ) → All 
 raises_in v value count n [] within moves = absurd (cc moves)
 raises_in v value count n (t ∷ []) within moves = absurd (cc moves)
 raises_in v value count n (t ∷ f ∷ rest) within moves =
-    by_case (or_cases (raises_bit v (is_odd value) t f n) (raises_value v (value / 2) rest n) moves) (λ later. raises_in v (value / 2) count n rest (λ k d less. within (suc (suc k)) d (omega arith)) later)
+    by_case (or_cases (raises_bit v (is_odd value) t f n) (raises_value v (value / 2) rest n) moves)
+        (λ later. raises_in v (value / 2) count n rest (λ k d less. within (suc (suc k)) d (omega arith)) later)
   where
     by_bit : (bit : Bool) → raises_bit v bit t f n ≡ true → n < count
     by_bit true here = let same = eqb-true n t (and_parts (n == t) _ here).0 in let less = within 0 0 (omega arith) in omega arith
     by_bit false here = let same = eqb-true n f (and_parts (n == f) _ here).0 in let less = within 1 0 (omega arith) in omega arith
 
-    by_case : (raises_bit v (is_odd value) t f n ≡ true) ⊎ (raises_value v (value / 2) rest n ≡ true) → (raises_value v (value / 2) rest n ≡ true → n < count) → n < count
+    by_case : (raises_bit v (is_odd value) t f n ≡ true) ⊎ (raises_value v (value / 2) rest n ≡ true) → (raises_value v (value / 2) rest n ≡ true → n < count) →
+        n < count
     by_case (inl here) later = by_bit (is_odd value) here
     by_case (inr there) later = later there
 
@@ -48,7 +50,8 @@ among_in count n (r ∷ rest) within among =
     by_case (inl here) later = let same = eqb-true n r here in let less = within 0 0 (omega arith) in omega arith
     by_case (inr there) later = later there
 
-offer_in : (v : ℕ → Bool) (w : Wires) (offer : OfferValue) (done count n : ℕ) → All (λ rail. rail < count) w.rails → w.ack < count → offer_moves v w offer done n ≡ true → n < count
+offer_in : (v : ℕ → Bool) (w : Wires) (offer : OfferValue) (done count n : ℕ) → All (λ rail. rail < count) w.rails → w.ack < count →
+    offer_moves v w offer done n ≡ true → n < count
 offer_in v w (gives values) done count n rails ack moves = by_ack (slice_get values done) (v w.ack) moves
   where
     by_ack : (next : Option ℕ) (b : Bool) → (if b then lowers v w.rails n else raises_next v next w.rails n) ≡ true → n < count
@@ -59,12 +62,15 @@ offer_in v w (takes c) done count n rails ack moves =
     omega arith
 offer_in v w nothing done count n rails ack moves = absurd (cc moves)
 
-channels_in : (net : NetValue) (v : ℕ → Bool) (script : ℕ → OfferValue) (done : ℕ → ℕ) (c n : ℕ) (ws : List Wires) → All (IsChannel net) ws → channels_move v script done c ws n ≡ true → n < length net.first
+channels_in : (net : NetValue) (v : ℕ → Bool) (script : ℕ → OfferValue) (done : ℕ → ℕ) (c n : ℕ) (ws : List Wires) → All (IsChannel net) ws →
+    channels_move v script done c ws n ≡ true → n < length net.first
 channels_in net v script done c n [] are moves = absurd (cc moves)
 channels_in net v script done c n (w ∷ ws) are moves =
-    by_case (or_cases (offer_moves v w (script c) (done c) n) (channels_move v script done (suc c) ws n) moves) (λ later. channels_in net v script done (suc c) n ws (λ k d less. are (suc k) d (omega arith)) later)
+    by_case (or_cases (offer_moves v w (script c) (done c) n) (channels_move v script done (suc c) ws n) moves)
+        (λ later. channels_in net v script done (suc c) n ws (λ k d less. are (suc k) d (omega arith)) later)
   where
-    by_case : (offer_moves v w (script c) (done c) n ≡ true) ⊎ (channels_move v script done (suc c) ws n ≡ true) → (channels_move v script done (suc c) ws n ≡ true → n < length net.first) → n < length net.first
+    by_case : (offer_moves v w (script c) (done c) n ≡ true) ⊎ (channels_move v script done (suc c) ws n ≡ true) →
+        (channels_move v script done (suc c) ws n ≡ true → n < length net.first) → n < length net.first
     by_case (inl here) later =
         let is : IsChannel net w = are 0 w (omega arith) in
         offer_in v w (script c) (done c) (length net.first) n is.rails_within is.ack_within here
@@ -103,11 +109,13 @@ move_in net script st n is enabled =
     by_go (inl go) = let same = eqb-true n 0 (and_parts (n == 0) _ go).0 in omega (arith, is.some)
     by_go (inr wire) = channels_in net v (offer_at script) (completed st.histories) 0 n net.channels is.channels wire
 
-    by_reset : (b : Bool) → (if b then is_reset net.reset n && rules_rest net v else raises_go v n || channels_move v (offer_at script) (completed st.histories) 0 net.channels n) ≡ true → n < length net.first
+    by_reset : (b : Bool) → (if b then is_reset net.reset n && rules_rest net v else raises_go v n
+        || channels_move v (offer_at script) (completed st.histories) 0 net.channels n) ≡ true → n < length net.first
     by_reset true falls = reset_in net is n (and_parts (is_reset net.reset n) _ falls).0
     by_reset false moves = by_go (or_cases (raises_go v n) _ moves)
 
-    by_rule : (rule_enabled net v n ≡ true) ⊎ ((if in_reset net.reset v then is_reset net.reset n && rules_rest net v else raises_go v n || channels_move v (offer_at script) (completed st.histories) 0 net.channels n) ≡ true) → n < length net.first
+    by_rule : (rule_enabled net v n ≡ true) ⊎ ((if in_reset net.reset v then is_reset net.reset n && rules_rest net v else raises_go v n
+        || channels_move v (offer_at script) (completed st.histories) 0 net.channels n) ≡ true) → n < length net.first
     by_rule (inl rule) = rule_in net is v n rule
     by_rule (inr env) = by_reset (in_reset net.reset v) env
 
@@ -151,7 +159,8 @@ torn_within net st = by_least (least_below (length net.first) (torn net (high st
 
 hazard_within : (net : NetValue) (script : List OfferValue) (st : RunState) (n : ℕ) → Within net (hazard_of net script st n)
 hazard_within net script st n =
-    either_within net _ _ (torn_within net (moved net st n)) (either_within net _ _ (by_least (least_below (length net.first) (takes_away net script st n)) refl) (by_fault (in_reset net.reset (high st.values))))
+    either_within net _ _ (torn_within net (moved net st n))
+        (either_within net _ _ (by_least (least_below (length net.first) (takes_away net script st n)) refl) (by_fault (in_reset net.reset (high st.values))))
   where
     by_least : (o : Option ℕ) → least_below (length net.first) (takes_away net script st n) ≡ o → Within net (option_map Unstable o)
     by_least None e = tt
@@ -171,7 +180,8 @@ last_within net script st (n ∷ []) = hazard_within net script st n
 last_within net script st (n ∷ m ∷ ns) = last_within net script (moved net st n) (m ∷ ns)
 
 -- the node or the channel of a run's end is the net's
-pub end_within : (net : NetValue) (script : List OfferValue) (st : RunState) (ns xs : List ℕ) (spent : Bool) (last : Option Hazard) (end : End) → last ≡ last_hazard net script st ns → end_with last xs spent ≡ Some end → IsEndIn net end
+pub end_within : (net : NetValue) (script : List OfferValue) (st : RunState) (ns xs : List ℕ) (spent : Bool) (last : Option Hazard) (end : End) →
+    last ≡ last_hazard net script st ns → end_with last xs spent ≡ Some end → IsEndIn net end
 end_within net script st ns xs spent last end is ended =
     by_last last (subst (λ (o : Option Hazard). Within net o) (sym is) (last_within net script st ns)) ended
   where

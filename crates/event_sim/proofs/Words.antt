@@ -13,7 +13,8 @@ unfolding state_after
 none_drawn w m n g none = rw none refl
 
 -- one more pick draws one more word
-pub one_drawn : (w m picks since more : ℕ) (g now : Lcg) → since ≤ picks → more ≡ picks + 1 → now ≡ advance w m (picks - since) g → next w m now ≡ advance w m (more - since) g
+pub one_drawn : (w m picks since more : ℕ) (g now : Lcg) → since ≤ picks → more ≡ picks + 1 → now ≡ advance w m (picks - since) g →
+    next w m now ≡ advance w m (more - since) g
 one_drawn w m picks since more g now before counted drawn =
     let count : more - since ≡ suc (picks - since) = omega arith in
     rw (count, drawn) (ap (λ s. record g { state = s }) (sym (state_more w m g.increment (picks - since) g.state)))

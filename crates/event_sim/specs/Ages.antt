@@ -13,7 +13,8 @@ ages_at now table = map (age_at now) table
 
 -- a pick from a list makes each node in it older by one, and every other age 0
 abbrev pub aged : List ℕ → List ℕ → List ℕ
-aged list ages = map (λ node. if list_any (λ n. n == node) list then slice_index ages node + 1 else 0) (range_with_len 0 (length ages))
+aged list ages = map (λ node. if list_any (λ n. n == node) list then slice_index ages node + 1 else 0)
+    (range_with_len 0 (length ages))
 
 -- the ages that the nodes of the list have by a pick from it
 abbrev pub ages_in : List ℕ → List ℕ → List ℕ

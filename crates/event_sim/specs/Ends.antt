@@ -38,6 +38,7 @@ end_after net script steps st ns =
     end_with (last_hazard net script st ns) (enabled_moves net script (after net st ns)) (length ns == steps)
 
 -- it has ended so, and no shorter part of it has ended
-pub record EndsSo (net : NetValue) (script : List OfferValue) (steps : ℕ) (st : RunState) (ns : List ℕ) (end : End) : Type 0 where
+pub record EndsSo (net : NetValue) (script : List OfferValue) (steps : ℕ) (st : RunState) (ns : List ℕ)
+    (end : End) : Type 0 where
   pub ended : end_after net script steps st ns ≡ Some end
   pub not_before : (k : ℕ) → k < length ns → end_after net script steps st (take k ns) ≡ None

@@ -34,7 +34,8 @@ moves_now s = enabled_moves s.net s.script (now_of s)
 
 -- by the counts of completed values: a rule of the node is enabled, or the environment's move of it
 abbrev pub has_move : NetValue → List OfferValue → List ℕ → List Bool → ℕ → Bool
-has_move net script done values n = rule_enabled net (high values) n || env_enabled net script (slice_index done) (high values) n
+has_move net script done values n =
+    rule_enabled net (high values) n || env_enabled net script (slice_index done) (high values) n
 
 -- what is kept beside: the counts of completed values, the enabled moves, and room for two lists of all nodes
 pub record IsKeptBeside (s : StageValue) (counts listed : List ℕ) (room_one room_other : ℕ) : Type 0 where
@@ -74,4 +75,5 @@ pub record IsUnderway (s : SimValue) (made : List ℕ) (stage : StageValue) (las
   pub room : s.steps ≤ stage.room + length made
   pub picks : ArePicks s.net s.script (start_at s) made
   pub hazard : last ≡ last_hazard s.net s.script (start_at s) (follow s.net s.script (start_at s) made)
-  pub no_end : (k : ℕ) → k < length made → end_after s.net s.script s.steps (start_at s) (take k (follow s.net s.script (start_at s) made)) ≡ None
+  pub no_end : (k : ℕ) → k < length made →
+      end_after s.net s.script s.steps (start_at s) (take k (follow s.net s.script (start_at s) made)) ≡ None

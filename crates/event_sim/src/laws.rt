@@ -24,7 +24,8 @@ pub fn passed_are_histories()
     ensures { (net : NetValue) (values : List Bool) (ns : List ℕ) (c : ℕ)
         → IsNet net
         → c < length net.channels
-        → values_through c (passed_in net (begin_at net values) ns) ≡ history_at (after net (begin_at net values) ns).histories c }
+        → values_through c (passed_in net (begin_at net values) ns) ≡
+            history_at (after net (begin_at net values) ns).histories c }
 {}
 
 /// Law: a move's node is one of the net's.

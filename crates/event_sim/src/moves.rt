@@ -38,7 +38,8 @@ pub(crate) fn list_moves(
     requires done { length done.now ≡ length net.now.channels }
     requires state { length state.now ≡ length net.now.first }
     requires room { length net.now.first ≤ vec_capacity moves.old }
-    ensures moves { moves.new.items ≡ filter (has_move net.now script.now done.now state.now) (range_with_len 0 (length net.now.first)) }
+    ensures moves { moves.new.items ≡ filter (has_move net.now script.now done.now state.now)
+        (range_with_len 0 (length net.now.first)) }
     ensures room { vec_capacity moves.new ≡ vec_capacity moves.old }
 {
     moves.clear();

@@ -20,7 +20,8 @@ pub struct Random {
     log: Vec<usize>,
     seeded: Option<(u64, usize)>,
     ghost since: { since_of seeded ≤ length log.items },
-    ghost drawn: { words ≡ advance 64 multiplier_64 (length log.items - since_of seeded) (started 64 multiplier_64 (seed_of seeded) (increment_of 64 54)) },
+    ghost drawn: { words ≡ advance 64 multiplier_64 (length log.items - since_of seeded)
+        (started 64 multiplier_64 (seed_of seeded) (increment_of 64 54)) },
 }
 
 impl Random {

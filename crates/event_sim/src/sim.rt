@@ -145,12 +145,16 @@ impl Sim {
         ensures log { log picker.new ≡ log picker.old ++ growth (log picker.old) (log picker.new) }
         ensures picks { ArePicks self.net self.script (start_at self) (growth (log picker.old) (log picker.new)) }
         ensures run { IsRun self.net self.script (start_at self) (picked_moves self (log picker.old) (log picker.new)) }
-        ensures ends { EndsSo self.net self.script self.steps (start_at self) (picked_moves self (log picker.old) (log picker.new)) result.end }
+        ensures ends { EndsSo self.net self.script self.steps (start_at self)
+            (picked_moves self (log picker.old) (log picker.new)) result.end }
         ensures net { result.net ≡ self.net }
         ensures moves { result.moves ≡ length (picked_moves self (log picker.old) (log picker.new)) }
-        ensures done { result.done_high ≡ high (after self.net (start_at self) (picked_moves self (log picker.old) (log picker.new))).values 1 }
-        ensures passed { result.passed ≡ passed_in self.net (start_at self) (picked_moves self (log picker.old) (log picker.new)) }
-        ensures one_length { AllSafe self.net self.script (start_at self) → result.end ≡ AtRest → EndsAll self.net self.script (start_at self) (picked_moves self (log picker.old) (log picker.new)) }
+        ensures done { result.done_high ≡
+            high (after self.net (start_at self) (picked_moves self (log picker.old) (log picker.new))).values 1 }
+        ensures passed { result.passed ≡
+            passed_in self.net (start_at self) (picked_moves self (log picker.old) (log picker.new)) }
+        ensures one_length { AllSafe self.net self.script (start_at self) → result.end ≡ AtRest →
+            EndsAll self.net self.script (start_at self) (picked_moves self (log picker.old) (log picker.new)) }
         ensures spare { spare picker.new + result.moves ≡ spare picker.old }
         ensures name { name picker.new ≡ name picker.old }
         ensures nodes { nodes picker.new ≡ nodes picker.old }

@@ -36,9 +36,12 @@ impl Model for Stage {
 
     ghost Value = { StageValue };
 
-    ghost view = { λ s. stage_with s.net s.script s.state s.passed.items (vec_capacity s.passed - length s.passed.items) };
+    ghost view = { λ s. stage_with s.net s.script s.state s.passed.items
+        (vec_capacity s.passed - length s.passed.items) };
 
-    ghost invariant = { λ s. IsKeptBeside (stage_with s.net s.script s.state s.passed.items (vec_capacity s.passed - length s.passed.items)) s.done.items s.moves.items (vec_capacity s.moves) (vec_capacity s.next) };
+    ghost invariant = { λ s. IsKeptBeside
+        (stage_with s.net s.script s.state s.passed.items (vec_capacity s.passed - length s.passed.items)) s.done.items
+        s.moves.items (vec_capacity s.moves) (vec_capacity s.next) };
 }
 
 fn no_counts(alloc: Global, channels: usize) -> Result<Vec<u64>, AllocError>
@@ -53,11 +56,13 @@ fn no_counts(alloc: Global, channels: usize) -> Result<Vec<u64>, AllocError>
 
 /// Notes what a move completes, where it completes something.
 fn note(done: &mut Vec<u64>, passed: &mut Vec<(u32, u64)>, completed: Option<(u32, u64)>)
-    requires counts { done.old.items ≡ map (λ (h : List ℕ). length h) (channel_histories (length done.old.items) passed.old.items) }
+    requires counts { done.old.items ≡
+        map (λ (h : List ℕ). length h) (channel_histories (length done.old.items) passed.old.items) }
     requires chan { IfSome completed (λ p. p.0 < length done.old.items) }
     requires room { vec_len passed.old < vec_capacity passed.old }
     ensures passed { passed.new.items ≡ passed.old.items ++ option_to_list completed }
-    ensures counts { done.new.items ≡ map (λ (h : List ℕ). length h) (channel_histories (length done.old.items) passed.new.items) }
+    ensures counts { done.new.items ≡
+        map (λ (h : List ℕ). length h) (channel_histories (length done.old.items) passed.new.items) }
     ensures room { vec_capacity passed.new ≡ vec_capacity passed.old }
 {
     if let Some((chan, value)) = completed {
@@ -121,7 +126,8 @@ impl Stage {
         ensures net { self.new.net ≡ self.old.net }
         ensures script { self.new.script ≡ self.old.script }
         ensures moved { now_of self.new ≡ moved self.old.net (now_of self.old) node }
-        ensures passed { self.new.passed ≡ self.old.passed ++ option_to_list (completion self.old.net (high self.old.values) node) }
+        ensures passed { self.new.passed ≡ self.old.passed
+            ++ option_to_list (completion self.old.net (high self.old.values) node) }
         ensures room { self.old.room ≤ self.new.room + 1 }
         ensures hazard { result ≡ hazard_of self.old.net self.old.script (now_of self.old) node }
     {
@@ -144,7 +150,8 @@ impl Stage {
     /// The run, which has ended so after so many moves.
     pub(crate) fn ran(self, end: End, moves: u32) -> Ran
         requires { IsEndIn self.net end }
-        ensures { result ≡ record { net = self.net; end = end; moves = moves; done_high = high self.values 1; passed = self.passed } }
+        ensures { result ≡ record { net = self.net; end = end; moves = moves; done_high = high self.values 1; passed =
+            self.passed } }
     {
         let done_high = self.state.is_high(1);
         Ran::new(self.net, end, moves, done_high, self.passed)

@@ -19,10 +19,13 @@ module _ (p : TypedProgram) (ss : List TStmt) (i : ℕ) (s : TStmt) (within : i 
   pub branch_size_here : branches_size p (members_of (drop i ss)) ≡ 3 + size_of p (process_of s) + branches_size p (members_of (drop (i + 1) ss))
   branch_size_here = ap (branches_size p) (member_at ss i s within is)
 
-  pub branch_expanded_here : (from : ℕ) → expanded_branches p (members_of (drop i ss)) from ≡ and_child (expanded p (process_of s) from (from + 3)) (expanded_branches p (members_of (drop (i + 1) ss)) (from + 3 + size_of p (process_of s)))
+  pub branch_expanded_here : (from : ℕ) → expanded_branches p (members_of (drop i ss)) from ≡ and_child (expanded p (process_of s) from (from + 3))
+      (expanded_branches p (members_of (drop (i + 1) ss)) (from + 3 + size_of p (process_of s)))
   branch_expanded_here from = ap (λ ms. expanded_branches p ms from) (member_at ss i s within is)
 
-  pub branch_sites_here : {A : Type 0} (site : Sites A) (from : ℕ) → sites_in_branches p site (members_of (drop i ss)) from ≡ sites_in p site (process_of s) (from + 3) ++ sites_in_branches p site (members_of (drop (i + 1) ss)) (from + 3 + size_of p (process_of s))
+  pub branch_sites_here : {A : Type 0} (site : Sites A) (from : ℕ) →
+      sites_in_branches p site (members_of (drop i ss)) from ≡ sites_in p site (process_of s) (from + 3)
+      ++ sites_in_branches p site (members_of (drop (i + 1) ss)) (from + 3 + size_of p (process_of s))
   branch_sites_here site from = ap (λ ms. sites_in_branches p site ms from) (member_at ss i s within is)
 
 -- no branch is left
@@ -41,13 +44,18 @@ module _ (p : TypedProgram) (arms : List TArm) (i : ℕ) (a : TArm) (within : i 
   pub body_size_here : bodies_size p (arms_of (drop i arms)) ≡ size_of p (process_of a.body) + bodies_size p (arms_of (drop (i + 1) arms))
   body_size_here = ap (bodies_size p) (arm_at arms i a within is)
 
-  pub body_expanded_here : (start from : ℕ) → expanded_bodies p (arms_of (drop i arms)) start from ≡ and_child (expanded p (process_of a.body) start from) (expanded_bodies p (arms_of (drop (i + 1) arms)) (start + 1) (from + size_of p (process_of a.body)))
+  pub body_expanded_here : (start from : ℕ) →
+      expanded_bodies p (arms_of (drop i arms)) start from ≡ and_child (expanded p (process_of a.body) start from)
+      (expanded_bodies p (arms_of (drop (i + 1) arms)) (start + 1) (from + size_of p (process_of a.body)))
   body_expanded_here start from = ap (λ cs. expanded_bodies p cs start from) (arm_at arms i a within is)
 
-  pub body_sites_here : {A : Type 0} (site : Sites A) (from : ℕ) → sites_in_bodies p site (arms_of (drop i arms)) from ≡ sites_in p site (process_of a.body) from ++ sites_in_bodies p site (arms_of (drop (i + 1) arms)) (from + size_of p (process_of a.body))
+  pub body_sites_here : {A : Type 0} (site : Sites A) (from : ℕ) →
+      sites_in_bodies p site (arms_of (drop i arms)) from ≡ sites_in p site (process_of a.body) from
+      ++ sites_in_bodies p site (arms_of (drop (i + 1) arms)) (from + size_of p (process_of a.body))
   body_sites_here site from = ap (λ cs. sites_in_bodies p site cs from) (arm_at arms i a within is)
 
-  pub arm_typed : (channels : List Channel) (vars : List Var) → AreChoices channels vars (arms_of (drop i arms)) → IsProcess channels vars (process_of a.body) × AreChoices channels vars (arms_of (drop (i + 1) arms))
+  pub arm_typed : (channels : List Channel) (vars : List Var) → AreChoices channels vars (arms_of (drop i arms)) → IsProcess channels vars (process_of a.body)
+      × AreChoices channels vars (arms_of (drop (i + 1) arms))
   arm_typed channels vars h = let facts = subst (AreChoices channels vars) (arm_at arms i a within is) h in (facts.1, facts.2)
 
 -- no arm is left
@@ -62,11 +70,13 @@ module _ (p : TypedProgram) (arms : List TArm) (i : ℕ) (all : length arms ≤ 
   body_sites_end site from = ap (λ cs. sites_in_bodies p site cs from) (no_more_arms arms i all)
 
 -- a selection and a guarded repetition differ in how many nodes stand before the latches
-pub choosing_sites : {A : Type 0} (p : TypedProgram) (site : Sites A) (again : Bool) (cs : Choices) (from : ℕ) → sites_in p site (choosing again cs) from ≡ sites_in_bodies p site cs (bodies_from cs (own_before again) from)
+pub choosing_sites : {A : Type 0} (p : TypedProgram) (site : Sites A) (again : Bool) (cs : Choices) (from : ℕ) →
+    sites_in p site (choosing again cs) from ≡ sites_in_bodies p site cs (bodies_from cs (own_before again) from)
 choosing_sites p site true cs from = refl
 choosing_sites p site false cs from = refl
 
-pub choosing_size : (p : TypedProgram) (again : Bool) (cs : Choices) → size_of p (choosing again cs) ≡ own_before again + 2 * choice_count cs + guards_size cs + bodies_size p cs
+pub choosing_size : (p : TypedProgram) (again : Bool) (cs : Choices) → size_of p (choosing again cs) ≡ own_before again + 2 * choice_count cs + guards_size cs +
+    bodies_size p cs
 choosing_size p true cs = omega arith
 choosing_size p false cs = omega arith
 

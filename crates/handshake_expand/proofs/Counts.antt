@@ -60,11 +60,14 @@ meets : node_count (program (channel Chan 1 ∷ []) (var 1 0 ∷ []) (beside (se
 meets = refl
 
 -- out A : 1; out B : 1; var x : 2; begin [x = 0 -> A!1 [] x < 2 -> B!1] end
-chooses : node_count (program (channel Out 1 ∷ channel Out 1 ∷ []) (var 2 0 ∷ []) (choosing false (and_choice (compared op.Eq (whole 0 2) (constant 2 0)) (sending 0 at (constant 1 1)) (and_choice (compared op.Lt (whole 0 2) (constant 2 2)) (sending 1 at (constant 1 1)) no_choices)))) ≡ 60
+chooses : node_count (program (channel Out 1 ∷ channel Out 1 ∷ []) (var 2 0 ∷ [])
+    (choosing false (and_choice (compared op.Eq (whole 0 2) (constant 2 0)) (sending 0 at (constant 1 1))
+    (and_choice (compared op.Lt (whole 0 2) (constant 2 2)) (sending 1 at (constant 1 1)) no_choices)))) ≡ 60
 chooses = refl
 
 -- out R : 8; var x : 8 = 255; begin x := x + 1; R!x end
-counts_over : node_count (program (channel Out 8 ∷ []) (var 8 255 ∷ []) (both (assigning 0 at (with op.Add (whole 0 8) (constant 8 1))) (sending 0 at (whole 0 8)))) ≡ 218
+counts_over : node_count (program (channel Out 8 ∷ []) (var 8 255 ∷ [])
+    (both (assigning 0 at (with op.Add (whole 0 8) (constant 8 1))) (sending 0 at (whole 0 8)))) ≡ 218
 counts_over = refl
 
 -- var x : 1 = 1; begin *[x = 0 -> skip] end
@@ -72,11 +75,15 @@ leaves_at_once : node_count (program [] (var 1 1 ∷ []) (choosing true (and_cho
 leaves_at_once = refl
 
 -- out R : 4; var x : 4; begin *[x < 3 -> x := x + 1]; R!x end
-counts_up : node_count (program (channel Out 4 ∷ []) (var 4 0 ∷ []) (both (choosing true (and_choice (compared op.Lt (whole 0 4) (constant 4 3)) (assigning 0 at (with op.Add (whole 0 4) (constant 4 1))) no_choices)) (sending 0 at (whole 0 4)))) ≡ 146
+counts_up : node_count (program (channel Out 4 ∷ []) (var 4 0 ∷ [])
+    (both (choosing true (and_choice (compared op.Lt (whole 0 4) (constant 4 3)) (assigning 0 at (with op.Add (whole 0 4) (constant 4 1))) no_choices))
+    (sending 0 at (whole 0 4)))) ≡ 146
 counts_up = refl
 
 -- in c0 : 8; chan c1 : 8; out c2 : 8; var v1 : 8; var v2 : 8; begin *[c0?v1; c1!~v1] || *[c1?v2; c2!v2 ^ 2] end
-two_stages : node_count (program (channel In 8 ∷ channel Chan 8 ∷ channel Out 8 ∷ []) (var 8 0 ∷ var 8 0 ∷ []) (beside (repeating (both (receiving 0 at 0 at) (sending 1 at (inverted (whole 0 8))))) (repeating (both (receiving 1 at 1 at) (sending 2 at (with op.Xor (whole 1 8) (constant 8 2))))))) ≡ 268
+two_stages : node_count (program (channel In 8 ∷ channel Chan 8 ∷ channel Out 8 ∷ []) (var 8 0 ∷ var 8 0 ∷ [])
+    (beside (repeating (both (receiving 0 at 0 at) (sending 1 at (inverted (whole 0 8)))))
+    (repeating (both (receiving 1 at 1 at) (sending 2 at (with op.Xor (whole 1 8) (constant 8 2))))))) ≡ 268
 two_stages = refl
 
 -- chan X : 1; begin skip; skip; .. end, with so many skips

@@ -8,7 +8,8 @@ use Rattle.handshake_expand.specs.PartText.{indent, part_line, part_lines, child
 use Rattle.handshake_expand.specs.PartTree.{PartTree, part, PartTrees, no_children, and_child, tree_of, each_tree}
 use Rattle.handshake_expand.proofs.Trees.{opened_tree, child_at, no_child_left}
 
-pub opened_below : (n : ℕ) (x : Part) → HasNodesBelow n (tree_of x) → ((out-Part x).request < n) × ((out-Part x).answer < n) × HaveNodesBelow n (each_tree (out-Part x).children.items)
+pub opened_below : (n : ℕ) (x : Part) → HasNodesBelow n (tree_of x) → ((out-Part x).request < n) × ((out-Part x).answer < n)
+    × HaveNodesBelow n (each_tree (out-Part x).children.items)
 opened_below n x h = subst (HasNodesBelow n) (opened_tree x) h
 
 -- two spaces more
@@ -28,7 +29,8 @@ module _ (p : TypedProgram) (level : ℕ) where
       let o = out-Part x in
       let own = part_line p (indent level) o.kind o.request o.answer o.from o.count in
       ap (λ xs. new ++ child_lines p (suc level) (each_tree xs)) same
-      ∙ (ap (λ xs. xs ++ child_lines p (suc level) (each_tree o.children.items)) (line ∙ ap (λ m. old ++ part_line p m o.kind o.request o.answer o.from o.count) is)
+      ∙ (ap (λ xs. xs ++ child_lines p (suc level) (each_tree o.children.items)) (line
+          ∙ ap (λ m. old ++ part_line p m o.kind o.request o.answer o.from o.count) is)
       ∙ (append_assoc old own (child_lines p (suc level) (each_tree o.children.items))
       ∙ ap (λ t. old ++ part_lines p level t) (sym (opened_tree x))))
 
@@ -45,5 +47,6 @@ module _ (p : TypedProgram) (level : ℕ) where
   pub last_lines : (xs : List Part) (i : ℕ) (now all : List ℕ) → length xs ≤ i → now ++ child_lines p level (each_tree (drop i xs)) ≡ all → now ≡ all
   last_lines xs i now all end so_far = sym (append-nil now) ∙ (ap (λ t. now ++ child_lines p level t) (sym (no_child_left xs i end)) ∙ so_far)
 
-pub child_below : (n : ℕ) (xs : List Part) (i : ℕ) (x : Part) → i < length xs → x ≡ get_or xs i x → HaveNodesBelow n (each_tree (drop i xs)) → HasNodesBelow n (tree_of x) × HaveNodesBelow n (each_tree (drop (i + 1) xs))
+pub child_below : (n : ℕ) (xs : List Part) (i : ℕ) (x : Part) → i < length xs → x ≡ get_or xs i x → HaveNodesBelow n (each_tree (drop i xs)) →
+    HasNodesBelow n (tree_of x) × HaveNodesBelow n (each_tree (drop (i + 1) xs))
 child_below n xs i x within is h = subst (HaveNodesBelow n) (child_at xs i x within is) h

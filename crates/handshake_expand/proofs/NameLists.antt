@@ -21,7 +21,8 @@ module _ {X : Type 0} (f : ℕ → List X) (m : ℕ) (each : (k : ℕ) → lengt
   flat_length from zero = omega arith
   flat_length from (suc w) =
       let rest : length (flat_map f (range_with_len (from + 1) w)) ≡ w * m = flat_length (from + 1) w in
-      let both : length (f from ++ flat_map f (range_with_len (from + 1) w)) ≡ length (f from) + length (flat_map f (range_with_len (from + 1) w)) = length-append (f from) (flat_map f (range_with_len (from + 1) w)) in
+      let both : length (f from ++ flat_map f (range_with_len (from + 1) w)) ≡ length (f from) + length (flat_map f (range_with_len (from + 1) w)) =
+          length-append (f from) (flat_map f (range_with_len (from + 1) w)) in
       omega (arith, both, each from, rest)
 
   flat_at : (from w i j : ℕ) (d : X) → i < w → j < m → get_or (flat_map f (range_with_len from w)) (i * m + j) d ≡ get_or (f (from + i)) j d
@@ -86,7 +87,8 @@ of_tail name bit (suc (suc (suc zero))) small = refl
 of_tail name bit (suc (suc (suc (suc zero)))) small = refl
 of_tail name bit (suc (suc (suc (suc (suc n))))) small = absurd (omega arith)
 
-pub bit_named : (v : Var) (node : ℕ) → node < 5 * v.width → get_or (bits_named v) node [] ≡ v.name ++ codes "." ++ decimal (node / 5) ++ get_or bit_tails (node % 5) []
+pub bit_named : (v : Var) (node : ℕ) → node < 5 * v.width → get_or (bits_named v) node [] ≡ v.name ++ codes "." ++ decimal (node / 5)
+    ++ get_or bit_tails (node % 5) []
 bit_named v node within =
     let at : node ≡ node / 5 * 5 + node % 5 = omega arith in
     let first : 0 + node / 5 ≡ node / 5 = omega arith in
@@ -109,7 +111,8 @@ at_place names place = get_or names place []
 front_named : (front behind : List (List ℕ)) (place count : ℕ) → length front ≡ count → place < count → at_place (front ++ behind) place ≡ at_place front place
 front_named front behind place count is within = get_or_append_left front behind [] place (omega (arith, is, within))
 
-behind_named : (front behind : List (List ℕ)) (place count : ℕ) → length front ≡ count → count ≤ place → at_place (front ++ behind) place ≡ at_place behind (place - count)
+behind_named : (front behind : List (List ℕ)) (place count : ℕ) → length front ≡ count → count ≤ place →
+    at_place (front ++ behind) place ≡ at_place behind (place - count)
 behind_named front behind place count is over = get_or-append_right front behind count place [] is over
 
 -- the names from the wires of a channel on, and from the block of a variable on
@@ -134,7 +137,8 @@ wire_here p cs i place c within is small =
     let rest = wire_names (drop (i + 1) cs) in
     let more : drop i cs ≡ c ∷ drop (i + 1) cs = drop_more cs i c within ∙ ap (λ x. x ∷ drop (i + 1) cs) (sym is) in
     ap (λ xs. at_place (names_from_wires p xs) place) more
-    ∙ (front_named (wires_named c ++ rest) (block_names p.vars (vars_from p) ++ last_names p) place (wires_size c.width + length rest) (length-append (wires_named c) rest ∙ ap (λ n. n + length rest) (wires_length c)) (omega (arith, small))
+    ∙ (front_named (wires_named c ++ rest) (block_names p.vars (vars_from p) ++ last_names p) place (wires_size c.width + length rest)
+        (length-append (wires_named c) rest ∙ ap (λ n. n + length rest) (wires_length c)) (omega (arith, small))
     ∙ front_named (wires_named c) rest place (wires_size c.width) (wires_length c) small)
 
 pub wire_behind : (p : TypedProgram) (cs : List Channel) (i place : ℕ) (c : Channel) → i < length cs → c ≡ get_or cs i c → wires_size c.width ≤ place
@@ -147,7 +151,8 @@ wire_behind p cs i place c within is over =
     ∙ (ap (λ xs. at_place xs place) (append_assoc (wires_named c) rest tail)
     ∙ behind_named (wires_named c) (rest ++ tail) place (wires_size c.width) (wires_length c) over)
 
-pub wires_over : (p : TypedProgram) (cs : List Channel) (i place : ℕ) → length cs ≤ i → at_place (names_from_wires p (drop i cs)) place ≡ at_place (names_from_blocks p p.vars (vars_from p)) place
+pub wires_over : (p : TypedProgram) (cs : List Channel) (i place : ℕ) → length cs ≤ i →
+    at_place (names_from_wires p (drop i cs)) place ≡ at_place (names_from_blocks p p.vars (vars_from p)) place
 wires_over p cs i place all = ap (λ xs. at_place (names_from_wires p xs) place) (drop_all i cs all)
 
 -- the nodes of a block
@@ -158,7 +163,8 @@ block_length : (v : Var) (from : ℕ) → 1 ≤ v.width → length (block_named 
 block_length v from some =
     let numbers = numbers_length (from + 5 * v.width) (v.width - 1) in
     let bits = bits_length v in
-    let both : length (block_named v from) ≡ length (bits_named v) + length (numbered_from (from + 5 * v.width) (v.width - 1)) = length-append (bits_named v) (numbered_from (from + 5 * v.width) (v.width - 1)) in
+    let both : length (block_named v from) ≡ length (bits_named v) + length (numbered_from (from + 5 * v.width) (v.width - 1)) =
+        length-append (bits_named v) (numbered_from (from + 5 * v.width) (v.width - 1)) in
     omega (arith, numbers, bits, both, some)
 
 module _ (p : TypedProgram) (vs : List Var) (i from place : ℕ) (v : Var) (within : i < length vs) (is : v ≡ get_or vs i v) (some : 1 ≤ v.width) where
@@ -175,22 +181,29 @@ module _ (p : TypedProgram) (vs : List Var) (i from place : ℕ) (v : Var) (with
   pub bit_here : place < 5 * v.width → at_place (names_from_blocks p (drop i vs) from) place ≡ at_place (bits_named v) place
   bit_here small =
       ap (λ xs. at_place xs place) block_first
-      ∙ (front_named (block_named v from) (names_from_blocks p (drop (i + 1) vs) (from + block_size v.width)) place (block_size v.width) (block_length v from some) (omega (arith, small, some))
+      ∙ (front_named (block_named v from) (names_from_blocks p (drop (i + 1) vs) (from + block_size v.width)) place (block_size v.width)
+          (block_length v from some) (omega (arith, small, some))
       ∙ front_named (bits_named v) (numbered_from (from + 5 * v.width) (v.width - 1)) place (v.width * 5) (bits_length v) (omega (arith, small)))
 
-  pub tree_here : (node : ℕ) → 5 * v.width ≤ place → place < block_size v.width → from + place ≡ node → at_place (names_from_blocks p (drop i vs) from) place ≡ numbered node
+  pub tree_here : (node : ℕ) → 5 * v.width ≤ place → place < block_size v.width → from + place ≡ node →
+      at_place (names_from_blocks p (drop i vs) from) place ≡ numbered node
   tree_here node over small at =
       ap (λ xs. at_place xs place) block_first
-      ∙ (front_named (block_named v from) (names_from_blocks p (drop (i + 1) vs) (from + block_size v.width)) place (block_size v.width) (block_length v from some) small
+      ∙ (front_named (block_named v from) (names_from_blocks p (drop (i + 1) vs) (from + block_size v.width)) place (block_size v.width)
+          (block_length v from some) small
       ∙ (behind_named (bits_named v) (numbered_from (from + 5 * v.width) (v.width - 1)) place (v.width * 5) (bits_length v) (omega (arith, over))
       ∙ number_named (from + 5 * v.width) (v.width - 1) (place - v.width * 5) node (omega (arith, over, small)) (omega (arith, over, at))))
 
-  pub block_behind : block_size v.width ≤ place → at_place (names_from_blocks p (drop i vs) from) place ≡ at_place (names_from_blocks p (drop (i + 1) vs) (from + block_size v.width)) (place - block_size v.width)
+  pub block_behind : block_size v.width ≤ place →
+      at_place (names_from_blocks p (drop i vs) from) place ≡ at_place (names_from_blocks p (drop (i + 1) vs) (from + block_size v.width))
+      (place - block_size v.width)
   block_behind over =
       ap (λ xs. at_place xs place) block_first
-      ∙ behind_named (block_named v from) (names_from_blocks p (drop (i + 1) vs) (from + block_size v.width)) place (block_size v.width) (block_length v from some) over
+      ∙ behind_named (block_named v from) (names_from_blocks p (drop (i + 1) vs) (from + block_size v.width)) place (block_size v.width)
+          (block_length v from some) over
 
-pub blocks_over : (p : TypedProgram) (vs : List Var) (i from place node : ℕ) → length vs ≤ i → root_request p + place ≡ node → node < nodes_of p → from ≡ root_request p
+pub blocks_over : (p : TypedProgram) (vs : List Var) (i from place node : ℕ) → length vs ≤ i → root_request p + place ≡ node → node < nodes_of p →
+    from ≡ root_request p
     → at_place (names_from_blocks p (drop i vs) from) place ≡ numbered node
 blocks_over p vs i from place node all at within is =
     ap (λ xs. at_place (names_from_blocks p xs from) place) (drop_all i vs all)
@@ -205,7 +218,8 @@ no_blocks_before [] = refl
 no_blocks_before (y ∷ ys) = refl
 
 -- the wires before the next channel, and the blocks before the next variable
-pub next_wires : (cs : List Channel) (i : ℕ) (c : Channel) → i < length cs → c ≡ get_or cs i c → wires_before cs (i + 1) ≡ wires_before cs i + wires_size c.width
+pub next_wires : (cs : List Channel) (i : ℕ) (c : Channel) → i < length cs → c ≡ get_or cs i c →
+    wires_before cs (i + 1) ≡ wires_before cs i + wires_size c.width
 next_wires [] i c within is = absurd (omega arith)
 next_wires (x ∷ xs) zero c within is =
     let same : c.width ≡ x.width = ap (λ (y : Channel). y.width) is in
@@ -243,7 +257,8 @@ some_width vs items i v same within is all =
 -- the nodes from the root's first one on are called by their numbers
 wires_all : (cs : List Channel) → length (wire_names cs) ≡ wires_before cs (length cs)
 wires_all [] = refl
-wires_all (c ∷ cs) = length-append (wires_named c) (wire_names cs) ∙ (ap (λ n. n + length (wire_names cs)) (wires_length c) ∙ ap (λ n. wires_size c.width + n) (wires_all cs))
+wires_all (c ∷ cs) = length-append (wires_named c) (wire_names cs)
+    ∙ (ap (λ n. n + length (wire_names cs)) (wires_length c) ∙ ap (λ n. wires_size c.width + n) (wires_all cs))
 
 blocks_all : (vs : List Var) (from : ℕ) → All IsDeclaredVar vs → length (block_names vs from) ≡ blocks_before vs (length vs)
 blocks_all [] from declared = refl
@@ -262,8 +277,10 @@ names_counted p declared =
     let wires = wires_all p.channels in
     let blocks = blocks_all p.vars (vars_from p) declared in
     let last : length (last_names p) ≡ 2 + size_of p p.body = numbers_length (root_request p) (2 + size_of p p.body) in
-    let tail : length (block_names p.vars (vars_from p) ++ last_names p) ≡ length (block_names p.vars (vars_from p)) + length (last_names p) = length-append (block_names p.vars (vars_from p)) (last_names p) in
-    let whole : length (wire_names p.channels ++ (block_names p.vars (vars_from p) ++ last_names p)) ≡ length (wire_names p.channels) + length (block_names p.vars (vars_from p) ++ last_names p) = length-append (wire_names p.channels) (block_names p.vars (vars_from p) ++ last_names p) in
+    let tail : length (block_names p.vars (vars_from p) ++ last_names p) ≡ length (block_names p.vars (vars_from p)) + length (last_names p) =
+        length-append (block_names p.vars (vars_from p)) (last_names p) in
+    let whole : length (wire_names p.channels ++ (block_names p.vars (vars_from p) ++ last_names p)) ≡ length (wire_names p.channels) +
+        length (block_names p.vars (vars_from p) ++ last_names p) = length-append (wire_names p.channels) (block_names p.vars (vars_from p) ++ last_names p) in
     omega (arith, wires, blocks, last, tail, whole)
 
 pub inner_named : (p : TypedProgram) (node : ℕ) → All IsDeclaredVar p.vars → root_request p ≤ node → node < nodes_of p → name_of_node p node ≡ numbered node
@@ -271,6 +288,9 @@ inner_named p node declared low high =
     let blocks = block_names p.vars (vars_from p) in
     let place : vars_from p - 2 ≡ wires_before p.channels (length p.channels) = omega arith in
     first_named p node (omega (arith, low))
-    ∙ (behind_named (wire_names p.channels) (blocks ++ last_names p) (node - 2) (wires_before p.channels (length p.channels)) (wires_all p.channels) (omega (arith, low))
-    ∙ (behind_named blocks (last_names p) (node - 2 - wires_before p.channels (length p.channels)) (blocks_before p.vars (length p.vars)) (blocks_all p.vars (vars_from p) declared) (omega (arith, low))
-    ∙ number_named (root_request p) (2 + size_of p p.body) (node - 2 - wires_before p.channels (length p.channels) - blocks_before p.vars (length p.vars)) node (omega (arith, low, high)) (omega (arith, low))))
+    ∙ (behind_named (wire_names p.channels) (blocks ++ last_names p) (node - 2) (wires_before p.channels (length p.channels)) (wires_all p.channels)
+        (omega (arith, low))
+    ∙ (behind_named blocks (last_names p) (node - 2 - wires_before p.channels (length p.channels)) (blocks_before p.vars (length p.vars))
+        (blocks_all p.vars (vars_from p) declared) (omega (arith, low))
+    ∙ number_named (root_request p) (2 + size_of p p.body) (node - 2 - wires_before p.channels (length p.channels) - blocks_before p.vars (length p.vars)) node
+        (omega (arith, low, high)) (omega (arith, low))))

@@ -53,7 +53,8 @@ loop_parts : expanded p (repeating send) 9 28 ≡ part kind.Loop 9 28 28 5 (alon
 loop_parts = refl
 
 -- x := x + 1 and y := 1 under 9, from 28 on: one goes through a hidden variable
-through_part : expanded p (assigning 0 at (chained (reading 0 1 0 at) (and_operation op.Add (constant 2 1) no_operations))) 9 28 ≡ part kind.Through 9 57 28 34 no_children
+through_part : expanded p (assigning 0 at (chained (reading 0 1 0 at) (and_operation op.Add (constant 2 1) no_operations))) 9 28 ≡
+    part kind.Through 9 57 28 34 no_children
 through_part = refl
 
 assign_part : expanded p (assigning 1 at (constant 1 1)) 9 28 ≡ part kind.Assign 9 28 28 3 no_children
@@ -73,7 +74,8 @@ again_parts = refl
 -- write in it, of both sends, and of the second assignment of x := x + 1
 abbrev several : TypedProgram
 several = declares (side_by_side (and_member (receiving 0 at 0 at) (and_member
-    (in_turn (and_member (choosing false (and_choice (reading 0 0 0 at) send (and_choice (reading 0 1 1 at) send no_choices))) (and_member (assigning 0 at (chained (reading 0 1 0 at) (and_operation op.Add (constant 2 1) no_operations))) no_members)))
+    (in_turn (and_member (choosing false (and_choice (reading 0 0 0 at) send (and_choice (reading 0 1 1 at) send no_choices)))
+        (and_member (assigning 0 at (chained (reading 0 1 0 at) (and_operation op.Add (constant 2 1) no_operations))) no_members)))
     no_members)))
 
 sites : (expansion several).channels ≡

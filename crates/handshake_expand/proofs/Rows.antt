@@ -47,8 +47,10 @@ arms_row (more_of-TArm guard body rest) = ap (and_choice (formula_of guard) (pro
 pub join_is : (e : TExpr) (v : Vec TExpr Global) → e ≡ Join v → formula_of e ≡ joined (parts_of v.items)
 join_is e v is = ap formula_of is ∙ ap joined (parts_row (hidden-the_row-TExpr-0 v) ∙ ap parts_of (items_hidden-the_row-TExpr-0 v))
 
-pub chain_is : (e : TExpr) (first : Box TExpr Global) (v : Vec TLink Global) → e ≡ Chain first v → formula_of e ≡ chained (formula_of first.value) (links_of v.items)
-chain_is e first v is = ap formula_of is ∙ ap (chained (formula_of first.value)) (links_row (hidden-the_row-TLink-1 v) ∙ ap links_of (items_hidden-the_row-TLink-1 v))
+pub chain_is : (e : TExpr) (first : Box TExpr Global) (v : Vec TLink Global) → e ≡ Chain first v →
+    formula_of e ≡ chained (formula_of first.value) (links_of v.items)
+chain_is e first v is = ap formula_of is ∙ ap (chained (formula_of first.value)) (links_row (hidden-the_row-TLink-1 v)
+    ∙ ap links_of (items_hidden-the_row-TLink-1 v))
 
 pub then_is : (s : TStmt) (v : Vec TStmt Global) → s ≡ Then v → process_of s ≡ in_turn (members_of v.items)
 then_is s v is = ap process_of is ∙ ap in_turn (members_row (hidden-the_row-TStmt-0 v) ∙ ap members_of (items_hidden-the_row-TStmt-0 v))
@@ -60,26 +62,32 @@ pub select_is : (s : TStmt) (again : Bool) (v : Vec TArm Global) → s ≡ Selec
 select_is s again v is = ap process_of is ∙ ap (choosing again) (arms_row (hidden-the_row-TArm-1 v) ∙ ap arms_of (items_hidden-the_row-TArm-1 v))
 
 -- from a place on there is the one there and those behind it
-pub part_at : (es : List TExpr) (i : ℕ) (e : TExpr) → i < length es → e ≡ get_or es i e → parts_of (drop i es) ≡ and_part (formula_of e) (parts_of (drop (i + 1) es))
+pub part_at : (es : List TExpr) (i : ℕ) (e : TExpr) → i < length es → e ≡ get_or es i e →
+    parts_of (drop i es) ≡ and_part (formula_of e) (parts_of (drop (i + 1) es))
 part_at es i e within is = ap parts_of (drop_more es i e within) ∙ ap (λ x. and_part (formula_of x) (parts_of (drop (i + 1) es))) (sym is)
 
 pub no_more_parts : (es : List TExpr) (i : ℕ) → length es ≤ i → parts_of (drop i es) ≡ no_parts
 no_more_parts es i all = ap parts_of (drop_all i es all)
 
-pub link_at : (ls : List TLink) (i : ℕ) (l : TLink) → i < length ls → l ≡ get_or ls i l → links_of (drop i ls) ≡ and_operation l.op (formula_of l.right) (links_of (drop (i + 1) ls))
-link_at ls i l within is = ap links_of (drop_more ls i l within) ∙ ap (λ (x : TLink). and_operation x.op (formula_of x.right) (links_of (drop (i + 1) ls))) (sym is)
+pub link_at : (ls : List TLink) (i : ℕ) (l : TLink) → i < length ls → l ≡ get_or ls i l →
+    links_of (drop i ls) ≡ and_operation l.op (formula_of l.right) (links_of (drop (i + 1) ls))
+link_at ls i l within is = ap links_of (drop_more ls i l within) ∙ ap (λ (x : TLink). and_operation x.op (formula_of x.right) (links_of (drop (i + 1) ls)))
+    (sym is)
 
 pub no_more_links : (ls : List TLink) (i : ℕ) → length ls ≤ i → links_of (drop i ls) ≡ no_operations
 no_more_links ls i all = ap links_of (drop_all i ls all)
 
-pub member_at : (ss : List TStmt) (i : ℕ) (s : TStmt) → i < length ss → s ≡ get_or ss i s → members_of (drop i ss) ≡ and_member (process_of s) (members_of (drop (i + 1) ss))
+pub member_at : (ss : List TStmt) (i : ℕ) (s : TStmt) → i < length ss → s ≡ get_or ss i s →
+    members_of (drop i ss) ≡ and_member (process_of s) (members_of (drop (i + 1) ss))
 member_at ss i s within is = ap members_of (drop_more ss i s within) ∙ ap (λ x. and_member (process_of x) (members_of (drop (i + 1) ss))) (sym is)
 
 pub no_more_members : (ss : List TStmt) (i : ℕ) → length ss ≤ i → members_of (drop i ss) ≡ no_members
 no_more_members ss i all = ap members_of (drop_all i ss all)
 
-pub arm_at : (arms : List TArm) (i : ℕ) (a : TArm) → i < length arms → a ≡ get_or arms i a → arms_of (drop i arms) ≡ and_choice (formula_of a.guard) (process_of a.body) (arms_of (drop (i + 1) arms))
-arm_at arms i a within is = ap arms_of (drop_more arms i a within) ∙ ap (λ (x : TArm). and_choice (formula_of x.guard) (process_of x.body) (arms_of (drop (i + 1) arms))) (sym is)
+pub arm_at : (arms : List TArm) (i : ℕ) (a : TArm) → i < length arms → a ≡ get_or arms i a →
+    arms_of (drop i arms) ≡ and_choice (formula_of a.guard) (process_of a.body) (arms_of (drop (i + 1) arms))
+arm_at arms i a within is = ap arms_of (drop_more arms i a within)
+    ∙ ap (λ (x : TArm). and_choice (formula_of x.guard) (process_of x.body) (arms_of (drop (i + 1) arms))) (sym is)
 
 pub no_more_arms : (arms : List TArm) (i : ℕ) → length arms ≤ i → arms_of (drop i arms) ≡ no_choices
 no_more_arms arms i all = ap arms_of (drop_all i arms all)
@@ -135,7 +143,8 @@ no_var [] i all = refl
 no_var (x ∷ xs) zero all = absurd (omega arith)
 no_var (x ∷ xs) (suc i) all = no_var xs i (omega arith)
 
-pub choosing_is : (p : TypedProgram) (again : Bool) (cs : Choices) → size_of p (choosing again cs) ≡ (if again then again_own else select_own) + 2 * choice_count cs + arms_size p cs
+pub choosing_is : (p : TypedProgram) (again : Bool) (cs : Choices) →
+    size_of p (choosing again cs) ≡ (if again then again_own else select_own) + 2 * choice_count cs + arms_size p cs
 choosing_is p true cs = omega arith
 choosing_is p false cs = omega arith
 
@@ -156,13 +165,15 @@ pub blocks_are : (vs : List Var) → blocks_before vs (length vs) ≡ all_blocks
 blocks_are [] = refl
 blocks_are (v ∷ vs) = ap (λ n. block_size v.width + n) (blocks_are vs)
 
-pub wires_at : (cs : List Channel) (i : ℕ) (c : Channel) → i < length cs → c ≡ get_or cs i c → all_wires (drop i cs) ≡ wires_size c.width + all_wires (drop (i + 1) cs)
+pub wires_at : (cs : List Channel) (i : ℕ) (c : Channel) → i < length cs → c ≡ get_or cs i c →
+    all_wires (drop i cs) ≡ wires_size c.width + all_wires (drop (i + 1) cs)
 wires_at cs i c within is = ap all_wires (drop_more cs i c within) ∙ ap (λ (x : Channel). wires_size x.width + all_wires (drop (i + 1) cs)) (sym is)
 
 pub no_more_wires : (cs : List Channel) (i : ℕ) → length cs ≤ i → all_wires (drop i cs) ≡ 0
 no_more_wires cs i all = ap all_wires (drop_all i cs all)
 
-pub blocks_at : (vs : List Var) (i : ℕ) (v : Var) → i < length vs → v ≡ get_or vs i v → all_blocks (drop i vs) ≡ block_size v.width + all_blocks (drop (i + 1) vs)
+pub blocks_at : (vs : List Var) (i : ℕ) (v : Var) → i < length vs → v ≡ get_or vs i v →
+    all_blocks (drop i vs) ≡ block_size v.width + all_blocks (drop (i + 1) vs)
 blocks_at vs i v within is = ap all_blocks (drop_more vs i v within) ∙ ap (λ (x : Var). block_size x.width + all_blocks (drop (i + 1) vs)) (sym is)
 
 pub no_more_blocks : (vs : List Var) (i : ℕ) → length vs ≤ i → all_blocks (drop i vs) ≡ 0

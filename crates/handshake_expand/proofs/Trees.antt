@@ -19,7 +19,8 @@ trees_row (more_of-Part child rest) = ap (and_child (tree_of child)) (trees_row 
 
 -- of a part that is made
 pub made_tree : (kind : PartKind) (request answer from count : ℕ) (children : Vec Part Global)
-    → tree_of (roll-Part (record { kind = kind; request = request; answer = answer; from = from; count = count; children = children })) ≡ part kind request answer from count (each_tree children.items)
+    → tree_of (roll-Part (record { kind = kind; request = request; answer = answer; from = from; count = count; children = children })) ≡
+        part kind request answer from count (each_tree children.items)
 made_tree kind request answer from count children =
     ap tree_of (rolls-Part' (record { kind = kind; request = request; answer = answer; from = from; count = count; children = children }))
     ∙ ap (part kind request answer from count) (trees_row (hidden-the_row-Part-0 children) ∙ ap each_tree (items_hidden-the_row-Part-0 children))
@@ -56,7 +57,8 @@ front_all [] = refl
 front_all (x ∷ xs) = ap (and_child (tree_of x)) (front_all xs)
 
 -- a child more
-pub front_more : (xs made : List Part) (x : Part) (tree : PartTree) (before rest all : PartTrees) → made ≡ xs ++ x ∷ [] → tree_of x ≡ tree → before ≡ and_child tree rest → in_front xs before ≡ all → in_front made rest ≡ all
+pub front_more : (xs made : List Part) (x : Part) (tree : PartTree) (before rest all : PartTrees) → made ≡ xs ++ x ∷ [] → tree_of x ≡ tree →
+    before ≡ and_child tree rest → in_front xs before ≡ all → in_front made rest ≡ all
 front_more xs made x tree before rest all pushed is step so_far =
     ap (λ ys. in_front ys rest) pushed
     ∙ (front_push xs x rest
@@ -95,12 +97,15 @@ from_read (Part' kind request answer from count shape children) = refl
 pub child_count : (x : Part) (p : TypedProgram) (s : Process) (request from : ℕ) → tree_of x ≡ expanded p s request from → (out-Part x).count ≡ size_of p s
 child_count x p s request from is = count_read x ∙ (ap tree_count is ∙ expanded_count p s request from)
 
-pub child_answer : (x : Part) (p : TypedProgram) (s : Process) (request from : ℕ) → tree_of x ≡ expanded p s request from → (out-Part x).answer ≡ answer_of p s from
+pub child_answer : (x : Part) (p : TypedProgram) (s : Process) (request from : ℕ) → tree_of x ≡ expanded p s request from →
+    (out-Part x).answer ≡ answer_of p s from
 child_answer x p s request from is = answer_read x ∙ (ap tree_answer is ∙ expanded_answer p s request from)
 
 -- the part of a statement that is made of what was found
-pub made_part : (kind k : PartKind) (request answer a from count n : ℕ) (children : Vec Part Global) (trees : PartTrees) → kind ≡ k → answer ≡ a → count ≡ n → each_tree children.items ≡ trees
-    → tree_of (roll-Part (record { kind = kind; request = request; answer = answer; from = from; count = count; children = children })) ≡ part k request a from n trees
+pub made_part : (kind k : PartKind) (request answer a from count n : ℕ) (children : Vec Part Global) (trees : PartTrees) → kind ≡ k → answer ≡ a → count ≡ n →
+    each_tree children.items ≡ trees
+    → tree_of (roll-Part (record { kind = kind; request = request; answer = answer; from = from; count = count; children = children })) ≡
+        part k request a from n trees
 made_part kind k request answer a from count n children trees is answers counts all =
     made_tree kind request answer from count children
     ∙ (ap (λ x. part x request answer from count (each_tree children.items)) is
@@ -109,12 +114,14 @@ made_part kind k request answer a from count n children trees is answers counts 
     ∙ ap (part k request a from n) all)))
 
 -- a part that is opened
-pub opened_tree : (x : Part) → tree_of x ≡ part (out-Part x).kind (out-Part x).request (out-Part x).answer (out-Part x).from (out-Part x).count (each_tree (out-Part x).children.items)
+pub opened_tree : (x : Part) → tree_of x ≡ part (out-Part x).kind (out-Part x).request (out-Part x).answer (out-Part x).from (out-Part x).count
+    (each_tree (out-Part x).children.items)
 opened_tree x =
     let o = out-Part x in
     ap tree_of (sym (roll-out-Part x)) ∙ made_tree o.kind o.request o.answer o.from o.count o.children
 
-pub child_at : (xs : List Part) (i : ℕ) (x : Part) → i < length xs → x ≡ get_or xs i x → each_tree (drop i xs) ≡ and_child (tree_of x) (each_tree (drop (i + 1) xs))
+pub child_at : (xs : List Part) (i : ℕ) (x : Part) → i < length xs → x ≡ get_or xs i x →
+    each_tree (drop i xs) ≡ and_child (tree_of x) (each_tree (drop (i + 1) xs))
 child_at xs i x within is = ap each_tree (drop_more xs i x within) ∙ ap (λ (y : Part). and_child (tree_of y) (each_tree (drop (i + 1) xs))) (sym is)
 
 pub no_child_left : (xs : List Part) (i : ℕ) → length xs ≤ i → each_tree (drop i xs) ≡ no_children

@@ -15,16 +15,19 @@ use Rattle.handshake_expand.specs.Sites.{Sites, sites_in, sites_in_turn}
 use Rattle.handshake_expand.proofs.Rows.{then_is, member_at, no_more_members, members_counted}
 
 -- a member behind which others stand
-pub turn_size_more : (p : TypedProgram) (s : Process) (more : Processes) → 0 < member_count more → turn_size p (and_member s more) ≡ 3 + size_of p s + turn_size p more
+pub turn_size_more : (p : TypedProgram) (s : Process) (more : Processes) → 0 < member_count more →
+    turn_size p (and_member s more) ≡ 3 + size_of p s + turn_size p more
 turn_size_more p s no_members some = absurd (omega arith)
 turn_size_more p s (and_member t more) some = refl
 
-pub turn_answer_more : (p : TypedProgram) (s : Process) (more : Processes) (from : ℕ) → 0 < member_count more → turn_answer p (and_member s more) from ≡ turn_answer p more (from + 3 + size_of p s)
+pub turn_answer_more : (p : TypedProgram) (s : Process) (more : Processes) (from : ℕ) → 0 < member_count more →
+    turn_answer p (and_member s more) from ≡ turn_answer p more (from + 3 + size_of p s)
 turn_answer_more p s no_members from some = absurd (omega arith)
 turn_answer_more p s (and_member t more) from some = refl
 
 pub turn_expanded_more : (p : TypedProgram) (s : Process) (more : Processes) (request from : ℕ) → 0 < member_count more
-    → expanded_in_turn p (and_member s more) request from ≡ and_child (expanded p s from (from + 3)) (expanded_in_turn p more (from + 2) (from + 3 + size_of p s))
+    → expanded_in_turn p (and_member s more) request from ≡ and_child (expanded p s from (from + 3))
+        (expanded_in_turn p more (from + 2) (from + 3 + size_of p s))
 turn_expanded_more p s no_members request from some = absurd (omega arith)
 turn_expanded_more p s (and_member t more) request from some = refl
 
@@ -51,35 +54,45 @@ turn_typed channels vars s v is h =
 
 -- a member that isn't the last, and the last one
 module _ (channels : List Channel) (vars : List Var) (ss : List TStmt) (i : ℕ) (s : TStmt) (is : s ≡ get_or ss i s) where
-  pub this_typed : i < length ss → AreProcesses channels vars (members_of (drop i ss)) → IsProcess channels vars (process_of s) × AreProcesses channels vars (members_of (drop (i + 1) ss))
+  pub this_typed : i < length ss → AreProcesses channels vars (members_of (drop i ss)) →
+      IsProcess channels vars (process_of s) × AreProcesses channels vars (members_of (drop (i + 1) ss))
   this_typed within h = subst (AreProcesses channels vars) (member_at ss i s within is) h
 
 module _ (p : TypedProgram) (ss : List TStmt) (i : ℕ) (s : TStmt) (is : s ≡ get_or ss i s) where
   pub size_here : i + 1 < length ss → turn_size p (members_of (drop i ss)) ≡ 3 + size_of p (process_of s) + turn_size p (members_of (drop (i + 1) ss))
-  size_here within = ap (turn_size p) (member_at ss i s (omega (arith, within)) is) ∙ turn_size_more p (process_of s) (members_of (drop (i + 1) ss)) (some_behind ss i within)
+  size_here within = ap (turn_size p) (member_at ss i s (omega (arith, within)) is)
+      ∙ turn_size_more p (process_of s) (members_of (drop (i + 1) ss)) (some_behind ss i within)
 
   pub size_last : i + 1 ≡ length ss → turn_size p (members_of (drop i ss)) ≡ size_of p (process_of s)
   size_last end = ap (turn_size p) (last_alone ss i s end is)
 
-  pub answer_here : (from : ℕ) → i + 1 < length ss → turn_answer p (members_of (drop i ss)) from ≡ turn_answer p (members_of (drop (i + 1) ss)) (from + 3 + size_of p (process_of s))
+  pub answer_here : (from : ℕ) → i + 1 < length ss →
+      turn_answer p (members_of (drop i ss)) from ≡ turn_answer p (members_of (drop (i + 1) ss)) (from + 3 + size_of p (process_of s))
   answer_here from within =
-      ap (λ ms. turn_answer p ms from) (member_at ss i s (omega (arith, within)) is) ∙ turn_answer_more p (process_of s) (members_of (drop (i + 1) ss)) from (some_behind ss i within)
+      ap (λ ms. turn_answer p ms from) (member_at ss i s (omega (arith, within)) is)
+          ∙ turn_answer_more p (process_of s) (members_of (drop (i + 1) ss)) from (some_behind ss i within)
 
   pub answer_last : (from : ℕ) → i + 1 ≡ length ss → turn_answer p (members_of (drop i ss)) from ≡ answer_of p (process_of s) from
   answer_last from end = ap (λ ms. turn_answer p ms from) (last_alone ss i s end is)
 
   pub expanded_here : (request from : ℕ) → i + 1 < length ss
-      → expanded_in_turn p (members_of (drop i ss)) request from ≡ and_child (expanded p (process_of s) from (from + 3)) (expanded_in_turn p (members_of (drop (i + 1) ss)) (from + 2) (from + 3 + size_of p (process_of s)))
+      → expanded_in_turn p (members_of (drop i ss)) request from ≡ and_child (expanded p (process_of s) from (from + 3))
+          (expanded_in_turn p (members_of (drop (i + 1) ss)) (from + 2) (from + 3 + size_of p (process_of s)))
   expanded_here request from within =
-      ap (λ ms. expanded_in_turn p ms request from) (member_at ss i s (omega (arith, within)) is) ∙ turn_expanded_more p (process_of s) (members_of (drop (i + 1) ss)) request from (some_behind ss i within)
+      ap (λ ms. expanded_in_turn p ms request from) (member_at ss i s (omega (arith, within)) is)
+          ∙ turn_expanded_more p (process_of s) (members_of (drop (i + 1) ss)) request from (some_behind ss i within)
 
-  pub expanded_last : (request from : ℕ) → i + 1 ≡ length ss → expanded_in_turn p (members_of (drop i ss)) request from ≡ and_child (expanded p (process_of s) request from) no_children
+  pub expanded_last : (request from : ℕ) → i + 1 ≡ length ss →
+      expanded_in_turn p (members_of (drop i ss)) request from ≡ and_child (expanded p (process_of s) request from) no_children
   expanded_last request from end = ap (λ ms. expanded_in_turn p ms request from) (last_alone ss i s end is)
 
   pub sites_here : {A : Type 0} (site : Sites A) (from : ℕ) → i + 1 < length ss
-      → sites_in_turn p site (members_of (drop i ss)) from ≡ sites_in p site (process_of s) (from + 3) ++ sites_in_turn p site (members_of (drop (i + 1) ss)) (from + 3 + size_of p (process_of s))
+      → sites_in_turn p site (members_of (drop i ss)) from ≡ sites_in p site (process_of s) (from + 3)
+          ++ sites_in_turn p site (members_of (drop (i + 1) ss)) (from + 3 + size_of p (process_of s))
   sites_here site from within =
-      ap (λ ms. sites_in_turn p site ms from) (member_at ss i s (omega (arith, within)) is) ∙ turn_sites_more p site (process_of s) (members_of (drop (i + 1) ss)) from (some_behind ss i within)
+      ap (λ ms. sites_in_turn p site ms from) (member_at ss i s (omega (arith, within)) is)
+          ∙ turn_sites_more p site (process_of s) (members_of (drop (i + 1) ss)) from (some_behind ss i within)
 
-  pub sites_last : {A : Type 0} (site : Sites A) (from : ℕ) → i + 1 ≡ length ss → sites_in_turn p site (members_of (drop i ss)) from ≡ sites_in p site (process_of s) from
+  pub sites_last : {A : Type 0} (site : Sites A) (from : ℕ) → i + 1 ≡ length ss →
+      sites_in_turn p site (members_of (drop i ss)) from ≡ sites_in p site (process_of s) from
   sites_last site from end = ap (λ ms. sites_in_turn p site ms from) (last_alone ss i s end is)

@@ -7,7 +7,8 @@ use Rattle.width_check.specs.declared.typed.Var.{Var}
 use Rattle.width_check.specs.Processes.{TypedProgram}
 use Rattle.handshake_expand.specs.Layout.{block_size, vars_from, root_request, size_of}
 
--- every other node is called by its number behind an n: those of statements and trees, of the root and of hidden variables
+-- every other node is called by its number behind an n: those of statements and trees, of the root and of hidden
+-- variables
 abbrev pub numbered : ℕ → List ℕ
 numbered node = codes "n" ++ decimal node
 
@@ -38,7 +39,8 @@ block_names (v ∷ vs) from =
 
 abbrev pub node_names : TypedProgram → List (List ℕ)
 node_names p =
-    codes "go" ∷ codes "done" ∷ (wire_names p.channels ++ (block_names p.vars (vars_from p) ++ numbered_from (root_request p) (2 + size_of p p.body)))
+    codes "go" ∷ codes "done" ∷ (wire_names p.channels
+        ++ (block_names p.vars (vars_from p) ++ numbered_from (root_request p) (2 + size_of p p.body)))
 
 -- of one node
 abbrev pub name_of_node : TypedProgram → (node : ℕ) → List ℕ

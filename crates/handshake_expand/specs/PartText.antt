@@ -1,4 +1,5 @@
--- The text of the tree of parts: a line for each channel, for each variable, and for each part, parents before children.
+-- The text of the tree of parts: a line for each channel, for each variable, and for each part, parents before
+-- children.
 use Rattle.std.specs.Prelude.{ℕ, zero, suc, ◌<◌, List, [], ◌∷◌, ◌++◌, codes, decimal}
 use Rattle.std.specs.List.{concat}
 use Rattle.chp_base.specs.declared.channel.Channel.{Channel}
@@ -25,7 +26,8 @@ kind_word Again = codes "again"
 
 -- a channel or a variable, with its first node and how many it has
 abbrev pub block_line : (word name : List ℕ) → BlockValue → List ℕ
-block_line word name b = concat (word ∷ codes " " ∷ name ∷ codes " " ∷ decimal b.from ∷ codes " " ∷ decimal b.count ∷ codes "\n" ∷ [])
+block_line word name b = concat (word ∷ codes " " ∷ name ∷ codes " " ∷ decimal b.from ∷ codes " " ∷ decimal b.count
+    ∷ codes "\n" ∷ [])
 
 abbrev pub channel_lines : List Channel → List BlockValue → List ℕ
 channel_lines (c ∷ cs) (b ∷ bs) = block_line (codes "channel") c.name b ++ channel_lines cs bs
@@ -43,11 +45,13 @@ indent (suc level) = codes "  " ++ indent level
 -- a part: its kind, its request and its answer, its first node and how many it has
 abbrev pub part_line : TypedProgram → (indent : List ℕ) → PartKind → (request answer from count : ℕ) → List ℕ
 part_line p indent kind request answer from count =
-    concat (indent ∷ kind_word kind ∷ codes " " ∷ name_of_node p request ∷ codes " " ∷ name_of_node p answer ∷ codes " " ∷ decimal from ∷ codes " " ∷ decimal count ∷ codes "\n" ∷ [])
+    concat (indent ∷ kind_word kind ∷ codes " " ∷ name_of_node p request ∷ codes " " ∷ name_of_node p answer ∷ codes " "
+        ∷ decimal from ∷ codes " " ∷ decimal count ∷ codes "\n" ∷ [])
 
 abbrev mutual
   pub part_lines : TypedProgram → (level : ℕ) → PartTree → List ℕ
-  part_lines p level (part kind request answer from count children) = part_line p (indent level) kind request answer from count ++ child_lines p (suc level) children
+  part_lines p level (part kind request answer from count children) =
+      part_line p (indent level) kind request answer from count ++ child_lines p (suc level) children
 
   pub child_lines : TypedProgram → (level : ℕ) → PartTrees → List ℕ
   child_lines p level no_children = []
@@ -59,7 +63,8 @@ parts_text p x = channel_lines p.channels x.channels ++ var_lines p.vars x.vars 
 -- the requests and the answers are nodes below a number
 abbrev mutual
   pub HasNodesBelow : (count : ℕ) → PartTree → Type 0
-  HasNodesBelow n (part kind request answer from count children) = (request < n) × (answer < n) × HaveNodesBelow n children
+  HasNodesBelow n (part kind request answer from count children) =
+      (request < n) × (answer < n) × HaveNodesBelow n children
 
   pub HaveNodesBelow : (count : ℕ) → PartTrees → Type 0
   HaveNodesBelow n no_children = Unit {0}

@@ -42,11 +42,16 @@ own_before again = if again then again_own else select_own
 abbrev mutual
   -- the part of a statement under a request, where its nodes are numbered from a node on
   pub expanded : TypedProgram → Process → (request from : ℕ) → PartTree
-  expanded p (in_turn members) request from = part_over p (in_turn members) request from (expanded_in_turn p members request from)
-  expanded p (side_by_side members) request from = part_over p (side_by_side members) request from (expanded_branches p members from)
+  expanded p (in_turn members) request from =
+      part_over p (in_turn members) request from (expanded_in_turn p members request from)
+  expanded p (side_by_side members) request from =
+      part_over p (side_by_side members) request from (expanded_branches p members from)
   expanded p (choosing again choices) request from =
-      part_over p (choosing again choices) request from (expanded_bodies p choices (from + own_before again + choice_count choices) (bodies_from choices (own_before again) from))
-  expanded p (repeating s) request from = part_over p (repeating s) request from (and_child (expanded p s (from + 1) (from + 2)) no_children)
+      part_over p (choosing again choices) request from
+          (expanded_bodies p choices (from + own_before again + choice_count choices)
+          (bodies_from choices (own_before again) from))
+  expanded p (repeating s) request from =
+      part_over p (repeating s) request from (and_child (expanded p s (from + 1) (from + 2)) no_children)
   expanded p s request from = part_over p s request from no_children
 
   -- each member but the last stands behind a Q-element, whose next request is that of what follows
@@ -54,7 +59,8 @@ abbrev mutual
   expanded_in_turn p no_members request from = no_children
   expanded_in_turn p (and_member s no_members) request from = and_child (expanded p s request from) no_children
   expanded_in_turn p (and_member s (and_member t more)) request from =
-      and_child (expanded p s from (from + 3)) (expanded_in_turn p (and_member t more) (from + 2) (from + 3 + size_of p s))
+      and_child (expanded p s from (from + 3))
+          (expanded_in_turn p (and_member t more) (from + 2) (from + 3 + size_of p s))
 
   -- each branch stands behind a Q-element
   pub expanded_branches : TypedProgram → Processes → (from : ℕ) → PartTrees
@@ -71,12 +77,14 @@ abbrev mutual
 -- the root: its child request and its latch, and the body
 abbrev pub root_part : TypedProgram → PartTree
 root_part p =
-    part Root go_node done_node (root_request p) (2 + size_of p p.body) (and_child (expanded p p.body (root_request p) (body_from p)) no_children)
+    part Root go_node done_node (root_request p) (2 + size_of p p.body)
+        (and_child (expanded p p.body (root_request p) (body_from p)) no_children)
 
 -- the tree that a part is, and the members and arms of statements as lists
 abbrev mutual
   pub tree_of : Part → PartTree
-  tree_of (Part' kind request answer from count shape children) = part kind request answer from count (trees_of children)
+  tree_of (Part' kind request answer from count shape children) =
+      part kind request answer from count (trees_of children)
 
   pub trees_of : {m : _} → Row_of-Part m → PartTrees
   trees_of end_of-Part = no_children

@@ -68,8 +68,11 @@ pub(crate) fn var_blocks(
 
 /// Notes a site at the block of its channel or variable.
 fn place_site(site: SiteNode, channels: &mut [Block], vars: &mut [Block]) -> Result<(), AllocError>
-    ensures channels { OnOk result ((p : TypedProgram) (before : List Site) → map block_value channels.old ≡ channel_blocks p before → map block_value channels.new ≡ channel_blocks p (before ++ site ∷ [])) }
-    ensures vars { OnOk result ((p : TypedProgram) (before : List Site) → map block_value vars.old ≡ var_blocks p before → map block_value vars.new ≡ var_blocks p (before ++ site ∷ [])) }
+    ensures channels { OnOk result ((p : TypedProgram) (before : List Site) →
+        map block_value channels.old ≡ channel_blocks p before →
+        map block_value channels.new ≡ channel_blocks p (before ++ site ∷ [])) }
+    ensures vars { OnOk result ((p : TypedProgram) (before : List Site) → map block_value vars.old ≡ var_blocks p before
+        → map block_value vars.new ≡ var_blocks p (before ++ site ∷ [])) }
 {
     match site.kind {
         SiteKind::Send(chan) => {
@@ -97,8 +100,10 @@ pub(crate) fn place_sites(
     channels: &mut [Block],
     vars: &mut [Block],
 ) -> Result<(), AllocError>
-    ensures channels { OnOk result ((p : TypedProgram) → map block_value channels.old ≡ channel_blocks p [] → map block_value channels.new ≡ channel_blocks p sites.now) }
-    ensures vars { OnOk result ((p : TypedProgram) → map block_value vars.old ≡ var_blocks p [] → map block_value vars.new ≡ var_blocks p sites.now) }
+    ensures channels { OnOk result ((p : TypedProgram) → map block_value channels.old ≡ channel_blocks p [] →
+        map block_value channels.new ≡ channel_blocks p sites.now) }
+    ensures vars { OnOk result ((p : TypedProgram) → map block_value vars.old ≡ var_blocks p [] →
+        map block_value vars.new ≡ var_blocks p sites.now) }
 {
     for site in sites {
         place_site(*site, channels, vars)?;

@@ -41,7 +41,8 @@ fn block_line(word: &[u8], name: &[u8], block: &Block, to: &mut Vec<u8>) -> Resu
 /// Appends the lines of the channels.
 fn channel_lines(program: &Typed, blocks: &[Block], to: &mut Vec<u8>) -> Result<(), AllocError>
     requires { length blocks.now ≡ length program.now.channels }
-    ensures { OnOk result (to.new.items ≡ to.old.items ++ channel_lines program.now.channels (map block_value blocks.now)) }
+    ensures { OnOk result (to.new.items ≡ to.old.items
+        ++ channel_lines program.now.channels (map block_value blocks.now)) }
 {
     for (place, channel) in program.channels().iter().enumerate() {
         block_line(b"channel", channel.name.bytes(), &blocks[place], to)?;
@@ -78,8 +79,8 @@ fn kind_word(kind: PartKind) -> &'static [u8]
     }
 }
 
-/// Writes a node's name, where `root` is the first node of the root: from there on nodes are called by their numbers, so
-/// that no declaration has to be looked at.
+/// Writes a node's name, where `root` is the first node of the root: from there on nodes are called by their numbers,
+/// so that no declaration has to be looked at.
 fn name_from(program: &Typed, root: u32, node: u32, buffer: &mut [u8; 32]) -> usize
     requires root { root ≡ root_request (program_of program.now) }
     requires node { node < nodes_of (program_of program.now) }
@@ -103,7 +104,10 @@ fn named_line(
     margin: &[u8],
     to: &mut Vec<u8>,
 ) -> Result<(), AllocError>
-    ensures { OnOk result ((p : TypedProgram) → request.now ≡ name_of_node p (out-Part part.now).request → answer.now ≡ name_of_node p (out-Part part.now).answer → to.new.items ≡ to.old.items ++ part_line p margin.now (out-Part part.now).kind (out-Part part.now).request (out-Part part.now).answer (out-Part part.now).from (out-Part part.now).count) }
+    ensures { OnOk result ((p : TypedProgram) → request.now ≡ name_of_node p (out-Part part.now).request →
+        answer.now ≡ name_of_node p (out-Part part.now).answer →
+        to.new.items ≡ to.old.items ++ part_line p margin.now (out-Part part.now).kind (out-Part part.now).request
+        (out-Part part.now).answer (out-Part part.now).from (out-Part part.now).count) }
 {
     let mut from = Buffer::new();
     let mut count = Buffer::new();
@@ -128,7 +132,9 @@ fn part_line(
     requires root { root ≡ root_request (program_of program.now) }
     requires request { (out-Part part.now).request < nodes_of (program_of program.now) }
     requires answer { (out-Part part.now).answer < nodes_of (program_of program.now) }
-    ensures { OnOk result (to.new.items ≡ to.old.items ++ part_line (program_of program.now) margin.now (out-Part part.now).kind (out-Part part.now).request (out-Part part.now).answer (out-Part part.now).from (out-Part part.now).count) }
+    ensures { OnOk result (to.new.items ≡ to.old.items
+        ++ part_line (program_of program.now) margin.now (out-Part part.now).kind (out-Part part.now).request
+        (out-Part part.now).answer (out-Part part.now).from (out-Part part.now).count) }
 {
     let mut request = [0; 32];
     let mut answer = [0; 32];
@@ -153,7 +159,8 @@ fn part_lines(
 ) -> Result<(), AllocError>
     requires root { root ≡ root_request (program_of program.now) }
     requires nodes { HasNodesBelow (nodes_of (program_of program.now)) (tree_of part.now) }
-    ensures lines { OnOk result ((level : ℕ) → margin.old.items ≡ indent level → to.new.items ≡ to.old.items ++ part_lines (program_of program.now) level (tree_of part.now)) }
+    ensures lines { OnOk result ((level : ℕ) → margin.old.items ≡ indent level →
+        to.new.items ≡ to.old.items ++ part_lines (program_of program.now) level (tree_of part.now)) }
     ensures margin { OnOk result (margin.new.items ≡ margin.old.items) }
 {
     part_line(program, root, part, margin, to)?;

@@ -26,7 +26,8 @@ pub(crate) struct SiteNode {
     pub node: u32,
 }
 
-/// Notes the sites of a statement whose nodes are numbered from `from` on; those of the statements in it aren't its own.
+/// Notes the sites of a statement whose nodes are numbered from `from` on; those of the statements in it aren't its
+/// own.
 pub(crate) fn note_sites(
     program: &Typed,
     s: &TStmt,
@@ -35,7 +36,8 @@ pub(crate) fn note_sites(
 ) -> Result<(), AllocError>
     requires process { IsProcess program.now.channels program.now.vars (process_of s.now) }
     requires room { from + size_of (program_of program.now) (process_of s.now) < 2 ^ 32 }
-    ensures { OnOk result (sites.new.items ≡ sites.old.items ++ own_sites (program_of program.now) (process_of s.now) from) }
+    ensures { OnOk result (sites.new.items ≡ sites.old.items
+        ++ own_sites (program_of program.now) (process_of s.now) from) }
 {
     match s {
         TStmt::Assign { var, .. } => {

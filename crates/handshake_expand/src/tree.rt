@@ -58,8 +58,10 @@ fn single(
 ) -> Result<Part, AllocError>
     requires process { IsProcess program.now.channels program.now.vars (process_of s.now) }
     requires room { from + size_of (program_of program.now) (process_of s.now) < 2 ^ 32 }
-    ensures part { IfOk result (λ part. tree_of part ≡ part_over (program_of program.now) (process_of s.now) request from no_children) }
-    ensures sites { OnOk result (sites.new.items ≡ sites.old.items ++ own_sites (program_of program.now) (process_of s.now) from) }
+    ensures part { IfOk result (λ part. tree_of part ≡ part_over (program_of program.now) (process_of s.now) request
+        from no_children) }
+    ensures sites { OnOk result (sites.new.items ≡ sites.old.items
+        ++ own_sites (program_of program.now) (process_of s.now) from) }
 {
     note_sites(program, s, from, sites)?;
     Ok(Part {
@@ -72,8 +74,8 @@ fn single(
     })
 }
 
-/// The part of a sequence. Each member but the last stands behind a Q-element of three nodes: its request, the latch, and
-/// the request of what follows.
+/// The part of a sequence. Each member but the last stands behind a Q-element of three nodes: its request, the latch,
+/// and the request of what follows.
 #[cycle(parts)]
 fn sequence(
     alloc: Global,
@@ -85,8 +87,11 @@ fn sequence(
 ) -> Result<Part, AllocError>
     requires process { IsProcess program.now.channels program.now.vars (in_turn (members_of members.now)) }
     requires room { from + size_of (program_of program.now) (in_turn (members_of members.now)) < 2 ^ 32 }
-    ensures part { IfOk result (λ part. tree_of part ≡ expanded (program_of program.now) (in_turn (members_of members.now)) request from) }
-    ensures sites { OnOk result (sites.new.items ≡ sites.old.items ++ sites_in (program_of program.now) (own_sites (program_of program.now)) (in_turn (members_of members.now)) from) }
+    ensures part { IfOk result (λ part. tree_of part ≡
+        expanded (program_of program.now) (in_turn (members_of members.now)) request from) }
+    ensures sites { OnOk result (sites.new.items ≡ sites.old.items
+        ++ sites_in (program_of program.now) (own_sites (program_of program.now)) (in_turn (members_of members.now))
+        from) }
 {
     let last = members.len() - 1;
     let mut children = Vec::new(alloc);
@@ -125,8 +130,11 @@ fn parallel(
 ) -> Result<Part, AllocError>
     requires process { IsProcess program.now.channels program.now.vars (side_by_side (members_of branches.now)) }
     requires room { from + size_of (program_of program.now) (side_by_side (members_of branches.now)) < 2 ^ 32 }
-    ensures part { IfOk result (λ part. tree_of part ≡ expanded (program_of program.now) (side_by_side (members_of branches.now)) request from) }
-    ensures sites { OnOk result (sites.new.items ≡ sites.old.items ++ sites_in (program_of program.now) (own_sites (program_of program.now)) (side_by_side (members_of branches.now)) from) }
+    ensures part { IfOk result (λ part. tree_of part ≡
+        expanded (program_of program.now) (side_by_side (members_of branches.now)) request from) }
+    ensures sites { OnOk result (sites.new.items ≡ sites.old.items
+        ++ sites_in (program_of program.now) (own_sites (program_of program.now))
+        (side_by_side (members_of branches.now)) from) }
 {
     let mut children = Vec::new(alloc);
     let mut next = from;
@@ -159,8 +167,11 @@ fn selection(
 ) -> Result<Part, AllocError>
     requires process { IsProcess program.now.channels program.now.vars (choosing again (arms_of arms.now)) }
     requires room { from + size_of (program_of program.now) (choosing again (arms_of arms.now)) < 2 ^ 32 }
-    ensures part { IfOk result (λ part. tree_of part ≡ expanded (program_of program.now) (choosing again (arms_of arms.now)) request from) }
-    ensures sites { OnOk result (sites.new.items ≡ sites.old.items ++ sites_in (program_of program.now) (own_sites (program_of program.now)) (choosing again (arms_of arms.now)) from) }
+    ensures part { IfOk result (λ part. tree_of part ≡
+        expanded (program_of program.now) (choosing again (arms_of arms.now)) request from) }
+    ensures sites { OnOk result (sites.new.items ≡ sites.old.items
+        ++ sites_in (program_of program.now) (own_sites (program_of program.now)) (choosing again (arms_of arms.now))
+        from) }
 {
     let guards = arms.len() as u32;
     let mut start = from + own_nodes(again) as u32 + guards;
@@ -198,8 +209,10 @@ fn part(
 ) -> Result<Part, AllocError>
     requires process { IsProcess program.now.channels program.now.vars (process_of s.now) }
     requires room { from + size_of (program_of program.now) (process_of s.now) < 2 ^ 32 }
-    ensures part { IfOk result (λ part. tree_of part ≡ expanded (program_of program.now) (process_of s.now) request from) }
-    ensures sites { OnOk result (sites.new.items ≡ sites.old.items ++ sites_in (program_of program.now) (own_sites (program_of program.now)) (process_of s.now) from) }
+    ensures part { IfOk result (λ part. tree_of part ≡ expanded (program_of program.now) (process_of s.now) request
+        from) }
+    ensures sites { OnOk result (sites.new.items ≡ sites.old.items
+        ++ sites_in (program_of program.now) (own_sites (program_of program.now)) (process_of s.now) from) }
 {
     match s {
         TStmt::Then { parts } => sequence(alloc, program, parts, request, from, sites),
@@ -232,7 +245,8 @@ fn root(
     requires from { from ≡ root_request (program_of program.now) }
     requires room { nodes_of (program_of program.now) < 2 ^ 32 }
     ensures part { IfOk result (λ part. tree_of part ≡ root_part (program_of program.now)) }
-    ensures sites { OnOk result (sites.new.items ≡ sites.old.items ++ in_body (program_of program.now) (own_sites (program_of program.now))) }
+    ensures sites { OnOk result (sites.new.items ≡ sites.old.items
+        ++ in_body (program_of program.now) (own_sites (program_of program.now))) }
 {
     let body = part(alloc, program, program.body(), from, from + 2, sites)?;
     Ok(Part {

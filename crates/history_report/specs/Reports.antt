@@ -47,8 +47,10 @@ channel_line name values = concat (name ∷ codes ":" ∷ value_words values ∷
 -- a line for each channel, which are numbered from c on
 abbrev pub history_lines : List (ℕ × ℕ) → ℕ → List Wires → List ℕ
 history_lines passed c [] = []
-history_lines passed c (w ∷ ws) = channel_line w.channel.name (values_through c passed) ++ history_lines passed (c + 1) ws
+history_lines passed c (w ∷ ws) = channel_line w.channel.name (values_through c passed)
+    ++ history_lines passed (c + 1) ws
 
 abbrev pub report_of : RanValue → Option ℕ → List ℕ
 report_of r time =
-    concat (ending_line r.net r.moves r.end ∷ moves_line r.moves ∷ time_line time ∷ done_line r.done_high ∷ history_lines r.passed 0 r.net.channels ∷ [])
+    concat (ending_line r.net r.moves r.end ∷ moves_line r.moves ∷ time_line time ∷ done_line r.done_high
+        ∷ history_lines r.passed 0 r.net.channels ∷ [])

@@ -123,7 +123,8 @@ fn channel_line(
     chan: u32,
     to: &mut Vec<u8>,
 ) -> Result<(), AllocError>
-    ensures { OnOk result (to.new.items ≡ to.old.items ++ channel_line wires.now.channel.name (values_through chan passed.now)) }
+    ensures { OnOk result (to.new.items ≡ to.old.items
+        ++ channel_line wires.now.channel.name (values_through chan passed.now)) }
 {
     append(to, &[wires.channel.name.bytes(), b":"])?;
     value_words(passed, chan, to)?;
@@ -145,8 +146,8 @@ fn history_lines(
     Ok(())
 }
 
-/// The report of the run: how it ended, how many moves it had, the time where it was a timed run, whether `done` is high,
-/// and for each channel the values that passed on it. (The format is our profile.)
+/// The report of the run: how it ended, how many moves it had, the time where it was a timed run, whether `done` is
+/// high, and for each channel the values that passed on it. (The format is our profile.)
 pub fn report_text(alloc: Global, ran: &Ran, time: Option<u64>) -> Result<Vec<u8>, AllocError>
     ensures { IfOk result (λ v. v.items ≡ report_of ran.now time) }
 {

@@ -57,13 +57,16 @@ none_there x there = absurd (omega (arith, there.1))
 later : (tag : Deed → ℕ) (n : ℕ) (ms : Processes) (o : Occurrence) → AreTagged tag n ms → Contains (occurrences_of_each ms) o → n ≤ tag o.deed
 later tag n no_members o tagged there = absurd (none_there o there)
 later tag n (and_member p more) o tagged there =
-    ⊎_elim (λ first. let e : tag o.deed ≡ n = All-contains (λ (x : Occurrence). tag x.deed ≡ n) (occurrences p) o tagged.1 first in omega arith) (λ rest. let below : suc n ≤ tag o.deed = later tag (suc n) more o tagged.2 rest in omega arith) (Contains-append_cases (occurrences p) (occurrences_of_each more) o there)
+    ⊎_elim (λ first. let e : tag o.deed ≡ n = All-contains (λ (x : Occurrence). tag x.deed ≡ n) (occurrences p) o tagged.1 first in
+        omega arith) (λ rest. let below : suc n ≤ tag o.deed = later tag (suc n) more o tagged.2 rest in
+        omega arith) (Contains-append_cases (occurrences p) (occurrences_of_each more) o there)
 
 inside_none : (tag : Deed → ℕ) (n : ℕ) (ms : Processes) (a b : Occurrence) → AreTagged tag n ms → ¬ ParallelInside ms a b
 inside_none tag n no_members a b tagged none = none
 inside_none tag n (and_member p more) a b tagged inside = ⊎_elim (tagged.0 a b) (inside_none tag (suc n) more a b tagged.2) inside
 
-apart : (tag : Deed → ℕ) (n : ℕ) (p : Process) (more : Processes) (a b : Occurrence) → AreTagged tag n (and_member p more) → Contains (occurrences p) a → Contains (occurrences_of_each more) b → tag a.deed < tag b.deed
+apart : (tag : Deed → ℕ) (n : ℕ) (p : Process) (more : Processes) (a b : Occurrence) → AreTagged tag n (and_member p more) → Contains (occurrences p) a →
+    Contains (occurrences_of_each more) b → tag a.deed < tag b.deed
 apart tag n p more a b tagged first rest =
     let e : tag a.deed ≡ n = All-contains (λ (x : Occurrence). tag x.deed ≡ n) (occurrences p) a tagged.1 first in
     let below : suc n ≤ tag b.deed = later tag (suc n) more b tagged.2 rest in
@@ -72,7 +75,8 @@ apart tag n p more a b tagged first rest =
 across_differ : (tag : Deed → ℕ) (n : ℕ) (ms : Processes) (a b : Occurrence) → AreTagged tag n ms → ParallelAcross ms a b → tag a.deed ≢ tag b.deed
 across_differ tag n no_members a b tagged none same = none
 across_differ tag n (and_member p more) a b tagged across same =
-    ⊎_elim (⊎_elim (λ there. let below = apart tag n p more a b tagged there.0 there.1 in absurd (omega arith)) (λ there. let below = apart tag n p more b a tagged there.1 there.0 in absurd (omega arith))) (λ rest. across_differ tag (suc n) more a b tagged.2 rest same) across
+    ⊎_elim (⊎_elim (λ there. let below = apart tag n p more a b tagged there.0 there.1 in absurd (omega arith)) (λ there. let below =
+        apart tag n p more b a tagged there.1 there.0 in absurd (omega arith))) (λ rest. across_differ tag (suc n) more a b tagged.2 rest same) across
 
 tagged_differ : (tag : Deed → ℕ) (ms : Processes) (a b : Occurrence) → AreTagged tag 0 ms → Parallel (side_by_side ms) a b → tag a.deed ≢ tag b.deed
 tagged_differ tag ms a b tagged parallel = ⊎_elim (λ inside. absurd (inside_none tag 0 ms a b tagged inside)) (across_differ tag 0 ms a b tagged) parallel
@@ -104,20 +108,27 @@ abbrev pub AreStages : ℕ → Processes → Type 0
 AreStages n ms = AreTagged stage_of n ms
 
 pub stages_meet : (v : Vec TStmt Global) → AreStages 0 (members_of v.items) → MeetsSharing (process_of (Beside v))
-stages_meet v stages = subst (λ p. MeetsSharing p) (sym (beside_is v)) (tagged_meets stage_of (members_of v.items) (record { var = var_stage; send = send_stage; receive = receive_stage }) stages)
+stages_meet v stages = subst (λ p. MeetsSharing p) (sym (beside_is v))
+    (tagged_meets stage_of (members_of v.items) (record { var = var_stage; send = send_stage; receive = receive_stage }) stages)
 
-pub one_more_stage : (n : ℕ) (ss : List TStmt) (s : TStmt) → AreStages n (members_of ss) → IsSequential (process_of s) → IsStage (n + length ss) (process_of s) → AreStages n (members_of (ss ++ s ∷ []))
+pub one_more_stage : (n : ℕ) (ss : List TStmt) (s : TStmt) → AreStages n (members_of ss) → IsSequential (process_of s) →
+    IsStage (n + length ss) (process_of s) → AreStages n (members_of (ss ++ s ∷ []))
 one_more_stage n [] s stages alone stage = (alone, subst (λ k. IsStage k (process_of s)) (omega arith) stage, tt)
-one_more_stage n (x ∷ ss) s stages alone stage = (stages.0, stages.1, one_more_stage (suc n) ss s stages.2 alone (subst (λ k. IsStage k (process_of s)) (omega arith) stage))
+one_more_stage n (x ∷ ss) s stages alone stage =
+    (stages.0, stages.1, one_more_stage (suc n) ss s stages.2 alone (subst (λ k. IsStage k (process_of s)) (omega arith) stage))
 
 four : {X : Type 0} (P : X → Type 0) (a b c d : X) → P a → P b → P c → P d → All P (a ∷ b ∷ c ∷ d ∷ [])
 four P a b c d p q r s = All-cons P a (b ∷ c ∷ d ∷ []) p (All-cons P b (c ∷ d ∷ []) q (All-cons P c (d ∷ []) r (All-cons P d [] s (All-nil P))))
 
-pub copy_stage : (p : Process) (e : Formula) (from to : ℕ) → p ≡ repeating (both (receiving from here from here) (sending to here e)) → e ≡ reading from 3 0 here → to ≡ from + 1 → IsStage from p
+pub copy_stage : (p : Process) (e : Formula) (from to : ℕ) → p ≡ repeating (both (receiving from here from here) (sending to here e)) →
+    e ≡ reading from 3 0 here → to ≡ from + 1 → IsStage from p
 copy_stage p e from to is reads next =
     let sent : to - 1 ≡ from = omega arith in
-    let same : p ≡ repeating (both (receiving from here from here) (sending to here (reading from 3 0 here))) = is ∙ ap (λ f. repeating (both (receiving from here from here) (sending to here f))) reads in
-    let all : IsStage from (repeating (both (receiving from here from here) (sending to here (reading from 3 0 here)))) = four (λ (o : Occurrence). stage_of o.deed ≡ from) (done_at (receives_on from) here) (done_at (writes_var from) here) (done_at (sends_on to) here) (done_at (reads_var from) here) refl refl sent refl in
+    let same : p ≡ repeating (both (receiving from here from here) (sending to here (reading from 3 0 here))) =
+        is ∙ ap (λ f. repeating (both (receiving from here from here) (sending to here f))) reads in
+    let all : IsStage from (repeating (both (receiving from here from here) (sending to here (reading from 3 0 here)))) =
+        four (λ (o : Occurrence). stage_of o.deed ≡ from) (done_at (receives_on from) here) (done_at (writes_var from) here) (done_at (sends_on to) here)
+        (done_at (reads_var from) here) refl refl sent refl in
     subst (λ q. IsStage from q) (sym same) all
 
 -- One receives and the other one sends
@@ -140,16 +151,22 @@ receive_end : (d e : Deed) → Clashes code.SharedReceive d e → end_of d ≡ e
 receive_end (receives_on x) (receives_on y) is = refl
 receive_end _ _ clash = absurd clash
 
-pub late_meets : (p q : Process) (e : Formula) → p ≡ alongside_it (both skipping (receiving 0 here 0 here)) q → q ≡ sending 0 here e → reads_of e ≡ [] → MeetsSharing p
+pub late_meets : (p q : Process) (e : Formula) → p ≡ alongside_it (both skipping (receiving 0 here 0 here)) q → q ≡ sending 0 here e → reads_of e ≡ [] →
+    MeetsSharing p
 late_meets p q e is sends reads =
     let P : Occurrence → Type 0 = λ o. end_of o.deed ≡ 0 in
     let Q : Occurrence → Type 0 = λ o. end_of o.deed ≡ 1 in
     let receives : IsSequential (receiving 0 here 0 here) = λ a b none. none in
     let skips : IsSequential skipping = λ a b none. none in
-    let first : All P (done_at (receives_on 0) here ∷ done_at (writes_var 0) here ∷ []) = All-cons P (done_at (receives_on 0) here) (done_at (writes_var 0) here ∷ []) refl (All-cons P (done_at (writes_var 0) here) [] refl (All-nil P)) in
-    let last : All Q (occurrences (sending 0 here e)) = subst (λ (xs : List Occurrence). All Q (done_at (sends_on 0) here ∷ xs)) (sym reads) (All-cons Q (done_at (sends_on 0) here) [] refl (All-nil Q)) in
-    let same : p ≡ alongside_it (both skipping (receiving 0 here 0 here)) (sending 0 here e) = is ∙ ap (alongside_it (both skipping (receiving 0 here 0 here))) sends in
-    subst (λ x. MeetsSharing x) (sym same) (tagged_meets end_of (and_member (both skipping (receiving 0 here 0 here)) (and_member (sending 0 here e) no_members)) (record { var = var_end; send = send_end; receive = receive_end }) (both_sequential skipping (receiving 0 here 0 here) skips receives, first, (λ a b none. none, last, tt)))
+    let first : All P (done_at (receives_on 0) here ∷ done_at (writes_var 0) here ∷ []) =
+        All-cons P (done_at (receives_on 0) here) (done_at (writes_var 0) here ∷ []) refl (All-cons P (done_at (writes_var 0) here) [] refl (All-nil P)) in
+    let last : All Q (occurrences (sending 0 here e)) =
+        subst (λ (xs : List Occurrence). All Q (done_at (sends_on 0) here ∷ xs)) (sym reads) (All-cons Q (done_at (sends_on 0) here) [] refl (All-nil Q)) in
+    let same : p ≡ alongside_it (both skipping (receiving 0 here 0 here)) (sending 0 here e) =
+        is ∙ ap (alongside_it (both skipping (receiving 0 here 0 here))) sends in
+    subst (λ x. MeetsSharing x) (sym same) (tagged_meets end_of
+        (and_member (both skipping (receiving 0 here 0 here)) (and_member (sending 0 here e) no_members)) (record { var = var_end; send = send_end; receive =
+        receive_end }) (both_sequential skipping (receiving 0 here 0 here) skips receives, first, (λ a b none. none, last, tt)))
 
 pub if_ok_more : {A E : Type 0} (r : Result A E) (P Q : A → Type 0) → ((a : A) → P a → Q a) → IfOk r P → IfOk r Q
 if_ok_more (Ok a) P Q more p = more a p

@@ -102,7 +102,8 @@ pub fn receive(chan: u32, var: u32) -> TStmt
 /// `S; T`
 pub fn in_turn(alloc: Global, first: TStmt, second: TStmt) -> Result<TStmt, AllocError>
     ensures made { IfOk result (λ s. process_of s ≡ both (process_of first) (process_of second)) }
-    ensures sequential { IfOk result (λ s. IsSequential (process_of first) → IsSequential (process_of second) → IsSequential (process_of s)) }
+    ensures sequential { IfOk result (λ s. IsSequential (process_of first) → IsSequential (process_of second) →
+        IsSequential (process_of s)) }
 {
     let mut parts = Vec::new(alloc);
     parts.push(first)?;

@@ -274,7 +274,8 @@ module _ (P : TypedProgram) where
     length-choice_bits (and_choice g p more) c x =
         omega (arith, length-append (bits P p x.0) (choice_bits P more x.1), length-bits p c.0 x.0, length-choice_bits more c.1 x.1)
 
-    pub length-branch_bits : (members : Processes) → EachReadsNoTarget members → (x : BranchCells members) → length (branch_bits P members x) ≡ branches_size P members
+    pub length-branch_bits : (members : Processes) → EachReadsNoTarget members → (x : BranchCells members) →
+        length (branch_bits P members x) ≡ branches_size P members
     length-branch_bits no_members c x = refl
     length-branch_bits (and_member p more) c x =
         omega (arith, length-append (bits P p x.0.inner) (branch_bits P more x.1), length-bits p c.0 x.0.inner, length-branch_bits more c.1 x.1)
@@ -329,7 +330,8 @@ module _ (P : TypedProgram) where
     branch_place_lt (and_member p more) c (in_this (inner s)) f = omega (arith, place_lt p c.0 s f)
     branch_place_lt (and_member p more) c (in_others s) f = omega (arith, branch_place_lt more c.1 s f)
 
-    pub turn_place_lt : (members : Processes) → EachReadsNoTarget members → (s : TurnSpot members) → IsFineTurn members s → turn_place members s < turn_size P members
+    pub turn_place_lt : (members : Processes) → EachReadsNoTarget members → (s : TurnSpot members) → IsFineTurn members s →
+        turn_place members s < turn_size P members
     turn_place_lt no_members c s f = elim s [ ]
     turn_place_lt (and_member p no_members) c (in_last s) f = place_lt p c.0 s f
     turn_place_lt (and_member p (and_member q more)) c (in_member child) f = omega arith
@@ -714,13 +716,15 @@ module _ (P : TypedProgram) where
         ∙ (replicate-append-replicate (suc (suc (suc (suc (suc (suc (n + n))))))) (guards_size choices + bodies_size P choices) false
         ∙ ap (λ k. replicate k false) m))
 
-    pub low_choice_bits : (choices : Choices) → ChoicesReadNoTarget choices → choice_bits P choices (low_choices choices) ≡ replicate (bodies_size P choices) false
+    pub low_choice_bits : (choices : Choices) → ChoicesReadNoTarget choices →
+        choice_bits P choices (low_choices choices) ≡ replicate (bodies_size P choices) false
     low_choice_bits no_choices c = refl
     low_choice_bits (and_choice g p more) c =
         ap (λ l. l ++ choice_bits P more (low_choices more)) (low_bits p c.0)
         ∙ (ap (λ l. replicate (size_of P p) false ++ l) (low_choice_bits more c.1) ∙ replicate-append-replicate (size_of P p) (bodies_size P more) false)
 
-    pub low_branch_bits : (members : Processes) → EachReadsNoTarget members → branch_bits P members (low_branches members) ≡ replicate (branches_size P members) false
+    pub low_branch_bits : (members : Processes) → EachReadsNoTarget members →
+        branch_bits P members (low_branches members) ≡ replicate (branches_size P members) false
     low_branch_bits no_members c = refl
     low_branch_bits (and_member p more) c =
         let n = branches_size P more in

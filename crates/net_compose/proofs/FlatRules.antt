@@ -291,14 +291,16 @@ module _ (P : TypedProgram) where
         (omega (arith, length-bits P p c x.0.inner))
 
     -- the leaves of a completion tree, and its nodes
-    tree_at : (members : Processes) (c : EachReadsNoTarget members) (from : ℕ) (x : Cells (side_by_side members)) → Stands v from (bits P (side_by_side members) x)
+    tree_at : (members : Processes) (c : EachReadsNoTarget members) (from : ℕ) (x : Cells (side_by_side members)) →
+        Stands v from (bits P (side_by_side members) x)
         → (k : ℕ) → k < joint_count (member_count members)
         → v (from + branches_size P members + k) ≡ bit_at (joint_count (member_count members)) x.tree k
     tree_at members c from x s k less =
         (stands_tree members c from x s).at k (omega (arith, less, length-tree_bits (joint_count (member_count members)) x.tree))
         ∙ tree_bit (joint_count (member_count members)) x.tree k
 
-    leaves_alike : (w : ℕ → Bool) (members : Processes) → EachReadsNoTarget members → (from a : ℕ) (x : BranchCells members) → Stands v from (branch_bits P members x)
+    leaves_alike : (w : ℕ → Bool) (members : Processes) → EachReadsNoTarget members → (from a : ℕ) (x : BranchCells members) →
+        Stands v from (branch_bits P members x)
         → ((i : ℕ) → i < member_count members → w (a + i) ≡ cell_ends members x i)
         → Alike v w (branch_ends P members from) (range_with_len a (member_count members))
     leaves_alike w no_members c from a x s h = tt
@@ -308,7 +310,8 @@ module _ (P : TypedProgram) where
           (λ i less. ap w (let e : a + 1 + i ≡ a + suc i = omega arith in e) ∙ h (suc i) (omega (arith, less))),
     )
 
-    joint_told : (members : Processes) → EachReadsNoTarget members → (from : ℕ) (x : Cells (side_by_side members)) (k : ℕ) → k < joint_count (member_count members)
+    joint_told : (members : Processes) → EachReadsNoTarget members → (from : ℕ) (x : Cells (side_by_side members)) (k : ℕ) →
+        k < joint_count (member_count members)
         → Stands v from (bits P (side_by_side members) x)
         → Told v (tree_rules (branch_ends P members from) (branches_end P members from)) (from + branches_size P members) k
         (tree_rule (member_count members) (cell_ends members x.branches) (bit_at (joint_count (member_count members)) x.tree) k)
@@ -731,7 +734,8 @@ module _ (P : TypedProgram) where
             (again_started choices c t.2 r from x s) (again_choices choices from x s))
         rule_is (choosing true no_choices) c t r from x z f s = absurd (let e : 1 ≤ 0 = t.0 in let g : ⊥ = omega (arith, e) in g)
 
-        choice_rule_is : (choices : Choices) → ChoicesReadNoTarget choices → AreChoices P.channels P.vars choices → (start from : ℕ) (b : Bits (choice_count choices))
+        choice_rule_is : (choices : Choices) → ChoicesReadNoTarget choices → AreChoices P.channels P.vars choices →
+            (start from : ℕ) (b : Bits (choice_count choices))
             (x : ChoiceCells choices) (z : ChoiceSpot choices) → IsFineChoice P choices z
             → BitsAt (choice_count choices) v (range_with_len start (choice_count choices)) b → Stands v from (choice_bits P choices x)
             → Told v (bodies_rules P choices start from) from (choice_place P choices z) (choice_rule choices w b x z)

@@ -81,7 +81,8 @@ module _ (v w : ℕ → Bool) where
   rules_append [] (s ∷ ss) rs' ss' h k = absurd h
   rules_append (r ∷ rs) [] rs' ss' h k = absurd h
 
-  pub rules_at : (rs ss : List NodeRules) → RulesAlike v w rs ss → (k : ℕ) → (guard_holds v (get_or rs k no_rules).up ≡ guard_holds w (get_or ss k no_rules).up) ×
+  pub rules_at : (rs ss : List NodeRules) → RulesAlike v w rs ss → (k : ℕ) →
+      (guard_holds v (get_or rs k no_rules).up ≡ guard_holds w (get_or ss k no_rules).up) ×
       (guard_holds v (get_or rs k no_rules).down ≡ guard_holds w (get_or ss k no_rules).down)
   rules_at [] [] h k = (refl, refl)
   rules_at (r ∷ rs) (s ∷ ss) h zero = (h.0, h.1)

@@ -44,7 +44,8 @@ module _ (p : TypedProgram) (vars : List ℕ) (are : vars ≡ var_firsts p) wher
     pub bits_there : (count request : ℕ) → root_request p ≤ request → request < count → EachRead (HasBit count vars) e
     bits_there count request asked few =
         each_of (HasBit count vars) p.vars e formed read
-        (λ x i l m small. record { entry = (let n = firsts_count in omega (arith, n, l)); within = (let b = bit_before x i l m in omega (arith, b, asked, few)) })
+        (λ x i l m small. record { entry = (let n = firsts_count in omega (arith, n, l)); within =
+            (let b = bit_before x i l m in omega (arith, b, asked, few)) })
 
     abbrev IsBefore : ℕ → Type 0
     IsBefore rail = rail < root_request p
@@ -64,7 +65,8 @@ module _ (p : TypedProgram) (vars : List ℕ) (are : vars ≡ var_firsts p) wher
     pub rails_unasked : (request : ℕ) → root_request p ≤ request → All (λ rail. rail ≢ request) (rails_read vars e)
     rails_unasked request asked = λ i d l is. let b = rails_before i d l in absurd (omega (arith, b, is, asked))
 
-    pub wrote_formula : (request from : ℕ) (r : RulesValue) → with_owned (expression_owned vars e request from) r ≡ with_owned (owned_from from (formula_rules (bits_at p) e request from)) r
+    pub wrote_formula : (request from : ℕ) (r : RulesValue) →
+        with_owned (expression_owned vars e request from) r ≡ with_owned (owned_from from (formula_rules (bits_at p) e request from)) r
     wrote_formula request from r =
         ap (λ rs. with_owned (owned_from from rs) r)
         (rules_in_blocks p.vars (bits_at p) vars (has_bits p)

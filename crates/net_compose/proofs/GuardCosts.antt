@@ -40,11 +40,14 @@ literals_are (t ∷ g) =
     omega (arith, e, r)
 
 -- as a net counts them
-pub net_cost : (rs : List NodeRules) → sum_by guard_literals (map (λ (r : NodeRules). r.up) rs) + sum_by guard_literals (map (λ (r : NodeRules). r.down) rs) ≡ cost rs
+pub net_cost : (rs : List NodeRules) → sum_by guard_literals (map (λ (r : NodeRules). r.up) rs) + sum_by guard_literals (map (λ (r : NodeRules). r.down) rs) ≡
+    cost rs
 net_cost [] = refl
 net_cost (r ∷ rs) =
-    let ups : sum_by guard_literals (map (λ (r : NodeRules). r.up) (r ∷ rs)) ≡ 0 + guard_literals r.up + sum_by guard_literals (map (λ (r : NodeRules). r.up) rs) = sum_by-append guard_literals (r.up ∷ []) (map (λ (r : NodeRules). r.up) rs) in
-    let downs : sum_by guard_literals (map (λ (r : NodeRules). r.down) (r ∷ rs)) ≡ 0 + guard_literals r.down + sum_by guard_literals (map (λ (r : NodeRules). r.down) rs) = sum_by-append guard_literals (r.down ∷ []) (map (λ (r : NodeRules). r.down) rs) in
+    let ups : sum_by guard_literals (map (λ (r : NodeRules). r.up) (r ∷ rs)) ≡ 0 + guard_literals r.up +
+        sum_by guard_literals (map (λ (r : NodeRules). r.up) rs) = sum_by-append guard_literals (r.up ∷ []) (map (λ (r : NodeRules). r.up) rs) in
+    let downs : sum_by guard_literals (map (λ (r : NodeRules). r.down) (r ∷ rs)) ≡ 0 + guard_literals r.down +
+        sum_by guard_literals (map (λ (r : NodeRules). r.down) rs) = sum_by-append guard_literals (r.down ∷ []) (map (λ (r : NodeRules). r.down) rs) in
     let up = literals_are r.up in
     let down = literals_are r.down in
     let rest = net_cost rs in
@@ -83,18 +86,22 @@ rows_of_three a b c (row ∷ rows) =
 
 two_cheap : (a b : Pair) (f : List Bool → Bool) → Cheap (gate (a ∷ b ∷ []) f)
 two_cheap a b f =
-    let both : length (filter f (table 2)) + length (filter (λ row. not (f row)) (table 2)) ≡ 4 = length-filter_both f (λ row. not (f row)) (λ row. refl) (table 2) in
+    let both : length (filter f (table 2)) + length (filter (λ row. not (f row)) (table 2)) ≡ 4 =
+        length-filter_both f (λ row. not (f row)) (λ row. refl) (table 2) in
     let t = rows_of_two a b (filter f (table 2)) in
     let u = rows_of_two a b (filter (λ row. not (f row)) (table 2)) in
-    let whole : cost (gate (a ∷ b ∷ []) f) ≡ literals_in (map (minterm (a ∷ b ∷ [])) (filter f (table 2))) + 4 + (literals_in (map (minterm (a ∷ b ∷ [])) (filter (λ row. not (f row)) (table 2))) + 4 + 0) = refl in
+    let whole : cost (gate (a ∷ b ∷ []) f) ≡ literals_in (map (minterm (a ∷ b ∷ [])) (filter f (table 2))) + 4 +
+        (literals_in (map (minterm (a ∷ b ∷ [])) (filter (λ row. not (f row)) (table 2))) + 4 + 0) = refl in
     omega (arith, both, t, u, whole)
 
 three_cheap : (a b c : Pair) (f : List Bool → Bool) → Cheap (gate (a ∷ b ∷ c ∷ []) f)
 three_cheap a b c f =
-    let both : length (filter f (table 3)) + length (filter (λ row. not (f row)) (table 3)) ≡ 8 = length-filter_both f (λ row. not (f row)) (λ row. refl) (table 3) in
+    let both : length (filter f (table 3)) + length (filter (λ row. not (f row)) (table 3)) ≡ 8 =
+        length-filter_both f (λ row. not (f row)) (λ row. refl) (table 3) in
     let t = rows_of_three a b c (filter f (table 3)) in
     let u = rows_of_three a b c (filter (λ row. not (f row)) (table 3)) in
-    let whole : cost (gate (a ∷ b ∷ c ∷ []) f) ≡ literals_in (map (minterm (a ∷ b ∷ c ∷ [])) (filter f (table 3))) + 6 + (literals_in (map (minterm (a ∷ b ∷ c ∷ [])) (filter (λ row. not (f row)) (table 3))) + 6 + 0) = refl in
+    let whole : cost (gate (a ∷ b ∷ c ∷ []) f) ≡ literals_in (map (minterm (a ∷ b ∷ c ∷ [])) (filter f (table 3))) + 6 +
+        (literals_in (map (minterm (a ∷ b ∷ c ∷ [])) (filter (λ row. not (f row)) (table 3))) + 6 + 0) = refl in
     omega (arith, both, t, u, whole)
 
 -- of two bits, and of what is carried from below
@@ -114,28 +121,35 @@ ripple_cheap carry (x ∷ []) [] carried from few = omega arith
 ripple_cheap carry (x ∷ w ∷ xs) [] carried from few = omega arith
 ripple_cheap carry (x ∷ []) (y ∷ []) carried from few = carrying_cheap x y carried odd_ones few
 ripple_cheap carry (x ∷ []) (y ∷ z ∷ ys) carried from few =
-    cheap-append (gate (x ∷ y ∷ carried) odd_ones) (gate (x ∷ y ∷ carried) carry ++ ripple carry [] (z ∷ ys) (pair_at (from + 2) ∷ []) (from + 4)) (carrying_cheap x y carried odd_ones few)
-    (cheap-append (gate (x ∷ y ∷ carried) carry) (ripple carry [] (z ∷ ys) (pair_at (from + 2) ∷ []) (from + 4)) (carrying_cheap x y carried carry few) (ripple_cheap carry [] (z ∷ ys) (pair_at (from + 2) ∷ []) (from + 4) (omega arith)))
+    cheap-append (gate (x ∷ y ∷ carried) odd_ones) (gate (x ∷ y ∷ carried) carry ++ ripple carry [] (z ∷ ys) (pair_at (from + 2) ∷ []) (from + 4))
+        (carrying_cheap x y carried odd_ones few)
+    (cheap-append (gate (x ∷ y ∷ carried) carry) (ripple carry [] (z ∷ ys) (pair_at (from + 2) ∷ []) (from + 4)) (carrying_cheap x y carried carry few)
+        (ripple_cheap carry [] (z ∷ ys) (pair_at (from + 2) ∷ []) (from + 4) (omega arith)))
 ripple_cheap carry (x ∷ w ∷ xs) (y ∷ ys) carried from few =
-    cheap-append (gate (x ∷ y ∷ carried) odd_ones) (gate (x ∷ y ∷ carried) carry ++ ripple carry (w ∷ xs) ys (pair_at (from + 2) ∷ []) (from + 4)) (carrying_cheap x y carried odd_ones few)
-    (cheap-append (gate (x ∷ y ∷ carried) carry) (ripple carry (w ∷ xs) ys (pair_at (from + 2) ∷ []) (from + 4)) (carrying_cheap x y carried carry few) (ripple_cheap carry (w ∷ xs) ys (pair_at (from + 2) ∷ []) (from + 4) (omega arith)))
+    cheap-append (gate (x ∷ y ∷ carried) odd_ones) (gate (x ∷ y ∷ carried) carry ++ ripple carry (w ∷ xs) ys (pair_at (from + 2) ∷ []) (from + 4))
+        (carrying_cheap x y carried odd_ones few)
+    (cheap-append (gate (x ∷ y ∷ carried) carry) (ripple carry (w ∷ xs) ys (pair_at (from + 2) ∷ []) (from + 4)) (carrying_cheap x y carried carry few)
+        (ripple_cheap carry (w ∷ xs) ys (pair_at (from + 2) ∷ []) (from + 4) (omega arith)))
 
 borrows_cheap : (xs ys borrowed : List Pair) (from : ℕ) → length borrowed ≤ 1 → Cheap (borrow_gates xs ys borrowed from)
 borrows_cheap [] ys borrowed from few = omega arith
 borrows_cheap (x ∷ xs) [] borrowed from few = omega arith
 borrows_cheap (x ∷ xs) (y ∷ ys) borrowed from few =
-    cheap-append (gate (x ∷ y ∷ borrowed) borrows) (borrow_gates xs ys (pair_at from ∷ []) (from + 2)) (carrying_cheap x y borrowed borrows few) (borrows_cheap xs ys (pair_at from ∷ []) (from + 2) (omega arith))
+    cheap-append (gate (x ∷ y ∷ borrowed) borrows) (borrow_gates xs ys (pair_at from ∷ []) (from + 2)) (carrying_cheap x y borrowed borrows few)
+        (borrows_cheap xs ys (pair_at from ∷ []) (from + 2) (omega arith))
 
 conjunctions_cheap : (p : Pair) (qs : List Pair) (from : ℕ) → Cheap (conjunctions p qs from)
 conjunctions_cheap p [] from = omega arith
-conjunctions_cheap p (q ∷ qs) from = cheap-append (gate (p ∷ q ∷ []) all_one) (conjunctions (pair_at from) qs (from + 2)) (two_cheap p q all_one) (conjunctions_cheap (pair_at from) qs (from + 2))
+conjunctions_cheap p (q ∷ qs) from = cheap-append (gate (p ∷ q ∷ []) all_one) (conjunctions (pair_at from) qs (from + 2)) (two_cheap p q all_one)
+    (conjunctions_cheap (pair_at from) qs (from + 2))
 
 all_cheap : (ps : List Pair) (from : ℕ) → Cheap (all_of_bits ps from)
 all_cheap [] from = omega arith
 all_cheap (p ∷ ps) from = conjunctions_cheap p ps from
 
 equality_cheap : (xs ys : List Pair) (from : ℕ) → Cheap (equality xs ys from)
-equality_cheap xs ys from = cheap-append (bitwise alike xs ys) (all_of_bits (result_pairs xs from) (from + 2 * length xs)) (bitwise_cheap alike xs ys) (all_cheap (result_pairs xs from) (from + 2 * length xs))
+equality_cheap xs ys from = cheap-append (bitwise alike xs ys) (all_of_bits (result_pairs xs from) (from + 2 * length xs)) (bitwise_cheap alike xs ys)
+    (all_cheap (result_pairs xs from) (from + 2 * length xs))
 
 operator_cheap : (op : Op) (xs ys : List Pair) (from : ℕ) → Cheap (operator_rules op xs ys from)
 operator_cheap And xs ys from = bitwise_cheap all_one xs ys
@@ -171,25 +185,33 @@ mutual
   formula_cheap bits (joined parts) request from = joined_cheap bits parts request from
   formula_cheap bits (inverted e) request from = formula_cheap bits e request from
   formula_cheap bits (chained e more) request from =
-      cheap-append (formula_rules bits e request from) (chained_rules bits (width_of e) (formula_result e from) more request (from + formula_size e)) (formula_cheap bits e request from)
+      cheap-append (formula_rules bits e request from) (chained_rules bits (width_of e) (formula_result e from) more request (from + formula_size e))
+          (formula_cheap bits e request from)
       (chained_cheap bits (width_of e) (formula_result e from) more request (from + formula_size e))
   formula_cheap bits (compared op e f) request from =
-      cheap-append (formula_rules bits e request from) (formula_rules bits f request (from + formula_size e) ++ operator_rules op (formula_result e from) (formula_result f (from + formula_size e)) (from + formula_size e + formula_size f)) (formula_cheap bits e request from)
-      (cheap-append (formula_rules bits f request (from + formula_size e)) (operator_rules op (formula_result e from) (formula_result f (from + formula_size e)) (from + formula_size e + formula_size f)) (formula_cheap bits f request (from + formula_size e))
+      cheap-append (formula_rules bits e request from) (formula_rules bits f request (from + formula_size e)
+          ++ operator_rules op (formula_result e from) (formula_result f (from + formula_size e)) (from + formula_size e + formula_size f))
+          (formula_cheap bits e request from)
+      (cheap-append (formula_rules bits f request (from + formula_size e)) (operator_rules op (formula_result e from) (formula_result f (from + formula_size e))
+          (from + formula_size e + formula_size f)) (formula_cheap bits f request (from + formula_size e))
       (operator_cheap op (formula_result e from) (formula_result f (from + formula_size e)) (from + formula_size e + formula_size f)))
 
   joined_cheap : (bits : ℕ → List Pair) (parts : Formulas) (request from : ℕ) → Cheap (joined_rules bits parts request from)
   joined_cheap bits no_parts request from = omega arith
   joined_cheap bits (and_part e more) request from =
-      cheap-append (formula_rules bits e request from) (joined_rules bits more request (from + formula_size e)) (formula_cheap bits e request from) (joined_cheap bits more request (from + formula_size e))
+      cheap-append (formula_rules bits e request from) (joined_rules bits more request (from + formula_size e)) (formula_cheap bits e request from)
+          (joined_cheap bits more request (from + formula_size e))
 
-  chained_cheap : (bits : ℕ → List Pair) (width : ℕ) (left : List Pair) (more : Operations) (request from : ℕ) → Cheap (chained_rules bits width left more request from)
+  chained_cheap : (bits : ℕ → List Pair) (width : ℕ) (left : List Pair) (more : Operations) (request from : ℕ) →
+      Cheap (chained_rules bits width left more request from)
   chained_cheap bits width left no_operations request from = omega arith
   chained_cheap bits width left (and_operation op e more) request from =
       cheap-append (formula_rules bits e request from)
-      (operator_rules op left (formula_result e from) (from + formula_size e) ++ chained_rules bits width (operator_result op left (from + formula_size e)) more request (from + formula_size e + operator_size op width))
+      (operator_rules op left (formula_result e from) (from + formula_size e) ++ chained_rules bits width (operator_result op left (from + formula_size e)) more
+          request (from + formula_size e + operator_size op width))
       (formula_cheap bits e request from)
-      (cheap-append (operator_rules op left (formula_result e from) (from + formula_size e)) (chained_rules bits width (operator_result op left (from + formula_size e)) more request (from + formula_size e + operator_size op width))
+      (cheap-append (operator_rules op left (formula_result e from) (from + formula_size e))
+          (chained_rules bits width (operator_result op left (from + formula_size e)) more request (from + formula_size e + operator_size op width))
       (operator_cheap op left (formula_result e from) (from + formula_size e))
       (chained_cheap bits width (operator_result op left (from + formula_size e)) more request (from + formula_size e + operator_size op width)))
 
@@ -222,7 +244,8 @@ level_cheap (p ∷ q ∷ rest) = let e = level_cheap rest in omega (arith, e)
 
 levels_cheap : (n : ℕ) (ls : List ℕ) (from : ℕ) → Cheap (levels_rules n ls from)
 levels_cheap zero ls from = omega arith
-levels_cheap (suc n) ls from = cheap-append (level_rules ls) (levels_rules n (next_level ls from) (from + length ls / 2)) (level_cheap ls) (levels_cheap n (next_level ls from) (from + length ls / 2))
+levels_cheap (suc n) ls from = cheap-append (level_rules ls) (levels_rules n (next_level ls from) (from + length ls / 2)) (level_cheap ls)
+    (levels_cheap n (next_level ls from) (from + length ls / 2))
 
 pub tree_cheap : (leaves : List ℕ) (from : ℕ) → Cheap (tree_rules leaves from)
 tree_cheap leaves from = levels_cheap (length leaves) leaves from

@@ -32,10 +32,12 @@ module _ (p : TypedProgram) (arms : List TArm) (i : ℕ) (a : TArm) (within : i 
   pub guard_size_here : guards_size (arms_of (drop i arms)) ≡ formula_size guard + guards_size more
   guard_size_here = ap guards_size (arm_at arms i a within is)
 
-  pub guard_typed : (channels : List Channel) (vars : List Var) → AreChoices channels vars (arms_of (drop i arms)) → IsOfWidth vars 1 guard × AreChoices channels vars more
+  pub guard_typed : (channels : List Channel) (vars : List Var) → AreChoices channels vars (arms_of (drop i arms)) →
+      IsOfWidth vars 1 guard × AreChoices channels vars more
   guard_typed channels vars h = let facts = subst (AreChoices channels vars) (arm_at arms i a within is) h in (facts.0, facts.2)
 
-  pub guards_step : (request next to : ℕ) (now new all : RulesValue) → to ≡ next + formula_size guard → length (formula_rules (bits_at p) guard request next) ≡ formula_size guard
+  pub guards_step : (request next to : ℕ) (now new all : RulesValue) → to ≡ next + formula_size guard →
+      length (formula_rules (bits_at p) guard request next) ≡ formula_size guard
       → new ≡ with_owned (owned_from next (formula_rules (bits_at p) guard request next)) now
       → with_owned (owned_from next (guards_rules p (arms_of (drop i arms)) request next)) now ≡ all
       → with_owned (owned_from to (guards_rules p more request to)) new ≡ all
@@ -46,7 +48,8 @@ module _ (p : TypedProgram) (arms : List TArm) (i : ℕ) (a : TArm) (within : i 
       ∙ (ap (λ rs. with_owned (owned_from next rs) now) (sym (guard_rules_here p arms i a within is request next))
       ∙ so_far))
 
-  pub pairs_step : (next to : ℕ) (rails pair longer all : List ℕ) → to ≡ next + formula_size guard → pair ≡ rails_of (formula_result guard next) → longer ≡ rails ++ pair
+  pub pairs_step : (next to : ℕ) (rails pair longer all : List ℕ) → to ≡ next + formula_size guard → pair ≡ rails_of (formula_result guard next) →
+      longer ≡ rails ++ pair
       → rails ++ rails_of (guard_pairs (arms_of (drop i arms)) next) ≡ all → longer ++ rails_of (guard_pairs more to) ≡ all
   pairs_step next to rails pair longer all at are pushed so_far =
       sites_more rails longer pair (rails_of (guard_pairs more to)) (rails_of (guard_pairs (arms_of (drop i arms)) next)) all pushed
@@ -57,8 +60,10 @@ module _ (p : TypedProgram) (arms : List TArm) (i : ℕ) (a : TArm) (within : i 
       so_far
 
 module _ (p : TypedProgram) (arms : List TArm) (i : ℕ) (end : length arms ≤ i) where
-  pub guards_done : (request next : ℕ) (now all : RulesValue) → with_owned (owned_from next (guards_rules p (arms_of (drop i arms)) request next)) now ≡ all → now ≡ all
+  pub guards_done : (request next : ℕ) (now all : RulesValue) → with_owned (owned_from next (guards_rules p (arms_of (drop i arms)) request next)) now ≡ all →
+      now ≡ all
   guards_done request next now all so_far = ap (λ rs. with_owned (owned_from next rs) now) (sym (guard_rules_end p arms i end request next)) ∙ so_far
 
   pub pairs_done : (next : ℕ) (rails all : List ℕ) → rails ++ rails_of (guard_pairs (arms_of (drop i arms)) next) ≡ all → rails ≡ all
-  pairs_done next rails all so_far = sites_done rails (rails_of (guard_pairs (arms_of (drop i arms)) next)) all (ap rails_of (guard_pairs_end p arms i end next)) so_far
+  pairs_done next rails all so_far = sites_done rails (rails_of (guard_pairs (arms_of (drop i arms)) next)) all
+      (ap rails_of (guard_pairs_end p arms i end next)) so_far

@@ -64,7 +64,8 @@ values_right v u to n (x ∷ xs) ys e h =
     let z : suc to + length xs ≡ to + n = omega (arith, e) in
     subst (λ k. Values v u k ys) z (values_right v u (suc to) (length xs) xs ys refl h.1)
 
-pub values_at : {A : Type 0} (v u : ℕ → A) (from to : ℕ) (rs : List NodeRules) → Values v u to (numbered from rs) → (i : ℕ) → i < length rs → v (from + i) ≡ u (to + i)
+pub values_at : {A : Type 0} (v u : ℕ → A) (from to : ℕ) (rs : List NodeRules) → Values v u to (numbered from rs) → (i : ℕ) → i < length rs →
+    v (from + i) ≡ u (to + i)
 values_at v u from to [] h i l = absurd (omega (arith, l))
 values_at v u from to (r ∷ rs) h zero l = ap v (let e : from + 0 ≡ from = omega arith in e) ∙ (h.0 ∙ ap u (let e : to ≡ to + 0 = omega arith in e))
 values_at v u from to (r ∷ rs) h (suc i) l =
@@ -95,7 +96,8 @@ module _ (counted : Counted) (P : TypedProgram) where
   hidden_assign_long x e false wide from = refl
   hidden_assign_long x e true wide from =
       let a = length-numbered from (hidden_rules P x e from) in
-      let b : length (hidden_rules P x e from) ≡ block_size (var_width P.vars x) = length-variable_rules (var_width P.vars x) from (formula_result e (from + block_size (var_width P.vars x) + 3 + 1) ∷ []) in
+      let b : length (hidden_rules P x e from) ≡ block_size (var_width P.vars x) =
+          length-variable_rules (var_width P.vars x) from (formula_result e (from + block_size (var_width P.vars x) + 3 + 1) ∷ []) in
       let c : block_size (width_of e) ≡ block_size (var_width P.vars x) = ap block_size wide in
       omega (arith, a, b, c)
 
@@ -205,7 +207,8 @@ module _ (counted : Counted) (P : TypedProgram) where
   declared_width y l = width_front P.vars (hidden_vars P.body) y l
 
   pub declared_bits : (y : ℕ) → y < length P.vars → bits_at Q y ≡ bits_at P y
-  declared_bits y l = ap (λ w. block_bits w (var_from Q y)) (declared_width y l) ∙ ap (λ k. block_bits (var_width P.vars y) k) (declared_from y (omega (arith, l)))
+  declared_bits y l = ap (λ w. block_bits w (var_from Q y)) (declared_width y l)
+      ∙ ap (λ k. block_bits (var_width P.vars y) k) (declared_from y (omega (arith, l)))
 
   declared_written : (y : ℕ) → y < length P.vars → written_at Q y ≡ written_at P y
   declared_written y l = ap (λ w. all_written w (var_from Q y)) (declared_width y l)
@@ -290,7 +293,8 @@ module _ (counted : Counted) (P : TypedProgram) where
         start = ap v (let z : element ≡ element + 0 = omega arith in z) ∙ (node 0 (omega arith) ∙ ap u (let z : to + 0 ≡ to = omega arith in z))
 
         in_block : (i : ℕ) → i < block_size width → v (from + i) ≡ u (block + i)
-        in_block i h = values_at v u from block (hidden_rules P x e from) stored i (let m = length-variable_rules width from (formula_result e (element + 3 + 1) ∷ []) in omega (arith, h, m))
+        in_block i h = values_at v u from block (hidden_rules P x e from) stored i (let m =
+            length-variable_rules width from (formula_result e (element + 3 + 1) ∷ []) in omega (arith, h, m))
 
         as_wide : var_width Q.vars n ≡ width
         as_wide = wide ∙ typed.agrees
@@ -618,7 +622,8 @@ module _ (counted : Counted) (P : TypedProgram) where
           subst (λ l. RulesAlike v u (rules_in (numbered from front ++ own_bodies P choices (from + select_own + choice_count choices)
           (bodies_from choices select_own from))) l)
           (append_assoc select guards rest)
-          (joined (numbered from front) (own_bodies P choices (from + select_own + choice_count choices) (bodies_from choices select_own from)) (select ++ guards) rest
+          (joined (numbered from front) (own_bodies P choices (from + select_own + choice_count choices) (bodies_from choices select_own from)) (select
+              ++ guards) rest
           (as_numbered from front (select ++ guards)
           (rules_append v u (select_rules (choosing_at P choices r (from + 2) select_own from)) select
           (guards_rules P choices (from + 1) (guards_from choices select_own from)) guards
@@ -626,7 +631,8 @@ module _ (counted : Counted) (P : TypedProgram) where
           (choosing_same n choices t.2 plain select_own from to block front long where_hidden stored nodes r s (from + 2) (to + 2) asked any))
           (guards_alike n choices t.2 (from + 1) (to + 1) (guards_from choices select_own from) (guards_from more select_own to) eval
           (in_guards n choices t.2 plain select_own from to block front long where_hidden stored nodes))))
-          (bodies_alike n choices t.2 plain (from + select_own + choice_count choices) (bodies_from choices select_own from) (to + select_own + choice_count more)
+          (bodies_alike n choices t.2 plain (from + select_own + choice_count choices) (bodies_from choices select_own from)
+              (to + select_own + choice_count more)
           (bodies_from more select_own to) block where_hidden
           (starts_same n choices t.2 plain select_own from to block front long where_hidden stored nodes) stored
           (in_bodies n choices t.2 plain select_own from to block front long where_hidden stored nodes)))
@@ -641,7 +647,8 @@ module _ (counted : Counted) (P : TypedProgram) where
           subst (λ l. RulesAlike v u (rules_in (numbered from front ++ own_bodies P choices (from + again_own + choice_count choices)
           (bodies_from choices again_own from))) l)
           (append_assoc again guards rest)
-          (joined (numbered from front) (own_bodies P choices (from + again_own + choice_count choices) (bodies_from choices again_own from)) (again ++ guards) rest
+          (joined (numbered from front) (own_bodies P choices (from + again_own + choice_count choices) (bodies_from choices again_own from)) (again ++ guards)
+              rest
           (as_numbered from front (again ++ guards)
           (rules_append v u (again_rules (repeating_at P choices r from)) again
           (guards_rules P choices (from + 3) (guards_from choices again_own from)) guards
@@ -674,15 +681,18 @@ module _ (counted : Counted) (P : TypedProgram) where
           let at_mine = hidden_at_left n (hidden_vars p) (hidden_in_each (and_member q more)) block where_hidden in
           let at_others = hidden_at_right n (hidden_vars p) (hidden_in_each (and_member q more)) block where_hidden in
           let my_blocks = values_left v u block (hidden P p (from + 3)) (hidden_turn P (and_member q more) (from + 3 + size_of P p)) stored in
-          let other_blocks = values_right v u block (blocks (hidden_vars p)) (hidden P p (from + 3)) (hidden_turn P (and_member q more) (from + 3 + size_of P p))
+          let other_blocks = values_right v u block (blocks (hidden_vars p)) (hidden P p (from + 3))
+              (hidden_turn P (and_member q more) (from + 3 + size_of P p))
           (hidden_long p t.0 (from + 3)) stored in
           let child : v from ≡ u to = start.0 in
           let d = answers_same n p t.0 plain.0 from (from + 3) to (to + 3) block at_mine child my_blocks mine in
           joined element (first ++ later) (q_rules s (answer_of Q (halved n p) (to + 3)) to)
           (rules_of Q (halved n p) to (to + 3) ++ turn_rules Q (halved_each k (and_member q more)) (to + 2) (to + 3 + size_of Q (halved n p)))
           (as_numbered from rules (q_rules s (answer_of Q (halved n p) (to + 3)) to)
-          (elements_alike v u r (answer_of P p (from + 3)) from s (answer_of Q (halved n p) (to + 3)) to asked d (values_at v u from to rules start 1 (omega arith))))
-          (joined first later (rules_of Q (halved n p) to (to + 3)) (turn_rules Q (halved_each k (and_member q more)) (to + 2) (to + 3 + size_of Q (halved n p)))
+          (elements_alike v u r (answer_of P p (from + 3)) from s (answer_of Q (halved n p) (to + 3)) to asked d
+              (values_at v u from to rules start 1 (omega arith))))
+          (joined first later (rules_of Q (halved n p) to (to + 3))
+              (turn_rules Q (halved_each k (and_member q more)) (to + 2) (to + 3 + size_of Q (halved n p)))
           (own_alike n p t.0 plain.0 from (from + 3) to (to + 3) block at_mine child my_blocks mine)
           (turn_alike k (and_member q more) t.1 plain.1 (from + 2) (from + 3 + size_of P p) (to + 2) (to + 3 + size_of Q (halved n p))
           (block + blocks (hidden_vars p)) at_others (values_at v u from to rules start 2 (omega arith)) other_blocks others))
@@ -712,7 +722,8 @@ module _ (counted : Counted) (P : TypedProgram) where
           joined element (first ++ later) (q_rules s (answer_of Q (halved n p) (to + 3)) to)
           (rules_of Q (halved n p) to (to + 3) ++ branches_rules Q (halved_each k more) s (to + 3 + size_of Q (halved n p)))
           (as_numbered from rules (q_rules s (answer_of Q (halved n p) (to + 3)) to)
-          (elements_alike v u r (answer_of P p (from + 3)) from s (answer_of Q (halved n p) (to + 3)) to asked d (values_at v u from to rules start 1 (omega arith))))
+          (elements_alike v u r (answer_of P p (from + 3)) from s (answer_of Q (halved n p) (to + 3)) to asked d
+              (values_at v u from to rules start 1 (omega arith))))
           (joined first later (rules_of Q (halved n p) to (to + 3)) (branches_rules Q (halved_each k more) s (to + 3 + size_of Q (halved n p)))
           (own_alike n p t.0 plain.0 from (from + 3) to (to + 3) block at_mine child my_blocks mine)
           (branches_alike k more t.1 plain.1 r (from + 3 + size_of P p) s (to + 3 + size_of Q (halved n p))

@@ -49,7 +49,8 @@ counted : Counted
 counted = record { bits = result_length; rules = rules_length; tree = tree_length }
 
 -- what is assumed here are laws of steps and rounds, of programs in halves, and that of circuits as trees of cells
-pub translation_carries : ((c d : Configuration) (at : Place) → step_at c at ≡ Some d → Step c at d) → ((c d : Configuration) (n : ℕ) → Leads c n d → IsBehind c d)
+pub translation_carries : ((c d : Configuration) (at : Place) → step_at c at ≡ Some d → Step c at d) →
+    ((c d : Configuration) (n : ℕ) → Leads c n d → IsBehind c d)
     → ((p : TypedProgram) (script : List OfferValue) → MeetsSharing p.body → OneHistory p script)
     → ((p : TypedProgram) (script : List OfferValue) → MeetsSharing p.body → RoundsHold p script)
     → HalvesFollow → HalvesArePlain → CircuitsCarry

@@ -49,7 +49,8 @@ node_there from [] i l = absurd (omega (arith, l))
 node_there from (r ∷ rs) zero l = omega arith
 node_there from (r ∷ rs) (suc i) l = let e = node_there (suc from) rs i (omega (arith, l)) in omega (arith, e)
 
-pub values_from : {A : Type 0} (v u : ℕ → A) (to : ℕ) (xs : List Numbered) → ((i : ℕ) → i < length xs → v (get_or xs i nowhere).node ≡ u (to + i)) → Values v u to xs
+pub values_from : {A : Type 0} (v u : ℕ → A) (to : ℕ) (xs : List Numbered) → ((i : ℕ) → i < length xs → v (get_or xs i nowhere).node ≡ u (to + i)) →
+    Values v u to xs
 values_from v u to [] h = tt
 values_from v u to (x ∷ xs) h = (
   h 0 (omega arith) ∙ ap u (let z : to + 0 ≡ to = omega arith in z),
@@ -231,7 +232,8 @@ module _ (counted : Counted) (P : TypedProgram) (typed : IsProcess P.channels P.
     channel_alike : (k w : ℕ) (kind : Kind) → w ≤ channel_width P.channels k → RulesAlike v u (channel_rules P k w kind) (channel_rules Q k w kind)
     channel_alike k w In l = rules_append v u (replicate (2 * w) no_rules) (replicate (2 * w) no_rules) (or_of (in_body P (receive_site k)) ∷ [])
         (or_of (in_body Q (receive_site k)) ∷ []) (nothing_alike (2 * w)) (acks_alike k)
-    channel_alike k w Out l = rules_append v u (rail_rules (in_body P (send_site k)) 0 w) (rail_rules (in_body Q (send_site k)) 0 w) (no_rules ∷ []) (no_rules ∷ [])
+    channel_alike k w Out l = rules_append v u (rail_rules (in_body P (send_site k)) 0 w) (rail_rules (in_body Q (send_site k)) 0 w) (no_rules ∷ []) (no_rules
+        ∷ [])
         (rails_alike k 0 w (omega (arith, l))) (refl, refl, tt)
     channel_alike k w Chan l = rules_append v u (rail_rules (in_body P (send_site k)) 0 w) (rail_rules (in_body Q (send_site k)) 0 w)
         (or_of (in_body P (receive_site k)) ∷ []) (or_of (in_body Q (receive_site k)) ∷ []) (rails_alike k 0 w (omega (arith, l))) (acks_alike k)
@@ -251,9 +253,11 @@ module _ (counted : Counted) (P : TypedProgram) (typed : IsProcess P.channels P.
     vars_alike k (w ∷ vs) long h =
         let e : w.width ≡ var_width P.vars k = h 0 (omega arith) ∙ ap (var_width P.vars) (let z : k + 0 ≡ k = omega arith in z) in
         let within : k < length P.vars = omega (arith, long) in
-        rules_append v u (variable_rules w.width (var_from P k) (in_body P (write_site P k))) (variable_rules w.width (var_from Q k) (in_body Q (write_site Q k)))
+        rules_append v u (variable_rules w.width (var_from P k) (in_body P (write_site P k)))
+            (variable_rules w.width (var_from Q k) (in_body Q (write_site Q k)))
         (vars_rules P (suc k) vs) (vars_rules Q (suc k) vs)
-        (subst (λ n. RulesAlike v u (variable_rules n (var_from P k) (in_body P (write_site P k))) (variable_rules n (var_from Q k) (in_body Q (write_site Q k)))) (sym e)
+        (subst (λ n. RulesAlike v u (variable_rules n (var_from P k) (in_body P (write_site P k)))
+            (variable_rules n (var_from Q k) (in_body Q (write_site Q k)))) (sym e)
         (subst (λ b. RulesAlike v u (variable_rules (var_width P.vars k) (var_from P k) (in_body P (write_site P k)))
         (variable_rules (var_width P.vars k) b (in_body Q (write_site Q k)))) (sym (declared_from counted P k (omega (arith, within))))
         (blocks_alike v u (var_width P.vars k) (var_from P k) (var_from P k) (same_block counted P v u low some k within) (in_body P (write_site P k))

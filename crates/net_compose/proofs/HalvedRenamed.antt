@@ -167,7 +167,8 @@ module _ (counted : Counted) (P : TypedProgram) (typed : IsProcess P.channels P.
       let at = rules_at v u (rules_in nodes) (all_rules Q) (order_alike counted P typed plain some v u (values_of v u h)) n in
       let here = (node_in nodes (all_rules P) (order_all counted P typed plain some) n (omega (arith, l, o))).is ∙ sym (rules_in_at nodes n) in (
         ap (guard_holds v) (up_told (all_rules P) (f n) ∙ ap (λ (r : NodeRules). r.up) here) ∙ (at.0 ∙ ap (guard_holds u) (sym (up_told (all_rules Q) n))),
-        ap (guard_holds v) (down_told (all_rules P) (f n) ∙ ap (λ (r : NodeRules). r.down) here) ∙ (at.1 ∙ ap (guard_holds u) (sym (down_told (all_rules Q) n))),
+        ap (guard_holds v) (down_told (all_rules P) (f n) ∙ ap (λ (r : NodeRules). r.down) here)
+            ∙ (at.1 ∙ ap (guard_holds u) (sym (down_told (all_rules Q) n))),
       )
 
   none_past : (R : TypedProgram) (n : ℕ) → length (all_rules R) ≤ n → (up_of (translation R) n ≡ []) × (down_of (translation R) n ≡ [])
@@ -193,7 +194,8 @@ module _ (counted : Counted) (P : TypedProgram) (typed : IsProcess P.channels P.
       (declared_highs (suc k) vs (omega (arith, long))
       (λ j l. h (suc j) (omega (arith, l)) ∙ ap (var_width P.vars) (let z : k + suc j ≡ suc k + j = omega arith in z))))
 
-  hidden_assign_highs : (n x : ℕ) (e : Formula) (b : Bool) → IsOfWidth P.vars (var_width P.vars x) e → (from block : ℕ) → HiddenAt counted P n (hidden_of b e) block
+  hidden_assign_highs : (n x : ℕ) (e : Formula) (b : Bool) → IsOfWidth P.vars (var_width P.vars x) e → (from block : ℕ) →
+      HiddenAt counted P n (hidden_of b e) block
       → Values (λ n. n) f block (hidden_assign P b x e from)
       → map f (vars_high Q n (hidden_of b e)) ≡ (if b then high_first (var_width P.vars x) 0 from else [])
   hidden_assign_highs n x e false t from block at stored = refl

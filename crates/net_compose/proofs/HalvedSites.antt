@@ -65,7 +65,8 @@ module _ (counted : Counted) (P : TypedProgram) where
         let z = t.agrees in
         ap (λ b. b ∷ []) (results_alike v u P e t.formed t.reads from to same i one (omega (arith, h, z)))
 
-    send_alike : (line : Line) → i < line_width P line → (chan : ℕ) (at : Span) (e : Formula) → IsOfWidth P.vars (channel_width P.channels chan) e → (from to : ℕ)
+    send_alike : (line : Line) → i < line_width P line → (chan : ℕ) (at : Span) (e : Formula) → IsOfWidth P.vars (channel_width P.channels chan) e →
+        (from to : ℕ)
         → ((j : ℕ) → j < formula_size e → v (from + 1 + j) ≡ u (to + 1 + j))
         → at_sites v i one (line_site P line (sending chan at e) from) ≡ at_sites u i one (line_site Q line (sending chan at e) to)
     send_alike (of_var z) h chan at e t from to same = refl
@@ -108,7 +109,8 @@ module _ (counted : Counted) (P : TypedProgram) where
         by true q =
             let wide : var_width P.vars x ≡ var_width P.vars z = ap (var_width P.vars) (eqb-true x z q) in
             let other : reads z e ≡ false = ap (λ n. reads n e) (sym (eqb-true x z q)) ∙ none in
-            ap (λ b. at_sites v i one ((if b then net.read_back (through_at (var_width P.vars z) (formula_size e) from) else formula_result e (from + 1)) ∷ [])) other
+            ap (λ b. at_sites v i one ((if b then net.read_back (through_at (var_width P.vars z) (formula_size e) from) else formula_result e (from + 1)) ∷ []))
+                other
             ∙ (result_here (var_width P.vars x) e t (omega (arith, wide, h)) (from + 1) (to + 1) same
             ∙ ap (λ b. at_sites u i one ((if b then net.read_back (through_at (var_width Q.vars z) (formula_size e) to) else formula_result e (to + 1)) ∷ []))
             (sym other))
@@ -278,7 +280,8 @@ module _ (counted : Counted) (P : TypedProgram) where
     assign_site line d i one h n x at e above true is t plain r from to nodes =
         halves_alike v u i one line d h n x at e above is t plain r from to nodes
 
-    pub lines_same : (line : Line) → IsLine P line → (i : ℕ) (one : Bool) → i < line_width P line → (n : ℕ) (p : Process) → IsProcess P.channels P.vars p → ReadsNoTarget (halved n p) → length P.vars ≤ n → (r from to : ℕ) → Values v u to (own P p r from)
+    pub lines_same : (line : Line) → IsLine P line → (i : ℕ) (one : Bool) → i < line_width P line → (n : ℕ) (p : Process) → IsProcess P.channels P.vars p →
+        ReadsNoTarget (halved n p) → length P.vars ≤ n → (r from to : ℕ) → Values v u to (own P p r from)
         → at_sites v i one (sites_in P (line_site P line) p from) ≡ at_sites u i one (sites_in Q (line_site Q line) (halved n p) to)
     lines_same line d i one h = sites_same v u (at_sites v i one) (at_sites u i one) (at_append v i one) (at_append u i one) refl (line_site P line)
         (line_site Q line) leaf

@@ -9,10 +9,12 @@ use Rattle.handshake_expand.specs.Layout.{nodes_of}
 use Rattle.handshake_expand.specs.Named.{name_of_node, node_names}
 use Rattle.net_compose.proofs.NetNames.{each_is_name}
 
-pub name_fine : (p : TypedProgram) (node : ℕ) → IsTyped p.channels p.vars p.body → nodes_of p ≤ 65536 → length (node_names p) ≡ nodes_of p → node < nodes_of p → IsNodeName (name_of_node p node)
+pub name_fine : (p : TypedProgram) (node : ℕ) → IsTyped p.channels p.vars p.body → nodes_of p ≤ 65536 → length (node_names p) ≡ nodes_of p → node < nodes_of p →
+    IsNodeName (name_of_node p node)
 name_fine p node typed small count within = each_is_name p typed small node [] (omega (arith, count, within))
 
-pub names_more : (p : TypedProgram) (names more : List (List ℕ)) (name : List ℕ) (node : ℕ) → node < length (node_names p) → names ≡ take node (node_names p) → name ≡ name_of_node p node
+pub names_more : (p : TypedProgram) (names more : List (List ℕ)) (name : List ℕ) (node : ℕ) → node < length (node_names p) → names ≡ take node (node_names p) →
+    name ≡ name_of_node p node
     → more ≡ names ++ name ∷ [] → more ≡ take (node + 1) (node_names p)
 names_more p names more name node within before is after =
     after ∙ (ap (λ xs. xs ++ name ∷ []) before ∙ (ap (λ x. take node (node_names p) ++ x ∷ []) is ∙ sym (take_more (node_names p) node [] within)))

@@ -179,7 +179,8 @@ rails_cost sites place (suc n) =
     let rest = rails_cost sites (suc place) n in
     omega (arith, one, rest)
 
-bits_cost : (sites : List (List Pair)) (place width from : ℕ) → cost (bits_rules sites place (bits_from width from)) ≡ 12 * width + 4 * times width (length sites)
+bits_cost : (sites : List (List Pair)) (place width from : ℕ) →
+    cost (bits_rules sites place (bits_from width from)) ≡ 12 * width + 4 * times width (length sites)
 bits_cost sites place zero from = refl
 bits_cost sites place (suc n) from =
     let one = merged_cost sites place in
@@ -203,12 +204,14 @@ rails_twice (h ∷ hs) = let e = rails_twice hs in omega (arith, e)
 abbrev latched_by : ℕ → List Literal → NodeRules
 latched_by request wanted = record { up = one_term wanted; down = one_term (is_low request ∷ []) }
 
-latches_cost : (request : ℕ) (before behind : List Pair) → length before + length behind ≤ 16 → cost (map (latched_by request) (only_one_true before behind)) ≤ 17 * length behind
+latches_cost : (request : ℕ) (before behind : List Pair) → length before + length behind ≤ 16 →
+    cost (map (latched_by request) (only_one_true before behind)) ≤ 17 * length behind
 latches_cost request before [] few = omega arith
 latches_cost request before (h ∷ behind) few =
     let longer : length (before ++ h ∷ []) ≡ length before + 1 = length-append before (h ∷ []) in
     let rest = latches_cost request (before ++ h ∷ []) behind (omega (arith, few, longer)) in
-    let wanted : length (all_false before ++ is_high h.t ∷ all_false behind) ≡ length (all_false before) + length (is_high h.t ∷ all_false behind) = length-append (all_false before) (is_high h.t ∷ all_false behind) in
+    let wanted : length (all_false before ++ is_high h.t ∷ all_false behind) ≡ length (all_false before) + length (is_high h.t ∷ all_false behind) =
+        length-append (all_false before) (is_high h.t ∷ all_false behind) in
     let front : length (all_false before) ≡ length before = length-map before _ in
     let back : length (all_false behind) ≡ length behind = length-map behind _ in
     omega (arith, few, rest, wanted, front, back)
@@ -268,10 +271,12 @@ module _ (p : TypedProgram) where
   abbrev share : (sends : ℕ → List (List Pair)) (receives : ℕ → List ℕ) (writes : ℕ → List (List Pair)) → ℕ
   share sends receives writes = at_channels (λ k. length (sends k)) (λ k. length (receives k)) 0 p.channels + at_vars (λ x. length (writes x)) 0 p.vars
 
-  share_both : (s t : ℕ → List (List Pair)) (r u : ℕ → List ℕ) (w z : ℕ → List (List Pair)) → share (λ k. s k ++ t k) (λ k. r k ++ u k) (λ x. w x ++ z x) ≡ share s r w + share t u z
+  share_both : (s t : ℕ → List (List Pair)) (r u : ℕ → List ℕ) (w z : ℕ → List (List Pair)) →
+      share (λ k. s k ++ t k) (λ k. r k ++ u k) (λ x. w x ++ z x) ≡ share s r w + share t u z
   share_both s t r u w z =
       let channels =
-      channels_as (λ k. length (s k ++ t k)) (λ k. length (r k ++ u k)) (λ k. length (s k) + length (t k)) (λ k. length (r k) + length (u k)) (λ k. length-append (s k) (t k)) (λ k. length-append (r k) (u k)) 0 p.channels
+      channels_as (λ k. length (s k ++ t k)) (λ k. length (r k ++ u k)) (λ k. length (s k) + length (t k)) (λ k. length (r k) + length (u k))
+          (λ k. length-append (s k) (t k)) (λ k. length-append (r k) (u k)) 0 p.channels
       ∙ channels_sum (λ k. length (s k)) (λ k. length (r k)) (λ k. length (t k)) (λ k. length (u k)) 0 p.channels in
       let vars =
       vars_as (λ x. length (w x ++ z x)) (λ x. length (w x) + length (z x)) (λ x. length-append (w x) (z x)) 0 p.vars
@@ -285,13 +290,16 @@ module _ (p : TypedProgram) where
   share_of s from = share (λ k. sites_in p (send_site k) s from) (λ k. sites_in p (receive_site k) s from) (λ x. sites_in p (write_site p x) s from)
 
   abbrev share_of_turn : Processes → (from : ℕ) → ℕ
-  share_of_turn members from = share (λ k. sites_in_turn p (send_site k) members from) (λ k. sites_in_turn p (receive_site k) members from) (λ x. sites_in_turn p (write_site p x) members from)
+  share_of_turn members from = share (λ k. sites_in_turn p (send_site k) members from) (λ k. sites_in_turn p (receive_site k) members from)
+      (λ x. sites_in_turn p (write_site p x) members from)
 
   abbrev share_of_branches : Processes → (from : ℕ) → ℕ
-  share_of_branches members from = share (λ k. sites_in_branches p (send_site k) members from) (λ k. sites_in_branches p (receive_site k) members from) (λ x. sites_in_branches p (write_site p x) members from)
+  share_of_branches members from = share (λ k. sites_in_branches p (send_site k) members from) (λ k. sites_in_branches p (receive_site k) members from)
+      (λ x. sites_in_branches p (write_site p x) members from)
 
   abbrev share_of_bodies : Choices → (from : ℕ) → ℕ
-  share_of_bodies choices from = share (λ k. sites_in_bodies p (send_site k) choices from) (λ k. sites_in_bodies p (receive_site k) choices from) (λ x. sites_in_bodies p (write_site p x) choices from)
+  share_of_bodies choices from = share (λ k. sites_in_bodies p (send_site k) choices from) (λ k. sites_in_bodies p (receive_site k) choices from)
+      (λ x. sites_in_bodies p (write_site p x) choices from)
 
   -- leaves
   one_site : {X : Type 0} (j i : ℕ) (x : X) → length (if j == i then x ∷ [] else []) ≡ only j i
@@ -303,24 +311,29 @@ module _ (p : TypedProgram) where
 
   sends_one : (chan from : ℕ) (at : Span) (e : Formula) → share_of (sending chan at e) from ≡ 4 * channel_width p.channels chan
   sends_one chan from at e =
-      let c = channels_as (λ k. length (send_site k (sending chan at e) from)) none (only chan) none (λ k. one_site chan k (formula_result e (from + 1))) (λ k. refl) 0 p.channels ∙ one_send chan p.channels in
+      let c = channels_as (λ k. length (send_site k (sending chan at e) from)) none (only chan) none (λ k. one_site chan k (formula_result e (from + 1)))
+          (λ k. refl) 0 p.channels ∙ one_send chan p.channels in
       let v = vars_none 0 p.vars in
       omega (arith, c, v)
 
   writes_one : (x from : ℕ) (at : Span) (e : Formula) → share_of (assigning x at e) from ≡ 4 * var_width p.vars x
   writes_one x from at e =
       let c = channels_none 0 p.channels in
-      let v = vars_as (λ y. length (write_site p y (assigning x at e) from)) (only x) (λ y. one_site x y (assigned_rails p y e from)) 0 p.vars ∙ one_write x p.vars in
+      let v = vars_as (λ y. length (write_site p y (assigning x at e) from)) (only x) (λ y. one_site x y (assigned_rails p y e from)) 0 p.vars
+          ∙ one_write x p.vars in
       omega (arith, c, v)
 
   takes_one : (chan x from : ℕ) (at to : Span) → share_of (receiving chan at x to) from ≤ 2 + 4 * var_width p.vars x
   takes_one chan x from at to =
-      let c = channels_as none (λ k. length (receive_site k (receiving chan at x to) from)) none (only chan) (λ k. refl) (λ k. one_site chan k (from + 1)) 0 p.channels in
+      let c = channels_as none (λ k. length (receive_site k (receiving chan at x to) from)) none (only chan) (λ k. refl) (λ k. one_site chan k (from + 1)) 0
+          p.channels in
       let one = one_receive chan p.channels in
-      let v = vars_as (λ y. length (write_site p y (receiving chan at x to) from)) (only x) (λ y. one_site x y (pairs_from (channel_width p.channels chan) (from + 2))) 0 p.vars ∙ one_write x p.vars in
+      let v = vars_as (λ y. length (write_site p y (receiving chan at x to) from)) (only x)
+          (λ y. one_site x y (pairs_from (channel_width p.channels chan) (from + 2))) 0 p.vars ∙ one_write x p.vars in
       omega (arith, c, one, v)
 
-  either_cost : (b : Bool) (xs ys : List NodeRules) (m n w : ℕ) → cost xs + w ≤ 64 * m → cost ys + w ≤ 64 * n → cost (if b then xs else ys) + w ≤ 64 * (if b then m else n)
+  either_cost : (b : Bool) (xs ys : List NodeRules) (m n w : ℕ) → cost xs + w ≤ 64 * m → cost ys + w ≤ 64 * n →
+      cost (if b then xs else ys) + w ≤ 64 * (if b then m else n)
   either_cost true xs ys m n w h k = h
   either_cost false xs ys m n w h k = k
 
@@ -338,13 +351,15 @@ module _ (p : TypedProgram) where
         let leaves = leaves_length width from in
         omega (arith, parts, bits, tree, count, leaves)
 
-    expression_cost : (e : Formula) (request from : ℕ) → IsWellFormed e → ReadsFrom p.vars e → cost (formula_rules (bits_at p) e request from) ≤ 30 * formula_size e
+    expression_cost : (e : Formula) (request from : ℕ) → IsWellFormed e → ReadsFrom p.vars e →
+        cost (formula_rules (bits_at p) e request from) ≤ 30 * formula_size e
     expression_cost e request from formed reads =
         let cheap = formula_cheap (bits_at p) e request from in
         let n = k.rules p.vars (bits_at p) (has_bits p) e request from formed reads in
         omega (arith, cheap, n)
 
-    guards_cost : (choices : Choices) (request from : ℕ) → AreChoices p.channels p.vars choices → cost (guards_rules p choices request from) ≤ 30 * guards_size choices
+    guards_cost : (choices : Choices) (request from : ℕ) → AreChoices p.channels p.vars choices →
+        cost (guards_rules p choices request from) ≤ 30 * guards_size choices
     guards_cost no_choices request from h = omega arith
     guards_cost (and_choice g s more) request from h =
         let parts = cost-append (formula_rules (bits_at p) g request from) (guards_rules p more request (from + formula_size g)) in
@@ -352,14 +367,16 @@ module _ (p : TypedProgram) where
         let rest = guards_cost more request (from + formula_size g) h.2 in
         omega (arith, parts, one, rest)
 
-    of_count : (choices : Choices) (request any own from : ℕ) → AreChoices p.channels p.vars choices → OfCount (choosing_at p choices request any own from) (choice_count choices)
+    of_count : (choices : Choices) (request any own from : ℕ) → AreChoices p.channels p.vars choices →
+        OfCount (choosing_at p choices request any own from) (choice_count choices)
     of_count choices request any own from h = record {
       latched = length-range_with_len (from + own) (choice_count choices);
       guards = pairs_of_guards k p choices (guards_from choices own from) h;
       answers = answers_length choices (bodies_from choices own from);
     }
 
-    through_cost : (x : ℕ) (e : Formula) (request from : ℕ) → IsOfWidth p.vars (var_width p.vars x) e → cost (through_rules p x e request from) + 4 * var_width p.vars x ≤ 64 * through_size (var_width p.vars x) e
+    through_cost : (x : ℕ) (e : Formula) (request from : ℕ) → IsOfWidth p.vars (var_width p.vars x) e →
+        cost (through_rules p x e request from) + 4 * var_width p.vars x ≤ 64 * through_size (var_width p.vars x) e
     through_cost x e request from is =
         let h = through_at (var_width p.vars x) (formula_size e) from in
         let back = read_bits (h.element + 2) (block_bits h.width h.block) in
@@ -371,7 +388,8 @@ module _ (p : TypedProgram) where
         let first : cost block ≤ 42 * h.width + 4 * times h.width 1 = block_cost h.width h.block (formula_result e (h.first + 1) ∷ []) in
         let once = times_one h.width in
         let behind = cost-append own (write_answer (h.element + 2) (written_at p x) ∷ back) in
-        let whole = cost-append block (q_rules request h.first h.element ++ (write_answer h.element (all_written h.width h.block) ∷ (own ++ (write_answer (h.element + 2) (written_at p x) ∷ back)))) in
+        let whole = cost-append block (q_rules request h.first h.element
+            ++ (write_answer h.element (all_written h.width h.block) ∷ (own ++ (write_answer (h.element + 2) (written_at p x) ∷ back)))) in
         omega (arith, last, wide, middle, first, once, behind, whole)
 
     mutual
@@ -383,8 +401,11 @@ module _ (p : TypedProgram) where
           let wide = size_wide e h.1.formed in
           let agrees = h.1.agrees in
           let through = through_cost x e request from h.1 in
-          let plain : cost (write_answer request (written_at p x) ∷ formula_rules (bits_at p) e request (from + 1)) + 4 * var_width p.vars x ≤ 64 * (1 + formula_size e) = omega (arith, own, wide, agrees) in
-          let both = either_cost (reads x e) (through_rules p x e request from) (write_answer request (written_at p x) ∷ formula_rules (bits_at p) e request (from + 1)) (through_size (var_width p.vars x) e) (1 + formula_size e) (4 * var_width p.vars x) through plain in
+          let plain : cost (write_answer request (written_at p x) ∷ formula_rules (bits_at p) e request (from + 1)) +
+              4 * var_width p.vars x ≤ 64 * (1 + formula_size e) = omega (arith, own, wide, agrees) in
+          let both = either_cost (reads x e) (through_rules p x e request from) (write_answer request (written_at p x)
+              ∷ formula_rules (bits_at p) e request (from + 1)) (through_size (var_width p.vars x) e) (1 + formula_size e) (4 * var_width p.vars x) through
+              plain in
           omega (arith, one, both)
       fits (sending chan at e) request from h =
           let one = sends_one chan from at e in
@@ -407,22 +428,29 @@ module _ (p : TypedProgram) where
           let parts = cost-append (branches_rules p members request from) (tree_rules (branch_ends p members from) (branches_end p members from)) in
           omega (arith, branches, tree, count, ends, parts)
       fits (choosing false choices) request from h =
-          let own = select_cost (choosing_at p choices request (from + 2) select_own from) (choice_count choices) (of_count choices request (from + 2) select_own from h.2) h.1 in
+          let own = select_cost (choosing_at p choices request (from + 2) select_own from) (choice_count choices)
+              (of_count choices request (from + 2) select_own from h.2) h.1 in
           let guards = guards_cost choices (from + 1) (guards_from choices select_own from) h.2 in
           let bodies = fits_bodies choices (from + select_own + choice_count choices) (bodies_from choices select_own from) h.2 in
-          let back = cost-append (guards_rules p choices (from + 1) (guards_from choices select_own from)) (bodies_rules p choices (from + select_own + choice_count choices) (bodies_from choices select_own from)) in
-          let whole = cost-append (select_rules (choosing_at p choices request (from + 2) select_own from)) (guards_rules p choices (from + 1) (guards_from choices select_own from) ++ bodies_rules p choices (from + select_own + choice_count choices) (bodies_from choices select_own from)) in
+          let back = cost-append (guards_rules p choices (from + 1) (guards_from choices select_own from))
+              (bodies_rules p choices (from + select_own + choice_count choices) (bodies_from choices select_own from)) in
+          let whole = cost-append (select_rules (choosing_at p choices request (from + 2) select_own from))
+              (guards_rules p choices (from + 1) (guards_from choices select_own from)
+              ++ bodies_rules p choices (from + select_own + choice_count choices) (bodies_from choices select_own from)) in
           omega (arith, own, guards, bodies, back, whole)
       fits (choosing true choices) request from h =
           let own = again_cost (repeating_at p choices request from) (choice_count choices) (of_count choices (from + 1) (from + 4) again_own from h.2) h.1 in
           let guards = guards_cost choices (from + 3) (guards_from choices again_own from) h.2 in
           let bodies = fits_bodies choices (from + again_own + choice_count choices) (bodies_from choices again_own from) h.2 in
-          let back = cost-append (guards_rules p choices (from + 3) (guards_from choices again_own from)) (bodies_rules p choices (from + again_own + choice_count choices) (bodies_from choices again_own from)) in
-          let whole = cost-append (again_rules (repeating_at p choices request from)) (guards_rules p choices (from + 3) (guards_from choices again_own from) ++ bodies_rules p choices (from + again_own + choice_count choices) (bodies_from choices again_own from)) in
+          let back = cost-append (guards_rules p choices (from + 3) (guards_from choices again_own from))
+              (bodies_rules p choices (from + again_own + choice_count choices) (bodies_from choices again_own from)) in
+          let whole = cost-append (again_rules (repeating_at p choices request from)) (guards_rules p choices (from + 3) (guards_from choices again_own from)
+              ++ bodies_rules p choices (from + again_own + choice_count choices) (bodies_from choices again_own from)) in
           omega (arith, own, guards, bodies, back, whole)
       fits (repeating s) request from h = let e = fits s (from + 1) (from + 2) h in omega (arith, e)
 
-      fits_turn : (members : Processes) (request from : ℕ) → AreProcesses p.channels p.vars members → cost (turn_rules p members request from) + share_of_turn members from ≤ 64 * turn_size p members
+      fits_turn : (members : Processes) (request from : ℕ) → AreProcesses p.channels p.vars members →
+          cost (turn_rules p members request from) + share_of_turn members from ≤ 64 * turn_size p members
       fits_turn no_members request from h = let e = share_none in omega (arith, e)
       fits_turn (and_member s no_members) request from h = fits s request from h.0
       fits_turn (and_member s (and_member t more)) request from h =
@@ -430,19 +458,23 @@ module _ (p : TypedProgram) where
           let one = fits s from (from + 3) h.0 in
           let rest = fits_turn (and_member t more) (from + 2) (from + 3 + size_of p s) h.1 in
           let parts = cost-append (rules_of p s from (from + 3)) (turn_rules p (and_member t more) (from + 2) (from + 3 + size_of p s)) in
-          let shares : share_of_turn (and_member s (and_member t more)) from ≡ share_of s (from + 3) + share_of_turn (and_member t more) (from + 3 + size_of p s) = share_both _ _ _ _ _ _ in
+          let shares : share_of_turn (and_member s (and_member t more)) from ≡ share_of s (from + 3) +
+              share_of_turn (and_member t more) (from + 3 + size_of p s) = share_both _ _ _ _ _ _ in
           omega (arith, one, rest, parts, shares)
 
-      fits_branches : (members : Processes) (request from : ℕ) → AreProcesses p.channels p.vars members → cost (branches_rules p members request from) + share_of_branches members from ≤ 64 * branches_size p members
+      fits_branches : (members : Processes) (request from : ℕ) → AreProcesses p.channels p.vars members →
+          cost (branches_rules p members request from) + share_of_branches members from ≤ 64 * branches_size p members
       fits_branches no_members request from h = let e = share_none in omega (arith, e)
       fits_branches (and_member s more) request from h =
           let one = fits s from (from + 3) h.0 in
           let rest = fits_branches more request (from + 3 + size_of p s) h.1 in
           let parts = cost-append (rules_of p s from (from + 3)) (branches_rules p more request (from + 3 + size_of p s)) in
-          let shares : share_of_branches (and_member s more) from ≡ share_of s (from + 3) + share_of_branches more (from + 3 + size_of p s) = share_both _ _ _ _ _ _ in
+          let shares : share_of_branches (and_member s more) from ≡ share_of s (from + 3) + share_of_branches more (from + 3 + size_of p s) =
+              share_both _ _ _ _ _ _ in
           omega (arith, one, rest, parts, shares)
 
-      fits_bodies : (choices : Choices) (start from : ℕ) → AreChoices p.channels p.vars choices → cost (bodies_rules p choices start from) + share_of_bodies choices from ≤ 64 * bodies_size p choices
+      fits_bodies : (choices : Choices) (start from : ℕ) → AreChoices p.channels p.vars choices →
+          cost (bodies_rules p choices start from) + share_of_bodies choices from ≤ 64 * bodies_size p choices
       fits_bodies no_choices start from h = let e = share_none in omega (arith, e)
       fits_bodies (and_choice g s more) start from h =
           let one = fits s start from h.1 in
@@ -451,7 +483,8 @@ module _ (p : TypedProgram) where
           let shares : share_of_bodies (and_choice g s more) from ≡ share_of s from + share_of_bodies more (from + size_of p s) = share_both _ _ _ _ _ _ in
           omega (arith, one, rest, parts, shares)
 
-    wires_cost : (i width : ℕ) (kind : Kind) → cost (channel_rules p i width kind) ≤ 4 * times width (length (in_body p (send_site i))) + 2 * length (in_body p (receive_site i))
+    wires_cost : (i width : ℕ) (kind : Kind) → cost (channel_rules p i width kind) ≤ 4 * times width (length (in_body p (send_site i))) +
+        2 * length (in_body p (receive_site i))
     wires_cost i width In =
         let none = silent_cost (2 * width) in
         let ack = or_cost (in_body p (receive_site i)) in
@@ -467,7 +500,8 @@ module _ (p : TypedProgram) where
         let parts = cost-append (rail_rules (in_body p (send_site i)) 0 width) (or_of (in_body p (receive_site i)) ∷ []) in
         omega (arith, rails, ack, parts)
 
-    channels_cost : (i : ℕ) (cs : List Channel) → cost (channels_rules p i cs) ≤ at_channels (λ j. length (in_body p (send_site j))) (λ j. length (in_body p (receive_site j))) i cs
+    channels_cost : (i : ℕ) (cs : List Channel) →
+        cost (channels_rules p i cs) ≤ at_channels (λ j. length (in_body p (send_site j))) (λ j. length (in_body p (receive_site j))) i cs
     channels_cost i [] = omega arith
     channels_cost i (c ∷ cs) =
         let one = wires_cost i c.width c.kind in

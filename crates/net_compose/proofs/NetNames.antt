@@ -28,7 +28,8 @@ use Rattle.net_compose.proofs.FlatTrees.{joint_count_is}
 use Rattle.net_compose.proofs.NameLemmas.{numbered_is_name, parts_are, all_append, wire_is_name, go_is_name, done_is_name}
 
 -- what stands before the first mark, and what stands behind it
-spans : (p : ℕ → Bool) (mark : ℕ) → p mark ≡ false → (xs ys s t : List ℕ) → list_all p xs ≡ true → list_all p ys ≡ true → xs ++ mark ∷ s ≡ ys ++ mark ∷ t → (xs ≡ ys) × (s ≡ t)
+spans : (p : ℕ → Bool) (mark : ℕ) → p mark ≡ false → (xs ys s t : List ℕ) → list_all p xs ≡ true → list_all p ys ≡ true → xs ++ mark ∷ s ≡ ys ++ mark ∷ t →
+    (xs ≡ ys) × (s ≡ t)
 spans p mark out [] [] s t h k e = (refl, cc e)
 spans p mark out [] (y ∷ ys) s t h k e =
     let b = and_parts (p y) (list_all p ys) k in
@@ -209,7 +210,8 @@ abbrev line_place : TypedProgram → Line → ℕ
 line_place p (of_channel k) = k
 line_place p (of_var x) = length p.channels + x
 
-pub channel_name_at : (cs : List Channel) (more : List (List ℕ)) (k : ℕ) → k < length cs → get_or (map (λ (c : Channel). c.name) cs ++ more) k [] ≡ channel_name cs k
+pub channel_name_at : (cs : List Channel) (more : List (List ℕ)) (k : ℕ) → k < length cs →
+    get_or (map (λ (c : Channel). c.name) cs ++ more) k [] ≡ channel_name cs k
 channel_name_at [] more k h = absurd (omega (arith, h))
 channel_name_at (c ∷ cs) more zero h = refl
 channel_name_at (c ∷ cs) more (suc k) h = channel_name_at cs more k (omega (arith, h))
@@ -221,7 +223,8 @@ var_name_at (v ∷ vs) (suc x) h = var_name_at vs x (omega (arith, h))
 
 vars_behind : (cs : List Channel) (more : List (List ℕ)) (x : ℕ) → get_or (map (λ (c : Channel). c.name) cs ++ more) (length cs + x) [] ≡ get_or more x []
 vars_behind [] more x = ap (λ n. get_or more n []) (let e : 0 + x ≡ x = omega arith in e)
-vars_behind (c ∷ cs) more x = ap (λ n. get_or (c.name ∷ (map (λ (c : Channel). c.name) cs ++ more)) n []) (let e : suc (length cs) + x ≡ suc (length cs + x) = omega arith in e) ∙ vars_behind cs more x
+vars_behind (c ∷ cs) more x = ap (λ n. get_or (c.name ∷ (map (λ (c : Channel). c.name) cs ++ more)) n []) (let e : suc (length cs) + x ≡ suc (length cs + x) =
+    omega arith in e) ∙ vars_behind cs more x
 
 line_name_at : (p : TypedProgram) (l : Line) → IsDeclared p l → get_or (names_of p.channels p.vars) (line_place p l) [] ≡ line_name p l
 line_name_at p (of_channel k) h = channel_name_at p.channels (map (λ (v : Var). v.name) p.vars) k h
@@ -247,7 +250,8 @@ one_line p (of_var x) (of_var y) h i e = let s : x ≡ y = omega (arith, e) in a
 module _ (p : TypedProgram) (typed : IsTyped p.channels p.vars p.body) where
   line_same : (l m : Line) → IsDeclared p l → IsDeclared p m → line_name p l ≡ line_name p m → l ≡ m
   line_same l m h k e =
-      let same : get_or (names_of p.channels p.vars) (line_place p l) [] ≡ get_or (names_of p.channels p.vars) (line_place p m) [] = line_name_at p l h ∙ (e ∙ sym (line_name_at p m k)) in
+      let same : get_or (names_of p.channels p.vars) (line_place p l) [] ≡ get_or (names_of p.channels p.vars) (line_place p m) [] =
+          line_name_at p l h ∙ (e ∙ sym (line_name_at p m k)) in
       ⊎_elim
       (λ (lt : line_place p l < line_place p m). absurd (typed.distinct (line_place p l) (line_place p m) [] lt (place_within p m k) same))
       (λ (le : line_place p m ≤ line_place p l).
@@ -282,7 +286,8 @@ module _ (p : TypedProgram) (typed : IsTyped p.channels p.vars p.body) where
 
   -- each is the name of a node
   tail_parts : (t : Tail) → IsFineTail t → list_all node_part (46 ∷ tail_text t) ≡ true
-  tail_parts (a_bit i n) h = all_append node_part (46 ∷ decimal i) (46 ∷ side n) (parts_are (decimal i) (words_of_digits (decimal i) (digits_of i (omega (arith, h.0))))) (side_parts n h.1)
+  tail_parts (a_bit i n) h = all_append node_part (46 ∷ decimal i) (46 ∷ side n)
+      (parts_are (decimal i) (words_of_digits (decimal i) (digits_of i (omega (arith, h.0))))) (side_parts n h.1)
     where
       side_parts : (n : ℕ) → n < 5 → list_all node_part (46 ∷ side n) ≡ true
       side_parts zero h = refl
@@ -318,7 +323,8 @@ module _ (p : TypedProgram) (typed : IsTyped p.channels p.vars p.body) where
 -- where the names stand
 
 numbered_at : (from count i : ℕ) → i < count → get_or (numbered_from from count) i [] ≡ numbered (from + i)
-numbered_at from count i h = get_or-map numbered (range_with_len from count) i 0 [] (omega (arith, h, length-range_with_len from count)) ∙ ap numbered (get_or-range_with_len from count i 0 h)
+numbered_at from count i h = get_or-map numbered (range_with_len from count) i 0 [] (omega (arith, h, length-range_with_len from count))
+    ∙ ap numbered (get_or-range_with_len from count i 0 h)
 
 numbered_length : (from count : ℕ) → length (numbered_from from count) ≡ count
 numbered_length from count = length-map (range_with_len from count) numbered ∙ length-range_with_len from count
@@ -333,11 +339,13 @@ rails_length name from (suc w) = let e = rails_length name (from + 1) w in omega
 abbrev pub rail_text : List ℕ → ℕ → Bool → List ℕ
 rail_text name bit one = if one then true_rail name bit else false_rail name bit
 
-pub rail_at : (name : List ℕ) (from width i : ℕ) (one : Bool) → i < width → get_or (rails_named name from width) (rail_place i one) [] ≡ rail_text name (from + i) one
+pub rail_at : (name : List ℕ) (from width i : ℕ) (one : Bool) → i < width →
+    get_or (rails_named name from width) (rail_place i one) [] ≡ rail_text name (from + i) one
 rail_at name from zero i one h = absurd (omega (arith, h))
 rail_at name from (suc w) zero true h = ap (true_rail name) (let e : from ≡ from + 0 = omega arith in e)
 rail_at name from (suc w) zero false h = ap (false_rail name) (let e : from ≡ from + 0 = omega arith in e)
-rail_at name from (suc w) (suc i) one h = rail_at name (from + 1) w i one (omega (arith, h)) ∙ ap (λ n. rail_text name n one) (let e : from + 1 + i ≡ from + suc i = omega arith in e)
+rail_at name from (suc w) (suc i) one h = rail_at name (from + 1) w i one (omega (arith, h))
+    ∙ ap (λ n. rail_text name n one) (let e : from + 1 + i ≡ from + suc i = omega arith in e)
 
 abbrev wires_named : List ℕ → ℕ → List (List ℕ)
 wires_named name width = rail_names name width ++ ack_name name ∷ []
@@ -358,7 +366,8 @@ wire_at (c ∷ cs) more (suc k) m h lt =
     let own = wires_named c.name c.width in
     let n = wires_named_length c.name c.width in
     ap (λ xs. get_or xs (wires_size c.width + wires_before cs k + m) []) (append_assoc own (wire_names cs) more)
-    ∙ (ap (λ i. get_or (own ++ (wire_names cs ++ more)) i []) (let e : wires_size c.width + wires_before cs k + m ≡ length own + (wires_before cs k + m) = omega (arith, n) in e)
+    ∙ (ap (λ i. get_or (own ++ (wire_names cs ++ more)) i []) (let e : wires_size c.width + wires_before cs k + m ≡ length own + (wires_before cs k + m) =
+        omega (arith, n) in e)
     ∙ (get_or-append-add own (wire_names cs ++ more) (wires_before cs k + m) [] ∙ wire_at cs more k m (omega (arith, h)) lt))
 
 wire_names_length : (cs : List Channel) → length (wire_names cs) ≡ wires_before cs (length cs)
@@ -400,7 +409,8 @@ block_named_length name width from =
     let n = numbered_length (from + 5 * width) (width - 1) in
     omega (arith, e, b, n)
 
-block_first : (v : Var) (vs : List Var) (from : ℕ) (more : List (List ℕ)) → block_names (v ∷ vs) from ++ more ≡ block_named v.name v.width from ++ (block_names vs (from + block_size v.width) ++ more)
+block_first : (v : Var) (vs : List Var) (from : ℕ) (more : List (List ℕ)) → block_names (v ∷ vs) from ++ more ≡ block_named v.name v.width from
+    ++ (block_names vs (from + block_size v.width) ++ more)
 block_first v vs from more =
     let bits = bits_named v.name 0 v.width in
     let tree = numbered_from (from + 5 * v.width) (v.width - 1) in
@@ -426,7 +436,8 @@ block_at (v ∷ vs) from more (suc x) m h lt =
     ∙ (ap (λ i. get_or (own ++ rest) i []) (let e : block_size v.width + blocks_before vs x + m ≡ length own + (blocks_before vs x + m) = omega (arith, n) in e)
     ∙ (get_or-append-add own rest (blocks_before vs x + m) []
     ∙ (block_at vs (from + block_size v.width) more x m (omega (arith, h)) lt
-    ∙ ap (λ f. get_or (block_named (var_name vs x) (var_width vs x) f) m []) (let e : from + block_size v.width + blocks_before vs x ≡ from + (block_size v.width + blocks_before vs x) = omega arith in e))))
+    ∙ ap (λ f. get_or (block_named (var_name vs x) (var_width vs x) f) m []) (let e : from + block_size v.width + blocks_before vs x ≡ from +
+        (block_size v.width + blocks_before vs x) = omega arith in e))))
 
 block_names_length : (vs : List Var) (from : ℕ) → length (block_names vs from) ≡ blocks_before vs (length vs)
 block_names_length [] from = refl
@@ -475,7 +486,9 @@ module _ (p : TypedProgram) (typed : IsTyped p.channels p.vars p.body) (small : 
   rail_text_is name bit true = ap (λ b. true_rail name b) (let e : 0 + bit ≡ bit = omega arith in e) ∙ named_is name (decimal bit) (side 0)
   rail_text_is name bit false = ap (λ b. false_rail name b) (let e : 0 + bit ≡ bit = omega arith in e) ∙ named_is name (decimal bit) (side 1)
 
-  pub rail_named : (k i : ℕ) (one : Bool) → k < length p.channels → i < channel_width p.channels k → get_or (wire_names p.channels ++ blocks_and_body) (wires_before p.channels k + rail_place i one) [] ≡ text p (dotted (of_channel k) (a_bit i (rail_side one)))
+  pub rail_named : (k i : ℕ) (one : Bool) → k < length p.channels → i < channel_width p.channels k →
+      get_or (wire_names p.channels ++ blocks_and_body) (wires_before p.channels k + rail_place i one) [] ≡
+      text p (dotted (of_channel k) (a_bit i (rail_side one)))
   rail_named k i one h lt =
       let name = channel_name p.channels k in
       let w = channel_width p.channels k in
@@ -485,7 +498,8 @@ module _ (p : TypedProgram) (typed : IsTyped p.channels p.vars p.body) (small : 
       ∙ (get_or_append_left (rail_names name w) (ack_name name ∷ []) [] (rail_place i one) (omega (arith, below, n))
       ∙ (rail_at name 0 w i one lt ∙ rail_text_is name i one))
 
-  pub ack_named : (k : ℕ) → k < length p.channels → get_or (wire_names p.channels ++ blocks_and_body) (wires_before p.channels k + 2 * channel_width p.channels k) [] ≡ text p (dotted (of_channel k) the_ack)
+  pub ack_named : (k : ℕ) → k < length p.channels →
+      get_or (wire_names p.channels ++ blocks_and_body) (wires_before p.channels k + 2 * channel_width p.channels k) [] ≡ text p (dotted (of_channel k) the_ack)
   ack_named k h =
       let name = channel_name p.channels k in
       let w = channel_width p.channels k in
@@ -514,7 +528,8 @@ module _ (p : TypedProgram) (typed : IsTyped p.channels p.vars p.body) (small : 
           sides false f = f
       by (an_ack k h e) =
           let at : m ≡ wires_before p.channels k + 2 * channel_width p.channels k = omega (arith, e) in
-          record { key = dotted (of_channel k) the_ack; fine = (h, omega arith); text_is = ap (λ n. get_or (wire_names p.channels ++ blocks_and_body) n []) at ∙ ack_named k h; node_is = omega (arith, e) }
+          record { key = dotted (of_channel k) the_ack; fine = (h, omega arith); text_is = ap (λ n. get_or (wire_names p.channels ++ blocks_and_body) n []) at
+              ∙ ack_named k h; node_is = omega (arith, e) }
 
   -- a node of a block
   part_key : (x : ℕ) → Part → Key
@@ -523,12 +538,15 @@ module _ (p : TypedProgram) (typed : IsTyped p.channels p.vars p.body) (small : 
   part_key x (b.a_mark i) = dotted (of_var x) (a_bit i 4)
   part_key x (b.a_joint k) = plain (var_from p x + (5 * var_width p.vars x + k))
 
-  block_bit : (x i r : ℕ) → x < length p.vars → i < var_width p.vars x → r < 5 → get_or (block_named (var_name p.vars x) (var_width p.vars x) (vars_from p + blocks_before p.vars x)) (5 * i + r) [] ≡ text p (dotted (of_var x) (a_bit i r))
+  block_bit : (x i r : ℕ) → x < length p.vars → i < var_width p.vars x → r < 5 →
+      get_or (block_named (var_name p.vars x) (var_width p.vars x) (vars_from p + blocks_before p.vars x)) (5 * i + r) [] ≡
+      text p (dotted (of_var x) (a_bit i r))
   block_bit x i r h lt below =
       let name = var_name p.vars x in
       let w = var_width p.vars x in
       let n = bits_named_length name 0 w in
-      get_or_append_left (bits_named name 0 w) (numbered_from (vars_from p + blocks_before p.vars x + 5 * w) (w - 1)) [] (5 * i + r) (omega (arith, n, lt, below))
+      get_or_append_left (bits_named name 0 w) (numbered_from (vars_from p + blocks_before p.vars x + 5 * w) (w - 1)) [] (5 * i + r)
+          (omega (arith, n, lt, below))
       ∙ (bit_at name 0 w i r lt below ∙ (ap (λ b. get_or (bit_names name b) r []) (let e : 0 + i ≡ i = omega arith in e) ∙ ends name i r below))
     where
       ends : (name : List ℕ) (i r : ℕ) → r < 5 → get_or (bit_names name i) r [] ≡ name ++ 46 ∷ tail_text (a_bit i r)
@@ -545,7 +563,9 @@ module _ (p : TypedProgram) (typed : IsTyped p.channels p.vars p.body) (small : 
   plain_text (suc zero) h = absurd (omega (arith, h))
   plain_text (suc (suc n)) h = refl
 
-  block_joint : (x k : ℕ) → x < length p.vars → k < var_width p.vars x - 1 → get_or (block_named (var_name p.vars x) (var_width p.vars x) (vars_from p + blocks_before p.vars x)) (5 * var_width p.vars x + k) [] ≡ text p (plain (var_from p x + (5 * var_width p.vars x + k)))
+  block_joint : (x k : ℕ) → x < length p.vars → k < var_width p.vars x - 1 →
+      get_or (block_named (var_name p.vars x) (var_width p.vars x) (vars_from p + blocks_before p.vars x)) (5 * var_width p.vars x + k) [] ≡
+      text p (plain (var_from p x + (5 * var_width p.vars x + k)))
   block_joint x k h lt =
       let name = var_name p.vars x in
       let w = var_width p.vars x in
@@ -557,7 +577,8 @@ module _ (p : TypedProgram) (typed : IsTyped p.channels p.vars p.body) (small : 
       ∙ (ap numbered (let e : from + k ≡ var_from p x + (5 * w + k) = omega arith in e) ∙ plain_text (var_from p x + (5 * w + k)) (omega arith))))
 
   found_part : (x m : ℕ) → x < length p.vars → m < block_size (var_width p.vars x)
-      → (n : ℕ) → n ≡ var_from p x + m → get_or (node_names p) n [] ≡ get_or (block_named (var_name p.vars x) (var_width p.vars x) (vars_from p + blocks_before p.vars x)) m [] → Found p n
+      → (n : ℕ) → n ≡ var_from p x + m → get_or (node_names p) n [] ≡
+          get_or (block_named (var_name p.vars x) (var_width p.vars x) (vars_from p + blocks_before p.vars x)) m [] → Found p n
   found_part x m h lt n is names = by (part_of (var_width p.vars x) m lt)
     where
       w : ℕ
@@ -570,7 +591,8 @@ module _ (p : TypedProgram) (typed : IsTyped p.channels p.vars p.body) (small : 
       bit i r k below e = record {
         key = dotted (of_var x) (a_bit i r);
         fine = (h, (omega (arith, narrow, k), below));
-        text_is = names ∙ (ap (λ j. get_or (block_named (var_name p.vars x) (var_width p.vars x) (vars_from p + blocks_before p.vars x)) j []) (sym e) ∙ block_bit x i r h k below);
+        text_is = names ∙ (ap (λ j. get_or (block_named (var_name p.vars x) (var_width p.vars x) (vars_from p + blocks_before p.vars x)) j []) (sym e)
+            ∙ block_bit x i r h k below);
         node_is = omega (arith, is, e);
       }
 
@@ -589,22 +611,27 @@ module _ (p : TypedProgram) (typed : IsTyped p.channels p.vars p.body) (small : 
               record {
                 key = plain (var_from p x + (5 * var_width p.vars x + j));
                 fine = omega (arith, small, blocks, lt, e);
-                text_is = names ∙ (ap (λ i. get_or (block_named (var_name p.vars x) (var_width p.vars x) (vars_from p + blocks_before p.vars x)) i []) (sym e) ∙ block_joint x j h (omega (arith, k, c)));
+                text_is = names ∙ (ap (λ i. get_or (block_named (var_name p.vars x) (var_width p.vars x) (vars_from p + blocks_before p.vars x)) i []) (sym e)
+                    ∙ block_joint x j h (omega (arith, k, c)));
                 node_is = omega (arith, is, e);
               }
 
-  found_number : (j : ℕ) → j < 2 + size_of p p.body → get_or (node_names p) (root_request p + j) [] ≡ numbered (root_request p + j) → Found p (root_request p + j)
-  found_number j lt names = record { key = plain (root_request p + j); fine = omega (arith, small, lt); text_is = names ∙ plain_text (root_request p + j) (omega arith); node_is = refl }
+  found_number : (j : ℕ) → j < 2 + size_of p p.body → get_or (node_names p) (root_request p + j) [] ≡ numbered (root_request p + j) →
+      Found p (root_request p + j)
+  found_number j lt names = record { key = plain (root_request p + j); fine = omega (arith, small, lt); text_is =
+      names ∙ plain_text (root_request p + j) (omega arith); node_is = refl }
 
   past_wires : (m : ℕ) → get_or (wire_names p.channels ++ blocks_and_body) (wires_before p.channels (length p.channels) + m) [] ≡ get_or blocks_and_body m []
   past_wires m =
       let n = wire_names_length p.channels in
       ap (λ i. get_or (wire_names p.channels ++ blocks_and_body) (i + m) []) (sym n) ∙ get_or-append-add (wire_names p.channels) blocks_and_body m []
 
-  past_blocks : (m : ℕ) → get_or blocks_and_body (blocks_before p.vars (length p.vars) + m) [] ≡ get_or (numbered_from (root_request p) (2 + size_of p p.body)) m []
+  past_blocks : (m : ℕ) → get_or blocks_and_body (blocks_before p.vars (length p.vars) + m) [] ≡ get_or (numbered_from (root_request p) (2 + size_of p p.body))
+      m []
   past_blocks m =
       let n = block_names_length p.vars (vars_from p) in
-      ap (λ i. get_or blocks_and_body (i + m) []) (sym n) ∙ get_or-append-add (block_names p.vars (vars_from p)) (numbered_from (root_request p) (2 + size_of p p.body)) m []
+      ap (λ i. get_or blocks_and_body (i + m) []) (sym n)
+          ∙ get_or-append-add (block_names p.vars (vars_from p)) (numbered_from (root_request p) (2 + size_of p p.body)) m []
 
   found_at : (n : ℕ) → n < nodes_of p → Found p n
   found_at zero lt = record { key = plain 0; fine = lit< tt; text_is = refl; node_is = refl }
@@ -615,7 +642,8 @@ module _ (p : TypedProgram) (typed : IsTyped p.channels p.vars p.body) (small : 
       (λ (le : wires_before p.channels (length p.channels) ≤ m). behind (m - wires_before p.channels (length p.channels)) (omega (arith, le)))
       (cases_lt m (wires_before p.channels (length p.channels)))
     where
-      at_body : (j : ℕ) → j < 2 + size_of p p.body → suc (suc m) ≡ root_request p + j → m ≡ wires_before p.channels (length p.channels) + (blocks_before p.vars (length p.vars) + j) → Found p (suc (suc m))
+      at_body : (j : ℕ) → j < 2 + size_of p p.body → suc (suc m) ≡ root_request p + j →
+          m ≡ wires_before p.channels (length p.channels) + (blocks_before p.vars (length p.vars) + j) → Found p (suc (suc m))
       at_body j less whole is =
           let names : get_or (node_names p) (suc (suc m)) [] ≡ numbered (root_request p + j) =
           ap (λ i. get_or (wire_names p.channels ++ blocks_and_body) i []) is
@@ -627,7 +655,8 @@ module _ (p : TypedProgram) (typed : IsTyped p.channels p.vars p.body) (small : 
           ⊎_elim
           (λ (block : j < blocks_before p.vars (length p.vars)).
           let o = owner p.vars j block in
-          let names : get_or (node_names p) (suc (suc m)) [] ≡ get_or (block_named (var_name p.vars o.var) (var_width p.vars o.var) (vars_from p + blocks_before p.vars o.var)) o.place [] =
+          let names : get_or (node_names p) (suc (suc m)) [] ≡
+              get_or (block_named (var_name p.vars o.var) (var_width p.vars o.var) (vars_from p + blocks_before p.vars o.var)) o.place [] =
           ap (λ i. get_or (wire_names p.channels ++ blocks_and_body) i []) is
           ∙ (past_wires j
           ∙ (ap (λ i. get_or blocks_and_body i []) (sym o.is)

@@ -130,7 +130,8 @@ mutual
       ap (λ l. l ++ sites_in_bodies P (hidden_high P) more (from + size_of P p)) (none_hidden P p c.0 from)
       ∙ none_hidden_choices P more c.1 (from + size_of P p)
 
-  none_hidden_branches : (P : TypedProgram) (members : Processes) → EachReadsNoTarget members → (from : ℕ) → sites_in_branches P (hidden_high P) members from ≡ []
+  none_hidden_branches : (P : TypedProgram) (members : Processes) → EachReadsNoTarget members → (from : ℕ) →
+      sites_in_branches P (hidden_high P) members from ≡ []
   none_hidden_branches P no_members c from = refl
   none_hidden_branches P (and_member p more) c from =
       ap (λ l. l ++ sites_in_branches P (hidden_high P) more (from + 3 + size_of P p)) (none_hidden P p c.0 (from + 3))

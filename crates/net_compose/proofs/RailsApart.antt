@@ -59,7 +59,8 @@ differ_operator Ge xs from = (λ e. absurd (omega (arith, e)), tt)
 chained_differ : (width : ℕ) (left : List Pair) (more : Operations) (from : ℕ) → Differ left → Differ (chained_result width left more from)
 chained_differ width left no_operations from h = h
 chained_differ width left (and_operation op e more) from h =
-    chained_differ width (operator_result op left (from + formula_size e)) more (from + formula_size e + operator_size op width) (differ_operator op left (from + formula_size e))
+    chained_differ width (operator_result op left (from + formula_size e)) more (from + formula_size e + operator_size op width)
+        (differ_operator op left (from + formula_size e))
 
 mutual
   result_differ : (e : Formula) (from : ℕ) → Differ (formula_result e from)
@@ -85,7 +86,8 @@ lie_among P low high (p ∷ ps) h k =
     All-cons P p.t (p.f ∷ rails_of ps) (k p.t h.0.0 h.0.1) (All-cons P p.f (rails_of ps) (k p.f h.0.2 h.0.3) (lie_among P low high ps h.1 k))
 
 -- the one pair of a guard before those of others
-pair_first : (qs more : List Pair) (low high : ℕ) → length qs ≡ 1 → Differ qs → LieIn low high qs → ((x : ℕ) → x < high → All (λ y. x ≢ y) (rails_of more)) → AreApart (rails_of more)
+pair_first : (qs more : List Pair) (low high : ℕ) → length qs ≡ 1 → Differ qs → LieIn low high qs → ((x : ℕ) → x < high → All (λ y. x ≢ y) (rails_of more)) →
+    AreApart (rails_of more)
     → AreApart (rails_of (qs ++ more))
 pair_first [] more low high one differ lie behind apart = absurd (omega (arith, one))
 pair_first (q ∷ []) more low high one differ lie behind apart =
@@ -99,11 +101,13 @@ module _ (p : TypedProgram) where
   guards_paired (and_choice g s more) from h =
       let one : length (formula_result g from) ≡ 1 = result_length g from h.0.formed ∙ h.0.agrees in
       let rest = guards_paired more (from + formula_size g) h.2 in
-      let all : length (formula_result g from ++ guard_pairs more (from + formula_size g)) ≡ length (formula_result g from) + length (guard_pairs more (from + formula_size g)) =
+      let all : length (formula_result g from ++ guard_pairs more (from + formula_size g)) ≡ length (formula_result g from) +
+          length (guard_pairs more (from + formula_size g)) =
       length-append (formula_result g from) (guard_pairs more (from + formula_size g)) in
       omega (arith, one, rest, all)
 
-  pub rails_among : (P : ℕ → Type 0) (choices : Choices) (from : ℕ) → AreChoices p.channels p.vars choices → ((x : ℕ) → from ≤ x → x < from + guards_size choices → P x)
+  pub rails_among : (P : ℕ → Type 0) (choices : Choices) (from : ℕ) → AreChoices p.channels p.vars choices →
+      ((x : ℕ) → from ≤ x → x < from + guards_size choices → P x)
       → All P (rails_of (guard_pairs choices from))
   rails_among P no_choices from h k = All-nil P
   rails_among P (and_choice g s more) from h k =
@@ -117,6 +121,7 @@ module _ (p : TypedProgram) where
   rails_apart no_choices from h = λ i j d below within. absurd (omega (arith, within))
   rails_apart (and_choice g s more) from h =
       let next = from + formula_size g in
-      pair_first (formula_result g from) (guard_pairs more next) from next (result_length g from h.0.formed ∙ h.0.agrees) (result_differ g from) (result_own g from h.0.formed)
+      pair_first (formula_result g from) (guard_pairs more next) from next (result_length g from h.0.formed ∙ h.0.agrees) (result_differ g from)
+          (result_own g from h.0.formed)
       (λ x before. rails_among (λ y. x ≢ y) more next h.2 (λ y low high e. absurd (omega (arith, e, low, before))))
       (rails_apart more next h.2)

@@ -51,7 +51,8 @@ module _ (v u : ℕ → Bool) where
   alike_values (n ∷ ns) [] e = absurd e
 
   -- terms
-  terms_append : (s s' t t' : List Literal) → term_holds v s ≡ term_holds u s' → term_holds v t ≡ term_holds u t' → term_holds v (s ++ t) ≡ term_holds u (s' ++ t')
+  terms_append : (s s' t t' : List Literal) → term_holds v s ≡ term_holds u s' → term_holds v t ≡ term_holds u t' →
+      term_holds v (s ++ t) ≡ term_holds u (s' ++ t')
   terms_append s s' t t' e f = both v s t ∙ (ap (λ b. b && term_holds v t) e ∙ (ap (λ b. term_holds u s' && b) f ∙ sym (both u s' t')))
     where
       apart : (a b c : Bool) → (a && (b && c)) ≡ ((a && b) && c)
@@ -172,7 +173,8 @@ module _ (v u : ℕ → Bool) where
                   (leave_latch c.request c.guards ∷ (latches c.request c.guards ++ starts c.latched c.guards))
                   (leave_latch d.request d.guards ∷ (latches d.request d.guards ++ starts d.latched d.guards))
                   (alike_values (p.leave ∷ c.latched) (q.leave ∷ d.latched) (leave, e.latched))
-                  (one_alike (all_false c.guards) (all_false d.guards) (falses_alike c.guards d.guards e.guards), same_low v u c.request d.request e.request, rest),
+                  (one_alike (all_false c.guards) (all_false d.guards) (falses_alike c.guards d.guards e.guards), same_low v u c.request d.request e.request,
+                      rest),
             ),
           ),
         ),

@@ -30,7 +30,8 @@ use Rattle.net_compose.specs.Translation.{rails_at, bits_at, block_bits, written
 -- what is known of expressions and of completion trees
 pub record Counted : Type 0 where
   pub bits : (e : Formula) (from : ℕ) → IsWellFormed e → length (formula_result e from) ≡ width_of e
-  pub rules : (vars : List Var) (bits : ℕ → List Pair) → HasBits vars bits → (e : Formula) (request from : ℕ) → IsWellFormed e → ReadsFrom vars e → length (formula_rules bits e request from) ≡ formula_size e
+  pub rules : (vars : List Var) (bits : ℕ → List Pair) → HasBits vars bits → (e : Formula) (request from : ℕ) → IsWellFormed e → ReadsFrom vars e →
+      length (formula_rules bits e request from) ≡ formula_size e
   pub tree : (leaves : List ℕ) (from : ℕ) → length (tree_rules leaves from) ≡ length leaves - 1
 
 -- one list behind another
@@ -85,7 +86,8 @@ back_rules p x h = write_answer (h.element + 2) (written_at p x) ∷ read_bits (
 abbrev own_rules : TypedProgram → ℕ → Formula → Through → List NodeRules
 own_rules p x e h = write_answer h.element (all_written h.width h.block) ∷ (formula_rules (bits_at p) e h.element (h.first + 1) ++ back_rules p x h)
 
-through_length : Counted → (p : TypedProgram) (x : ℕ) (e : Formula) (request from : ℕ) → IsWellFormed e → ReadsFrom p.vars e → length (through_rules p x e request from) ≡ through_size (var_width p.vars x) e
+through_length : Counted → (p : TypedProgram) (x : ℕ) (e : Formula) (request from : ℕ) → IsWellFormed e → ReadsFrom p.vars e →
+    length (through_rules p x e request from) ≡ through_size (var_width p.vars x) e
 through_length k p x e request from formed read =
     let h : Through = through_at (var_width p.vars x) (formula_size e) from in
     let block = variable_length k h.width h.block (formula_result e (h.first + 1) ∷ []) in
@@ -93,7 +95,8 @@ through_length k p x e request from formed read =
     let bits = block_length h.width h.block in
     let back = reads_length (h.element + 2) (block_bits h.width h.block) in
     let last = both (formula_rules (bits_at p) e h.element (h.first + 1)) (back_rules p x h) _ _ own (ap suc back) in
-    let all = both (variable_rules h.width h.block (formula_result e (h.first + 1) ∷ [])) (q_rules request h.first h.element ++ own_rules p x e h) _ _ block (ap (λ n. suc (suc (suc n))) (ap suc last)) in
+    let all = both (variable_rules h.width h.block (formula_result e (h.first + 1) ∷ [])) (q_rules request h.first h.element ++ own_rules p x e h) _ _ block
+        (ap (λ n. suc (suc (suc n))) (ap suc last)) in
     omega (arith, all, bits)
 
 -- selections
@@ -108,7 +111,8 @@ latches_length request hs = length-map _ _ ∙ ones_length [] hs
 pub starts_length : (ls : List ℕ) (hs : List Pair) → length (starts ls hs) ≡ length ls
 starts_length ls hs = length-map _ _
 
-pub pairs_of_guards : Counted → (p : TypedProgram) (choices : Choices) (from : ℕ) → AreChoices p.channels p.vars choices → length (guard_pairs choices from) ≡ choice_count choices
+pub pairs_of_guards : Counted → (p : TypedProgram) (choices : Choices) (from : ℕ) → AreChoices p.channels p.vars choices →
+    length (guard_pairs choices from) ≡ choice_count choices
 pairs_of_guards k p no_choices from h = refl
 pairs_of_guards k p (and_choice g s more) from h =
     let one = k.bits g from h.0.formed ∙ h.0.agrees in
@@ -117,19 +121,23 @@ pairs_of_guards k p (and_choice g s more) from h =
     omega (arith, all)
 
 pub latches_and_starts : Counted → (p : TypedProgram) (choices : Choices) (request any own from : ℕ) → AreChoices p.channels p.vars choices
-    → length (latches request (guard_pairs choices (guards_from choices own from)) ++ starts (range_with_len (from + own) (choice_count choices)) (guard_pairs choices (guards_from choices own from))) ≡ 2 * choice_count choices
+    → length (latches request (guard_pairs choices (guards_from choices own from))
+        ++ starts (range_with_len (from + own) (choice_count choices)) (guard_pairs choices (guards_from choices own from))) ≡ 2 * choice_count choices
 latches_and_starts k p choices request any own from h =
     let pairs = pairs_of_guards k p choices (guards_from choices own from) h in
     let ls = latches_length request (guard_pairs choices (guards_from choices own from)) in
     let ss = starts_length (range_with_len (from + own) (choice_count choices)) (guard_pairs choices (guards_from choices own from)) in
     let count = length-range_with_len (from + own) (choice_count choices) in
-    let all = both (latches request (guard_pairs choices (guards_from choices own from))) (starts (range_with_len (from + own) (choice_count choices)) (guard_pairs choices (guards_from choices own from))) _ _ ls ss in
+    let all = both (latches request (guard_pairs choices (guards_from choices own from)))
+        (starts (range_with_len (from + own) (choice_count choices)) (guard_pairs choices (guards_from choices own from))) _ _ ls ss in
     omega (arith, pairs, count, all)
 
-pub guards_length : Counted → (p : TypedProgram) (choices : Choices) (request from : ℕ) → AreChoices p.channels p.vars choices → length (guards_rules p choices request from) ≡ guards_size choices
+pub guards_length : Counted → (p : TypedProgram) (choices : Choices) (request from : ℕ) → AreChoices p.channels p.vars choices →
+    length (guards_rules p choices request from) ≡ guards_size choices
 guards_length k p no_choices request from h = refl
 guards_length k p (and_choice g s more) request from h =
-    both (formula_rules (bits_at p) g request from) (guards_rules p more request (from + formula_size g)) _ _ (k.rules p.vars (bits_at p) (has_bits p) g request from h.0.formed h.0.reads) (guards_length k p more request (from + formula_size g) h.2)
+    both (formula_rules (bits_at p) g request from) (guards_rules p more request (from + formula_size g)) _ _
+        (k.rules p.vars (bits_at p) (has_bits p) g request from h.0.formed h.0.reads) (guards_length k p more request (from + formula_size g) h.2)
 
 -- statements
 
@@ -138,12 +146,14 @@ ends_length p no_members from = refl
 ends_length p (and_member s more) from = ap suc (ends_length p more (from + 3 + size_of p s))
 
 mutual
-  pub statement_length : Counted → (p : TypedProgram) (s : Process) (request from : ℕ) → IsProcess p.channels p.vars s → length (rules_of p s request from) ≡ size_of p s
+  pub statement_length : Counted → (p : TypedProgram) (s : Process) (request from : ℕ) → IsProcess p.channels p.vars s →
+      length (rules_of p s request from) ≡ size_of p s
   statement_length k p skipping request from h = refl
   statement_length k p (assigning x at e) request from h =
       let rules = k.rules p.vars (bits_at p) (has_bits p) e request (from + 1) h.1.formed h.1.reads in
       let plain : length (write_answer request (written_at p x) ∷ formula_rules (bits_at p) e request (from + 1)) ≡ 1 + formula_size e = omega (arith, rules) in
-      either (reads x e) (through_rules p x e request from) (write_answer request (written_at p x) ∷ formula_rules (bits_at p) e request (from + 1)) _ _ (through_length k p x e request from h.1.formed h.1.reads) plain
+      either (reads x e) (through_rules p x e request from) (write_answer request (written_at p x) ∷ formula_rules (bits_at p) e request (from + 1)) _ _
+          (through_length k p x e request from h.1.formed h.1.reads) plain
   statement_length k p (sending chan at e) request from h =
       let rules = k.rules p.vars (bits_at p) (has_bits p) e request (from + 1) h.sent.formed h.sent.reads in
       omega (arith, rules)
@@ -162,19 +172,27 @@ mutual
       let own = latches_and_starts k p choices request (from + 2) select_own from h.2 in
       let guards = guards_length k p choices (from + 1) (guards_from choices select_own from) h.2 in
       let bodies = bodies_length k p choices (from + select_own + choice_count choices) (bodies_from choices select_own from) h.2 in
-      let back = both (guards_rules p choices (from + 1) (guards_from choices select_own from)) (bodies_rules p choices (from + select_own + choice_count choices) (bodies_from choices select_own from)) _ _ guards bodies in
-      let all = both (select_rules (choosing_at p choices request (from + 2) select_own from)) (guards_rules p choices (from + 1) (guards_from choices select_own from) ++ bodies_rules p choices (from + select_own + choice_count choices) (bodies_from choices select_own from)) _ _ (ap (λ n. suc (suc (suc n))) own) back in
+      let back = both (guards_rules p choices (from + 1) (guards_from choices select_own from))
+          (bodies_rules p choices (from + select_own + choice_count choices) (bodies_from choices select_own from)) _ _ guards bodies in
+      let all = both (select_rules (choosing_at p choices request (from + 2) select_own from))
+          (guards_rules p choices (from + 1) (guards_from choices select_own from)
+          ++ bodies_rules p choices (from + select_own + choice_count choices) (bodies_from choices select_own from)) _ _ (ap (λ n. suc (suc (suc n))) own) back
+          in
       omega (arith, all)
   statement_length k p (choosing true choices) request from h =
       let own = latches_and_starts k p choices (from + 1) (from + 4) again_own from h.2 in
       let guards = guards_length k p choices (from + 3) (guards_from choices again_own from) h.2 in
       let bodies = bodies_length k p choices (from + again_own + choice_count choices) (bodies_from choices again_own from) h.2 in
-      let back = both (guards_rules p choices (from + 3) (guards_from choices again_own from)) (bodies_rules p choices (from + again_own + choice_count choices) (bodies_from choices again_own from)) _ _ guards bodies in
-      let all = both (again_rules (repeating_at p choices request from)) (guards_rules p choices (from + 3) (guards_from choices again_own from) ++ bodies_rules p choices (from + again_own + choice_count choices) (bodies_from choices again_own from)) _ _ (ap (λ n. suc (suc (suc (suc (suc (suc n)))))) own) back in
+      let back = both (guards_rules p choices (from + 3) (guards_from choices again_own from))
+          (bodies_rules p choices (from + again_own + choice_count choices) (bodies_from choices again_own from)) _ _ guards bodies in
+      let all = both (again_rules (repeating_at p choices request from)) (guards_rules p choices (from + 3) (guards_from choices again_own from)
+          ++ bodies_rules p choices (from + again_own + choice_count choices) (bodies_from choices again_own from)) _ _
+          (ap (λ n. suc (suc (suc (suc (suc (suc n)))))) own) back in
       omega (arith, all)
   statement_length k p (repeating s) request from h = let e = statement_length k p s (from + 1) (from + 2) h in omega (arith, e)
 
-  turn_length : Counted → (p : TypedProgram) (members : Processes) (request from : ℕ) → AreProcesses p.channels p.vars members → length (turn_rules p members request from) ≡ turn_size p members
+  turn_length : Counted → (p : TypedProgram) (members : Processes) (request from : ℕ) → AreProcesses p.channels p.vars members →
+      length (turn_rules p members request from) ≡ turn_size p members
   turn_length k p no_members request from h = refl
   turn_length k p (and_member s no_members) request from h = statement_length k p s request from h.0
   turn_length k p (and_member s (and_member t more)) request from h =
@@ -183,7 +201,8 @@ mutual
       let all = both (rules_of p s from (from + 3)) (turn_rules p (and_member t more) (from + 2) (from + 3 + size_of p s)) _ _ one rest in
       omega (arith, all)
 
-  pub branches_length : Counted → (p : TypedProgram) (members : Processes) (request from : ℕ) → AreProcesses p.channels p.vars members → length (branches_rules p members request from) ≡ branches_size p members
+  pub branches_length : Counted → (p : TypedProgram) (members : Processes) (request from : ℕ) → AreProcesses p.channels p.vars members →
+      length (branches_rules p members request from) ≡ branches_size p members
   branches_length k p no_members request from h = refl
   branches_length k p (and_member s more) request from h =
       let one = statement_length k p s from (from + 3) h.0 in
@@ -191,10 +210,12 @@ mutual
       let all = both (rules_of p s from (from + 3)) (branches_rules p more request (from + 3 + size_of p s)) _ _ one rest in
       omega (arith, all)
 
-  pub bodies_length : Counted → (p : TypedProgram) (choices : Choices) (start from : ℕ) → AreChoices p.channels p.vars choices → length (bodies_rules p choices start from) ≡ bodies_size p choices
+  pub bodies_length : Counted → (p : TypedProgram) (choices : Choices) (start from : ℕ) → AreChoices p.channels p.vars choices →
+      length (bodies_rules p choices start from) ≡ bodies_size p choices
   bodies_length k p no_choices start from h = refl
   bodies_length k p (and_choice g s more) start from h =
-      both (rules_of p s start from) (bodies_rules p more (start + 1) (from + size_of p s)) _ _ (statement_length k p s start from h.1) (bodies_length k p more (start + 1) (from + size_of p s) h.2)
+      both (rules_of p s start from) (bodies_rules p more (start + 1) (from + size_of p s)) _ _ (statement_length k p s start from h.1)
+          (bodies_length k p more (start + 1) (from + size_of p s) h.2)
 
 -- all rules
 
@@ -209,11 +230,13 @@ wires_length p k width Chan = both (rail_rules (in_body p (send_site k)) 0 width
 
 channels_length : (p : TypedProgram) (k : ℕ) (cs : List Channel) → length (channels_rules p k cs) ≡ wires_before cs (length cs)
 channels_length p k [] = refl
-channels_length p k (c ∷ cs) = both (channel_rules p k c.width c.kind) (channels_rules p (suc k) cs) _ _ (wires_length p k c.width c.kind) (channels_length p (suc k) cs)
+channels_length p k (c ∷ cs) = both (channel_rules p k c.width c.kind) (channels_rules p (suc k) cs) _ _ (wires_length p k c.width c.kind)
+    (channels_length p (suc k) cs)
 
 vars_length : Counted → (p : TypedProgram) (x : ℕ) (vs : List Var) → length (vars_rules p x vs) ≡ blocks_before vs (length vs)
 vars_length k p x [] = refl
-vars_length k p x (v ∷ vs) = both (variable_rules v.width _ (in_body p (write_site p x))) (vars_rules p (suc x) vs) _ _ (variable_length k v.width _ _) (vars_length k p (suc x) vs)
+vars_length k p x (v ∷ vs) = both (variable_rules v.width _ (in_body p (write_site p x))) (vars_rules p (suc x) vs) _ _ (variable_length k v.width _ _)
+    (vars_length k p (suc x) vs)
 
 abbrev pub root_and_body : TypedProgram → List NodeRules
 root_and_body p = q_child go_node (root_latch p) ∷ q_latch go_node (body_answer p) ∷ rules_of p p.body (root_request p) (body_from p)
@@ -265,13 +288,16 @@ block_names_length (v ∷ vs) from =
     let tree = numbers_length (from + 5 * v.width) (v.width - 1) in
     let rest = block_names_length vs (from + block_size v.width) in
     let back = both (numbered_from (from + 5 * v.width) (v.width - 1)) (block_names vs (from + block_size v.width)) _ _ tree rest in
-    let all = both (flat_map (bit_names v.name) (range_with_len 0 v.width)) (numbered_from (from + 5 * v.width) (v.width - 1) ++ block_names vs (from + block_size v.width)) _ _ bits back in
+    let all = both (flat_map (bit_names v.name) (range_with_len 0 v.width)) (numbered_from (from + 5 * v.width) (v.width - 1)
+        ++ block_names vs (from + block_size v.width)) _ _ bits back in
     omega (arith, all, count)
 
 names_length : (p : TypedProgram) → length (node_names p) ≡ nodes_of p
 names_length p =
-    let vars = both (block_names p.vars (vars_from p)) (numbered_from (root_request p) (2 + size_of p p.body)) _ _ (block_names_length p.vars (vars_from p)) (numbers_length (root_request p) (2 + size_of p p.body)) in
-    let all = both (wire_names p.channels) (block_names p.vars (vars_from p) ++ numbered_from (root_request p) (2 + size_of p p.body)) _ _ (wire_names_length p.channels) vars in
+    let vars = both (block_names p.vars (vars_from p)) (numbered_from (root_request p) (2 + size_of p p.body)) _ _ (block_names_length p.vars (vars_from p))
+        (numbers_length (root_request p) (2 + size_of p p.body)) in
+    let all = both (wire_names p.channels) (block_names p.vars (vars_from p) ++ numbered_from (root_request p) (2 + size_of p p.body)) _ _
+        (wire_names_length p.channels) vars in
     omega (arith, all)
 
 set_length : (highs : List ℕ) (values : List Bool) → length (fold (λ vs node. slice_set vs node true) values highs) ≡ length values

@@ -25,10 +25,12 @@ pub record IsSettled (st : RunState) (c : Configuration) : Type 0 where
 
 -- One run, from these first values: it is safe, behind the program's rounds, as many as moves count, and level with
 -- them once it is at rest.
-pub record IsCarrying (net : NetValue) (p : TypedProgram) (script : List OfferValue) (values : List Bool) (counted : ℕ) (moves : List ℕ) : Type 0 where
+pub record IsCarrying (net : NetValue) (p : TypedProgram) (script : List OfferValue) (values : List Bool) (counted : ℕ)
+    (moves : List ℕ) : Type 0 where
   pub safe : IsSafeRun net script (begin_at net values) moves
   pub prefix : IsFollowing (after net (begin_at net values) moves) (rounds p script counted)
-  pub rest : IsAtRest net script (after net (begin_at net values) moves) → IsSettled (after net (begin_at net values) moves) (rounds p script counted)
+  pub rest : IsAtRest net script (after net (begin_at net values) moves) →
+      IsSettled (after net (begin_at net values) moves) (rounds p script counted)
 
 -- the net's channels are the program's, in order
 abbrev pub HasChannels : NetValue → TypedProgram → Type 0
@@ -49,8 +51,10 @@ pub record CarriesReset (net : NetValue) (p : TypedProgram) : Type 0 where
   pub runs : (script : List OfferValue) → IsScript p.channels script
       → (values : List Bool) → IsPowered net values
       → (moves : List ℕ) → IsRun net script (begin_at net values) moves
-      → IsCarrying net p script values (moves_since_reset net.reset moves) moves × IsOnceEach (until_reset net.reset moves)
+      → IsCarrying net p script values (moves_since_reset net.reset moves) moves
+          × IsOnceEach (until_reset net.reset moves)
 
 -- what reset is for: a net that carries a program still does so with a reset node, from every power-up state
 abbrev pub ResetCarries : NetValue → TypedProgram → Type 0
-ResetCarries net p = Carries net p → IsNet net → net.reset ≡ None → length net.first ≤ 65536 → All (λ (name : List ℕ). name ≢ codes "reset") net.names → CarriesReset (reset_of net) p
+ResetCarries net p = Carries net p → IsNet net → net.reset ≡ None → length net.first ≤ 65536 →
+    All (λ (name : List ℕ). name ≢ codes "reset") net.names → CarriesReset (reset_of net) p

@@ -28,7 +28,8 @@ CarriesPrefix net p = OfEachRun net p (λ script moves. IsFollowing (after net (
 -- at rest it has passed all of it, and the program goes no further
 abbrev pub CarriesRest : NetValue → TypedProgram → Type 0
 CarriesRest net p =
-    OfEachRun net p (λ script moves. IsAtRest net script (after net (begin_at net net.first) moves) → IsSettled (after net (begin_at net net.first) moves) (rounds p script (length moves)))
+    OfEachRun net p (λ script moves. IsAtRest net script (after net (begin_at net net.first) moves) →
+        IsSettled (after net (begin_at net net.first) moves) (rounds p script (length moves)))
 
 pub record HasPoints (net : NetValue) (p : TypedProgram) : Type 0 where
   pub channels : HasChannels net p

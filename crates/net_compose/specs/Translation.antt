@@ -43,8 +43,8 @@ abbrev pub q_rules : (request child_answer from : ℕ) → List NodeRules
 q_rules request child_answer from =
     q_child request (from + 1) ∷ q_latch request child_answer ∷ q_next (from + 1) child_answer ∷ []
 
--- An assignment to a variable that its own expression reads goes through a hidden variable h of its own: h := e, and then
--- x := h, one after the other.
+-- An assignment to a variable that its own expression reads goes through a hidden variable h of its own: h := e, and
+-- then x := h, one after the other.
 pub record Through : Type 0 where
   pub width : ℕ
   pub block : ℕ  -- h
@@ -219,8 +219,8 @@ hidden_high p s from = []
 abbrev pub in_body : {A : Type 0} → TypedProgram → Sites A → List A
 in_body p site = sites_in p site p.body (body_from p)
 
--- The wires of a channel. The environment moves the rails of an `in` channel and the acknowledge of an `out` channel; all
--- others merge what the sites do.
+-- The wires of a channel. The environment moves the rails of an `in` channel and the acknowledge of an `out` channel;
+-- all others merge what the sites do.
 abbrev pub rail_rules : (sites : List (List Pair)) → (place width : ℕ) → List NodeRules
 rail_rules sites place zero = []
 rail_rules sites place (suc n) = merged_true sites place ∷ merged_false sites place ∷ rail_rules sites (suc place) n
@@ -247,10 +247,12 @@ abbrev pub all_rules : TypedProgram → List NodeRules
 all_rules p =
     no_rules ∷ q_next (root_latch p) (body_answer p)
     ∷ (channels_rules p 0 p.channels ++ (vars_rules p 0 p.vars
-    ++ (q_child go_node (root_latch p) ∷ q_latch go_node (body_answer p) ∷ rules_of p p.body (root_request p) (body_from p))))
+    ++ (q_child go_node (root_latch p) ∷ q_latch go_node (body_answer p)
+        ∷ rules_of p p.body (root_request p) (body_from p))))
 
 abbrev pub composed : TypedProgram → RulesValue
-composed p = record { up = map (λ (r : NodeRules). r.up) (all_rules p); down = map (λ (r : NodeRules). r.down) (all_rules p) }
+composed p = record { up = map (λ (r : NodeRules). r.up) (all_rules p); down =
+    map (λ (r : NodeRules). r.down) (all_rules p) }
 
 -- at first all nodes are low but one rail of each bit of each variable, declared or hidden
 abbrev pub vars_high : TypedProgram → (x : ℕ) → List Var → List ℕ
@@ -258,12 +260,14 @@ vars_high p x [] = []
 vars_high p x (v ∷ vs) = high_first v.width v.first (var_from p x) ++ vars_high p (suc x) vs
 
 abbrev pub first_values : TypedProgram → List Bool
-first_values p = fold (λ values node. slice_set values node true) (replicate (nodes_of p) false) (vars_high p 0 p.vars ++ in_body p (hidden_high p))
+first_values p = fold (λ values node. slice_set values node true) (replicate (nodes_of p) false) (vars_high p 0 p.vars
+    ++ in_body p (hidden_high p))
 
 -- the channels with their wires, from a number on
 abbrev pub wires_from : TypedProgram → (k : ℕ) → List Channel → List Wires
 wires_from p k [] = []
-wires_from p k (c ∷ cs) = record { channel = c; rails = rails_of (rails_at p k); ack = ack_at p k } ∷ wires_from p (suc k) cs
+wires_from p k (c ∷ cs) = record { channel = c; rails = rails_of (rails_at p k); ack = ack_at p k }
+    ∷ wires_from p (suc k) cs
 
 -- the net of the program
 abbrev pub translation : TypedProgram → NetValue

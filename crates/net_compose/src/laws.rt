@@ -23,8 +23,8 @@ use chp_meaning::{
 use circuit_places::circuits_carry;
 use reset_runs::reset_runs;
 
-/// Law: the net of each typed program that meets the sharing rule carries it, whatever it is made of: skip, sends of any
-/// expression, receives, assignments, also those that read their own target, sequences, parallel compositions,
+/// Law: the net of each typed program that meets the sharing rule carries it, whatever it is made of: skip, sends of
+/// any expression, receives, assignments, also those that read their own target, sequences, parallel compositions,
 /// selections, guarded repetitions and loops that go on for ever, on `in`, `out` and internal channels; any number of
 /// sites at each end of a channel and of a variable, in whatever branches, of any width. In every run of the net, under
 /// every script and in whatever order the nodes switch, the three points hold that `carries_safe`, `carries_prefix` and
@@ -41,8 +41,8 @@ pub fn carries()
     circuits_carry();
 }
 
-/// Law: the net of each such program is free of hazards. In every run no enabled move is taken away (stability), no node
-/// is pulled both ways (non-interference), and no channel leaves its four phases.
+/// Law: the net of each such program is free of hazards. In every run no enabled move is taken away (stability), no
+/// node is pulled both ways (non-interference), and no channel leaves its four phases.
 pub fn carries_safe()
     ensures { (p : TypedProgram) → IsTranslated p → CarriesSafe (translation p) p }
 {
@@ -50,8 +50,8 @@ pub fn carries_safe()
     three_points();
 }
 
-/// Law: what has passed on a channel of the net of each such program after some moves is a front of what has passed there
-/// after as many rounds of the program.
+/// Law: what has passed on a channel of the net of each such program after some moves is a front of what has passed
+/// there after as many rounds of the program.
 pub fn carries_prefix()
     ensures { (p : TypedProgram) → IsTranslated p → CarriesPrefix (translation p) p }
 {
@@ -74,8 +74,8 @@ pub fn three_points()
     ensures { (net : NetValue) (p : TypedProgram) → Carries net p ↔ HasPoints net p }
 {}
 
-/// Law: the net of a typed program has a name, a first value and two guards for each node that its layout counts, and no
-/// more.
+/// Law: the net of a typed program has a name, a first value and two guards for each node that its layout counts, and
+/// no more.
 pub fn all_counted()
     ensures { (p : TypedProgram) → IsTyped p.channels p.vars p.body → IsOfSize (translation p) (nodes_of p) }
 {
@@ -84,21 +84,22 @@ pub fn all_counted()
     cell_parallel::tree_counted();
 }
 
-/// Law: a net without a reset node that carries a program still does so with one, from every power-up state: until reset
-/// falls each node moves once at most, and it falls only when all nodes have their first values; then the net goes on as
-/// it does without it.
+/// Law: a net without a reset node that carries a program still does so with one, from every power-up state: until
+/// reset falls each node moves once at most, and it falls only when all nodes have their first values; then the net
+/// goes on as it does without it.
 pub fn carries_reset()
     ensures { (net : NetValue) (p : TypedProgram) → ResetCarries net p }
 {
     reset_runs();
 }
 
-/// Law: the net of a typed program of at most 65,536 nodes, whose guards speak of its own nodes alone, is a net that a rule
-/// file can hold: each name is the name of a node and no two are alike, the wires of its channels stand where their names
-/// say and are low at first, those of the environment have no rules, no term is empty, and there are at most 64 literals for
-/// each node.
+/// Law: the net of a typed program of at most 65,536 nodes, whose guards speak of its own nodes alone, is a net that a
+/// rule file can hold: each name is the name of a node and no two are alike, the wires of its channels stand where
+/// their names say and are low at first, those of the environment have no rules, no term is empty, and there are at
+/// most 64 literals for each node.
 pub fn nets_hold()
-    ensures { (p : TypedProgram) → IsTyped p.channels p.vars p.body → nodes_of p ≤ 65536 → IsRules (composed p) → IsNet (translation p) }
+    ensures { (p : TypedProgram) → IsTyped p.channels p.vars p.body → nodes_of p ≤ 65536 → IsRules (composed p) →
+        IsNet (translation p) }
 {
     function_blocks::laws::bits_counted();
     function_blocks::laws::rules_counted();

@@ -72,7 +72,8 @@ fn add_node(lists: &mut [Vec<u32>], number: u32, node: u32) -> Result<(), AllocE
 /// Appends a site to its list.
 fn add_site(sorted: &mut Sorted, site: Site) -> Result<(), AllocError>
     requires taken { length sorted.old.taken.items ≡ length sorted.old.sent.items }
-    requires number { IsDeclaredSite (length sorted.old.sent.items) (length sorted.old.written.items) (site_value site) }
+    requires number { IsDeclaredSite (length sorted.old.sent.items) (length sorted.old.written.items)
+        (site_value site) }
     ensures sent { OnOk result ((k : ℕ) → rails_listed sorted.new.sent.items k
         ≡ rails_listed sorted.old.sent.items k ++ sent_on k (site_value site)) }
     ensures taken { OnOk result ((k : ℕ) → nodes_listed sorted.new.taken.items k

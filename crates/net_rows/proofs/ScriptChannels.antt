@@ -25,7 +25,8 @@ pub script_distinct : (n : NetValue) → IsNet n → AllPairs (λ (a b : Channel
 script_distinct n net = pairs_mapped (λ (w : Wires). w.channel) (λ (a b : Channel). a.name ≢ b.name) n.channels net.channels_distinct
 
 pub script_wide : (n : NetValue) → IsNet n → All (λ (c : Channel). (1 ≤ c.width) × (c.width ≤ 64)) (channels_of n)
-script_wide n net = All-map (λ (c : Channel). (1 ≤ c.width) × (c.width ≤ 64)) (λ (w : Wires). w.channel) n.channels (λ k d within. let c = net.channels k d within in (c.some, c.most))
+script_wide n net = All-map (λ (c : Channel). (1 ≤ c.width) × (c.width ≤ 64)) (λ (w : Wires). w.channel) n.channels (λ k d within. let c =
+    net.channels k d within in (c.some, c.most))
 
 -- one answer for each node
 pub counted : (test : ℕ → Bool) (n : ℕ) → length (map test (range_with_len 0 n)) ≡ n

@@ -16,7 +16,8 @@ use Rattle.env_script.specs.Hazards.{least_below, hazard_of}
 -- the moves of at most so many, each at the least node
 abbrev lowest : ℕ → NetValue → List OfferValue → RunState → List ℕ
 lowest zero net script st = []
-lowest (suc most) net script st = option_map_or (λ n. n ∷ lowest most net script (moved net st n)) (least_below (length net.first) (move_enabled net script st)) []
+lowest (suc most) net script st = option_map_or (λ n. n ∷ lowest most net script (moved net st n)) (least_below (length net.first) (move_enabled net script st))
+    []
 
 abbrev net_with : ℕ → List GuardValue → List GuardValue → List Wires → NetValue
 net_with count up down channels = record { names = []; first = replicate count false; up = up; down = down; channels = channels; reset = None }
@@ -52,7 +53,8 @@ wires = record { channel = record { name = []; kind = Out; width = 1 }; rails = 
 
 abbrev sends : NetValue
 sends = net_with 10
-    ([] ∷ two (is_high 6) (is_low 7) ∷ one (is_high 8) ∷ one (is_high 9) ∷ [] ∷ two (is_high 0) (is_low 6) ∷ one (is_high 7) ∷ two (is_high 5) (is_high 4) ∷ one (is_high 5) ∷ [] ∷ [])
+    ([] ∷ two (is_high 6) (is_low 7) ∷ one (is_high 8) ∷ one (is_high 9) ∷ [] ∷ two (is_high 0) (is_low 6) ∷ one (is_high 7) ∷ two (is_high 5) (is_high 4)
+        ∷ one (is_high 5) ∷ [] ∷ [])
     ([] ∷ one (is_low 6) ∷ one (is_low 8) ∷ one (is_low 9) ∷ [] ∷ one (is_high 6) ∷ one (is_low 0) ∷ one (is_low 4) ∷ one (is_low 5) ∷ [] ∷ [])
     (wires ∷ [])
 
@@ -100,7 +102,8 @@ doubled_history = refl
 
 -- an `in` channel of two bits brings 2 and then nothing
 abbrev brings : NetValue
-brings = net_with 7 ([] ∷ [] ∷ [] ∷ [] ∷ [] ∷ [] ∷ [] ∷ []) ([] ∷ [] ∷ [] ∷ [] ∷ [] ∷ [] ∷ [] ∷ []) (record { channel = record { name = []; kind = In; width = 2 }; rails = 2 ∷ 3 ∷ 4 ∷ 5 ∷ []; ack = 6 } ∷ [])
+brings = net_with 7 ([] ∷ [] ∷ [] ∷ [] ∷ [] ∷ [] ∷ [] ∷ []) ([] ∷ [] ∷ [] ∷ [] ∷ [] ∷ [] ∷ [] ∷ [])
+    (record { channel = record { name = []; kind = In; width = 2 }; rails = 2 ∷ 3 ∷ 4 ∷ 5 ∷ []; ack = 6 } ∷ [])
 
 brings_run : lowest 9 brings (gives (2 ∷ []) ∷ []) (start_of brings) ≡ 0 ∷ 3 ∷ 4 ∷ []
 brings_run = refl
@@ -119,7 +122,8 @@ abbrev resets : NetValue
 resets = record {
   names = [];
   first = false ∷ false ∷ false ∷ false ∷ false ∷ true ∷ [];
-  up = [] ∷ three (is_high 3) (is_low 4) (is_low 5) ∷ three (is_high 0) (is_low 3) (is_low 5) ∷ two (is_high 4) (is_low 5) ∷ two (is_high 2) (is_low 5) ∷ [] ∷ [];
+  up = [] ∷ three (is_high 3) (is_low 4) (is_low 5) ∷ three (is_high 0) (is_low 3) (is_low 5) ∷ two (is_high 4) (is_low 5) ∷ two (is_high 2) (is_low 5) ∷ []
+      ∷ [];
   down = [] ∷ either (is_low 3) (is_high 5) ∷ either (is_high 3) (is_high 5) ∷ either (is_low 0) (is_high 5) ∷ either (is_low 2) (is_high 5) ∷ [] ∷ [];
   channels = [];
   reset = Some 5;

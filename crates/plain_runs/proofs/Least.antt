@@ -34,14 +34,17 @@ pub least_agrees : (count : ℕ) (p q : ℕ → Bool) → ((k : ℕ) → k < cou
 least_agrees zero p q agree = refl
 least_agrees (suc n) p q agree = rw (least_agrees n p q (λ k h. agree k (omega arith)), agree n (omega arith)) refl
 
-channels_agree : (v : ℕ → Bool) (script : ℕ → OfferValue) (d e : ℕ → ℕ) → ((k : ℕ) → d k ≡ e k) → (c : ℕ) (ws : List Wires) (n : ℕ) → channels_move v script d c ws n ≡ channels_move v script e c ws n
+channels_agree : (v : ℕ → Bool) (script : ℕ → OfferValue) (d e : ℕ → ℕ) → ((k : ℕ) → d k ≡ e k) → (c : ℕ) (ws : List Wires) (n : ℕ) →
+    channels_move v script d c ws n ≡ channels_move v script e c ws n
 channels_agree v script d e agree c [] n = refl
 channels_agree v script d e agree c (w ∷ ws) n = rw (agree c, channels_agree v script d e agree (suc c) ws n) refl
 
 -- the environment looks at each channel's count alone
-pub env_agrees : (net : NetValue) (script : List OfferValue) (d e : ℕ → ℕ) (v : ℕ → Bool) (n : ℕ) → ((k : ℕ) → d k ≡ e k) → env_enabled net script d v n ≡ env_enabled net script e v n
+pub env_agrees : (net : NetValue) (script : List OfferValue) (d e : ℕ → ℕ) (v : ℕ → Bool) (n : ℕ) → ((k : ℕ) → d k ≡ e k) →
+    env_enabled net script d v n ≡ env_enabled net script e v n
 env_agrees net script d e v n agree =
-    ap (λ b. if in_reset net.reset v then is_reset net.reset n && rules_rest net v else raises_go v n || b) (channels_agree v (offer_at script) d e agree 0 net.channels n)
+    ap (λ b. if in_reset net.reset v then is_reset net.reset n && rules_rest net v else raises_go v n || b)
+        (channels_agree v (offer_at script) d e agree 0 net.channels n)
 
 pub counts_are : (hs : List (List ℕ)) (k : ℕ) → slice_index (map (λ (h : List ℕ). length h) hs) k ≡ completed hs k
 counts_are [] zero = refl
@@ -50,13 +53,18 @@ counts_are (h ∷ hs) zero = refl
 counts_are (h ∷ hs) (suc k) = counts_are hs k
 
 -- the histories of the channels before c are noted, and those of the others are still to be
-pub noted_more : (v : ℕ → Bool) (n c : ℕ) (ws : List Wires) (w : Wires) (hs : List (List ℕ)) (h : List ℕ) → c < length ws → c < length hs → w ≡ get_or ws c w → h ≡ with_value (completes v w n) (get_or hs c []) → take (c + 1) (set hs c h) ++ with_values v n (drop (c + 1) ws) (drop (c + 1) (set hs c h)) ≡ take c hs ++ with_values v n (drop c ws) (drop c hs)
+pub noted_more : (v : ℕ → Bool) (n c : ℕ) (ws : List Wires) (w : Wires) (hs : List (List ℕ)) (h : List ℕ) → c < length ws → c < length hs → w ≡ get_or ws c w →
+    h ≡ with_value (completes v w n) (get_or hs c []) → take (c + 1) (set hs c h) ++ with_values v n (drop (c + 1) ws) (drop (c + 1) (set hs c h)) ≡ take c hs
+    ++ with_values v n (drop c ws) (drop c hs)
 noted_more v n c ws w hs h here_w here_h is noted =
     let less : c < c + 1 = omega arith in
-    rw (take_more_set hs c h here_h, drop-set-lt (c + 1) hs c h less, drop_more ws c w here_w, drop_more hs c [] here_h, ← is, ← noted) (append_assoc (take c hs) (h ∷ []) _)
+    rw (take_more_set hs c h here_h, drop-set-lt (c + 1) hs c h less, drop_more ws c w here_w, drop_more hs c [] here_h, ← is,
+        ← noted) (append_assoc (take c hs) (h ∷ []) _)
 
 -- an enabled move by its two tests
-pub enabled_is : (net : NetValue) (script : List OfferValue) (values : List Bool) (hs : List (List ℕ)) (done : List ℕ) (n : ℕ) (rule env : Bool) → done ≡ map (λ (h : List ℕ). length h) hs → rule ≡ rule_enabled net (high values) n → rule ≡ false → env ≡ env_enabled net script (slice_index done) (high values) n → env ≡ move_enabled net script (record { values = values; histories = hs }) n
+pub enabled_is : (net : NetValue) (script : List OfferValue) (values : List Bool) (hs : List (List ℕ)) (done : List ℕ) (n : ℕ) (rule env : Bool) →
+    done ≡ map (λ (h : List ℕ). length h) hs → rule ≡ rule_enabled net (high values) n → rule ≡ false →
+    env ≡ env_enabled net script (slice_index done) (high values) n → env ≡ move_enabled net script (record { values = values; histories = hs }) n
 enabled_is net script values hs done n rule env counted by_rule none by_env =
     let low : rule_enabled net (high values) n ≡ false = sym by_rule ∙ none in
     rw (low, by_env) (env_agrees net script (slice_index done) (completed hs) (high values) n (λ k. rw counted (counts_are hs k)))
@@ -76,28 +84,43 @@ count_of f count xs is = ap length is ∙ (length-map (range_with_len 0 count) f
 at_place : (f : ℕ → Bool) (count k : ℕ) (xs : List Bool) → xs ≡ map f (range_with_len 0 count) → k < count → get_or xs k false ≡ f k
 at_place f count k xs is within = rw is (get_or-map-range_with_len f 0 count k k false within (omega arith))
 
-lost_is : (net : NetValue) (script : List OfferValue) (st : RunState) (n : ℕ) (was now : List Bool) → was ≡ map (move_enabled net script st) (range_with_len 0 (length net.first)) → now ≡ map (move_enabled net script (moved net st n)) (range_with_len 0 (length net.first)) → least_below (length was) (λ m. lost (get_or was m false) (get_or now m false) m n) ≡ least_below (length net.first) (takes_away net script st n)
+lost_is : (net : NetValue) (script : List OfferValue) (st : RunState) (n : ℕ) (was now : List Bool) →
+    was ≡ map (move_enabled net script st) (range_with_len 0 (length net.first)) →
+    now ≡ map (move_enabled net script (moved net st n)) (range_with_len 0 (length net.first)) →
+    least_below (length was) (λ m. lost (get_or was m false) (get_or now m false) m n) ≡ least_below (length net.first) (takes_away net script st n)
 lost_is net script st n was now before after =
-    rw (count_of (move_enabled net script st) (length net.first) was before) (least_agrees (length net.first) _ _ (λ k h. rw (at_place (move_enabled net script st) (length net.first) k was before h, at_place (move_enabled net script (moved net st n)) (length net.first) k now after h) refl))
+    rw (count_of (move_enabled net script st) (length net.first) was before)
+        (least_agrees (length net.first) _ _ (λ k h. rw (at_place (move_enabled net script st) (length net.first) k was before h,
+        at_place (move_enabled net script (moved net st n)) (length net.first) k now after h) refl))
 
-worst_is : (both taken broken : Option ℕ) → worst both taken broken ≡ or_else (option_map BothWays both) (or_else (option_map Unstable taken) (option_map Protocol broken))
+worst_is : (both taken broken : Option ℕ) →
+    worst both taken broken ≡ or_else (option_map BothWays both) (or_else (option_map Unstable taken) (option_map Protocol broken))
 worst_is (Some k) taken broken = refl
 worst_is None (Some k) broken = refl
 worst_is None None (Some c) = refl
 worst_is None None None = refl
 
-pub hazard_is : (old : RunValue) (net : NetValue) (state : List Bool) (n : ℕ) (was now : List Bool) (broken : Option ℕ) → net ≡ old.net → state ≡ (moved old.net old.now n).values → was ≡ map (move_enabled old.net old.script old.now) (range_with_len 0 (length old.net.first)) → now ≡ map (move_enabled old.net old.script (moved old.net old.now n)) (range_with_len 0 (length old.net.first)) → broken ≡ phase_fault old.net (high old.now.values) n → worst (least_below (length net.first) (both_ways net (high state))) (least_below (length was) (λ m. lost (get_or was m false) (get_or now m false) m n)) broken ≡ hazard_of old.net old.script old.now n
+pub hazard_is : (old : RunValue) (net : NetValue) (state : List Bool) (n : ℕ) (was now : List Bool) (broken : Option ℕ) → net ≡ old.net →
+    state ≡ (moved old.net old.now n).values → was ≡ map (move_enabled old.net old.script old.now) (range_with_len 0 (length old.net.first)) →
+    now ≡ map (move_enabled old.net old.script (moved old.net old.now n)) (range_with_len 0 (length old.net.first)) →
+    broken ≡ phase_fault old.net (high old.now.values) n →
+    worst (least_below (length net.first) (both_ways net (high state))) (least_below (length was) (λ m. lost (get_or was m false) (get_or now m false) m n))
+    broken ≡ hazard_of old.net old.script old.now n
 hazard_is old net state n was now broken same_net same_state before after keeps =
     rw (same_net, same_state, lost_is old.net old.script old.now n was now before after, keeps) (worst_is _ _ _)
 
-pub same_count : (f g : ℕ → Bool) (count : ℕ) (xs ys : List Bool) → xs ≡ map f (range_with_len 0 count) → ys ≡ map g (range_with_len 0 count) → length ys ≡ length xs
+pub same_count : (f g : ℕ → Bool) (count : ℕ) (xs ys : List Bool) → xs ≡ map f (range_with_len 0 count) → ys ≡ map g (range_with_len 0 count) →
+    length ys ≡ length xs
 same_count f g count xs ys one two = count_of g count ys two ∙ sym (count_of f count xs one)
 
-pub count_after : (net : NetValue) (v : ℕ → Bool) (n : ℕ) (ws : List Wires) (hs : List (List ℕ)) → length hs ≡ length ws → length (with_values v n ws hs) ≡ length hs
+pub count_after : (net : NetValue) (v : ℕ → Bool) (n : ℕ) (ws : List Wires) (hs : List (List ℕ)) → length hs ≡ length ws →
+    length (with_values v n ws hs) ≡ length hs
 count_after net v n [] hs same = refl
 count_after net v n (w ∷ ws) [] same = refl
 count_after net v n (w ∷ ws) (h ∷ hs) same = ap suc (count_after net v n ws hs (omega arith))
 
 -- the nodes before and behind a move are as many
-pub counts_fit : (old : RunValue) (net : NetValue) (was now : List Bool) → net ≡ old.net → was ≡ map (move_enabled old.net old.script old.now) (range_with_len 0 (length old.net.first)) → length was ≡ length net.first
-counts_fit old net was now same before = count_of (move_enabled old.net old.script old.now) (length old.net.first) was before ∙ ap (λ (x : NetValue). length x.first) (sym same)
+pub counts_fit : (old : RunValue) (net : NetValue) (was now : List Bool) → net ≡ old.net →
+    was ≡ map (move_enabled old.net old.script old.now) (range_with_len 0 (length old.net.first)) → length was ≡ length net.first
+counts_fit old net was now same before = count_of (move_enabled old.net old.script old.now) (length old.net.first) was before
+    ∙ ap (λ (x : NetValue). length x.first) (sym same)

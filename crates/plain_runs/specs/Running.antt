@@ -13,7 +13,8 @@ pub record RunValue : Type 0 where
   pub now : RunState
 
 abbrev pub running : NetValue → List OfferValue → List Bool → List (List ℕ) → RunValue
-running net script values histories = record { net = net; script = script; now = record { values = values; histories = histories } }
+running net script values histories =
+    record { net = net; script = script; now = record { values = values; histories = histories } }
 
 pub record IsRunning (r : RunValue) : Type 0 where
   pub script : IsScript (channels_of r.net) r.script

@@ -104,7 +104,8 @@ fn note_all(
     requires wired { All (IsWired (length state.now)) channels.now }
     requires each { length histories.old.items ≡ length channels.now }
     requires node { node < length state.now }
-    ensures noted { OnOk result (histories.new.items ≡ with_values (high state.now) node channels.now histories.old.items) }
+    ensures noted { OnOk result (histories.new.items ≡ with_values (high state.now) node channels.now
+        histories.old.items) }
     ensures count { length histories.new.items ≡ length histories.old.items }
 {
     for chan in 0..channels.len() {
@@ -123,7 +124,8 @@ fn is_lost(was: bool, now: bool, other: u32, node: u32) -> bool
 fn first_lost(was: &[bool], now: &[bool], node: u32) -> Option<u32>
     requires nodes { length now.now ≡ length was.now }
     requires few { length was.now < 2 ^ 32 }
-    ensures { result ≡ least_below (length was.now) (λ m. lost (slice_index_or was.now m false) (slice_index_or now.now m false) m node) }
+    ensures { result ≡ least_below (length was.now)
+        (λ m. lost (slice_index_or was.now m false) (slice_index_or now.now m false) m node) }
 {
     for other in 0..was.len() as u32 {
         if is_lost(was[other as usize], now[other as usize], other, node) {
@@ -171,7 +173,9 @@ fn hazard(
     requires state { length state.now ≡ length net.now.first }
     requires before { length before.now ≡ length net.now.first }
     requires after { length after.now ≡ length before.now }
-    ensures { result ≡ worst (least_below (length net.now.first) (both_ways net.now (high state.now))) (least_below (length before.now) (λ m. lost (slice_index_or before.now m false) (slice_index_or after.now m false) m node)) broken }
+    ensures { result ≡ worst (least_below (length net.now.first) (both_ways net.now (high state.now)))
+        (least_below (length before.now)
+        (λ m. lost (slice_index_or before.now m false) (slice_index_or after.now m false) m node)) broken }
 {
     let _nodes = net.first();
     worst(
@@ -211,7 +215,8 @@ impl Run {
 
     /// Whether each node has an enabled move.
     pub fn enabled_nodes(&self, alloc: Global) -> Result<Vec<bool>, AllocError>
-        ensures { IfOk result (λ v. v.items ≡ map (move_enabled self.now.net self.now.script self.now.now) (range_with_len 0 (length self.now.net.first))) }
+        ensures { IfOk result (λ v. v.items ≡ map (move_enabled self.now.net self.now.script self.now.now)
+            (range_with_len 0 (length self.now.net.first))) }
     {
         let done = counts(alloc, &self.histories)?;
         let mut moves = Vec::new(alloc);

@@ -35,7 +35,8 @@ noted_twice false false r x y z first second = second ∙ first
 pub noted_more : (p q : ℕ → Bool) (r : ℕ) (xs ys zs : List (List ℕ)) → IsNoted p r xs ys → IsNoted q r ys zs → IsNoted (λ n. p n || q n) r xs zs
 noted_more p q r xs ys zs first second = record {
   count = second.count ∙ first.count;
-  each = λ n within. noted_twice (p n) (q n) r (get_or xs n []) (get_or ys n []) (get_or zs n []) (first.each n within) (second.each n (omega (arith, first.count)));
+  each = λ n within. noted_twice (p n) (q n) r (get_or xs n []) (get_or ys n []) (get_or zs n []) (first.each n within)
+      (second.each n (omega (arith, first.count)));
 }
 
 pub noted_as : (p q : ℕ → Bool) (r : ℕ) (xs ys : List (List ℕ)) → ((n : ℕ) → q n ≡ p n) → IsNoted p r xs ys → IsNoted q r xs ys
@@ -44,14 +45,18 @@ noted_as p q r xs ys agree noted = record {
   each = λ n within. rw (agree n) (noted.each n within);
 }
 
-pub noted_term : (r i : ℕ) (terms : List (List Literal)) (term : List Literal) (xs ys zs : List (List ℕ)) → i < length terms → term ≡ get_or terms i term → IsNoted (λ n. guard_names n (take i terms)) r xs ys → IsNoted (λ n. term_names n term) r ys zs → IsNoted (λ n. guard_names n (take (i + 1) terms)) r xs zs
+pub noted_term : (r i : ℕ) (terms : List (List Literal)) (term : List Literal) (xs ys zs : List (List ℕ)) → i < length terms → term ≡ get_or terms i term →
+    IsNoted (λ n. guard_names n (take i terms)) r xs ys → IsNoted (λ n. term_names n term) r ys zs → IsNoted (λ n. guard_names n (take (i + 1) terms)) r xs zs
 noted_term r i terms term xs ys zs within is before now =
-    noted_as (λ n. guard_names n (take i terms) || term_names n term) (λ n. guard_names n (take (i + 1) terms)) r xs zs (λ n. list_any_more (term_names n) terms i term within ∙ ap (λ t. guard_names n (take i terms) || term_names n t) (sym is)) (noted_more (λ n. guard_names n (take i terms)) (λ n. term_names n term) r xs ys zs before now)
+    noted_as (λ n. guard_names n (take i terms) || term_names n term) (λ n. guard_names n (take (i + 1) terms)) r xs zs
+        (λ n. list_any_more (term_names n) terms i term within ∙ ap (λ t. guard_names n (take i terms) || term_names n t) (sym is))
+        (noted_more (λ n. guard_names n (take i terms)) (λ n. term_names n term) r xs ys zs before now)
 
 -- one more reader
 
 range_more : (n : ℕ) → range_with_len 0 (n + 1) ≡ range_with_len 0 n ++ n ∷ []
-range_more n = sym (map-id (range_with_len 0 (n + 1))) ∙ map-range_with_len_more (λ k. k) 0 n n (omega arith) ∙ ap (λ xs. xs ++ n ∷ []) (map-id (range_with_len 0 n))
+range_more n = sym (map-id (range_with_len 0 (n + 1))) ∙ map-range_with_len_more (λ k. k) 0 n n (omega arith)
+    ∙ ap (λ xs. xs ++ n ∷ []) (map-id (range_with_len 0 n))
 
 readers_more : (net : NetValue) (m node : ℕ) → readers_below net (m + 1) node ≡ readers_below net m node ++ cond (reads net node m) (m ∷ []) []
 readers_more net m node = ap (filter (reads net node)) (range_more m) ∙ filter-append (reads net node) (range_with_len 0 m) (m ∷ [])
@@ -73,16 +78,19 @@ one_reader true m xs ys fresh now = now ∙ rw fresh refl
 one_reader false m xs ys fresh now = now ∙ sym (append-nil xs)
 
 -- both guards of a reader are noted
-pub noted_reader : (net : NetValue) (m : ℕ) (xs ys : List (List ℕ)) → ((n : ℕ) → n < length xs → get_or xs n [] ≡ readers_below net m n) → IsNoted (λ n. reads net n m) m xs ys → (n : ℕ) → n < length xs → get_or ys n [] ≡ readers_below net (m + 1) n
+pub noted_reader : (net : NetValue) (m : ℕ) (xs ys : List (List ℕ)) → ((n : ℕ) → n < length xs → get_or xs n [] ≡ readers_below net m n) →
+    IsNoted (λ n. reads net n m) m xs ys → (n : ℕ) → n < length xs → get_or ys n [] ≡ readers_below net (m + 1) n
 noted_reader net m xs ys before noted n within =
-    one_reader (reads net n m) m (readers_below net m n) (get_or ys n []) (readers_not_last net m n) (rw (← before n within) (noted.each n within)) ∙ sym (readers_more net m n)
+    one_reader (reads net n m) m (readers_below net m n) (get_or ys n []) (readers_not_last net m n) (rw (← before n within) (noted.each n within))
+        ∙ sym (readers_more net m n)
 
 -- firing a node that a guard doesn't name
 
 fired_other : (state : List Bool) (moved node : ℕ) → (node == moved) ≡ false → high (fired state moved) node ≡ high state node
 fired_other state moved node apart = get_or-set_other state moved node _ false (eqb-false node moved apart)
 
-literal_same : (state : List Bool) (moved : ℕ) (l : Literal) → (l.node == moved) ≡ false → literal_holds (high (fired state moved)) l ≡ literal_holds (high state) l
+literal_same : (state : List Bool) (moved : ℕ) (l : Literal) → (l.node == moved) ≡ false →
+    literal_holds (high (fired state moved)) l ≡ literal_holds (high state) l
 literal_same state moved l apart = ap (λ v. cond l.high v (not v)) (fired_other state moved l.node apart)
 
 both_same : (a b c d : Bool) → a ≡ c → b ≡ d → (a && b) ≡ (c && d)
@@ -91,13 +99,15 @@ both_same a b c d x y = ap (λ e. e && b) x ∙ ap (λ e. c && e) y
 either_same : (a b c d : Bool) → a ≡ c → b ≡ d → (a || b) ≡ (c || d)
 either_same a b c d x y = ap (λ e. e || b) x ∙ ap (λ e. c || e) y
 
-term_same : (state : List Bool) (moved : ℕ) (t : List Literal) → term_names moved t ≡ false → term_holds (high (fired state moved)) t ≡ term_holds (high state) t
+term_same : (state : List Bool) (moved : ℕ) (t : List Literal) → term_names moved t ≡ false →
+    term_holds (high (fired state moved)) t ≡ term_holds (high state) t
 term_same state moved [] apart = refl
 term_same state moved (l ∷ t) apart =
     let parts = or_parts (l.node == moved) (term_names moved t) apart in
     both_same _ _ _ _ (literal_same state moved l parts.0) (term_same state moved t parts.1)
 
-guard_same : (state : List Bool) (moved : ℕ) (g : GuardValue) → guard_names moved g ≡ false → guard_holds (high (fired state moved)) g ≡ guard_holds (high state) g
+guard_same : (state : List Bool) (moved : ℕ) (g : GuardValue) → guard_names moved g ≡ false →
+    guard_holds (high (fired state moved)) g ≡ guard_holds (high state) g
 guard_same state moved [] apart = refl
 guard_same state moved (t ∷ g) apart =
     let parts = or_parts (term_names moved t) (guard_names moved g) apart in
@@ -112,7 +122,8 @@ contains_filter p (y ∷ ys) x passes (suc k) within at = behind (p y) (contains
     behind true c = (suc c.0, omega (arith, c.1), c.2)
     behind false c = c
 
-not_read : (net : NetValue) (moved node : ℕ) → moved < length net.first → node < length net.first → ¬ Contains (slice_index_or (fan_value net) moved []) node → reads net moved node ≡ false
+not_read : (net : NetValue) (moved node : ℕ) → moved < length net.first → node < length net.first → ¬ Contains (slice_index_or (fan_value net) moved []) node →
+    reads net moved node ≡ false
 not_read net moved node within node_within apart = by_test (reads net moved node) refl
   where
     readers : slice_index_or (fan_value net) moved [] ≡ readers_below net (length net.first) moved
@@ -120,11 +131,14 @@ not_read net moved node within node_within apart = by_test (reads net moved node
 
     by_test : (b : Bool) → reads net moved node ≡ b → b ≡ false
     by_test true is =
-        let at : get_or (range_with_len 0 (length net.first)) node node ≡ node = get_or-range_with_len 0 (length net.first) node node node_within ∙ omega arith in
-        absurd (apart (rw readers (contains_filter (reads net moved) (range_with_len 0 (length net.first)) node is node (omega (arith, length-range_with_len 0 (length net.first))) at)))
+        let at : get_or (range_with_len 0 (length net.first)) node node ≡ node = get_or-range_with_len 0 (length net.first) node node node_within
+            ∙ omega arith in
+        absurd (apart (rw readers (contains_filter (reads net moved) (range_with_len 0 (length net.first)) node is node
+            (omega (arith, length-range_with_len 0 (length net.first))) at)))
     by_test false is = refl
 
-pub same_enabled : (net : NetValue) (state : List Bool) (moved node : ℕ) → moved < length net.first → node < length net.first → node ≢ moved → ¬ Contains (slice_index_or (fan_value net) moved []) node → rule_enabled net (high (fired state moved)) node ≡ rule_enabled net (high state) node
+pub same_enabled : (net : NetValue) (state : List Bool) (moved node : ℕ) → moved < length net.first → node < length net.first → node ≢ moved →
+    ¬ Contains (slice_index_or (fan_value net) moved []) node → rule_enabled net (high (fired state moved)) node ≡ rule_enabled net (high state) node
 same_enabled net state moved node within node_within apart unread =
     let parts = or_parts (guard_names moved (up_of net node)) (guard_names moved (down_of net node)) (not_read net moved node within node_within unread) in
     let own : high (fired state moved) node ≡ high state node = fired_other state moved node (ne_eqb node moved apart) in

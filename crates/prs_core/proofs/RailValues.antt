@@ -22,7 +22,9 @@ none_from v (suc k) (t ∷ f ∷ rest) e =
     ap (with_bit (bit_value (v t) (v f))) (none_from v k rest e') ∙ with_bit_none (bit_value (v t) (v f))
 
 -- the pairs from k on are the pair k and those behind it
-pub pair_more : (v : ℕ → Bool) (k : ℕ) (rails : List ℕ) → 2 * k + 1 < length rails → rail_value_of v (drop (2 * k) rails) ≡ with_bit (bit_value (v (get_or rails (2 * k) 0)) (v (get_or rails (2 * k + 1) 0))) (rail_value_of v (drop (2 * (k + 1)) rails))
+pub pair_more : (v : ℕ → Bool) (k : ℕ) (rails : List ℕ) → 2 * k + 1 < length rails →
+    rail_value_of v (drop (2 * k) rails) ≡ with_bit (bit_value (v (get_or rails (2 * k) 0)) (v (get_or rails (2 * k + 1) 0)))
+    (rail_value_of v (drop (2 * (k + 1)) rails))
 pair_more v k rails within =
     let here : 2 * k < length rails = omega arith in
     let next : 2 * (k + 1) ≡ 2 * k + 1 + 1 = omega arith in
@@ -40,11 +42,14 @@ refused true false rest e = absurd (cc e)
 refused false true rest e = absurd (cc e)
 refused false false rest e = refl
 
-pub pair_taken : (v : ℕ → Bool) (k : ℕ) (rails : List ℕ) (one other : Bool) (n : ℕ) → 2 * k + 1 < length rails → one ≡ v (get_or rails (2 * k) 0) → other ≡ v (get_or rails (2 * k + 1) 0) → beq one other ≡ false → rail_value_of v (drop (2 * (k + 1)) rails) ≡ Some n → rail_value_of v (drop (2 * k) rails) ≡ Some (2 * n + bool_byte one)
+pub pair_taken : (v : ℕ → Bool) (k : ℕ) (rails : List ℕ) (one other : Bool) (n : ℕ) → 2 * k + 1 < length rails → one ≡ v (get_or rails (2 * k) 0) →
+    other ≡ v (get_or rails (2 * k + 1) 0) → beq one other ≡ false → rail_value_of v (drop (2 * (k + 1)) rails) ≡ Some n →
+    rail_value_of v (drop (2 * k) rails) ≡ Some (2 * n + bool_byte one)
 pair_taken v k rails one other n within first second apart rest =
     rw (pair_more v k rails within, rest, ← first, ← second) (taken one other n apart)
 
-pub pair_refused : (v : ℕ → Bool) (k : ℕ) (rails : List ℕ) (one other : Bool) → 2 * k + 1 < length rails → one ≡ v (get_or rails (2 * k) 0) → other ≡ v (get_or rails (2 * k + 1) 0) → beq one other ≡ true → rail_value_of v rails ≡ None
+pub pair_refused : (v : ℕ → Bool) (k : ℕ) (rails : List ℕ) (one other : Bool) → 2 * k + 1 < length rails → one ≡ v (get_or rails (2 * k) 0) →
+    other ≡ v (get_or rails (2 * k + 1) 0) → beq one other ≡ true → rail_value_of v rails ≡ None
 pair_refused v k rails one other within first second same =
     none_from v k rails (rw (pair_more v k rails within, ← first, ← second) (refused one other _ same))
 

@@ -61,5 +61,6 @@ at_4 p h a = at_3 (p a) (at_1 (λ a. all_3 (p a)) h a)
 pub at_5 : (p : Bool → Bool → Bool → Bool → Bool → Bool) → all_5 p ≡ true → (a b c d e : Bool) → p a b c d e ≡ true
 at_5 p h a = at_4 (p a) (at_1 (λ a. all_4 (p a)) h a)
 
-pub at_6 : (p : Bool → Bool → Bool → Bool → Bool → Bool → Bool) → all_6 p ≡ true → (a b c d e f : Bool) → p a b c d e f ≡ true
+pub at_6 : (p : Bool → Bool → Bool → Bool → Bool → Bool → Bool) → all_6 p ≡ true → (a b c d e f : Bool) →
+    p a b c d e f ≡ true
 at_6 p h a = at_5 (p a) (at_1 (λ a. all_5 (p a)) h a)

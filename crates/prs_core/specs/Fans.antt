@@ -32,4 +32,6 @@ with_reader reader xs = if ends_in reader xs then xs else xs ++ reader ∷ []
 -- the reader is added to the lists of the nodes that pass
 pub record IsNoted (names : ℕ → Bool) (reader : ℕ) (old new : List (List ℕ)) : Type 0 where
   pub count : length new ≡ length old
-  pub each : (node : ℕ) → node < length old → slice_index_or new node [] ≡ (if names node then with_reader reader (slice_index_or old node []) else slice_index_or old node [])
+  pub each : (node : ℕ) → node < length old →
+      slice_index_or new node [] ≡ (if names node then with_reader reader (slice_index_or old node []) else
+      slice_index_or old node [])

@@ -21,7 +21,8 @@ pub partly_all : (os : List Owned) (a b : RulesValue) → b ≡ with_owned os a 
 partly_all os a b made = record { written = os; among = λ o k. k; made = made }
 
 -- those of a part of the nodes
-pub partly_of : (us os : List Owned) (a b : RulesValue) → ((o : Owned) → Contains us o → Contains os o) → IsPartly us a b → IsPartly os a b
+pub partly_of : (us os : List Owned) (a b : RulesValue) → ((o : Owned) → Contains us o → Contains os o) →
+    IsPartly us a b → IsPartly os a b
 partly_of us os a b within x = record { written = x.written; among = λ o k. within o (x.among o k); made = x.made }
 
 -- some, and then some more
@@ -37,8 +38,10 @@ partly_on os a b c x y = record {
     by o (inr k) = y.among o k
 
 -- some, and then one more, or none
-pub then_one : (os : List Owned) (a b c : RulesValue) (o : Owned) → IsPartly os a b → Contains os o → c ≡ with_rules o.node o.rules b → IsPartly os a c
-then_one os a b c o x own made = partly_on os a b c x (record { written = o ∷ []; among = λ u k. by u (among_cases o [] u k); made = made })
+pub then_one : (os : List Owned) (a b c : RulesValue) (o : Owned) → IsPartly os a b → Contains os o →
+    c ≡ with_rules o.node o.rules b → IsPartly os a c
+then_one os a b c o x own made =
+    partly_on os a b c x (record { written = o ∷ []; among = λ u k. by u (among_cases o [] u k); made = made })
   where
     by : (u : Owned) → (o ≡ u) ⊎ Contains [] u → Contains os u
     by u (inl e) = subst (Contains os) e own
@@ -48,7 +51,10 @@ pub then_none : (os : List Owned) (a b c : RulesValue) → IsPartly os a b → c
 then_none os a b c x same = subst (IsPartly os a) (sym same) x
 
 -- all other nodes keep their guards
-pub partly_others : (os : List Owned) (a b : RulesValue) → IsPartly os a b → (node : ℕ) → IsOther node os → IsAlone a b node
+pub partly_others : (os : List Owned) (a b : RulesValue) → IsPartly os a b → (node : ℕ) → IsOther node os →
+    IsAlone a b node
 partly_others os a b x node other =
-    let apart : IsOther node x.written = λ k d within. All-contains (λ (o : Owned). o.node ≢ node) os _ other (x.among _ (All-contains_itself x.written k d within)) in
+    let apart : IsOther node x.written =
+        λ k d within. All-contains (λ (o : Owned). o.node ≢ node) os _ other
+        (x.among _ (All-contains_itself x.written k d within)) in
     subst (λ (r : RulesValue). IsAlone a r node) (sym x.made) (others_alone node x.written a apart)

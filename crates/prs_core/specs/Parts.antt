@@ -118,16 +118,20 @@ pub data Reached (p : Part) : Moment → Type 0 where
 -- what holds of each moment that is reached
 pub record IsKept (p : Part) (m : Moment) : Type 0 where
   -- each wire at the edge moves only where it is to
-  pub promised : (o : Owned) → Contains p.own o → fires m.value o ≡ true → (w : Wire) → Contains p.promises w → w.node ≡ o.node → may_move m w ≡ true
+  pub promised : (o : Owned) → Contains p.own o → fires m.value o ≡ true → (w : Wire) → Contains p.promises w →
+      w.node ≡ o.node → may_move m w ≡ true
   -- no enabled rule is disabled by another move
-  pub firm : (o : Owned) → Contains p.own o → fires m.value o ≡ true → (node : ℕ) → IsMove p m node → node ≢ o.node → fires (turned m.value node) o ≡ true
+  pub firm : (o : Owned) → Contains p.own o → fires m.value o ≡ true → (node : ℕ) → IsMove p m node → node ≢ o.node →
+      fires (turned m.value node) o ≡ true
   -- no node is pulled both ways
-  pub apart : (o : Owned) → Contains p.own o → (guard_holds m.value o.rules.up && guard_holds m.value o.rules.down) ≡ false
+  pub apart : (o : Owned) → Contains p.own o →
+      (guard_holds m.value o.rules.up && guard_holds m.value o.rules.down) ≡ false
   -- where its requests and answers are low all is as at first
   pub lows : all_low m.value p.ports ≡ true → all_low m.value p.lows ≡ true
   pub bits : all_low m.value p.ports ≡ true → list_all (is_valid m.value) p.bits ≡ true
   -- where it does nothing it waits for a neighbour who may move, or is blocked
-  pub waits : ((o : Owned) → Contains p.own o → fires m.value o ≡ false) → ((w : Wire) × Contains p.allows w × (may_move m w ≡ true)) ⊎ (p.blocked m.value ≡ true)
+  pub waits : ((o : Owned) → Contains p.own o → fires m.value o ≡ false) →
+      ((w : Wire) × Contains p.allows w × (may_move m w ≡ true)) ⊎ (p.blocked m.value ≡ true)
 
 abbrev pub Keeps : Part → Type 0
 Keeps p = (m : Moment) → Reached p m → IsKept p m

@@ -12,7 +12,8 @@ turned_here v node = ap (λ b. if b then not (v node) else v node) (eq-eqb node 
 pub turned_apart : (v : ℕ → Bool) (node k : ℕ) → k ≢ node → turned v node k ≡ v k
 turned_apart v node k apart = ap (λ b. if b then not (v k) else v k) (ne_eqb k node apart)
 
-pub low_apart : (v : ℕ → Bool) (node : ℕ) (ns : List ℕ) → All (λ n. n ≢ node) ns → all_low (turned v node) ns ≡ all_low v ns
+pub low_apart : (v : ℕ → Bool) (node : ℕ) (ns : List ℕ) → All (λ n. n ≢ node) ns →
+    all_low (turned v node) ns ≡ all_low v ns
 low_apart v node [] apart = refl
 low_apart v node (n ∷ ns) apart =
     ap (λ b. not b && all_low (turned v node) ns) (turned_apart v node n (apart zero n (zero-lt-suc _)))
@@ -26,7 +27,8 @@ among_cases x xs y (suc k, within, is) = inr (k, le_of_suc-le-suc within, is)
 pub none_among : {X : Type 0} (y : X) → Contains [] y → ⊥
 none_among y (k, within, is) = not-suc-le-zero within
 
-pub among_mapped : {X Y : Type 0} (f : X → Y) (xs : List X) (y : Y) → Contains (map f xs) y → (x : X) × Contains xs x × (f x ≡ y)
+pub among_mapped : {X Y : Type 0} (f : X → Y) (xs : List X) (y : Y) → Contains (map f xs) y →
+    (x : X) × Contains xs x × (f x ≡ y)
 among_mapped f [] y among = absurd (none_among y among)
 among_mapped f (x ∷ xs) y (zero, within, is) = (x, (zero, zero-lt-suc _, refl), is)
 among_mapped f (x ∷ xs) y (suc k, within, is) =
@@ -45,7 +47,8 @@ pub some_high : (v : ℕ → Bool) (ns : List ℕ) → all_low v ns ≡ false �
 some_high v [] h = absurd (true≢false h)
 some_high v (n ∷ ns) h = one_of v n ns (v n) refl h (some_high v ns)
   where
-    one_of : (v : ℕ → Bool) (n : ℕ) (ns : List ℕ) (b : Bool) → v n ≡ b → all_low v (n ∷ ns) ≡ false → (all_low v ns ≡ false → (k : ℕ) × Contains ns k × (v k ≡ true)) → (k : ℕ) × Contains (n ∷ ns) k × (v k ≡ true)
+    one_of : (v : ℕ → Bool) (n : ℕ) (ns : List ℕ) (b : Bool) → v n ≡ b → all_low v (n ∷ ns) ≡ false →
+        (all_low v ns ≡ false → (k : ℕ) × Contains ns k × (v k ≡ true)) → (k : ℕ) × Contains (n ∷ ns) k × (v k ≡ true)
     one_of v n ns true e h rest = (n, (zero, zero-lt-suc _, refl), e)
     one_of v n ns false e h rest =
         let (k, (at, within, same), is) = rest (sym (ap (λ b. not b && all_low v ns) e) ∙ h) in

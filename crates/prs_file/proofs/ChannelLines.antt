@@ -41,14 +41,18 @@ word_is k name width parts =
     rw (behind_kind k name width, word_length name rest parts) (take_at name (32 ∷ rest) (length name) refl)
 
 -- a line of another channel than the one that its letters tell is no channel's
-pub no_channel : (line : List ℕ) (word : List ℕ) (k : Kind) → k ≡ kind_by_letter line → word ≡ word_behind k line → ((width : ℕ) → 1 ≤ width → width ≤ 64 → line ≡ line_of k word width → ⊥) → (c : Channel) → IsChannelForm c → line ≡ channel_spelling c → ⊥
+pub no_channel : (line : List ℕ) (word : List ℕ) (k : Kind) → k ≡ kind_by_letter line → word ≡ word_behind k line →
+    ((width : ℕ) → 1 ≤ width → width ≤ 64 → line ≡ line_of k word width → ⊥) → (c : Channel) → IsChannelForm c → line ≡ channel_spelling c → ⊥
 no_channel line word k kind_told word_told none c is e =
     let kind : k ≡ c.kind = kind_told ∙ ap kind_by_letter e ∙ kind_is c.kind c.name c.width in
-    let named : word ≡ c.name = word_told ∙ ap (word_behind k) e ∙ ap (λ j. word_behind j (line_of c.kind c.name c.width)) kind ∙ word_is c.kind c.name c.width is.name.parts in
+    let named : word ≡ c.name = word_told ∙ ap (word_behind k) e ∙ ap (λ j. word_behind j (line_of c.kind c.name c.width)) kind
+        ∙ word_is c.kind c.name c.width is.name.parts in
     none c.width is.some is.most (e ∙ ap (λ j. line_of j c.name c.width) (sym kind) ∙ ap (λ n. line_of k n c.width) (sym named))
 
-pub no_channel_name : (line : List ℕ) (word : List ℕ) (k : Kind) → k ≡ kind_by_letter line → word ≡ word_behind k line → (IsName word → ⊥) → (c : Channel) → IsChannelForm c → line ≡ channel_spelling c → ⊥
+pub no_channel_name : (line : List ℕ) (word : List ℕ) (k : Kind) → k ≡ kind_by_letter line → word ≡ word_behind k line → (IsName word → ⊥) → (c : Channel) →
+    IsChannelForm c → line ≡ channel_spelling c → ⊥
 no_channel_name line word k kind_told word_told none c is e =
     let kind : k ≡ c.kind = kind_told ∙ ap kind_by_letter e ∙ kind_is c.kind c.name c.width in
-    let named : word ≡ c.name = word_told ∙ ap (word_behind k) e ∙ ap (λ j. word_behind j (line_of c.kind c.name c.width)) kind ∙ word_is c.kind c.name c.width is.name.parts in
+    let named : word ≡ c.name = word_told ∙ ap (word_behind k) e ∙ ap (λ j. word_behind j (line_of c.kind c.name c.width)) kind
+        ∙ word_is c.kind c.name c.width is.name.parts in
     none (subst IsName (sym named) is.name)

@@ -55,10 +55,13 @@ same_width v w small few e =
 same_channel : (c d : Channel) → IsChannelForm c → IsChannelForm d → channel_spelling c ≡ channel_spelling d → c ≡ d
 same_channel c d one two e =
     let kind : c.kind ≡ d.kind = sym (kind_is c.kind c.name c.width) ∙ ap kind_by_letter e ∙ kind_is d.kind d.name d.width in
-    let name : c.name ≡ d.name = sym (word_of_channel c.kind c.name c.width one.name.parts) ∙ ap (word_behind c.kind) e ∙ ap (λ k. word_behind k (line_of d.kind d.name d.width)) kind ∙ word_of_channel d.kind d.name d.width two.name.parts in
+    let name : c.name ≡ d.name = sym (word_of_channel c.kind c.name c.width one.name.parts) ∙ ap (word_behind c.kind) e
+        ∙ ap (λ k. word_behind k (line_of d.kind d.name d.width)) kind ∙ word_of_channel d.kind d.name d.width two.name.parts in
     let tails : c.name ++ (32 ∷ (decimal c.width ++ (10 ∷ []))) ≡ d.name ++ (32 ∷ (decimal d.width ++ (10 ∷ []))) =
-    sym (behind_kind c.kind c.name c.width) ∙ ap (λ k. drop (length (kind_spelling k)) (line_of c.kind c.name c.width)) kind ∙ ap (drop (length (kind_spelling d.kind))) e ∙ behind_kind d.kind d.name d.width in
-    let ends : decimal c.width ++ (10 ∷ []) ≡ decimal d.width ++ (10 ∷ []) = ap (drop 1) (append_cancel_left d.name _ _ (ap (λ n. n ++ (32 ∷ (decimal c.width ++ (10 ∷ [])))) (sym name) ∙ tails)) in
+    sym (behind_kind c.kind c.name c.width) ∙ ap (λ k. drop (length (kind_spelling k)) (line_of c.kind c.name c.width)) kind
+        ∙ ap (drop (length (kind_spelling d.kind))) e ∙ behind_kind d.kind d.name d.width in
+    let ends : decimal c.width ++ (10 ∷ []) ≡ decimal d.width ++ (10 ∷ []) =
+        ap (drop 1) (append_cancel_left d.name _ _ (ap (λ n. n ++ (32 ∷ (decimal c.width ++ (10 ∷ [])))) (sym name) ∙ tails)) in
     let width = same_width c.width d.width one.most two.most (append_cancel_right (decimal c.width) (decimal d.width) (10 ∷ []) ends) in
     λ i. record { name = name i; kind = kind i; width = width i }
 
@@ -82,7 +85,8 @@ same_end n m u v e =
     by_direction false true f = let g : 45 ≡ 43 = ap (λ t. get_or t 0 0) f in absurd (omega (arith, g))
 
 -- a literal, and what stands behind it
-same_body : (l k : Led) (ms ks : List Led) (n m : List ℕ) (u v : Bool) → All Further ms → All Further ks → Named l → Named k → body l ++ rule_line_of ms n u ≡ body k ++ rule_line_of ks m v → (l.high ≡ k.high) × (l.name ≡ k.name) × (rule_line_of ms n u ≡ rule_line_of ks m v)
+same_body : (l k : Led) (ms ks : List Led) (n m : List ℕ) (u v : Bool) → All Further ms → All Further ks → Named l → Named k →
+    body l ++ rule_line_of ms n u ≡ body k ++ rule_line_of ks m v → (l.high ≡ k.high) × (l.name ≡ k.name) × (rule_line_of ms n u ≡ rule_line_of ks m v)
 same_body l k ms ks n m u v f g a b e =
     let sl = starts_space ms n u f in
     let sk = starts_space ks m v g in
@@ -92,31 +96,36 @@ same_body l k ms ks n m u v f g a b e =
       sl.1 ∙ sym (rest_is l.high l.name sl.0 a) ∙ ap behind_word both ∙ rest_is k.high k.name sk.0 b ∙ sym sk.1,
     )
 
-same_rest : (ms ks : List Led) (n m : List ℕ) (u v : Bool) → All Further ms → All Further ks → All Named ms → All Named ks → rule_line_of ms n u ≡ rule_line_of ks m v → (ms ≡ ks) × (n ≡ m) × (u ≡ v)
+same_rest : (ms ks : List Led) (n m : List ℕ) (u v : Bool) → All Further ms → All Further ks → All Named ms → All Named ks →
+    rule_line_of ms n u ≡ rule_line_of ks m v → (ms ≡ ks) × (n ≡ m) × (u ≡ v)
 same_rest [] [] n m u v f g a b e = let ends = same_end n m u v e in (refl, ends.0, ends.1)
 same_rest [] (k ∷ ks) n m u v f g a b e =
     absurd (sign_no_end k.lead (body k ++ rule_line_of ks m v) n u (All-head Further k ks g) (sym (more_is k ks m v) ∙ sym e))
 same_rest (l ∷ ms) [] n m u v f g a b e =
     absurd (sign_no_end l.lead (body l ++ rule_line_of ms n u) m v (All-head Further l ms f) (sym (more_is l ms n u) ∙ e))
 same_rest (l ∷ ms) (k ∷ ks) n m u v f g a b e =
-    let signs = same_sign l.lead k.lead (body l ++ rule_line_of ms n u) (body k ++ rule_line_of ks m v) (All-head Further l ms f) (All-head Further k ks g) (sym (more_is l ms n u) ∙ e ∙ more_is k ks m v) in
+    let signs = same_sign l.lead k.lead (body l ++ rule_line_of ms n u) (body k ++ rule_line_of ks m v) (All-head Further l ms f) (All-head Further k ks g)
+        (sym (more_is l ms n u) ∙ e ∙ more_is k ks m v) in
     let parts = same_body l k ms ks n m u v (All-tail Further l ms f) (All-tail Further k ks g) (All-head Named l ms a) (All-head Named k ks b) signs.1 in
     let rest = same_rest ms ks n m u v (All-tail Further l ms f) (All-tail Further k ks g) (All-tail Named l ms a) (All-tail Named k ks b) parts.2 in
     (ap (λ x. x ∷ ms) (same_led l k signs.0 parts.0 parts.1) ∙ ap (λ xs. k ∷ xs) rest.0, rest.1, rest.2)
 
-same_line : (ls ks : List Led) (n m : List ℕ) (u v : Bool) → IsRuleForm ls n → IsRuleForm ks m → rule_line_of ls n u ≡ rule_line_of ks m v → (ls ≡ ks) × (n ≡ m) × (u ≡ v)
+same_line : (ls ks : List Led) (n m : List ℕ) (u v : Bool) → IsRuleForm ls n → IsRuleForm ks m → rule_line_of ls n u ≡ rule_line_of ks m v →
+    (ls ≡ ks) × (n ≡ m) × (u ≡ v)
 same_line [] ks n m u v one two e = absurd one.leads
 same_line (l ∷ ms) [] n m u v one two e = absurd two.leads
 same_line (l ∷ ms) (k ∷ ks) n m u v one two e =
     let at : body l ++ rule_line_of ms n u ≡ body k ++ rule_line_of ks m v =
-    append_cancel_left (codes "rule ") _ _ (sym (more_is l ms n u ∙ ap (λ j. lead_spelling j ++ (body l ++ rule_line_of ms n u)) one.leads.0) ∙ e ∙ more_is k ks m v ∙ ap (λ j. lead_spelling j ++ (body k ++ rule_line_of ks m v)) two.leads.0) in
+    append_cancel_left (codes "rule ") _ _ (sym (more_is l ms n u ∙ ap (λ j. lead_spelling j ++ (body l ++ rule_line_of ms n u)) one.leads.0) ∙ e
+        ∙ more_is k ks m v ∙ ap (λ j. lead_spelling j ++ (body k ++ rule_line_of ks m v)) two.leads.0) in
     let parts = same_body l k ms ks n m u v one.leads.1 two.leads.1 (All-head Named l ms one.names) (All-head Named k ks two.names) at in
     let rest = same_rest ms ks n m u v one.leads.1 two.leads.1 (All-tail Named l ms one.names) (All-tail Named k ks two.names) parts.2 in
     (ap (λ x. x ∷ ms) (same_led l k (one.leads.0 ∙ sym two.leads.0) parts.0 parts.1) ∙ ap (λ xs. k ∷ xs) rest.0, rest.1, rest.2)
 
 -- the terms of the literals of terms
 
-term_back : (lead : Lead) (t : List Signed) (ts : List (List Signed)) → 0 < length t → All IsTermForm ts → terms_of (leds_by Or ts) ≡ ts → terms_of (term_leds lead t ++ leds_by Or ts) ≡ t ∷ ts
+term_back : (lead : Lead) (t : List Signed) (ts : List (List Signed)) → 0 < length t → All IsTermForm ts → terms_of (leds_by Or ts) ≡ ts →
+    terms_of (term_leds lead t ++ leds_by Or ts) ≡ t ∷ ts
 term_back lead [] ts some all back = absurd (omega arith)
 term_back lead (s ∷ []) [] some all back = refl
 term_back lead (s ∷ []) ([] ∷ us) some all back = absurd (omega (arith, (All-head IsTermForm [] us all).some))
@@ -125,13 +134,16 @@ term_back lead (s ∷ r ∷ rs) ts some all back = ap (put_by And s) (term_back 
 
 terms_back : (lead : Lead) (g : List (List Signed)) → All IsTermForm g → terms_of (leds_by lead g) ≡ g
 terms_back lead [] all = refl
-terms_back lead (t ∷ ts) all = term_back lead t ts (All-head IsTermForm t ts all).some (All-tail IsTermForm t ts all) (terms_back Or ts (All-tail IsTermForm t ts all))
+terms_back lead (t ∷ ts) all = term_back lead t ts (All-head IsTermForm t ts all).some (All-tail IsTermForm t ts all)
+    (terms_back Or ts (All-tail IsTermForm t ts all))
 
-same_rule : (g h : List (List Signed)) (n m : List ℕ) (u v : Bool) → IsForm (rule g n u) → IsForm (rule h m v) → form_spelling (rule g n u) ≡ form_spelling (rule h m v) → rule g n u ≡ rule h m v
+same_rule : (g h : List (List Signed)) (n m : List ℕ) (u v : Bool) → IsForm (rule g n u) → IsForm (rule h m v) →
+    form_spelling (rule g n u) ≡ form_spelling (rule h m v) → rule g n u ≡ rule h m v
 same_rule [] h n m u v one two e = absurd (omega (arith, one.0))
 same_rule (t ∷ ts) [] n m u v one two e = absurd (omega (arith, two.0))
 same_rule (t ∷ ts) (s ∷ ss) n m u v one two e =
-    let same = same_line (leds_by Rule (t ∷ ts)) (leds_by Rule (s ∷ ss)) n m u v (leds_form t ts n u one) (leds_form s ss m v two) (sym (line_told t ts n u one.1) ∙ e ∙ line_told s ss m v two.1) in
+    let same = same_line (leds_by Rule (t ∷ ts)) (leds_by Rule (s ∷ ss)) n m u v (leds_form t ts n u one) (leds_form s ss m v two)
+        (sym (line_told t ts n u one.1) ∙ e ∙ line_told s ss m v two.1) in
     let guard : t ∷ ts ≡ s ∷ ss = sym (terms_back Rule (t ∷ ts) one.1) ∙ ap terms_of same.0 ∙ terms_back Rule (s ∷ ss) two.1 in
     λ i. rule (guard i) (same.1 i) (same.2 i)
 
@@ -169,12 +181,18 @@ same_form (node n v) (head w) one two e = let f : 110 ≡ 112 = apart (node n v)
 same_form (node n v) (rule h m w) one two e = let f : 110 ≡ 114 = apart (node n v) (rule h m w) 110 114 e refl refl in absurd (omega (arith, f))
 same_form (rule g n u) (head w) one two e = let f : 114 ≡ 112 = apart (rule g n u) (head w) 114 112 e refl refl in absurd (omega (arith, f))
 same_form (rule g n u) (node m w) one two e = let f : 114 ≡ 110 = apart (rule g n u) (node m w) 114 110 e refl refl in absurd (omega (arith, f))
-same_form (channel c) (head w) one two e = absurd (no_kind c.kind 112 (apart (channel c) (head w) (kind_byte c.kind) 112 e (kind_begins c.kind _) refl) (inl (omega arith)))
-same_form (channel c) (node m w) one two e = absurd (no_kind c.kind 110 (apart (channel c) (node m w) (kind_byte c.kind) 110 e (kind_begins c.kind _) refl) (inr refl))
-same_form (channel c) (rule h m w) one two e = absurd (no_kind c.kind 114 (apart (channel c) (rule h m w) (kind_byte c.kind) 114 e (kind_begins c.kind _) refl) (inl (omega arith)))
-same_form (head v) (channel d) one two e = absurd (no_kind d.kind 112 (sym (apart (head v) (channel d) 112 (kind_byte d.kind) e refl (kind_begins d.kind _))) (inl (omega arith)))
-same_form (node n v) (channel d) one two e = absurd (no_kind d.kind 110 (sym (apart (node n v) (channel d) 110 (kind_byte d.kind) e refl (kind_begins d.kind _))) (inr refl))
-same_form (rule g n u) (channel d) one two e = absurd (no_kind d.kind 114 (sym (apart (rule g n u) (channel d) 114 (kind_byte d.kind) e refl (kind_begins d.kind _))) (inl (omega arith)))
+same_form (channel c) (head w) one two e =
+    absurd (no_kind c.kind 112 (apart (channel c) (head w) (kind_byte c.kind) 112 e (kind_begins c.kind _) refl) (inl (omega arith)))
+same_form (channel c) (node m w) one two e =
+    absurd (no_kind c.kind 110 (apart (channel c) (node m w) (kind_byte c.kind) 110 e (kind_begins c.kind _) refl) (inr refl))
+same_form (channel c) (rule h m w) one two e =
+    absurd (no_kind c.kind 114 (apart (channel c) (rule h m w) (kind_byte c.kind) 114 e (kind_begins c.kind _) refl) (inl (omega arith)))
+same_form (head v) (channel d) one two e =
+    absurd (no_kind d.kind 112 (sym (apart (head v) (channel d) 112 (kind_byte d.kind) e refl (kind_begins d.kind _))) (inl (omega arith)))
+same_form (node n v) (channel d) one two e =
+    absurd (no_kind d.kind 110 (sym (apart (node n v) (channel d) 110 (kind_byte d.kind) e refl (kind_begins d.kind _))) (inr refl))
+same_form (rule g n u) (channel d) one two e =
+    absurd (no_kind d.kind 114 (sym (apart (rule g n u) (channel d) 114 (kind_byte d.kind) e refl (kind_begins d.kind _))) (inl (omega arith)))
 
 -- lines one after another
 
@@ -183,8 +201,10 @@ some_line f form = let line = line_of_form f form in omega (arith, ap length lin
 
 pub same_forms : (fs gs : List Form) → All IsForm fs → All IsForm gs → flat_map form_spelling fs ≡ flat_map form_spelling gs → fs ≡ gs
 same_forms [] [] one two e = refl
-same_forms [] (g ∷ gs) one two e = absurd (omega (arith, ap length e, length-append (form_spelling g) (flat_map form_spelling gs), some_line g (All-head IsForm g gs two)))
-same_forms (f ∷ fs) [] one two e = absurd (omega (arith, ap length e, length-append (form_spelling f) (flat_map form_spelling fs), some_line f (All-head IsForm f fs one)))
+same_forms [] (g ∷ gs) one two e = absurd (omega (arith, ap length e, length-append (form_spelling g) (flat_map form_spelling gs),
+    some_line g (All-head IsForm g gs two)))
+same_forms (f ∷ fs) [] one two e = absurd (omega (arith, ap length e, length-append (form_spelling f) (flat_map form_spelling fs),
+    some_line f (All-head IsForm f fs one)))
 same_forms (f ∷ fs) (g ∷ gs) one two e =
     let cut_f = cut_at (form_spelling f) (flat_map form_spelling fs) (line_of_form f (All-head IsForm f fs one)) in
     let cut_g = cut_at (form_spelling g) (flat_map form_spelling gs) (line_of_form g (All-head IsForm g gs two)) in

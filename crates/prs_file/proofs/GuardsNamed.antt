@@ -28,7 +28,8 @@ end_named names l [] = refl
 end_named names l (t ∷ []) = ap (λ t. t ∷ []) (map-append (signed_by names) t (l ∷ []))
 end_named names l (t ∷ u ∷ us) = ap (λ g. map (signed_by names) t ∷ g) (end_named names l (u ∷ us))
 
-add_named : (names : List (List ℕ)) (lead : Lead) (l : Literal) (g : GuardValue) → guard_named names (add_by lead l g) ≡ add_by lead (signed_by names l) (guard_named names g)
+add_named : (names : List (List ℕ)) (lead : Lead) (l : Literal) (g : GuardValue) →
+    guard_named names (add_by lead l g) ≡ add_by lead (signed_by names l) (guard_named names g)
 add_named names Rule l g = end_named names l g
 add_named names And l g = end_named names l g
 add_named names Or l g = map-append (map (signed_by names)) g ((l ∷ []) ∷ [])
@@ -43,15 +44,19 @@ terms_more [] k some = absurd (omega arith)
 terms_more (l ∷ ls) k some = terms_push l ls k
 
 -- the first literal, and one literal more
-pub named_first : (names : List (List ℕ)) (led : Led) (l : Literal) → l.high ≡ led.high → place_in names led.name ≡ Some l.node → guard_named names ((l ∷ []) ∷ []) ≡ terms_of (led ∷ [])
+pub named_first : (names : List (List ℕ)) (led : Led) (l : Literal) → l.high ≡ led.high → place_in names led.name ≡ Some l.node →
+    guard_named names ((l ∷ []) ∷ []) ≡ terms_of (led ∷ [])
 named_first names led l high at = ap (λ s. (s ∷ []) ∷ []) (signed_is names led l high at)
 
-pub named_more : (names : List (List ℕ)) (ls : List Led) (led : Led) (l : Literal) (g now : GuardValue) → 0 < length ls → l.high ≡ led.high → place_in names led.name ≡ Some l.node → guard_named names g ≡ terms_of ls → now ≡ add_by led.lead l g → guard_named names now ≡ terms_of (ls ++ led ∷ [])
+pub named_more : (names : List (List ℕ)) (ls : List Led) (led : Led) (l : Literal) (g now : GuardValue) → 0 < length ls → l.high ≡ led.high →
+    place_in names led.name ≡ Some l.node → guard_named names g ≡ terms_of ls → now ≡ add_by led.lead l g → guard_named names now ≡ terms_of (ls ++ led ∷ [])
 named_more names ls led l g now some high at is more =
-    ap (guard_named names) more ∙ add_named names led.lead l g ∙ ap (λ s. add_by led.lead s (guard_named names g)) (signed_is names led l high at) ∙ ap (add_by led.lead (signed_of led)) is ∙ sym (terms_more ls led some)
+    ap (guard_named names) more ∙ add_named names led.lead l g ∙ ap (λ s. add_by led.lead s (guard_named names g)) (signed_is names led l high at)
+        ∙ ap (add_by led.lead (signed_of led)) is ∙ sym (terms_more ls led some)
 
 end_below : (n : ℕ) (l : Literal) (g : GuardValue) → l.node < n → IsBelow n g → IsBelow n (at_end l g)
-end_below n l [] below all = All-cons (All (λ (l : Literal). l.node < n)) (l ∷ []) [] (All-cons (λ (l : Literal). l.node < n) l [] below (All-nil (λ (l : Literal). l.node < n))) (All-nil (All (λ (l : Literal). l.node < n)))
+end_below n l [] below all = All-cons (All (λ (l : Literal). l.node < n)) (l ∷ []) []
+    (All-cons (λ (l : Literal). l.node < n) l [] below (All-nil (λ (l : Literal). l.node < n))) (All-nil (All (λ (l : Literal). l.node < n)))
 end_below n l (t ∷ []) below all =
     let P : List Literal → Type 0 = All (λ (l : Literal). l.node < n) in
     All-cons P (t ++ l ∷ []) [] (All-push (λ (l : Literal). l.node < n) t l (All-head P t [] all) below) (All-nil P)
@@ -69,7 +74,8 @@ add_below n Or l g below all =
 pub below_first : (names : List (List ℕ)) (name : List ℕ) (l : Literal) → place_in names name ≡ Some l.node → IsBelow (length names) ((l ∷ []) ∷ [])
 below_first names name l at = end_below (length names) l [] (place_found names name l.node at).0 (All-nil (All (λ (l : Literal). l.node < length names)))
 
-pub below_more : (names : List (List ℕ)) (name : List ℕ) (lead : Lead) (l : Literal) (g now : GuardValue) → place_in names name ≡ Some l.node → IsBelow (length names) g → now ≡ add_by lead l g → IsBelow (length names) now
+pub below_more : (names : List (List ℕ)) (name : List ℕ) (lead : Lead) (l : Literal) (g now : GuardValue) → place_in names name ≡ Some l.node →
+    IsBelow (length names) g → now ≡ add_by lead l g → IsBelow (length names) now
 below_more names name lead l g now at all more =
     subst (IsBelow (length names)) (sym more) (add_below (length names) lead l g (place_found names name l.node at).0 all)
 
@@ -96,12 +102,17 @@ filled names ((l ∷ t) ∷ g) (s ∷ ss) is all =
     All-cons (λ (t : List Literal). 0 < length t) (l ∷ t) g (omega arith) (filled names g ss rest (All-tail IsTermForm s ss all))
 
 -- what is left of the terms and the last one when a literal was added
-pub added_last : (lead : Lead) (l : Literal) (ts : GuardValue) (t : List Literal) (ts' : GuardValue) (t' : List Literal) → (lead ≡ Rule) ⊎ (lead ≡ And) → ts' ≡ ts → t' ≡ t ++ l ∷ [] → ts' ++ t' ∷ [] ≡ add_by lead l (ts ++ t ∷ [])
-added_last lead l ts t ts' t' (inl is) same more = ap (λ us. us ++ t' ∷ []) same ∙ ap (λ u. ts ++ u ∷ []) more ∙ sym (ap (λ k. add_by k l (ts ++ t ∷ [])) is ∙ at_end_push ts t l)
-added_last lead l ts t ts' t' (inr is) same more = ap (λ us. us ++ t' ∷ []) same ∙ ap (λ u. ts ++ u ∷ []) more ∙ sym (ap (λ k. add_by k l (ts ++ t ∷ [])) is ∙ at_end_push ts t l)
+pub added_last : (lead : Lead) (l : Literal) (ts : GuardValue) (t : List Literal) (ts' : GuardValue) (t' : List Literal) → (lead ≡ Rule) ⊎ (lead ≡ And) →
+    ts' ≡ ts → t' ≡ t ++ l ∷ [] → ts' ++ t' ∷ [] ≡ add_by lead l (ts ++ t ∷ [])
+added_last lead l ts t ts' t' (inl is) same more = ap (λ us. us ++ t' ∷ []) same ∙ ap (λ u. ts ++ u ∷ []) more
+    ∙ sym (ap (λ k. add_by k l (ts ++ t ∷ [])) is ∙ at_end_push ts t l)
+added_last lead l ts t ts' t' (inr is) same more = ap (λ us. us ++ t' ∷ []) same ∙ ap (λ u. ts ++ u ∷ []) more
+    ∙ sym (ap (λ k. add_by k l (ts ++ t ∷ [])) is ∙ at_end_push ts t l)
 
-pub added_new : (lead : Lead) (l : Literal) (ts : GuardValue) (t : List Literal) (ts' : GuardValue) (t' : List Literal) → lead ≡ Or → ts' ≡ ts ++ t ∷ [] → t' ≡ l ∷ [] → ts' ++ t' ∷ [] ≡ add_by lead l (ts ++ t ∷ [])
-added_new lead l ts t ts' t' is more fresh = ap (λ us. us ++ t' ∷ []) more ∙ ap (λ u. (ts ++ t ∷ []) ++ u ∷ []) fresh ∙ sym (ap (λ k. add_by k l (ts ++ t ∷ [])) is)
+pub added_new : (lead : Lead) (l : Literal) (ts : GuardValue) (t : List Literal) (ts' : GuardValue) (t' : List Literal) → lead ≡ Or → ts' ≡ ts ++ t ∷ [] →
+    t' ≡ l ∷ [] → ts' ++ t' ∷ [] ≡ add_by lead l (ts ++ t ∷ [])
+added_new lead l ts t ts' t' is more fresh = ap (λ us. us ++ t' ∷ []) more ∙ ap (λ u. (ts ++ t ∷ []) ++ u ∷ []) fresh
+    ∙ sym (ap (λ k. add_by k l (ts ++ t ∷ [])) is)
 
 -- a literal behind the first one
 abbrev pub behind_first : List Led → List Led
@@ -110,7 +121,8 @@ behind_first leds = take (length leds - 1) (drop 1 leds)
 behind_is : (l : Led) (ls : List Led) → behind_first (l ∷ ls) ≡ ls
 behind_is l ls = take_all (length (l ∷ ls) - 1) ls (omega arith)
 
-pub further_item : (leds : List Led) (i : ℕ) (x : Led) → 1 ≤ length leds → i < length (behind_first leds) → x ≡ get_or (behind_first leds) i x → (i + 1 < length leds) × (x ≡ get_or leds (i + 1) x)
+pub further_item : (leds : List Led) (i : ℕ) (x : Led) → 1 ≤ length leds → i < length (behind_first leds) → x ≡ get_or (behind_first leds) i x →
+    (i + 1 < length leds) × (x ≡ get_or leds (i + 1) x)
 further_item [] i x some within is = absurd (omega arith)
 further_item (l ∷ ls) i x some within is =
     let at : suc i ≡ i + 1 = omega arith in

@@ -25,16 +25,19 @@ pub name_is_text : (name : List ℕ) → IsNodeName name → IsUtf8 name
 name_is_text name is = IsUtf8-from_ascii name (parts_small name is.parts)
 
 -- what is no text is no name
-not_here : (n q : List ℕ) (rest : Option ℕ) (b : Bool) → bytes_eq n q ≡ b → IsNodeName n → ¬ IsUtf8 q → None ≡ rest → None ≡ cond b (Some 0) (option_map (λ k. suc k) rest)
+not_here : (n q : List ℕ) (rest : Option ℕ) (b : Bool) → bytes_eq n q ≡ b → IsNodeName n → ¬ IsUtf8 q → None ≡ rest →
+    None ≡ cond b (Some 0) (option_map (λ k. suc k) rest)
 not_here n q rest true is named none over = absurd (none (subst IsUtf8 ((bytes_decides n q).0 is) (name_is_text n named)))
 not_here n q rest false is named none over = ap (option_map (λ k. suc k)) over
 
 pub no_text : (names : List (List ℕ)) (q : List ℕ) → All IsNodeName names → ¬ IsUtf8 q → None ≡ place_in names q
 no_text [] q all none = refl
-no_text (n ∷ ns) q all none = not_here n q (place_in ns q) (bytes_eq n q) refl (All-head IsNodeName n ns all) none (no_text ns q (All-tail IsNodeName n ns all) none)
+no_text (n ∷ ns) q all none = not_here n q (place_in ns q) (bytes_eq n q) refl (All-head IsNodeName n ns all) none
+    (no_text ns q (All-tail IsNodeName n ns all) none)
 
 -- one more name
-push_cases : (b e : Bool) (k : ℕ) (old new : Option ℕ) → (b ≡ true → e ≡ true → ⊥) → new ≡ cond e (Some k) old → cond b (Some 0) (option_map (λ k. suc k) new) ≡ cond e (Some (suc k)) (cond b (Some 0) (option_map (λ k. suc k) old))
+push_cases : (b e : Bool) (k : ℕ) (old new : Option ℕ) → (b ≡ true → e ≡ true → ⊥) → new ≡ cond e (Some k) old →
+    cond b (Some 0) (option_map (λ k. suc k) new) ≡ cond e (Some (suc k)) (cond b (Some 0) (option_map (λ k. suc k) old))
 push_cases true true k old new apart now = absurd (apart refl refl)
 push_cases true false k old new apart now = refl
 push_cases false true k old new apart now = ap (option_map (λ k. suc k)) now
@@ -53,8 +56,11 @@ place_push (m ∷ ns) n q fresh =
     (λ a b. absurd (cc (parts.0, (bytes_decides m n).1 ((bytes_decides m q).0 a ∙ sym ((bytes_decides n q).0 b)))))
     (place_push ns n q parts.1)
 
-pub one_more_name : (names : List (List ℕ)) (old new : Numbers) (key : String Global) (name : List ℕ) → IsIndexed names old → string_bytes key ≡ name → IsNodeName name → place_in names name ≡ None → UpdatesBy string_eq (string_eq key) old new (Some (length names)) → IsIndexed (names ++ name ∷ []) new
+pub one_more_name : (names : List (List ℕ)) (old new : Numbers) (key : String Global) (name : List ℕ) → IsIndexed names old → string_bytes key ≡ name →
+    IsNodeName name → place_in names name ≡ None → UpdatesBy string_eq (string_eq key) old new (Some (length names)) → IsIndexed (names ++ name ∷ []) new
 one_more_name names old new key name is told named fresh updates = record {
-  found = λ q. hash_map_updates_text (string_bytes key) old new (Some (length names)) updates q ∙ ap (λ bs. cond (bytes_eq bs q) (Some (length names)) (get_by_text old q)) told ∙ ap (λ o. cond (bytes_eq name q) (Some (length names)) o) (is.found q) ∙ sym (place_push names name q fresh);
+  found = λ q. hash_map_updates_text (string_bytes key) old new (Some (length names)) updates q
+      ∙ ap (λ bs. cond (bytes_eq bs q) (Some (length names)) (get_by_text old q)) told ∙ ap (λ o. cond (bytes_eq name q) (Some (length names)) o) (is.found q)
+      ∙ sym (place_push names name q fresh);
   node_names = All-push IsNodeName names name is.node_names named;
 }

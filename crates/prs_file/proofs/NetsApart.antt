@@ -43,9 +43,12 @@ flat_none : {X Y : Type 0} (f : X → List Y) (xs : List X) → ((x : X) → f x
 flat_none f [] none = refl
 flat_none f (x ∷ xs) none = ap (λ t. t ++ flat_map f xs) (none x) ∙ flat_none f xs none
 
-filter_two : {Z : Type 0} (h : Form → Option Z) (names : List (List ℕ)) (r : RulesValue) (k : ℕ) (one two : List Z) → filter_map h (guard_forms names (get_or r.up k []) k true) ≡ one → filter_map h (guard_forms names (get_or r.down k []) k false) ≡ two → filter_map h (node_rules names r k) ≡ one ++ two
+filter_two : {Z : Type 0} (h : Form → Option Z) (names : List (List ℕ)) (r : RulesValue) (k : ℕ) (one two : List Z) →
+    filter_map h (guard_forms names (get_or r.up k []) k true) ≡ one → filter_map h (guard_forms names (get_or r.down k []) k false) ≡ two →
+    filter_map h (node_rules names r k) ≡ one ++ two
 filter_two h names r k one two up down =
-    filter_map-append h (guard_forms names (get_or r.up k []) k true) (guard_forms names (get_or r.down k []) k false) ∙ ap (λ t. t ++ filter_map h (guard_forms names (get_or r.down k []) k false)) up ∙ ap (λ t. one ++ t) down
+    filter_map-append h (guard_forms names (get_or r.up k []) k true) (guard_forms names (get_or r.down k []) k false)
+        ∙ ap (λ t. t ++ filter_map h (guard_forms names (get_or r.down k []) k false)) up ∙ ap (λ t. one ++ t) down
 
 no_node : (names : List (List ℕ)) (g : GuardValue) (k : ℕ) (up : Bool) → filter_map node_in (guard_forms names g k up) ≡ []
 no_node names [] k up = refl
@@ -58,27 +61,37 @@ no_channel names (t ∷ ts) k up = refl
 nodes_in_rules : (names : List (List ℕ)) (r : RulesValue) → filter_map node_in (rule_forms names r) ≡ []
 nodes_in_rules names r =
     filter_flat node_in (node_rules names r) (range_with_len 0 (length names))
-    ∙ flat_none (λ k. filter_map node_in (node_rules names r k)) (range_with_len 0 (length names)) (λ k. filter_two node_in names r k [] [] (no_node names (get_or r.up k []) k true) (no_node names (get_or r.down k []) k false))
+    ∙ flat_none (λ k. filter_map node_in (node_rules names r k)) (range_with_len 0 (length names))
+        (λ k. filter_two node_in names r k [] [] (no_node names (get_or r.up k []) k true) (no_node names (get_or r.down k []) k false))
 
 channels_in_rules : (names : List (List ℕ)) (r : RulesValue) → filter_map channel_in (rule_forms names r) ≡ []
 channels_in_rules names r =
     filter_flat channel_in (node_rules names r) (range_with_len 0 (length names))
-    ∙ flat_none (λ k. filter_map channel_in (node_rules names r k)) (range_with_len 0 (length names)) (λ k. filter_two channel_in names r k [] [] (no_channel names (get_or r.up k []) k true) (no_channel names (get_or r.down k []) k false))
+    ∙ flat_none (λ k. filter_map channel_in (node_rules names r k)) (range_with_len 0 (length names))
+        (λ k. filter_two channel_in names r k [] [] (no_channel names (get_or r.up k []) k true) (no_channel names (get_or r.down k []) k false))
 
-nodes_in_net : (version : ℕ) (names : List (List ℕ)) (first : List Bool) (ws : List Wires) (r : RulesValue) → filter_map node_in (net_forms version names first ws r) ≡ nodes_of (node_forms names first)
+nodes_in_net : (version : ℕ) (names : List (List ℕ)) (first : List Bool) (ws : List Wires) (r : RulesValue) →
+    filter_map node_in (net_forms version names first ws r) ≡ nodes_of (node_forms names first)
 nodes_in_net version names first ws r =
-    filter_map-append node_in (channels_told version names first ws) (rule_forms names r) ∙ ap (λ t. filter_map node_in (channels_told version names first ws) ++ t) (nodes_in_rules names r) ∙ append-nil (filter_map node_in (channels_told version names first ws)) ∙ nodes_are names first ws
+    filter_map-append node_in (channels_told version names first ws) (rule_forms names r)
+        ∙ ap (λ t. filter_map node_in (channels_told version names first ws) ++ t) (nodes_in_rules names r)
+        ∙ append-nil (filter_map node_in (channels_told version names first ws)) ∙ nodes_are names first ws
 
-channels_in_net : (version : ℕ) (names : List (List ℕ)) (first : List Bool) (ws : List Wires) (r : RulesValue) → filter_map channel_in (net_forms version names first ws r) ≡ channels_of ws
+channels_in_net : (version : ℕ) (names : List (List ℕ)) (first : List Bool) (ws : List Wires) (r : RulesValue) →
+    filter_map channel_in (net_forms version names first ws r) ≡ channels_of ws
 channels_in_net version names first ws r =
-    filter_map-append channel_in (channels_told version names first ws) (rule_forms names r) ∙ ap (λ t. filter_map channel_in (channels_told version names first ws) ++ t) (channels_in_rules names r) ∙ append-nil (filter_map channel_in (channels_told version names first ws)) ∙ channels_are names first ws
+    filter_map-append channel_in (channels_told version names first ws) (rule_forms names r)
+        ∙ ap (λ t. filter_map channel_in (channels_told version names first ws) ++ t) (channels_in_rules names r)
+        ∙ append-nil (filter_map channel_in (channels_told version names first ws)) ∙ channels_are names first ws
 
-pair_names : (names : List (List ℕ)) (first : List Bool) → length first ≡ length names → map (λ (p : List ℕ × Bool). p.0) (nodes_of (node_forms names first)) ≡ names
+pair_names : (names : List (List ℕ)) (first : List Bool) → length first ≡ length names →
+    map (λ (p : List ℕ × Bool). p.0) (nodes_of (node_forms names first)) ≡ names
 pair_names [] first same = refl
 pair_names (n ∷ names) [] same = absurd (omega arith)
 pair_names (n ∷ names) (v ∷ first) same = ap (λ xs. n ∷ xs) (pair_names names first (omega arith))
 
-pair_values : (names : List (List ℕ)) (first : List Bool) → length first ≡ length names → map (λ (p : List ℕ × Bool). p.1) (nodes_of (node_forms names first)) ≡ first
+pair_values : (names : List (List ℕ)) (first : List Bool) → length first ≡ length names →
+    map (λ (p : List ℕ × Bool). p.1) (nodes_of (node_forms names first)) ≡ first
 pair_values [] [] same = refl
 pair_values [] (v ∷ first) same = absurd (omega arith)
 pair_values (n ∷ names) [] same = absurd (omega arith)
@@ -108,7 +121,8 @@ abbrev as_list : List (List ℕ) → GuardValue → List (List (List Signed))
 as_list names [] = []
 as_list names (t ∷ ts) = guard_named names (t ∷ ts) ∷ []
 
-filter_one : {Z : Type 0} (h : Form → Option Z) (f : Form) (o : Option Z) (out : List Z) → h f ≡ o → ((z : Z) → o ≡ Some z → out ≡ z ∷ []) → (o ≡ None → out ≡ []) → filter_map h (f ∷ []) ≡ out
+filter_one : {Z : Type 0} (h : Form → Option Z) (f : Form) (o : Option Z) (out : List Z) → h f ≡ o → ((z : Z) → o ≡ Some z → out ≡ z ∷ []) →
+    (o ≡ None → out ≡ []) → filter_map h (f ∷ []) ≡ out
 filter_one h f None out e some none = rw e (sym (none refl))
 filter_one h f (Some z) out e some none = rw e (sym (some z refl))
 
@@ -117,12 +131,15 @@ pick_here names [] k up = refl
 pick_here names (t ∷ ts) k up =
     let same : bytes_eq (get_or names k []) (get_or names k []) ≡ true = (bytes_decides (get_or names k []) (get_or names k [])).1 refl in
     let both : (bytes_eq (get_or names k []) (get_or names k []) && agree up up) ≡ true = ap (λ b. b && agree up up) same ∙ agree_same up in
-    filter_one (pick (get_or names k []) up) (rule (guard_named names (t ∷ ts)) (get_or names k []) up) (Some (guard_named names (t ∷ ts))) (guard_named names (t ∷ ts) ∷ []) (ap (λ b. cond b (Some (guard_named names (t ∷ ts))) None) both) (λ z e. ap (λ x. x ∷ []) (cc e)) (λ e. absurd (cc e))
+    filter_one (pick (get_or names k []) up) (rule (guard_named names (t ∷ ts)) (get_or names k []) up) (Some (guard_named names (t ∷ ts)))
+        (guard_named names (t ∷ ts) ∷ []) (ap (λ b. cond b (Some (guard_named names (t ∷ ts))) None) both) (λ z e. ap (λ x. x ∷ []) (cc e)) (λ e. absurd (cc e))
 
-pick_not : (names : List (List ℕ)) (g : GuardValue) (name : List ℕ) (j : ℕ) (u up : Bool) → (bytes_eq (get_or names j []) name && agree u up) ≡ false → filter_map (pick name up) (guard_forms names g j u) ≡ []
+pick_not : (names : List (List ℕ)) (g : GuardValue) (name : List ℕ) (j : ℕ) (u up : Bool) → (bytes_eq (get_or names j []) name && agree u up) ≡ false →
+    filter_map (pick name up) (guard_forms names g j u) ≡ []
 pick_not names [] name j u up other = refl
 pick_not names (t ∷ ts) name j u up other =
-    filter_one (pick name up) (rule (guard_named names (t ∷ ts)) (get_or names j []) u) None [] (ap (λ b. cond b (Some (guard_named names (t ∷ ts))) None) other) (λ z e. absurd (cc e)) (λ e. refl)
+    filter_one (pick name up) (rule (guard_named names (t ∷ ts)) (get_or names j []) u) None []
+        (ap (λ b. cond b (Some (guard_named names (t ∷ ts))) None) other) (λ z e. absurd (cc e)) (λ e. refl)
 
 abbrev guard_at : RulesValue → ℕ → Bool → GuardValue
 guard_at r k up = cond up (get_or r.up k []) (get_or r.down k [])
@@ -132,19 +149,27 @@ wrong_way true true = refl
 wrong_way true false = refl
 wrong_way false u = refl
 
-pick_node : (names : List (List ℕ)) (r : RulesValue) (k : ℕ) (up : Bool) → filter_map (pick (get_or names k []) up) (node_rules names r k) ≡ as_list names (guard_at r k up)
+pick_node : (names : List (List ℕ)) (r : RulesValue) (k : ℕ) (up : Bool) →
+    filter_map (pick (get_or names k []) up) (node_rules names r k) ≡ as_list names (guard_at r k up)
 pick_node names r k true =
-    filter_two (pick (get_or names k []) true) names r k (as_list names (get_or r.up k [])) [] (pick_here names (get_or r.up k []) k true) (pick_not names (get_or r.down k []) (get_or names k []) k false true (wrong_way (bytes_eq (get_or names k []) (get_or names k [])) false)) ∙ append-nil (as_list names (get_or r.up k []))
+    filter_two (pick (get_or names k []) true) names r k (as_list names (get_or r.up k [])) [] (pick_here names (get_or r.up k []) k true)
+        (pick_not names (get_or r.down k []) (get_or names k []) k false true (wrong_way (bytes_eq (get_or names k []) (get_or names k [])) false))
+        ∙ append-nil (as_list names (get_or r.up k []))
 pick_node names r k false =
-    filter_two (pick (get_or names k []) false) names r k [] (as_list names (get_or r.down k [])) (pick_not names (get_or r.up k []) (get_or names k []) k true false (wrong_way (bytes_eq (get_or names k []) (get_or names k [])) true)) (pick_here names (get_or r.down k []) k false)
+    filter_two (pick (get_or names k []) false) names r k [] (as_list names (get_or r.down k []))
+        (pick_not names (get_or r.up k []) (get_or names k []) k true false (wrong_way (bytes_eq (get_or names k []) (get_or names k [])) true))
+        (pick_here names (get_or r.down k []) k false)
 
-pick_other : (names : List (List ℕ)) (r : RulesValue) (k j : ℕ) (up : Bool) → Distinct names → length r.up ≡ length names → length r.down ≡ length names → k < length names → j ≢ k → filter_map (pick (get_or names k []) up) (node_rules names r j) ≡ []
+pick_other : (names : List (List ℕ)) (r : RulesValue) (k j : ℕ) (up : Bool) → Distinct names → length r.up ≡ length names → length r.down ≡ length names →
+    k < length names → j ≢ k → filter_map (pick (get_or names k []) up) (node_rules names r j) ≡ []
 pick_other names r k j up all ups downs within apart = by_order (cases_lt j (length names))
   where
     by_order : (j < length names) ⊎ (length names ≤ j) → filter_map (pick (get_or names k []) up) (node_rules names r j) ≡ []
     by_order (inl below) =
-        let other : bytes_eq (get_or names j []) (get_or names k []) ≡ false = name_at_is names k j (get_or names k []) all within below refl ∙ ne_eqb k j (λ e. apart (sym e)) in
-        filter_two (pick (get_or names k []) up) names r j [] [] (pick_not names (get_or r.up j []) (get_or names k []) j true up (and_left _ _ other)) (pick_not names (get_or r.down j []) (get_or names k []) j false up (and_left _ _ other))
+        let other : bytes_eq (get_or names j []) (get_or names k []) ≡ false = name_at_is names k j (get_or names k []) all within below refl
+            ∙ ne_eqb k j (λ e. apart (sym e)) in
+        filter_two (pick (get_or names k []) up) names r j [] [] (pick_not names (get_or r.up j []) (get_or names k []) j true up (and_left _ _ other))
+            (pick_not names (get_or r.down j []) (get_or names k []) j false up (and_left _ _ other))
     by_order (inr past) =
         filter_two (pick (get_or names k []) up) names r j [] []
         (ap (λ g. filter_map (pick (get_or names k []) up) (guard_forms names g j true)) (get_or_past r.up j [] (omega (arith, ups))))
@@ -156,7 +181,8 @@ flat_empty f (suc m) none =
     let e : suc m ≡ m + 1 = omega arith in
     ap (λ n. flat_map f (range_with_len 0 n)) e ∙ flat_more f m ∙ ap (λ t. t ++ f m) (flat_empty f m (λ i below. none i (omega arith))) ∙ none m (omega arith)
 
-picked : (names : List (List ℕ)) (r : RulesValue) (k : ℕ) (up : Bool) → Distinct names → length r.up ≡ length names → length r.down ≡ length names → k < length names → filter_map (pick (get_or names k []) up) (rule_forms names r) ≡ as_list names (guard_at r k up)
+picked : (names : List (List ℕ)) (r : RulesValue) (k : ℕ) (up : Bool) → Distinct names → length r.up ≡ length names → length r.down ≡ length names →
+    k < length names → filter_map (pick (get_or names k []) up) (rule_forms names r) ≡ as_list names (guard_at r k up)
 picked names r k up all ups downs within =
     let f : ℕ → List (List (List Signed)) = λ j. filter_map (pick (get_or names k []) up) (node_rules names r j) in
     let e : length names ≡ (k + 1) + (length names - (k + 1)) = omega arith in
@@ -176,11 +202,17 @@ pick_channels : (name : List ℕ) (up : Bool) (ws : List Wires) → filter_map (
 pick_channels name up [] = refl
 pick_channels name up (w ∷ ws) = pick_channels name up ws
 
-picked_in_net : (version : ℕ) (names : List (List ℕ)) (first : List Bool) (ws : List Wires) (r : RulesValue) (k : ℕ) (up : Bool) → Distinct names → length r.up ≡ length names → length r.down ≡ length names → k < length names → filter_map (pick (get_or names k []) up) (net_forms version names first ws r) ≡ as_list names (guard_at r k up)
+picked_in_net : (version : ℕ) (names : List (List ℕ)) (first : List Bool) (ws : List Wires) (r : RulesValue) (k : ℕ) (up : Bool) → Distinct names →
+    length r.up ≡ length names → length r.down ≡ length names → k < length names →
+    filter_map (pick (get_or names k []) up) (net_forms version names first ws r) ≡ as_list names (guard_at r k up)
 picked_in_net version names first ws r k up all ups downs within =
     let p = pick (get_or names k []) up in
-    let early : filter_map p (channels_told version names first ws) ≡ [] = filter_map-append p (node_forms names first) (map (λ (w : Wires). channel w.channel) ws) ∙ ap (λ t. t ++ filter_map p (map (λ (w : Wires). channel w.channel) ws)) (pick_early (get_or names k []) up names first) ∙ pick_channels (get_or names k []) up ws in
-    filter_map-append p (channels_told version names first ws) (rule_forms names r) ∙ ap (λ t. t ++ filter_map p (rule_forms names r)) early ∙ picked names r k up all ups downs within
+    let early : filter_map p (channels_told version names first ws) ≡ [] =
+        filter_map-append p (node_forms names first) (map (λ (w : Wires). channel w.channel) ws)
+        ∙ ap (λ t. t ++ filter_map p (map (λ (w : Wires). channel w.channel) ws)) (pick_early (get_or names k []) up names first)
+        ∙ pick_channels (get_or names k []) up ws in
+    filter_map-append p (channels_told version names first ws) (rule_forms names r) ∙ ap (λ t. t ++ filter_map p (rule_forms names r)) early
+        ∙ picked names r k up all ups downs within
 
 -- numbers by names
 
@@ -192,31 +224,37 @@ same_number names i j all within below e = by_order (cases_lt i j) (cases_lt j i
     by_order (inr more) (inl less) = absurd (apart_at names i j all within below (λ is. absurd (omega (arith, is))) e)
     by_order (inr more) (inr most) = omega arith
 
-same_numbers : (names : List (List ℕ)) (is js : List ℕ) → Distinct names → All (λ k. k < length names) is → All (λ k. k < length names) js → map (λ k. get_or names k []) is ≡ map (λ k. get_or names k []) js → is ≡ js
+same_numbers : (names : List (List ℕ)) (is js : List ℕ) → Distinct names → All (λ k. k < length names) is → All (λ k. k < length names) js →
+    map (λ k. get_or names k []) is ≡ map (λ k. get_or names k []) js → is ≡ js
 same_numbers names [] [] all one two e = refl
 same_numbers names [] (j ∷ js) all one two e = absurd (cc e)
 same_numbers names (i ∷ is) [] all one two e = absurd (cc e)
 same_numbers names (i ∷ is) (j ∷ js) all one two e =
     let here : get_or names i [] ≡ get_or names j [] = cc e in
     let rest : map (λ k. get_or names k []) is ≡ map (λ k. get_or names k []) js = cc e in
-    ap (λ x. x ∷ is) (same_number names i j all (All-head (λ k. k < length names) i is one) (All-head (λ k. k < length names) j js two) here) ∙ ap (λ xs. j ∷ xs) (same_numbers names is js all (All-tail (λ k. k < length names) i is one) (All-tail (λ k. k < length names) j js two) rest)
+    ap (λ x. x ∷ is) (same_number names i j all (All-head (λ k. k < length names) i is one) (All-head (λ k. k < length names) j js two) here)
+        ∙ ap (λ xs. j ∷ xs) (same_numbers names is js all (All-tail (λ k. k < length names) i is one) (All-tail (λ k. k < length names) j js two) rest)
 
 abbrev Within : ℕ → Literal → Type 0
 Within count l = l.node < count
 
-same_term : (names : List (List ℕ)) (t s : List Literal) → Distinct names → All (Within (length names)) t → All (Within (length names)) s → map (signed_by names) t ≡ map (signed_by names) s → t ≡ s
+same_term : (names : List (List ℕ)) (t s : List Literal) → Distinct names → All (Within (length names)) t → All (Within (length names)) s →
+    map (signed_by names) t ≡ map (signed_by names) s → t ≡ s
 same_term names [] [] all one two e = refl
 same_term names [] (k ∷ s) all one two e = absurd (cc e)
 same_term names (l ∷ t) [] all one two e = absurd (cc e)
 same_term names (l ∷ t) (k ∷ s) all one two e =
     let here : signed_by names l ≡ signed_by names k = cc e in
     let rest : map (signed_by names) t ≡ map (signed_by names) s = cc e in
-    let node : l.node ≡ k.node = same_number names l.node k.node all (All-head (Within (length names)) l t one) (All-head (Within (length names)) k s two) (ap (λ (x : Signed). x.name) here) in
+    let node : l.node ≡ k.node = same_number names l.node k.node all (All-head (Within (length names)) l t one) (All-head (Within (length names)) k s two)
+        (ap (λ (x : Signed). x.name) here) in
     let high : l.high ≡ k.high = ap (λ (x : Signed). x.high) here in
     let same : l ≡ k = λ i. record { node = node i; high = high i } in
-    ap (λ x. x ∷ t) same ∙ ap (λ xs. k ∷ xs) (same_term names t s all (All-tail (Within (length names)) l t one) (All-tail (Within (length names)) k s two) rest)
+    ap (λ x. x ∷ t) same ∙ ap (λ xs. k ∷ xs) (same_term names t s all (All-tail (Within (length names)) l t one) (All-tail (Within (length names)) k s two)
+        rest)
 
-same_guard : (names : List (List ℕ)) (g h : GuardValue) → Distinct names → IsBelow (length names) g → IsBelow (length names) h → guard_named names g ≡ guard_named names h → g ≡ h
+same_guard : (names : List (List ℕ)) (g h : GuardValue) → Distinct names → IsBelow (length names) g → IsBelow (length names) h →
+    guard_named names g ≡ guard_named names h → g ≡ h
 same_guard names [] [] all one two e = refl
 same_guard names [] (s ∷ h) all one two e = absurd (cc e)
 same_guard names (t ∷ g) [] all one two e = absurd (cc e)
@@ -224,9 +262,11 @@ same_guard names (t ∷ g) (s ∷ h) all one two e =
     let here : map (signed_by names) t ≡ map (signed_by names) s = cc e in
     let rest : guard_named names g ≡ guard_named names h = cc e in
     let P : List Literal → Type 0 = All (Within (length names)) in
-    ap (λ x. x ∷ g) (same_term names t s all (All-head P t g one) (All-head P s h two) here) ∙ ap (λ xs. s ∷ xs) (same_guard names g h all (All-tail P t g one) (All-tail P s h two) rest)
+    ap (λ x. x ∷ g) (same_term names t s all (All-head P t g one) (All-head P s h two) here)
+        ∙ ap (λ xs. s ∷ xs) (same_guard names g h all (All-tail P t g one) (All-tail P s h two) rest)
 
-same_listed : (names : List (List ℕ)) (g h : GuardValue) → Distinct names → IsBelow (length names) g → IsBelow (length names) h → as_list names g ≡ as_list names h → g ≡ h
+same_listed : (names : List (List ℕ)) (g h : GuardValue) → Distinct names → IsBelow (length names) g → IsBelow (length names) h →
+    as_list names g ≡ as_list names h → g ≡ h
 same_listed names [] [] all one two e = refl
 same_listed names [] (s ∷ h) all one two e = absurd (cc e)
 same_listed names (t ∷ g) [] all one two e = absurd (cc e)
@@ -249,7 +289,8 @@ record IsWiresOf (names : List (List ℕ)) (w : Wires) : Type 0 where
   ack : get_or names w.ack [] ≡ ack_name w.channel.name
   ack_within : w.ack < length names
 
-same_wires : (names : List (List ℕ)) (ws vs : List Wires) → Distinct names → All (IsWiresOf names) ws → All (IsWiresOf names) vs → channels_of ws ≡ channels_of vs → ws ≡ vs
+same_wires : (names : List (List ℕ)) (ws vs : List Wires) → Distinct names → All (IsWiresOf names) ws → All (IsWiresOf names) vs →
+    channels_of ws ≡ channels_of vs → ws ≡ vs
 same_wires names [] [] all one two e = refl
 same_wires names [] (v ∷ vs) all one two e = absurd (cc e)
 same_wires names (w ∷ ws) [] all one two e = absurd (cc e)
@@ -258,7 +299,8 @@ same_wires names (w ∷ ws) (v ∷ vs) all one two e =
     let rest : channels_of ws ≡ channels_of vs = cc e in
     let a = All-head (IsWiresOf names) w ws one in
     let b = All-head (IsWiresOf names) v vs two in
-    let rails : w.rails ≡ v.rails = same_numbers names w.rails v.rails all a.rails_within b.rails_within (a.rails ∙ ap (λ (c : Channel). rail_names c.name c.width) here ∙ sym b.rails) in
+    let rails : w.rails ≡ v.rails = same_numbers names w.rails v.rails all a.rails_within b.rails_within (a.rails
+        ∙ ap (λ (c : Channel). rail_names c.name c.width) here ∙ sym b.rails) in
     let ack : w.ack ≡ v.ack = same_number names w.ack v.ack all a.ack_within b.ack_within (a.ack ∙ ap (λ (c : Channel). ack_name c.name) here ∙ sym b.ack) in
     let same : w ≡ v = λ i. record { channel = here i; rails = rails i; ack = ack i } in
     ap (λ x. x ∷ ws) same ∙ ap (λ xs. v ∷ xs) (same_wires names ws vs all (All-tail (IsWiresOf names) w ws one) (All-tail (IsWiresOf names) v vs two) rest)
@@ -268,7 +310,8 @@ wires_of_net n [] same all = All-nil (IsWiresOf n.names)
 wires_of_net n (w ∷ ws) same all =
     let is = All-head (IsChannel n) w ws all in
     All-cons (IsWiresOf n.names) w ws
-    (record { rails = is.rails; rails_within = subst (λ c. All (λ k. k < c) w.rails) (sym same) is.rails_within; ack = is.ack; ack_within = omega (arith, is.ack_within, same) })
+    (record { rails = is.rails; rails_within = subst (λ c. All (λ k. k < c) w.rails) (sym same) is.rails_within; ack = is.ack; ack_within =
+        omega (arith, is.ack_within, same) })
     (wires_of_net n ws same (All-tail (IsChannel n) w ws all))
 
 -- the lines of a net say something
@@ -276,40 +319,54 @@ wires_of_net n (w ∷ ws) same all =
 pub node_lines : (names : List (List ℕ)) (first : List Bool) → All IsNodeName names → All IsForm (node_forms names first)
 node_lines [] first all = All-nil IsForm
 node_lines (n ∷ names) [] all = All-nil IsForm
-node_lines (n ∷ names) (v ∷ first) all = All-cons IsForm (node n v) (node_forms names first) (All-head IsNodeName n names all) (node_lines names first (All-tail IsNodeName n names all))
+node_lines (n ∷ names) (v ∷ first) all = All-cons IsForm (node n v) (node_forms names first) (All-head IsNodeName n names all)
+    (node_lines names first (All-tail IsNodeName n names all))
 
 pub channel_lines : (n : NetValue) (ws : List Wires) → All (IsChannel n) ws → All IsForm (map (λ (w : Wires). channel w.channel) ws)
 channel_lines n [] all = All-nil IsForm
 channel_lines n (w ∷ ws) all =
     let is = All-head (IsChannel n) w ws all in
-    All-cons IsForm (channel w.channel) (map (λ (w : Wires). channel w.channel) ws) (record { name = is.name; some = is.some; most = is.most }) (channel_lines n ws (All-tail (IsChannel n) w ws all))
+    All-cons IsForm (channel w.channel) (map (λ (w : Wires). channel w.channel) ws) (record { name = is.name; some = is.some; most = is.most })
+        (channel_lines n ws (All-tail (IsChannel n) w ws all))
 
-term_named : (names : List (List ℕ)) (t : List Literal) → All IsNodeName names → All (Within (length names)) t → All (λ (s : Signed). IsNodeName s.name) (map (signed_by names) t)
+term_named : (names : List (List ℕ)) (t : List Literal) → All IsNodeName names → All (Within (length names)) t →
+    All (λ (s : Signed). IsNodeName s.name) (map (signed_by names) t)
 term_named names [] named within = All-nil (λ (s : Signed). IsNodeName s.name)
 term_named names (l ∷ t) named within =
-    All-cons (λ (s : Signed). IsNodeName s.name) (signed_by names l) (map (signed_by names) t) (All-get_or IsNodeName names l.node [] (All-head (Within (length names)) l t within) named) (term_named names t named (All-tail (Within (length names)) l t within))
+    All-cons (λ (s : Signed). IsNodeName s.name) (signed_by names l) (map (signed_by names) t)
+        (All-get_or IsNodeName names l.node [] (All-head (Within (length names)) l t within) named)
+        (term_named names t named (All-tail (Within (length names)) l t within))
 
 terms_ok : (names : List (List ℕ)) (g : GuardValue) → All IsNodeName names → IsBelow (length names) g → IsFilled g → All IsTermForm (guard_named names g)
 terms_ok names [] named below filled = All-nil IsTermForm
 terms_ok names (t ∷ g) named below filled =
     let P : List Literal → Type 0 = All (Within (length names)) in
     All-cons IsTermForm (map (signed_by names) t) (guard_named names g)
-    (record { some = omega (arith, length-map t (signed_by names), All-head (λ (t : List Literal). 0 < length t) t g filled); names = term_named names t named (All-head P t g below) })
+    (record { some = omega (arith, length-map t (signed_by names), All-head (λ (t : List Literal). 0 < length t) t g filled); names =
+        term_named names t named (All-head P t g below) })
     (terms_ok names g named (All-tail P t g below) (All-tail (λ (t : List Literal). 0 < length t) t g filled))
 
-pub guard_line : (names : List (List ℕ)) (g : GuardValue) (k : ℕ) (up : Bool) → All IsNodeName names → k < length names → IsBelow (length names) g → IsFilled g → All IsForm (guard_forms names g k up)
+pub guard_line : (names : List (List ℕ)) (g : GuardValue) (k : ℕ) (up : Bool) → All IsNodeName names → k < length names → IsBelow (length names) g →
+    IsFilled g → All IsForm (guard_forms names g k up)
 guard_line names [] k up named within below filled = All-nil IsForm
 guard_line names (t ∷ g) k up named within below filled =
-    All-cons IsForm (rule (guard_named names (t ∷ g)) (get_or names k []) up) [] (omega arith, terms_ok names (t ∷ g) named below filled, All-get_or IsNodeName names k [] within named) (All-nil IsForm)
+    All-cons IsForm (rule (guard_named names (t ∷ g)) (get_or names k []) up) [] (omega arith, terms_ok names (t ∷ g) named below filled,
+        All-get_or IsNodeName names k [] within named) (All-nil IsForm)
 
-rule_lines : (names : List (List ℕ)) (r : RulesValue) (m : ℕ) → All IsNodeName names → m ≤ length names → length r.up ≡ length names → length r.down ≡ length names → All (IsBelow (length names)) r.up → All (IsBelow (length names)) r.down → All IsFilled r.up → All IsFilled r.down → All IsForm (flat_map (node_rules names r) (range_with_len 0 m))
+rule_lines : (names : List (List ℕ)) (r : RulesValue) (m : ℕ) → All IsNodeName names → m ≤ length names → length r.up ≡ length names →
+    length r.down ≡ length names → All (IsBelow (length names)) r.up → All (IsBelow (length names)) r.down → All IsFilled r.up → All IsFilled r.down →
+    All IsForm (flat_map (node_rules names r) (range_with_len 0 m))
 rule_lines names r zero named most ups downs ub db uf df = All-nil IsForm
 rule_lines names r (suc m) named most ups downs ub db uf df =
     let e : suc m ≡ m + 1 = omega arith in
-    let up = guard_line names (get_or r.up m []) m true named (omega arith) (All-get_or (IsBelow (length names)) r.up m [] (omega (arith, ups)) ub) (All-get_or IsFilled r.up m [] (omega (arith, ups)) uf) in
-    let down = guard_line names (get_or r.down m []) m false named (omega arith) (All-get_or (IsBelow (length names)) r.down m [] (omega (arith, downs)) db) (All-get_or IsFilled r.down m [] (omega (arith, downs)) df) in
+    let up = guard_line names (get_or r.up m []) m true named (omega arith) (All-get_or (IsBelow (length names)) r.up m [] (omega (arith, ups)) ub)
+        (All-get_or IsFilled r.up m [] (omega (arith, ups)) uf) in
+    let down = guard_line names (get_or r.down m []) m false named (omega arith) (All-get_or (IsBelow (length names)) r.down m [] (omega (arith, downs)) db)
+        (All-get_or IsFilled r.down m [] (omega (arith, downs)) df) in
     subst (All IsForm) (sym (ap (λ n. flat_map (node_rules names r) (range_with_len 0 n)) e ∙ flat_more (node_rules names r) m))
-    (All-append IsForm (flat_map (node_rules names r) (range_with_len 0 m)) (node_rules names r m) (rule_lines names r m named (omega arith) ups downs ub db uf df) (All-append IsForm (guard_forms names (get_or r.up m []) m true) (guard_forms names (get_or r.down m []) m false) up down))
+    (All-append IsForm (flat_map (node_rules names r) (range_with_len 0 m)) (node_rules names r m)
+        (rule_lines names r m named (omega arith) ups downs ub db uf df)
+        (All-append IsForm (guard_forms names (get_or r.up m []) m true) (guard_forms names (get_or r.down m []) m false) up down))
 
 version_known : (o : Option ℕ) → (1 ≤ version_of o) × (version_of o ≤ 2)
 version_known None = (omega arith, omega arith)
@@ -321,12 +378,16 @@ all_forms n = net_forms (version_of n.reset) n.names n.first n.channels (rules_o
 pub rules_say : (n : NetValue) → IsNet n → All IsForm (rule_forms n.names (rules_of n))
 rules_say n is =
     let count = is.named in
-    rule_lines n.names (rules_of n) (length n.names) is.names (omega arith) (is.ups ∙ sym count) (is.downs ∙ sym count) (subst (λ c. All (IsBelow c) n.up) (sym count) is.up_within) (subst (λ c. All (IsBelow c) n.down) (sym count) is.down_within) is.up_filled is.down_filled
+    rule_lines n.names (rules_of n) (length n.names) is.names (omega arith) (is.ups ∙ sym count) (is.downs ∙ sym count)
+        (subst (λ c. All (IsBelow c) n.up) (sym count) is.up_within) (subst (λ c. All (IsBelow c) n.down) (sym count) is.down_within) is.up_filled
+        is.down_filled
 
 pub lines_say : (n : NetValue) → IsNet n → All IsForm (all_forms n)
 lines_say n is =
     All-append IsForm (channels_told (version_of n.reset) n.names n.first n.channels) (rule_forms n.names (rules_of n))
-    (All-cons IsForm (head (version_of n.reset)) (node_forms n.names n.first ++ map (λ (w : Wires). channel w.channel) n.channels) (version_known n.reset) (All-append IsForm (node_forms n.names n.first) (map (λ (w : Wires). channel w.channel) n.channels) (node_lines n.names n.first is.names) (channel_lines n n.channels is.channels)))
+    (All-cons IsForm (head (version_of n.reset)) (node_forms n.names n.first ++ map (λ (w : Wires). channel w.channel) n.channels) (version_known n.reset)
+        (All-append IsForm (node_forms n.names n.first) (map (λ (w : Wires). channel w.channel) n.channels) (node_lines n.names n.first is.names)
+        (channel_lines n n.channels is.channels)))
     (rules_say n is)
 
 reset_back : (n : NetValue) (o : Option ℕ) → IsReset n o → reset_by (version_of o == 2) n.first ≡ o
@@ -337,7 +398,8 @@ reset_back n (Some k) is = ap Some (omega (arith, is.last))
 pub lines_spell : (n : NetValue) → IsNet n → flat_map form_spelling (all_forms n) ≡ spelling n
 lines_spell n is =
     let known = version_known n.reset in
-    let same : net_read (version_of n.reset) n.names n.first (rules_of n) n.channels ≡ n = λ i. record { names = n.names; first = n.first; up = n.up; down = n.down; channels = n.channels; reset = reset_back n n.reset is.reset i } in
+    let same : net_read (version_of n.reset) n.names n.first (rules_of n) n.channels ≡ n =
+        λ i. record { names = n.names; first = n.first; up = n.up; down = n.down; channels = n.channels; reset = reset_back n n.reset is.reset i } in
     net_spelled (version_of n.reset) n.names n.first n.channels (rules_of n) (sym is.named) known.0 known.1 ∙ ap spelling same
 
 pub one_spelled : (a b : NetValue) → IsNet a → IsNet b → spelling a ≡ spelling b → a ≡ b
@@ -347,7 +409,8 @@ one_spelled a b ia ib e = λ i. record { names = names i; first = first i; up = 
     forms = same_forms (all_forms a) (all_forms b) (lines_say a ia) (lines_say b ib) (lines_spell a ia ∙ e ∙ sym (lines_spell b ib))
 
     nodes : nodes_of (node_forms a.names a.first) ≡ nodes_of (node_forms b.names b.first)
-    nodes = sym (nodes_in_net (version_of a.reset) a.names a.first a.channels (rules_of a)) ∙ ap (filter_map node_in) forms ∙ nodes_in_net (version_of b.reset) b.names b.first b.channels (rules_of b)
+    nodes = sym (nodes_in_net (version_of a.reset) a.names a.first a.channels (rules_of a)) ∙ ap (filter_map node_in) forms
+        ∙ nodes_in_net (version_of b.reset) b.names b.first b.channels (rules_of b)
 
     names : a.names ≡ b.names
     names = sym (pair_names a.names a.first (sym ia.named)) ∙ ap (map (λ (p : List ℕ × Bool). p.0)) nodes ∙ pair_names b.names b.first (sym ib.named)
@@ -357,16 +420,21 @@ one_spelled a b ia ib e = λ i. record { names = names i; first = first i; up = 
 
     guard : (k : ℕ) (way : Bool) → k < length a.names → guard_at (rules_of a) k way ≡ guard_at (rules_of b) k way
     guard k way within =
-        same_listed a.names (guard_at (rules_of a) k way) (guard_at (rules_of b) k way) ia.distinct (below a ia way k within) (subst (λ c. IsBelow c (guard_at (rules_of b) k way)) (sym (ap length names)) (below b ib way k (omega (arith, ap length names))))
-        (sym (picked_in_net (version_of a.reset) a.names a.first a.channels (rules_of a) k way ia.distinct (ia.ups ∙ sym ia.named) (ia.downs ∙ sym ia.named) within)
+        same_listed a.names (guard_at (rules_of a) k way) (guard_at (rules_of b) k way) ia.distinct (below a ia way k within)
+            (subst (λ c. IsBelow c (guard_at (rules_of b) k way)) (sym (ap length names)) (below b ib way k (omega (arith, ap length names))))
+        (sym (picked_in_net (version_of a.reset) a.names a.first a.channels (rules_of a) k way ia.distinct (ia.ups ∙ sym ia.named) (ia.downs ∙ sym ia.named)
+            within)
         ∙ ap (filter_map (pick (get_or a.names k []) way)) forms
         ∙ ap (λ ns. filter_map (pick (get_or ns k []) way) (all_forms b)) names
-        ∙ picked_in_net (version_of b.reset) b.names b.first b.channels (rules_of b) k way ib.distinct (ib.ups ∙ sym ib.named) (ib.downs ∙ sym ib.named) (omega (arith, ap length names))
+        ∙ picked_in_net (version_of b.reset) b.names b.first b.channels (rules_of b) k way ib.distinct (ib.ups ∙ sym ib.named) (ib.downs ∙ sym ib.named)
+            (omega (arith, ap length names))
         ∙ ap (λ ns. as_list ns (guard_at (rules_of b) k way)) (sym names))
       where
         below : (n : NetValue) → IsNet n → (way : Bool) (k : ℕ) → k < length n.names → IsBelow (length n.names) (guard_at (rules_of n) k way)
-        below n is true k within = subst (λ c. IsBelow c (get_or n.up k [])) (sym is.named) (All-get_or (IsBelow (length n.first)) n.up k [] (omega (arith, is.ups, is.named)) is.up_within)
-        below n is false k within = subst (λ c. IsBelow c (get_or n.down k [])) (sym is.named) (All-get_or (IsBelow (length n.first)) n.down k [] (omega (arith, is.downs, is.named)) is.down_within)
+        below n is true k within = subst (λ c. IsBelow c (get_or n.up k [])) (sym is.named)
+            (All-get_or (IsBelow (length n.first)) n.up k [] (omega (arith, is.ups, is.named)) is.up_within)
+        below n is false k within = subst (λ c. IsBelow c (get_or n.down k [])) (sym is.named)
+            (All-get_or (IsBelow (length n.first)) n.down k [] (omega (arith, is.downs, is.named)) is.down_within)
 
     up : a.up ≡ b.up
     up = same_guards a.up b.up (omega (arith, ia.ups, ib.ups, ap length first)) (λ k below. guard k true (omega (arith, ia.ups, ia.named)))
@@ -375,13 +443,16 @@ one_spelled a b ia ib e = λ i. record { names = names i; first = first i; up = 
     down = same_guards a.down b.down (omega (arith, ia.downs, ib.downs, ap length first)) (λ k below. guard k false (omega (arith, ia.downs, ia.named)))
 
     told : channels_of a.channels ≡ channels_of b.channels
-    told = sym (channels_in_net (version_of a.reset) a.names a.first a.channels (rules_of a)) ∙ ap (filter_map channel_in) forms ∙ channels_in_net (version_of b.reset) b.names b.first b.channels (rules_of b)
+    told = sym (channels_in_net (version_of a.reset) a.names a.first a.channels (rules_of a)) ∙ ap (filter_map channel_in) forms
+        ∙ channels_in_net (version_of b.reset) b.names b.first b.channels (rules_of b)
 
     channels : a.channels ≡ b.channels
-    channels = same_wires a.names a.channels b.channels ia.distinct (wires_of_net a a.channels ia.named ia.channels) (subst (λ ns. All (IsWiresOf ns) b.channels) (sym names) (wires_of_net b b.channels ib.named ib.channels)) told
+    channels = same_wires a.names a.channels b.channels ia.distinct (wires_of_net a a.channels ia.named ia.channels)
+        (subst (λ ns. All (IsWiresOf ns) b.channels) (sym names) (wires_of_net b b.channels ib.named ib.channels)) told
 
     version : version_of a.reset ≡ version_of b.reset
     version = ap version_at forms
 
     reset : a.reset ≡ b.reset
-    reset = sym (reset_back a a.reset ia.reset) ∙ ap (λ v. reset_by (v == 2) a.first) version ∙ ap (λ f. reset_by (version_of b.reset == 2) f) first ∙ reset_back b b.reset ib.reset
+    reset = sym (reset_back a a.reset ia.reset) ∙ ap (λ v. reset_by (v == 2) a.first) version ∙ ap (λ f. reset_by (version_of b.reset == 2) f) first
+        ∙ reset_back b b.reset ib.reset

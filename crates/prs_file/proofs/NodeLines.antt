@@ -20,7 +20,8 @@ node_text line name first e =
     let count : length line - 3 - 5 ≡ length name = omega (arith, ap length e, node_length name first) in
     ap (λ n. take n (drop 5 line)) count ∙ ap (λ l. take (length name) (drop 5 l)) e ∙ take_at name (value_spelling first ++ []) (length name) refl
 
-pub no_node : (line text : List ℕ) → text ≡ take (length line - 3 - 5) (drop 5 line) → bytes_eq line (node_spelling text true) ≡ false → bytes_eq line (node_spelling text false) ≡ false → (name : List ℕ) (first : Bool) → line ≡ node_spelling name first → ⊥
+pub no_node : (line text : List ℕ) → text ≡ take (length line - 3 - 5) (drop 5 line) → bytes_eq line (node_spelling text true) ≡ false →
+    bytes_eq line (node_spelling text false) ≡ false → (name : List ℕ) (first : Bool) → line ≡ node_spelling name first → ⊥
 no_node line text is high low name true e =
     let said : line ≡ node_spelling text true = e ∙ ap (λ n. node_spelling n true) (sym (node_text line name true e) ∙ sym is) in
     absurd (cc (high, (bytes_decides line (node_spelling text true)).1 said))

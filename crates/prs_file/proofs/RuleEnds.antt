@@ -20,7 +20,8 @@ end_word text name up e =
     let count : length text - 2 - 4 ≡ length name = omega (arith, ap length e, end_length name up) in
     ap (λ n. take n (drop 4 text)) count ∙ ap (λ l. take (length name) (drop 4 l)) e ∙ take_at name (direction up ++ []) (length name) refl
 
-pub no_end : (text word : List ℕ) → word ≡ take (length text - 2 - 4) (drop 4 text) → bytes_eq text (end_spelling word true) ≡ false → bytes_eq text (end_spelling word false) ≡ false → (name : List ℕ) (up : Bool) → text ≡ end_spelling name up → ⊥
+pub no_end : (text word : List ℕ) → word ≡ take (length text - 2 - 4) (drop 4 text) → bytes_eq text (end_spelling word true) ≡ false →
+    bytes_eq text (end_spelling word false) ≡ false → (name : List ℕ) (up : Bool) → text ≡ end_spelling name up → ⊥
 no_end text word is rises falls name true e =
     let said : text ≡ end_spelling word true = e ∙ ap (λ n. end_spelling n true) (sym (end_word text name true e) ∙ sym is) in
     absurd (cc (rises, (bytes_decides text (end_spelling word true)).1 said))

@@ -17,11 +17,13 @@ abbrev pub body : Led → List ℕ
 body l = sign_spelling l.high ++ l.name
 
 pub led_is : (l : Led) → led_spelling l ≡ lead_spelling l.lead ++ body l
-led_is l = ap (λ xs. (lead_spelling l.lead ++ sign_spelling l.high) ++ xs) (append-nil l.name) ∙ append_assoc (lead_spelling l.lead) (sign_spelling l.high) l.name
+led_is l = ap (λ xs. (lead_spelling l.lead ++ sign_spelling l.high) ++ xs) (append-nil l.name)
+    ∙ append_assoc (lead_spelling l.lead) (sign_spelling l.high) l.name
 
 pub more_is : (l : Led) (more : List Led) (n : List ℕ) (u : Bool) → rule_line_of (l ∷ more) n u ≡ lead_spelling l.lead ++ (body l ++ rule_line_of more n u)
 more_is l more n u =
-    append_assoc (led_spelling l) (leds_spelling more) (end_spelling n u) ∙ ap (λ xs. xs ++ rule_line_of more n u) (led_is l) ∙ append_assoc (lead_spelling l.lead) (body l) (rule_line_of more n u)
+    append_assoc (led_spelling l) (leds_spelling more) (end_spelling n u) ∙ ap (λ xs. xs ++ rule_line_of more n u) (led_is l)
+        ∙ append_assoc (lead_spelling l.lead) (body l) (rule_line_of more n u)
 
 -- behind a literal stands a space
 pub starts_space : (more : List Led) (n : List ℕ) (u : Bool) → All (λ (k : Led). k.lead ≢ Rule) more → (tail : List ℕ) × (rule_line_of more n u ≡ 32 ∷ tail)
@@ -85,7 +87,8 @@ pub same_led : (l k : Led) → l.lead ≡ k.lead → l.high ≡ k.high → l.nam
 same_led l k a b c = λ i. record { lead = a i; high = b i; name = c i }
 
 -- a literal at the front of a text is the one that the text was made of
-front_is : (text : List ℕ) (l k : Led) (more : List Led) (n : List ℕ) (u : Bool) → l.lead ≡ k.lead → l.high ≡ is_high text → l.name ≡ word_in text → IsNodeName k.name → All (λ (k : Led). k.lead ≢ Rule) more → text ≡ body k ++ rule_line_of more n u → (l ≡ k) × (behind_word text ≡ rule_line_of more n u)
+front_is : (text : List ℕ) (l k : Led) (more : List Led) (n : List ℕ) (u : Bool) → l.lead ≡ k.lead → l.high ≡ is_high text → l.name ≡ word_in text →
+    IsNodeName k.name → All (λ (k : Led). k.lead ≢ Rule) more → text ≡ body k ++ rule_line_of more n u → (l ≡ k) × (behind_word text ≡ rule_line_of more n u)
 front_is text l k more n u lead high name is further e =
     let space = starts_space more n u further in
     let at : text ≡ (sign_spelling k.high ++ k.name) ++ (32 ∷ space.0) = e ∙ ap (λ xs. body k ++ xs) space.1 in (
@@ -123,10 +126,12 @@ leads_push [] l some apart = absurd some
 leads_push (k ∷ leds) l some apart = (some.0, All-push (λ (k : Led). k.lead ≢ Rule) leds l some.1 apart)
 
 -- the first literal
-pub read_first : (line text rest : List ℕ) (l : Led) → line ≡ codes "rule " ++ text → l.lead ≡ Rule → l.high ≡ is_high text → l.name ≡ word_in text → IsNodeName l.name → rest ≡ behind_word text → IsRead line (l ∷ []) rest
+pub read_first : (line text rest : List ℕ) (l : Led) → line ≡ codes "rule " ++ text → l.lead ≡ Rule → l.high ≡ is_high text → l.name ≡ word_in text →
+    IsNodeName l.name → rest ≡ behind_word text → IsRead line (l ∷ []) rest
 read_first line text rest l begins lead high name named behind = record {
   told =
-      begins ∙ ap (λ xs. codes "rule " ++ xs) (front_told text l high name ∙ ap (λ xs. body l ++ xs) (sym behind)) ∙ sym (append_assoc (codes "rule ") (body l) rest)
+      begins ∙ ap (λ xs. codes "rule " ++ xs) (front_told text l high name ∙ ap (λ xs. body l ++ xs) (sym behind))
+          ∙ sym (append_assoc (codes "rule ") (body l) rest)
       ∙ ap (λ xs. xs ++ rest) (sym (append-nil (led_spelling l) ∙ led_is l ∙ ap (λ k. lead_spelling k ++ body l) lead));
   leads = (lead, All-nil (λ (k : Led). k.lead ≢ Rule));
   names = All-cons (λ (l : Led). IsNodeName l.name) l [] named (All-nil (λ (l : Led). IsNodeName l.name));
@@ -137,8 +142,10 @@ read_first line text rest l begins lead high name named behind = record {
     only_first [] n u form e = absurd form.leads
     only_first (k ∷ more) n u form e =
         let at : text ≡ body k ++ rule_line_of more n u =
-        append_cancel_left (codes "rule ") text (body k ++ rule_line_of more n u) (sym begins ∙ e ∙ more_is k more n u ∙ ap (λ j. lead_spelling j ++ (body k ++ rule_line_of more n u)) form.leads.0) in
-        let front = front_is text l k more n u (lead ∙ sym form.leads.0) high name (All-head (λ (l : Led). IsNodeName l.name) k more form.names) form.leads.1 at in
+        append_cancel_left (codes "rule ") text (body k ++ rule_line_of more n u) (sym begins ∙ e ∙ more_is k more n u
+            ∙ ap (λ j. lead_spelling j ++ (body k ++ rule_line_of more n u)) form.leads.0) in
+        let front = front_is text l k more n u (lead ∙ sym form.leads.0) high name (All-head (λ (l : Led). IsNodeName l.name) k more form.names) form.leads.1 at
+            in
         record { more = more; all = ap (λ x. x ∷ more) (sym front.0); left = behind ∙ front.1 }
 
 second : List ℕ → ℕ
@@ -168,7 +175,8 @@ pub record Next (leds : List Led) (next : Lead) (behind : List ℕ) (ls : List L
   pub further : All (λ (k : Led). k.lead ≢ Rule) more
   pub at : behind ≡ body one ++ rule_line_of more n u
 
-next_of : (line : List ℕ) (leds : List Led) (rest behind : List ℕ) (next : Lead) → IsRead line leds rest → rest ≡ lead_spelling next ++ behind → next ≢ Rule → (ls : List Led) (n : List ℕ) (u : Bool) → IsRuleForm ls n → line ≡ rule_line_of ls n u → Next leds next behind ls n u
+next_of : (line : List ℕ) (leds : List Led) (rest behind : List ℕ) (next : Lead) → IsRead line leds rest → rest ≡ lead_spelling next ++ behind → next ≢ Rule →
+    (ls : List Led) (n : List ℕ) (u : Bool) → IsRuleForm ls n → line ≡ rule_line_of ls n u → Next leds next behind ls n u
 next_of line leds rest behind next read sign apart ls n u form e = by_more left.more left.all left.left
   where
     left : Left leds rest ls n u
@@ -179,7 +187,8 @@ next_of line leds rest behind next read sign apart ls n u form e = by_more left.
     by_more (k ∷ more) all over =
         let further = further_of leds (k ∷ more) read.leads (subst Leads all form.leads) in
         let names = all_right (λ (l : Led). IsNodeName l.name) leds (k ∷ more) (subst (All (λ (l : Led). IsNodeName l.name)) all form.names) in
-        let same = same_sign next k.lead behind (body k ++ rule_line_of more n u) apart (All-head (λ (k : Led). k.lead ≢ Rule) k more further) (sym sign ∙ over ∙ more_is k more n u) in
+        let same = same_sign next k.lead behind (body k ++ rule_line_of more n u) apart (All-head (λ (k : Led). k.lead ≢ Rule) k more further) (sym sign ∙ over
+            ∙ more_is k more n u) in
         record {
           one = k;
           more = more;
@@ -191,10 +200,14 @@ next_of line leds rest behind next read sign apart ls n u form e = by_more left.
         }
 
 -- a further literal
-pub read_more : (line : List ℕ) (leds : List Led) (rest behind after : List ℕ) (next : Lead) (l : Led) → IsRead line leds rest → rest ≡ lead_spelling next ++ behind → next ≢ Rule → l.lead ≡ next → l.high ≡ is_high behind → l.name ≡ word_in behind → IsNodeName l.name → after ≡ behind_word behind → IsRead line (leds ++ l ∷ []) after
+pub read_more : (line : List ℕ) (leds : List Led) (rest behind after : List ℕ) (next : Lead) (l : Led) → IsRead line leds rest →
+    rest ≡ lead_spelling next ++ behind → next ≢ Rule → l.lead ≡ next → l.high ≡ is_high behind → l.name ≡ word_in behind → IsNodeName l.name →
+    after ≡ behind_word behind → IsRead line (leds ++ l ∷ []) after
 read_more line leds rest behind after next l read sign apart lead high name named goes_on = record {
   told =
-      read.told ∙ ap (λ xs. leds_spelling leds ++ xs) (sign ∙ ap (λ xs. lead_spelling next ++ xs) (front_told behind l high name ∙ ap (λ xs. body l ++ xs) (sym goes_on)) ∙ sym (append_assoc (lead_spelling next) (body l) after)
+      read.told ∙ ap (λ xs. leds_spelling leds ++ xs) (sign
+          ∙ ap (λ xs. lead_spelling next ++ xs) (front_told behind l high name ∙ ap (λ xs. body l ++ xs) (sym goes_on))
+          ∙ sym (append_assoc (lead_spelling next) (body l) after)
       ∙ ap (λ xs. xs ++ after) (ap (λ k. lead_spelling k ++ body l) (sym lead) ∙ sym (led_is l)))
       ∙ sym (append_assoc (leds_spelling leds) (led_spelling l) after) ∙ ap (λ xs. xs ++ after) (sym (leds_push leds l));
   leads = leads_push leds l read.leads (λ is. apart (sym lead ∙ is));
@@ -214,26 +227,34 @@ read_more line leds rest behind after next l read sign apart lead high name name
 
 -- the lines that are no rule's
 
-pub no_word : (line : List ℕ) → ((rest : List ℕ) → line ≡ codes "rule " ++ rest → ⊥) → (ls : List Led) (n : List ℕ) (u : Bool) → IsRuleForm ls n → line ≡ rule_line_of ls n u → ⊥
+pub no_word : (line : List ℕ) → ((rest : List ℕ) → line ≡ codes "rule " ++ rest → ⊥) → (ls : List Led) (n : List ℕ) (u : Bool) → IsRuleForm ls n →
+    line ≡ rule_line_of ls n u → ⊥
 no_word line none [] n u form e = form.leads
-no_word line none (k ∷ more) n u form e = none (body k ++ rule_line_of more n u) (e ∙ more_is k more n u ∙ ap (λ j. lead_spelling j ++ (body k ++ rule_line_of more n u)) form.leads.0)
+no_word line none (k ∷ more) n u form e =
+    none (body k ++ rule_line_of more n u) (e ∙ more_is k more n u ∙ ap (λ j. lead_spelling j ++ (body k ++ rule_line_of more n u)) form.leads.0)
 
-pub no_first : (line text : List ℕ) → line ≡ codes "rule " ++ text → (IsNodeName (word_in text) → ⊥) → (ls : List Led) (n : List ℕ) (u : Bool) → IsRuleForm ls n → line ≡ rule_line_of ls n u → ⊥
+pub no_first : (line text : List ℕ) → line ≡ codes "rule " ++ text → (IsNodeName (word_in text) → ⊥) → (ls : List Led) (n : List ℕ) (u : Bool) →
+    IsRuleForm ls n → line ≡ rule_line_of ls n u → ⊥
 no_first line text begins none [] n u form e = form.leads
 no_first line text begins none (k ∷ more) n u form e =
     let at : text ≡ body k ++ rule_line_of more n u =
-    append_cancel_left (codes "rule ") text (body k ++ rule_line_of more n u) (sym begins ∙ e ∙ more_is k more n u ∙ ap (λ j. lead_spelling j ++ (body k ++ rule_line_of more n u)) form.leads.0) in
+    append_cancel_left (codes "rule ") text (body k ++ rule_line_of more n u) (sym begins ∙ e ∙ more_is k more n u
+        ∙ ap (λ j. lead_spelling j ++ (body k ++ rule_line_of more n u)) form.leads.0) in
     let named = All-head (λ (l : Led). IsNodeName l.name) k more form.names in
     let space = starts_space more n u form.leads.1 in
     none (subst IsNodeName (sym (ap word_in (at ∙ ap (λ xs. body k ++ xs) space.1) ∙ word_is k.high k.name space.0 named)) named)
 
-pub no_more : (line : List ℕ) (leds : List Led) (rest behind : List ℕ) (next : Lead) → IsRead line leds rest → rest ≡ lead_spelling next ++ behind → next ≢ Rule → (IsNodeName (word_in behind) → ⊥) → (ls : List Led) (n : List ℕ) (u : Bool) → IsRuleForm ls n → line ≡ rule_line_of ls n u → ⊥
+pub no_more : (line : List ℕ) (leds : List Led) (rest behind : List ℕ) (next : Lead) → IsRead line leds rest → rest ≡ lead_spelling next ++ behind →
+    next ≢ Rule → (IsNodeName (word_in behind) → ⊥) → (ls : List Led) (n : List ℕ) (u : Bool) → IsRuleForm ls n → line ≡ rule_line_of ls n u → ⊥
 no_more line leds rest behind next read sign apart none ls n u form e =
     let one = next_of line leds rest behind next read sign apart ls n u form e in
     let space = starts_space one.more n u one.further in
     none (subst IsNodeName (sym (ap word_in (one.at ∙ ap (λ xs. body one.one ++ xs) space.1) ∙ word_is one.one.high one.one.name space.0 one.named)) one.named)
 
-pub no_rule_end : (line : List ℕ) (leds : List Led) (rest : List ℕ) → IsRead line leds rest → ((lead : Lead) (behind : List ℕ) → lead ≢ Rule → rest ≡ lead_spelling lead ++ behind → ⊥) → ((name : List ℕ) (up : Bool) → IsNodeName name → rest ≡ end_spelling name up → ⊥) → (ls : List Led) (n : List ℕ) (u : Bool) → IsRuleForm ls n → line ≡ rule_line_of ls n u → ⊥
+pub no_rule_end : (line : List ℕ) (leds : List Led) (rest : List ℕ) → IsRead line leds rest →
+    ((lead : Lead) (behind : List ℕ) → lead ≢ Rule → rest ≡ lead_spelling lead ++ behind → ⊥) →
+    ((name : List ℕ) (up : Bool) → IsNodeName name → rest ≡ end_spelling name up → ⊥) → (ls : List Led) (n : List ℕ) (u : Bool) → IsRuleForm ls n →
+    line ≡ rule_line_of ls n u → ⊥
 no_rule_end line leds rest read no_sign no_end ls n u form e = by_more left.more left.all left.left
   where
     left : Left leds rest ls n u

@@ -26,7 +26,10 @@ reset_push (node name first ∷ rest) f some = refl
 reset_push (channel c ∷ rest) f some = refl
 reset_push (rule g name up ∷ rest) f some = refl
 
-fault_told : (before : List Form) (version : ℕ) (names : List (List ℕ)) (first : List Bool) (channels : List Channel) (place : Option ℕ) (count : ℕ) (text rest : List ℕ) (g : List (List Signed)) (name : List ℕ) (up : Bool) → length first ≡ length names → IsRulesRead before version names first channels place count text rest → form_fault before (rule g name up) ≡ rule_fault_of names channels (version == 2) place count g name up
+fault_told : (before : List Form) (version : ℕ) (names : List (List ℕ)) (first : List Bool) (channels : List Channel) (place : Option ℕ) (count : ℕ)
+    (text rest : List ℕ) (g : List (List Signed)) (name : List ℕ) (up : Bool) → length first ≡ length names →
+    IsRulesRead before version names first channels place count text rest →
+    form_fault before (rule g name up) ≡ rule_fault_of names channels (version == 2) place count g name up
 fault_told before version names first channels place count text rest g name up same read =
     rule_fault_is before names first g name up same read.nodes
     ∙ ap (λ cs. rule_fault_of names cs (has_reset before) (last_place before (last_of before)) (sum_by literals_in before) g name up) read.channels_told
@@ -34,12 +37,20 @@ fault_told before version names first channels place count text rest g name up s
     ∙ ap (λ p. rule_fault_of names channels (version == 2) p (sum_by literals_in before) g name up) read.last
     ∙ ap (λ n. rule_fault_of names channels (version == 2) place n g name up) read.literals
 
-pub rule_refused : (before : List Form) (version : ℕ) (names : List (List ℕ)) (first : List Bool) (channels : List Channel) (place : Option ℕ) (count : ℕ) (text rest : List ℕ) (g : List (List Signed)) (name : List ℕ) (up : Bool) (fault : NetFault) (line : ℕ) → length first ≡ length names → IsRulesRead before version names first channels place count text rest → 0 < length rest → first_line rest ≡ form_spelling (rule g name up) → IsForm (rule g name up) → rule_fault_of names channels (version == 2) place count g name up ≡ Some fault → line ≡ length before + 1 → IsRefused text fault line
+pub rule_refused : (before : List Form) (version : ℕ) (names : List (List ℕ)) (first : List Bool) (channels : List Channel) (place : Option ℕ) (count : ℕ)
+    (text rest : List ℕ) (g : List (List Signed)) (name : List ℕ) (up : Bool) (fault : NetFault) (line : ℕ) → length first ≡ length names →
+    IsRulesRead before version names first channels place count text rest → 0 < length rest → first_line rest ≡ form_spelling (rule g name up) →
+    IsForm (rule g name up) → rule_fault_of names channels (version == 2) place count g name up ≡ Some fault → line ≡ length before + 1 →
+    IsRefused text fault line
 rule_refused before version names first channels place count text rest g name up fault line same read some says form bad number =
-    refused_here text before rest fault line read.taken (fault_here before (rule g name up) rest fault some says form (read.late g name up) (fault_told before version names first channels place count text rest g name up same read ∙ bad)) number
+    refused_here text before rest fault line read.taken (fault_here before (rule g name up) rest fault some says form (read.late g name up)
+        (fault_told before version names first channels place count text rest g name up same read ∙ bad)) number
 
 -- a line that is no rule's
-pub line_refused : (before : List Form) (version : ℕ) (names : List (List ℕ)) (first : List Bool) (channels : List Channel) (place : Option ℕ) (count : ℕ) (text rest : List ℕ) (line : ℕ) → IsRulesRead before version names first channels place count text rest → 0 < length rest → ((g : List (List Signed)) (name : List ℕ) (up : Bool) → IsForm (rule g name up) → first_line rest ≡ form_spelling (rule g name up) → ⊥) → line ≡ length before + 1 → IsRefused text BadLine line
+pub line_refused : (before : List Form) (version : ℕ) (names : List (List ℕ)) (first : List Bool) (channels : List Channel) (place : Option ℕ) (count : ℕ)
+    (text rest : List ℕ) (line : ℕ) → IsRulesRead before version names first channels place count text rest → 0 < length rest →
+    ((g : List (List Signed)) (name : List ℕ) (up : Bool) → IsForm (rule g name up) → first_line rest ≡ form_spelling (rule g name up) → ⊥) →
+    line ≡ length before + 1 → IsRefused text BadLine line
 line_refused before version names first channels place count text rest line read some over number =
     refused_here text before rest BadLine line read.taken (at_line some (bad_line (λ at. absurd (omega (arith, ap length at.0, read.long))) none)) number
   where
@@ -49,15 +60,22 @@ line_refused before version names first channels place count text rest line read
     none (channel c) says = read.early (channel c) says refl
     none (rule g name up) says = absurd (over g name up says.form says.spelled)
 
-pub rules_more : (before : List Form) (version : ℕ) (names : List (List ℕ)) (first : List Bool) (channels : List Channel) (place : Option ℕ) (count : ℕ) (text rest behind : List ℕ) (g : List (List Signed)) (name : List ℕ) (up : Bool) → length first ≡ length names → IsRulesRead before version names first channels place count text rest → first_line rest ≡ form_spelling (rule g name up) → rest ≡ first_line rest ++ behind → IsForm (rule g name up) → rule_fault_of names channels (version == 2) place count g name up ≡ None → IsRulesRead (before ++ rule g name up ∷ []) version names first channels (Some (rule_place names name up)) (count + literals_in (rule g name up)) text behind
+pub rules_more : (before : List Form) (version : ℕ) (names : List (List ℕ)) (first : List Bool) (channels : List Channel) (place : Option ℕ) (count : ℕ)
+    (text rest behind : List ℕ) (g : List (List Signed)) (name : List ℕ) (up : Bool) → length first ≡ length names →
+    IsRulesRead before version names first channels place count text rest → first_line rest ≡ form_spelling (rule g name up) →
+    rest ≡ first_line rest ++ behind → IsForm (rule g name up) → rule_fault_of names channels (version == 2) place count g name up ≡ None →
+    IsRulesRead (before ++ rule g name up ∷ []) version names first channels (Some (rule_place names name up)) (count + literals_in (rule g name up)) text
+    behind
 rules_more before version names first channels place count text rest behind g name up same read says whole form good =
     record {
-      taken = taken_more text before f rest (first_line rest) behind read.taken whole says form (read.late g name up) (fault_told before version names first channels place count text rest g name up same read ∙ good);
+      taken = taken_more text before f rest (first_line rest) behind read.taken whole says form (read.late g name up)
+          (fault_told before version names first channels place count text rest g name up same read ∙ good);
       long = long;
       nodes = nodes;
       channels_told = filter_map-append channel_in before (f ∷ []) ∙ append-nil (channels_of before) ∙ read.channels_told;
       reset = reset_push before f (omega (arith, read.long)) ∙ read.reset;
-      last = rw (last_push before f) (ap (λ o. Some (2 * unwrap_or o 0 + (if up then 0 else 1))) (ap (λ ns. position (λ (n : List ℕ × Bool). bytes_eq n.0 name) ns) nodes ∙ number_is names first name same));
+      last = rw (last_push before f) (ap (λ o. Some (2 * unwrap_or o 0 + (if up then 0 else 1)))
+          (ap (λ ns. position (λ (n : List ℕ × Bool). bytes_eq n.0 name) ns) nodes ∙ number_is names first name same));
       literals = sum_by_push literals_in before f ∙ ap (λ n. n + literals_in f) read.literals;
       early = early;
       late = λ h n u. rw (last_push before f, past) refl;

@@ -8,7 +8,8 @@ use Rattle.prs_file.specs.Reading.{Signed}
 use Rattle.prs_file.specs.Terms.{signed_of, put_by, terms_of}
 
 -- the first and the last literal don't meddle with each other
-put_add : (lead further : Lead) (s r : Signed) (t : List Signed) (ts : List (List Signed)) → put_by lead s (add_by further r (t ∷ ts)) ≡ add_by further r (put_by lead s (t ∷ ts))
+put_add : (lead further : Lead) (s r : Signed) (t : List Signed) (ts : List (List Signed)) →
+    put_by lead s (add_by further r (t ∷ ts)) ≡ add_by further r (put_by lead s (t ∷ ts))
 put_add Or Rule s r t ts = refl
 put_add Or And s r t ts = refl
 put_add Or Or s r t ts = refl
@@ -48,4 +49,6 @@ pub terms_push : (l : Led) (ls : List Led) (k : Led) → terms_of (l ∷ (ls ++ 
 terms_push l [] k = two_terms k.lead (signed_of l) (signed_of k)
 terms_push l (m ∷ ms) k =
     let some = some_terms m ms in
-    ap (put_by m.lead (signed_of l)) (terms_push m ms k) ∙ subst (λ g. put_by m.lead (signed_of l) (add_by k.lead (signed_of k) g) ≡ add_by k.lead (signed_of k) (put_by m.lead (signed_of l) g)) (sym some.is) (put_add m.lead k.lead (signed_of l) (signed_of k) some.first some.others)
+    ap (put_by m.lead (signed_of l)) (terms_push m ms k)
+        ∙ subst (λ g. put_by m.lead (signed_of l) (add_by k.lead (signed_of k) g) ≡ add_by k.lead (signed_of k) (put_by m.lead (signed_of l) g)) (sym some.is)
+        (put_add m.lead k.lead (signed_of l) (signed_of k) some.first some.others)

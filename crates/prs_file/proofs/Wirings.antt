@@ -19,7 +19,8 @@ distinct_tail : (m : List ℕ) (names : List (List ℕ)) → Distinct (m ∷ nam
 distinct_tail m names all = λ i j d below within. all (suc i) (suc j) d (omega arith) (omega arith)
 
 -- the place of a name, in the list with one more at the front
-pub place_cases : {P : Type 0} (m : List ℕ) (names : List (List ℕ)) (name : List ℕ) (n : ℕ) → place_in (m ∷ names) name ≡ Some n → ((m ≡ name) → (n ≡ 0) → P) → ((k : ℕ) → place_in names name ≡ Some k → n ≡ suc k → bytes_eq m name ≡ false → P) → P
+pub place_cases : {P : Type 0} (m : List ℕ) (names : List (List ℕ)) (name : List ℕ) (n : ℕ) → place_in (m ∷ names) name ≡ Some n → ((m ≡ name) → (n ≡ 0) → P) →
+    ((k : ℕ) → place_in names name ≡ Some k → n ≡ suc k → bytes_eq m name ≡ false → P) → P
 place_cases {P = P} m names name n is here behind = by_name (bytes_eq m name) refl (place_in names name) refl is
   where
     by_name : (b : Bool) → bytes_eq m name ≡ b → (o : Option ℕ) → place_in names name ≡ o → cond b (Some 0) (option_map (λ k. suc k) o) ≡ Some n → P
@@ -31,22 +32,27 @@ place_cases {P = P} m names name n is here behind = by_name (bytes_eq m name) re
 pub place_found : (names : List (List ℕ)) (name : List ℕ) (n : ℕ) → place_in names name ≡ Some n → (n < length names) × (get_or names n [] ≡ name)
 place_found [] name n is = absurd (cc is)
 place_found (m ∷ names) name n is =
-    place_cases m names name n is (λ same at. (omega arith, ap (λ k. get_or (m ∷ names) k []) at ∙ same)) (λ k at next other. let rest = place_found names name k at in (omega (arith, rest.0), ap (λ k. get_or (m ∷ names) k []) next ∙ rest.1))
+    place_cases m names name n is (λ same at. (omega arith, ap (λ k. get_or (m ∷ names) k []) at ∙ same)) (λ k at next other. let rest =
+        place_found names name k at in (omega (arith, rest.0), ap (λ k. get_or (m ∷ names) k []) next ∙ rest.1))
 
-none_high : (names : List (List ℕ)) (first : List Bool) (name : List ℕ) → ((k : ℕ) → k < length names → get_or names k [] ≢ name) → is_high_named names first name ≡ false
+none_high : (names : List (List ℕ)) (first : List Bool) (name : List ℕ) → ((k : ℕ) → k < length names → get_or names k [] ≢ name) →
+    is_high_named names first name ≡ false
 none_high [] first name apart = refl
 none_high (m ∷ names) [] name apart = refl
 none_high (m ∷ names) (v ∷ first) name apart =
-    or_from _ _ (and_left (bytes_eq m name) v (false_from_ne_true (bytes_eq m name) (λ same. apart 0 (omega arith) ((bytes_decides m name).0 same)))) (none_high names first name (λ k below. apart (suc k) (omega arith)))
+    or_from _ _ (and_left (bytes_eq m name) v (false_from_ne_true (bytes_eq m name) (λ same. apart 0 (omega arith) ((bytes_decides m name).0 same))))
+        (none_high names first name (λ k below. apart (suc k) (omega arith)))
 
-pub high_is : (names : List (List ℕ)) (first : List Bool) (name : List ℕ) (n : ℕ) → length first ≡ length names → Distinct names → place_in names name ≡ Some n → is_high_named names first name ≡ get_or first n false
+pub high_is : (names : List (List ℕ)) (first : List Bool) (name : List ℕ) (n : ℕ) → length first ≡ length names → Distinct names →
+    place_in names name ≡ Some n → is_high_named names first name ≡ get_or first n false
 high_is [] first name n count apart is = absurd (cc is)
 high_is (m ∷ names) [] name n count apart is = absurd (omega arith)
 high_is (m ∷ names) (v ∷ first) name n count apart is =
     place_cases m names name n is
     (λ same at.
     let here : bytes_eq m name ≡ true = (bytes_decides m name).1 same in
-    let rest : is_high_named names first name ≡ false = none_high names first name (λ k below e. apart 0 (suc k) [] (omega arith) (omega arith) (same ∙ sym e)) in
+    let rest : is_high_named names first name ≡ false =
+        none_high names first name (λ k below e. apart 0 (suc k) [] (omega arith) (omega arith) (same ∙ sym e)) in
     rw (at, here, rest) (by_value v))
     (λ k at next other. rw (next, other) (high_is names first name k (omega arith) (distinct_tail m names apart) at))
   where
@@ -62,7 +68,8 @@ all_found names (w ∷ wires) (n ∷ numbers) found =
     let rest : AreFound names wires numbers = cc found in
     rw first (all_found names wires numbers rest)
 
-pub high_wires : (names : List (List ℕ)) (first : List Bool) (wires : List (List ℕ)) (numbers : List ℕ) → length first ≡ length names → Distinct names → AreFound names wires numbers → list_any (is_high_named names first) wires ≡ list_any (λ n. get_or first n false) numbers
+pub high_wires : (names : List (List ℕ)) (first : List Bool) (wires : List (List ℕ)) (numbers : List ℕ) → length first ≡ length names → Distinct names →
+    AreFound names wires numbers → list_any (is_high_named names first) wires ≡ list_any (λ n. get_or first n false) numbers
 high_wires names first [] [] count apart found = refl
 high_wires names first [] (n ∷ numbers) count apart found = absurd (cc found)
 high_wires names first (w ∷ wires) [] count apart found = absurd (cc found)
@@ -79,14 +86,19 @@ numbers_within names (w ∷ wires) (n ∷ numbers) found =
     let rest : AreFound names wires numbers = cc found in
     All-cons (λ n. n < length names) n numbers (place_found names w n at).0 (numbers_within names wires numbers rest)
 
-pub fault_unknown : (names : List (List ℕ)) (first : List Bool) (c : Channel) → some_unknown names (wires_of c) ≡ true → wires_fault_of names first c ≡ Some UnknownNode
+pub fault_unknown : (names : List (List ℕ)) (first : List Bool) (c : Channel) → some_unknown names (wires_of c) ≡ true →
+    wires_fault_of names first c ≡ Some UnknownNode
 fault_unknown names first c is = rw is refl
 
-pub fault_high : (names : List (List ℕ)) (first : List Bool) (c : Channel) (numbers : List ℕ) → length first ≡ length names → Distinct names → AreFound names (wires_of c) numbers → list_any (λ n. get_or first n false) numbers ≡ true → wires_fault_of names first c ≡ Some BadFirst
-fault_high names first c numbers count apart found high = rw (all_found names (wires_of c) numbers found, high_wires names first (wires_of c) numbers count apart found, high) refl
+pub fault_high : (names : List (List ℕ)) (first : List Bool) (c : Channel) (numbers : List ℕ) → length first ≡ length names → Distinct names →
+    AreFound names (wires_of c) numbers → list_any (λ n. get_or first n false) numbers ≡ true → wires_fault_of names first c ≡ Some BadFirst
+fault_high names first c numbers count apart found high =
+    rw (all_found names (wires_of c) numbers found, high_wires names first (wires_of c) numbers count apart found, high) refl
 
-pub fault_none : (names : List (List ℕ)) (first : List Bool) (c : Channel) (numbers : List ℕ) → length first ≡ length names → Distinct names → AreFound names (wires_of c) numbers → list_any (λ n. get_or first n false) numbers ≡ false → wires_fault_of names first c ≡ None
-fault_none names first c numbers count apart found low = rw (all_found names (wires_of c) numbers found, high_wires names first (wires_of c) numbers count apart found, low) refl
+pub fault_none : (names : List (List ℕ)) (first : List Bool) (c : Channel) (numbers : List ℕ) → length first ≡ length names → Distinct names →
+    AreFound names (wires_of c) numbers → list_any (λ n. get_or first n false) numbers ≡ false → wires_fault_of names first c ≡ None
+fault_none names first c numbers count apart found low =
+    rw (all_found names (wires_of c) numbers found, high_wires names first (wires_of c) numbers count apart found, low) refl
 
 pub all_low : (first : List Bool) (numbers : List ℕ) → list_any (λ n. get_or first n false) numbers ≡ false → All (λ n. get_or first n false ≡ false) numbers
 all_low first [] low = All-nil (λ n. get_or first n false ≡ false)
@@ -94,14 +106,17 @@ all_low first (n ∷ numbers) low =
     let both = or_parts (get_or first n false) (list_any (λ n. get_or first n false) numbers) low in
     All-cons (λ n. get_or first n false ≡ false) n numbers both.0 (all_low first numbers both.1)
 
-either : (first : List Bool) (rails : List ℕ) (ack : ℕ) → list_any (λ n. get_or first n false) (rails ++ ack ∷ []) ≡ (list_any (λ n. get_or first n false) rails || (get_or first ack false || false))
+either : (first : List Bool) (rails : List ℕ) (ack : ℕ) →
+    list_any (λ n. get_or first n false) (rails ++ ack ∷ []) ≡ (list_any (λ n. get_or first n false) rails || (get_or first ack false || false))
 either first rails ack = list_any-append (λ n. get_or first n false) rails (ack ∷ [])
 
-pub rail_high : (first : List Bool) (rails : List ℕ) (ack : ℕ) → list_any (λ n. get_or first n false) rails ≡ true → list_any (λ n. get_or first n false) (rails ++ ack ∷ []) ≡ true
+pub rail_high : (first : List Bool) (rails : List ℕ) (ack : ℕ) → list_any (λ n. get_or first n false) rails ≡ true →
+    list_any (λ n. get_or first n false) (rails ++ ack ∷ []) ≡ true
 rail_high first rails ack is = either first rails ack ∙ or_left _ _ is
 
 pub ack_high : (first : List Bool) (rails : List ℕ) (ack : ℕ) → get_or first ack false ≡ true → list_any (λ n. get_or first n false) (rails ++ ack ∷ []) ≡ true
 ack_high first rails ack is = either first rails ack ∙ or_right (list_any (λ n. get_or first n false) rails) _ (or_left _ false is)
 
-pub none_is_high : (first : List Bool) (rails : List ℕ) (ack : ℕ) → list_any (λ n. get_or first n false) rails ≡ false → get_or first ack false ≡ false → list_any (λ n. get_or first n false) (rails ++ ack ∷ []) ≡ false
+pub none_is_high : (first : List Bool) (rails : List ℕ) (ack : ℕ) → list_any (λ n. get_or first n false) rails ≡ false → get_or first ack false ≡ false →
+    list_any (λ n. get_or first n false) (rails ++ ack ∷ []) ≡ false
 none_is_high first rails ack one two = either first rails ack ∙ or_from _ _ one (or_from _ false two refl)

@@ -30,12 +30,14 @@ stands_late (channel c) = true
 stands_late (rule g name up) = true
 
 -- the channels of a text up to what is left of it
-pub record IsChannelsRead (version : ℕ) (names : List (List ℕ)) (first : List Bool) (ws : List Wires) (text rest : List ℕ) : Type 0 where
+pub record IsChannelsRead (version : ℕ) (names : List (List ℕ)) (first : List Bool) (ws : List Wires)
+    (text rest : List ℕ) : Type 0 where
   pub taken : IsTaken text (channels_told version names first ws) rest
   pub wired : All (IsWired names first) ws
   pub forms : All (λ (w : Wires). IsChannelForm w.channel) ws
   pub distinct : AllPairs (λ (a b : List ℕ). a ≢ b) (channel_names ws)
-  pub early : (f : Form) → Says (first_line rest) f → stands_late f ≡ false → may_stand (channels_told version names first ws) f ≡ false
+  pub early : (f : Form) → Says (first_line rest) f → stands_late f ≡ false →
+      may_stand (channels_told version names first ws) f ≡ false
   pub late : (f : Form) → stands_late f ≡ true → may_stand (channels_told version names first ws) f ≡ true
   pub ends : may_end (channels_told version names first ws) ≡ true
   pub last : last_place (channels_told version names first ws) (last_of (channels_told version names first ws)) ≡ None

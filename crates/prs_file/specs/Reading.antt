@@ -165,7 +165,8 @@ outside_of c = wires_from_outside' c.kind c
 
 abbrev pub driven_wire : List Form → Form → Bool
 driven_wire before (rule g name up) =
-    bytes_eq name (codes "go") || ((has_reset before && bytes_eq name (codes "reset")) || list_any (λ (c : Channel). list_any (bytes_eq name) (outside_of c)) (channels_of before))
+    bytes_eq name (codes "go") || ((has_reset before && bytes_eq name (codes "reset"))
+        || list_any (λ (c : Channel). list_any (bytes_eq name) (outside_of c)) (channels_of before))
 driven_wire before _ = false
 
 -- the place of a rule in the order of rules: by its node, up before down
@@ -200,7 +201,8 @@ literal_limit before = if has_reset before then 8454144 else 4194304
 
 abbrev pub too_many : List Form → Form → Bool
 too_many before (node name first) = nat_lt (node_limit before) (length (nodes_of before) + 1)
-too_many before (rule g name up) = nat_lt (literal_limit before) (sum_by literals_in before + literals_in (rule g name up))
+too_many before (rule g name up) =
+    nat_lt (literal_limit before) (sum_by literals_in before + literals_in (rule g name up))
 too_many before _ = false
 
 -- of a line that says something and may stand: the first cause that holds
@@ -229,8 +231,10 @@ BadVersionAt before line = (before ≡ []) × (digits : List ℕ) × IsBadVersio
 -- why a line is refused behind lines that are not
 pub data LineFault (before : List Form) (line : List ℕ) : NetFault → Type 0 where
   bad_version : BadVersionAt before line → LineFault before line BadVersion
-  bad_line : ¬ BadVersionAt before line → ((f : Form) → Says line f → may_stand before f ≡ false) → LineFault before line BadLine
-  of_form : (f : Form) {fault : NetFault} → Says line f → may_stand before f ≡ true → form_fault before f ≡ Some fault → LineFault before line fault
+  bad_line : ¬ BadVersionAt before line → ((f : Form) → Says line f → may_stand before f ≡ false) →
+      LineFault before line BadLine
+  of_form : (f : Form) {fault : NetFault} → Says line f → may_stand before f ≡ true → form_fault before f ≡ Some fault →
+      LineFault before line fault
 
 -- each line may stand behind those before it, and has no fault
 abbrev pub AllStand : List Form → List Form → Type 0
@@ -245,7 +249,8 @@ pub record IsTaken (text : List ℕ) (before : List Form) (rest : List ℕ) : Ty
 
 -- the text is refused for this cause behind so many lines: at a line, or at its end where it may not end
 pub data RefusedBehind (before : List Form) (rest : List ℕ) : NetFault → Type 0 where
-  at_line : {fault : NetFault} → 0 < length rest → LineFault before (first_line rest) fault → RefusedBehind before rest fault
+  at_line : {fault : NetFault} → 0 < length rest → LineFault before (first_line rest) fault →
+      RefusedBehind before rest fault
   at_end : rest ≡ [] → may_end before ≡ false → RefusedBehind before rest BadLine
 
 pub record IsRefused (text : List ℕ) (fault : NetFault) (line : ℕ) : Type 0 where

@@ -14,7 +14,8 @@ use Rattle.prs_file.specs.Terms.{rule_unknown}
 -- a node that the environment moves
 abbrev pub is_driven : Bool → List Channel → List ℕ → Bool
 is_driven reset channels name =
-    bytes_eq name (codes "go") || ((reset && bytes_eq name (codes "reset")) || list_any (λ (c : Channel). list_any (bytes_eq name) (outside_of c)) channels)
+    bytes_eq name (codes "go") || ((reset && bytes_eq name (codes "reset"))
+        || list_any (λ (c : Channel). list_any (bytes_eq name) (outside_of c)) channels)
 
 abbrev pub rule_place : List (List ℕ) → List ℕ → Bool → ℕ
 rule_place names name up = 2 * unwrap_or (place_in names name) 0 + (if up then 0 else 1)
@@ -23,9 +24,15 @@ abbrev pub most_literals : Bool → ℕ
 most_literals reset = if reset then 8454144 else 4194304
 
 -- behind a rule at the last place, and so many literals
-abbrev pub rule_fault_of : List (List ℕ) → List Channel → Bool → Option ℕ → ℕ → List (List Signed) → List ℕ → Bool → Option NetFault
+abbrev pub rule_fault_of : List (List ℕ) → List Channel → Bool → Option ℕ → ℕ → List (List Signed) → List ℕ → Bool →
+    Option NetFault
 rule_fault_of names channels reset last count g name up =
-    if rule_unknown names g name then Some UnknownNode else (if is_driven reset channels name then Some DrivenWire else (if same_place last (rule_place names name up) then Some DoubleRule else (if stands_above last (rule_place names name up) then Some OutOfOrder else (if nat_lt (most_literals reset) (count + sum_by (λ (t : List Signed). length t) g) then Some TooMany else None))))
+    if rule_unknown names g name then Some UnknownNode else
+        (if is_driven reset channels name then Some DrivenWire else
+        (if same_place last (rule_place names name up) then Some DoubleRule else
+        (if stands_above last (rule_place names name up) then Some OutOfOrder else
+        (if nat_lt (most_literals reset) (count + sum_by (λ (t : List Signed). length t) g) then Some TooMany else
+        None))))
 
 abbrev pub order_fault_of : Option ℕ → ℕ → Option NetFault
 order_fault_of last place =
@@ -38,7 +45,8 @@ is_rule (channel c) = false
 is_rule (rule g name up) = true
 
 -- the rules of a text up to what is left of it: what these lines have told, and what may stand behind them
-pub record IsRulesRead (before : List Form) (version : ℕ) (names : List (List ℕ)) (first : List Bool) (channels : List Channel) (place : Option ℕ) (count : ℕ) (text rest : List ℕ) : Type 0 where
+pub record IsRulesRead (before : List Form) (version : ℕ) (names : List (List ℕ)) (first : List Bool)
+    (channels : List Channel) (place : Option ℕ) (count : ℕ) (text rest : List ℕ) : Type 0 where
   pub taken : IsTaken text before rest
   pub long : 2 < length before
   pub nodes : nodes_of before ≡ nodes_of (node_forms names first)

@@ -50,12 +50,14 @@ end_spelling name up = concat (codes " -> " ∷ name ∷ (if up then codes "+\n"
 -- a guard with no terms has no line
 abbrev pub rule_spelling : NetValue → GuardValue → ℕ → Bool → List ℕ
 rule_spelling n [] node up = []
-rule_spelling n (t ∷ ts) node up = concat (codes "rule " ∷ guard_spelling n (t ∷ ts) ∷ end_spelling (name_at n node) up ∷ [])
+rule_spelling n (t ∷ ts) node up =
+    concat (codes "rule " ∷ guard_spelling n (t ∷ ts) ∷ end_spelling (name_at n node) up ∷ [])
 
 abbrev pub rules_spelling : NetValue → ℕ → List ℕ
 rules_spelling n node = rule_spelling n (up_of n node) node true ++ rule_spelling n (down_of n node) node false
 
--- the one text of a net: the version, the nodes in order of their numbers, the channels, and the rules in order of their nodes
+-- the one text of a net: the version, the nodes in order of their numbers, the channels, and the rules in order of
+-- their nodes
 abbrev pub spelling : NetValue → List ℕ
 spelling n =
     let nodes = range_with_len 0 (length n.first) in

@@ -19,7 +19,8 @@ guard_forms names (t ∷ ts) node up = rule (guard_named names (t ∷ ts)) (slic
 
 abbrev pub node_rules : List (List ℕ) → RulesValue → ℕ → List Form
 node_rules names r node =
-    guard_forms names (slice_index_or r.up node []) node true ++ guard_forms names (slice_index_or r.down node []) node false
+    guard_forms names (slice_index_or r.up node []) node true
+        ++ guard_forms names (slice_index_or r.down node []) node false
 
 -- the lines of rules, in order of their nodes, up before down
 abbrev pub rule_forms : List (List ℕ) → RulesValue → List Form
@@ -33,7 +34,8 @@ abbrev pub place_at : ℕ → Bool → ℕ
 place_at node up = 2 * node + (if up then 0 else 1)
 
 abbrev pub with_guard : ℕ → Bool → GuardValue → RulesValue → RulesValue
-with_guard node up g r = if up then record r { up = slice_set r.up node g } else record r { down = slice_set r.down node g }
+with_guard node up g r = if up then record r { up = slice_set r.up node g } else record r { down =
+    slice_set r.down node g }
 
 -- a place behind the last one
 abbrev pub IsBehind : Option ℕ → ℕ → Type 0
@@ -43,18 +45,24 @@ IsBehind (Some last) place = last < place
 -- why a rule over known nodes is refused
 abbrev pub known_fault_of : Bool → Bool → Option ℕ → ℕ → ℕ → ℕ → Option NetFault
 known_fault_of reset driven last count place literals =
-    if driven then Some DrivenWire else (if same_place last place then Some DoubleRule else (if stands_above last place then Some OutOfOrder else (if nat_lt (most_literals reset) (count + literals) then Some TooMany else None)))
+    if driven then Some DrivenWire else
+        (if same_place last place then Some DoubleRule else
+        (if stands_above last place then Some OutOfOrder else
+        (if nat_lt (most_literals reset) (count + literals) then Some TooMany else None)))
 
 -- the guards up to a place, with so many literals
-pub record IsTable (reset : Bool) (channels : List Channel) (names : List (List ℕ)) (last : Option ℕ) (count : ℕ) (r : RulesValue) : Type 0 where
+pub record IsTable (reset : Bool) (channels : List Channel) (names : List (List ℕ)) (last : Option ℕ) (count : ℕ)
+    (r : RulesValue) : Type 0 where
   pub ups : length r.up ≡ length names
   pub downs : length r.down ≡ length names
   pub up_within : All (IsBelow (length names)) r.up
   pub down_within : All (IsBelow (length names)) r.down
   pub up_filled : All IsFilled r.up
   pub down_filled : All IsFilled r.down
-  pub up_undriven : (n : ℕ) → n < length names → is_driven reset channels (slice_index_or names n []) ≡ true → slice_index_or r.up n [] ≡ []
-  pub down_undriven : (n : ℕ) → n < length names → is_driven reset channels (slice_index_or names n []) ≡ true → slice_index_or r.down n [] ≡ []
+  pub up_undriven : (n : ℕ) → n < length names → is_driven reset channels (slice_index_or names n []) ≡ true →
+      slice_index_or r.up n [] ≡ []
+  pub down_undriven : (n : ℕ) → n < length names → is_driven reset channels (slice_index_or names n []) ≡ true →
+      slice_index_or r.down n [] ≡ []
   pub literals : sum_by guard_literals r.up + sum_by guard_literals r.down ≡ count
   pub few : count ≤ most_literals reset
   pub up_free : (n : ℕ) → IsBehind last (2 * n) → slice_index_or r.up n [] ≡ []

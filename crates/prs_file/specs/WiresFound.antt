@@ -18,12 +18,14 @@ some_unknown names wires = list_any (λ w. is_none (place_in names w)) wires
 
 -- by its name, a node that is high at first
 abbrev pub is_high_named : List (List ℕ) → List Bool → List ℕ → Bool
-is_high_named names first name = list_any (λ (n : List ℕ × Bool). bytes_eq n.0 name && n.1) (nodes_of (node_forms names first))
+is_high_named names first name =
+    list_any (λ (n : List ℕ × Bool). bytes_eq n.0 name && n.1) (nodes_of (node_forms names first))
 
 -- why a channel has no wires: one of them is no node, or high at first
 abbrev pub wires_fault_of : List (List ℕ) → List Bool → Channel → Option NetFault
 wires_fault_of names first c =
-    if some_unknown names (wires_of c) then Some UnknownNode else (if list_any (is_high_named names first) (wires_of c) then Some BadFirst else None)
+    if some_unknown names (wires_of c) then Some UnknownNode else
+        (if list_any (is_high_named names first) (wires_of c) then Some BadFirst else None)
 
 abbrev pub numbers_of : Wires → List ℕ
 numbers_of w = w.rails ++ w.ack ∷ []

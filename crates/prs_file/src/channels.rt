@@ -44,15 +44,18 @@ pub fn read_channels<'a>(
     text: &'a [u8],
 ) -> Result<(Vec<Wires>, &'a [u8]), NetReadError>
     requires short { length text.now ≤ 268435456 }
-    requires read { IsNodesRead nodes.now.version nodes.now.index nodes.now.first.items true (text_behind (nodes_told nodes.now.version nodes.now.index nodes.now.first.items) text.now) text.now }
+    requires read { IsNodesRead nodes.now.version nodes.now.index nodes.now.first.items true
+        (text_behind (nodes_told nodes.now.version nodes.now.index nodes.now.first.items) text.now) text.now }
     requires over { (name : List ℕ) (first : Bool) → IsNodeName name → first_line text.now ≢ node_spelling name first }
     ensures read { IfOk result
-        (λ r. IsChannelsRead nodes.now.version nodes.now.index nodes.now.first.items r.0.items (text_behind (nodes_told nodes.now.version nodes.now.index nodes.now.first.items) text.now) r.1.now) }
+        (λ r. IsChannelsRead nodes.now.version nodes.now.index nodes.now.first.items r.0.items
+            (text_behind (nodes_told nodes.now.version nodes.now.index nodes.now.first.items) text.now) r.1.now) }
     ensures over { IfOk result
         (λ r. (c : ChannelValue) → IsChannelForm c → first_line r.1.now ≢ channel_spelling c) }
     ensures room { IfOk result (λ r. length r.0.items + length r.1.now ≤ length text.now) }
     ensures refused { IfErr result
-        (OfRefusal (λ fault line. IsRefused (text_behind (nodes_told nodes.now.version nodes.now.index nodes.now.first.items) text.now) fault line)) }
+        (OfRefusal (λ fault line. IsRefused
+            (text_behind (nodes_told nodes.now.version nodes.now.index nodes.now.first.items) text.now) fault line)) }
 {
     let mut channels: Vec<Wires> = Vec::new(alloc);
     let mut names = NodeIndex::new(alloc);

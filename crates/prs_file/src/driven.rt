@@ -16,7 +16,8 @@ use std::alloc::{AllocError, Global};
 /// Marks these nodes.
 fn mark(driven: &mut [bool], nodes: &[u32])
     requires { All (λ n. n < length driven.old) nodes.now }
-    ensures { (n : ℕ) → slice_index_or driven.new n false ≡ (slice_index_or driven.old n false || list_any (λ k. k == n) nodes.now) }
+    ensures { (n : ℕ) → slice_index_or driven.new n false ≡
+        (slice_index_or driven.old n false || list_any (λ k. k == n) nodes.now) }
 {
     for node in nodes {
         driven[*node as usize] = true;
@@ -27,7 +28,9 @@ fn mark(driven: &mut [bool], nodes: &[u32])
 fn mark_wires(driven: &mut [bool], wires: &Wires)
     requires rails { All (λ n. n < length driven.old) wires.now.rails }
     requires ack { wires.now.ack < length driven.old }
-    ensures { (n : ℕ) → slice_index_or driven.new n false ≡ (slice_index_or driven.old n false || list_any (λ k. k == n) (wires_from_outside wires.now.channel.kind wires.now.rails wires.now.ack)) }
+    ensures { (n : ℕ) → slice_index_or driven.new n false ≡
+        (slice_index_or driven.old n false
+        || list_any (λ k. k == n) (wires_from_outside wires.now.channel.kind wires.now.rails wires.now.ack)) }
 {
     match wires.channel.kind {
         Kind::In => mark(driven, wires.rails.nodes()),
@@ -66,7 +69,9 @@ pub fn driven_nodes(
     requires nodes { IsNodes nodes.now.version nodes.now.index nodes.now.first.items }
     requires reset { HasItsReset nodes.now.version nodes.now.index nodes.now.first.items }
     requires wired { All (IsWired nodes.now.index nodes.now.first.items) channels.now }
-    ensures { IfOk result (λ driven. AreDriven (nodes.now.version == 2) (map (λ (w : WiresValue). w.channel) channels.now) nodes.now.index driven.items) }
+    ensures { IfOk result (λ driven.
+        AreDriven (nodes.now.version == 2) (map (λ (w : WiresValue). w.channel) channels.now) nodes.now.index
+        driven.items) }
 {
     let mut driven = own_driven(alloc, nodes)?;
     for wires in channels {

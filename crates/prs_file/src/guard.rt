@@ -38,7 +38,8 @@ fn add_literal(
     literal: Literal,
 ) -> Result<(), AllocError>
     requires { 0 < length last.old.items }
-    ensures guard { OnOk result (terms.new.items ++ last.new.items ∷ [] ≡ add_by lead literal (terms.old.items ++ last.old.items ∷ [])) }
+    ensures guard { OnOk result (terms.new.items ++ last.new.items
+        ∷ [] ≡ add_by lead literal (terms.old.items ++ last.old.items ∷ [])) }
     ensures some { OnOk result (0 < length last.new.items) }
 {
     match lead {

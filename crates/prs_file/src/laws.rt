@@ -13,6 +13,8 @@ pub fn one_net()
 
 /// Law: a text is refused for at most one cause at one line, and a text that spells a net for none.
 pub fn one_refusal()
-    ensures once { (text : List ℕ) (f g : FaultValue) (l m : ℕ) → IsRefused text f l → IsRefused text g m → (f ≡ g) × (l ≡ m) }
-    ensures never { (text : List ℕ) (net : NetValue) (f : FaultValue) (l : ℕ) → IsNet net → NetText text net → ¬ IsRefused text f l }
+    ensures once { (text : List ℕ) (f g : FaultValue) (l m : ℕ) → IsRefused text f l → IsRefused text g m →
+        (f ≡ g) × (l ≡ m) }
+    ensures never { (text : List ℕ) (net : NetValue) (f : FaultValue) (l : ℕ) → IsNet net → NetText text net →
+        ¬ IsRefused text f l }
 {}

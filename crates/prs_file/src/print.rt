@@ -79,7 +79,8 @@ fn rule_lines(net: &Net, node: u32, to: &mut Vec<u8>) -> Result<(), AllocError>
 /// Appends the line of a node.
 fn numbered_line(net: &Net, node: usize, to: &mut Vec<u8>) -> Result<(), AllocError>
     requires { node < length net.now.first }
-    ensures { OnOk result (to.new.items ≡ to.old.items ++ node_spelling (name_at net.now node) (first_at net.now node)) }
+    ensures { OnOk result (to.new.items ≡ to.old.items
+        ++ node_spelling (name_at net.now node) (first_at net.now node)) }
 {
     let first = net.first()[node];
     node_line(net.names()[node].bytes(), first, to)
@@ -89,7 +90,8 @@ fn numbered_line(net: &Net, node: usize, to: &mut Vec<u8>) -> Result<(), AllocEr
 fn node_lines(net: &Net, to: &mut Vec<u8>) -> Result<(), AllocError>
     ensures { OnOk result (to.new.items
         ≡ to.old.items
-        ++ flat_map (λ node. node_spelling (name_at net.now node) (first_at net.now node)) (range_with_len 0 (length net.now.first))) }
+        ++ flat_map (λ node. node_spelling (name_at net.now node) (first_at net.now node))
+            (range_with_len 0 (length net.now.first))) }
 {
     for node in 0..net.first().len() {
         numbered_line(net, node, to)?;
@@ -99,7 +101,8 @@ fn node_lines(net: &Net, to: &mut Vec<u8>) -> Result<(), AllocError>
 
 /// Appends the lines of the channels.
 fn channel_lines(net: &Net, to: &mut Vec<u8>) -> Result<(), AllocError>
-    ensures { OnOk result (to.new.items ≡ to.old.items ++ flat_map (λ (w : Wires). channel_spelling w.channel) net.now.channels) }
+    ensures { OnOk result (to.new.items ≡ to.old.items
+        ++ flat_map (λ (w : Wires). channel_spelling w.channel) net.now.channels) }
 {
     for wires in net.channels() {
         channel_line(&wires.channel, to)?;

@@ -17,8 +17,10 @@ use std::alloc::Global;
 
 /// The net of these parts, in version 2 with its last node as its reset node.
 fn made(nodes: Nodes, channels: Vec<Wires>, rules: Rules) -> Net
-    requires { IsNet (net_of nodes.index nodes.first.items rules channels.items (reset_by (nodes.version == 2) nodes.first.items)) }
-    ensures { result ≡ net_of nodes.index nodes.first.items rules channels.items (reset_by (nodes.version == 2) nodes.first.items) }
+    requires { IsNet (net_of nodes.index nodes.first.items rules channels.items
+        (reset_by (nodes.version == 2) nodes.first.items)) }
+    ensures { result ≡ net_of nodes.index nodes.first.items rules channels.items
+        (reset_by (nodes.version == 2) nodes.first.items) }
 {
     let Nodes {
         version,

@@ -43,14 +43,21 @@ pub fn read_rules(
     requires room { length channels.now + length text.now ≤ 268435456 }
     requires nodes { IsNodes nodes.now.version nodes.now.index nodes.now.first.items }
     requires reset { HasItsReset nodes.now.version nodes.now.index nodes.now.first.items }
-    requires read { IsChannelsRead nodes.now.version nodes.now.index nodes.now.first.items channels.now (text_behind (channels_told nodes.now.version nodes.now.index nodes.now.first.items channels.now) text.now) text.now }
+    requires read { IsChannelsRead nodes.now.version nodes.now.index nodes.now.first.items channels.now
+        (text_behind (channels_told nodes.now.version nodes.now.index nodes.now.first.items channels.now) text.now)
+        text.now }
     requires over { (c : ChannelValue) → IsChannelForm c → first_line text.now ≢ channel_spelling c }
     ensures table { IfOk result
-        (λ rules. IsWholeTable (nodes.now.version == 2) (map (λ (w : WiresValue). w.channel) channels.now) nodes.now.index rules) }
+        (λ rules. IsWholeTable (nodes.now.version == 2) (map (λ (w : WiresValue). w.channel) channels.now)
+            nodes.now.index rules) }
     ensures taken { IfOk result
-        (λ rules. IsTaken (text_behind (channels_told nodes.now.version nodes.now.index nodes.now.first.items channels.now) text.now) (net_forms nodes.now.version nodes.now.index nodes.now.first.items channels.now rules) []) }
+        (λ rules. IsTaken (text_behind (channels_told nodes.now.version nodes.now.index nodes.now.first.items
+            channels.now) text.now) (net_forms nodes.now.version nodes.now.index nodes.now.first.items channels.now
+            rules) []) }
     ensures refused { IfErr result
-        (OfRefusal (λ fault line. IsRefused (text_behind (channels_told nodes.now.version nodes.now.index nodes.now.first.items channels.now) text.now) fault line)) }
+        (OfRefusal (λ fault line. IsRefused
+            (text_behind (channels_told nodes.now.version nodes.now.index nodes.now.first.items channels.now) text.now)
+            fault line)) }
 {
     let driven = driven_nodes(alloc, nodes, channels)?;
     let mut rules = Rules::new(alloc, nodes.index.len() as u32)?;

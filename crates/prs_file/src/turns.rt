@@ -121,18 +121,21 @@ pub fn turn_of(
     requires count { length nodes.now.index ≤ 65537 }
     requires few { so_far.literals < 2 ^ 32 }
     ensures node { IfOk result (λ r. IfOk r (λ t. place_in nodes.now.index form.now.node ≡ Some t.node)) }
-    ensures guard { IfOk result (λ r. IfOk r (λ t. guard_named nodes.now.index t.guard ≡ terms_of form.now.leds.items)) }
+    ensures guard { IfOk result (λ r.
+        IfOk r (λ t. guard_named nodes.now.index t.guard ≡ terms_of form.now.leds.items)) }
     ensures within { IfOk result (λ r. IfOk r (λ t. IsBelow (length nodes.now.index) t.guard)) }
     ensures sound { IfOk result
         (λ r. IfOk r
         (λ _t. (channels : List ChannelValue)
         → AreDriven (nodes.now.version == 2) channels nodes.now.index driven.now
-        → rule_fault_of nodes.now.index channels (nodes.now.version == 2) so_far.place so_far.literals (terms_of form.now.leds.items) form.now.node form.now.up ≡ None)) }
+        → rule_fault_of nodes.now.index channels (nodes.now.version == 2) so_far.place so_far.literals
+            (terms_of form.now.leds.items) form.now.node form.now.up ≡ None)) }
     ensures fault { IfOk result
         (λ r. IfErr r
         (λ fault. (channels : List ChannelValue)
         → AreDriven (nodes.now.version == 2) channels nodes.now.index driven.now
-        → rule_fault_of nodes.now.index channels (nodes.now.version == 2) so_far.place so_far.literals (terms_of form.now.leds.items) form.now.node form.now.up ≡ Some fault)) }
+        → rule_fault_of nodes.now.index channels (nodes.now.version == 2) so_far.place so_far.literals
+            (terms_of form.now.leds.items) form.now.node form.now.up ≡ Some fault)) }
 {
     let Some(node) = nodes.index.find(form.node.bytes()) else {
         return Ok(Err(NetFault::UnknownNode));

@@ -45,7 +45,8 @@ down_filled n is node =
 
 -- of all nodes together
 all_laid : (P : GuardValue → Type 0) (f : ℕ → GuardValue) (count : ℕ) → P [] → ((node : ℕ) → P (f node)) → All P (map f (range_with_len 0 count) ++ [] ∷ [])
-all_laid P f count none each = All-push P (map f (range_with_len 0 count)) [] (All-map P f (range_with_len 0 count) (λ i d within. each (get_or (range_with_len 0 count) i d))) none
+all_laid P f count none each = All-push P (map f (range_with_len 0 count)) []
+    (All-map P f (range_with_len 0 count) (λ i d within. each (get_or (range_with_len 0 count) i d))) none
 
 -- a node without rules has none with a reset node
 undriven_stays : (n : NetValue) (node : ℕ) → node < length n.first → IsUndriven n node → IsUndriven (reset_of n) node
@@ -65,16 +66,19 @@ name_stays n node within = get_or_append_left n.names (codes "reset" ∷ []) [] 
 first_stays : (n : NetValue) (node : ℕ) → node < length n.first → first_at (reset_of n) node ≡ first_at n node
 first_stays n node within = get_or_append_left n.first (true ∷ []) false node within
 
-names_stay : (n : NetValue) → length n.names ≡ length n.first → (rails : List ℕ) → All (λ rail. rail < length n.first) rails → map (name_at (reset_of n)) rails ≡ map (name_at n) rails
+names_stay : (n : NetValue) → length n.names ≡ length n.first → (rails : List ℕ) → All (λ rail. rail < length n.first) rails →
+    map (name_at (reset_of n)) rails ≡ map (name_at n) rails
 names_stay n same [] within = refl
 names_stay n same (r ∷ rails) within =
     let here : r < length n.names = omega (arith, All-head (λ rail. rail < length n.first) r rails within) in
-    ap (λ x. x ∷ map (name_at (reset_of n)) rails) (name_stays n r here) ∙ ap (λ xs. name_at n r ∷ xs) (names_stay n same rails (All-tail (λ rail. rail < length n.first) r rails within))
+    ap (λ x. x ∷ map (name_at (reset_of n)) rails) (name_stays n r here)
+        ∙ ap (λ xs. name_at n r ∷ xs) (names_stay n same rails (All-tail (λ rail. rail < length n.first) r rails within))
 
 wider : (n : NetValue) → length n.first < length (reset_of n).first
 wider n = omega (arith, length_push n.first true)
 
-lows_stay : (n : NetValue) (rails : List ℕ) → All (λ rail. rail < length n.first) rails → All (λ rail. first_at n rail ≡ false) rails → All (λ rail. first_at (reset_of n) rail ≡ false) rails
+lows_stay : (n : NetValue) (rails : List ℕ) → All (λ rail. rail < length n.first) rails → All (λ rail. first_at n rail ≡ false) rails →
+    All (λ rail. first_at (reset_of n) rail ≡ false) rails
 lows_stay n rails within low = λ i d at. first_stays n (get_or rails i d) (within i d at) ∙ low i d at
 
 outside_within : (k : Kind) (P : ℕ → Type 0) (rails : List ℕ) (ack : ℕ) → All P rails → P ack → All P (wires_from_outside k rails ack)
@@ -94,37 +98,50 @@ channel_stays n same w is = record {
   ack = name_stays n w.ack (omega (arith, is.ack_within)) ∙ is.ack;
   ack_within = omega (arith, is.ack_within, wider n);
   ack_low = first_stays n w.ack is.ack_within ∙ is.ack_low;
-  outside = λ i d at. undriven_stays n _ (outside_within w.channel.kind (λ k. k < length n.first) w.rails w.ack is.rails_within is.ack_within i d at) (is.outside i d at);
+  outside = λ i d at. undriven_stays n _ (outside_within w.channel.kind (λ k. k < length n.first) w.rails w.ack is.rails_within is.ack_within i d at)
+      (is.outside i d at);
 }
 
 -- the literals
 
-literals_over : (a b c d : ℕ → ℕ) → ((k : ℕ) → a k + b k ≤ 2 * (c k + d k) + 1) → (xs : List ℕ) → sum_by a xs + sum_by b xs ≤ 2 * (sum_by c xs + sum_by d xs) + length xs
+literals_over : (a b c d : ℕ → ℕ) → ((k : ℕ) → a k + b k ≤ 2 * (c k + d k) + 1) → (xs : List ℕ) →
+    sum_by a xs + sum_by b xs ≤ 2 * (sum_by c xs + sum_by d xs) + length xs
 literals_over a b c d each [] = omega arith
 literals_over a b c d each (x ∷ xs) =
     omega (arith, each x, literals_over a b c d each xs, sum_by-cons a x xs, sum_by-cons b x xs, sum_by-cons c x xs, sum_by-cons d x xs)
 
 sum_of_map : (f : ℕ → GuardValue) (xs : List ℕ) → sum_by guard_literals (map f xs) ≡ sum_by (λ k. guard_literals (f k)) xs
 sum_of_map f [] = refl
-sum_of_map f (x ∷ xs) = sum_by-cons guard_literals (f x) (map f xs) ∙ ap (λ s. guard_literals (f x) + s) (sum_of_map f xs) ∙ sym (sum_by-cons (λ k. guard_literals (f k)) x xs)
+sum_of_map f (x ∷ xs) = sum_by-cons guard_literals (f x) (map f xs) ∙ ap (λ s. guard_literals (f x) + s) (sum_of_map f xs)
+    ∙ sym (sum_by-cons (λ k. guard_literals (f k)) x xs)
 
-each_literals : (n : NetValue) → IsNet n → (k : ℕ) → guard_literals (reset_up n k) + guard_literals (reset_down n k) ≤ 2 * (guard_literals (up_of n k) + guard_literals (down_of n k)) + 1
+each_literals : (n : NetValue) → IsNet n → (k : ℕ) →
+    guard_literals (reset_up n k) + guard_literals (reset_down n k) ≤ 2 * (guard_literals (up_of n k) + guard_literals (down_of n k)) + 1
 each_literals n is k = by_test (has_rules (up_of n k) (down_of n k))
   where
-    by_test : (b : Bool) → guard_literals (cond b (reset_guard (length n.first) (first_at n k) (up_of n k)) []) + guard_literals (cond b (reset_guard (length n.first) (not (first_at n k)) (down_of n k)) []) ≤ 2 * (guard_literals (up_of n k) + guard_literals (down_of n k)) + 1
-    by_test true = both_literals (length n.first) (first_at n k) (up_of n k) (down_of n k) (at_each IsFilled n.up nothing_filled is.up_filled k) (at_each IsFilled n.down nothing_filled is.down_filled k)
+    by_test : (b : Bool) → guard_literals (cond b (reset_guard (length n.first) (first_at n k) (up_of n k)) []) +
+        guard_literals (cond b (reset_guard (length n.first) (not (first_at n k)) (down_of n k)) []) ≤ 2 *
+        (guard_literals (up_of n k) + guard_literals (down_of n k)) + 1
+    by_test true = both_literals (length n.first) (first_at n k) (up_of n k) (down_of n k) (at_each IsFilled n.up nothing_filled is.up_filled k)
+        (at_each IsFilled n.down nothing_filled is.down_filled k)
     by_test false = omega arith
 
-laid_literals : (f : ℕ → GuardValue) (count : ℕ) → sum_by guard_literals (map f (range_with_len 0 count) ++ [] ∷ []) ≡ sum_by (λ k. guard_literals (f k)) (range_with_len 0 count)
+laid_literals : (f : ℕ → GuardValue) (count : ℕ) →
+    sum_by guard_literals (map f (range_with_len 0 count) ++ [] ∷ []) ≡ sum_by (λ k. guard_literals (f k)) (range_with_len 0 count)
 laid_literals f count = sum_by_push guard_literals (map f (range_with_len 0 count)) [] ∙ omega (arith, sum_of_map f (range_with_len 0 count))
 
-own_literals : (gs : List GuardValue) (count : ℕ) → length gs ≡ count → sum_by guard_literals gs ≡ sum_by (λ k. guard_literals (get_or gs k [])) (range_with_len 0 count)
-own_literals gs count same = ap (sum_by guard_literals) (fill_by_all (λ k. get_or gs k []) gs count [] same (λ k h. refl)) ∙ sum_of_map (λ k. get_or gs k []) (range_with_len 0 count)
+own_literals : (gs : List GuardValue) (count : ℕ) → length gs ≡ count →
+    sum_by guard_literals gs ≡ sum_by (λ k. guard_literals (get_or gs k [])) (range_with_len 0 count)
+own_literals gs count same = ap (sum_by guard_literals) (fill_by_all (λ k. get_or gs k []) gs count [] same (λ k h. refl))
+    ∙ sum_of_map (λ k. get_or gs k []) (range_with_len 0 count)
 
 literals_within : (n : NetValue) → IsNet n → literals_of (reset_of n) ≤ 2 * literals_of n + length n.first
 literals_within n is =
     let nodes = range_with_len 0 (length n.first) in
-    omega (arith, literals_over (λ k. guard_literals (reset_up n k)) (λ k. guard_literals (reset_down n k)) (λ k. guard_literals (up_of n k)) (λ k. guard_literals (down_of n k)) (each_literals n is) nodes, laid_literals (reset_up n) (length n.first), laid_literals (reset_down n) (length n.first), own_literals n.up (length n.first) is.ups, own_literals n.down (length n.first) is.downs, length-range_with_len 0 (length n.first))
+    omega (arith, literals_over (λ k. guard_literals (reset_up n k)) (λ k. guard_literals (reset_down n k)) (λ k. guard_literals (up_of n k))
+        (λ k. guard_literals (down_of n k)) (each_literals n is) nodes, laid_literals (reset_up n) (length n.first),
+        laid_literals (reset_down n) (length n.first), own_literals n.up (length n.first) is.ups, own_literals n.down (length n.first) is.downs,
+        length-range_with_len 0 (length n.first))
 
 reset_named : IsNodeName (codes "reset")
 reset_named = record { short = omega arith; first = refl; parts = refl }
@@ -169,7 +186,9 @@ reset_is_net n is plain free =
       };
     }
 
-pub parts_are : (n : NetValue) (names : List (List ℕ)) (first : List Bool) (rules : RulesValue) (channels : List Wires) → names ≡ n.names ++ codes "reset" ∷ [] → first ≡ n.first ++ true ∷ [] → rules ≡ rules_of (reset_of n) → channels ≡ n.channels → net_of names first rules channels (Some (length first - 1)) ≡ reset_of n
+pub parts_are : (n : NetValue) (names : List (List ℕ)) (first : List Bool) (rules : RulesValue) (channels : List Wires) →
+    names ≡ n.names ++ codes "reset" ∷ [] → first ≡ n.first ++ true ∷ [] → rules ≡ rules_of (reset_of n) → channels ≡ n.channels →
+    net_of names first rules channels (Some (length first - 1)) ≡ reset_of n
 parts_are n names first rules channels a b c d =
     let last : length (n.first ++ true ∷ []) - 1 ≡ length n.first = omega (arith, length_push n.first true) in
     rw (a, b, c, d, last) refl

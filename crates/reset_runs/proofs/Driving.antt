@@ -18,7 +18,8 @@ with_default [] d (suc k) = refl
 with_default (x ∷ xs) d zero = refl
 with_default (x ∷ xs) d (suc k) = with_default xs d k
 
-pub same_state : (vs ws : List Bool) (hs gs : List (List ℕ)) → vs ≡ ws → hs ≡ gs → ◌≡◌ {A = RunState} (record { values = vs; histories = hs }) (record { values = ws; histories = gs })
+pub same_state : (vs ws : List Bool) (hs gs : List (List ℕ)) → vs ≡ ws → hs ≡ gs →
+    ◌≡◌ {A = RunState} (record { values = vs; histories = hs }) (record { values = ws; histories = gs })
 same_state vs ws hs gs p q = λ i. record { values = p i; histories = q i }
 
 -- the node has rules
@@ -68,14 +69,16 @@ guard_high : (v : ℕ → Bool) (r : ℕ) → v r ≡ true → (back : Bool) (g 
 guard_high v r up true g = forced_on v r up g
 guard_high v r up false g = held_off v r up g
 
-chosen_high : (v : ℕ → Bool) (r : ℕ) → v r ≡ true → (back : Bool) (g : GuardValue) (b : Bool) → guard_holds v (if b then reset_guard r back g else []) ≡ (b && back)
+chosen_high : (v : ℕ → Bool) (r : ℕ) → v r ≡ true → (back : Bool) (g : GuardValue) (b : Bool) →
+    guard_holds v (if b then reset_guard r back g else []) ≡ (b && back)
 chosen_high v r up back g true = guard_high v r up back g
 chosen_high v r up back g false = refl
 
 up_high : (n : NetValue) → IsNet n → (v : ℕ → Bool) → v (length n.first) ≡ true → (k : ℕ) → guard_holds v (up_of (reset_of n) k) ≡ (driven n k && first_at n k)
 up_high n is v up k = ap (guard_holds v) (up_is n is k) ∙ chosen_high v (length n.first) up (first_at n k) (up_of n k) (driven n k)
 
-down_high : (n : NetValue) → IsNet n → (v : ℕ → Bool) → v (length n.first) ≡ true → (k : ℕ) → guard_holds v (down_of (reset_of n) k) ≡ (driven n k && not (first_at n k))
+down_high : (n : NetValue) → IsNet n → (v : ℕ → Bool) → v (length n.first) ≡ true → (k : ℕ) →
+    guard_holds v (down_of (reset_of n) k) ≡ (driven n k && not (first_at n k))
 down_high n is v up k = ap (guard_holds v) (down_is n is k) ∙ chosen_high v (length n.first) up (not (first_at n k)) (down_of n k) (driven n k)
 
 abbrev pub differs : Bool → Bool → Bool
@@ -89,12 +92,14 @@ strays n v k = driven n k && differs (v k) (first_at n k)
 pub rule_high : (n : NetValue) → IsNet n → (v : ℕ → Bool) → v (length n.first) ≡ true → (k : ℕ) → rule_enabled (reset_of n) v k ≡ strays n v k
 rule_high n is v up k = by_value (v k)
   where
-    by_value : (b : Bool) → (if b then guard_holds v (down_of (reset_of n) k) else guard_holds v (up_of (reset_of n) k)) ≡ (driven n k && differs b (first_at n k))
+    by_value : (b : Bool) → (if b then guard_holds v (down_of (reset_of n) k) else guard_holds v (up_of (reset_of n) k)) ≡
+        (driven n k && differs b (first_at n k))
     by_value true = down_high n is v up k
     by_value false = up_high n is v up k
 
 pub both_high : (n : NetValue) → IsNet n → (v : ℕ → Bool) → v (length n.first) ≡ true → (k : ℕ) → both_ways (reset_of n) v k ≡ false
-both_high n is v up k = ap (λ b. b && guard_holds v (down_of (reset_of n) k)) (up_high n is v up k) ∙ ap (λ b. (driven n k && first_at n k) && b) (down_high n is v up k) ∙ never (driven n k) (first_at n k)
+both_high n is v up k = ap (λ b. b && guard_holds v (down_of (reset_of n) k)) (up_high n is v up k)
+    ∙ ap (λ b. (driven n k && first_at n k) && b) (down_high n is v up k) ∙ never (driven n k) (first_at n k)
   where
     never : (a b : Bool) → ((a && b) && (a && not b)) ≡ false
     never true true = refl
@@ -106,7 +111,8 @@ both_high n is v up k = ap (λ b. b && guard_holds v (down_of (reset_of n) k)) (
 held_same : (v : ℕ → Bool) (r : ℕ) → v r ≡ false → (g : GuardValue) → guard_holds v (held r g) ≡ guard_holds v g
 held_same v r low [] = refl
 held_same v r low (t ∷ ts) =
-    ap (λ b. b || guard_holds v (held r ts)) (list_all-append (literal_holds v) t (reset_literal r false ∷ []) ∙ ap (λ b. term_holds v t && (not b && true)) low ∙ with_true (term_holds v t))
+    ap (λ b. b || guard_holds v (held r ts)) (list_all-append (literal_holds v) t (reset_literal r false ∷ []) ∙ ap (λ b. term_holds v t && (not b && true)) low
+        ∙ with_true (term_holds v t))
     ∙ ap (λ b. term_holds v t || b) (held_same v r low ts)
   where
     with_true : (a : Bool) → (a && true) ≡ a
@@ -125,12 +131,14 @@ guard_same : (v : ℕ → Bool) (r : ℕ) → v r ≡ false → (back : Bool) (g
 guard_same v r low true g = forced_same v r low g
 guard_same v r low false g = held_same v r low g
 
-chosen_up : (v : ℕ → Bool) (r : ℕ) → v r ≡ false → (back : Bool) (up down : GuardValue) → guard_holds v (if has_rules up down then reset_guard r back up else []) ≡ guard_holds v up
+chosen_up : (v : ℕ → Bool) (r : ℕ) → v r ≡ false → (back : Bool) (up down : GuardValue) →
+    guard_holds v (if has_rules up down then reset_guard r back up else []) ≡ guard_holds v up
 chosen_up v r low back [] [] = refl
 chosen_up v r low back [] (t ∷ ts) = guard_same v r low back []
 chosen_up v r low back (t ∷ ts) down = guard_same v r low back (t ∷ ts)
 
-chosen_down : (v : ℕ → Bool) (r : ℕ) → v r ≡ false → (back : Bool) (up down : GuardValue) → guard_holds v (if has_rules up down then reset_guard r back down else []) ≡ guard_holds v down
+chosen_down : (v : ℕ → Bool) (r : ℕ) → v r ≡ false → (back : Bool) (up down : GuardValue) →
+    guard_holds v (if has_rules up down then reset_guard r back down else []) ≡ guard_holds v down
 chosen_down v r low back [] [] = refl
 chosen_down v r low back [] (t ∷ ts) = guard_same v r low back (t ∷ ts)
 chosen_down v r low back (t ∷ ts) down = guard_same v r low back down
@@ -138,15 +146,18 @@ chosen_down v r low back (t ∷ ts) down = guard_same v r low back down
 up_low : (n : NetValue) → IsNet n → (v : ℕ → Bool) → v (length n.first) ≡ false → (k : ℕ) → guard_holds v (up_of (reset_of n) k) ≡ guard_holds v (up_of n k)
 up_low n is v low k = ap (guard_holds v) (up_is n is k) ∙ chosen_up v (length n.first) low (first_at n k) (up_of n k) (down_of n k)
 
-down_low : (n : NetValue) → IsNet n → (v : ℕ → Bool) → v (length n.first) ≡ false → (k : ℕ) → guard_holds v (down_of (reset_of n) k) ≡ guard_holds v (down_of n k)
+down_low : (n : NetValue) → IsNet n → (v : ℕ → Bool) → v (length n.first) ≡ false → (k : ℕ) →
+    guard_holds v (down_of (reset_of n) k) ≡ guard_holds v (down_of n k)
 down_low n is v low k = ap (guard_holds v) (down_is n is k) ∙ chosen_down v (length n.first) low (not (first_at n k)) (up_of n k) (down_of n k)
 
 pub rule_low : (n : NetValue) → IsNet n → (v : ℕ → Bool) → v (length n.first) ≡ false → (k : ℕ) → rule_enabled (reset_of n) v k ≡ rule_enabled n v k
 rule_low n is v low k = by_value (v k)
   where
-    by_value : (b : Bool) → (if b then guard_holds v (down_of (reset_of n) k) else guard_holds v (up_of (reset_of n) k)) ≡ (if b then guard_holds v (down_of n k) else guard_holds v (up_of n k))
+    by_value : (b : Bool) → (if b then guard_holds v (down_of (reset_of n) k) else guard_holds v (up_of (reset_of n) k)) ≡
+        (if b then guard_holds v (down_of n k) else guard_holds v (up_of n k))
     by_value true = down_low n is v low k
     by_value false = up_low n is v low k
 
 pub both_low : (n : NetValue) → IsNet n → (v : ℕ → Bool) → v (length n.first) ≡ false → (k : ℕ) → both_ways (reset_of n) v k ≡ both_ways n v k
-both_low n is v low k = ap (λ b. b && guard_holds v (down_of (reset_of n) k)) (up_low n is v low k) ∙ ap (λ b. guard_holds v (up_of n k) && b) (down_low n is v low k)
+both_low n is v low k = ap (λ b. b && guard_holds v (down_of (reset_of n) k)) (up_low n is v low k)
+    ∙ ap (λ b. guard_holds v (up_of n k) && b) (down_low n is v low k)

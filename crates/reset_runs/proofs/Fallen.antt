@@ -37,7 +37,8 @@ not_next : (v : ℕ → Bool) (next : Option ℕ) (r : ℕ) (rails : List ℕ) �
 not_next v None r rails apart = refl
 not_next v (Some value) r rails apart = not_raised v value r rails apart
 
-not_offered : (v : ℕ → Bool) (w : Wires) (offer : OfferValue) (done r : ℕ) → v r ≡ false → All (λ rail. r ≢ rail) w.rails → r ≢ w.ack → offer_moves v w offer done r ≡ false
+not_offered : (v : ℕ → Bool) (w : Wires) (offer : OfferValue) (done r : ℕ) → v r ≡ false → All (λ rail. r ≢ rail) w.rails → r ≢ w.ack →
+    offer_moves v w offer done r ≡ false
 not_offered v w (gives values) done r low apart no_ack = by_ack (slice_get values done) (v w.ack)
   where
     by_ack : (next : Option ℕ) (b : Bool) → (if b then lowers v w.rails r else raises_next v next w.rails r) ≡ false
@@ -49,12 +50,14 @@ not_offered v w nothing done r low apart no_ack = refl
 lt_ne : (a b : ℕ) → a < b → b ≡ a → ⊥
 lt_ne a b less same = absurd (omega arith)
 
-no_channel : (net : NetValue) (v : ℕ → Bool) (script : ℕ → OfferValue) (done : ℕ → ℕ) (r : ℕ) → v r ≡ false → length net.first ≤ r → (c : ℕ) (ws : List Wires) → All (IsChannel net) ws → channels_move v script done c ws r ≡ false
+no_channel : (net : NetValue) (v : ℕ → Bool) (script : ℕ → OfferValue) (done : ℕ → ℕ) (r : ℕ) → v r ≡ false → length net.first ≤ r → (c : ℕ) (ws : List Wires) →
+    All (IsChannel net) ws → channels_move v script done c ws r ≡ false
 no_channel net v script done r low past c [] are = refl
 no_channel net v script done r low past c (w ∷ ws) are =
     let is : IsChannel net w = are 0 w (omega arith) in
     or_from _ _
-    (not_offered v w (script c) (done c) r low (λ k d within. lt_ne (get_or w.rails k d) r (omega (arith, is.rails_within k d within))) (lt_ne w.ack r (omega (arith, is.ack_within))))
+    (not_offered v w (script c) (done c) r low (λ k d within. lt_ne (get_or w.rails k d) r (omega (arith, is.rails_within k d within)))
+        (lt_ne w.ack r (omega (arith, is.ack_within))))
     (no_channel net v script done r low past (suc c) ws (λ k d within. are (suc k) d (omega arith)))
 
 -- the values of the nodes are the same
@@ -75,7 +78,8 @@ module _ (net : NetValue) (is : IsNet net) (plain : net.reset ≡ None) (script 
   env_same : (done : ℕ → ℕ) (v : ℕ → Bool) (k : ℕ) → v (length net.first) ≡ false → env_enabled (reset_of net) script done v k ≡ env_enabled net script done v k
   env_same done v k low = cond-false (v (length net.first)) _ _ low ∙ sym (cond-false (in_reset net.reset v) _ _ (free v))
 
-  pub enabled_low : (st : RunState) → length st.values ≡ length net.first → (k : ℕ) → move_enabled (reset_of net) script (with_low st) k ≡ move_enabled net script st k
+  pub enabled_low : (st : RunState) → length st.values ≡ length net.first → (k : ℕ) →
+      move_enabled (reset_of net) script (with_low st) k ≡ move_enabled net script st k
   enabled_low st count k =
       ap (λ (v : ℕ → Bool). rule_enabled (reset_of net) v k || env_enabled (reset_of net) script (completed st.histories) v k) (high_same st.values)
       ∙ ap (λ b. b || env_enabled (reset_of net) script (completed st.histories) (high st.values) k) (rule_low net is (high st.values) (past_low st count) k)
@@ -86,7 +90,8 @@ module _ (net : NetValue) (is : IsNet net) (plain : net.reset ≡ None) (script 
       or_from _ _ (no_rule net is (high st.values) k past)
       (cond-false (in_reset net.reset (high st.values)) _ _ (free (high st.values))
       ∙ or_from _ _ (and_left _ _ (ne_eqb k 0 (lt_ne 0 k (omega (arith, is.some)))))
-      (no_channel net (high st.values) (offer_at script) (completed st.histories) k (get_or_past st.values k false (omega arith)) past 0 net.channels is.channels))
+      (no_channel net (high st.values) (offer_at script) (completed st.histories) k (get_or_past st.values k false (omega arith)) past 0 net.channels
+          is.channels))
 
   -- only nodes of the net move
   within : (st : RunState) → length st.values ≡ length net.first → (k : ℕ) → move_enabled net script st k ≡ true → k < length net.first
@@ -96,29 +101,36 @@ module _ (net : NetValue) (is : IsNet net) (plain : net.reset ≡ None) (script 
       by_place (inl here) = here
       by_place (inr past) = absurd (both_ways _ (none_past st count k past) on)
 
-  moved_low : (st : RunState) → length st.values ≡ length net.first → (k : ℕ) → k < length net.first → moved (reset_of net) (with_low st) k ≡ with_low (moved net st k)
+  moved_low : (st : RunState) → length st.values ≡ length net.first → (k : ℕ) → k < length net.first →
+      moved (reset_of net) (with_low st) k ≡ with_low (moved net st k)
   moved_low st count k here =
-      same_state (fired (st.values ++ false ∷ []) k) (fired st.values k ++ false ∷ []) (histories_after (reset_of net) (with_low st) k) (histories_after net st k)
-      (ap (λ b. set (st.values ++ false ∷ []) k (not b)) (with_default st.values false k) ∙ set-append_left st.values (false ∷ []) k (not (high st.values k)) (omega arith))
+      same_state (fired (st.values ++ false ∷ []) k) (fired st.values k ++ false ∷ []) (histories_after (reset_of net) (with_low st) k)
+          (histories_after net st k)
+      (ap (λ b. set (st.values ++ false ∷ []) k (not b)) (with_default st.values false k)
+          ∙ set-append_left st.values (false ∷ []) k (not (high st.values k)) (omega arith))
       (ap (λ (v : ℕ → Bool). if v (length net.first) then st.histories else with_values v k net.channels st.histories) (high_same st.values)
       ∙ cond-false (high st.values (length net.first)) _ _ (past_low st count)
       ∙ sym (cond-false (in_reset net.reset (high st.values)) _ _ (free (high st.values))))
 
-  phase_low : (st : RunState) → length st.values ≡ length net.first → (k : ℕ) → phase_fault (reset_of net) (high (st.values ++ false ∷ [])) k ≡ phase_fault net (high st.values) k
+  phase_low : (st : RunState) → length st.values ≡ length net.first → (k : ℕ) →
+      phase_fault (reset_of net) (high (st.values ++ false ∷ [])) k ≡ phase_fault net (high st.values) k
   phase_low st count k =
       ap (λ (v : ℕ → Bool). if v (length net.first) then None else position (λ (w : Wires). not (phases_keep v w k)) net.channels) (high_same st.values)
       ∙ cond-false (high st.values (length net.first)) _ _ (past_low st count)
       ∙ sym (cond-false (in_reset net.reset (high st.values)) _ _ (free (high st.values)))
 
   apart_low : (st : RunState) → length st.values ≡ length net.first → IsApart net st → IsApart (reset_of net) (with_low st)
-  apart_low st count apart = λ k. ap (λ (v : ℕ → Bool). pulled (reset_of net) v k) (high_same st.values) ∙ both_low net is (high st.values) (past_low st count) k ∙ apart k
+  apart_low st count apart = λ k. ap (λ (v : ℕ → Bool). pulled (reset_of net) v k) (high_same st.values)
+      ∙ both_low net is (high st.values) (past_low st count) k ∙ apart k
 
   next : (st : RunState) → length st.values ≡ length net.first → (k : ℕ) → length (moved net st k).values ≡ length net.first
   next st count k = length-set st.values k (not (high st.values k)) ∙ count
 
-  safe_move_low : (st : RunState) → length st.values ≡ length net.first → (k : ℕ) → move_enabled net script st k ≡ true → IsSafeMove net script st k → IsSafeMove (reset_of net) script (with_low st) k
+  safe_move_low : (st : RunState) → length st.values ≡ length net.first → (k : ℕ) → move_enabled net script st k ≡ true → IsSafeMove net script st k →
+      IsSafeMove (reset_of net) script (with_low st) k
   safe_move_low st count k on safe = record {
-    stable = λ m apart there. ap (λ (s : RunState). move_enabled (reset_of net) script s m) (moved_low st count k (within st count k on)) ∙ enabled_low (moved net st k) (next st count k) m ∙ safe.stable m apart (sym (enabled_low st count m) ∙ there);
+    stable = λ m apart there. ap (λ (s : RunState). move_enabled (reset_of net) script s m) (moved_low st count k (within st count k on))
+        ∙ enabled_low (moved net st k) (next st count k) m ∙ safe.stable m apart (sym (enabled_low st count m) ∙ there);
     phases = phase_low st count k ∙ safe.phases;
   }
 
@@ -128,19 +140,23 @@ module _ (net : NetValue) (is : IsNet net) (plain : net.reset ≡ None) (script 
   run_low [] st count run = tt
   run_low (n ∷ ns) st count run =
       let on : move_enabled net script st n ≡ true = sym (enabled_low st count n) ∙ run.0 in
-      (on, run_low ns (moved net st n) (next st count n) (subst (λ (s : RunState). IsRun (reset_of net) script s ns) (moved_low st count n (within st count n on)) run.1))
+      (on, run_low ns (moved net st n) (next st count n)
+          (subst (λ (s : RunState). IsRun (reset_of net) script s ns) (moved_low st count n (within st count n on)) run.1))
 
-  pub after_low : (ns : List ℕ) (st : RunState) → length st.values ≡ length net.first → IsRun net script st ns → after (reset_of net) (with_low st) ns ≡ with_low (after net st ns)
+  pub after_low : (ns : List ℕ) (st : RunState) → length st.values ≡ length net.first → IsRun net script st ns →
+      after (reset_of net) (with_low st) ns ≡ with_low (after net st ns)
   after_low [] st count run = refl
   after_low (n ∷ ns) st count run =
       ap (λ (s : RunState). after (reset_of net) s ns) (moved_low st count n (within st count n run.0)) ∙ after_low ns (moved net st n) (next st count n) run.1
 
-  pub safe_low : (ns : List ℕ) (st : RunState) → length st.values ≡ length net.first → IsRun net script st ns → IsSafeRun net script st ns → IsSafeRun (reset_of net) script (with_low st) ns
+  pub safe_low : (ns : List ℕ) (st : RunState) → length st.values ≡ length net.first → IsRun net script st ns → IsSafeRun net script st ns →
+      IsSafeRun (reset_of net) script (with_low st) ns
   safe_low [] st count run safe = apart_low st count safe
   safe_low (n ∷ ns) st count run safe = (
     apart_low st count safe.0,
     safe_move_low st count n run.0 safe.1,
-    subst (λ (s : RunState). IsSafeRun (reset_of net) script s ns) (sym (moved_low st count n (within st count n run.0))) (safe_low ns (moved net st n) (next st count n) run.1 safe.2),
+    subst (λ (s : RunState). IsSafeRun (reset_of net) script s ns) (sym (moved_low st count n (within st count n run.0)))
+        (safe_low ns (moved net st n) (next st count n) run.1 safe.2),
   )
 
   pub rest_low : (st : RunState) → length st.values ≡ length net.first → IsAtRest (reset_of net) script (with_low st) → IsAtRest net script st

@@ -26,7 +26,8 @@ pub record IsHigh (net : NetValue) (st : RunState) : Type 0 where
 pub high_at_first : (net : NetValue) → IsNet net → (values : List Bool) → IsPowered (reset_of net) values → IsHigh net (begin_at (reset_of net) values)
 high_at_first net is values powered = record {
   count = powered.count ∙ length_push net.first true;
-  up = powered.others (length net.first) (undriven_still net is (length net.first) (undriven_past net is (length net.first) (omega arith))) ∙ get_or_push net.first true false (length net.first) refl;
+  up = powered.others (length net.first) (undriven_still net is (length net.first) (undriven_past net is (length net.first) (omega arith)))
+      ∙ get_or_push net.first true false (length net.first) refl;
   others = λ k within none. powered.others k (undriven_still net is k none) ∙ get_or_append_left net.first (true ∷ []) false k within;
   nothing = refl;
 }
@@ -70,29 +71,36 @@ module _ (net : NetValue) (is : IsNet net) (script : List OfferValue) where
       by_place (inl within) = within
       by_place (inr past) = absurd (strays_driven _ _ on (undriven_past net is k past))
 
-  enabled_high : (st : RunState) → IsHigh net st → (k : ℕ) → move_enabled (reset_of net) script st k ≡ (strays net (high st.values) k || ((k == length net.first) && rules_rest (reset_of net) (high st.values)))
+  enabled_high : (st : RunState) → IsHigh net st → (k : ℕ) →
+      move_enabled (reset_of net) script st k ≡ (strays net (high st.values) k || ((k == length net.first) && rules_rest (reset_of net) (high st.values)))
   enabled_high st h k =
       ap (λ b. b || env_enabled (reset_of net) script (completed st.histories) (high st.values) k) (rule_high net is (high st.values) h.up k)
       ∙ ap (λ b. strays net (high st.values) k || b) (cond-true (high st.values (length net.first)) _ _ h.up)
 
-  stray_or_fall : (st : RunState) → IsHigh net st → (k : ℕ) → move_enabled (reset_of net) script st k ≡ true → (strays net (high st.values) k ≡ true) ⊎ ((k ≡ length net.first) × (rules_rest (reset_of net) (high st.values) ≡ true))
+  stray_or_fall : (st : RunState) → IsHigh net st → (k : ℕ) → move_enabled (reset_of net) script st k ≡ true →
+      (strays net (high st.values) k ≡ true) ⊎ ((k ≡ length net.first) × (rules_rest (reset_of net) (high st.values) ≡ true))
   stray_or_fall st h k on = by_case (or_cases _ _ (sym (enabled_high st h k) ∙ on))
     where
-      by_case : (strays net (high st.values) k ≡ true) ⊎ (((k == length net.first) && rules_rest (reset_of net) (high st.values)) ≡ true) → (strays net (high st.values) k ≡ true) ⊎ ((k ≡ length net.first) × (rules_rest (reset_of net) (high st.values) ≡ true))
+      by_case : (strays net (high st.values) k ≡ true) ⊎ (((k == length net.first) && rules_rest (reset_of net) (high st.values)) ≡ true) →
+          (strays net (high st.values) k ≡ true) ⊎ ((k ≡ length net.first) × (rules_rest (reset_of net) (high st.values) ≡ true))
       by_case (inl stray) = inl stray
       by_case (inr fall) = let p = and_parts _ _ fall in inr (eqb-true _ _ p.0, p.1)
 
-  pub stray_not_fall : (st : RunState) → IsHigh net st → (k : ℕ) → (k == length net.first) ≡ false → move_enabled (reset_of net) script st k ≡ true → strays net (high st.values) k ≡ true
+  pub stray_not_fall : (st : RunState) → IsHigh net st → (k : ℕ) → (k == length net.first) ≡ false → move_enabled (reset_of net) script st k ≡ true →
+      strays net (high st.values) k ≡ true
   stray_not_fall st h k other on = by_case (stray_or_fall st h k on)
     where
-      by_case : (strays net (high st.values) k ≡ true) ⊎ ((k ≡ length net.first) × (rules_rest (reset_of net) (high st.values) ≡ true)) → strays net (high st.values) k ≡ true
+      by_case : (strays net (high st.values) k ≡ true) ⊎ ((k ≡ length net.first) × (rules_rest (reset_of net) (high st.values) ≡ true)) →
+          strays net (high st.values) k ≡ true
       by_case (inl stray) = stray
       by_case (inr fall) = absurd (eqb-false k (length net.first) other fall.0)
 
-  pub may_fall : (st : RunState) → IsHigh net st → (k : ℕ) → (k == length net.first) ≡ true → move_enabled (reset_of net) script st k ≡ true → rules_rest (reset_of net) (high st.values) ≡ true
+  pub may_fall : (st : RunState) → IsHigh net st → (k : ℕ) → (k == length net.first) ≡ true → move_enabled (reset_of net) script st k ≡ true →
+      rules_rest (reset_of net) (high st.values) ≡ true
   may_fall st h k here on = by_case (stray_or_fall st h k on)
     where
-      by_case : (strays net (high st.values) k ≡ true) ⊎ ((k ≡ length net.first) × (rules_rest (reset_of net) (high st.values) ≡ true)) → rules_rest (reset_of net) (high st.values) ≡ true
+      by_case : (strays net (high st.values) k ≡ true) ⊎ ((k ≡ length net.first) × (rules_rest (reset_of net) (high st.values) ≡ true)) →
+          rules_rest (reset_of net) (high st.values) ≡ true
       by_case (inl stray) = absurd (lt_ne k (length net.first) (not_last (high st.values) k stray) (eqb-true k (length net.first) here))
       by_case (inr fall) = fall.1
 
@@ -103,18 +111,21 @@ module _ (net : NetValue) (is : IsNet net) (script : List OfferValue) where
       by_place : (k < length net.first) ⊎ (length net.first ≤ k) → strays net (high st.values) k ≡ false
       by_place (inl within) =
           sym (rule_high net is (high st.values) h.up k)
-          ∙ not-true _ (all_below_at (length (reset_of net).first) k (λ m. not (rule_enabled (reset_of net) (high st.values) m)) rest (omega (arith, length_push net.first true)))
+          ∙ not-true _ (all_below_at (length (reset_of net).first) k (λ m. not (rule_enabled (reset_of net) (high st.values) m)) rest
+              (omega (arith, length_push net.first true)))
       by_place (inr past) = and_left _ _ (undriven_past net is k past)
 
   rests_then : (st : RunState) → IsHigh net st → ((k : ℕ) → strays net (high st.values) k ≡ false) → rules_rest (reset_of net) (high st.values) ≡ true
   rests_then st h none =
-      all_below_from (length (reset_of net).first) (λ m. not (rule_enabled (reset_of net) (high st.values) m)) (λ m. ap not (rule_high net is (high st.values) h.up m ∙ none m))
+      all_below_from (length (reset_of net).first) (λ m. not (rule_enabled (reset_of net) (high st.values) m))
+          (λ m. ap not (rule_high net is (high st.values) h.up m ∙ none m))
 
   -- so something may still move
   pub goes_high : (st : RunState) → IsHigh net st → ¬ IsAtRest (reset_of net) script st
   goes_high st h rests =
       let none : (k : ℕ) → strays net (high st.values) k ≡ false = λ k. (or_parts _ _ (sym (enabled_high st h k) ∙ rests k)).0 in
-      let fall : ((length net.first == length net.first) && rules_rest (reset_of net) (high st.values)) ≡ false = (or_parts _ _ (sym (enabled_high st h (length net.first)) ∙ rests (length net.first))).1 in
+      let fall : ((length net.first == length net.first) && rules_rest (reset_of net) (high st.values)) ≡ false =
+          (or_parts _ _ (sym (enabled_high st h (length net.first)) ∙ rests (length net.first))).1 in
       both_ways _ fall (and_from _ _ (eq-eqb (length net.first) (length net.first) refl) (rests_then st h none))
 
   pub apart_high : (st : RunState) → IsHigh net st → IsApart (reset_of net) st
@@ -141,7 +152,8 @@ module _ (net : NetValue) (is : IsNet net) (script : List OfferValue) where
     phases = cond-true (high st.values (length net.first)) None _ h.up;
   }
     where
-      by_case : (m : ℕ) → m ≢ k → (strays net (high st.values) m ≡ true) ⊎ ((m ≡ length net.first) × (rules_rest (reset_of net) (high st.values) ≡ true)) → move_enabled (reset_of net) script (moved (reset_of net) st k) m ≡ true
+      by_case : (m : ℕ) → m ≢ k → (strays net (high st.values) m ≡ true) ⊎ ((m ≡ length net.first) × (rules_rest (reset_of net) (high st.values) ≡ true)) →
+          move_enabled (reset_of net) script (moved (reset_of net) st k) m ≡ true
       by_case m apart (inl stray) = enabled_high (moved (reset_of net) st k) (stray_next st h k on) m ∙ or_left _ _ (stray_same st k m apart ∙ stray)
       by_case m apart (inr fall) = absurd (both_ways _ (none_strays st h fall.1 k) on)
 
@@ -153,11 +165,13 @@ module _ (net : NetValue) (is : IsNet net) (script : List OfferValue) where
     phases = cond-true (high st.values (length net.first)) None _ h.up;
   }
     where
-      by_case : (m : ℕ) → m ≢ length net.first → (strays net (high st.values) m ≡ true) ⊎ ((m ≡ length net.first) × (rules_rest (reset_of net) (high st.values) ≡ true)) → ⊥
+      by_case : (m : ℕ) → m ≢ length net.first →
+          (strays net (high st.values) m ≡ true) ⊎ ((m ≡ length net.first) × (rules_rest (reset_of net) (high st.values) ≡ true)) → ⊥
       by_case m apart (inl stray) = both_ways _ (none_strays st h rest m) stray
       by_case m apart (inr fall) = apart fall.0
 
-  first_of : (st : RunState) → IsHigh net st → rules_rest (reset_of net) (high st.values) ≡ true → (k : ℕ) → k < length net.first → high st.values k ≡ first_at net k
+  first_of : (st : RunState) → IsHigh net st → rules_rest (reset_of net) (high st.values) ≡ true → (k : ℕ) → k < length net.first →
+      high st.values k ≡ first_at net k
   first_of st h rest k within = by_rules (driven net k) refl
     where
       by_rules : (b : Bool) → driven net k ≡ b → high st.values k ≡ first_at net k
@@ -167,9 +181,11 @@ module _ (net : NetValue) (is : IsNet net) (script : List OfferValue) where
   -- it does so only when all nodes have their first values
   all_first : (st : RunState) → IsHigh net st → rules_rest (reset_of net) (high st.values) ≡ true → st.values ≡ net.first ++ true ∷ []
   all_first st h rest =
-      ext_get_or false st.values (net.first ++ true ∷ []) (h.count ∙ sym (length_push net.first true)) (λ k within. by_place k within (cases_lt k (length net.first)))
+      ext_get_or false st.values (net.first ++ true ∷ []) (h.count ∙ sym (length_push net.first true))
+          (λ k within. by_place k within (cases_lt k (length net.first)))
     where
-      by_place : (k : ℕ) → k < length st.values → (k < length net.first) ⊎ (length net.first ≤ k) → get_or st.values k false ≡ get_or (net.first ++ true ∷ []) k false
+      by_place : (k : ℕ) → k < length st.values → (k < length net.first) ⊎ (length net.first ≤ k) →
+          get_or st.values k false ≡ get_or (net.first ++ true ∷ []) k false
       by_place k within (inl here) = first_of st h rest k here ∙ sym (get_or_append_left net.first (true ∷ []) false k here)
       by_place k within (inr past) =
           let e : k ≡ length net.first = omega (arith, h.count) in
@@ -178,10 +194,12 @@ module _ (net : NetValue) (is : IsNet net) (script : List OfferValue) where
   pub at_start : (st : RunState) → IsHigh net st → rules_rest (reset_of net) (high st.values) ≡ true → st ≡ start_of (reset_of net)
   at_start st h rest = same_state st.values _ st.histories _ (all_first st h rest) h.nothing
 
-  pub fallen : (st : RunState) → IsHigh net st → rules_rest (reset_of net) (high st.values) ≡ true → moved (reset_of net) st (length net.first) ≡ with_low (start_of net)
+  pub fallen : (st : RunState) → IsHigh net st → rules_rest (reset_of net) (high st.values) ≡ true →
+      moved (reset_of net) st (length net.first) ≡ with_low (start_of net)
   fallen st h rest =
       same_state (fired st.values (length net.first)) _ (histories_after (reset_of net) st (length net.first)) _
-      (ap (λ b. set st.values (length net.first) (not b)) h.up ∙ ap (λ vs. set vs (length net.first) false) (all_first st h rest) ∙ set-append_seam net.first true [] false)
+      (ap (λ b. set st.values (length net.first) (not b)) h.up ∙ ap (λ vs. set vs (length net.first) false) (all_first st h rest)
+          ∙ set-append_seam net.first true [] false)
       (cond-true (high st.values (length net.first)) st.histories _ h.up ∙ h.nothing)
 
   -- No node moves twice.
@@ -192,12 +210,16 @@ module _ (net : NetValue) (is : IsNet net) (script : List OfferValue) where
   strays_not false true e on = cc e
   strays_not false false e on = cc on
 
-  never_again : (ns : List ℕ) (st : RunState) → IsHigh net st → (k : ℕ) → high st.values k ≡ first_at net k → IsRun (reset_of net) script st ns → All (λ m. k ≢ m) (until_reset (reset_of net).reset ns)
+  never_again : (ns : List ℕ) (st : RunState) → IsHigh net st → (k : ℕ) → high st.values k ≡ first_at net k → IsRun (reset_of net) script st ns →
+      All (λ m. k ≢ m) (until_reset (reset_of net).reset ns)
   never_again [] st h k first run = All-nil (λ m. k ≢ m)
   never_again (n ∷ ns) st h k first run =
-      by_test (n == length net.first) refl (λ on apart. never_again ns (moved (reset_of net) st n) (stray_next st h n on) k (kept st.values n k apart ∙ first) run.1)
+      by_test (n == length net.first) refl (λ on apart. never_again ns (moved (reset_of net) st n) (stray_next st h n on) k (kept st.values n k apart ∙ first)
+          run.1)
     where
-      by_test : (b : Bool) → (n == length net.first) ≡ b → (strays net (high st.values) n ≡ true → k ≢ n → All (λ m. k ≢ m) (until_reset (reset_of net).reset ns)) → All (λ m. k ≢ m) (if b then [] else n ∷ until_reset (reset_of net).reset ns)
+      by_test : (b : Bool) → (n == length net.first) ≡ b →
+          (strays net (high st.values) n ≡ true → k ≢ n → All (λ m. k ≢ m) (until_reset (reset_of net).reset ns)) →
+          All (λ m. k ≢ m) (if b then [] else n ∷ until_reset (reset_of net).reset ns)
       by_test true e later = All-nil (λ m. k ≢ m)
       by_test false e later =
           let on = stray_not_fall st h n e run.0 in
@@ -212,7 +234,8 @@ module _ (net : NetValue) (is : IsNet net) (script : List OfferValue) where
   once_each [] st h run = λ i j d below within. absurd (omega arith)
   once_each (n ∷ ns) st h run = by_test (n == length net.first) refl (λ on. once_each ns (moved (reset_of net) st n) (stray_next st h n on) run.1)
     where
-      by_test : (b : Bool) → (n == length net.first) ≡ b → (strays net (high st.values) n ≡ true → IsOnceEach (until_reset (reset_of net).reset ns)) → IsOnceEach (if b then [] else n ∷ until_reset (reset_of net).reset ns)
+      by_test : (b : Bool) → (n == length net.first) ≡ b → (strays net (high st.values) n ≡ true → IsOnceEach (until_reset (reset_of net).reset ns)) →
+          IsOnceEach (if b then [] else n ∷ until_reset (reset_of net).reset ns)
       by_test true e later = λ i j d below within. absurd (omega arith)
       by_test false e later =
           let on = stray_not_fall st h n e run.0 in

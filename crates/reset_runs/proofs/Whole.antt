@@ -15,13 +15,17 @@ use Rattle.reset_runs.proofs.Fallen.{count_after, run_low, after_low, safe_low, 
 
 module _ (net : NetValue) (is : IsNet net) (plain : net.reset ≡ None) (script : List OfferValue) where
   -- reset falls first
-  falls : (ns : List ℕ) (st : RunState) → IsHigh net st → rules_rest (reset_of net) (high st.values) ≡ true → IsRun (reset_of net) script st (length net.first ∷ ns) → IsBehind net script st (length net.first ∷ ns)
+  falls : (ns : List ℕ) (st : RunState) → IsHigh net st → rules_rest (reset_of net) (high st.values) ≡ true →
+      IsRun (reset_of net) script st (length net.first ∷ ns) → IsBehind net script st (length net.first ∷ ns)
   falls ns st h rest run =
       let here : (length net.first == length net.first) ≡ true = eq-eqb (length net.first) (length net.first) refl in
-      let none : until_reset (reset_of net).reset (length net.first ∷ ns) ≡ [] = cond-true (length net.first == length net.first) [] (length net.first ∷ until_reset (reset_of net).reset ns) here in
+      let none : until_reset (reset_of net).reset (length net.first ∷ ns) ≡ [] =
+          cond-true (length net.first == length net.first) [] (length net.first ∷ until_reset (reset_of net).reset ns) here in
       let down : moved (reset_of net) st (length net.first) ≡ with_low (start_of net) = fallen net is script st h rest in
-      let since : IsRun net script (start_of net) ns = run_low net is plain script ns (start_of net) refl (subst (λ (s : RunState). IsRun (reset_of net) script s ns) down run.1) in
-      let ends : after (reset_of net) (moved (reset_of net) st (length net.first)) ns ≡ with_low (after net (start_of net) ns) = ap (λ (s : RunState). after (reset_of net) s ns) down ∙ after_low net is plain script ns (start_of net) refl since in
+      let since : IsRun net script (start_of net) ns =
+          run_low net is plain script ns (start_of net) refl (subst (λ (s : RunState). IsRun (reset_of net) script s ns) down run.1) in
+      let ends : after (reset_of net) (moved (reset_of net) st (length net.first)) ns ≡ with_low (after net (start_of net) ns) =
+          ap (λ (s : RunState). after (reset_of net) s ns) down ∙ after_low net is plain script ns (start_of net) refl since in
       record {
         since = ns;
         whole = ap (λ (xs : List ℕ). xs ++ length net.first ∷ ns) (sym none);
@@ -29,12 +33,16 @@ module _ (net : NetValue) (is : IsNet net) (plain : net.reset ≡ None) (script 
         run = since;
         counted = cond-true (length net.first == length net.first) (length ns) (moves_since_reset (reset_of net).reset ns) here;
         ends = ends;
-        safe = λ safe. (apart_high net is script st h, fall_safe net is script st h rest, subst (λ (s : RunState). IsSafeRun (reset_of net) script s ns) (sym down) (safe_low net is plain script ns (start_of net) refl since safe));
-        rests = λ rests. rest_low net is plain script (after net (start_of net) ns) (count_after net ns (start_of net)) (subst (λ (s : RunState). IsAtRest (reset_of net) script s) ends rests);
+        safe = λ safe. (apart_high net is script st h, fall_safe net is script st h rest,
+            subst (λ (s : RunState). IsSafeRun (reset_of net) script s ns) (sym down) (safe_low net is plain script ns (start_of net) refl since safe));
+        rests = λ rests. rest_low net is plain script (after net (start_of net) ns) (count_after net ns (start_of net))
+            (subst (λ (s : RunState). IsAtRest (reset_of net) script s) ends rests);
       }
 
   -- another node moves first
-  one_more : (n : ℕ) (ns : List ℕ) (st : RunState) → IsHigh net st → (n == length net.first) ≡ false → strays net (high st.values) n ≡ true → IsBefore net script (moved (reset_of net) st n) ns ⊎ IsBehind net script (moved (reset_of net) st n) ns → IsBefore net script st (n ∷ ns) ⊎ IsBehind net script st (n ∷ ns)
+  one_more : (n : ℕ) (ns : List ℕ) (st : RunState) → IsHigh net st → (n == length net.first) ≡ false → strays net (high st.values) n ≡ true →
+      IsBefore net script (moved (reset_of net) st n) ns ⊎ IsBehind net script (moved (reset_of net) st n) ns →
+      IsBefore net script st (n ∷ ns) ⊎ IsBehind net script st (n ∷ ns)
   one_more n ns st h other on (inl b) = inl (record {
     whole = cond-false (n == length net.first) [] (n ∷ until_reset (reset_of net).reset ns) other ∙ ap (λ (xs : List ℕ). n ∷ xs) b.whole;
     safe = (apart_high net is script st h, stray_safe net is script st h n on, b.safe);
@@ -43,7 +51,8 @@ module _ (net : NetValue) (is : IsNet net) (plain : net.reset ≡ None) (script 
     goes = b.goes;
   })
   one_more n ns st h other on (inr b) =
-      let still : until_reset (reset_of net).reset (n ∷ ns) ≡ n ∷ until_reset (reset_of net).reset ns = cond-false (n == length net.first) [] (n ∷ until_reset (reset_of net).reset ns) other in
+      let still : until_reset (reset_of net).reset (n ∷ ns) ≡ n ∷ until_reset (reset_of net).reset ns =
+          cond-false (n == length net.first) [] (n ∷ until_reset (reset_of net).reset ns) other in
       inr (record {
         since = b.since;
         whole = ap (λ (xs : List ℕ). n ∷ xs) b.whole ∙ ap (λ (xs : List ℕ). xs ++ length net.first ∷ b.since) (sym still);
@@ -56,10 +65,13 @@ module _ (net : NetValue) (is : IsNet net) (plain : net.reset ≡ None) (script 
       })
 
   course : (ns : List ℕ) (st : RunState) → IsHigh net st → IsRun (reset_of net) script st ns → IsBefore net script st ns ⊎ IsBehind net script st ns
-  course [] st h run = inl (record { whole = refl; safe = apart_high net is script st h; nothing = h.nothing; counted = refl; goes = goes_high net is script st h })
+  course [] st h run = inl (record { whole = refl; safe = apart_high net is script st h; nothing = h.nothing; counted = refl; goes =
+      goes_high net is script st h })
   course (n ∷ ns) st h run = by_test (n == length net.first) refl (λ on. course ns (moved (reset_of net) st n) (stray_next net is script st h n on) run.1)
     where
-      by_test : (b : Bool) → (n == length net.first) ≡ b → (strays net (high st.values) n ≡ true → IsBefore net script (moved (reset_of net) st n) ns ⊎ IsBehind net script (moved (reset_of net) st n) ns) → IsBefore net script st (n ∷ ns) ⊎ IsBehind net script st (n ∷ ns)
+      by_test : (b : Bool) → (n == length net.first) ≡ b →
+          (strays net (high st.values) n ≡ true → IsBefore net script (moved (reset_of net) st n) ns ⊎ IsBehind net script (moved (reset_of net) st n) ns) →
+          IsBefore net script st (n ∷ ns) ⊎ IsBehind net script st (n ∷ ns)
       by_test true e later =
           let same : n ≡ length net.first = eqb-true n (length net.first) e in
           inr (subst (λ (m : ℕ). IsBehind net script st (m ∷ ns)) (sym same)

@@ -27,7 +27,8 @@ pub record IsBehind (net : NetValue) (script : List OfferValue) (st : RunState) 
   pub counted : moves_since_reset (reset_of net).reset moves ≡ length since
   pub ends : after (reset_of net) st moves ≡ with_low (after net (start_of net) since)
   pub safe : IsSafeRun net script (start_of net) since → IsSafeRun (reset_of net) script st moves
-  pub rests : IsAtRest (reset_of net) script (after (reset_of net) st moves) → IsAtRest net script (after net (start_of net) since)
+  pub rests : IsAtRest (reset_of net) script (after (reset_of net) st moves) →
+      IsAtRest net script (after net (start_of net) since)
 
 -- and before reset falls no node moves twice
 pub record IsResetRun (net : NetValue) (script : List OfferValue) (st : RunState) (moves : List ℕ) : Type 0 where

@@ -56,7 +56,8 @@ with_choice (and_choice h q more) g p = and_choice h q (with_choice more g p)
 
 pub member_occurrences : (members : Processes) (p : Process) → occurrences_of_each (with_member members p) ≡ occurrences_of_each members ++ occurrences p
 member_occurrences no_members p = append-nil (occurrences p)
-member_occurrences (and_member q more) p = ap (λ (os : List Occurrence). occurrences q ++ os) (member_occurrences more p) ∙ sym (append_assoc (occurrences q) (occurrences_of_each more) (occurrences p))
+member_occurrences (and_member q more) p = ap (λ (os : List Occurrence). occurrences q ++ os) (member_occurrences more p)
+    ∙ sym (append_assoc (occurrences q) (occurrences_of_each more) (occurrences p))
 
 pub choice_occurrences : (choices : Choices) (g : Formula) (p : Process)
     → occurrences_of_choices (with_choice choices g p) ≡ occurrences_of_choices choices ++ (reads_of g ++ occurrences p)
@@ -161,7 +162,8 @@ pub members_more : (members : Processes) (p : Process) (a b : Occurrence) → Pa
 members_more no_members p a b (inl h) = absurd (across_none (occurrences p) a b h)
 members_more no_members p a b (inr h) = inl h
 members_more (and_member q more) p a b (inl h) =
-    by_list (across_cases (occurrences q) (occurrences_of_each more) (occurrences p) a b (subst (λ (os : List Occurrence). IsAcross (occurrences q) os a b) (member_occurrences more p) h))
+    by_list (across_cases (occurrences q) (occurrences_of_each more) (occurrences p) a b
+        (subst (λ (os : List Occurrence). IsAcross (occurrences q) os a b) (member_occurrences more p) h))
   where
     by_list : IsAcross (occurrences q) (occurrences_of_each more) a b ⊎ IsAcross (occurrences q) (occurrences p) a b
         → ParallelAcross (and_member q more) a b ⊎ IsAcross (occurrences_of_each (and_member q more)) (occurrences p) a b
@@ -180,12 +182,16 @@ pub more_members : (members : Processes) (p : Process) (a b : Occurrence)
 more_members no_members p a b (inl h) = absurd h
 more_members no_members p a b (inr h) = absurd (none_across (occurrences p) a b h)
 more_members (and_member q more) p a b (inl (inl h)) =
-    inl (subst (λ (os : List Occurrence). IsAcross (occurrences q) os a b) (sym (member_occurrences more p)) (across_left (occurrences q) (occurrences_of_each more) (occurrences p) a b h))
+    inl (subst (λ (os : List Occurrence). IsAcross (occurrences q) os a b) (sym (member_occurrences more p))
+        (across_left (occurrences q) (occurrences_of_each more) (occurrences p) a b h))
 more_members (and_member q more) p a b (inl (inr h)) = inr (more_members more p a b (inl h))
-more_members (and_member q more) p a b (inr h) = by_list (joined_cases (occurrences q) (occurrences_of_each more) (occurrences p) a b h) (λ k. more_members more p a b (inr k))
+more_members (and_member q more) p a b (inr h) =
+    by_list (joined_cases (occurrences q) (occurrences_of_each more) (occurrences p) a b h) (λ k. more_members more p a b (inr k))
   where
     by_list : IsAcross (occurrences q) (occurrences p) a b ⊎ IsAcross (occurrences_of_each more) (occurrences p) a b
-        → (IsAcross (occurrences_of_each more) (occurrences p) a b → ParallelAcross (with_member more p) a b) → ParallelAcross (with_member (and_member q more) p) a b
+        → (IsAcross (occurrences_of_each more) (occurrences p) a b → ParallelAcross (with_member more p) a b) →
+            ParallelAcross (with_member (and_member q more) p) a b
     by_list (inl k) rest =
-        inl (subst (λ (os : List Occurrence). IsAcross (occurrences q) os a b) (sym (member_occurrences more p)) (across_right (occurrences q) (occurrences_of_each more) (occurrences p) a b k))
+        inl (subst (λ (os : List Occurrence). IsAcross (occurrences q) os a b) (sym (member_occurrences more p))
+            (across_right (occurrences q) (occurrences_of_each more) (occurrences p) a b k))
     by_list (inr k) rest = inr (rest k)

@@ -121,7 +121,8 @@ pub tells_alone : (cause : FaultCode) (p : Process) (a b : Deeds) → IsAlone p 
 tells_alone cause p a b alone empty adds = record {
   exclusive = λ x. own (IsExclusive cause) (get nat_eq a.exclusive) (get nat_eq b.exclusive) x (empty.exclusive x) (adds.exclusive x);
   common = λ x. own (IsCommon cause) (get nat_eq a.common) (get nat_eq b.common) x (empty.common x) (adds.common x);
-  clash = subst (λ (o : Option Clash). IsLeast IsNoLaterPair (λ c. SharedAt p cause c.first c.second) o) (sym adds.clash) (least_same empty.clash (λ c h. absurd h.parallel) (λ c h. absurd (alone h.a h.b h.parallel)));
+  clash = subst (λ (o : Option Clash). IsLeast IsNoLaterPair (λ c. SharedAt p cause c.first c.second) o) (sym adds.clash)
+      (least_same empty.clash (λ c h. absurd h.parallel) (λ c h. absurd (alone h.a h.b h.parallel)));
 }
   where
     own : (Is : Deed → ℕ → Type 0) (f g : Lookup) (x : ℕ) → IsLeast IsNoLater (IsDoneAt Is [] x) (f x)
@@ -139,7 +140,9 @@ tells_alone cause p a b alone empty adds = record {
 joined_in : (Is : Deed → ℕ → Type 0) (os ps qs : List Occurrence) (f g h : Lookup) → qs ≡ os ++ ps
     → ((x : ℕ) → IsLeast IsNoLater (IsDoneAt Is os x) (f x)) → ((x : ℕ) → IsLeast IsNoLater (IsDoneAt Is ps x) (g x))
     → Joins f g h → (x : ℕ) → IsLeast IsNoLater (IsDoneAt Is qs x) (h x)
-joined_in Is os ps qs f g h are l k joins x = subst (λ (rs : List Occurrence). IsLeast IsNoLater (IsDoneAt Is rs x) (h x)) (sym are) (least_same (least_both no_later_trans (l x) (k x) (joins x)) into (place_cases Is os ps x))
+joined_in Is os ps qs f g h are l k joins x =
+    subst (λ (rs : List Occurrence). IsLeast IsNoLater (IsDoneAt Is rs x) (h x)) (sym are)
+    (least_same (least_both no_later_trans (l x) (k x) (joins x)) into (place_cases Is os ps x))
   where
     into : (s : Span) → IsDoneAt Is os x s ⊎ IsDoneAt Is ps x s → IsDoneAt Is (os ++ ps) x s
     into s (inl p) = place_left os ps p
@@ -163,7 +166,8 @@ as_shared p cause c h = record { a = h.a; b = h.b; parallel = h.related; clash =
 
 related_as : (R S : Occurrence → Occurrence → Type 0) (cause : FaultCode) (c : Clash) → ((a b : Occurrence) → R a b → S a b) → SharedBy R cause c
     → SharedBy S cause c
-related_as R S cause c into h = record { a = h.a; b = h.b; related = into h.a h.b h.related; clash = h.clash; at_first = h.at_first; at_second = h.at_second; order = h.order }
+related_as R S cause c into h = record { a = h.a; b = h.b; related = into h.a h.b h.related; clash = h.clash; at_first = h.at_first; at_second = h.at_second;
+    order = h.order }
 
 related_cases : (R S T : Occurrence → Occurrence → Type 0) (cause : FaultCode) (c : Clash) → ((a b : Occurrence) → R a b → S a b ⊎ T a b)
     → SharedBy R cause c → SharedBy S cause c ⊎ SharedBy T cause c
@@ -175,7 +179,8 @@ related_cases R S T cause c cases h = by_case (cases h.a h.b h.related)
 
 -- two deeds clash by a name that one of them has exclusively, and the other one has too
 clash_name : (cause : FaultCode) (d e : Deed) → Clashes cause d e
-    → (x : ℕ) × ((IsExclusive cause d x × IsExclusive cause e x) ⊎ ((IsExclusive cause d x × IsCommon cause e x) ⊎ (IsCommon cause d x × IsExclusive cause e x)))
+    → (x : ℕ) × ((IsExclusive cause d x × IsExclusive cause e x) ⊎
+        ((IsExclusive cause d x × IsCommon cause e x) ⊎ (IsCommon cause d x × IsExclusive cause e x)))
 clash_name code.SharedVariable (writes_var x) (writes_var y) h = (x, inl (refl, h))
 clash_name code.SharedVariable (writes_var x) (reads_var y) h = (x, inr (inl (refl, h)))
 clash_name code.SharedVariable (reads_var x) (writes_var y) h = (x, inr (inr (refl, h)))
@@ -224,7 +229,8 @@ meeting_shared Is It cause os ps c clash h = by_order h.pair.these
       a = h.in_other.occurrence;
       b = h.in_one.occurrence;
       related = inr (h.in_other.among, h.in_one.among);
-      clash = clashes_sym cause h.in_one.occurrence.deed h.in_other.occurrence.deed (clash h.in_one.occurrence.deed h.in_other.occurrence.deed h.name h.in_one.kind h.in_other.kind);
+      clash = clashes_sym cause h.in_one.occurrence.deed h.in_other.occurrence.deed
+          (clash h.in_one.occurrence.deed h.in_other.occurrence.deed h.name h.in_one.kind h.in_other.kind);
       at_first = e.0 ∙ h.in_other.at;
       at_second = e.1 ∙ h.in_one.at;
       order = h.pair.order;
@@ -249,14 +255,17 @@ CrossedBelow a b d = (c : Clash) × Crosses a b c × IsNoLaterPair c d
 -- the least pair of places that the tables of two statements have for one name is that of the clashes across them
 pub crossing : (cause : FaultCode) (os ps : List Occurrence) (a b : Deeds) (o : Option Clash)
     → kept_by (IsExclusive cause) os (get nat_eq a.exclusive) → kept_by (IsCommon cause) os (get nat_eq a.common)
-    → kept_by (IsExclusive cause) ps (get nat_eq b.exclusive) → kept_by (IsCommon cause) ps (get nat_eq b.common) → IsLeast IsNoLaterPair (Crosses a b) o → IsLeast IsNoLaterPair (SharedBy (IsAcross os ps) cause) o
+    → kept_by (IsExclusive cause) ps (get nat_eq b.exclusive) → kept_by (IsCommon cause) ps (get nat_eq b.common) → IsLeast IsNoLaterPair (Crosses a b) o →
+        IsLeast IsNoLaterPair (SharedBy (IsAcross os ps) cause) o
 crossing cause os ps a b o a_exclusive a_common b_exclusive b_common l = least_refine pair_trans l into below
   where
     into : (c : Clash) → Crosses a b c → SharedBy (IsAcross os ps) cause c
-    into c (inl h) = meeting_shared (IsExclusive cause) (IsExclusive cause) cause os ps c (both_exclusive cause) (meeting_there _ _ _ _ a_exclusive b_exclusive c h)
+    into c (inl h) = meeting_shared (IsExclusive cause) (IsExclusive cause) cause os ps c (both_exclusive cause)
+        (meeting_there _ _ _ _ a_exclusive b_exclusive c h)
     into c (inr (inl h)) = meeting_shared (IsExclusive cause) (IsCommon cause) cause os ps c (one_common cause) (meeting_there _ _ _ _ a_exclusive b_common c h)
     into c (inr (inr h)) =
-        meeting_shared (IsCommon cause) (IsExclusive cause) cause os ps c (λ d e x k m. clashes_sym cause e d (one_common cause e d x m k)) (meeting_there _ _ _ _ a_common b_exclusive c h)
+        meeting_shared (IsCommon cause) (IsExclusive cause) cause os ps c (λ d e x k m. clashes_sym cause e d (one_common cause e d x m k))
+            (meeting_there _ _ _ _ a_common b_exclusive c h)
 
     both : (d : Clash) → MeetingOf (IsDoneAt (IsExclusive cause) os) (IsDoneAt (IsExclusive cause) ps) d → CrossedBelow a b d
     both d h = let m = meeting_below _ _ _ _ a_exclusive b_exclusive d h in (m.0, inl m.1, m.2)
@@ -271,7 +280,8 @@ crossing cause os ps a b o a_exclusive a_common b_exclusive b_common l = least_r
     one_way : (u v : Occurrence) (d : Clash) → Contains os u → Contains ps v → Clashes cause u.deed v.deed → IsInOrder u.at v.at d → CrossedBelow a b d
     one_way u v d in_os in_ps clash pair = by_name (clash_name cause u.deed v.deed clash)
       where
-        by_name : (x : ℕ) × ((IsExclusive cause u.deed x × IsExclusive cause v.deed x) ⊎ ((IsExclusive cause u.deed x × IsCommon cause v.deed x) ⊎ (IsCommon cause u.deed x × IsExclusive cause v.deed x))) → CrossedBelow a b d
+        by_name : (x : ℕ) × ((IsExclusive cause u.deed x × IsExclusive cause v.deed x) ⊎
+            ((IsExclusive cause u.deed x × IsCommon cause v.deed x) ⊎ (IsCommon cause u.deed x × IsExclusive cause v.deed x))) → CrossedBelow a b d
         by_name (x, inl k) = both d (meets_there (IsExclusive cause) (IsExclusive cause) os ps x u v d in_os in_ps k.0 k.1 pair)
         by_name (x, inr (inl k)) = left d (meets_there (IsExclusive cause) (IsCommon cause) os ps x u v d in_os in_ps k.0 k.1 pair)
         by_name (x, inr (inr k)) = right d (meets_there (IsCommon cause) (IsExclusive cause) os ps x u v d in_os in_ps k.0 k.1 pair)
@@ -281,7 +291,8 @@ crossing cause os ps a b o a_exclusive a_common b_exclusive b_common l = least_r
       where
         by_side : IsAcross os ps h.a h.b → CrossedBelow a b d
         by_side (inl k) = one_way h.a h.b d k.0 k.1 h.clash (record { order = h.order; these = inl (h.at_first, h.at_second) })
-        by_side (inr k) = one_way h.b h.a d k.1 k.0 (clashes_sym cause h.a.deed h.b.deed h.clash) (record { order = h.order; these = inr (h.at_first, h.at_second) })
+        by_side (inr k) = one_way h.b h.a d k.1 k.0 (clashes_sym cause h.a.deed h.b.deed h.clash)
+            (record { order = h.order; these = inr (h.at_first, h.at_second) })
 
 -- ---- one more part
 
@@ -291,7 +302,8 @@ IsBelow o e = (c : Clash) × (o ≡ Some c) × IsNoLaterPair c e
 -- what two statements tell, of one that has the occurrences of both, and whose pairs are those of both and those across
 tells_more : (cause : FaultCode) (p q r : Process) (R : Occurrence → Occurrence → Type 0) (a b d : Deeds) (across : Option Clash)
     → occurrences r ≡ occurrences p ++ occurrences q
-    → ((u v : Occurrence) → Parallel r u v → (Parallel p u v ⊎ Parallel q u v) ⊎ R u v) → ((u v : Occurrence) → (Parallel p u v ⊎ Parallel q u v) ⊎ R u v → Parallel r u v)
+    → ((u v : Occurrence) → Parallel r u v → (Parallel p u v ⊎ Parallel q u v) ⊎ R u v) →
+        ((u v : Occurrence) → (Parallel p u v ⊎ Parallel q u v) ⊎ R u v → Parallel r u v)
     → Tells cause p a → Tells cause q b → IsLeast IsNoLaterPair (SharedBy R cause) across → Merges a b across d → Tells cause r d
 tells_more cause p q r R a b d across are cases pairs tells others least merges = record {
   exclusive = joined_in (IsExclusive cause) (occurrences p) (occurrences q) (occurrences r) _ _ _ are tells.exclusive others.exclusive merges.exclusive;
@@ -300,8 +312,10 @@ tells_more cause p q r R a b d across are cases pairs tells others least merges 
 }
   where
     into : (c : Clash) → IsEither a.clash b.clash c ⊎ (across ≡ Some c) → SharedAt r cause c.first c.second
-    into c (inl (inl e)) = as_shared r cause c (related_as (Parallel p) (Parallel r) cause c (λ u v h. pairs u v (inl (inl h))) (shared_as p cause c (tells.clash.there c e)))
-    into c (inl (inr e)) = as_shared r cause c (related_as (Parallel q) (Parallel r) cause c (λ u v h. pairs u v (inl (inr h))) (shared_as q cause c (others.clash.there c e)))
+    into c (inl (inl e)) = as_shared r cause c (related_as (Parallel p) (Parallel r) cause c (λ u v h. pairs u v (inl (inl h)))
+        (shared_as p cause c (tells.clash.there c e)))
+    into c (inl (inr e)) = as_shared r cause c (related_as (Parallel q) (Parallel r) cause c (λ u v h. pairs u v (inl (inr h)))
+        (shared_as q cause c (others.clash.there c e)))
     into c (inr e) = as_shared r cause c (related_as R (Parallel r) cause c (λ u v h. pairs u v (inr h)) (least.there c e))
 
     lower : (e c : Clash) → IsEither a.clash b.clash c ⊎ (across ≡ Some c) → IsNoLaterPair c e → IsBelow d.clash e
@@ -337,18 +351,21 @@ as_either R S T into (inr h) = absurd h
 pub turn_more : (cause : FaultCode) (members : Processes) (p : Process) (a b d : Deeds) → Tells cause (in_turn members) a → Tells cause p b
     → Merges a b None d → Tells cause (in_turn (with_member members p)) d
 turn_more cause members p a b d tells own merges =
-    tells_more cause (in_turn members) p (in_turn (with_member members p)) Never a b d None (member_occurrences members p) (λ u v h. inl (inside_more members p u v h))
+    tells_more cause (in_turn members) p (in_turn (with_member members p)) Never a b d None (member_occurrences members p)
+        (λ u v h. inl (inside_more members p u v h))
     (λ u v. as_either _ _ _ (more_inside members p u v)) tells own (never_least cause) merges
 
 pub choice_told : (cause : FaultCode) (again : Bool) (choices : Choices) (g : Formula) (p : Process) (a b d e : Deeds)
     → Tells cause (choosing again choices) a → Tells cause p b → Adds cause (reads_of g) b d → Merges a d None e
     → Tells cause (choosing again (with_choice choices g p)) e
 choice_told cause again choices g p a b d e tells own adds merges = record {
-  exclusive = joined_in (IsExclusive cause) (occurrences_of_choices choices) (reads_of g ++ occurrences p) _ _ _ _ (choice_occurrences choices g p) tells.exclusive
+  exclusive = joined_in (IsExclusive cause) (occurrences_of_choices choices) (reads_of g ++ occurrences p) _ _ _ _ (choice_occurrences choices g p)
+      tells.exclusive
       (λ x. branch (IsExclusive cause) (get nat_eq b.exclusive) (get nat_eq d.exclusive) x (own.exclusive x) (adds.exclusive x)) merges.exclusive;
   common = joined_in (IsCommon cause) (occurrences_of_choices choices) (reads_of g ++ occurrences p) _ _ _ _ (choice_occurrences choices g p) tells.common
       (λ x. branch (IsCommon cause) (get nat_eq b.common) (get nat_eq d.common) x (own.common x) (adds.common x)) merges.common;
-  clash = least_same (least_both pair_trans tells.clash (subst (λ (o : Option Clash). IsLeast IsNoLaterPair (λ c. SharedAt p cause c.first c.second) o) (sym adds.clash) own.clash) (least_same merges.clash only (λ c h. inl h))) into from;
+  clash = least_same (least_both pair_trans tells.clash (subst (λ (o : Option Clash). IsLeast IsNoLaterPair (λ c. SharedAt p cause c.first c.second) o)
+      (sym adds.clash) own.clash) (least_same merges.clash only (λ c h. inl h))) into from;
 }
   where
     branch : (Is : Deed → ℕ → Type 0) (f h : Lookup) (x : ℕ) → IsLeast IsNoLater (IsDoneAt Is (occurrences p) x) (f x)
@@ -373,7 +390,8 @@ choice_told cause again choices g p a b d e tells own adds merges = record {
 
     into : (c : Clash) → SharedAt (choosing again choices) cause c.first c.second ⊎ SharedAt p cause c.first c.second
         → SharedAt (choosing again (with_choice choices g p)) cause c.first c.second
-    into c (inl h) = as_shared _ cause c (related_as (Parallel (choosing again choices)) _ cause c (λ u v k. more_choice choices g p u v (inl k)) (shared_as _ cause c h))
+    into c (inl h) = as_shared _ cause c (related_as (Parallel (choosing again choices)) _ cause c (λ u v k. more_choice choices g p u v (inl k))
+        (shared_as _ cause c h))
     into c (inr h) = as_shared _ cause c (related_as (Parallel p) _ cause c (λ u v k. more_choice choices g p u v (inr k)) (shared_as _ cause c h))
 
     from : (c : Clash) → SharedAt (choosing again (with_choice choices g p)) cause c.first c.second
@@ -389,7 +407,8 @@ pub branch_more : (cause : FaultCode) (members : Processes) (p : Process) (a b d
     → Tells cause (side_by_side members) a → Tells cause p b → IsLeast IsNoLaterPair (Crosses a b) across
     → Merges a b across d → Tells cause (side_by_side (with_member members p)) d
 branch_more cause members p a b d across tells own least merges =
-    tells_more cause (side_by_side members) p (side_by_side (with_member members p)) (IsAcross (occurrences_of_each members) (occurrences p)) a b d across (member_occurrences members p) cases pairs tells own
+    tells_more cause (side_by_side members) p (side_by_side (with_member members p)) (IsAcross (occurrences_of_each members) (occurrences p)) a b d across
+        (member_occurrences members p) cases pairs tells own
     (crossing cause (occurrences_of_each members) (occurrences p) a b across tells.exclusive tells.common own.exclusive own.common least) merges
   where
     cases : (u v : Occurrence) → Parallel (side_by_side (with_member members p)) u v
@@ -425,15 +444,18 @@ unshared p cause o is l a b parallel clash = by_order (no_later_total a.at b.at)
     none c h = let m = l.least c h in cc (m.1, is)
 
     by_order : IsNoLater a.at b.at ⊎ IsNoLater b.at a.at → ⊥
-    by_order (inl h) = none (record { first = a.at; second = b.at }) (record { a = a; b = b; parallel = parallel; clash = clash; at_first = refl; at_second = refl; order = h })
+    by_order (inl h) = none (record { first = a.at; second = b.at }) (record { a = a; b = b; parallel = parallel; clash = clash; at_first = refl; at_second =
+        refl; order = h })
     by_order (inr h) =
         none (record { first = b.at; second = a.at })
-        (record { a = b; b = a; parallel = parallel_sym p a b parallel; clash = clashes_sym cause a.deed b.deed clash; at_first = refl; at_second = refl; order = h })
+        (record { a = b; b = a; parallel = parallel_sym p a b parallel; clash = clashes_sym cause a.deed b.deed clash; at_first = refl; at_second = refl;
+            order = h })
 
 -- the least pair is the one that is reported
 pub first_shared : (p : Process) (cause : FaultCode) (o : Option Clash) (c : Clash) → o ≡ Some c
     → IsLeast IsNoLaterPair (λ d. SharedAt p cause d.first d.second) o → IsFirstShared p cause c.first c.second
-first_shared p cause o c is l = record { shared = l.there c is; least_second = λ s t h. (below s t h).by_second; least_first = λ s h. (below s c.second h).by_first refl }
+first_shared p cause o c is l = record { shared = l.there c is; least_second = λ s t h. (below s t h).by_second; least_first =
+    λ s h. (below s c.second h).by_first refl }
   where
     below : (s t : Span) → SharedAt p cause s t → IsNoLaterPair c (record { first = s; second = t })
     below s t h =
@@ -449,7 +471,8 @@ Table = HashMap ℕ Span (BuildHasherDefault FoldHasher)
 
 kept_in : (Is : Deed → ℕ → Type 0) (d : Deed) (at : Span) (t u : Table) → u ≡ t → ((x : ℕ) → ¬ Is d x)
     → AddsIn Is (done_at d at ∷ []) (get nat_eq t) (get nat_eq u)
-kept_in Is d at t u same none = subst (λ (v : Table). AddsIn Is (done_at d at ∷ []) (get nat_eq t) (get nat_eq v)) (sym same) (not_in Is d at (get nat_eq t) none)
+kept_in Is d at t u same none = subst (λ (v : Table). AddsIn Is (done_at d at ∷ []) (get nat_eq t) (get nat_eq v)) (sym same)
+    (not_in Is d at (get nat_eq t) none)
 
 pub adds_exclusive : (cause is : FaultCode) (d : Deed) (name : ℕ) (at : Span) (a b : Deeds) → cause ≡ is → ((x : ℕ) → IsExclusive is d x → x ≡ name)
     → IsExclusive is d name → ((x : ℕ) → ¬ IsCommon is d x)
@@ -484,7 +507,8 @@ pub tells_as : (cause : FaultCode) (p q : Process) (d : Deeds) → occurrences q
     → ((u v : Occurrence) → Parallel p u v → Parallel q u v) → ((u v : Occurrence) → Parallel q u v → Parallel p u v)
     → Tells cause p d → Tells cause q d
 tells_as cause p q d are into from tells = record {
-  exclusive = λ x. subst (λ (os : List Occurrence). IsLeast IsNoLater (IsDoneAt (IsExclusive cause) os x) (get nat_eq d.exclusive x)) (sym are) (tells.exclusive x);
+  exclusive = λ x. subst (λ (os : List Occurrence). IsLeast IsNoLater (IsDoneAt (IsExclusive cause) os x) (get nat_eq d.exclusive x)) (sym are)
+      (tells.exclusive x);
   common = λ x. subst (λ (os : List Occurrence). IsLeast IsNoLater (IsDoneAt (IsCommon cause) os x) (get nat_eq d.common x)) (sym are) (tells.common x);
   clash = least_same tells.clash (λ c h. as_shared q cause c (related_as (Parallel p) (Parallel q) cause c into (shared_as p cause c h)))
       (λ c h. as_shared p cause c (related_as (Parallel q) (Parallel p) cause c from (shared_as q cause c h)));

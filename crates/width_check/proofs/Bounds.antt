@@ -62,12 +62,14 @@ mutual
 
   pub joined_fits : (store : ℕ → ℕ) (parts : Formulas) → AreWellFormed parts → joined_value store parts < 2 ^ widths_of parts
   joined_fits store no_parts formed = omega arith
-  joined_fits store (and_part e more) formed = joined_below (width_of e) (widths_of more) (value store e) (joined_value store more) (value_fits store e formed.0) (joined_fits store more formed.1)
+  joined_fits store (and_part e more) formed =
+      joined_below (width_of e) (widths_of more) (value store e) (joined_value store more) (value_fits store e formed.0) (joined_fits store more formed.1)
 
   pub chained_fits : (store : ℕ → ℕ) (w v : ℕ) (more : Operations) → v < 2 ^ w → AreOperations w more → chained_value store w v more < 2 ^ w
   chained_fits store w v no_operations small formed = small
   chained_fits store w v (and_operation op e more) small formed =
-      chained_fits store w (operated op w v (value store e)) more (operated_fits op w v (value store e) formed.0 small (subst (λ n. value store e < 2 ^ n) formed.1 (value_fits store e formed.2))) formed.3
+      chained_fits store w (operated op w v (value store e)) more
+          (operated_fits op w v (value store e) formed.0 small (subst (λ n. value store e < 2 ^ n) formed.1 (value_fits store e formed.2))) formed.3
 
 -- a well-formed expression has 1 to 64 bits
 mutual
@@ -92,7 +94,8 @@ width_most (chained e more) formed = width_most e formed.0
 width_most (compared op e f) formed = omega arith
 
 more_bits : (n w v : ℕ) → n < 2 ^ w → w ≤ v → n < 2 ^ v
-more_bits n w v small fits = ⊎_elim (λ less. let up : 2 ^ w < 2 ^ v = pow-lt less in omega arith) (λ same. let e : w ≡ v = omega arith in subst (λ k. n < 2 ^ k) e small) (cases_lt w v)
+more_bits n w v small fits = ⊎_elim (λ less. let up : 2 ^ w < 2 ^ v = pow-lt less in omega arith) (λ same. let e : w ≡ v = omega arith in
+    subst (λ k. n < 2 ^ k) e small) (cases_lt w v)
 
 join_shift : (n p q v j : ℕ) → n * (p * q) + (v * q + j) ≡ (n * p + v) * q + j
 join_shift n p q v j = omega arith
@@ -102,20 +105,25 @@ join_shift n p q v j = omega arith
 pub join_begins : (store : ℕ → ℕ) (parts : Formulas) → widths_of parts ≤ 64 → AreWellFormed parts → joined_value store parts < 2 ^ 64
 join_begins store parts most formed = more_bits _ _ 64 (joined_fits store parts formed) most
 
-pub part_fits : (store : ℕ → ℕ) (es : List TExpr) (i : ℕ) (e : TExpr) (w v : ℕ) → i < length es → e ≡ get_or es i e → AreWellFormed (parts_of (drop i es)) → w ≡ width_of (formula_of e) → v ≡ value store (formula_of e) → v < 2 ^ w
+pub part_fits : (store : ℕ → ℕ) (es : List TExpr) (i : ℕ) (e : TExpr) (w v : ℕ) → i < length es → e ≡ get_or es i e → AreWellFormed (parts_of (drop i es)) →
+    w ≡ width_of (formula_of e) → v ≡ value store (formula_of e) → v < 2 ^ w
 part_fits store es i e w v within is formed wide here =
     rw (wide, here) (value_fits store (formula_of e) (subst (λ ps. AreWellFormed ps) (part_at es i e within is) formed).0)
 
-pub part_joins : (store : ℕ → ℕ) (es : List TExpr) (i : ℕ) (e : TExpr) (n w v : ℕ) → i < length es → e ≡ get_or es i e → w ≡ width_of (formula_of e) → v ≡ value store (formula_of e) → n * 2 ^ widths_of (parts_of (drop i es)) + joined_value store (parts_of (drop i es)) ≡ (n * 2 ^ w + v) * 2 ^ widths_of (parts_of (drop (i + 1) es)) + joined_value store (parts_of (drop (i + 1) es))
+pub part_joins : (store : ℕ → ℕ) (es : List TExpr) (i : ℕ) (e : TExpr) (n w v : ℕ) → i < length es → e ≡ get_or es i e → w ≡ width_of (formula_of e) →
+    v ≡ value store (formula_of e) → n * 2 ^ widths_of (parts_of (drop i es)) + joined_value store (parts_of (drop i es)) ≡
+    (n * 2 ^ w + v) * 2 ^ widths_of (parts_of (drop (i + 1) es)) + joined_value store (parts_of (drop (i + 1) es))
 part_joins store es i e n w v within is wide here =
-    rw (part_at es i e within is, ← wide, ← here, pow-add 2 w (widths_of (parts_of (drop (i + 1) es)))) (join_shift n (2 ^ w) (2 ^ widths_of (parts_of (drop (i + 1) es))) v (joined_value store (parts_of (drop (i + 1) es))))
+    rw (part_at es i e within is, ← wide, ← here, pow-add 2 w (widths_of (parts_of (drop (i + 1) es))))
+        (join_shift n (2 ^ w) (2 ^ widths_of (parts_of (drop (i + 1) es))) v (joined_value store (parts_of (drop (i + 1) es))))
 
 pub no_more_than : (n q j whole : ℕ) → n * q + j ≡ whole → 0 < q → n ≤ whole
 no_more_than n q j whole is some = let grows : n * 1 ≤ n * q = mul-le-mul_left n some in omega (arith, grows)
 
 -- a chain, link by link
 
-pub link_fits : (store : ℕ → ℕ) (ls : List TLink) (i : ℕ) (l : TLink) (w v : ℕ) → i < length ls → l ≡ get_or ls i l → AreOperations w (links_of (drop i ls)) → v ≡ value store (formula_of l.right) → v < 2 ^ w
+pub link_fits : (store : ℕ → ℕ) (ls : List TLink) (i : ℕ) (l : TLink) (w v : ℕ) → i < length ls → l ≡ get_or ls i l → AreOperations w (links_of (drop i ls)) →
+    v ≡ value store (formula_of l.right) → v < 2 ^ w
 link_fits store ls i l w v within is formed here =
     let facts = subst (λ ops. AreOperations w ops) (link_at ls i l within is) formed in
     rw here (subst (λ n. value store (formula_of l.right) < 2 ^ n) facts.1 (value_fits store (formula_of l.right) facts.2))
@@ -125,7 +133,9 @@ pub record IsLinked (store : ℕ → ℕ) (ls : List TLink) (i w n whole : ℕ) 
   pub formed : AreOperations w (links_of (drop i ls))
   pub small : n < 2 ^ w
 
-pub link_more : (store : ℕ → ℕ) (ls : List TLink) (i : ℕ) (l : TLink) (w n v r whole : ℕ) → i < length ls → l ≡ get_or ls i l → v ≡ value store (formula_of l.right) → r ≡ operated l.op w n v → chained_value store w n (links_of (drop i ls)) ≡ whole → AreOperations w (links_of (drop i ls)) → n < 2 ^ w → IsLinked store ls (i + 1) w r whole
+pub link_more : (store : ℕ → ℕ) (ls : List TLink) (i : ℕ) (l : TLink) (w n v r whole : ℕ) → i < length ls → l ≡ get_or ls i l →
+    v ≡ value store (formula_of l.right) → r ≡ operated l.op w n v → chained_value store w n (links_of (drop i ls)) ≡ whole →
+    AreOperations w (links_of (drop i ls)) → n < 2 ^ w → IsLinked store ls (i + 1) w r whole
 link_more store ls i l w n v r whole within is here applied so_far formed small =
     let e = link_at ls i l within is in
     let facts = subst (λ ops. AreOperations w ops) e formed in

@@ -68,9 +68,12 @@ any_mapped : {X : Type 0} (f : X → List ℕ) (p : List ℕ → Bool) (xs : Lis
 any_mapped f p [] = refl
 any_mapped f p (x ∷ xs) = ap (λ b. p (f x) || b) (any_mapped f p xs)
 
-pub among : (name : List ℕ) (cs : List Channel) (vs : List Var) → list_any (bytes_eq name) (names_of cs vs) ≡ (list_any (λ (c : Channel). bytes_eq name c.name) cs || list_any (λ (v : Var). bytes_eq name v.name) vs)
+pub among : (name : List ℕ) (cs : List Channel) (vs : List Var) →
+    list_any (bytes_eq name) (names_of cs vs) ≡ (list_any (λ (c : Channel). bytes_eq name c.name) cs || list_any (λ (v : Var). bytes_eq name v.name) vs)
 among name cs vs =
-    list_any-append (bytes_eq name) (map (λ (c : Channel). c.name) cs) (map (λ (v : Var). v.name) vs) ∙ ap (λ b. b || list_any (bytes_eq name) (map (λ (v : Var). v.name) vs)) (any_mapped (λ (c : Channel). c.name) (bytes_eq name) cs) ∙ ap (λ b. list_any (λ (c : Channel). bytes_eq name c.name) cs || b) (any_mapped (λ (v : Var). v.name) (bytes_eq name) vs)
+    list_any-append (bytes_eq name) (map (λ (c : Channel). c.name) cs) (map (λ (v : Var). v.name) vs)
+        ∙ ap (λ b. b || list_any (bytes_eq name) (map (λ (v : Var). v.name) vs)) (any_mapped (λ (c : Channel). c.name) (bytes_eq name) cs)
+        ∙ ap (λ b. list_any (λ (c : Channel). bytes_eq name c.name) cs || b) (any_mapped (λ (v : Var). v.name) (bytes_eq name) vs)
 
 -- no name stands twice
 
@@ -84,11 +87,13 @@ pub equal_none : (name : List ℕ) (names : List (List ℕ)) → AllByRecursion 
 equal_none name [] none = refl
 equal_none name (x ∷ xs) none = or_false (bytes_eq name x) (list_any (bytes_eq name) xs) none.0 (equal_none name xs none.1)
 
-pub name_more : (P : Type 0) (name : List ℕ) (names : List (List ℕ)) → Alike P (IsDistinct bytes_eq (name ∷ names)) → list_any (bytes_eq name) names ≡ false → Alike P (IsDistinct bytes_eq names)
+pub name_more : (P : Type 0) (name : List ℕ) (names : List (List ℕ)) → Alike P (IsDistinct bytes_eq (name ∷ names)) → list_any (bytes_eq name) names ≡ false →
+    Alike P (IsDistinct bytes_eq names)
 unfolding IsDistinct
 name_more P name names same none = record { whole = λ rest. same.whole (none_equal name names none, rest); rest = λ all. (same.rest all).1 }
 
-pub name_twice : (P : Type 0) (name : List ℕ) (names : List (List ℕ)) → Alike P (IsDistinct bytes_eq (name ∷ names)) → list_any (bytes_eq name) names ≡ true → ¬ P
+pub name_twice : (P : Type 0) (name : List ℕ) (names : List (List ℕ)) → Alike P (IsDistinct bytes_eq (name ∷ names)) → list_any (bytes_eq name) names ≡ true →
+    ¬ P
 unfolding IsDistinct
 name_twice P name names same found all = let none = equal_none name names (same.rest all).0 in absurd (cc (found, none))
 
@@ -101,12 +106,14 @@ some_name_twice names twice apart = twice (IsDistinct-from_AllPairs bytes_eq-Dec
 
 -- the names from a place on
 
-pub channel_at : (P : Type 0) (cs : List Channel) (vs : List Var) (i : ℕ) (c : Channel) → i < length cs → c ≡ get_or cs i c → Alike P (IsDistinct bytes_eq (names_of (drop i cs) vs)) → Alike P (IsDistinct bytes_eq (c.name ∷ names_of (drop (i + 1) cs) vs))
+pub channel_at : (P : Type 0) (cs : List Channel) (vs : List Var) (i : ℕ) (c : Channel) → i < length cs → c ≡ get_or cs i c →
+    Alike P (IsDistinct bytes_eq (names_of (drop i cs) vs)) → Alike P (IsDistinct bytes_eq (c.name ∷ names_of (drop (i + 1) cs) vs))
 channel_at P cs vs i c within is same =
     let e : drop i cs ≡ c ∷ drop (i + 1) cs = drop_more cs i c within ∙ ap (λ x. x ∷ drop (i + 1) cs) (sym is) in
     subst (λ (rest : List Channel). Alike P (IsDistinct bytes_eq (names_of rest vs))) e same
 
-pub var_at : (P : Type 0) (vs : List Var) (i : ℕ) (v : Var) → i < length vs → v ≡ get_or vs i v → Alike P (IsDistinct bytes_eq (names_of [] (drop i vs))) → Alike P (IsDistinct bytes_eq (v.name ∷ names_of [] (drop (i + 1) vs)))
+pub var_at : (P : Type 0) (vs : List Var) (i : ℕ) (v : Var) → i < length vs → v ≡ get_or vs i v → Alike P (IsDistinct bytes_eq (names_of [] (drop i vs))) →
+    Alike P (IsDistinct bytes_eq (v.name ∷ names_of [] (drop (i + 1) vs)))
 var_at P vs i v within is same =
     let e : drop i vs ≡ v ∷ drop (i + 1) vs = drop_more vs i v within ∙ ap (λ x. x ∷ drop (i + 1) vs) (sym is) in
     subst (λ (rest : List Var). Alike P (IsDistinct bytes_eq (names_of [] rest))) e same
@@ -116,7 +123,8 @@ rest_all xs k = take_all (length xs - k) (drop k xs) (omega (arith, length-drop 
 
 -- names that a program may declare among names of nodes
 
-pub name_decided : (bs : List ℕ) (reserved : Bool) → IsNodeName bs → length bs ≤ 24 → list_any (λ b. nat_eq b 46) bs ≡ false → reserved ≡ is_keyword bs → Decides (not reserved) (IsName bs)
+pub name_decided : (bs : List ℕ) (reserved : Bool) → IsNodeName bs → length bs ≤ 24 → list_any (λ b. nat_eq b 46) bs ≡ false → reserved ≡ is_keyword bs →
+    Decides (not reserved) (IsName bs)
 name_decided bs true node short none is = (λ e. absurd (cc e), λ name. let free = name.free in absurd (cc (free, is)))
 name_decided bs false node short none is = (λ _. record { short = short; first = node.first; parts = no_dots bs node.parts none; free = sym is }, λ _. refl)
 
@@ -127,7 +135,8 @@ pub name_long : (bs : List ℕ) (v : Bool) → 24 < length bs → v ≡ false �
 name_long bs v long is = (λ e. absurd (true_false v e is), λ name. absurd (omega (arith, name.short)))
 
 pub name_dotted : (bs : List ℕ) (v : Bool) → list_any (λ b. nat_eq b 46) bs ≡ true → v ≡ false → Decides v (IsName bs)
-name_dotted bs v dotted is = (λ e. absurd (true_false v e is), λ name. absurd (true_false (list_any (λ b. nat_eq b 46) bs) dotted (words_no_dots bs name.parts)))
+name_dotted bs v dotted is = (λ e. absurd (true_false v e is),
+    λ name. absurd (true_false (list_any (λ b. nat_eq b 46) bs) dotted (words_no_dots bs name.parts)))
 
 pub turned_true : (v r : Bool) → v ≡ not r → v ≡ true → r ≡ false
 turned_true v true is so = absurd (true_false v so is)

@@ -34,17 +34,21 @@ either_false false b h = (refl, h)
 
 -- an assignment and a send
 
-pub assign_sound : (ds : List Decl) (target : Ident) (e : Expression) → IsSound ds (met_of ds (assigns target e)) → (is_var_in ds target.name ≡ Some true) × IsSound ds (met_in ds (declared_width ds target.name) e)
+pub assign_sound : (ds : List Decl) (target : Ident) (e : Expression) → IsSound ds (met_of ds (assigns target e)) →
+    (is_var_in ds target.name ≡ Some true) × IsSound ds (met_in ds (declared_width ds target.name) e)
 assign_sound ds target e s =
     let pieces = subst (λ (m : Met). IsSound ds m) (sym (assign_pieces ds target e)) s in
-    (s.uses (use_of target written) (0, omega arith, refl), sound_right ds (met_use (use_of target written)) (met_in ds (declared_width ds target.name) e) pieces)
+    (s.uses (use_of target written) (0, omega arith, refl),
+        sound_right ds (met_use (use_of target written)) (met_in ds (declared_width ds target.name) e) pieces)
 
-pub send_sound : (ds : List Decl) (chan : Ident) (e : Expression) → IsSound ds (met_of ds (sends chan e)) → (is_var_in ds chan.name ≡ Some false) × IsSound ds (met_in ds (declared_width ds chan.name) e)
+pub send_sound : (ds : List Decl) (chan : Ident) (e : Expression) → IsSound ds (met_of ds (sends chan e)) →
+    (is_var_in ds chan.name ≡ Some false) × IsSound ds (met_in ds (declared_width ds chan.name) e)
 send_sound ds chan e s =
     let pieces = subst (λ (m : Met). IsSound ds m) (sym (send_pieces ds chan e)) s in
     (s.uses (use_of chan sent_on) (0, omega arith, refl), sound_right ds (met_use (use_of chan sent_on)) (met_in ds (declared_width ds chan.name) e) pieces)
 
-pub receive_sound : (ds : List Decl) (chan target : Ident) → IsSound ds (met_of ds (receives chan target)) → (is_var_in ds chan.name ≡ Some false) × (is_var_in ds target.name ≡ Some true)
+pub receive_sound : (ds : List Decl) (chan target : Ident) → IsSound ds (met_of ds (receives chan target)) →
+    (is_var_in ds chan.name ≡ Some false) × (is_var_in ds target.name ≡ Some true)
 receive_sound ds chan target s = (s.uses (use_of chan received_on) (0, omega arith, refl), s.uses (use_of target stored) (1, omega arith, refl))
 
 -- members that are left
@@ -54,13 +58,15 @@ pub record AreMembersLeft (ds : List Decl) (members : Statements) : Type 0 where
   pub free : some_has_call members ≡ false
   pub sound : IsSound ds (met_of_each ds members)
 
-pub then_left : (ds : List Decl) (s : Stmt) (v : Vec Stmt Global) (ss : List Stmt) → s ≡ Then v → ss ≡ v.items → IsShapedStatement (statement_of s) → has_call (statement_of s) ≡ false → IsSound ds (met_of ds (statement_of s)) → AreMembersLeft ds (members_of ss)
+pub then_left : (ds : List Decl) (s : Stmt) (v : Vec Stmt Global) (ss : List Stmt) → s ≡ Then v → ss ≡ v.items → IsShapedStatement (statement_of s) →
+    has_call (statement_of s) ≡ false → IsSound ds (met_of ds (statement_of s)) → AreMembersLeft ds (members_of ss)
 then_left ds s v ss is same shaped free sound =
     let tree : statement_of s ≡ follows (members_of ss) = then_is s v is ∙ ap (λ (xs : List Stmt). follows (members_of xs)) (sym same) in
     let shape = subst (λ (x : Statement). IsShapedStatement x) tree shaped in
     record { shaped = shape.1; free = sym (ap has_call tree) ∙ free; sound = subst (λ (x : Statement). IsSound ds (met_of ds x)) tree sound }
 
-pub beside_left : (ds : List Decl) (s : Stmt) (v : Vec Stmt Global) (ss : List Stmt) → s ≡ Beside v → ss ≡ v.items → IsShapedStatement (statement_of s) → has_call (statement_of s) ≡ false → IsSound ds (met_of ds (statement_of s)) → AreMembersLeft ds (members_of ss)
+pub beside_left : (ds : List Decl) (s : Stmt) (v : Vec Stmt Global) (ss : List Stmt) → s ≡ Beside v → ss ≡ v.items → IsShapedStatement (statement_of s) →
+    has_call (statement_of s) ≡ false → IsSound ds (met_of ds (statement_of s)) → AreMembersLeft ds (members_of ss)
 beside_left ds s v ss is same shaped free sound =
     let tree : statement_of s ≡ besides (members_of ss) = beside_is s v is ∙ ap (λ (xs : List Stmt). besides (members_of xs)) (sym same) in
     let shape = subst (λ (x : Statement). IsShapedStatement x) tree shaped in
@@ -71,36 +77,48 @@ pub record IsStatementReady (ds : List Decl) (s : Statement) : Type 0 where
   pub free : has_call s ≡ false
   pub sound : IsSound ds (met_of ds s)
 
-members_here : (ds : List Decl) (ss : List Stmt) (i : ℕ) (s : Stmt) → i < length ss → s ≡ get_or ss i s → AreMembersLeft ds (members_of (drop i ss)) → AreMembersLeft ds (and_member (statement_of s) (members_of (drop (i + 1) ss)))
+members_here : (ds : List Decl) (ss : List Stmt) (i : ℕ) (s : Stmt) → i < length ss → s ≡ get_or ss i s → AreMembersLeft ds (members_of (drop i ss)) →
+    AreMembersLeft ds (and_member (statement_of s) (members_of (drop (i + 1) ss)))
 members_here ds ss i s within is left = subst (λ (us : Statements). AreMembersLeft ds us) (members_more ss i s within is) left
 
-pub member_ready : (ds : List Decl) (ss : List Stmt) (i : ℕ) (s : Stmt) → i < length ss → s ≡ get_or ss i s → AreMembersLeft ds (members_of (drop i ss)) → IsStatementReady ds (statement_of s)
+pub member_ready : (ds : List Decl) (ss : List Stmt) (i : ℕ) (s : Stmt) → i < length ss → s ≡ get_or ss i s → AreMembersLeft ds (members_of (drop i ss)) →
+    IsStatementReady ds (statement_of s)
 member_ready ds ss i s within is left =
     let here = members_here ds ss i s within is left in
     let rest = members_of (drop (i + 1) ss) in
     let pieces = subst (λ (m : Met). IsSound ds m) (sym (each_pieces ds (statement_of s) rest)) here.sound in
-    record { shaped = here.shaped.0; free = (either_false (has_call (statement_of s)) (some_has_call rest) here.free).0; sound = sound_left ds (met_of ds (statement_of s)) (met_of_each ds rest) pieces }
+    record { shaped = here.shaped.0; free = (either_false (has_call (statement_of s)) (some_has_call rest) here.free).0; sound =
+        sound_left ds (met_of ds (statement_of s)) (met_of_each ds rest) pieces }
 
-pub members_next : (ds : List Decl) (ss : List Stmt) (i : ℕ) (s : Stmt) → i < length ss → s ≡ get_or ss i s → AreMembersLeft ds (members_of (drop i ss)) → AreMembersLeft ds (members_of (drop (i + 1) ss))
+pub members_next : (ds : List Decl) (ss : List Stmt) (i : ℕ) (s : Stmt) → i < length ss → s ≡ get_or ss i s → AreMembersLeft ds (members_of (drop i ss)) →
+    AreMembersLeft ds (members_of (drop (i + 1) ss))
 members_next ds ss i s within is left =
     let here = members_here ds ss i s within is left in
     let rest = members_of (drop (i + 1) ss) in
     let pieces = subst (λ (m : Met). IsSound ds m) (sym (each_pieces ds (statement_of s) rest)) here.sound in
-    record { shaped = here.shaped.1; free = (either_false (has_call (statement_of s)) (some_has_call rest) here.free).1; sound = sound_right ds (met_of ds (statement_of s)) (met_of_each ds rest) pieces }
+    record { shaped = here.shaped.1; free = (either_false (has_call (statement_of s)) (some_has_call rest) here.free).1; sound =
+        sound_right ds (met_of ds (statement_of s)) (met_of_each ds rest) pieces }
 
-pub member_made : (ds : List Decl) (ss : List Stmt) (i : ℕ) (s : Stmt) (made new : List TStmt) (t : TStmt) (total : Processes) → i < length ss → s ≡ get_or ss i s → process_of t ≡ process_form ds (statement_of s) → new ≡ made ++ t ∷ [] → before_members made (processes_form ds (members_of (drop i ss))) ≡ total → before_members new (processes_form ds (members_of (drop (i + 1) ss))) ≡ total
+pub member_made : (ds : List Decl) (ss : List Stmt) (i : ℕ) (s : Stmt) (made new : List TStmt) (t : TStmt) (total : Processes) → i < length ss →
+    s ≡ get_or ss i s → process_of t ≡ process_form ds (statement_of s) → new ≡ made ++ t ∷ [] →
+    before_members made (processes_form ds (members_of (drop i ss))) ≡ total → before_members new (processes_form ds (members_of (drop (i + 1) ss))) ≡ total
 member_made ds ss i s made new t total within is is_made pushed so_far =
     let rest = processes_form ds (members_of (drop (i + 1) ss)) in
     let begun = ap (λ (us : Statements). before_members made (processes_form ds us)) (sym (members_more ss i s within is)) ∙ so_far in
-    ap (λ (ts : List TStmt). before_members ts rest) pushed ∙ one_member made t rest ∙ ap (λ (p : Process). before_members made (typed.and_member p rest)) is_made ∙ begun
+    ap (λ (ts : List TStmt). before_members ts rest) pushed ∙ one_member made t rest
+        ∙ ap (λ (p : Process). before_members made (typed.and_member p rest)) is_made ∙ begun
 
-pub then_made : (ds : List Decl) (s : Stmt) (v : Vec Stmt Global) (ss : List Stmt) (i : ℕ) (t : Vec TStmt Global) → s ≡ Then v → ss ≡ v.items → length ss ≤ i → before_members t.items (processes_form ds (members_of (drop i ss))) ≡ processes_form ds (members_of ss) → process_of (made.Then t) ≡ process_form ds (statement_of s)
+pub then_made : (ds : List Decl) (s : Stmt) (v : Vec Stmt Global) (ss : List Stmt) (i : ℕ) (t : Vec TStmt Global) → s ≡ Then v → ss ≡ v.items → length ss ≤ i →
+    before_members t.items (processes_form ds (members_of (drop i ss))) ≡ processes_form ds (members_of ss) →
+    process_of (made.Then t) ≡ process_form ds (statement_of s)
 then_made ds s v ss i t is same over so_far =
     let done = ap (λ (us : Statements). before_members t.items (processes_form ds us)) (sym (members_end ss i over)) ∙ so_far in
     let tree : statement_of s ≡ follows (members_of ss) = then_is s v is ∙ ap (λ (xs : List Stmt). follows (members_of xs)) (sym same) in
     rows.then_is (made.Then t) t refl ∙ ap in_turn (sym (members_all t.items) ∙ done) ∙ ap (process_form ds) (sym tree)
 
-pub beside_made : (ds : List Decl) (s : Stmt) (v : Vec Stmt Global) (ss : List Stmt) (i : ℕ) (t : Vec TStmt Global) → s ≡ Beside v → ss ≡ v.items → length ss ≤ i → before_members t.items (processes_form ds (members_of (drop i ss))) ≡ processes_form ds (members_of ss) → process_of (made.Beside t) ≡ process_form ds (statement_of s)
+pub beside_made : (ds : List Decl) (s : Stmt) (v : Vec Stmt Global) (ss : List Stmt) (i : ℕ) (t : Vec TStmt Global) → s ≡ Beside v → ss ≡ v.items →
+    length ss ≤ i → before_members t.items (processes_form ds (members_of (drop i ss))) ≡ processes_form ds (members_of ss) →
+    process_of (made.Beside t) ≡ process_form ds (statement_of s)
 beside_made ds s v ss i t is same over so_far =
     let done = ap (λ (us : Statements). before_members t.items (processes_form ds us)) (sym (members_end ss i over)) ∙ so_far in
     let tree : statement_of s ≡ besides (members_of ss) = beside_is s v is ∙ ap (λ (xs : List Stmt). besides (members_of xs)) (sym same) in
@@ -113,7 +131,8 @@ pub record AreArmsLeft (ds : List Decl) (arms : Arms) : Type 0 where
   pub free : arm_has_call arms ≡ false
   pub sound : IsSound ds (met_of_arms ds arms)
 
-pub select_left : (ds : List Decl) (s : Stmt) (again : Bool) (v : Vec Arm Global) (xs : List Arm) → s ≡ Select again v → xs ≡ v.items → IsShapedStatement (statement_of s) → has_call (statement_of s) ≡ false → IsSound ds (met_of ds (statement_of s)) → AreArmsLeft ds (arms_of xs)
+pub select_left : (ds : List Decl) (s : Stmt) (again : Bool) (v : Vec Arm Global) (xs : List Arm) → s ≡ Select again v → xs ≡ v.items →
+    IsShapedStatement (statement_of s) → has_call (statement_of s) ≡ false → IsSound ds (met_of ds (statement_of s)) → AreArmsLeft ds (arms_of xs)
 select_left ds s again v xs is same shaped free sound =
     let tree : statement_of s ≡ selects again (arms_of xs) = select_is s again v is ∙ ap (λ (ys : List Arm). selects again (arms_of ys)) (sym same) in
     let shape = subst (λ (x : Statement). IsShapedStatement x) tree shaped in
@@ -124,7 +143,8 @@ pub record IsArmReady (ds : List Decl) (a : Arm) : Type 0 where
   pub guard_sound : IsSound ds (met_in ds 1 (expression_of a.guard))
   pub body : IsStatementReady ds (statement_of a.body)
 
-arms_here : (ds : List Decl) (xs : List Arm) (i : ℕ) (a : Arm) → i < length xs → a ≡ get_or xs i a → AreArmsLeft ds (arms_of (drop i xs)) → AreArmsLeft ds (and_arm (expression_of a.guard) (statement_of a.body) (arms_of (drop (i + 1) xs)))
+arms_here : (ds : List Decl) (xs : List Arm) (i : ℕ) (a : Arm) → i < length xs → a ≡ get_or xs i a → AreArmsLeft ds (arms_of (drop i xs)) →
+    AreArmsLeft ds (and_arm (expression_of a.guard) (statement_of a.body) (arms_of (drop (i + 1) xs)))
 arms_here ds xs i a within is left = subst (λ (us : Arms). AreArmsLeft ds us) (arms_more xs i a within is) left
 
 pub arm_ready : (ds : List Decl) (xs : List Arm) (i : ℕ) (a : Arm) → i < length xs → a ≡ get_or xs i a → AreArmsLeft ds (arms_of (drop i xs)) → IsArmReady ds a
@@ -138,10 +158,12 @@ arm_ready ds xs i a within is left =
     record {
       guard_shaped = here.shaped.0;
       guard_sound = sound_left ds (met_in ds 1 g) (met_both (met_of ds s) (met_of_arms ds rest)) pieces;
-      body = record { shaped = here.shaped.1; free = (either_false (has_call s) (arm_has_call rest) here.free).0; sound = sound_left ds (met_of ds s) (met_of_arms ds rest) others };
+      body = record { shaped = here.shaped.1; free = (either_false (has_call s) (arm_has_call rest) here.free).0; sound =
+          sound_left ds (met_of ds s) (met_of_arms ds rest) others };
     }
 
-pub arms_next : (ds : List Decl) (xs : List Arm) (i : ℕ) (a : Arm) → i < length xs → a ≡ get_or xs i a → AreArmsLeft ds (arms_of (drop i xs)) → AreArmsLeft ds (arms_of (drop (i + 1) xs))
+pub arms_next : (ds : List Decl) (xs : List Arm) (i : ℕ) (a : Arm) → i < length xs → a ≡ get_or xs i a → AreArmsLeft ds (arms_of (drop i xs)) →
+    AreArmsLeft ds (arms_of (drop (i + 1) xs))
 arms_next ds xs i a within is left =
     let here = arms_here ds xs i a within is left in
     let rest = arms_of (drop (i + 1) xs) in
@@ -149,17 +171,23 @@ arms_next ds xs i a within is left =
     let s = statement_of a.body in
     let pieces = subst (λ (m : Met). IsSound ds m) (sym (arm_pieces ds g s rest)) here.sound in
     let others = sound_right ds (met_in ds 1 g) (met_both (met_of ds s) (met_of_arms ds rest)) pieces in
-    record { shaped = here.shaped.2; free = (either_false (has_call s) (arm_has_call rest) here.free).1; sound = sound_right ds (met_of ds s) (met_of_arms ds rest) others }
+    record { shaped = here.shaped.2; free = (either_false (has_call s) (arm_has_call rest) here.free).1; sound =
+        sound_right ds (met_of ds s) (met_of_arms ds rest) others }
 
-pub arm_made : (ds : List Decl) (xs : List Arm) (i : ℕ) (a : Arm) (made new : List TArm) (f : TExpr) (t : TStmt) (total : Choices) → i < length xs → a ≡ get_or xs i a → formula_of f ≡ formula_form ds 1 (expression_of a.guard) → process_of t ≡ process_form ds (statement_of a.body) → new ≡ made ++ (record { guard = f; body = t }) ∷ []
+pub arm_made : (ds : List Decl) (xs : List Arm) (i : ℕ) (a : Arm) (made new : List TArm) (f : TExpr) (t : TStmt) (total : Choices) → i < length xs →
+    a ≡ get_or xs i a → formula_of f ≡ formula_form ds 1 (expression_of a.guard) → process_of t ≡ process_form ds (statement_of a.body) →
+    new ≡ made ++ (record { guard = f; body = t }) ∷ []
     → before_arms made (choices_form ds (arms_of (drop i xs))) ≡ total → before_arms new (choices_form ds (arms_of (drop (i + 1) xs))) ≡ total
 arm_made ds xs i a made new f t total within is is_guard is_body pushed so_far =
     let rest = choices_form ds (arms_of (drop (i + 1) xs)) in
     let begun = ap (λ (us : Arms). before_arms made (choices_form ds us)) (sym (arms_more xs i a within is)) ∙ so_far in
     ap (λ (ts : List TArm). before_arms ts rest) pushed ∙ one_arm made (record { guard = f; body = t }) rest
-    ∙ ap (λ (g : Formula). before_arms made (typed.and_choice g (process_of t) rest)) is_guard ∙ ap (λ (p : Process). before_arms made (typed.and_choice (formula_form ds 1 (expression_of a.guard)) p rest)) is_body ∙ begun
+    ∙ ap (λ (g : Formula). before_arms made (typed.and_choice g (process_of t) rest)) is_guard
+        ∙ ap (λ (p : Process). before_arms made (typed.and_choice (formula_form ds 1 (expression_of a.guard)) p rest)) is_body ∙ begun
 
-pub select_made : (ds : List Decl) (s : Stmt) (again : Bool) (v : Vec Arm Global) (xs : List Arm) (i : ℕ) (t : Vec TArm Global) → s ≡ Select again v → xs ≡ v.items → length xs ≤ i → before_arms t.items (choices_form ds (arms_of (drop i xs))) ≡ choices_form ds (arms_of xs) → process_of (made.Select again t) ≡ process_form ds (statement_of s)
+pub select_made : (ds : List Decl) (s : Stmt) (again : Bool) (v : Vec Arm Global) (xs : List Arm) (i : ℕ) (t : Vec TArm Global) → s ≡ Select again v →
+    xs ≡ v.items → length xs ≤ i → before_arms t.items (choices_form ds (arms_of (drop i xs))) ≡ choices_form ds (arms_of xs) →
+    process_of (made.Select again t) ≡ process_form ds (statement_of s)
 select_made ds s again v xs i t is same over so_far =
     let done = ap (λ (us : Arms). before_arms t.items (choices_form ds us)) (sym (arms_end xs i over)) ∙ so_far in
     let tree : statement_of s ≡ selects again (arms_of xs) = select_is s again v is ∙ ap (λ (ys : List Arm). selects again (arms_of ys)) (sym same) in

@@ -62,7 +62,8 @@ wide_join_own ds (chain e more at) h = absurd h
 abbrev place_of : Expected → Span
 place_of l = span_of l.expression
 
-pub leaf_least : (p : ProgramTree) → AreRanged p.decls → ((x : Expression) → Contains (all_expressions p) x → is_bad_part p.decls x ≡ false) → IsLeast (λ s. IsMisfitLeaf p s) (first_of (is_misfit p.decls) place_of None (all_leaves p))
+pub leaf_least : (p : ProgramTree) → AreRanged p.decls → ((x : Expression) → Contains (all_expressions p) x → is_bad_part p.decls x ≡ false) →
+    IsLeast (λ s. IsMisfitLeaf p s) (first_of (is_misfit p.decls) place_of None (all_leaves p))
 leaf_least p ranged good =
     least_same (λ s. Passes (is_misfit p.decls) place_of (all_leaves p) s) (λ s. IsMisfitLeaf p s) _
     (λ s h. record { leaf = h.item; among = h.among; misfit = to h.item h.among h.passed; at = h.place })
@@ -108,7 +109,8 @@ abbrev ChainLeaves : List Decl → ℕ → Expression → Links → List Expecte
 ChainLeaves ds w e more = leaves ds w e ++ leaves_of_links ds w more
 
 chain_own : (ds : List Decl) (w : ℕ) (e : Expression) (more : Links) (at : Span) (v : ℕ) (b : Bool) → compares more ≡ b
-    → ((u : ℕ) → AreFit ds (leaves ds w e) → own_width ds e ≡ Some u → u ≤ 64) → ((u : ℕ) → AreFit ds (leaves_of_links ds w more) → first_width ds more ≡ Some u → u ≤ 64)
+    → ((u : ℕ) → AreFit ds (leaves ds w e) → own_width ds e ≡ Some u → u ≤ 64) →
+        ((u : ℕ) → AreFit ds (leaves_of_links ds w more) → first_width ds more ≡ Some u → u ≤ 64)
     → AreFit ds (leaves ds w (chain e more at)) → own_width ds (chain e more at) ≡ Some v → v ≤ 64
 chain_own ds w e more at v true is first rest fit own = let h = rw is at own in let e : 1 ≡ v = cc h in omega arith
 chain_own ds w e more at v false is first rest fit own = by_own (own_width ds e) refl (rw is at own)
@@ -132,12 +134,14 @@ mutual
   own_most ds w (bit of place at) v fit is = fit_here ds (bit of place at) w [] v fit is
   own_most ds w (join parts at) v fit is = fit_here ds (join parts at) w (leaves_of_parts ds parts) v fit is
   own_most ds w (negation e at) v fit is = own_most ds w e v fit is
-  own_most ds w (chain e more at) v fit is = chain_own ds w e more at v (compares more) refl (λ u f h. own_most ds w e u f h) (λ u f h. first_most ds w more u f h) fit is
+  own_most ds w (chain e more at) v fit is =
+      chain_own ds w e more at v (compares more) refl (λ u f h. own_most ds w e u f h) (λ u f h. first_most ds w more u f h) fit is
 
   pub first_most : (ds : List Decl) (w : ℕ) (more : Links) (v : ℕ) → AreFit ds (leaves_of_links ds w more) → first_width ds more ≡ Some v → v ≤ 64
   first_most ds w no_links v fit is = absurd (cc is)
   first_most ds w (and_link op e more) v fit is =
-      either_most (own_width ds e) (first_width ds more) v (λ u h. own_most ds w e u (fit_left ds (leaves ds w e) (leaves_of_links ds w more) fit) h) (λ u h. first_most ds w more u (fit_right ds (leaves ds w e) (leaves_of_links ds w more) fit) h) is
+      either_most (own_width ds e) (first_width ds more) v (λ u h. own_most ds w e u (fit_left ds (leaves ds w e) (leaves_of_links ds w more) fit) h)
+          (λ u h. first_most ds w more u (fit_right ds (leaves ds w e) (leaves_of_links ds w more) fit) h) is
 
 pub or_zero_most : (o : Option ℕ) → ((u : ℕ) → o ≡ Some u → u ≤ 64) → unwrap_or o 0 ≤ 64
 or_zero_most None h = omega arith
@@ -147,13 +151,15 @@ or_zero_most (Some u) h = h u refl
 pub side_most : (ds : List Decl) (w : ℕ) (e : Expression) (more : Links) → AreFit ds (ChainLeaves ds w e more) → unwrap_or (side_width ds e more) 0 ≤ 64
 side_most ds w e more fit =
     or_zero_most (side_width ds e more)
-    (λ u h. either_most (own_width ds e) (first_width ds more) u (λ v k. own_most ds w e v (fit_left ds (leaves ds w e) (leaves_of_links ds w more) fit) k) (λ v k. first_most ds w more v (fit_right ds (leaves ds w e) (leaves_of_links ds w more) fit) k) h)
+    (λ u h. either_most (own_width ds e) (first_width ds more) u (λ v k. own_most ds w e v (fit_left ds (leaves ds w e) (leaves_of_links ds w more) fit) k)
+        (λ v k. first_most ds w more v (fit_right ds (leaves ds w e) (leaves_of_links ds w more) fit) k) h)
 
 abbrev AreNarrow : List Expected → Type 0
 AreNarrow ls = (l : Expected) → Contains ls l → l.width ≤ 64
 
 narrow_one : (e : Expression) (w : ℕ) (xs : List Expected) → w ≤ 64 → AreNarrow xs → AreNarrow (expect e w ∷ xs)
-narrow_one e w xs most rest l c = ⊎_elim (λ (same : expect e w ≡ l). subst (λ (x : Expected). x.width ≤ 64) same most) (λ k. rest l k) (front_or_rest (expect e w) l xs c)
+narrow_one e w xs most rest l c = ⊎_elim (λ (same : expect e w ≡ l). subst (λ (x : Expected). x.width ≤ 64) same most) (λ k. rest l k)
+    (front_or_rest (expect e w) l xs c)
 
 narrow_none : AreNarrow []
 narrow_none l c = absurd (no_item l c)
@@ -162,16 +168,20 @@ narrow_both : (xs ys : List Expected) → AreNarrow xs → AreNarrow ys → AreN
 narrow_both xs ys left right l c = ⊎_elim (λ k. left l k) (λ k. right l k) (Contains-append_cases xs ys l c)
 
 chain_narrow : (ds : List Decl) (w : ℕ) (e : Expression) (more : Links) (at : Span) (b : Bool) → compares more ≡ b → w ≤ 64
-    → ((v : ℕ) → v ≤ 64 → AreFit ds (leaves ds v e) → AreNarrow (leaves ds v e)) → ((v : ℕ) → v ≤ 64 → AreFit ds (leaves_of_links ds v more) → AreNarrow (leaves_of_links ds v more))
+    → ((v : ℕ) → v ≤ 64 → AreFit ds (leaves ds v e) → AreNarrow (leaves ds v e)) →
+        ((v : ℕ) → v ≤ 64 → AreFit ds (leaves_of_links ds v more) → AreNarrow (leaves_of_links ds v more))
     → AreFit ds (leaves ds w (chain e more at)) → AreNarrow (leaves ds w (chain e more at))
 chain_narrow ds w e more at true is most first rest fit =
     let v = unwrap_or (side_width ds e more) 0 in
     let inner : AreFit ds (ChainLeaves ds v e more) = fit_rest ds (expect (chain e more at) w) (ChainLeaves ds v e more) (rw is at fit) in
     let bits : v ≤ 64 = side_most ds v e more inner in
-    rw is (narrow_one (chain e more at) w (ChainLeaves ds v e more) most (narrow_both (leaves ds v e) (leaves_of_links ds v more) (first v bits (fit_left ds (leaves ds v e) (leaves_of_links ds v more) inner)) (rest v bits (fit_right ds (leaves ds v e) (leaves_of_links ds v more) inner))))
+    rw is (narrow_one (chain e more at) w (ChainLeaves ds v e more) most
+        (narrow_both (leaves ds v e) (leaves_of_links ds v more) (first v bits (fit_left ds (leaves ds v e) (leaves_of_links ds v more) inner))
+        (rest v bits (fit_right ds (leaves ds v e) (leaves_of_links ds v more) inner))))
 chain_narrow ds w e more at false is most first rest fit =
     let inner : AreFit ds (ChainLeaves ds w e more) = rw is at fit in
-    rw is (narrow_both (leaves ds w e) (leaves_of_links ds w more) (first w most (fit_left ds (leaves ds w e) (leaves_of_links ds w more) inner)) (rest w most (fit_right ds (leaves ds w e) (leaves_of_links ds w more) inner)))
+    rw is (narrow_both (leaves ds w e) (leaves_of_links ds w more) (first w most (fit_left ds (leaves ds w e) (leaves_of_links ds w more) inner))
+        (rest w most (fit_right ds (leaves ds w e) (leaves_of_links ds w more) inner)))
 
 mutual
   leaves_narrow : (ds : List Decl) (w : ℕ) (e : Expression) → w ≤ 64 → AreFit ds (leaves ds w e) → AreNarrow (leaves ds w e)
@@ -179,21 +189,26 @@ mutual
   leaves_narrow ds w (whole of) most fit = narrow_one (whole of) w [] most narrow_none
   leaves_narrow ds w (slice of high low at) most fit = narrow_one (slice of high low at) w [] most narrow_none
   leaves_narrow ds w (bit of place at) most fit = narrow_one (bit of place at) w [] most narrow_none
-  leaves_narrow ds w (join parts at) most fit = narrow_one (join parts at) w (leaves_of_parts ds parts) most (parts_narrow ds parts (fit_rest ds (expect (join parts at) w) (leaves_of_parts ds parts) fit))
+  leaves_narrow ds w (join parts at) most fit =
+      narrow_one (join parts at) w (leaves_of_parts ds parts) most
+      (parts_narrow ds parts (fit_rest ds (expect (join parts at) w) (leaves_of_parts ds parts) fit))
   leaves_narrow ds w (negation e at) most fit = leaves_narrow ds w e most fit
-  leaves_narrow ds w (chain e more at) most fit = chain_narrow ds w e more at (compares more) refl most (λ v m f. leaves_narrow ds v e m f) (λ v m f. links_narrow ds v more m f) fit
+  leaves_narrow ds w (chain e more at) most fit =
+      chain_narrow ds w e more at (compares more) refl most (λ v m f. leaves_narrow ds v e m f) (λ v m f. links_narrow ds v more m f) fit
 
   parts_narrow : (ds : List Decl) (parts : Expressions) → AreFit ds (leaves_of_parts ds parts) → AreNarrow (leaves_of_parts ds parts)
   parts_narrow ds no_parts fit = narrow_none
   parts_narrow ds (and_part e more) fit =
       let w = unwrap_or (own_width ds e) 0 in
       let here = fit_left ds (leaves ds w e) (leaves_of_parts ds more) fit in
-      narrow_both (leaves ds w e) (leaves_of_parts ds more) (leaves_narrow ds w e (or_zero_most (own_width ds e) (λ u h. own_most ds w e u here h)) here) (parts_narrow ds more (fit_right ds (leaves ds w e) (leaves_of_parts ds more) fit))
+      narrow_both (leaves ds w e) (leaves_of_parts ds more) (leaves_narrow ds w e (or_zero_most (own_width ds e) (λ u h. own_most ds w e u here h)) here)
+          (parts_narrow ds more (fit_right ds (leaves ds w e) (leaves_of_parts ds more) fit))
 
   links_narrow : (ds : List Decl) (w : ℕ) (more : Links) → w ≤ 64 → AreFit ds (leaves_of_links ds w more) → AreNarrow (leaves_of_links ds w more)
   links_narrow ds w no_links most fit = narrow_none
   links_narrow ds w (and_link op e more) most fit =
-      narrow_both (leaves ds w e) (leaves_of_links ds w more) (leaves_narrow ds w e most (fit_left ds (leaves ds w e) (leaves_of_links ds w more) fit)) (links_narrow ds w more most (fit_right ds (leaves ds w e) (leaves_of_links ds w more) fit))
+      narrow_both (leaves ds w e) (leaves_of_links ds w more) (leaves_narrow ds w e most (fit_left ds (leaves ds w e) (leaves_of_links ds w more) fit))
+          (links_narrow ds w more most (fit_right ds (leaves ds w e) (leaves_of_links ds w more) fit))
 
 mutual
   wanted_narrow : (ds : List Decl) → AreRanged ds → (s : Statement) → AreNarrow (expressions_in ds s)
@@ -209,18 +224,21 @@ mutual
 
   wanted_narrow_each : (ds : List Decl) → AreRanged ds → (members : Statements) → AreNarrow (expressions_in_each ds members)
   wanted_narrow_each ds ranged no_members = narrow_none
-  wanted_narrow_each ds ranged (and_member s more) = narrow_both (expressions_in ds s) (expressions_in_each ds more) (wanted_narrow ds ranged s) (wanted_narrow_each ds ranged more)
+  wanted_narrow_each ds ranged (and_member s more) =
+      narrow_both (expressions_in ds s) (expressions_in_each ds more) (wanted_narrow ds ranged s) (wanted_narrow_each ds ranged more)
 
   wanted_narrow_arms : (ds : List Decl) → AreRanged ds → (arms : Arms) → AreNarrow (expressions_in_arms ds arms)
   wanted_narrow_arms ds ranged no_arms = narrow_none
   wanted_narrow_arms ds ranged (and_arm g s more) =
-      narrow_one g 1 (expressions_in ds s ++ expressions_in_arms ds more) (omega arith) (narrow_both (expressions_in ds s) (expressions_in_arms ds more) (wanted_narrow ds ranged s) (wanted_narrow_arms ds ranged more))
+      narrow_one g 1 (expressions_in ds s ++ expressions_in_arms ds more) (omega arith)
+          (narrow_both (expressions_in ds s) (expressions_in_arms ds more) (wanted_narrow ds ranged s) (wanted_narrow_arms ds ranged more))
 
 all_narrow : (p : ProgramTree) → AreRanged p.decls → AreFit p.decls (all_leaves p) → AreNarrow (all_leaves p)
 all_narrow p ranged fit l c =
     let f = λ (x : Expected). leaves p.decls x.width x.expression in
     let e = in_flat_map f (expressions_in p.decls p.body) l c in
-    leaves_narrow p.decls e.0.width e.0.expression (wanted_narrow p.decls ranged p.body e.0 e.1) (λ k among. fit k (flat_map_in f (expressions_in p.decls p.body) e.0 k e.1 among)) l e.2
+    leaves_narrow p.decls e.0.width e.0.expression (wanted_narrow p.decls ranged p.body e.0 e.1)
+        (λ k among. fit k (flat_map_in f (expressions_in p.decls p.body) e.0 k e.1 among)) l e.2
 
 -- a number that is too great
 
@@ -242,7 +260,8 @@ wide_of (chain e more at) w most h = absurd (cc h)
 le_test : (n m : ℕ) → n ≤ m → nat_le n m ≡ true
 le_test n m h = grind (arith, nat_tests)
 
-pub number_least : (p : ProgramTree) → AreRanged p.decls → AreFit p.decls (all_leaves p) → IsLeast (λ s. IsWideNumber p s) (first_of is_wide_number place_of None (all_leaves p))
+pub number_least : (p : ProgramTree) → AreRanged p.decls → AreFit p.decls (all_leaves p) →
+    IsLeast (λ s. IsWideNumber p s) (first_of is_wide_number place_of None (all_leaves p))
 number_least p ranged fit =
     least_same (λ s. Passes is_wide_number place_of (all_leaves p) s) (λ s. IsWideNumber p s) _
     (λ s h.
@@ -251,12 +270,14 @@ number_least p ranged fit =
     record {
       width = h.item.width;
       value = w.0;
-      among = subst (λ (t : Span). Contains (all_leaves p) (expect (number w.0 t) h.item.width)) (sym same) (subst (λ (x : Expression). Contains (all_leaves p) (expect x h.item.width)) w.2 h.among);
+      among = subst (λ (t : Span). Contains (all_leaves p) (expect (number w.0 t) h.item.width)) (sym same)
+          (subst (λ (x : Expression). Contains (all_leaves p) (expect x h.item.width)) w.2 h.among);
       wide = w.3;
     })
     (λ s h.
     let most = all_narrow p ranged fit (expect (number h.value s) h.width) h.among in
-    record { item = expect (number h.value s) h.width; among = h.among; passed = let same = capped_narrow h.width most in rw same (le_test (2 ^ h.width) h.value h.wide); place = refl })
+    record { item = expect (number h.value s) h.width; among = h.among; passed = let same = capped_narrow h.width most in
+        rw same (le_test (2 ^ h.width) h.value h.wide); place = refl })
     (least_in is_wide_number place_of (all_leaves p))
 
 -- a first value that is too great
@@ -280,7 +301,9 @@ abbrev a_cause : FaultCode → Option Span → Cause
 a_cause c o = record { code = c; place = o }
 
 abbrev pub causes_of : (double range : Option Span) → Findings → Option Span → List Cause
-causes_of double range f wide = a_cause code.DoubleName double ∷ a_cause code.WidthRange range ∷ a_cause code.Undeclared f.undeclared ∷ a_cause code.WrongKind f.wrong_kind ∷ a_cause code.Direction f.direction ∷ a_cause code.BadSlice f.slice ∷ a_cause code.UnknownWidth f.widthless ∷ a_cause code.Width (earlier_of f.leaf f.target) ∷ a_cause code.ConstantTooWide (earlier_of f.number wide) ∷ []
+causes_of double range f wide = a_cause code.DoubleName double ∷ a_cause code.WidthRange range ∷ a_cause code.Undeclared f.undeclared
+    ∷ a_cause code.WrongKind f.wrong_kind ∷ a_cause code.Direction f.direction ∷ a_cause code.BadSlice f.slice ∷ a_cause code.UnknownWidth f.widthless
+    ∷ a_cause code.Width (earlier_of f.leaf f.target) ∷ a_cause code.ConstantTooWide (earlier_of f.number wide) ∷ []
 
 -- what was found is what is first
 pub record AreFound (p : ProgramTree) (double range : Option Span) (f : Findings) (wide : Option Span) : Type 0 where
@@ -289,7 +312,8 @@ pub record AreFound (p : ProgramTree) (double range : Option Span) (f : Findings
   pub findings : f ≡ noted p.decls no_findings (met_of p.decls p.body)
   pub firsts : wide ≡ first_of is_wide_first (λ (d : Decl). d.first_at) None p.decls
 
-first_cause : (p : ProgramTree) (d : FaultCode) (ds : List FaultCode) (o : Option Span) (Rest : Type 0) (c : FaultCode) (s : Span) → IsLeast (FaultAt p d) o → (o ≡ None → Rest → IsFirstFault p ds c s) → ((c ≡ d) × (o ≡ Some s)) ⊎ ((o ≡ None) × Rest) → IsFirstFault p (d ∷ ds) c s
+first_cause : (p : ProgramTree) (d : FaultCode) (ds : List FaultCode) (o : Option Span) (Rest : Type 0) (c : FaultCode) (s : Span) → IsLeast (FaultAt p d) o →
+    (o ≡ None → Rest → IsFirstFault p ds c s) → ((c ≡ d) × (o ≡ Some s)) ⊎ ((o ≡ None) × Rest) → IsFirstFault p (d ∷ ds) c s
 first_cause p d ds o Rest c s least rest (inl h) = inl (h.0, subst (λ (q : Option Span). IsLeast (FaultAt p d) q) h.1 least)
 first_cause p d ds o Rest c s least rest (inr h) = inr (subst (λ (q : Option Span). IsLeast (FaultAt p d) q) h.0 least, rest h.0 h.1)
 
@@ -311,7 +335,8 @@ pub record Facts (p : ProgramTree) (range : Option Span) (f : Findings) (wide : 
   pub width : range ≡ None → f.slice ≡ None → IsLeast (FaultAt p code.Width) (earlier_of f.leaf f.target)
   pub constant : range ≡ None → f.leaf ≡ None → IsLeast (FaultAt p code.ConstantTooWide) (earlier_of f.number wide)
 
-pub ranged_by : (p : ProgramTree) (range : Option Span) → range ≡ first_of is_out_of_range (λ (d : Decl). d.width_at) None p.decls → range ≡ None → AreRanged p.decls
+pub ranged_by : (p : ProgramTree) (range : Option Span) → range ≡ first_of is_out_of_range (λ (d : Decl). d.width_at) None p.decls → range ≡ None →
+    AreRanged p.decls
 ranged_by p range is none = λ d c. none_pass is_out_of_range (λ (x : Decl). x.width_at) p.decls (sym is ∙ none) d c
 
 facts : (p : ProgramTree) (double range : Option Span) (f : Findings) (wide : Option Span) → AreFound p double range f wide → Facts p range f wide
@@ -319,12 +344,14 @@ facts p double range f wide found = record {
   ranged = ranged_by p range found.ranges;
   width = λ none good.
       let ranged = ranged_by p range found.ranges none in
-      let slices = λ (x : Expression) (c : Contains (all_expressions p) x). none_pass (is_bad_part p.decls) span_of (all_expressions p) (sym (ap (λ (g : Findings). g.slice) found.findings) ∙ good) x c in
+      let slices = λ (x : Expression) (c : Contains (all_expressions p) x). none_pass (is_bad_part p.decls) span_of (all_expressions p)
+          (sym (ap (λ (g : Findings). g.slice) found.findings) ∙ good) x c in
       subst (λ (g : Findings). IsLeast (FaultAt p code.Width) (earlier_of g.leaf g.target)) (sym found.findings)
       (least_either (λ s. IsMisfitLeaf p s) (λ s. IsMisfitReceive p s) _ _ (leaf_least p ranged slices) (target_least p));
   constant = λ none fit.
       let ranged = ranged_by p range found.ranges none in
-      let fits = λ (l : Expected) (c : Contains (all_leaves p) l). none_pass (is_misfit p.decls) place_of (all_leaves p) (sym (ap (λ (g : Findings). g.leaf) found.findings) ∙ fit) l c in
+      let fits = λ (l : Expected) (c : Contains (all_leaves p) l). none_pass (is_misfit p.decls) place_of (all_leaves p)
+          (sym (ap (λ (g : Findings). g.leaf) found.findings) ∙ fit) l c in
       let first = subst (λ (o : Option Span). IsLeast (λ s. IsWideFirst p s) o) (sym found.firsts) (first_least p ranged) in
       subst (λ (g : Findings). IsLeast (FaultAt p code.ConstantTooWide) (earlier_of g.number wide)) (sym found.findings)
       (least_either (λ s. IsWideNumber p s) (λ s. IsWideFirst p s) _ _ (number_least p ranged fits) first);
@@ -356,18 +383,27 @@ from_names = code.Undeclared ∷ from_kinds
 abbrev from_range : List FaultCode
 from_range = code.WidthRange ∷ from_names
 
-pub judged : (p : ProgramTree) (double range : Option Span) (f : Findings) (wide : Option Span) (c : FaultCode) (s : Span) → AreFound p double range f wide → IsFirstCause (causes_of double range f wide) c s → IsFirstFault p naming_faults c s
+pub judged : (p : ProgramTree) (double range : Option Span) (f : Findings) (wide : Option Span) (c : FaultCode) (s : Span) → AreFound p double range f wide →
+    IsFirstCause (causes_of double range f wide) c s → IsFirstFault p naming_faults c s
 judged p double range f wide c s found first =
     let known = facts p double range f wide found in
-    first_cause p code.DoubleName from_range double _ c s (subst (λ (o : Option Span). IsLeast (FaultAt p code.DoubleName) o) (sym found.doubles) (double_least p))
-    (λ none1 rest1. first_cause p code.WidthRange from_names range _ c s (subst (λ (o : Option Span). IsLeast (FaultAt p code.WidthRange) o) (sym found.ranges) (range_least p))
-    (λ none2 rest2. first_cause p code.Undeclared from_kinds f.undeclared _ c s (subst (λ (g : Findings). IsLeast (FaultAt p code.Undeclared) g.undeclared) (sym found.findings) (undeclared_least p))
-    (λ none3 rest3. first_cause p code.WrongKind from_directions f.wrong_kind _ c s (subst (λ (g : Findings). IsLeast (FaultAt p code.WrongKind) g.wrong_kind) (sym found.findings) (wrong_kind_least p))
-    (λ none4 rest4. first_cause p code.Direction from_slices f.direction _ c s (subst (λ (g : Findings). IsLeast (FaultAt p code.Direction) g.direction) (sym found.findings) (direction_least p))
-    (λ none5 rest5. first_cause p code.BadSlice from_widthless f.slice _ c s (subst (λ (g : Findings). IsLeast (FaultAt p code.BadSlice) g.slice) (sym found.findings) (slice_least p))
-    (λ none6 rest6. first_cause p code.UnknownWidth from_widths f.widthless _ c s (subst (λ (g : Findings). IsLeast (FaultAt p code.UnknownWidth) g.widthless) (sym found.findings) (widthless_least p))
+    first_cause p code.DoubleName from_range double _ c s (subst (λ (o : Option Span). IsLeast (FaultAt p code.DoubleName) o) (sym found.doubles)
+        (double_least p))
+    (λ none1 rest1. first_cause p code.WidthRange from_names range _ c s (subst (λ (o : Option Span). IsLeast (FaultAt p code.WidthRange) o) (sym found.ranges)
+        (range_least p))
+    (λ none2 rest2. first_cause p code.Undeclared from_kinds f.undeclared _ c s
+        (subst (λ (g : Findings). IsLeast (FaultAt p code.Undeclared) g.undeclared) (sym found.findings) (undeclared_least p))
+    (λ none3 rest3. first_cause p code.WrongKind from_directions f.wrong_kind _ c s
+        (subst (λ (g : Findings). IsLeast (FaultAt p code.WrongKind) g.wrong_kind) (sym found.findings) (wrong_kind_least p))
+    (λ none4 rest4. first_cause p code.Direction from_slices f.direction _ c s
+        (subst (λ (g : Findings). IsLeast (FaultAt p code.Direction) g.direction) (sym found.findings) (direction_least p))
+    (λ none5 rest5. first_cause p code.BadSlice from_widthless f.slice _ c s
+        (subst (λ (g : Findings). IsLeast (FaultAt p code.BadSlice) g.slice) (sym found.findings) (slice_least p))
+    (λ none6 rest6. first_cause p code.UnknownWidth from_widths f.widthless _ c s
+        (subst (λ (g : Findings). IsLeast (FaultAt p code.UnknownWidth) g.widthless) (sym found.findings) (widthless_least p))
     (λ none7 rest7. first_cause p code.Width from_constants (earlier_of f.leaf f.target) _ c s (known.width none2 none6)
-    (λ none8 rest8. first_cause p code.ConstantTooWide [] (earlier_of f.number wide) _ c s (known.constant none2 (left_none f.leaf f.target none8)) (λ none9 rest9. absurd rest9) rest8)
+    (λ none8 rest8. first_cause p code.ConstantTooWide [] (earlier_of f.number wide) _ c s (known.constant none2 (left_none f.leaf f.target none8))
+        (λ none9 rest9. absurd rest9) rest8)
     rest7)
     rest6)
     rest5)
@@ -380,7 +416,8 @@ judged p double range f wide c s found first =
 nowhere : (p : ProgramTree) (d : FaultCode) (o : Option Span) → o ≡ None → IsLeast (FaultAt p d) o → (s : Span) → ¬ FaultAt p d s
 nowhere p d o none least = subst (λ (q : Option Span). IsLeast (FaultAt p d) q) none least
 
-pub unjudged : (p : ProgramTree) (double range : Option Span) (f : Findings) (wide : Option Span) → AreFound p double range f wide → AreNone (causes_of double range f wide) → HasNone p naming_faults
+pub unjudged : (p : ProgramTree) (double range : Option Span) (f : Findings) (wide : Option Span) → AreFound p double range f wide →
+    AreNone (causes_of double range f wide) → HasNone p naming_faults
 unjudged p double range f wide found none =
     let known = facts p double range f wide found in
     let ranges = none.1.0 in
@@ -390,18 +427,24 @@ unjudged p double range f wide found none =
       (
         nowhere p code.WidthRange range ranges (subst (λ (o : Option Span). IsLeast (FaultAt p code.WidthRange) o) (sym found.ranges) (range_least p)),
         (
-          nowhere p code.Undeclared f.undeclared none.1.1.0 (subst (λ (g : Findings). IsLeast (FaultAt p code.Undeclared) g.undeclared) (sym found.findings) (undeclared_least p)),
+          nowhere p code.Undeclared f.undeclared none.1.1.0 (subst (λ (g : Findings). IsLeast (FaultAt p code.Undeclared) g.undeclared) (sym found.findings)
+              (undeclared_least p)),
           (
-            nowhere p code.WrongKind f.wrong_kind none.1.1.1.0 (subst (λ (g : Findings). IsLeast (FaultAt p code.WrongKind) g.wrong_kind) (sym found.findings) (wrong_kind_least p)),
+            nowhere p code.WrongKind f.wrong_kind none.1.1.1.0 (subst (λ (g : Findings). IsLeast (FaultAt p code.WrongKind) g.wrong_kind) (sym found.findings)
+                (wrong_kind_least p)),
             (
-              nowhere p code.Direction f.direction none.1.1.1.1.0 (subst (λ (g : Findings). IsLeast (FaultAt p code.Direction) g.direction) (sym found.findings) (direction_least p)),
+              nowhere p code.Direction f.direction none.1.1.1.1.0 (subst (λ (g : Findings). IsLeast (FaultAt p code.Direction) g.direction) (sym found.findings)
+                  (direction_least p)),
               (
-                nowhere p code.BadSlice f.slice slices (subst (λ (g : Findings). IsLeast (FaultAt p code.BadSlice) g.slice) (sym found.findings) (slice_least p)),
+                nowhere p code.BadSlice f.slice slices (subst (λ (g : Findings). IsLeast (FaultAt p code.BadSlice) g.slice) (sym found.findings)
+                    (slice_least p)),
                 (
-                  nowhere p code.UnknownWidth f.widthless none.1.1.1.1.1.1.0 (subst (λ (g : Findings). IsLeast (FaultAt p code.UnknownWidth) g.widthless) (sym found.findings) (widthless_least p)),
+                  nowhere p code.UnknownWidth f.widthless none.1.1.1.1.1.1.0
+                      (subst (λ (g : Findings). IsLeast (FaultAt p code.UnknownWidth) g.widthless) (sym found.findings) (widthless_least p)),
                   (
                     nowhere p code.Width (earlier_of f.leaf f.target) widths (known.width ranges slices),
-                    (nowhere p code.ConstantTooWide (earlier_of f.number wide) none.1.1.1.1.1.1.1.1.0 (known.constant ranges (left_none f.leaf f.target widths)), tt),
+                    (nowhere p code.ConstantTooWide (earlier_of f.number wide) none.1.1.1.1.1.1.1.1.0
+                        (known.constant ranges (left_none f.leaf f.target widths)), tt),
                   ),
                 ),
               ),

@@ -31,7 +31,8 @@ no_later_than s t is = by_front (nat_lt s.from t.from) (s.from == t.from) (nat_l
 no_earlier_than : (s t : Span) → is_earlier s t ≡ false → IsNoLater t s
 no_earlier_than s t is = by_front (nat_lt s.from t.from) (nat_lt t.from s.from) refl refl is
   where
-    by_back : (b c : Bool) → (s.from == t.from) ≡ b → nat_lt t.to s.to ≡ c → nat_lt s.from t.from ≡ false → nat_lt t.from s.from ≡ false → (false || (b && c)) ≡ false → IsNoLater t s
+    by_back : (b c : Bool) → (s.from == t.from) ≡ b → nat_lt t.to s.to ≡ c → nat_lt s.from t.from ≡ false → nat_lt t.from s.from ≡ false →
+        (false || (b && c)) ≡ false → IsNoLater t s
     by_back true true same back one other is = absurd (cc is)
     by_back true false same back one other is = inr (grind (arith, nat_tests), grind (arith, nat_tests))
     by_back false c same back one other is = absurd (grind (arith, nat_tests))
@@ -52,12 +53,16 @@ no_later_chain s t u (inr a) (inr b) = inr (a.0 ∙ b.0, omega (arith, a.1, b.1)
 
 -- one more place
 pub least_more : (P : Span → Type 0) (o : Option Span) (t : Span) → IsLeast P o → IsLeast (λ s. P s ⊎ (s ≡ t)) (earlier o t)
-least_more P None t nowhere = record { there = inr refl; first = λ s h. ⊎_elim (λ p. absurd (nowhere s p)) (λ (e : s ≡ t). subst (λ (u : Span). IsNoLater t u) (sym e) (no_later_self t)) h }
+least_more P None t nowhere = record { there = inr refl; first =
+    λ s h. ⊎_elim (λ p. absurd (nowhere s p)) (λ (e : s ≡ t). subst (λ (u : Span). IsNoLater t u) (sym e) (no_later_self t)) h }
 least_more P (Some r) t first = by_order (is_earlier t r) refl
   where
     by_order : (b : Bool) → is_earlier t r ≡ b → IsLeast (λ s. P s ⊎ (s ≡ t)) (if b then Some t else Some r)
-    by_order true is = record { there = inr refl; first = λ s h. ⊎_elim (λ p. no_later_chain t r s (no_later_than t r is) (first.first s p)) (λ (e : s ≡ t). subst (λ (u : Span). IsNoLater t u) (sym e) (no_later_self t)) h }
-    by_order false is = record { there = inl first.there; first = λ s h. ⊎_elim (λ p. first.first s p) (λ (e : s ≡ t). subst (λ (u : Span). IsNoLater r u) (sym e) (no_earlier_than t r is)) h }
+    by_order true is = record { there = inr refl; first =
+        λ s h. ⊎_elim (λ p. no_later_chain t r s (no_later_than t r is) (first.first s p))
+        (λ (e : s ≡ t). subst (λ (u : Span). IsNoLater t u) (sym e) (no_later_self t)) h }
+    by_order false is = record { there = inl first.there; first =
+        λ s h. ⊎_elim (λ p. first.first s p) (λ (e : s ≡ t). subst (λ (u : Span). IsNoLater r u) (sym e) (no_earlier_than t r is)) h }
 
 -- the same places
 pub least_same : (P Q : Span → Type 0) (o : Option Span) → ((s : Span) → P s → Q s) → ((s : Span) → Q s → P s) → IsLeast P o → IsLeast Q o
@@ -85,18 +90,24 @@ no_item y c = absurd (omega (arith, c.1))
 passes_rest : {X : Type 0} {test : X → Bool} {at : X → Span} (x : X) (xs : List X) (s : Span) → Passes test at xs s → Passes test at (x ∷ xs) s
 passes_rest x xs s h = record { item = h.item; among = in_rest x h.item xs h.among; passed = h.passed; place = h.place }
 
-passes_front : {X : Type 0} {test : X → Bool} {at : X → Span} (x : X) (xs : List X) (s : Span) → Passes test at (x ∷ xs) s → ((test x ≡ true) × (s ≡ at x)) ⊎ Passes test at xs s
+passes_front : {X : Type 0} {test : X → Bool} {at : X → Span} (x : X) (xs : List X) (s : Span) → Passes test at (x ∷ xs) s →
+    ((test x ≡ true) × (s ≡ at x)) ⊎ Passes test at xs s
 passes_front {X} {test} {at} x xs s h =
-    ⊎_elim (λ (e : x ≡ h.item). inl (subst (λ (y : X). (test y ≡ true) × (s ≡ at y)) (sym e) (h.passed, h.place))) (λ c. inr (record { item = h.item; among = c; passed = h.passed; place = h.place })) (front_or_rest x h.item xs h.among)
+    ⊎_elim (λ (e : x ≡ h.item). inl (subst (λ (y : X). (test y ≡ true) × (s ≡ at y)) (sym e) (h.passed, h.place)))
+        (λ c. inr (record { item = h.item; among = c; passed = h.passed; place = h.place })) (front_or_rest x h.item xs h.among)
 
-pub least_of : {X : Type 0} (test : X → Bool) (at : X → Span) (P : Span → Type 0) (o : Option Span) (xs : List X) → IsLeast P o → IsLeast (λ s. P s ⊎ Passes test at xs s) (first_of test at o xs)
-least_of {X} test at P o [] least = least_same P (λ s. P s ⊎ Passes test at [] s) o (λ s p. inl p) (λ s h. ⊎_elim (λ p. p) (λ q. absurd (no_item q.item q.among)) h) least
+pub least_of : {X : Type 0} (test : X → Bool) (at : X → Span) (P : Span → Type 0) (o : Option Span) (xs : List X) → IsLeast P o →
+    IsLeast (λ s. P s ⊎ Passes test at xs s) (first_of test at o xs)
+least_of {X} test at P o [] least = least_same P (λ s. P s ⊎ Passes test at [] s) o (λ s p. inl p)
+    (λ s h. ⊎_elim (λ p. p) (λ q. absurd (no_item q.item q.among)) h) least
 least_of {X} test at P o (x ∷ xs) least = by_test (test x) refl (λ q Q first. least_of test at Q q xs first)
   where
-    by_test : (b : Bool) → test x ≡ b → ((q : Option Span) (Q : Span → Type 0) → IsLeast Q q → IsLeast (λ s. Q s ⊎ Passes test at xs s) (first_of test at q xs)) → IsLeast (λ s. P s ⊎ Passes test at (x ∷ xs) s) (first_of test at (if b then earlier o (at x) else o) xs)
+    by_test : (b : Bool) → test x ≡ b → ((q : Option Span) (Q : Span → Type 0) → IsLeast Q q → IsLeast (λ s. Q s ⊎ Passes test at xs s) (first_of test at q xs))
+        → IsLeast (λ s. P s ⊎ Passes test at (x ∷ xs) s) (first_of test at (if b then earlier o (at x) else o) xs)
     by_test true is rest =
         least_same (λ s. (P s ⊎ (s ≡ at x)) ⊎ Passes test at xs s) (λ s. P s ⊎ Passes test at (x ∷ xs) s) (first_of test at (earlier o (at x)) xs)
-        (λ s h. ⊎_elim (λ k. ⊎_elim (λ p. inl p) (λ (e : s ≡ at x). inr (record { item = x; among = in_front x xs; passed = is; place = e })) k) (λ q. inr (passes_rest x xs s q)) h)
+        (λ s h. ⊎_elim (λ k. ⊎_elim (λ p. inl p) (λ (e : s ≡ at x). inr (record { item = x; among = in_front x xs; passed = is; place = e })) k)
+            (λ q. inr (passes_rest x xs s q)) h)
         (λ s h. ⊎_elim (λ p. inl (inl p)) (λ q. ⊎_elim (λ e. inl (inr e.1)) (λ r. inr r) (passes_front x xs s q)) h)
         (rest (earlier o (at x)) (λ s. P s ⊎ (s ≡ at x)) (least_more P o (at x) least))
     by_test false is rest =
@@ -106,4 +117,5 @@ least_of {X} test at P o (x ∷ xs) least = by_test (test x) refl (λ q Q first.
         (rest o P least)
 
 pub least_in : {X : Type 0} (test : X → Bool) (at : X → Span) (xs : List X) → IsLeast (λ s. Passes test at xs s) (first_of test at None xs)
-least_in test at xs = least_same (λ s. ⊥ ⊎ Passes test at xs s) (λ s. Passes test at xs s) (first_of test at None xs) (λ s h. ⊎_elim (λ n. absurd n) (λ q. q) h) (λ s q. inr q) (least_of test at (λ s. ⊥) None xs (λ s n. n))
+least_in test at xs = least_same (λ s. ⊥ ⊎ Passes test at xs s) (λ s. Passes test at xs s) (first_of test at None xs) (λ s h. ⊎_elim (λ n. absurd n) (λ q. q) h)
+    (λ s q. inr q) (least_of test at (λ s. ⊥) None xs (λ s n. n))

@@ -55,6 +55,7 @@ pub one_member : (ss : List TStmt) (s : TStmt) (ps : Processes) → before_membe
 one_member [] s ps = refl
 one_member (r ∷ ss) s ps = ap (and_member (process_of r)) (one_member ss s ps)
 
-pub one_arm : (xs : List TArm) (a : TArm) (cs : Choices) → before_arms (xs ++ a ∷ []) cs ≡ before_arms xs (and_choice (formula_of a.guard) (process_of a.body) cs)
+pub one_arm : (xs : List TArm) (a : TArm) (cs : Choices) →
+    before_arms (xs ++ a ∷ []) cs ≡ before_arms xs (and_choice (formula_of a.guard) (process_of a.body) cs)
 one_arm [] a cs = refl
 one_arm (b ∷ xs) a cs = ap (and_choice (formula_of b.guard) (process_of b.body)) (one_arm xs a cs)

@@ -69,7 +69,8 @@ at_channel name cs = position_or_len (λ (c : Channel). bytes_eq c.name name) cs
 pub var_first : (d : Decl) (ds : List Decl) (name : List ℕ) → bytes_eq d.name.name name ≡ true → is_var d.kind ≡ true → var_number (d ∷ ds) name ≡ 0
 var_first d ds name same var = ap (at_var name) (one_var d d.kind (vars_of ds) var) ∙ rw same refl
 
-pub var_behind : (d : Decl) (ds : List Decl) (name : List ℕ) → bytes_eq d.name.name name ≡ false → is_var d.kind ≡ true → var_number (d ∷ ds) name ≡ suc (var_number ds name)
+pub var_behind : (d : Decl) (ds : List Decl) (name : List ℕ) → bytes_eq d.name.name name ≡ false → is_var d.kind ≡ true →
+    var_number (d ∷ ds) name ≡ suc (var_number ds name)
 var_behind d ds name other var = ap (at_var name) (one_var d d.kind (vars_of ds) var) ∙ rw other (omega arith)
 
 pub var_apart : (d : Decl) (ds : List Decl) (name : List ℕ) → is_var d.kind ≡ false → var_number (d ∷ ds) name ≡ var_number ds name
@@ -78,7 +79,8 @@ var_apart d ds name chan = ap (at_var name) (no_var d d.kind (vars_of ds) chan)
 pub channel_first : (d : Decl) (ds : List Decl) (name : List ℕ) → bytes_eq d.name.name name ≡ true → is_var d.kind ≡ false → channel_number (d ∷ ds) name ≡ 0
 channel_first d ds name same chan = ap (at_channel name) (one_channel d d.kind (channels_of ds) chan) ∙ rw same refl
 
-pub channel_behind : (d : Decl) (ds : List Decl) (name : List ℕ) → bytes_eq d.name.name name ≡ false → is_var d.kind ≡ false → channel_number (d ∷ ds) name ≡ suc (channel_number ds name)
+pub channel_behind : (d : Decl) (ds : List Decl) (name : List ℕ) → bytes_eq d.name.name name ≡ false → is_var d.kind ≡ false →
+    channel_number (d ∷ ds) name ≡ suc (channel_number ds name)
 channel_behind d ds name other chan = ap (at_channel name) (one_channel d d.kind (channels_of ds) chan) ∙ rw other (omega arith)
 
 pub channel_apart : (d : Decl) (ds : List Decl) (name : List ℕ) → is_var d.kind ≡ true → channel_number (d ∷ ds) name ≡ channel_number ds name
@@ -90,17 +92,20 @@ pub numbers_length : (c v : ℕ) (ds : List Decl) → length (numbers_of c v ds)
 numbers_length c v [] = refl
 numbers_length c v (d ∷ ds) = by_kind (is_var d.kind) (numbers_length c (suc v) ds) (numbers_length (suc c) v ds)
   where
-    by_kind : (b : Bool) → length (numbers_of c (suc v) ds) ≡ length ds → length (numbers_of (suc c) v ds) ≡ length ds → length (if b then v ∷ numbers_of c (suc v) ds else c ∷ numbers_of (suc c) v ds) ≡ suc (length ds)
+    by_kind : (b : Bool) → length (numbers_of c (suc v) ds) ≡ length ds → length (numbers_of (suc c) v ds) ≡ length ds →
+        length (if b then v ∷ numbers_of c (suc v) ds else c ∷ numbers_of (suc c) v ds) ≡ suc (length ds)
     by_kind true one other = ap suc one
     by_kind false one other = ap suc other
 
 var_here : (d : Decl) (ds : List Decl) (name : List ℕ) (v w : ℕ) → bytes_eq d.name.name name ≡ true → is_var_in (d ∷ ds) name ≡ Some (is_var d.kind)
 var_here d ds name v w same = rw same refl
 
-in_others : (d : Decl) (ds : List Decl) (name : List ℕ) (b : Bool) → bytes_eq d.name.name name ≡ false → is_var_in (d ∷ ds) name ≡ Some b → is_var_in ds name ≡ Some b
+in_others : (d : Decl) (ds : List Decl) (name : List ℕ) (b : Bool) → bytes_eq d.name.name name ≡ false → is_var_in (d ∷ ds) name ≡ Some b →
+    is_var_in ds name ≡ Some b
 in_others d ds name b other is = rw other at is
 
-pub numbered_var : (e c v : ℕ) (ds : List Decl) (name : List ℕ) (i : ℕ) → IsDistinct bytes_eq (names ds) → slice_get (names ds) i ≡ Some name → is_var_in ds name ≡ Some true → get_or (numbers_of c v ds) i e ≡ v + var_number ds name
+pub numbered_var : (e c v : ℕ) (ds : List Decl) (name : List ℕ) (i : ℕ) → IsDistinct bytes_eq (names ds) → slice_get (names ds) i ≡ Some name →
+    is_var_in ds name ≡ Some true → get_or (numbers_of c v ds) i e ≡ v + var_number ds name
 numbered_var e c v [] name i distinct at is = absurd (cc at)
 numbered_var e c v (d ∷ ds) name zero distinct at is =
     let same : d.name.name ≡ name = cc at in
@@ -113,12 +118,14 @@ numbered_var e c v (d ∷ ds) name (suc i) distinct at is =
     let others = in_others d ds name true test is in
     by_kind (is_var d.kind) refl test (numbered_var e c (suc v) ds name i rest at others) (numbered_var e (suc c) v ds name i rest at others)
   where
-    by_kind : (b : Bool) → is_var d.kind ≡ b → bytes_eq d.name.name name ≡ false → get_or (numbers_of c (suc v) ds) i e ≡ suc v + var_number ds name → get_or (numbers_of (suc c) v ds) i e ≡ v + var_number ds name
+    by_kind : (b : Bool) → is_var d.kind ≡ b → bytes_eq d.name.name name ≡ false → get_or (numbers_of c (suc v) ds) i e ≡ suc v + var_number ds name →
+        get_or (numbers_of (suc c) v ds) i e ≡ v + var_number ds name
         → get_or (if b then v ∷ numbers_of c (suc v) ds else c ∷ numbers_of (suc c) v ds) (suc i) e ≡ v + var_number (d ∷ ds) name
     by_kind true var test one other = let behind = var_behind d ds name test var in omega (arith, one, behind)
     by_kind false chan test one other = let apart = var_apart d ds name chan in omega (arith, other, apart)
 
-pub numbered_channel : (e c v : ℕ) (ds : List Decl) (name : List ℕ) (i : ℕ) → IsDistinct bytes_eq (names ds) → slice_get (names ds) i ≡ Some name → is_var_in ds name ≡ Some false → get_or (numbers_of c v ds) i e ≡ c + channel_number ds name
+pub numbered_channel : (e c v : ℕ) (ds : List Decl) (name : List ℕ) (i : ℕ) → IsDistinct bytes_eq (names ds) → slice_get (names ds) i ≡ Some name →
+    is_var_in ds name ≡ Some false → get_or (numbers_of c v ds) i e ≡ c + channel_number ds name
 numbered_channel e c v [] name i distinct at is = absurd (cc at)
 numbered_channel e c v (d ∷ ds) name zero distinct at is =
     let same : d.name.name ≡ name = cc at in
@@ -131,7 +138,8 @@ numbered_channel e c v (d ∷ ds) name (suc i) distinct at is =
     let others = in_others d ds name false test is in
     by_kind (is_var d.kind) refl test (numbered_channel e c (suc v) ds name i rest at others) (numbered_channel e (suc c) v ds name i rest at others)
   where
-    by_kind : (b : Bool) → is_var d.kind ≡ b → bytes_eq d.name.name name ≡ false → get_or (numbers_of c (suc v) ds) i e ≡ c + channel_number ds name → get_or (numbers_of (suc c) v ds) i e ≡ suc c + channel_number ds name
+    by_kind : (b : Bool) → is_var d.kind ≡ b → bytes_eq d.name.name name ≡ false → get_or (numbers_of c (suc v) ds) i e ≡ c + channel_number ds name →
+        get_or (numbers_of (suc c) v ds) i e ≡ suc c + channel_number ds name
         → get_or (if b then v ∷ numbers_of c (suc v) ds else c ∷ numbers_of (suc c) v ds) (suc i) e ≡ c + channel_number (d ∷ ds) name
     by_kind true var test one other = let apart = channel_apart d ds name var in omega (arith, one, apart)
     by_kind false chan test one other = let behind = channel_behind d ds name test chan in omega (arith, other, behind)

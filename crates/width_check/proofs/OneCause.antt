@@ -7,7 +7,8 @@ use Rattle.width_check.specs.Order.{IsNoLater}
 use Rattle.width_check.specs.Faults.{HasNone, IsFirstFault}
 
 one_span : (s t : Span) → s.from ≡ t.from → s.to ≡ t.to → s ≡ t
-one_span s t front back = ap (λ (n : ℕ). let x : Span = record { from = n; to = s.to } in x) front ∙ ap (λ (n : ℕ). let x : Span = record { from = t.from; to = n } in x) back
+one_span s t front back = ap (λ (n : ℕ). let x : Span = record { from = n; to = s.to } in x) front
+    ∙ ap (λ (n : ℕ). let x : Span = record { from = t.from; to = n } in x) back
 
 pub one_place : (s t : Span) → IsNoLater s t → IsNoLater t s → s ≡ t
 one_place s t (inl a) (inl b) = absurd (omega (arith, a, b))

@@ -41,25 +41,31 @@ pub record ArePartsLeft (ds : List Decl) (parts : Expressions) : Type 0 where
   pub full : (s : Span) → ¬ Contains (lacking_parts ds parts) s
   pub sound : IsSound ds (met_in_parts ds parts)
 
-pub join_left : (ds : List Decl) (w : ℕ) (e : Expr) (v : Vec Expr Global) (at : Span) (es : List Expr) → e ≡ Join v at → es ≡ v.items → IsShapedExpression (expression_of e) → IsSound ds (met_in ds w (expression_of e)) → ArePartsLeft ds (parts_of es)
+pub join_left : (ds : List Decl) (w : ℕ) (e : Expr) (v : Vec Expr Global) (at : Span) (es : List Expr) → e ≡ Join v at → es ≡ v.items →
+    IsShapedExpression (expression_of e) → IsSound ds (met_in ds w (expression_of e)) → ArePartsLeft ds (parts_of es)
 join_left ds w e v at es is same shaped sound =
     let tree : expression_of e ≡ join (parts_of es) at = join_is e v at is ∙ ap (λ (xs : List Expr). join (parts_of xs) at) (sym same) in
     let shape = subst (λ (x : Expression). IsShapedExpression x) tree shaped in
     let s = subst (λ (x : Expression). IsSound ds (met_in ds w x)) tree sound in
     record { shaped = shape.1; full = λ t. s.widths (join (parts_of es) at) t (0, omega arith, refl); sound = sound_join ds w (parts_of es) at s }
 
-parts_here : (ds : List Decl) (es : List Expr) (i : ℕ) (e : Expr) → i < length es → e ≡ get_or es i e → ArePartsLeft ds (parts_of (drop i es)) → ArePartsLeft ds (and_part (expression_of e) (parts_of (drop (i + 1) es)))
+parts_here : (ds : List Decl) (es : List Expr) (i : ℕ) (e : Expr) → i < length es → e ≡ get_or es i e → ArePartsLeft ds (parts_of (drop i es)) →
+    ArePartsLeft ds (and_part (expression_of e) (parts_of (drop (i + 1) es)))
 parts_here ds es i e within is left = subst (λ (ps : Expressions). ArePartsLeft ds ps) (parts_more es i e within is) left
 
-pub parts_next : (ds : List Decl) (es : List Expr) (i : ℕ) (e : Expr) → i < length es → e ≡ get_or es i e → ArePartsLeft ds (parts_of (drop i es)) → ArePartsLeft ds (parts_of (drop (i + 1) es))
+pub parts_next : (ds : List Decl) (es : List Expr) (i : ℕ) (e : Expr) → i < length es → e ≡ get_or es i e → ArePartsLeft ds (parts_of (drop i es)) →
+    ArePartsLeft ds (parts_of (drop (i + 1) es))
 parts_next ds es i e within is left =
     let here = parts_here ds es i e within is left in
-    record { shaped = here.shaped.1; full = parts_full ds (expression_of e) (parts_of (drop (i + 1) es)) here.full; sound = sound_parts ds (expression_of e) (parts_of (drop (i + 1) es)) here.sound }
+    record { shaped = here.shaped.1; full = parts_full ds (expression_of e) (parts_of (drop (i + 1) es)) here.full; sound =
+        sound_parts ds (expression_of e) (parts_of (drop (i + 1) es)) here.sound }
 
 own_of : (o own : Option ℕ) (v w : ℕ) → own ≡ Some v → v ≤ 64 → o ≡ option_map capped own → w ≡ unwrap_or o 0 → w ≡ v
-own_of o own v w is most found wanted = let same : w ≡ capped v = wanted ∙ ap (λ (p : Option ℕ). unwrap_or p 0) (found ∙ ap (option_map capped) is) in grind arith
+own_of o own v w is most found wanted = let same : w ≡ capped v = wanted ∙ ap (λ (p : Option ℕ). unwrap_or p 0) (found ∙ ap (option_map capped) is) in
+    grind arith
 
-pub part_ready : (ds : List Decl) → AreRanged ds → (es : List Expr) (i : ℕ) (e : Expr) (o : Option ℕ) (w : ℕ) → i < length es → e ≡ get_or es i e → ArePartsLeft ds (parts_of (drop i es)) → o ≡ option_map capped (own_width ds (expression_of e)) → w ≡ unwrap_or o 0 → IsReady ds w (expression_of e)
+pub part_ready : (ds : List Decl) → AreRanged ds → (es : List Expr) (i : ℕ) (e : Expr) (o : Option ℕ) (w : ℕ) → i < length es → e ≡ get_or es i e →
+    ArePartsLeft ds (parts_of (drop i es)) → o ≡ option_map capped (own_width ds (expression_of e)) → w ≡ unwrap_or o 0 → IsReady ds w (expression_of e)
 part_ready ds ranged es i e o w within is left found wanted =
     let here = parts_here ds es i e within is left in
     let own = part_width ds ranged (expression_of e) (parts_of (drop (i + 1) es)) here.shaped.0 here.full here.sound in
@@ -72,8 +78,11 @@ part_ready ds ranged es i e o w within is left found wanted =
       sound = subst (λ (u : ℕ). IsSound ds (met_in ds u (expression_of e))) zero (sound_part ds (expression_of e) (parts_of (drop (i + 1) es)) here.sound);
     }
 
-pub part_made : (ds : List Decl) → AreRanged ds → (es : List Expr) (i : ℕ) (e : Expr) (o : Option ℕ) (w : ℕ) (made new : List TExpr) (t : TExpr) (total : Formulas) → i < length es → e ≡ get_or es i e → ArePartsLeft ds (parts_of (drop i es)) → o ≡ option_map capped (own_width ds (expression_of e)) → w ≡ unwrap_or o 0
-    → formula_of t ≡ formula_form ds w (expression_of e) → new ≡ made ++ t ∷ [] → before_parts made (parts_form ds (parts_of (drop i es))) ≡ total → before_parts new (parts_form ds (parts_of (drop (i + 1) es))) ≡ total
+pub part_made : (ds : List Decl) → AreRanged ds →
+    (es : List Expr) (i : ℕ) (e : Expr) (o : Option ℕ) (w : ℕ) (made new : List TExpr) (t : TExpr) (total : Formulas) → i < length es → e ≡ get_or es i e →
+    ArePartsLeft ds (parts_of (drop i es)) → o ≡ option_map capped (own_width ds (expression_of e)) → w ≡ unwrap_or o 0
+    → formula_of t ≡ formula_form ds w (expression_of e) → new ≡ made ++ t ∷ [] → before_parts made (parts_form ds (parts_of (drop i es))) ≡ total →
+        before_parts new (parts_form ds (parts_of (drop (i + 1) es))) ≡ total
 part_made ds ranged es i e o w made new t total within is left found wanted is_made pushed so_far =
     let here = parts_here ds es i e within is left in
     let own = part_width ds ranged (expression_of e) (parts_of (drop (i + 1) es)) here.shaped.0 here.full here.sound in
@@ -81,9 +90,12 @@ part_made ds ranged es i e o w made new t total within is left found wanted is_m
     let zero : unwrap_or (own_width ds (expression_of e)) 0 ≡ w = ap (λ (p : Option ℕ). unwrap_or p 0) own.1.own ∙ sym same in
     let rest = parts_form ds (parts_of (drop (i + 1) es)) in
     let begun = ap (λ (ps : Expressions). before_parts made (parts_form ds ps)) (sym (parts_more es i e within is)) ∙ so_far in
-    ap (λ (ts : List TExpr). before_parts ts rest) pushed ∙ one_part made t rest ∙ ap (λ (f : Formula). before_parts made (typed.and_part f rest)) (is_made ∙ ap (λ (u : ℕ). formula_form ds u (expression_of e)) (sym zero)) ∙ begun
+    ap (λ (ts : List TExpr). before_parts ts rest) pushed ∙ one_part made t rest
+        ∙ ap (λ (f : Formula). before_parts made (typed.and_part f rest)) (is_made ∙ ap (λ (u : ℕ). formula_form ds u (expression_of e)) (sym zero)) ∙ begun
 
-pub join_made : (ds : List Decl) (w : ℕ) (e : Expr) (v : Vec Expr Global) (at : Span) (es : List Expr) (i : ℕ) (t : Vec TExpr Global) → e ≡ Join v at → es ≡ v.items → length es ≤ i → before_parts t.items (parts_form ds (parts_of (drop i es))) ≡ parts_form ds (parts_of es) → formula_of (made.Join t) ≡ formula_form ds w (expression_of e)
+pub join_made : (ds : List Decl) (w : ℕ) (e : Expr) (v : Vec Expr Global) (at : Span) (es : List Expr) (i : ℕ) (t : Vec TExpr Global) → e ≡ Join v at →
+    es ≡ v.items → length es ≤ i → before_parts t.items (parts_form ds (parts_of (drop i es))) ≡ parts_form ds (parts_of es) →
+    formula_of (made.Join t) ≡ formula_form ds w (expression_of e)
 join_made ds w e v at es i t is same over so_far =
     let done = ap (λ (ps : Expressions). before_parts t.items (parts_form ds ps)) (sym (parts_end es i over)) ∙ so_far in
     let tree : expression_of e ≡ join (parts_of es) at = join_is e v at is ∙ ap (λ (xs : List Expr). join (parts_of xs) at) (sym same) in
@@ -94,7 +106,8 @@ join_made ds w e v at es i t is same over so_far =
 abbrev chain_tree : Box Expr Global → List Link → Span → Expression
 chain_tree first ls at = chain (expression_of first.value) (links_of ls) at
 
-the_chain : (e : Expr) (first : Box Expr Global) (v : Vec Link Global) (at : Span) (ls : List Link) → e ≡ Chain first v at → ls ≡ v.items → expression_of e ≡ chain_tree first ls at
+the_chain : (e : Expr) (first : Box Expr Global) (v : Vec Link Global) (at : Span) (ls : List Link) → e ≡ Chain first v at → ls ≡ v.items →
+    expression_of e ≡ chain_tree first ls at
 the_chain e first v at ls is same = chain_is e first v at is ∙ ap (λ (xs : List Link). chain_tree first xs at) (sym same)
 
 pub record AreLinksLeft (ds : List Decl) (w : ℕ) (more : Links) : Type 0 where
@@ -104,15 +117,20 @@ pub record AreLinksLeft (ds : List Decl) (w : ℕ) (more : Links) : Type 0 where
 plain_wanted : (ds : List Decl) (w : ℕ) (e : Expression) (more : Links) → compares more ≡ false → wanted_of ds w e more ≡ w
 plain_wanted ds w e more is = rw is refl
 
-pub first_ready : (ds : List Decl) (w : ℕ) (e : Expr) (first : Box Expr Global) (v : Vec Link Global) (at : Span) (ls : List Link) (f : Expr) → e ≡ Chain first v at → ls ≡ v.items → f ≡ first.value → compares (links_of ls) ≡ false → 1 ≤ w → w ≤ 64 → IsShapedExpression (expression_of e) → IsSound ds (met_in ds w (expression_of e)) → IsReady ds w (expression_of f)
+pub first_ready : (ds : List Decl) (w : ℕ) (e : Expr) (first : Box Expr Global) (v : Vec Link Global) (at : Span) (ls : List Link) (f : Expr) →
+    e ≡ Chain first v at → ls ≡ v.items → f ≡ first.value → compares (links_of ls) ≡ false → 1 ≤ w → w ≤ 64 → IsShapedExpression (expression_of e) →
+    IsSound ds (met_in ds w (expression_of e)) → IsReady ds w (expression_of f)
 first_ready ds w e first v at ls f is same here plain some most shaped sound =
     let tree = the_chain e first v at ls is same in
     let shape = subst (λ (x : Expression). IsShapedExpression x) tree shaped in
     let s = subst (λ (x : Expression). IsSound ds (met_in ds w x)) tree sound in
-    let front = subst (λ (u : ℕ). IsSound ds (met_in ds u (expression_of first.value))) (plain_wanted ds w (expression_of first.value) (links_of ls) plain) (sound_first ds w (expression_of first.value) (links_of ls) at s) in
+    let front = subst (λ (u : ℕ). IsSound ds (met_in ds u (expression_of first.value))) (plain_wanted ds w (expression_of first.value) (links_of ls) plain)
+        (sound_first ds w (expression_of first.value) (links_of ls) at s) in
     subst (λ (x : Expr). IsReady ds w (expression_of x)) (sym here) (record { some = some; most = most; shaped = shape.2; sound = front })
 
-pub links_left : (ds : List Decl) (w : ℕ) (e : Expr) (first : Box Expr Global) (v : Vec Link Global) (at : Span) (all ls : List Link) → e ≡ Chain first v at → all ≡ v.items → ls ≡ v.items → compares (links_of all) ≡ false → IsShapedExpression (expression_of e) → IsSound ds (met_in ds w (expression_of e)) → AreLinksLeft ds w (links_of ls)
+pub links_left : (ds : List Decl) (w : ℕ) (e : Expr) (first : Box Expr Global) (v : Vec Link Global) (at : Span) (all ls : List Link) → e ≡ Chain first v at →
+    all ≡ v.items → ls ≡ v.items → compares (links_of all) ≡ false → IsShapedExpression (expression_of e) → IsSound ds (met_in ds w (expression_of e)) →
+    AreLinksLeft ds w (links_of ls)
 links_left ds w e first v at all ls is whole same plain shaped sound =
     let tree = the_chain e first v at ls is same in
     let shape = subst (λ (x : Expression). IsShapedExpression x) tree shaped in
@@ -120,34 +138,44 @@ links_left ds w e first v at all ls is whole same plain shaped sound =
     let not_compared = subst (λ (xs : List Link). compares (links_of xs) ≡ false) (whole ∙ sym same) plain in
     record {
       shaped = shape.3;
-      sound = subst (λ (u : ℕ). IsSound ds (met_in_links ds u (links_of ls))) (plain_wanted ds w (expression_of first.value) (links_of ls) not_compared) (sound_rest ds w (expression_of first.value) (links_of ls) at s);
+      sound = subst (λ (u : ℕ). IsSound ds (met_in_links ds u (links_of ls))) (plain_wanted ds w (expression_of first.value) (links_of ls) not_compared)
+          (sound_rest ds w (expression_of first.value) (links_of ls) at s);
     }
 
-links_here : (ds : List Decl) (w : ℕ) (ls : List Link) (i : ℕ) (l : Link) → i < length ls → l ≡ get_or ls i l → AreLinksLeft ds w (links_of (drop i ls)) → AreLinksLeft ds w (and_link l.op (expression_of l.right) (links_of (drop (i + 1) ls)))
+links_here : (ds : List Decl) (w : ℕ) (ls : List Link) (i : ℕ) (l : Link) → i < length ls → l ≡ get_or ls i l → AreLinksLeft ds w (links_of (drop i ls)) →
+    AreLinksLeft ds w (and_link l.op (expression_of l.right) (links_of (drop (i + 1) ls)))
 links_here ds w ls i l within is left = subst (λ (us : Links). AreLinksLeft ds w us) (links_more ls i l within is) left
 
-pub links_next : (ds : List Decl) (w : ℕ) (ls : List Link) (i : ℕ) (l : Link) → i < length ls → l ≡ get_or ls i l → AreLinksLeft ds w (links_of (drop i ls)) → AreLinksLeft ds w (links_of (drop (i + 1) ls))
+pub links_next : (ds : List Decl) (w : ℕ) (ls : List Link) (i : ℕ) (l : Link) → i < length ls → l ≡ get_or ls i l → AreLinksLeft ds w (links_of (drop i ls)) →
+    AreLinksLeft ds w (links_of (drop (i + 1) ls))
 links_next ds w ls i l within is left =
     let here = links_here ds w ls i l within is left in
     record { shaped = here.shaped.1; sound = sound_links ds w l.op (expression_of l.right) (links_of (drop (i + 1) ls)) here.sound }
 
-pub link_ready : (ds : List Decl) (w : ℕ) (ls : List Link) (i : ℕ) (l : Link) → i < length ls → l ≡ get_or ls i l → 1 ≤ w → w ≤ 64 → AreLinksLeft ds w (links_of (drop i ls)) → IsReady ds w (expression_of l.right)
+pub link_ready : (ds : List Decl) (w : ℕ) (ls : List Link) (i : ℕ) (l : Link) → i < length ls → l ≡ get_or ls i l → 1 ≤ w → w ≤ 64 →
+    AreLinksLeft ds w (links_of (drop i ls)) → IsReady ds w (expression_of l.right)
 link_ready ds w ls i l within is some most left =
     let here = links_here ds w ls i l within is left in
     record { some = some; most = most; shaped = here.shaped.0; sound = sound_link ds w l.op (expression_of l.right) (links_of (drop (i + 1) ls)) here.sound }
 
-pub link_made : (ds : List Decl) (w : ℕ) (ls : List Link) (i : ℕ) (l : Link) (made new : List TLink) (t : TExpr) (total : Operations) → i < length ls → l ≡ get_or ls i l → formula_of t ≡ formula_form ds w (expression_of l.right) → new ≡ made ++ (record { op = l.op; right = t }) ∷ []
+pub link_made : (ds : List Decl) (w : ℕ) (ls : List Link) (i : ℕ) (l : Link) (made new : List TLink) (t : TExpr) (total : Operations) → i < length ls →
+    l ≡ get_or ls i l → formula_of t ≡ formula_form ds w (expression_of l.right) → new ≡ made ++ (record { op = l.op; right = t }) ∷ []
     → before_links made (operations_form ds w (links_of (drop i ls))) ≡ total → before_links new (operations_form ds w (links_of (drop (i + 1) ls))) ≡ total
 link_made ds w ls i l made new t total within is is_made pushed so_far =
     let rest = operations_form ds w (links_of (drop (i + 1) ls)) in
     let begun = ap (λ (us : Links). before_links made (operations_form ds w us)) (sym (links_more ls i l within is)) ∙ so_far in
-    ap (λ (ts : List TLink). before_links ts rest) pushed ∙ one_link made (record { op = l.op; right = t }) rest ∙ ap (λ (f : Formula). before_links made (typed.and_operation l.op f rest)) is_made ∙ begun
+    ap (λ (ts : List TLink). before_links ts rest) pushed ∙ one_link made (record { op = l.op; right = t }) rest
+        ∙ ap (λ (f : Formula). before_links made (typed.and_operation l.op f rest)) is_made ∙ begun
 
-plain_form : (ds : List Decl) (w : ℕ) (e : Expression) (more : Links) (at : Span) → compares more ≡ false → formula_form ds w (chain e more at) ≡ chained (formula_form ds w e) (operations_form ds w more)
+plain_form : (ds : List Decl) (w : ℕ) (e : Expression) (more : Links) (at : Span) → compares more ≡ false →
+    formula_form ds w (chain e more at) ≡ chained (formula_form ds w e) (operations_form ds w more)
 plain_form ds w e more at is = rw is refl
 
-pub chain_made : (ds : List Decl) (w : ℕ) (e : Expr) (first : Box Expr Global) (v : Vec Link Global) (at : Span) (all ls : List Link) (i : ℕ) (f : Expr) (front : Box TExpr Global) (t : Vec TLink Global) → e ≡ Chain first v at → all ≡ v.items → ls ≡ v.items → compares (links_of all) ≡ false → f ≡ first.value → formula_of front.value ≡ formula_form ds w (expression_of f)
-    → length ls ≤ i → before_links t.items (operations_form ds w (links_of (drop i ls))) ≡ operations_form ds w (links_of ls) → formula_of (made.Chain front t) ≡ formula_form ds w (expression_of e)
+pub chain_made : (ds : List Decl) (w : ℕ) (e : Expr) (first : Box Expr Global) (v : Vec Link Global) (at : Span) (all ls : List Link) (i : ℕ) (f : Expr)
+    (front : Box TExpr Global) (t : Vec TLink Global) → e ≡ Chain first v at → all ≡ v.items → ls ≡ v.items → compares (links_of all) ≡ false →
+    f ≡ first.value → formula_of front.value ≡ formula_form ds w (expression_of f)
+    → length ls ≤ i → before_links t.items (operations_form ds w (links_of (drop i ls))) ≡ operations_form ds w (links_of ls) →
+        formula_of (made.Chain front t) ≡ formula_form ds w (expression_of e)
 chain_made ds w e first v at all ls i f front t is whole same plain here is_front over so_far =
     let done = ap (λ (us : Links). before_links t.items (operations_form ds w us)) (sym (links_end ls i over)) ∙ so_far in
     let tree = the_chain e first v at ls is same in
@@ -162,7 +190,8 @@ pub record AreSides (ds : List Decl) (u : ℕ) (f : Expr) (l : Link) : Type 0 wh
   pub left : IsReady ds u (expression_of f)
   pub right : IsReady ds u (expression_of l.right)
 
-one_more : (ls : List Link) (l : Link) → compares (links_of ls) ≡ true → l ≡ get_or ls 0 l → links_of ls ≡ and_link l.op (expression_of l.right) (links_of (drop 1 ls))
+one_more : (ls : List Link) (l : Link) → compares (links_of ls) ≡ true → l ≡ get_or ls 0 l →
+    links_of ls ≡ and_link l.op (expression_of l.right) (links_of (drop 1 ls))
 one_more [] l is here = absurd (cc is)
 one_more (k ∷ ls) l is here = ap (λ (x : Link). and_link x.op (expression_of x.right) (links_of ls)) (sym here)
 
@@ -173,7 +202,9 @@ pub record IsCompared (ds : List Decl) (first : Box Expr Global) (ls : List Link
   pub left : IsReady ds u (expression_of first.value)
   pub right : IsReady ds u (expression_of l.right)
 
-pub comparison_ready : (ds : List Decl) → AreRanged ds → (w : ℕ) (e : Expr) (first : Box Expr Global) (v : Vec Link Global) (at : Span) (l : Link) (o : Option ℕ) (u : ℕ) → e ≡ Chain first v at → compares (links_of v.items) ≡ true → l ≡ get_or v.items 0 l → IsShapedExpression (expression_of e) → IsSound ds (met_in ds w (expression_of e))
+pub comparison_ready : (ds : List Decl) → AreRanged ds →
+    (w : ℕ) (e : Expr) (first : Box Expr Global) (v : Vec Link Global) (at : Span) (l : Link) (o : Option ℕ) (u : ℕ) → e ≡ Chain first v at →
+    compares (links_of v.items) ≡ true → l ≡ get_or v.items 0 l → IsShapedExpression (expression_of e) → IsSound ds (met_in ds w (expression_of e))
     → o ≡ option_map capped (side_width ds (expression_of first.value) (links_of v.items)) → u ≡ unwrap_or o 0 → IsCompared ds first v.items l u
 comparison_ready ds ranged w e first v at l o u is so here shaped sound found wanted =
     let tree = chain_is e first v at is in
@@ -188,20 +219,27 @@ comparison_ready ds ranged w e first v at l o u is so here shaped sound found wa
     let some : 1 ≤ u = omega (arith, side.1.some, same) in
     let most : u ≤ 64 = omega (arith, side.1.most, same) in
     let links = one_more v.items l so here in
-    let rest : IsSound ds (met_in_links ds u (and_link l.op (expression_of l.right) (links_of (drop 1 v.items)))) = subst (λ (us : Links). IsSound ds (met_in_links ds u us)) links (subst (λ (n : ℕ). IsSound ds (met_in_links ds n more)) wanted_is (sound_rest ds w f more at s)) in
+    let rest : IsSound ds (met_in_links ds u (and_link l.op (expression_of l.right) (links_of (drop 1 v.items)))) =
+        subst (λ (us : Links). IsSound ds (met_in_links ds u us)) links
+        (subst (λ (n : ℕ). IsSound ds (met_in_links ds n more)) wanted_is (sound_rest ds w f more at s)) in
     let shapes : AreShapedLinks (and_link l.op (expression_of l.right) (links_of (drop 1 v.items))) = subst (λ (us : Links). AreShapedLinks us) links shape.3 in
     record {
       side = is_side;
       links = links;
-      left = record { some = some; most = most; shaped = shape.2; sound = subst (λ (n : ℕ). IsSound ds (met_in ds n f)) wanted_is (sound_first ds w f more at s) };
+      left = record { some = some; most = most; shaped = shape.2; sound =
+          subst (λ (n : ℕ). IsSound ds (met_in ds n f)) wanted_is (sound_first ds w f more at s) };
       right = record { some = some; most = most; shaped = shapes.0; sound = sound_link ds u l.op (expression_of l.right) (links_of (drop 1 v.items)) rest };
     }
 
-compared_form : (ds : List Decl) (w u : ℕ) (e : Expression) (op : Op) (f : Expression) (rest more : Links) (at : Span) → compares more ≡ true → side_width ds e more ≡ Some u → more ≡ and_link op f rest → formula_form ds w (chain e more at) ≡ compared op (formula_form ds u e) (formula_form ds u f)
+compared_form : (ds : List Decl) (w u : ℕ) (e : Expression) (op : Op) (f : Expression) (rest more : Links) (at : Span) → compares more ≡ true →
+    side_width ds e more ≡ Some u → more ≡ and_link op f rest → formula_form ds w (chain e more at) ≡ compared op (formula_form ds u e) (formula_form ds u f)
 compared_form ds w u e op f rest more at is side links = rw (is, side, links) refl
 
-pub comparison_made : (ds : List Decl) (w u : ℕ) (e : Expr) (first : Box Expr Global) (v : Vec Link Global) (at : Span) (l : Link) (x y : Formula) → e ≡ Chain first v at → compares (links_of v.items) ≡ true → IsCompared ds first v.items l u → x ≡ formula_form ds u (expression_of first.value) → y ≡ formula_form ds u (expression_of l.right) → compared l.op x y ≡ formula_form ds w (expression_of e)
+pub comparison_made : (ds : List Decl) (w u : ℕ) (e : Expr) (first : Box Expr Global) (v : Vec Link Global) (at : Span) (l : Link) (x y : Formula) →
+    e ≡ Chain first v at → compares (links_of v.items) ≡ true → IsCompared ds first v.items l u → x ≡ formula_form ds u (expression_of first.value) →
+    y ≡ formula_form ds u (expression_of l.right) → compared l.op x y ≡ formula_form ds w (expression_of e)
 comparison_made ds w u e first v at l x y is so facts left right =
     ap (λ (g : Formula). compared l.op g y) left ∙ ap (λ (g : Formula). compared l.op (formula_form ds u (expression_of first.value)) g) right
-    ∙ sym (compared_form ds w u (expression_of first.value) l.op (expression_of l.right) (links_of (drop 1 v.items)) (links_of v.items) at so facts.side facts.links)
+    ∙ sym (compared_form ds w u (expression_of first.value) l.op (expression_of l.right) (links_of (drop 1 v.items)) (links_of v.items) at so facts.side
+        facts.links)
     ∙ ap (formula_form ds w) (sym (chain_is e first v at is))

@@ -60,7 +60,8 @@ wrong_of (Some d) role h = (d, refl, differ_is (is_var d.kind) (wants_var role) 
 pub wrong_kind_least : (p : ProgramTree) → IsLeast (λ s. IsOfWrongKind p s) (first_of (has_wrong_kind p.decls) (λ (u : Use). u.at) None (uses_in p.body))
 wrong_kind_least p =
     least_same (λ s. Passes (has_wrong_kind p.decls) (λ (u : Use). u.at) (uses_in p.body) s) (λ s. IsOfWrongKind p s) _
-    (λ s h. let w = wrong_of (declaration p.decls h.item.name) h.item.role h.passed in record { usage = h.item; among = h.among; decl = w.0; declared = w.1; wrong = w.2; at = h.place })
+    (λ s h. let w = wrong_of (declaration p.decls h.item.name) h.item.role h.passed in
+        record { usage = h.item; among = h.among; decl = w.0; declared = w.1; wrong = w.2; at = h.place })
     (λ s h. record { item = h.usage; among = h.among; passed = rw h.declared (is_differ (is_var h.decl.kind) (wants_var h.usage.role) h.wrong); place = h.at })
     (least_in (has_wrong_kind p.decls) (λ (u : Use). u.at) (uses_in p.body))
 
@@ -96,7 +97,8 @@ misdirected_of (Some d) role h = (d, refl, against_is role d.kind h)
 pub direction_least : (p : ProgramTree) → IsLeast (λ s. IsMisdirected p s) (first_of (is_misdirected p.decls) (λ (u : Use). u.at) None (uses_in p.body))
 direction_least p =
     least_same (λ s. Passes (is_misdirected p.decls) (λ (u : Use). u.at) (uses_in p.body) s) (λ s. IsMisdirected p s) _
-    (λ s h. let w = misdirected_of (declaration p.decls h.item.name) h.item.role h.passed in record { usage = h.item; among = h.among; decl = w.0; declared = w.1; wrong = w.2; at = h.place })
+    (λ s h. let w = misdirected_of (declaration p.decls h.item.name) h.item.role h.passed in
+        record { usage = h.item; among = h.among; decl = w.0; declared = w.1; wrong = w.2; at = h.place })
     (λ s h. record { item = h.usage; among = h.among; passed = rw h.declared (is_against_of h.usage.role h.decl.kind h.wrong); place = h.at })
     (least_in (is_misdirected p.decls) (λ (u : Use). u.at) (uses_in p.body))
 
@@ -141,12 +143,14 @@ slice_least p =
 pub in_flat_map : {X A : Type 0} (f : X → List A) (xs : List X) (a : A) → Contains (flat_map f xs) a → (x : X) × Contains xs x × Contains (f x) a
 in_flat_map f [] a c = absurd (no_item a c)
 in_flat_map f (x ∷ xs) a c =
-    ⊎_elim (λ here. (x, (0, omega arith, refl), here)) (λ rest. let r = in_flat_map f xs a rest in (r.0, in_rest x r.0 xs r.1, r.2)) (Contains-append_cases (f x) (flat_map f xs) a c)
+    ⊎_elim (λ here. (x, (0, omega arith, refl), here)) (λ rest. let r = in_flat_map f xs a rest in
+        (r.0, in_rest x r.0 xs r.1, r.2)) (Contains-append_cases (f x) (flat_map f xs) a c)
 
 pub flat_map_in : {X A : Type 0} (f : X → List A) (xs : List X) (x : X) (a : A) → Contains xs x → Contains (f x) a → Contains (flat_map f xs) a
 flat_map_in f [] x a c here = absurd (no_item x c)
 flat_map_in {X} {A} f (y ∷ ys) x a c here =
-    ⊎_elim (λ (e : y ≡ x). Contains-append_left (f y) (flat_map f ys) a (subst (λ (z : X). Contains (f z) a) (sym e) here)) (λ rest. Contains-append_right (f y) (flat_map f ys) a (flat_map_in f ys x a rest here)) (front_or_rest y x ys c)
+    ⊎_elim (λ (e : y ≡ x). Contains-append_left (f y) (flat_map f ys) a (subst (λ (z : X). Contains (f z) a) (sym e) here))
+        (λ rest. Contains-append_right (f y) (flat_map f ys) a (flat_map_in f ys x a rest here)) (front_or_rest y x ys c)
 
 some_not_none : {A : Type 0} (o : Option A) → is_none o ≡ true → o ≡ None
 some_not_none None h = refl
@@ -156,8 +160,10 @@ part_is : (decls : List Decl) (parts : Expressions) (s : Span) → Contains (lac
 part_is decls no_parts s c = no_item s c
 part_is decls (and_part e more) s c = by_test (is_none (own_width decls e)) refl c (λ rest. part_is decls more s rest)
   where
-    by_test : (b : Bool) → is_none (own_width decls e) ≡ b → Contains (if b then span_of e ∷ lacking_parts decls more else lacking_parts decls more) s → (Contains (lacking_parts decls more) s → HasPart decls more s) → HasPart decls (and_part e more) s
-    by_test true is among rest = ⊎_elim (λ (same : span_of e ≡ s). inl (some_not_none (own_width decls e) is, sym same)) (λ c. inr (rest c)) (front_or_rest (span_of e) s (lacking_parts decls more) among)
+    by_test : (b : Bool) → is_none (own_width decls e) ≡ b → Contains (if b then span_of e ∷ lacking_parts decls more else lacking_parts decls more) s →
+        (Contains (lacking_parts decls more) s → HasPart decls more s) → HasPart decls (and_part e more) s
+    by_test true is among rest = ⊎_elim (λ (same : span_of e ≡ s). inl (some_not_none (own_width decls e) is, sym same)) (λ c. inr (rest c))
+        (front_or_rest (span_of e) s (lacking_parts decls more) among)
     by_test false is among rest = inr (rest among)
 
 is_part : (decls : List Decl) (parts : Expressions) (s : Span) → HasPart decls parts s → Contains (lacking_parts decls parts) s
@@ -197,13 +203,15 @@ is_lacking decls (join parts at) s h = is_part decls parts s h
 is_lacking decls (negation e at) s h = absurd h
 is_lacking decls (chain e more at) s h = rw (h.0, h.1) (0, omega arith, sym h.2)
 
-pub widthless_least : (p : ProgramTree) → IsLeast (λ s. IsOfUnknownWidth p s) (first_of (λ (s : Span). true) (λ (s : Span). s) None (flat_map (lacking p.decls) (all_expressions p)))
+pub widthless_least : (p : ProgramTree) →
+    IsLeast (λ s. IsOfUnknownWidth p s) (first_of (λ (s : Span). true) (λ (s : Span). s) None (flat_map (lacking p.decls) (all_expressions p)))
 widthless_least p =
     least_same (λ s. Passes (λ (s : Span). true) (λ (s : Span). s) (flat_map (lacking p.decls) (all_expressions p)) s) (λ s. IsOfUnknownWidth p s) _
     (λ s h.
     let e = in_flat_map (lacking p.decls) (all_expressions p) h.item h.among in
     record { expression = e.0; among = e.1; lacks = subst (λ (t : Span). LacksWidth p.decls e.0 t) (sym h.place) (lacks_is p.decls e.0 h.item e.2) })
-    (λ s h. record { item = s; among = flat_map_in (lacking p.decls) (all_expressions p) h.expression s h.among (is_lacking p.decls h.expression s h.lacks); passed = refl; place = refl })
+    (λ s h. record { item = s; among = flat_map_in (lacking p.decls) (all_expressions p) h.expression s h.among (is_lacking p.decls h.expression s h.lacks);
+        passed = refl; place = refl })
     (least_in (λ (s : Span). true) (λ (s : Span). s) (flat_map (lacking p.decls) (all_expressions p)))
 
 -- the variable of a receive
@@ -214,11 +222,14 @@ equal_not n m h e = absurd (grind (arith, nat_tests))
 not_equal : (n m : ℕ) → n ≢ m → not (n == m) ≡ true
 not_equal n m h = grind (arith, nat_tests)
 
-pub target_least : (p : ProgramTree) → IsLeast (λ s. IsMisfitReceive p s) (first_of (is_misfit_target p.decls) (λ (r : Reception). r.target.at) None (receptions_in p.body))
+pub target_least : (p : ProgramTree) → IsLeast (λ s. IsMisfitReceive p s)
+    (first_of (is_misfit_target p.decls) (λ (r : Reception). r.target.at) None (receptions_in p.body))
 target_least p =
     least_same (λ s. Passes (is_misfit_target p.decls) (λ (r : Reception). r.target.at) (receptions_in p.body) s) (λ s. IsMisfitReceive p s) _
-    (λ s h. record { receive = h.item; among = h.among; misfit = equal_not (declared_width p.decls h.item.target.name) (declared_width p.decls h.item.chan.name) h.passed; at = h.place })
-    (λ s h. record { item = h.receive; among = h.among; passed = not_equal (declared_width p.decls h.receive.target.name) (declared_width p.decls h.receive.chan.name) h.misfit; place = h.at })
+    (λ s h. record { receive = h.item; among = h.among; misfit =
+        equal_not (declared_width p.decls h.item.target.name) (declared_width p.decls h.item.chan.name) h.passed; at = h.place })
+    (λ s h. record { item = h.receive; among = h.among; passed =
+        not_equal (declared_width p.decls h.receive.target.name) (declared_width p.decls h.receive.chan.name) h.misfit; place = h.at })
     (least_in (is_misfit_target p.decls) (λ (r : Reception). r.target.at) (receptions_in p.body))
 
 -- a declared width

@@ -33,7 +33,8 @@ pub chain_is : (first : Box TExpr Global) (v : Vec TLink Global) → formula_of 
 chain_is first v = ap (chained (formula_of first.value)) (links_row (hidden-the_row-TLink-1 v) ∙ ap links_of (items_hidden-the_row-TLink-1 v))
 
 -- the parts from a place on are the one there and those behind it
-pub part_at : (es : List TExpr) (i : ℕ) (e : TExpr) → i < length es → e ≡ get_or es i e → parts_of (drop i es) ≡ and_part (formula_of e) (parts_of (drop (i + 1) es))
+pub part_at : (es : List TExpr) (i : ℕ) (e : TExpr) → i < length es → e ≡ get_or es i e →
+    parts_of (drop i es) ≡ and_part (formula_of e) (parts_of (drop (i + 1) es))
 part_at es i e within is = ap parts_of (drop_more es i e within) ∙ ap (λ x. and_part (formula_of x) (parts_of (drop (i + 1) es))) (sym is)
 
 pub no_more_parts : (es : List TExpr) (i : ℕ) → length es ≤ i → parts_of (drop i es) ≡ no_parts
@@ -43,11 +44,14 @@ pub joined_parts : (e : TExpr) (v : Vec TExpr Global) → e ≡ Join v → formu
 joined_parts e v is = ap formula_of is ∙ join_is v
 
 -- the operations from a place on
-pub link_at : (ls : List TLink) (i : ℕ) (l : TLink) → i < length ls → l ≡ get_or ls i l → links_of (drop i ls) ≡ and_operation l.op (formula_of l.right) (links_of (drop (i + 1) ls))
-link_at ls i l within is = ap links_of (drop_more ls i l within) ∙ ap (λ (x : TLink). and_operation x.op (formula_of x.right) (links_of (drop (i + 1) ls))) (sym is)
+pub link_at : (ls : List TLink) (i : ℕ) (l : TLink) → i < length ls → l ≡ get_or ls i l →
+    links_of (drop i ls) ≡ and_operation l.op (formula_of l.right) (links_of (drop (i + 1) ls))
+link_at ls i l within is = ap links_of (drop_more ls i l within) ∙ ap (λ (x : TLink). and_operation x.op (formula_of x.right) (links_of (drop (i + 1) ls)))
+    (sym is)
 
 pub no_more_links : (ls : List TLink) (i : ℕ) → length ls ≤ i → links_of (drop i ls) ≡ no_operations
 no_more_links ls i all = ap links_of (drop_all i ls all)
 
-pub chained_links : (e : TExpr) (first : Box TExpr Global) (v : Vec TLink Global) → e ≡ Chain first v → formula_of e ≡ chained (formula_of first.value) (links_of v.items)
+pub chained_links : (e : TExpr) (first : Box TExpr Global) (v : Vec TLink Global) → e ≡ Chain first v →
+    formula_of e ≡ chained (formula_of first.value) (links_of v.items)
 chained_links e first v is = ap formula_of is ∙ chain_is first v

@@ -20,12 +20,14 @@ found_within [] name i is = absurd (cc is)
 found_within (d ∷ ds) name zero is = omega arith
 found_within (d ∷ ds) name (suc i) is = let less = found_within ds name i is in omega arith
 
-pub none_among : (n name : List ℕ) (ds : List Decl) (i : ℕ) → AllByRecursion (λ y. bytes_eq n y ≡ false) (names ds) → slice_get (names ds) i ≡ Some name → bytes_eq n name ≡ false
+pub none_among : (n name : List ℕ) (ds : List Decl) (i : ℕ) → AllByRecursion (λ y. bytes_eq n y ≡ false) (names ds) → slice_get (names ds) i ≡ Some name →
+    bytes_eq n name ≡ false
 none_among n name [] i none is = absurd (cc is)
 none_among n name (d ∷ ds) zero none is = let same : d.name.name ≡ name = cc is in subst (λ (m : List ℕ). bytes_eq n m ≡ false) same none.0
 none_among n name (d ∷ ds) (suc i) none is = none_among n name ds i none.1 is
 
-pub found_is : (ds : List Decl) (name : List ℕ) (i : ℕ) (e : Decl) → IsDistinct bytes_eq (names ds) → slice_get (names ds) i ≡ Some name → declaration ds name ≡ Some (get_or ds i e)
+pub found_is : (ds : List Decl) (name : List ℕ) (i : ℕ) (e : Decl) → IsDistinct bytes_eq (names ds) → slice_get (names ds) i ≡ Some name →
+    declaration ds name ≡ Some (get_or ds i e)
 found_is [] name i e distinct is = absurd (cc is)
 found_is (d ∷ ds) name zero e distinct is =
     let same : d.name.name ≡ name = cc is in
@@ -38,7 +40,8 @@ found_is (d ∷ ds) name (suc i) e distinct is =
 in_rest : (n name : List ℕ) (ns : List (List ℕ)) → Contains ns name → Contains (n ∷ ns) name
 in_rest n name ns c = (suc c.0, omega (arith, c.1), c.2)
 
-not_here : (d : Decl) (ds : List Decl) (name : List ℕ) (b : Bool) → bytes_eq d.name.name name ≡ b → ¬ Contains (names (d ∷ ds)) name → declaration ds name ≡ None → declaration (d ∷ ds) name ≡ None
+not_here : (d : Decl) (ds : List Decl) (name : List ℕ) (b : Bool) → bytes_eq d.name.name name ≡ b → ¬ Contains (names (d ∷ ds)) name →
+    declaration ds name ≡ None → declaration (d ∷ ds) name ≡ None
 not_here d ds name true is none rest = absurd (none (0, omega arith, (bytes_eq-Decides d.name.name name).0 is))
 not_here d ds name false is none rest = rw is rest
 
@@ -55,7 +58,9 @@ pub wide_already : (n m whole : ℕ) → 64 < n → n ≤ 65 → capped (n + m) 
 wide_already n m whole wide most is = grind arith
 
 -- one part more
-pub part_sum : (decls : List Decl) (e : Expression) (more : Expressions) (n r whole : ℕ) (o : Option ℕ) → capped (n + own_widths decls (and_part e more)) ≡ whole → o ≡ option_map capped (own_width decls e) → r ≡ capped (n + unwrap_or o 0) → capped (r + own_widths decls more) ≡ whole
+pub part_sum : (decls : List Decl) (e : Expression) (more : Expressions) (n r whole : ℕ) (o : Option ℕ) →
+    capped (n + own_widths decls (and_part e more)) ≡ whole → o ≡ option_map capped (own_width decls e) → r ≡ capped (n + unwrap_or o 0) →
+    capped (r + own_widths decls more) ≡ whole
 part_sum decls e more n r whole o so_far is new = step (own_width decls e) so_far is
   where
     step : (w : Option ℕ) → capped (n + (unwrap_or w 0 + own_widths decls more)) ≡ whole → o ≡ option_map capped w → capped (r + own_widths decls more) ≡ whole
@@ -67,21 +72,24 @@ pub part_none : (decls : List Decl) (n whole : ℕ) → capped (n + own_widths d
 part_none decls n whole so_far most = grind arith
 
 -- the first width among a member and some links
-pub link_first : (decls : List Decl) (op : Op) (e : Expression) (more : Links) (w : ℕ) (whole : Option ℕ) → option_map capped (first_width decls (and_link op e more)) ≡ whole → Some w ≡ option_map capped (own_width decls e) → Some w ≡ whole
+pub link_first : (decls : List Decl) (op : Op) (e : Expression) (more : Links) (w : ℕ) (whole : Option ℕ) →
+    option_map capped (first_width decls (and_link op e more)) ≡ whole → Some w ≡ option_map capped (own_width decls e) → Some w ≡ whole
 link_first decls op e more w whole so_far is = step (own_width decls e) so_far is
   where
     step : (o : Option ℕ) → option_map capped (or_width o (first_width decls more)) ≡ whole → Some w ≡ option_map capped o → Some w ≡ whole
     step None so here = absurd (cc here)
     step (Some v) so here = here ∙ so
 
-pub left_first : (decls : List Decl) (e : Expression) (more : Links) (w : ℕ) → Some w ≡ option_map capped (own_width decls e) → Some w ≡ option_map capped (side_width decls e more)
+pub left_first : (decls : List Decl) (e : Expression) (more : Links) (w : ℕ) → Some w ≡ option_map capped (own_width decls e) →
+    Some w ≡ option_map capped (side_width decls e more)
 left_first decls e more w is = step (own_width decls e) is
   where
     step : (o : Option ℕ) → Some w ≡ option_map capped o → Some w ≡ option_map capped (or_width o (first_width decls more))
     step None here = absurd (cc here)
     step (Some v) here = here
 
-pub left_none : (decls : List Decl) (e : Expression) (more : Links) → None ≡ option_map capped (own_width decls e) → option_map capped (first_width decls more) ≡ option_map capped (side_width decls e more)
+pub left_none : (decls : List Decl) (e : Expression) (more : Links) → None ≡ option_map capped (own_width decls e) →
+    option_map capped (first_width decls more) ≡ option_map capped (side_width decls e more)
 left_none decls e more is = step (own_width decls e) is
   where
     step : (o : Option ℕ) → None ≡ option_map capped o → option_map capped (first_width decls more) ≡ option_map capped (or_width o (first_width decls more))
@@ -89,7 +97,8 @@ left_none decls e more is = step (own_width decls e) is
     step (Some v) here = absurd (cc here)
 
 -- a chain that doesn't compare
-pub own_of_chain : (decls : List Decl) (e : Expression) (more : Links) (at : Span) → compares more ≡ false → own_width decls (chain e more at) ≡ side_width decls e more
+pub own_of_chain : (decls : List Decl) (e : Expression) (more : Links) (at : Span) → compares more ≡ false →
+    own_width decls (chain e more at) ≡ side_width decls e more
 own_of_chain decls e more at plain = rw plain refl
 
 pub own_of_comparison : (decls : List Decl) (e : Expression) (more : Links) (at : Span) → compares more ≡ true → own_width decls (chain e more at) ≡ Some 1

@@ -63,37 +63,50 @@ MembersLeft channels vars ss i = Alike (AreProcesses channels vars (members_of s
 abbrev pub ArmsLeft : List Channel → List Var → List TArm → ℕ → Type 0
 ArmsLeft channels vars arms i = Alike (AreChoices channels vars (arms_of arms)) (AreChoices channels vars (arms_of (drop i arms)))
 
-member_here : (channels : List Channel) (vars : List Var) (ss : List TStmt) (i : ℕ) (s : TStmt) → i < length ss → s ≡ get_or ss i s → MembersLeft channels vars ss i → Alike (AreProcesses channels vars (members_of ss)) (IsProcess channels vars (process_of s) × AreProcesses channels vars (members_of (drop (i + 1) ss)))
+member_here : (channels : List Channel) (vars : List Var) (ss : List TStmt) (i : ℕ) (s : TStmt) → i < length ss → s ≡ get_or ss i s →
+    MembersLeft channels vars ss i → Alike (AreProcesses channels vars (members_of ss)) (IsProcess channels vars (process_of s)
+    × AreProcesses channels vars (members_of (drop (i + 1) ss)))
 member_here channels vars ss i s within is =
     let e : drop i ss ≡ s ∷ drop (i + 1) ss = drop_more ss i s within ∙ ap (λ x. x ∷ drop (i + 1) ss) (sym is) in
     subst (λ (rest : List TStmt). Alike (AreProcesses channels vars (members_of ss)) (AreProcesses channels vars (members_of rest))) e
 
-pub member_more : (channels : List Channel) (vars : List Var) (ss : List TStmt) (i : ℕ) (s : TStmt) (r : Bool) → i < length ss → s ≡ get_or ss i s → MembersLeft channels vars ss i → Decides r (IsProcess channels vars (process_of s)) → r ≡ true → MembersLeft channels vars ss (i + 1)
+pub member_more : (channels : List Channel) (vars : List Var) (ss : List TStmt) (i : ℕ) (s : TStmt) (r : Bool) → i < length ss → s ≡ get_or ss i s →
+    MembersLeft channels vars ss i → Decides r (IsProcess channels vars (process_of s)) → r ≡ true → MembersLeft channels vars ss (i + 1)
 member_more channels vars ss i s r within is left decides so = one_less _ _ _ (member_here channels vars ss i s within is left) (decides.0 so)
 
-pub member_wrong : (channels : List Channel) (vars : List Var) (ss : List TStmt) (i : ℕ) (s : TStmt) (r : Bool) → i < length ss → s ≡ get_or ss i s → MembersLeft channels vars ss i → Decides r (IsProcess channels vars (process_of s)) → r ≡ false → ¬ AreProcesses channels vars (members_of ss)
+pub member_wrong : (channels : List Channel) (vars : List Var) (ss : List TStmt) (i : ℕ) (s : TStmt) (r : Bool) → i < length ss → s ≡ get_or ss i s →
+    MembersLeft channels vars ss i → Decides r (IsProcess channels vars (process_of s)) → r ≡ false → ¬ AreProcesses channels vars (members_of ss)
 member_wrong channels vars ss i s r within is left decides so = one_wrong _ _ _ (member_here channels vars ss i s within is left) (not_so r _ decides so)
 
-pub all_members : (channels : List Channel) (vars : List Var) (ss : List TStmt) (i : ℕ) → length ss ≤ i → MembersLeft channels vars ss i → AreProcesses channels vars (members_of ss)
+pub all_members : (channels : List Channel) (vars : List Var) (ss : List TStmt) (i : ℕ) → length ss ≤ i → MembersLeft channels vars ss i →
+    AreProcesses channels vars (members_of ss)
 all_members channels vars ss i all left =
     let e : drop i ss ≡ [] = drop_all i ss all in
     (subst (λ (rest : List TStmt). Alike (AreProcesses channels vars (members_of ss)) (AreProcesses channels vars (members_of rest))) e left).whole tt
 
-arm_here : (channels : List Channel) (vars : List Var) (arms : List TArm) (i : ℕ) (a : TArm) → i < length arms → a ≡ get_or arms i a → ArmsLeft channels vars arms i → Alike (AreChoices channels vars (arms_of arms)) (IsOfWidth vars 1 (formula_of a.guard) × IsProcess channels vars (process_of a.body) × AreChoices channels vars (arms_of (drop (i + 1) arms)))
+arm_here : (channels : List Channel) (vars : List Var) (arms : List TArm) (i : ℕ) (a : TArm) → i < length arms → a ≡ get_or arms i a →
+    ArmsLeft channels vars arms i → Alike (AreChoices channels vars (arms_of arms)) (IsOfWidth vars 1 (formula_of a.guard)
+    × IsProcess channels vars (process_of a.body) × AreChoices channels vars (arms_of (drop (i + 1) arms)))
 arm_here channels vars arms i a within is =
     let e : drop i arms ≡ a ∷ drop (i + 1) arms = drop_more arms i a within ∙ ap (λ x. x ∷ drop (i + 1) arms) (sym is) in
     subst (λ (rest : List TArm). Alike (AreChoices channels vars (arms_of arms)) (AreChoices channels vars (arms_of rest))) e
 
-pub arm_more : (channels : List Channel) (vars : List Var) (arms : List TArm) (i : ℕ) (a : TArm) (g b : Bool) → i < length arms → a ≡ get_or arms i a → ArmsLeft channels vars arms i → Decides g (IsOfWidth vars 1 (formula_of a.guard)) → g ≡ true → Decides b (IsProcess channels vars (process_of a.body)) → b ≡ true → ArmsLeft channels vars arms (i + 1)
-arm_more channels vars arms i a g b within is left guards g_so bodies b_so = two_less _ _ _ _ (arm_here channels vars arms i a within is left) (guards.0 g_so) (bodies.0 b_so)
+pub arm_more : (channels : List Channel) (vars : List Var) (arms : List TArm) (i : ℕ) (a : TArm) (g b : Bool) → i < length arms → a ≡ get_or arms i a →
+    ArmsLeft channels vars arms i → Decides g (IsOfWidth vars 1 (formula_of a.guard)) → g ≡ true → Decides b (IsProcess channels vars (process_of a.body)) →
+    b ≡ true → ArmsLeft channels vars arms (i + 1)
+arm_more channels vars arms i a g b within is left guards g_so bodies b_so =
+    two_less _ _ _ _ (arm_here channels vars arms i a within is left) (guards.0 g_so) (bodies.0 b_so)
 
-pub guard_wrong : (channels : List Channel) (vars : List Var) (arms : List TArm) (i : ℕ) (a : TArm) (g : Bool) → i < length arms → a ≡ get_or arms i a → ArmsLeft channels vars arms i → Decides g (IsOfWidth vars 1 (formula_of a.guard)) → g ≡ false → ¬ AreChoices channels vars (arms_of arms)
+pub guard_wrong : (channels : List Channel) (vars : List Var) (arms : List TArm) (i : ℕ) (a : TArm) (g : Bool) → i < length arms → a ≡ get_or arms i a →
+    ArmsLeft channels vars arms i → Decides g (IsOfWidth vars 1 (formula_of a.guard)) → g ≡ false → ¬ AreChoices channels vars (arms_of arms)
 guard_wrong channels vars arms i a g within is left decides so = first_wrong _ _ _ _ (arm_here channels vars arms i a within is left) (not_so g _ decides so)
 
-pub body_wrong : (channels : List Channel) (vars : List Var) (arms : List TArm) (i : ℕ) (a : TArm) (b : Bool) → i < length arms → a ≡ get_or arms i a → ArmsLeft channels vars arms i → Decides b (IsProcess channels vars (process_of a.body)) → b ≡ false → ¬ AreChoices channels vars (arms_of arms)
+pub body_wrong : (channels : List Channel) (vars : List Var) (arms : List TArm) (i : ℕ) (a : TArm) (b : Bool) → i < length arms → a ≡ get_or arms i a →
+    ArmsLeft channels vars arms i → Decides b (IsProcess channels vars (process_of a.body)) → b ≡ false → ¬ AreChoices channels vars (arms_of arms)
 body_wrong channels vars arms i a b within is left decides so = second_wrong _ _ _ _ (arm_here channels vars arms i a within is left) (not_so b _ decides so)
 
-pub all_arms : (channels : List Channel) (vars : List Var) (arms : List TArm) (i : ℕ) → length arms ≤ i → ArmsLeft channels vars arms i → AreChoices channels vars (arms_of arms)
+pub all_arms : (channels : List Channel) (vars : List Var) (arms : List TArm) (i : ℕ) → length arms ≤ i → ArmsLeft channels vars arms i →
+    AreChoices channels vars (arms_of arms)
 all_arms channels vars arms i all left =
     let e : drop i arms ≡ [] = drop_all i arms all in
     (subst (λ (rest : List TArm). Alike (AreChoices channels vars (arms_of arms)) (AreChoices channels vars (arms_of rest))) e left).whole tt
@@ -106,30 +119,43 @@ same_answer r P p q is = subst (λ x. Decides r (P x)) (sym is)
 two : (r : Bool) (n : ℕ) → Decides r (2 ≤ n) → (P : Type 0) → P → Decides r ((2 ≤ n) × P)
 two r n decides P all = (λ so. (decides.0 so, all), λ whole. decides.1 whole.0)
 
-pub then_no : (channels : List Channel) (vars : List Var) (s : TStmt) (v : Vec TStmt Global) (ss : List TStmt) → s ≡ Then v → ss ≡ v.items → ¬ AreProcesses channels vars (members_of ss) → Decides false (IsProcess channels vars (process_of s))
+pub then_no : (channels : List Channel) (vars : List Var) (s : TStmt) (v : Vec TStmt Global) (ss : List TStmt) → s ≡ Then v → ss ≡ v.items →
+    ¬ AreProcesses channels vars (members_of ss) → Decides false (IsProcess channels vars (process_of s))
 then_no channels vars s v ss is items wrong =
-    same_answer false (IsProcess channels vars) _ (in_turn (members_of ss)) (then_is s v is ∙ ap (λ xs. in_turn (members_of xs)) (sym items)) (fails _ (λ whole. wrong whole.1))
+    same_answer false (IsProcess channels vars) _ (in_turn (members_of ss)) (then_is s v is ∙ ap (λ xs. in_turn (members_of xs)) (sym items))
+        (fails _ (λ whole. wrong whole.1))
 
-pub beside_no : (channels : List Channel) (vars : List Var) (s : TStmt) (v : Vec TStmt Global) (ss : List TStmt) → s ≡ Beside v → ss ≡ v.items → ¬ AreProcesses channels vars (members_of ss) → Decides false (IsProcess channels vars (process_of s))
+pub beside_no : (channels : List Channel) (vars : List Var) (s : TStmt) (v : Vec TStmt Global) (ss : List TStmt) → s ≡ Beside v → ss ≡ v.items →
+    ¬ AreProcesses channels vars (members_of ss) → Decides false (IsProcess channels vars (process_of s))
 beside_no channels vars s v ss is items wrong =
-    same_answer false (IsProcess channels vars) _ (side_by_side (members_of ss)) (beside_is s v is ∙ ap (λ xs. side_by_side (members_of xs)) (sym items)) (fails _ (λ whole. wrong whole.1))
+    same_answer false (IsProcess channels vars) _ (side_by_side (members_of ss)) (beside_is s v is ∙ ap (λ xs. side_by_side (members_of xs)) (sym items))
+        (fails _ (λ whole. wrong whole.1))
 
-pub select_no : (channels : List Channel) (vars : List Var) (s : TStmt) (again : Bool) (v : Vec TArm Global) (arms : List TArm) → s ≡ Select again v → arms ≡ v.items → ¬ AreChoices channels vars (arms_of arms) → Decides false (IsProcess channels vars (process_of s))
+pub select_no : (channels : List Channel) (vars : List Var) (s : TStmt) (again : Bool) (v : Vec TArm Global) (arms : List TArm) → s ≡ Select again v →
+    arms ≡ v.items → ¬ AreChoices channels vars (arms_of arms) → Decides false (IsProcess channels vars (process_of s))
 select_no channels vars s again v arms is items wrong =
-    same_answer false (IsProcess channels vars) _ (choosing again (arms_of arms)) (select_is s again v is ∙ ap (λ xs. choosing again (arms_of xs)) (sym items)) (fails _ (λ whole. wrong whole.2))
+    same_answer false (IsProcess channels vars) _ (choosing again (arms_of arms)) (select_is s again v is ∙ ap (λ xs. choosing again (arms_of xs)) (sym items))
+        (fails _ (λ whole. wrong whole.2))
 
-pub then_so : (channels : List Channel) (vars : List Var) (s : TStmt) (v : Vec TStmt Global) (ss : List TStmt) (r : Bool) → s ≡ Then v → ss ≡ v.items → AreProcesses channels vars (members_of ss) → Decides r (2 ≤ length ss) → Decides r (IsProcess channels vars (process_of s))
+pub then_so : (channels : List Channel) (vars : List Var) (s : TStmt) (v : Vec TStmt Global) (ss : List TStmt) (r : Bool) → s ≡ Then v → ss ≡ v.items →
+    AreProcesses channels vars (members_of ss) → Decides r (2 ≤ length ss) → Decides r (IsProcess channels vars (process_of s))
 then_so channels vars s v ss r is items all decides =
-    same_answer r (IsProcess channels vars) _ (in_turn (members_of ss)) (then_is s v is ∙ ap (λ xs. in_turn (members_of xs)) (sym items)) (two r _ (subst (λ n. Decides r (2 ≤ n)) (sym (members_counted ss)) decides) _ all)
+    same_answer r (IsProcess channels vars) _ (in_turn (members_of ss)) (then_is s v is ∙ ap (λ xs. in_turn (members_of xs)) (sym items))
+        (two r _ (subst (λ n. Decides r (2 ≤ n)) (sym (members_counted ss)) decides) _ all)
 
-pub beside_so : (channels : List Channel) (vars : List Var) (s : TStmt) (v : Vec TStmt Global) (ss : List TStmt) (r : Bool) → s ≡ Beside v → ss ≡ v.items → AreProcesses channels vars (members_of ss) → Decides r (2 ≤ length ss) → Decides r (IsProcess channels vars (process_of s))
+pub beside_so : (channels : List Channel) (vars : List Var) (s : TStmt) (v : Vec TStmt Global) (ss : List TStmt) (r : Bool) → s ≡ Beside v → ss ≡ v.items →
+    AreProcesses channels vars (members_of ss) → Decides r (2 ≤ length ss) → Decides r (IsProcess channels vars (process_of s))
 beside_so channels vars s v ss r is items all decides =
-    same_answer r (IsProcess channels vars) _ (side_by_side (members_of ss)) (beside_is s v is ∙ ap (λ xs. side_by_side (members_of xs)) (sym items)) (two r _ (subst (λ n. Decides r (2 ≤ n)) (sym (members_counted ss)) decides) _ all)
+    same_answer r (IsProcess channels vars) _ (side_by_side (members_of ss)) (beside_is s v is ∙ ap (λ xs. side_by_side (members_of xs)) (sym items))
+        (two r _ (subst (λ n. Decides r (2 ≤ n)) (sym (members_counted ss)) decides) _ all)
 
-pub select_so : (channels : List Channel) (vars : List Var) (s : TStmt) (again : Bool) (v : Vec TArm Global) (arms : List TArm) (r : Bool) → s ≡ Select again v → arms ≡ v.items → AreChoices channels vars (arms_of arms) → Decides r ((1 ≤ length arms) × (length arms ≤ 16)) → Decides r (IsProcess channels vars (process_of s))
+pub select_so : (channels : List Channel) (vars : List Var) (s : TStmt) (again : Bool) (v : Vec TArm Global) (arms : List TArm) (r : Bool) →
+    s ≡ Select again v → arms ≡ v.items → AreChoices channels vars (arms_of arms) → Decides r ((1 ≤ length arms) × (length arms ≤ 16)) →
+    Decides r (IsProcess channels vars (process_of s))
 select_so channels vars s again v arms r is items all decides =
     let counted = subst (λ n. Decides r ((1 ≤ n) × (n ≤ 16))) (sym (arms_counted arms)) decides in
-    same_answer r (IsProcess channels vars) _ (choosing again (arms_of arms)) (select_is s again v is ∙ ap (λ xs. choosing again (arms_of xs)) (sym items)) (λ so. let count = counted.0 so in (count.0, count.1, all), λ whole. counted.1 (whole.0, whole.1))
+    same_answer r (IsProcess channels vars) _ (choosing again (arms_of arms)) (select_is s again v is ∙ ap (λ xs. choosing again (arms_of xs)) (sym items))
+        (λ so. let count = counted.0 so in (count.0, count.1, all), λ whole. counted.1 (whole.0, whole.1))
 
 pub at_least : (k r n : ℕ) → r ≡ n → Decides (leb k r) (k ≤ n)
 at_least k r n is = (λ so. let below = leb-true k r so in omega arith, λ below. le-leb k r (omega arith))
@@ -144,26 +170,32 @@ below_range r n is none =
 
 -- what a number names
 
-pub assign_decided : (vars : List Var) (var : ℕ) (v : Var) (e : Formula) (r : Bool) → true ≡ ltb var (length vars) → v ≡ get_or vars var v → Decides r (IsOfWidth vars v.width e) → Decides r ((var < length vars) × IsOfWidth vars (var_width vars var) e)
+pub assign_decided : (vars : List Var) (var : ℕ) (v : Var) (e : Formula) (r : Bool) → true ≡ ltb var (length vars) → v ≡ get_or vars var v →
+    Decides r (IsOfWidth vars v.width e) → Decides r ((var < length vars) × IsOfWidth vars (var_width vars var) e)
 assign_decided vars var v e r there is decides =
     let within = ltb-true var (length vars) (sym there) in
     let same = var_found vars var v within is in
     (λ so. (within, subst (λ n. IsOfWidth vars n e) same (decides.0 so)), λ whole. decides.1 (subst (λ n. IsOfWidth vars n e) (sym same) whole.1))
 
-pub send_decided : (channels : List Channel) (vars : List Var) (c : ℕ) (channel : Channel) (e : Formula) (r : Bool) → true ≡ ltb c (length channels) → channel ≡ get_or channels c channel → channel.kind ≢ In → Decides r (IsOfWidth vars channel.width e) → Decides r (IsSend channels vars c e)
+pub send_decided : (channels : List Channel) (vars : List Var) (c : ℕ) (channel : Channel) (e : Formula) (r : Bool) → true ≡ ltb c (length channels) →
+    channel ≡ get_or channels c channel → channel.kind ≢ In → Decides r (IsOfWidth vars channel.width e) → Decides r (IsSend channels vars c e)
 send_decided channels vars c channel e r there is sends decides =
     let within = ltb-true c (length channels) (sym there) in
     let same = channel_found channels c channel within is in
     let kind = kind_found channels c channel within is in
-    (λ so. record { within = within; direction = subst (λ k. k ≢ In) kind sends; sent = subst (λ n. IsOfWidth vars n e) same (decides.0 so) }, λ whole. decides.1 (subst (λ n. IsOfWidth vars n e) (sym same) whole.sent))
+    (λ so. record { within = within; direction = subst (λ k. k ≢ In) kind sends; sent = subst (λ n. IsOfWidth vars n e) same (decides.0 so) },
+        λ whole. decides.1 (subst (λ n. IsOfWidth vars n e) (sym same) whole.sent))
 
-pub send_refused : (channels : List Channel) (vars : List Var) (c : ℕ) (channel : Channel) (e : Formula) (r : Bool) → true ≡ ltb c (length channels) → channel ≡ get_or channels c channel → Decides r (channel.kind ≢ In) → r ≡ false → Decides r (IsSend channels vars c e)
+pub send_refused : (channels : List Channel) (vars : List Var) (c : ℕ) (channel : Channel) (e : Formula) (r : Bool) → true ≡ ltb c (length channels) →
+    channel ≡ get_or channels c channel → Decides r (channel.kind ≢ In) → r ≡ false → Decides r (IsSend channels vars c e)
 send_refused channels vars c channel e r there is decides so =
     let within = ltb-true c (length channels) (sym there) in
     let kind = kind_found channels c channel within is in
     (λ t. absurd (cc (t, so)), λ whole. absurd (not_so r _ decides so (subst (λ k. k ≢ In) (sym kind) whole.direction)))
 
-pub receive_decided : (channels : List Channel) (vars : List Var) (c var : ℕ) (channel : Channel) (v : Var) → true ≡ ltb c (length channels) → channel ≡ get_or channels c channel → true ≡ ltb var (length vars) → v ≡ get_or vars var v → channel.kind ≢ Out → Decides (nat_eq v.width channel.width) (IsReceive channels vars c var)
+pub receive_decided : (channels : List Channel) (vars : List Var) (c var : ℕ) (channel : Channel) (v : Var) → true ≡ ltb c (length channels) →
+    channel ≡ get_or channels c channel → true ≡ ltb var (length vars) → v ≡ get_or vars var v → channel.kind ≢ Out →
+    Decides (nat_eq v.width channel.width) (IsReceive channels vars c var)
 receive_decided channels vars c var channel v there is target declared receives =
     let within = ltb-true c (length channels) (sym there) in
     let owned = ltb-true var (length vars) (sym target) in
@@ -171,9 +203,11 @@ receive_decided channels vars c var channel v there is target declared receives 
     let same = var_found vars var v owned declared in
     let kind = kind_found channels c channel within is in
     let test = Decides-eqb v.width channel.width in
-    (λ so. record { within = within; direction = subst (λ k. k ≢ Out) kind receives; target = owned; widths = sym same ∙ (test.0 so ∙ wide) }, λ whole. test.1 (same ∙ (whole.widths ∙ sym wide)))
+    (λ so. record { within = within; direction = subst (λ k. k ≢ Out) kind receives; target = owned; widths = sym same ∙ (test.0 so ∙ wide) },
+        λ whole. test.1 (same ∙ (whole.widths ∙ sym wide)))
 
-pub receive_refused : (channels : List Channel) (vars : List Var) (c var : ℕ) (channel : Channel) (r : Bool) → true ≡ ltb c (length channels) → channel ≡ get_or channels c channel → Decides r (channel.kind ≢ Out) → r ≡ false → Decides r (IsReceive channels vars c var)
+pub receive_refused : (channels : List Channel) (vars : List Var) (c var : ℕ) (channel : Channel) (r : Bool) → true ≡ ltb c (length channels) →
+    channel ≡ get_or channels c channel → Decides r (channel.kind ≢ Out) → r ≡ false → Decides r (IsReceive channels vars c var)
 receive_refused channels vars c var channel r there is decides so =
     let within = ltb-true c (length channels) (sym there) in
     let kind = kind_found channels c channel within is in

@@ -43,7 +43,8 @@ one_width vars w v e one other = sym one.agrees ∙ other.agrees
 pub constant_over : (vars : List Var) (w v : ℕ) → 1 ≤ w → w ≤ 64 → v < 2 ^ w → IsOfWidth vars w (constant w v)
 constant_over vars w v some most fits = record { formed = (some, most, fits); reads = tt; agrees = refl }
 
-pub reading_over : (vars : List Var) (var high low : ℕ) (at : Span) → var < length vars → high < var_width vars var → low ≤ high → high ≤ 63 → IsOfWidth vars (high + 1 - low) (reading var high low at)
+pub reading_over : (vars : List Var) (var high low : ℕ) (at : Span) → var < length vars → high < var_width vars var → low ≤ high → high ≤ 63 →
+    IsOfWidth vars (high + 1 - low) (reading var high low at)
 reading_over vars var high low at there within ordered most = record { formed = (ordered, most); reads = (there, within); agrees = refl }
 
 pub inverted_over : (vars : List Var) (w : ℕ) (e : Formula) → IsOfWidth vars w e → IsOfWidth vars w (inverted e)
@@ -79,7 +80,8 @@ pub record IsJoining (vars : List Var) (parts left : Formulas) (width : ℕ) : T
 pub join_begun : (vars : List Var) (parts : Formulas) → IsJoining vars parts parts 0
 join_begun vars parts = record { sum = omega arith; most = omega arith; same = record { whole = λ all. all; rest = λ all. all } }
 
-pub join_more : (vars : List Var) (parts : Formulas) (e : Formula) (left : Formulas) (w v : ℕ) → IsJoining vars parts (and_part e left) w → IsOfWidth vars v e → w + v ≤ 64 → IsJoining vars parts left (w + v)
+pub join_more : (vars : List Var) (parts : Formulas) (e : Formula) (left : Formulas) (w v : ℕ) → IsJoining vars parts (and_part e left) w → IsOfWidth vars v e →
+    w + v ≤ 64 → IsJoining vars parts left (w + v)
 join_more vars parts e left w v so_far is most = record {
   sum = omega (arith, so_far.sum, is.agrees);
   most = most;
@@ -89,12 +91,14 @@ join_more vars parts e left w v so_far is most = record {
   };
 }
 
-pub join_wrong : (vars : List Var) (parts : Formulas) (e : Formula) (left : Formulas) (w : ℕ) → IsJoining vars parts (and_part e left) w → ((v : ℕ) → ¬ IsOfWidth vars v e) → (u : ℕ) → ¬ IsOfWidth vars u (joined parts)
+pub join_wrong : (vars : List Var) (parts : Formulas) (e : Formula) (left : Formulas) (w : ℕ) → IsJoining vars parts (and_part e left) w →
+    ((v : ℕ) → ¬ IsOfWidth vars v e) → (u : ℕ) → ¬ IsOfWidth vars u (joined parts)
 join_wrong vars parts e left w so_far wrong u is =
     let rest = so_far.same.rest (record { formed = is.formed.2; read = is.reads }) in
     wrong (width_of e) (record { formed = rest.formed.0; reads = rest.read.0; agrees = refl })
 
-pub join_wide : (vars : List Var) (parts : Formulas) (e : Formula) (left : Formulas) (w v : ℕ) → IsJoining vars parts (and_part e left) w → IsOfWidth vars v e → 64 < w + v → (u : ℕ) → ¬ IsOfWidth vars u (joined parts)
+pub join_wide : (vars : List Var) (parts : Formulas) (e : Formula) (left : Formulas) (w v : ℕ) → IsJoining vars parts (and_part e left) w → IsOfWidth vars v e →
+    64 < w + v → (u : ℕ) → ¬ IsOfWidth vars u (joined parts)
 join_wide vars parts e left w v so_far is wide u whole = absurd (omega (arith, so_far.sum, is.agrees, whole.formed.1))
 
 some_parts : (parts : Formulas) → 1 ≤ widths_of parts → 1 ≤ part_count parts
@@ -112,10 +116,12 @@ join_empty vars parts w so_far none u is =
     let some = widths_some parts is.formed.0 is.formed.2 in
     absurd (omega (arith, so_far.sum))
 
-pub join_at : (vars : List Var) (es : List TExpr) (i : ℕ) (e : TExpr) (w : ℕ) → i < length es → e ≡ get_or es i e → IsJoining vars (parts_of es) (parts_of (drop i es)) w → IsJoining vars (parts_of es) (and_part (formula_of e) (parts_of (drop (i + 1) es))) w
+pub join_at : (vars : List Var) (es : List TExpr) (i : ℕ) (e : TExpr) (w : ℕ) → i < length es → e ≡ get_or es i e →
+    IsJoining vars (parts_of es) (parts_of (drop i es)) w → IsJoining vars (parts_of es) (and_part (formula_of e) (parts_of (drop (i + 1) es))) w
 join_at vars es i e w within is = subst (λ ps. IsJoining vars (parts_of es) ps w) (part_at es i e within is)
 
-pub join_end : (vars : List Var) (es : List TExpr) (i w : ℕ) → length es ≤ i → IsJoining vars (parts_of es) (parts_of (drop i es)) w → IsJoining vars (parts_of es) no_parts w
+pub join_end : (vars : List Var) (es : List TExpr) (i w : ℕ) → length es ≤ i → IsJoining vars (parts_of es) (parts_of (drop i es)) w →
+    IsJoining vars (parts_of es) no_parts w
 join_end vars es i w all = subst (λ ps. IsJoining vars (parts_of es) ps w) (no_more_parts es i all)
 
 -- chains
@@ -125,7 +131,9 @@ pub record AreLinks (vars : List Var) (width : ℕ) (links : Operations) : Type 
   pub formed : AreOperations width links
   pub read : AllReadFrom vars links
 
-pub links_more : (vars : List Var) (w : ℕ) (links : Operations) (op : Op) (e : Formula) (left : Operations) → Alike (AreLinks vars w links) (AreLinks vars w (and_operation op e left)) → is_comparison op ≡ false → IsOfWidth vars w e → Alike (AreLinks vars w links) (AreLinks vars w left)
+pub links_more : (vars : List Var) (w : ℕ) (links : Operations) (op : Op) (e : Formula) (left : Operations) →
+    Alike (AreLinks vars w links) (AreLinks vars w (and_operation op e left)) → is_comparison op ≡ false → IsOfWidth vars w e →
+    Alike (AreLinks vars w links) (AreLinks vars w left)
 links_more vars w links op e left same plain is = record {
   whole = λ rest. same.whole (record { formed = (plain, is.agrees, is.formed, rest.formed); read = (is.reads, rest.read) });
   rest = λ all. let rest = same.rest all in record { formed = rest.formed.3; read = rest.read.1 };
@@ -138,42 +146,57 @@ chain_parts vars u e links is = record { formed = is.formed.2; read = is.reads.1
 pub chain_first : (vars : List Var) (u : ℕ) (e : Formula) (links : Operations) → IsOfWidth vars u (chained e links) → IsOfWidth vars u e
 chain_first vars u e links is = record { formed = is.formed.0; reads = is.reads.0; agrees = is.agrees }
 
-pub chain_compares : (vars : List Var) (w u : ℕ) (first : Formula) (links : Operations) (op : Op) (e : Formula) (left : Operations) → Alike (AreLinks vars w links) (AreLinks vars w (and_operation op e left)) → IsOfWidth vars w first → is_comparison op ≡ true → ¬ IsOfWidth vars u (chained first links)
+pub chain_compares : (vars : List Var) (w u : ℕ) (first : Formula) (links : Operations) (op : Op) (e : Formula) (left : Operations) →
+    Alike (AreLinks vars w links) (AreLinks vars w (and_operation op e left)) → IsOfWidth vars w first → is_comparison op ≡ true →
+    ¬ IsOfWidth vars u (chained first links)
 chain_compares vars w u first links op e left same is compares whole =
     let rest = same.rest (subst (λ n. AreLinks vars n links) is.agrees (chain_parts vars u first links whole)) in
     let plain = rest.formed.0 in
     absurd (cc)
 
-pub chain_wrong : (vars : List Var) (w u : ℕ) (first : Formula) (links : Operations) (op : Op) (e : Formula) (left : Operations) → Alike (AreLinks vars w links) (AreLinks vars w (and_operation op e left)) → IsOfWidth vars w first → ¬ IsOfWidth vars w e → ¬ IsOfWidth vars u (chained first links)
+pub chain_wrong : (vars : List Var) (w u : ℕ) (first : Formula) (links : Operations) (op : Op) (e : Formula) (left : Operations) →
+    Alike (AreLinks vars w links) (AreLinks vars w (and_operation op e left)) → IsOfWidth vars w first → ¬ IsOfWidth vars w e →
+    ¬ IsOfWidth vars u (chained first links)
 chain_wrong vars w u first links op e left same is wrong whole =
     let rest = same.rest (subst (λ n. AreLinks vars n links) is.agrees (chain_parts vars u first links whole)) in
     wrong (record { formed = rest.formed.2; reads = rest.read.0; agrees = rest.formed.1 })
 
-pub chain_done : (vars : List Var) (w : ℕ) (first : Formula) (links : Operations) → Alike (AreLinks vars w links) (AreLinks vars w no_operations) → IsOfWidth vars w first → 1 ≤ operation_count links → IsOfWidth vars w (chained first links)
+pub chain_done : (vars : List Var) (w : ℕ) (first : Formula) (links : Operations) → Alike (AreLinks vars w links) (AreLinks vars w no_operations) →
+    IsOfWidth vars w first → 1 ≤ operation_count links → IsOfWidth vars w (chained first links)
 chain_done vars w first links same is some =
     let all = subst (λ n. AreLinks vars n links) (sym is.agrees) (same.whole (record { formed = tt; read = tt })) in
     record { formed = (is.formed, some, all.formed); reads = (is.reads, all.read); agrees = is.agrees }
 
-pub links_at : (vars : List Var) (w : ℕ) (ls : List TLink) (i : ℕ) (l : TLink) → i < length ls → l ≡ get_or ls i l → Alike (AreLinks vars w (links_of ls)) (AreLinks vars w (links_of (drop i ls))) → Alike (AreLinks vars w (links_of ls)) (AreLinks vars w (and_operation l.op (formula_of l.right) (links_of (drop (i + 1) ls))))
+pub links_at : (vars : List Var) (w : ℕ) (ls : List TLink) (i : ℕ) (l : TLink) → i < length ls → l ≡ get_or ls i l →
+    Alike (AreLinks vars w (links_of ls)) (AreLinks vars w (links_of (drop i ls))) →
+    Alike (AreLinks vars w (links_of ls)) (AreLinks vars w (and_operation l.op (formula_of l.right) (links_of (drop (i + 1) ls))))
 links_at vars w ls i l within is = subst (λ ops. Alike (AreLinks vars w (links_of ls)) (AreLinks vars w ops)) (link_at ls i l within is)
 
-pub links_end : (vars : List Var) (w : ℕ) (ls : List TLink) (i : ℕ) → length ls ≤ i → Alike (AreLinks vars w (links_of ls)) (AreLinks vars w (links_of (drop i ls))) → Alike (AreLinks vars w (links_of ls)) (AreLinks vars w no_operations)
+pub links_end : (vars : List Var) (w : ℕ) (ls : List TLink) (i : ℕ) → length ls ≤ i →
+    Alike (AreLinks vars w (links_of ls)) (AreLinks vars w (links_of (drop i ls))) → Alike (AreLinks vars w (links_of ls)) (AreLinks vars w no_operations)
 links_end vars w ls i all = subst (λ ops. Alike (AreLinks vars w (links_of ls)) (AreLinks vars w ops)) (no_more_links ls i all)
 
 pub links_counted : (ls : List TLink) → operation_count (links_of ls) ≡ length ls
 links_counted [] = refl
 links_counted (l ∷ ls) = ap suc (links_counted ls)
 
-pub chain_none : (vars : List Var) (w u : ℕ) (first : Formula) (links : Operations) (op : Op) (e : Formula) (left : Operations) → Alike (AreLinks vars w links) (AreLinks vars w (and_operation op e left)) → IsOfWidth vars w first → ((v : ℕ) → ¬ IsOfWidth vars v e) → ¬ IsOfWidth vars u (chained first links)
+pub chain_none : (vars : List Var) (w u : ℕ) (first : Formula) (links : Operations) (op : Op) (e : Formula) (left : Operations) →
+    Alike (AreLinks vars w links) (AreLinks vars w (and_operation op e left)) → IsOfWidth vars w first → ((v : ℕ) → ¬ IsOfWidth vars v e) →
+    ¬ IsOfWidth vars u (chained first links)
 chain_none vars w u first links op e left same is wrong = chain_wrong vars w u first links op e left same is (wrong w)
 
-pub chain_other : (vars : List Var) (w v u : ℕ) (first : Formula) (links : Operations) (op : Op) (e : Formula) (left : Operations) → Alike (AreLinks vars w links) (AreLinks vars w (and_operation op e left)) → IsOfWidth vars w first → IsOfWidth vars v e → v ≢ w → ¬ IsOfWidth vars u (chained first links)
-chain_other vars w v u first links op e left same is right differ = chain_wrong vars w u first links op e left same is (λ other. differ (one_width vars v w e right other))
+pub chain_other : (vars : List Var) (w v u : ℕ) (first : Formula) (links : Operations) (op : Op) (e : Formula) (left : Operations) →
+    Alike (AreLinks vars w links) (AreLinks vars w (and_operation op e left)) → IsOfWidth vars w first → IsOfWidth vars v e → v ≢ w →
+    ¬ IsOfWidth vars u (chained first links)
+chain_other vars w v u first links op e left same is right differ =
+    chain_wrong vars w u first links op e left same is (λ other. differ (one_width vars v w e right other))
 
 -- comparisons
 
-pub compared_over : (vars : List Var) (w v : ℕ) (op : Op) (e f : Formula) → IsOfWidth vars w e → IsOfWidth vars v f → w ≡ v → is_comparison op ≡ true → IsOfWidth vars 1 (compared op e f)
-compared_over vars w v op e f left right same is = record { formed = (is, right.agrees ∙ sym (left.agrees ∙ same), left.formed, right.formed); reads = (left.reads, right.reads); agrees = refl }
+pub compared_over : (vars : List Var) (w v : ℕ) (op : Op) (e f : Formula) → IsOfWidth vars w e → IsOfWidth vars v f → w ≡ v → is_comparison op ≡ true →
+    IsOfWidth vars 1 (compared op e f)
+compared_over vars w v op e f left right same is = record { formed = (is, right.agrees ∙ sym (left.agrees ∙ same), left.formed, right.formed); reads =
+    (left.reads, right.reads); agrees = refl }
 
 pub record IsComparing (vars : List Var) (op : Op) (e f : Formula) : Type 0 where
   pub compares : is_comparison op ≡ true

@@ -83,7 +83,8 @@ HasPart decls (and_part e more) s = ((own_width decls e ≡ None) × (s ≡ span
 -- a part of a join without an own width, at the part, or a comparison of which neither side has one
 abbrev pub LacksWidth : List Decl → Expression → Span → Type 0
 LacksWidth decls (join parts at) s = HasPart decls parts s
-LacksWidth decls (chain e more at) s = (compares more ≡ true) × (or_width (own_width decls e) (first_width decls more) ≡ None) × (s ≡ at)
+LacksWidth decls (chain e more at) s =
+    (compares more ≡ true) × (or_width (own_width decls e) (first_width decls more) ≡ None) × (s ≡ at)
 LacksWidth decls _ s = ⊥
 
 pub record IsOfUnknownWidth (p : ProgramTree) (s : Span) : Type 0 where
@@ -101,7 +102,8 @@ IsWideJoin decls _ = ⊥
 
 -- an own width that isn't the expected one, or a join that is too wide
 abbrev pub IsMisfit : List Decl → Expected → Type 0
-IsMisfit decls leaf = ((w : ℕ) × (own_width decls leaf.expression ≡ Some w) × (w ≢ leaf.width)) ⊎ IsWideJoin decls leaf.expression
+IsMisfit decls leaf = ((w : ℕ) × (own_width decls leaf.expression ≡ Some w) × (w ≢ leaf.width)) ⊎ IsWideJoin decls
+    leaf.expression
 
 pub record IsMisfitLeaf (p : ProgramTree) (s : Span) : Type 0 where
   pub leaf : Expected
@@ -145,7 +147,8 @@ FaultAt p _ s = ⊥
 
 -- the causes in the order in which they are tested
 abbrev pub naming_faults : List FaultCode
-naming_faults = code.DoubleName ∷ code.WidthRange ∷ code.Undeclared ∷ code.WrongKind ∷ code.Direction ∷ code.BadSlice ∷ code.UnknownWidth ∷ code.Width ∷ code.ConstantTooWide ∷ []
+naming_faults = code.DoubleName ∷ code.WidthRange ∷ code.Undeclared ∷ code.WrongKind ∷ code.Direction ∷ code.BadSlice
+    ∷ code.UnknownWidth ∷ code.Width ∷ code.ConstantTooWide ∷ []
 
 -- none of these causes holds anywhere
 abbrev pub HasNone : ProgramTree → List FaultCode → Type 0
@@ -155,4 +158,5 @@ HasNone p (c ∷ cs) = ((s : Span) → ¬ FaultAt p c s) × HasNone p cs
 -- the first of the causes that holds anywhere, at its first place
 abbrev pub IsFirstFault : ProgramTree → List FaultCode → FaultCode → Span → Type 0
 IsFirstFault p [] c s = ⊥
-IsFirstFault p (d ∷ ds) c s = ((c ≡ d) × IsFirst (FaultAt p d) s) ⊎ (((t : Span) → ¬ FaultAt p d t) × IsFirstFault p ds c s)
+IsFirstFault p (d ∷ ds) c s = ((c ≡ d) × IsFirst (FaultAt p d) s) ⊎ (((t : Span) → ¬ FaultAt p d t)
+    × IsFirstFault p ds c s)

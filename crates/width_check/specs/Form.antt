@@ -57,23 +57,30 @@ abbrev mutual
   formula_form decls w (join parts at) = joined (parts_form decls parts)
   formula_form decls w (negation e at) = inverted (formula_form decls w e)
   formula_form decls w (chain e more at) =
-      if compares more then compared_with (formula_form decls (unwrap_or (or_width (own_width decls e) (first_width decls more)) 0) e) (operations_form decls (unwrap_or (or_width (own_width decls e) (first_width decls more)) 0) more)
+      if compares more then compared_with
+          (formula_form decls (unwrap_or (or_width (own_width decls e) (first_width decls more)) 0) e)
+          (operations_form decls (unwrap_or (or_width (own_width decls e) (first_width decls more)) 0) more)
       else chained (formula_form decls w e) (operations_form decls w more)
 
   pub parts_form : List Decl → Expressions → Formulas
   parts_form decls plain.no_parts = no_parts
-  parts_form decls (plain.and_part e more) = and_part (formula_form decls (unwrap_or (own_width decls e) 0) e) (parts_form decls more)
+  parts_form decls (plain.and_part e more) =
+      and_part (formula_form decls (unwrap_or (own_width decls e) 0) e) (parts_form decls more)
 
   pub operations_form : List Decl → ℕ → Links → Operations
   operations_form decls w no_links = no_operations
-  operations_form decls w (and_link op e more) = and_operation op (formula_form decls w e) (operations_form decls w more)
+  operations_form decls w (and_link op e more) =
+      and_operation op (formula_form decls w e) (operations_form decls w more)
 
 abbrev mutual
   pub process_form : List Decl → Statement → Process
   process_form decls (skips at) = skipping
-  process_form decls (assigns target e) = assigning (var_number decls target.name) target.at (formula_form decls (declared_width decls target.name) e)
-  process_form decls (sends chan e) = sending (channel_number decls chan.name) chan.at (formula_form decls (declared_width decls chan.name) e)
-  process_form decls (receives chan target) = receiving (channel_number decls chan.name) chan.at (var_number decls target.name) target.at
+  process_form decls (assigns target e) =
+      assigning (var_number decls target.name) target.at (formula_form decls (declared_width decls target.name) e)
+  process_form decls (sends chan e) =
+      sending (channel_number decls chan.name) chan.at (formula_form decls (declared_width decls chan.name) e)
+  process_form decls (receives chan target) =
+      receiving (channel_number decls chan.name) chan.at (var_number decls target.name) target.at
   process_form decls (follows members) = in_turn (processes_form decls members)
   process_form decls (besides members) = side_by_side (processes_form decls members)
   process_form decls (selects again arms) = choosing again (choices_form decls arms)
@@ -86,7 +93,8 @@ abbrev mutual
 
   pub choices_form : List Decl → Arms → Choices
   choices_form decls no_arms = no_choices
-  choices_form decls (and_arm g s more) = and_choice (formula_form decls 1 g) (process_form decls s) (choices_form decls more)
+  choices_form decls (and_arm g s more) =
+      and_choice (formula_form decls 1 g) (process_form decls s) (choices_form decls more)
 
 -- the typed form of a program that is accepted, without procedures and calls
 abbrev pub typed_form : ProgramTree → TypedProgram

@@ -15,7 +15,9 @@ IsLead decls e more Nothing = side_width decls e more ≡ None
 
 -- so where no width is wanted of the chain, or where it compares; else the one that is wanted is that of all members
 abbrev pub IsLeadTo : List Decl → Option ℕ → Expression → Links → Lead → Type 0
-IsLeadTo decls wanted e more lead = ((w : ℕ) × (compares more ≡ false) × (wanted ≡ Some w) × (lead ≡ Later w)) ⊎ (((compares more ≡ true) ⊎ (wanted ≡ None)) × IsLead decls e more lead)
+IsLeadTo decls wanted e more lead =
+    ((w : ℕ) × (compares more ≡ false) × (wanted ≡ Some w) × (lead ≡ Later w)) ⊎
+    (((compares more ≡ true) ⊎ (wanted ≡ None)) × IsLead decls e more lead)
 
 abbrev pub lacks : Lead → Bool
 lacks Nothing = true

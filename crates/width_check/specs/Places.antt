@@ -88,7 +88,8 @@ abbrev mutual
   own_width decls (bit of place at) = Some 1
   own_width decls (join parts at) = Some (own_widths decls parts)
   own_width decls (negation e at) = own_width decls e
-  own_width decls (chain e more at) = if compares more then Some 1 else or_width (own_width decls e) (first_width decls more)
+  own_width decls (chain e more at) =
+      if compares more then Some 1 else or_width (own_width decls e) (first_width decls more)
 
   -- of the parts together, where a part that has none counts 0
   pub own_widths : List Decl → Expressions → ℕ
@@ -125,19 +126,23 @@ abbrev mutual
   leaves decls w (join parts at) = expect (join parts at) w ∷ leaves_of_parts decls parts
   leaves decls w (negation e at) = leaves decls w e
   leaves decls w (chain e more at) =
-      if compares more then expect (chain e more at) w ∷ (leaves decls (unwrap_or (or_width (own_width decls e) (first_width decls more)) 0) e ++ leaves_of_links decls (unwrap_or (or_width (own_width decls e) (first_width decls more)) 0) more)
+      if compares more then expect (chain e more at) w
+          ∷ (leaves decls (unwrap_or (or_width (own_width decls e) (first_width decls more)) 0) e
+          ++ leaves_of_links decls (unwrap_or (or_width (own_width decls e) (first_width decls more)) 0) more)
       else leaves decls w e ++ leaves_of_links decls w more
   leaves decls w e = expect e w ∷ []
 
   pub leaves_of_parts : List Decl → Expressions → List Expected
   leaves_of_parts decls no_parts = []
-  leaves_of_parts decls (and_part e more) = leaves decls (unwrap_or (own_width decls e) 0) e ++ leaves_of_parts decls more
+  leaves_of_parts decls (and_part e more) = leaves decls (unwrap_or (own_width decls e) 0) e
+      ++ leaves_of_parts decls more
 
   pub leaves_of_links : List Decl → ℕ → Links → List Expected
   leaves_of_links decls w no_links = []
   leaves_of_links decls w (and_link op e more) = leaves decls w e ++ leaves_of_links decls w more
 
--- the expressions of a statement, each with the width that its place expects: the target's, the channel's, 1 for a guard
+-- the expressions of a statement, each with the width that its place expects: the target's, the channel's, 1 for a
+-- guard
 abbrev mutual
   pub expressions_in : List Decl → Statement → List Expected
   expressions_in decls (assigns target e) = expect e (declared_width decls target.name) ∷ []

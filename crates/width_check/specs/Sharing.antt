@@ -41,7 +41,8 @@ abbrev mutual
   occurrences skipping = []
   occurrences (assigning var at e) = done_at (writes_var var) at ∷ reads_of e
   occurrences (sending chan at e) = done_at (sends_on chan) at ∷ reads_of e
-  occurrences (receiving chan chan_at var var_at) = done_at (receives_on chan) chan_at ∷ done_at (writes_var var) var_at ∷ []
+  occurrences (receiving chan chan_at var var_at) = done_at (receives_on chan) chan_at ∷ done_at (writes_var var) var_at
+      ∷ []
   occurrences (in_turn members) = occurrences_of_each members
   occurrences (side_by_side members) = occurrences_of_each members
   occurrences (choosing again choices) = occurrences_of_choices choices
@@ -80,7 +81,8 @@ abbrev mutual
   -- in two members
   pub ParallelAcross : Processes → Occurrence → Occurrence → Type 0
   ParallelAcross no_members a b = ⊥
-  ParallelAcross (and_member p more) a b = IsAcross (occurrences p) (occurrences_of_each more) a b ⊎ ParallelAcross more a b
+  ParallelAcross (and_member p more) a b =
+      IsAcross (occurrences p) (occurrences_of_each more) a b ⊎ ParallelAcross more a b
 
 -- two deeds on one variable, at least one of them writing; two sends; two receives
 abbrev pub Clashes : FaultCode → Deed → Deed → Type 0
@@ -118,7 +120,8 @@ sharing_faults = code.SharedVariable ∷ code.SharedSend ∷ code.SharedReceive 
 -- the first of the causes for which something is shared, at the pair of it that is reported
 abbrev pub IsFirstSharedFault : Process → List FaultCode → FaultCode → Span → Span → Type 0
 IsFirstSharedFault body [] c first second = ⊥
-IsFirstSharedFault body (d ∷ ds) c first second = ((c ≡ d) × IsFirstShared body d first second) ⊎ (IsUnshared body d × IsFirstSharedFault body ds c first second)
+IsFirstSharedFault body (d ∷ ds) c first second =
+    ((c ≡ d) × IsFirstShared body d first second) ⊎ (IsUnshared body d × IsFirstSharedFault body ds c first second)
 
 -- the sharing rule
 pub record MeetsSharing (body : Process) : Type 0 where

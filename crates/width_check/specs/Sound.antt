@@ -32,7 +32,8 @@ pub record IsSound (ds : List Decl) (m : Met) : Type 0 where
 -- the number of each declaration: channels and variables are counted apart
 abbrev pub numbers_of : (channels vars : ℕ) → List Decl → List ℕ
 numbers_of channels vars [] = []
-numbers_of channels vars (d ∷ ds) = if is_var d.kind then vars ∷ numbers_of channels (suc vars) ds else channels ∷ numbers_of (suc channels) vars ds
+numbers_of channels vars (d ∷ ds) = if is_var d.kind then vars ∷ numbers_of channels (suc vars) ds else channels
+    ∷ numbers_of (suc channels) vars ds
 
 -- the kind of a channel, by how it is declared
 abbrev pub kind_of : DeclKind → Kind

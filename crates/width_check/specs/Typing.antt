@@ -68,7 +68,8 @@ abbrev mutual
   IsProcess channels vars (receiving chan chan_at var var_at) = IsReceive channels vars chan var
   IsProcess channels vars (in_turn members) = (2 ≤ member_count members) × AreProcesses channels vars members
   IsProcess channels vars (side_by_side members) = (2 ≤ member_count members) × AreProcesses channels vars members
-  IsProcess channels vars (choosing again choices) = (1 ≤ choice_count choices) × (choice_count choices ≤ 16) × AreChoices channels vars choices
+  IsProcess channels vars (choosing again choices) = (1 ≤ choice_count choices) × (choice_count choices ≤ 16)
+      × AreChoices channels vars choices
   IsProcess channels vars (repeating p) = IsProcess channels vars p
 
   pub AreProcesses : List Channel → List Var → Processes → Type 0
@@ -77,7 +78,8 @@ abbrev mutual
 
   pub AreChoices : List Channel → List Var → Choices → Type 0
   AreChoices channels vars no_choices = Unit {0}
-  AreChoices channels vars (and_choice g p more) = IsOfWidth vars 1 g × IsProcess channels vars p × AreChoices channels vars more
+  AreChoices channels vars (and_choice g p more) = IsOfWidth vars 1 g × IsProcess channels vars p
+      × AreChoices channels vars more
 
 pub record IsDeclaredChannel (c : Channel) : Type 0 where
   pub name : IsName c.name

@@ -23,7 +23,8 @@ abbrev pub one_if : Bool → ℕ
 one_if true = 1
 one_if false = 0
 
--- an operator on two numbers of a width: `&`, `|` and `^` bit by bit, `+` and `-` modulo 2 to the width, a comparison 1 or 0
+-- an operator on two numbers of a width: `&`, `|` and `^` bit by bit, `+` and `-` modulo 2 to the width, a comparison 1
+-- or 0
 abbrev pub operated : Op → (width a b : ℕ) → ℕ
 operated And width a b = bit_and a b
 operated Or width a b = bit_or a b
@@ -55,7 +56,8 @@ abbrev mutual
   -- from a number on, applied from the left
   pub chained_value : (ℕ → ℕ) → (width : ℕ) → ℕ → Operations → ℕ
   chained_value store width v no_operations = v
-  chained_value store width v (and_operation op e more) = chained_value store width (operated op width v (value store e)) more
+  chained_value store width v (and_operation op e more) =
+      chained_value store width (operated op width v (value store e)) more
 
 -- a number is of its width; the bits that are read are bits 63 to 0; a join has parts, and at most 64 bits; a chain has
 -- operators that are no comparisons, between expressions of one width; a comparison is one between two of one width
@@ -66,7 +68,8 @@ abbrev mutual
   IsWellFormed (joined parts) = (1 ≤ part_count parts) × (widths_of parts ≤ 64) × AreWellFormed parts
   IsWellFormed (inverted e) = IsWellFormed e
   IsWellFormed (chained e more) = IsWellFormed e × (1 ≤ operation_count more) × AreOperations (width_of e) more
-  IsWellFormed (compared op e f) = (is_comparison op ≡ true) × (width_of f ≡ width_of e) × IsWellFormed e × IsWellFormed f
+  IsWellFormed (compared op e f) = (is_comparison op ≡ true) × (width_of f ≡ width_of e) × IsWellFormed e
+      × IsWellFormed f
 
   pub AreWellFormed : Formulas → Type 0
   AreWellFormed no_parts = Unit {0}
@@ -74,4 +77,5 @@ abbrev mutual
 
   pub AreOperations : ℕ → Operations → Type 0
   AreOperations width no_operations = Unit {0}
-  AreOperations width (and_operation op e more) = (is_comparison op ≡ false) × (width_of e ≡ width) × IsWellFormed e × AreOperations width more
+  AreOperations width (and_operation op e more) = (is_comparison op ≡ false) × (width_of e ≡ width) × IsWellFormed e
+      × AreOperations width more

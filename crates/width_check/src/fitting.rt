@@ -87,7 +87,8 @@ fn is_of_width(vars: &[Var], width: u8, e: &TExpr) -> bool
 }
 
 fn is_assign(vars: &[Var], var: u32, value: &TExpr) -> bool
-    ensures { Decides result ((var < length vars.now) × IsOfWidth vars.now (var_width vars.now var) (formula_of value.now)) }
+    ensures { Decides result ((var < length vars.now)
+        × IsOfWidth vars.now (var_width vars.now var) (formula_of value.now)) }
 {
     match vars.get(var as usize) {
         Some(declared) => is_of_width(vars, declared.width, value),

@@ -11,12 +11,16 @@ ghost use Rattle.width_check.specs.Typing.{IsTyped};
 
 /// A program has at most one first fault of its names and widths, and none where none of the causes holds.
 pub fn one_fault()
-    ensures cause { (p : ProgramTree) (c d : FaultCode) (s t : Span) → IsFirstFault p naming_faults c s → IsFirstFault p naming_faults d t → c ≡ d }
-    ensures place { (p : ProgramTree) (c d : FaultCode) (s t : Span) → IsFirstFault p naming_faults c s → IsFirstFault p naming_faults d t → s ≡ t }
-    ensures none { (p : ProgramTree) (c : FaultCode) (s : Span) → HasNone p naming_faults → ¬ IsFirstFault p naming_faults c s }
+    ensures cause { (p : ProgramTree) (c d : FaultCode) (s t : Span) → IsFirstFault p naming_faults c s →
+        IsFirstFault p naming_faults d t → c ≡ d }
+    ensures place { (p : ProgramTree) (c d : FaultCode) (s t : Span) → IsFirstFault p naming_faults c s →
+        IsFirstFault p naming_faults d t → s ≡ t }
+    ensures none { (p : ProgramTree) (c : FaultCode) (s : Span) → HasNone p naming_faults →
+        ¬ IsFirstFault p naming_faults c s }
 {}
 
 /// The typed form of a program of the grammar's shape, of whose names and widths none is at fault, is a typed program.
 pub fn form_is_typed()
-    ensures { (p : ProgramTree) → IsShaped p → HasNone p naming_faults → IsTyped (channels_of p.decls) (vars_of p.decls) (process_form p.decls p.body) }
+    ensures { (p : ProgramTree) → IsShaped p → HasNone p naming_faults →
+        IsTyped (channels_of p.decls) (vars_of p.decls) (process_form p.decls p.body) }
 {}

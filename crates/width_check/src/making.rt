@@ -45,7 +45,8 @@ fn read(scope: &Scope, of: &Ident, high: u8, low: u8) -> TExpr
 fn read_whole(scope: &Scope, of: &Ident) -> TExpr
     requires ranged { AreRanged scope.now.decls.now }
     requires var { is_var_in scope.now.decls.now of.now.name ≡ Some true }
-    ensures { formula_of result ≡ reading (var_number scope.now.decls.now of.now.name) (declared_width scope.now.decls.now of.now.name - 1) 0 of.now.at }
+    ensures { formula_of result ≡ reading (var_number scope.now.decls.now of.now.name)
+        (declared_width scope.now.decls.now of.now.name - 1) 0 of.now.at }
 {
     read(scope, of, scope.bits(&of.name) - 1, 0)
 }

@@ -134,8 +134,10 @@ impl<'a> Scope<'a> {
     /// The number of a name among the channels or the variables, whichever it is.
     pub fn number(&self, name: &Name) -> u32
         requires { IsSome (plain.declaration self.now.decls.now name.now) }
-        ensures var { is_var_in self.now.decls.now name.now ≡ Some true → result ≡ var_number self.now.decls.now name.now }
-        ensures channel { is_var_in self.now.decls.now name.now ≡ Some false → result ≡ channel_number self.now.decls.now name.now }
+        ensures var { is_var_in self.now.decls.now name.now ≡ Some true →
+            result ≡ var_number self.now.decls.now name.now }
+        ensures channel { is_var_in self.now.decls.now name.now ≡ Some false →
+            result ≡ channel_number self.now.decls.now name.now }
     {
         match self.names.find(name) {
             Some(place) => self.numbers[place as usize],
@@ -194,7 +196,8 @@ impl<'a> Scope<'a> {
 
     /// The width of the two sides of a comparison, which the first member of it gives that has one.
     pub fn side_width(&self, first: &Expr, links: &[Link]) -> Option<u8>
-        ensures { result ≡ option_map capped (side_width self.now.decls.now (expression_of first.now) (links_of links.now)) }
+        ensures { result ≡ option_map capped
+            (side_width self.now.decls.now (expression_of first.now) (links_of links.now)) }
     {
         match self.own_width(first) {
             Some(width) => Some(width),

@@ -67,7 +67,8 @@ fn with_bit(
     at: Span,
     width: u8,
 ) -> Findings
-    ensures { result ≡ walk.noted scope.now.decls.now findings (walk.met_in scope.now.decls.now width (tree.bit of.now place at)) }
+    ensures { result ≡ walk.noted scope.now.decls.now findings
+        (walk.met_in scope.now.decls.now width (tree.bit of.now place at)) }
 {
     let mut findings = with_var(scope, findings, of);
     findings.slice = earlier_if(scope.width(&of.name) <= place, findings.slice, at);
@@ -84,7 +85,8 @@ fn with_slice(
     at: Span,
     width: u8,
 ) -> Findings
-    ensures { result ≡ walk.noted scope.now.decls.now findings (walk.met_in scope.now.decls.now width (tree.slice of.now high low at)) }
+    ensures { result ≡ walk.noted scope.now.decls.now findings
+        (walk.met_in scope.now.decls.now width (tree.slice of.now high low at)) }
 {
     let bad = high < low || scope.width(&of.name) <= high;
     let mut findings = with_var(scope, findings, of);
@@ -95,7 +97,8 @@ fn with_slice(
 /// `x`
 fn with_whole(scope: &Scope, findings: Findings, of: &Ident, own: u8, width: u8) -> Findings
     requires { own ≡ walk.capped (plain.declared_width scope.now.decls.now of.now.name) }
-    ensures { result ≡ walk.noted scope.now.decls.now findings (walk.met_in scope.now.decls.now width (tree.whole of.now)) }
+    ensures { result ≡ walk.noted scope.now.decls.now findings
+        (walk.met_in scope.now.decls.now width (tree.whole of.now)) }
 {
     let findings = with_var(scope, findings, of);
     findings.with_leaf(own, width, of.at)
@@ -132,7 +135,8 @@ fn with_chain(
     wanted: Option<u8>,
     place: Span,
 ) -> Findings
-    ensures { result ≡ (if comparing then walk.with_leaf (walk.with_part findings (lacks lead) place) 1 (unwrap_or wanted 1) place else findings) }
+    ensures { result ≡ (if comparing then walk.with_leaf (walk.with_part findings (lacks lead) place) 1
+        (unwrap_or wanted 1) place else findings) }
 {
     if comparing {
         let lacks = matches!(lead, Lead::Nothing);
@@ -160,7 +164,8 @@ struct Surveyed {
 /// An expression of which a width is wanted, or else its own one, which is then told.
 fn with_expression(scope: &Scope, findings: Findings, e: &Expr, wanted: Option<u8>) -> Surveyed
     ensures findings { result.findings ≡ walk.surveyed scope.now.decls.now findings wanted (expression_of e.now) }
-    ensures own { wanted ≡ None → result.own ≡ option_map walk.capped (plain.own_width scope.now.decls.now (expression_of e.now)) }
+    ensures own { wanted ≡ None → result.own ≡
+        option_map walk.capped (plain.own_width scope.now.decls.now (expression_of e.now)) }
 {
     match e {
         Expr::Number { value, at } => Surveyed {
@@ -220,7 +225,8 @@ fn with_expression(scope: &Scope, findings: Findings, e: &Expr, wanted: Option<u
 
 /// `X?v`
 fn with_receive(scope: &Scope, findings: Findings, chan: &Ident, target: &Ident) -> Findings
-    ensures { result ≡ walk.noted scope.now.decls.now findings (walk.met_of scope.now.decls.now (tree.receives chan.now target.now)) }
+    ensures { result ≡ walk.noted scope.now.decls.now findings
+        (walk.met_of scope.now.decls.now (tree.receives chan.now target.now)) }
 {
     let findings = with_receiver(scope, findings, chan);
     let mut findings = with_var(scope, findings, target);
@@ -284,7 +290,8 @@ fn with_statement(scope: &Scope, findings: Findings, s: &Stmt) -> Findings
 
 /// For each cause that names, kinds and widths of a program's body can have the first of its places.
 pub fn survey(scope: &Scope, body: &Stmt) -> Findings
-    ensures { result ≡ walk.noted scope.now.decls.now walk.no_findings (walk.met_of scope.now.decls.now (statement_of body.now)) }
+    ensures { result ≡ walk.noted scope.now.decls.now walk.no_findings
+        (walk.met_of scope.now.decls.now (statement_of body.now)) }
 {
     let none = Findings {
         undeclared: None,

@@ -13,7 +13,8 @@ const MOST_CHOICES: u32 = 15;
 /// What a token does to the numbers of signs `[]` in the open brackets, and whether it stands before a seventeenth arm.
 fn count(choices: &mut Vec<u32>, kind: &TokenKind) -> Result<bool, AllocError>
     ensures seventeenth { IfOk result (λ b. b ≡ is_seventeenth (reverse choices.old.items) kind.now) }
-    ensures after { IfOk result (λ b. b ≡ false → reverse choices.new.items ≡ counted (reverse choices.old.items) kind.now) }
+    ensures after { IfOk result (λ b. b ≡ false →
+        reverse choices.new.items ≡ counted (reverse choices.old.items) kind.now) }
 {
     let mark = match kind {
         TokenKind::Sign(mark) => *mark,

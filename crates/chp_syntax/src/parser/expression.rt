@@ -60,8 +60,10 @@ fn named(tokens: &[Token], at: &mut usize) -> Result<Covered, Stop>
     requires front { primary_front (sees (drop at.old tokens.now)) ≡ primary.Name }
     ensures within { at.new ≤ length tokens.now }
     ensures moved { OnOk result (at.old < at.new) }
-    ensures good { IfOk result (λ c. Good Primary (Stops 10) (drop at.old tokens.now) (drop at.new tokens.now) (covered_of c)) }
-    ensures bad { IfErr result (λ e. WhenFault e (Bad Primary (Stops 10) (drop at.old tokens.now) (drop at.new tokens.now))) }
+    ensures good { IfOk result (λ c. Good Primary (Stops 10) (drop at.old tokens.now) (drop at.new tokens.now)
+        (covered_of c)) }
+    ensures bad { IfErr result (λ e.
+        WhenFault e (Bad Primary (Stops 10) (drop at.old tokens.now) (drop at.new tokens.now))) }
 {
     let of = take_name(tokens, at)?;
     if !mark_at(tokens, *at, Mark::OpenSquare) {
@@ -106,8 +108,10 @@ fn primary(alloc: Global, tokens: &[Token], at: &mut usize) -> Result<Covered, S
     requires { at.old ≤ length tokens.now }
     ensures within { at.new ≤ length tokens.now }
     ensures moved { OnOk result (at.old < at.new) }
-    ensures good { IfOk result (λ c. Good Primary (Stops 10) (drop at.old tokens.now) (drop at.new tokens.now) (covered_of c)) }
-    ensures bad { IfErr result (λ e. WhenFault e (Bad Primary (Stops 10) (drop at.old tokens.now) (drop at.new tokens.now))) }
+    ensures good { IfOk result (λ c. Good Primary (Stops 10) (drop at.old tokens.now) (drop at.new tokens.now)
+        (covered_of c)) }
+    ensures bad { IfErr result (λ e.
+        WhenFault e (Bad Primary (Stops 10) (drop at.old tokens.now) (drop at.new tokens.now))) }
 {
     match primary_at(tokens, *at) {
         PrimaryFront::Number => {
@@ -153,8 +157,10 @@ fn parts(alloc: Global, tokens: &[Token], at: &mut usize) -> Result<Vec<Expr>, S
     requires { at.old ≤ length tokens.now }
     ensures within { at.new ≤ length tokens.now }
     ensures moved { OnOk result (at.old < at.new) }
-    ensures good { IfOk result (λ c. Good Parts (Stops 4) (drop at.old tokens.now) (drop at.new tokens.now) (parts_of c)) }
-    ensures bad { IfErr result (λ e. WhenFault e (Bad Parts (Stops 4) (drop at.old tokens.now) (drop at.new tokens.now))) }
+    ensures good { IfOk result (λ c. Good Parts (Stops 4) (drop at.old tokens.now) (drop at.new tokens.now)
+        (parts_of c)) }
+    ensures bad { IfErr result (λ e.
+        WhenFault e (Bad Parts (Stops 4) (drop at.old tokens.now) (drop at.new tokens.now))) }
 {
     let first = disjunction(alloc, tokens, at)?;
     let mut members: Vec<Expr> = Vec::new(alloc);
@@ -173,8 +179,10 @@ fn negated(alloc: Global, tokens: &[Token], at: &mut usize) -> Result<Covered, S
     requires { at.old ≤ length tokens.now }
     ensures within { at.new ≤ length tokens.now }
     ensures moved { OnOk result (at.old < at.new) }
-    ensures good { IfOk result (λ c. Good Negated (Stops 10) (drop at.old tokens.now) (drop at.new tokens.now) (covered_of c)) }
-    ensures bad { IfErr result (λ e. WhenFault e (Bad Negated (Stops 10) (drop at.old tokens.now) (drop at.new tokens.now))) }
+    ensures good { IfOk result (λ c. Good Negated (Stops 10) (drop at.old tokens.now) (drop at.new tokens.now)
+        (covered_of c)) }
+    ensures bad { IfErr result (λ e.
+        WhenFault e (Bad Negated (Stops 10) (drop at.old tokens.now) (drop at.new tokens.now))) }
 {
     if !mark_at(tokens, *at, Mark::Tilde) {
         return primary(alloc, tokens, at);
@@ -198,8 +206,10 @@ fn comparison(alloc: Global, tokens: &[Token], at: &mut usize) -> Result<Covered
     requires { at.old ≤ length tokens.now }
     ensures within { at.new ≤ length tokens.now }
     ensures moved { OnOk result (at.old < at.new) }
-    ensures good { IfOk result (λ c. Good Comparison (Stops 8) (drop at.old tokens.now) (drop at.new tokens.now) (covered_of c)) }
-    ensures bad { IfErr result (λ e. WhenFault e (Bad Comparison (Stops 8) (drop at.old tokens.now) (drop at.new tokens.now))) }
+    ensures good { IfOk result (λ c. Good Comparison (Stops 8) (drop at.old tokens.now) (drop at.new tokens.now)
+        (covered_of c)) }
+    ensures bad { IfErr result (λ e.
+        WhenFault e (Bad Comparison (Stops 8) (drop at.old tokens.now) (drop at.new tokens.now))) }
 {
     let first = sum(alloc, tokens, at)?;
     let Some(op) = comparison_at(tokens, *at) else {
@@ -222,8 +232,10 @@ fn sum(alloc: Global, tokens: &[Token], at: &mut usize) -> Result<Covered, Stop>
     requires { at.old ≤ length tokens.now }
     ensures within { at.new ≤ length tokens.now }
     ensures moved { OnOk result (at.old < at.new) }
-    ensures good { IfOk result (λ c. Good Sum (Stops 9) (drop at.old tokens.now) (drop at.new tokens.now) (covered_of c)) }
-    ensures bad { IfErr result (λ e. WhenFault e (Bad Sum (Stops 9) (drop at.old tokens.now) (drop at.new tokens.now))) }
+    ensures good { IfOk result (λ c. Good Sum (Stops 9) (drop at.old tokens.now) (drop at.new tokens.now)
+        (covered_of c)) }
+    ensures bad { IfErr result (λ e.
+        WhenFault e (Bad Sum (Stops 9) (drop at.old tokens.now) (drop at.new tokens.now))) }
 {
     let first = negated(alloc, tokens, at)?;
     let mut last = first.at;
@@ -246,8 +258,10 @@ fn conjunction(alloc: Global, tokens: &[Token], at: &mut usize) -> Result<Covere
     requires { at.old ≤ length tokens.now }
     ensures within { at.new ≤ length tokens.now }
     ensures moved { OnOk result (at.old < at.new) }
-    ensures good { IfOk result (λ c. Good Conjunction (Stops 7) (drop at.old tokens.now) (drop at.new tokens.now) (covered_of c)) }
-    ensures bad { IfErr result (λ e. WhenFault e (Bad Conjunction (Stops 7) (drop at.old tokens.now) (drop at.new tokens.now))) }
+    ensures good { IfOk result (λ c. Good Conjunction (Stops 7) (drop at.old tokens.now) (drop at.new tokens.now)
+        (covered_of c)) }
+    ensures bad { IfErr result (λ e.
+        WhenFault e (Bad Conjunction (Stops 7) (drop at.old tokens.now) (drop at.new tokens.now))) }
 {
     let first = comparison(alloc, tokens, at)?;
     let mut last = first.at;
@@ -270,8 +284,10 @@ fn exclusive(alloc: Global, tokens: &[Token], at: &mut usize) -> Result<Covered,
     requires { at.old ≤ length tokens.now }
     ensures within { at.new ≤ length tokens.now }
     ensures moved { OnOk result (at.old < at.new) }
-    ensures good { IfOk result (λ c. Good Exclusive (Stops 6) (drop at.old tokens.now) (drop at.new tokens.now) (covered_of c)) }
-    ensures bad { IfErr result (λ e. WhenFault e (Bad Exclusive (Stops 6) (drop at.old tokens.now) (drop at.new tokens.now))) }
+    ensures good { IfOk result (λ c. Good Exclusive (Stops 6) (drop at.old tokens.now) (drop at.new tokens.now)
+        (covered_of c)) }
+    ensures bad { IfErr result (λ e.
+        WhenFault e (Bad Exclusive (Stops 6) (drop at.old tokens.now) (drop at.new tokens.now))) }
 {
     let first = conjunction(alloc, tokens, at)?;
     let mut last = first.at;
@@ -294,8 +310,10 @@ pub fn disjunction(alloc: Global, tokens: &[Token], at: &mut usize) -> Result<Co
     requires { at.old ≤ length tokens.now }
     ensures within { at.new ≤ length tokens.now }
     ensures moved { OnOk result (at.old < at.new) }
-    ensures good { IfOk result (λ c. Good Disjunction (Stops 5) (drop at.old tokens.now) (drop at.new tokens.now) (covered_of c)) }
-    ensures bad { IfErr result (λ e. WhenFault e (Bad Disjunction (Stops 5) (drop at.old tokens.now) (drop at.new tokens.now))) }
+    ensures good { IfOk result (λ c. Good Disjunction (Stops 5) (drop at.old tokens.now) (drop at.new tokens.now)
+        (covered_of c)) }
+    ensures bad { IfErr result (λ e.
+        WhenFault e (Bad Disjunction (Stops 5) (drop at.old tokens.now) (drop at.new tokens.now))) }
 {
     let first = exclusive(alloc, tokens, at)?;
     let mut last = first.at;

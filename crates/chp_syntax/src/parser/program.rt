@@ -60,8 +60,10 @@ fn channel(tokens: &[Token], at: &mut usize, kind: DeclKind) -> Result<Decl, Sto
     requires front { decl_front (sees (drop at.old tokens.now)) ≡ decl.Channel kind }
     ensures within { at.new ≤ length tokens.now }
     ensures moved { OnOk result (at.old < at.new) }
-    ensures good { IfOk result (λ d. Good Declaration Anything (drop at.old tokens.now) (drop at.new tokens.now) (valued d)) }
-    ensures bad { IfErr result (λ e. WhenFault e (Bad Declaration Anything (drop at.old tokens.now) (drop at.new tokens.now))) }
+    ensures good { IfOk result (λ d. Good Declaration Anything (drop at.old tokens.now) (drop at.new tokens.now)
+        (valued d)) }
+    ensures bad { IfErr result (λ e.
+        WhenFault e (Bad Declaration Anything (drop at.old tokens.now) (drop at.new tokens.now))) }
 {
     *at += 1;
     let name = take_name(tokens, at)?;
@@ -84,8 +86,10 @@ fn variable(tokens: &[Token], at: &mut usize) -> Result<Decl, Stop>
     requires front { decl_front (sees (drop at.old tokens.now)) ≡ decl.Variable }
     ensures within { at.new ≤ length tokens.now }
     ensures moved { OnOk result (at.old < at.new) }
-    ensures good { IfOk result (λ d. Good Declaration Anything (drop at.old tokens.now) (drop at.new tokens.now) (valued d)) }
-    ensures bad { IfErr result (λ e. WhenFault e (Bad Declaration Anything (drop at.old tokens.now) (drop at.new tokens.now))) }
+    ensures good { IfOk result (λ d. Good Declaration Anything (drop at.old tokens.now) (drop at.new tokens.now)
+        (valued d)) }
+    ensures bad { IfErr result (λ e.
+        WhenFault e (Bad Declaration Anything (drop at.old tokens.now) (drop at.new tokens.now))) }
 {
     take_word(tokens, at, Key::Var)?;
     let name = take_name(tokens, at)?;
@@ -121,8 +125,10 @@ fn procedure(alloc: Global, tokens: &[Token], at: &mut usize) -> Result<Proc, St
     requires front { decl_front (sees (drop at.old tokens.now)) ≡ decl.Procedure }
     ensures within { at.new ≤ length tokens.now }
     ensures moved { OnOk result (at.old < at.new) }
-    ensures good { IfOk result (λ d. Good Declaration Anything (drop at.old tokens.now) (drop at.new tokens.now) (defined (procedure_of d))) }
-    ensures bad { IfErr result (λ e. WhenFault e (Bad Declaration Anything (drop at.old tokens.now) (drop at.new tokens.now))) }
+    ensures good { IfOk result (λ d. Good Declaration Anything (drop at.old tokens.now) (drop at.new tokens.now)
+        (defined (procedure_of d))) }
+    ensures bad { IfErr result (λ e.
+        WhenFault e (Bad Declaration Anything (drop at.old tokens.now) (drop at.new tokens.now))) }
 {
     take_word(tokens, at, Key::Proc)?;
     let name = take_name(tokens, at)?;
@@ -137,8 +143,10 @@ fn declaration(alloc: Global, tokens: &[Token], at: &mut usize) -> Result<Item, 
     requires { at.old ≤ length tokens.now }
     ensures within { at.new ≤ length tokens.now }
     ensures moved { OnOk result (at.old < at.new) }
-    ensures good { IfOk result (λ d. Good Declaration Anything (drop at.old tokens.now) (drop at.new tokens.now) (item_of d)) }
-    ensures bad { IfErr result (λ e. WhenFault e (Bad Declaration Anything (drop at.old tokens.now) (drop at.new tokens.now))) }
+    ensures good { IfOk result (λ d. Good Declaration Anything (drop at.old tokens.now) (drop at.new tokens.now)
+        (item_of d)) }
+    ensures bad { IfErr result (λ e.
+        WhenFault e (Bad Declaration Anything (drop at.old tokens.now) (drop at.new tokens.now))) }
 {
     match decl_at(tokens, *at) {
         DeclFront::Channel(kind) => {
@@ -161,8 +169,10 @@ fn declaration(alloc: Global, tokens: &[Token], at: &mut usize) -> Result<Item, 
 fn declarations(alloc: Global, tokens: &[Token], at: &mut usize) -> Result<Declared, Stop>
     requires { at.old ≤ length tokens.now }
     ensures within { at.new ≤ length tokens.now }
-    ensures good { IfOk result (λ d. Good Declarations Undeclared (drop at.old tokens.now) (drop at.new tokens.now) (declared_of d)) }
-    ensures bad { IfErr result (λ e. WhenFault e (Bad Declarations Undeclared (drop at.old tokens.now) (drop at.new tokens.now))) }
+    ensures good { IfOk result (λ d. Good Declarations Undeclared (drop at.old tokens.now) (drop at.new tokens.now)
+        (declared_of d)) }
+    ensures bad { IfErr result (λ e.
+        WhenFault e (Bad Declarations Undeclared (drop at.old tokens.now) (drop at.new tokens.now))) }
 {
     let mut declared = Declared {
         decls: Vec::new(alloc),
@@ -180,8 +190,10 @@ pub fn program(alloc: Global, tokens: &[Token], at: &mut usize) -> Result<Progra
     requires { at.old ≤ length tokens.now }
     ensures within { at.new ≤ length tokens.now }
     ensures whole { OnOk result (at.new ≡ length tokens.now) }
-    ensures good { IfOk result (λ d. Good Programs Nothing (drop at.old tokens.now) (drop at.new tokens.now) (program_of d)) }
-    ensures bad { IfErr result (λ e. WhenFault e (Bad Programs Nothing (drop at.old tokens.now) (drop at.new tokens.now))) }
+    ensures good { IfOk result (λ d. Good Programs Nothing (drop at.old tokens.now) (drop at.new tokens.now)
+        (program_of d)) }
+    ensures bad { IfErr result (λ e.
+        WhenFault e (Bad Programs Nothing (drop at.old tokens.now) (drop at.new tokens.now))) }
 {
     let declared = declarations(alloc, tokens, at)?;
     take_word(tokens, at, Key::Begin)?;

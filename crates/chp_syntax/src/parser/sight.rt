@@ -463,7 +463,8 @@ pub fn take_mark(tokens: &[Token], at: &mut usize, mark: Mark) -> Result<Span, S
     ensures within { at.new ≤ length tokens.now }
     ensures moved { OnOk result (at.old < at.new) }
     ensures good { IfOk result (Good (Exactly (Sign mark)) Anything (drop at.old tokens.now) (drop at.new tokens.now)) }
-    ensures bad { IfErr result (λ e. WhenFault e (Bad (Exactly (Sign mark)) Anything (drop at.old tokens.now) (drop at.new tokens.now))) }
+    ensures bad { IfErr result (λ e.
+        WhenFault e (Bad (Exactly (Sign mark)) Anything (drop at.old tokens.now) (drop at.new tokens.now))) }
 {
     if !mark_at(tokens, *at, mark) {
         return Err(Stop::Fault);
@@ -479,7 +480,8 @@ pub fn take_word(tokens: &[Token], at: &mut usize, key: Key) -> Result<Span, Sto
     ensures within { at.new ≤ length tokens.now }
     ensures moved { OnOk result (at.old < at.new) }
     ensures good { IfOk result (Good (Exactly (Word key)) Anything (drop at.old tokens.now) (drop at.new tokens.now)) }
-    ensures bad { IfErr result (λ e. WhenFault e (Bad (Exactly (Word key)) Anything (drop at.old tokens.now) (drop at.new tokens.now))) }
+    ensures bad { IfErr result (λ e.
+        WhenFault e (Bad (Exactly (Word key)) Anything (drop at.old tokens.now) (drop at.new tokens.now))) }
 {
     if !word_at(tokens, *at, key) {
         return Err(Stop::Fault);
@@ -495,7 +497,8 @@ pub fn take_number(tokens: &[Token], at: &mut usize) -> Result<Numeral, Stop>
     ensures within { at.new ≤ length tokens.now }
     ensures moved { OnOk result (at.old < at.new) }
     ensures good { IfOk result (Good ANumber Anything (drop at.old tokens.now) (drop at.new tokens.now)) }
-    ensures bad { IfErr result (λ e. WhenFault e (Bad ANumber Anything (drop at.old tokens.now) (drop at.new tokens.now))) }
+    ensures bad { IfErr result (λ e.
+        WhenFault e (Bad ANumber Anything (drop at.old tokens.now) (drop at.new tokens.now))) }
 {
     let Some(value) = number_at(tokens, *at) else {
         return Err(Stop::Fault);
@@ -511,7 +514,8 @@ pub fn take_name(tokens: &[Token], at: &mut usize) -> Result<Ident, Stop>
     ensures within { at.new ≤ length tokens.now }
     ensures moved { OnOk result (at.old < at.new) }
     ensures good { IfOk result (Good AName Anything (drop at.old tokens.now) (drop at.new tokens.now)) }
-    ensures bad { IfErr result (λ e. WhenFault e (Bad AName Anything (drop at.old tokens.now) (drop at.new tokens.now))) }
+    ensures bad { IfErr result (λ e.
+        WhenFault e (Bad AName Anything (drop at.old tokens.now) (drop at.new tokens.now))) }
 {
     let name = front_name(behind(tokens, *at))?;
     *at += 1;

@@ -21,8 +21,10 @@ fn action(alloc: Global, tokens: &[Token], at: &mut usize) -> Result<Stmt, Stop>
     requires front { atom_front (sees (drop at.old tokens.now)) ≡ atom.Name }
     ensures within { at.new ≤ length tokens.now }
     ensures moved { OnOk result (at.old < at.new) }
-    ensures good { IfOk result (λ s. Good Atom (Stops 5) (drop at.old tokens.now) (drop at.new tokens.now) (statement_of s)) }
-    ensures bad { IfErr result (λ e. WhenFault e (Bad Atom (Stops 5) (drop at.old tokens.now) (drop at.new tokens.now))) }
+    ensures good { IfOk result (λ s. Good Atom (Stops 5) (drop at.old tokens.now) (drop at.new tokens.now)
+        (statement_of s)) }
+    ensures bad { IfErr result (λ e.
+        WhenFault e (Bad Atom (Stops 5) (drop at.old tokens.now) (drop at.new tokens.now))) }
 {
     let name = take_name(tokens, at)?;
     match action_at(tokens, *at) {
@@ -57,8 +59,10 @@ pub fn atom(alloc: Global, tokens: &[Token], at: &mut usize) -> Result<Stmt, Sto
     requires { at.old ≤ length tokens.now }
     ensures within { at.new ≤ length tokens.now }
     ensures moved { OnOk result (at.old < at.new) }
-    ensures good { IfOk result (λ s. Good Atom (Stops 5) (drop at.old tokens.now) (drop at.new tokens.now) (statement_of s)) }
-    ensures bad { IfErr result (λ e. WhenFault e (Bad Atom (Stops 5) (drop at.old tokens.now) (drop at.new tokens.now))) }
+    ensures good { IfOk result (λ s. Good Atom (Stops 5) (drop at.old tokens.now) (drop at.new tokens.now)
+        (statement_of s)) }
+    ensures bad { IfErr result (λ e.
+        WhenFault e (Bad Atom (Stops 5) (drop at.old tokens.now) (drop at.new tokens.now))) }
 {
     match atom_at(tokens, *at) {
         AtomFront::Skip => {
@@ -100,8 +104,10 @@ fn inside(alloc: Global, tokens: &[Token], at: &mut usize) -> Result<Stmt, Stop>
     requires { at.old ≤ length tokens.now }
     ensures within { at.new ≤ length tokens.now }
     ensures moved { OnOk result (at.old < at.new) }
-    ensures good { IfOk result (λ s. Good Inside (Stops 1) (drop at.old tokens.now) (drop at.new tokens.now) (statement_of s)) }
-    ensures bad { IfErr result (λ e. WhenFault e (Bad Inside (Stops 1) (drop at.old tokens.now) (drop at.new tokens.now))) }
+    ensures good { IfOk result (λ s. Good Inside (Stops 1) (drop at.old tokens.now) (drop at.new tokens.now)
+        (statement_of s)) }
+    ensures bad { IfErr result (λ e.
+        WhenFault e (Bad Inside (Stops 1) (drop at.old tokens.now) (drop at.new tokens.now))) }
 {
     if begins_statement(tokens, *at) {
         let body = par(alloc, tokens, at)?;
@@ -118,8 +124,10 @@ fn branch(alloc: Global, tokens: &[Token], at: &mut usize) -> Result<Arm, Stop>
     requires { at.old ≤ length tokens.now }
     ensures within { at.new ≤ length tokens.now }
     ensures moved { OnOk result (at.old < at.new) }
-    ensures good { IfOk result (λ s. Good Branch (Stops 2) (drop at.old tokens.now) (drop at.new tokens.now) (guarded_of s)) }
-    ensures bad { IfErr result (λ e. WhenFault e (Bad Branch (Stops 2) (drop at.old tokens.now) (drop at.new tokens.now))) }
+    ensures good { IfOk result (λ s. Good Branch (Stops 2) (drop at.old tokens.now) (drop at.new tokens.now)
+        (guarded_of s)) }
+    ensures bad { IfErr result (λ e.
+        WhenFault e (Bad Branch (Stops 2) (drop at.old tokens.now) (drop at.new tokens.now))) }
 {
     let guard = disjunction(alloc, tokens, at)?;
     take_mark(tokens, at, Mark::Arrow)?;
@@ -136,8 +144,10 @@ fn choices(alloc: Global, tokens: &[Token], at: &mut usize) -> Result<Vec<Arm>, 
     requires { at.old ≤ length tokens.now }
     ensures within { at.new ≤ length tokens.now }
     ensures moved { OnOk result (at.old < at.new) }
-    ensures good { IfOk result (λ s. Good Choices (Stops 1) (drop at.old tokens.now) (drop at.new tokens.now) (armed_of s)) }
-    ensures bad { IfErr result (λ e. WhenFault e (Bad Choices (Stops 1) (drop at.old tokens.now) (drop at.new tokens.now))) }
+    ensures good { IfOk result (λ s. Good Choices (Stops 1) (drop at.old tokens.now) (drop at.new tokens.now)
+        (armed_of s)) }
+    ensures bad { IfErr result (λ e.
+        WhenFault e (Bad Choices (Stops 1) (drop at.old tokens.now) (drop at.new tokens.now))) }
 {
     let first = branch(alloc, tokens, at)?;
     let mut arms: Vec<Arm> = Vec::new(alloc);
@@ -156,8 +166,10 @@ fn both(alloc: Global, tokens: &[Token], at: &mut usize) -> Result<Stmt, Stop>
     requires { at.old ≤ length tokens.now }
     ensures within { at.new ≤ length tokens.now }
     ensures moved { OnOk result (at.old < at.new) }
-    ensures good { IfOk result (λ s. Good Both (Stops 4) (drop at.old tokens.now) (drop at.new tokens.now) (statement_of s)) }
-    ensures bad { IfErr result (λ e. WhenFault e (Bad Both (Stops 4) (drop at.old tokens.now) (drop at.new tokens.now))) }
+    ensures good { IfOk result (λ s. Good Both (Stops 4) (drop at.old tokens.now) (drop at.new tokens.now)
+        (statement_of s)) }
+    ensures bad { IfErr result (λ e.
+        WhenFault e (Bad Both (Stops 4) (drop at.old tokens.now) (drop at.new tokens.now))) }
 {
     let first = atom(alloc, tokens, at)?;
     if !mark_at(tokens, *at, Mark::Comma) {
@@ -179,8 +191,10 @@ fn seq(alloc: Global, tokens: &[Token], at: &mut usize) -> Result<Stmt, Stop>
     requires { at.old ≤ length tokens.now }
     ensures within { at.new ≤ length tokens.now }
     ensures moved { OnOk result (at.old < at.new) }
-    ensures good { IfOk result (λ s. Good Seq (Stops 3) (drop at.old tokens.now) (drop at.new tokens.now) (statement_of s)) }
-    ensures bad { IfErr result (λ e. WhenFault e (Bad Seq (Stops 3) (drop at.old tokens.now) (drop at.new tokens.now))) }
+    ensures good { IfOk result (λ s. Good Seq (Stops 3) (drop at.old tokens.now) (drop at.new tokens.now)
+        (statement_of s)) }
+    ensures bad { IfErr result (λ e.
+        WhenFault e (Bad Seq (Stops 3) (drop at.old tokens.now) (drop at.new tokens.now))) }
 {
     let first = both(alloc, tokens, at)?;
     if !mark_at(tokens, *at, Mark::Semicolon) {
@@ -202,8 +216,10 @@ pub fn par(alloc: Global, tokens: &[Token], at: &mut usize) -> Result<Stmt, Stop
     requires { at.old ≤ length tokens.now }
     ensures within { at.new ≤ length tokens.now }
     ensures moved { OnOk result (at.old < at.new) }
-    ensures good { IfOk result (λ s. Good Par (Stops 2) (drop at.old tokens.now) (drop at.new tokens.now) (statement_of s)) }
-    ensures bad { IfErr result (λ e. WhenFault e (Bad Par (Stops 2) (drop at.old tokens.now) (drop at.new tokens.now))) }
+    ensures good { IfOk result (λ s. Good Par (Stops 2) (drop at.old tokens.now) (drop at.new tokens.now)
+        (statement_of s)) }
+    ensures bad { IfErr result (λ e.
+        WhenFault e (Bad Par (Stops 2) (drop at.old tokens.now) (drop at.new tokens.now))) }
 {
     let first = seq(alloc, tokens, at)?;
     if !mark_at(tokens, *at, Mark::BarBar) {

@@ -19,4 +19,5 @@ pub returns-in-Err-Refused-share-clause-stopped : goal.returns-in-Err-Refused-sh
 returns-in-Err-Refused-share-clause-stopped c =
     let free = c.if-not-is_call_free.ensures.0 refl in
     let place = rw c.in-Err-Refused-share.field-0-is at c.in-Err-Refused-share.ensures.place in
-    faulty free (rw c.in-Err-Refused-share.fault-is (shared_fault (program_of c.args.program.now) (typed_of c.in-Ok.typed) _ c.in-Ok.ensures.form c.in-Ok.ensures.accepted place))
+    faulty free (rw c.in-Err-Refused-share.fault-is (shared_fault (program_of c.args.program.now) (typed_of c.in-Ok.typed) _ c.in-Ok.ensures.form
+        c.in-Ok.ensures.accepted place))

@@ -11,8 +11,10 @@ decreases-advanced l = goal.size-advanced l
 
 abbrev pub invariant-loop-index : goal.invariant-loop-index
 invariant-loop-index l = record {
-  lefts : front l.next.items (each_advanced (outset_of l.config) (process_of l.stmt) l.index (several_of (drop l.index l.left-items))) ≡ each_advanced (outset_of l.config) (process_of l.stmt) 0 (several_of l.left-items);
-  moves : l.moves.items ++ moves_of (outset_of l.config) (each_statements (process_of l.stmt) l.index (several_of (drop l.index l.left-items))) ≡ l.fn.moves.items ++ moves_of (outset_of l.config) (statements (process_of l.stmt) (remains_of l.left));
+  lefts : front l.next.items (each_advanced (outset_of l.config) (process_of l.stmt) l.index (several_of (drop l.index l.left-items))) ≡
+      each_advanced (outset_of l.config) (process_of l.stmt) 0 (several_of l.left-items);
+  moves : l.moves.items ++ moves_of (outset_of l.config) (each_statements (process_of l.stmt) l.index (several_of (drop l.index l.left-items))) ≡
+      l.fn.moves.items ++ moves_of (outset_of l.config) (statements (process_of l.stmt) (remains_of l.left));
   remains : EachCanRemain (process_of l.stmt) l.index (several_of (drop l.index l.left-items));
   count : length l.left-items ≡ part_count (process_of l.stmt);
 }

@@ -9,8 +9,10 @@ decreases-note l = goal.size-note l
 
 abbrev pub invariant-loop-index : goal.invariant-loop-index
 invariant-loop-index l = record {
-  sends : fold (noted_send l.waits) l.sends (each_statements (process_of l.stmt) l.index (several_of (drop l.index l.left-items))) ≡ fold (noted_send l.waits) l.fn.sends (statements (process_of l.stmt) (remains_of l.left));
-  receives : fold (noted_receive l.waits) l.receives (each_statements (process_of l.stmt) l.index (several_of (drop l.index l.left-items))) ≡ fold (noted_receive l.waits) l.fn.receives (statements (process_of l.stmt) (remains_of l.left));
+  sends : fold (noted_send l.waits) l.sends (each_statements (process_of l.stmt) l.index (several_of (drop l.index l.left-items))) ≡
+      fold (noted_send l.waits) l.fn.sends (statements (process_of l.stmt) (remains_of l.left));
+  receives : fold (noted_receive l.waits) l.receives (each_statements (process_of l.stmt) l.index (several_of (drop l.index l.left-items))) ≡
+      fold (noted_receive l.waits) l.fn.receives (statements (process_of l.stmt) (remains_of l.left));
   channels : RunsOn (length l.sends) (process_of l.stmt);
   tables : length l.receives ≡ length l.sends;
   remains : EachCanRemain (process_of l.stmt) l.index (several_of (drop l.index l.left-items));

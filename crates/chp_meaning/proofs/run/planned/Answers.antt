@@ -11,6 +11,8 @@ returns-clause-unchanged c = record {
   store = refl;
   rests = refl;
   histories = refl;
-  sends = sends_cleared c.args.config.now.sends _ _ _ _ _ (statements (process_of c.args.body.now) (remains_of c.args.config.now.left)) c.requires.sends c.deref_mut.ensures.value c.note.ensures.sends c.deref_mut-3.ensures.value c.note-2.ensures.sends;
-  receives = receives_cleared c.args.config.now.receives _ _ _ _ _ (statements (process_of c.args.body.now) (remains_of c.args.config.now.left)) c.requires.receives c.deref_mut-2.ensures.value c.note.ensures.receives c.deref_mut-4.ensures.value c.note-2.ensures.receives;
+  sends = sends_cleared c.args.config.now.sends _ _ _ _ _ (statements (process_of c.args.body.now) (remains_of c.args.config.now.left)) c.requires.sends
+      c.deref_mut.ensures.value c.note.ensures.sends c.deref_mut-3.ensures.value c.note-2.ensures.sends;
+  receives = receives_cleared c.args.config.now.receives _ _ _ _ _ (statements (process_of c.args.body.now) (remains_of c.args.config.now.left))
+      c.requires.receives c.deref_mut-2.ensures.value c.note.ensures.receives c.deref_mut-4.ensures.value c.note-2.ensures.receives;
 }

@@ -9,7 +9,8 @@ use Rattle.chp_meaning.proofs.run.run_of.Given as goal
 abbrev pub invariant-loop-made : goal.invariant-loop-made
 invariant-loop-made l = record {
   standing : IsStanding (process_of l.body) l.config;
-  so_far : Fits (configuration_of (process_of l.body) l.fn.config).term → configuration_of (process_of l.body) l.config ≡ rounds_from (configuration_of (process_of l.body) l.fn.config) l._made;
+  so_far : Fits (configuration_of (process_of l.body) l.fn.config).term →
+      configuration_of (process_of l.body) l.config ≡ rounds_from (configuration_of (process_of l.body) l.fn.config) l._made;
   count : l.count ≡ held (histories_of l.config);
   most : l.count ≤ l.most;
 }

@@ -13,7 +13,8 @@ once : (text : List ℕ) (k j : FaultCode) (s t : Span) → RefusedText text k s
 once text k j s t (bad_token a) (bad_token b) = (refl, one_bad text s t a b)
 once text k j s t (bad_token a) (bad_tokens ts cut r) = absurd (bad_no_cut text s a ts cut)
 once text k j s t (bad_tokens ts cut r) (bad_token b) = absurd (bad_no_cut text t b ts cut)
-once text k j s t (bad_tokens ts cut r) (bad_tokens us other q) = refused_once (subst (λ (l : List Token). RefusedTokens l (length text) k s) (one_cut text ts us cut other) r) q
+once text k j s t (bad_tokens ts cut r) (bad_tokens us other q) =
+    refused_once (subst (λ (l : List Token). RefusedTokens l (length text) k s) (one_cut text ts us cut other) r) q
 
 none : (text : List ℕ) (k : FaultCode) (s : Span) (p : ProgramTree) → RefusedText text k s → Reads text p → ⊥
 none text k s p (bad_token b) r = bad_no_cut text s b r.tokens r.cut

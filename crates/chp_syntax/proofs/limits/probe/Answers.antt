@@ -5,4 +5,5 @@ use Rattle.chp_syntax.proofs.limits.probe.Goals as goal
 
 pub returns-then-is_probe-clause-some : goal.returns-then-is_probe-clause-some
 returns-then-is_probe-clause-some c =
-    first_at is_probe c.args.tokens.now c.loop-token.token-index c.token-item.result c.loop-token-test.true c.token-item.is c.loop-token.invariant (sym c.if-is_probe.ensures)
+    first_at is_probe c.args.tokens.now c.loop-token.token-index c.token-item.result c.loop-token-test.true c.token-item.is c.loop-token.invariant
+    (sym c.if-is_probe.ensures)

@@ -14,12 +14,14 @@ use Rattle.chp_syntax.proofs.RefusedLemmas.{refused_none}
 use Rattle.chp_syntax.proofs.parser.parse.Goals as goal
 
 -- bytes that are no token
-of_bytes : (text : List ℕ) (e : TextError) → IfRefused (λ f. f.code ≡ code.BadToken) e → IfRefused (λ f. BadToken text f.at) e → IfRefused (λ f. RefusedText text f.code f.at) e
+of_bytes : (text : List ℕ) (e : TextError) → IfRefused (λ f. f.code ≡ code.BadToken) e → IfRefused (λ f. BadToken text f.at) e →
+    IfRefused (λ f. RefusedText text f.code f.at) e
 of_bytes text (Refused f) k b = subst (λ (c : FaultCode). RefusedText text c f.at) (sym k) (bad_token b)
 of_bytes text (NoMemory m) k b = tt
 
 -- tokens that are refused
-of_tokens : (text : List ℕ) (ts : List Token) (e : TextError) → Tokens text ts → IfRefused (λ f. RefusedTokens ts (length text) f.code f.at) e → IfRefused (λ f. RefusedText text f.code f.at) e
+of_tokens : (text : List ℕ) (ts : List Token) (e : TextError) → Tokens text ts → IfRefused (λ f. RefusedTokens ts (length text) f.code f.at) e →
+    IfRefused (λ f. RefusedText text f.code f.at) e
 of_tokens text ts (Refused f) cut r = bad_tokens ts cut r
 of_tokens text ts (NoMemory m) cut r = tt
 
@@ -34,7 +36,8 @@ uncut : (text : List ℕ) (e : TextError) → IfRefused (λ f. (ts : List Token)
 uncut text (Refused f) h = λ q r. h r.tokens r.cut
 uncut text (NoMemory m) h = tt
 
-unread : (text : List ℕ) (ts : List Token) (end : ℕ) (e : TextError) → ((us : List Token) → Tokens text us → us ≡ ts) → IfRefused (λ f. RefusedTokens ts end f.code f.at) e → IfRefused (λ f. (q : ProgramTree) → ¬ Reads text q) e
+unread : (text : List ℕ) (ts : List Token) (end : ℕ) (e : TextError) → ((us : List Token) → Tokens text us → us ≡ ts) →
+    IfRefused (λ f. RefusedTokens ts end f.code f.at) e → IfRefused (λ f. (q : ProgramTree) → ¬ Reads text q) e
 unread text ts end (Refused f) only r = λ q reads. refused_none only r q reads
 unread text ts end (NoMemory m) only r = tt
 
@@ -43,7 +46,8 @@ returns-in-Err-clause-refused c = uncut c.args.text.now c.in-Err.e c.in-Err.ensu
 
 pub returns-clause-refused : goal.returns-clause-refused
 returns-clause-refused c =
-    unread c.args.text.now c.in-Ok.tokens.items (length c.args.text.now) c.in-Err-parse_list.e c.in-Ok.ensures.only (rw c.deref.ensures.value at c.in-Err-parse_list.ensures.place)
+    unread c.args.text.now c.in-Ok.tokens.items (length c.args.text.now) c.in-Err-parse_list.e c.in-Ok.ensures.only
+    (rw c.deref.ensures.value at c.in-Err-parse_list.ensures.place)
 
 pub returns-in-Ok-parse_list-clause-shaped : goal.returns-in-Ok-parse_list-clause-shaped
 returns-in-Ok-parse_list-clause-shaped c =

@@ -24,12 +24,14 @@ returns-in-Err-Syntax-clause-place c =
     let ts = c.args.tokens.now in
     let end = c.args.end in
     let here = c.spot_at-at.ensures ∙ ap (λ (n : ℕ). spot (drop n ts) end) c.in-Err-Syntax.first-is in
-    rw c.refusal-in-Err-Syntax.ensures (subst (λ (s : Span). RefusedTokens ts end code.Syntax s) (sym here) (no_program plain c.in_default-too_deep.ensures.none fault))
+    rw c.refusal-in-Err-Syntax.ensures (subst (λ (s : Span). RefusedTokens ts end code.Syntax s) (sym here)
+    (no_program plain c.in_default-too_deep.ensures.none fault))
 
 pub returns-in-Some-arms-clause-place : goal.returns-in-Some-arms-clause-place
 returns-in-Some-arms-clause-place c =
     let plain : IsPlain c.args.tokens.now = record { probes = c.in_default.ensures.none; arbiters = c.in_default-arbiter.ensures.none } in
-    rw c.refusal-in-Some-arms.ensures (too_many_arms (program_of c.in-Ok.program) plain c.in_default-too_deep.ensures.none c.in-Ok.ensures.reads (rw c.in-Some-arms.is at c.in-Ok-seventeenth_arm.ensures.some))
+    rw c.refusal-in-Some-arms.ensures (too_many_arms (program_of c.in-Ok.program) plain c.in_default-too_deep.ensures.none c.in-Ok.ensures.reads
+    (rw c.in-Some-arms.is at c.in-Ok-seventeenth_arm.ensures.some))
 
 pub returns-clause-few_in_procs : goal.returns-clause-few_in_procs
 returns-clause-few_in_procs c = (few_in_program c.in-Ok.ensures.reads (rw c.in_default-arms.is at c.in-Ok-seventeenth_arm.ensures.none)).0

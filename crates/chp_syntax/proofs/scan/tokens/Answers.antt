@@ -19,8 +19,11 @@ loop-at-preserved-in-Gap c =
 
 pub loop-at-preserved : goal.loop-at-preserved
 loop-at-preserved c =
-    let token : IsToken c.in-Piece.kind c.in-Piece.length (drop c.loop-at.at c.args.text.now) = front_at c.args.text.now c.loop-at.at _ _ c.in_ok-length.ensures c.in-Piece.is in
-    (omega (arith, (token_within _ _ _ token).1, length-drop c.loop-at.at c.args.text.now), rw (c.in_ok-push-in-Piece.ensures.items, c.span.ensures) (cut_token _ _ _ _ _ c.loop-at.invariant.1 token))
+    let token : IsToken c.in-Piece.kind c.in-Piece.length (drop c.loop-at.at c.args.text.now) =
+    front_at c.args.text.now c.loop-at.at _ _ c.in_ok-length.ensures c.in-Piece.is in (
+      omega (arith, (token_within _ _ _ token).1, length-drop c.loop-at.at c.args.text.now),
+      rw (c.in_ok-push-in-Piece.ensures.items, c.span.ensures) (cut_token _ _ _ _ _ c.loop-at.invariant.1 token),
+    )
 
 pub returns-in-Bad-clause-refused : goal.returns-in-Bad-clause-refused
 returns-in-Bad-clause-refused c =

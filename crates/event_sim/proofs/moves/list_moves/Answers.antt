@@ -25,7 +25,8 @@ loop-node-preserved c =
     let more = passes_more p n in
     elim c.if-has_move.branch [
       | then-has_move w ↦ record {
-        moves = rw w.moves-is (w.push_reserved.ensures.items ∙ ap (λ xs. xs ++ n ∷ []) c.loop-node.invariant.moves ∙ sym (with_true (p n) _ n (sym c.has_move.ensures ∙ w.if-has_move.true)) ∙ sym more);
+        moves = rw w.moves-is (w.push_reserved.ensures.items ∙ ap (λ xs. xs ++ n ∷ []) c.loop-node.invariant.moves
+            ∙ sym (with_true (p n) _ n (sym c.has_move.ensures ∙ w.if-has_move.true)) ∙ sym more);
         room = rw w.moves-is (w.push_reserved.ensures.capacity ∙ c.loop-node.invariant.room);
       }
       | else-has_move w ↦ record {

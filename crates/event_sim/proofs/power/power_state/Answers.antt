@@ -12,5 +12,7 @@ loop-node-preserved c =
     let p = power_value c.args.net.now c.args.high in
     record {
       count = ap length c.settle.ensures ∙ length-set c.loop-node.state n _ ∙ c.loop-node.invariant.count;
-      settled = ap (take (n + 1)) c.settle.ensures ∙ take_more_set c.loop-node.state n _ within ∙ ap (λ (vs : List Bool). vs ++ c.power_value.result ∷ []) c.loop-node.invariant.settled ∙ ap (λ (b : Bool). map p (range_with_len 0 n) ++ b ∷ []) c.power_value.ensures ∙ sym (map-range_with_len_more p 0 n n (omega arith));
+      settled = ap (take (n + 1)) c.settle.ensures ∙ take_more_set c.loop-node.state n _ within
+          ∙ ap (λ (vs : List Bool). vs ++ c.power_value.result ∷ []) c.loop-node.invariant.settled
+          ∙ ap (λ (b : Bool). map p (range_with_len 0 n) ++ b ∷ []) c.power_value.ensures ∙ sym (map-range_with_len_more p 0 n n (omega arith));
     }

@@ -9,7 +9,8 @@ use Rattle.handshake_expand.proofs.answer.+answer_node.Given as goal
 
 abbrev pub invariant-loop-place : goal.invariant-loop-place
 invariant-loop-place l = record {
-  answer : turn_answer (program_of l.program) (members_of (drop l.place l.parts.items)) l.next ≡ answer_of (program_of l.fn.program) (process_of l.fn.s) l.fn.from;
+  answer : turn_answer (program_of l.program) (members_of (drop l.place l.parts.items)) l.next ≡ answer_of (program_of l.fn.program) (process_of l.fn.s)
+      l.fn.from;
   room : l.next + turn_size (program_of l.program) (members_of (drop l.place l.parts.items)) < 2 ^ 32;
   formed : AreProcesses l.program.channels l.program.vars (members_of (drop l.place l.parts.items));
 }

@@ -6,6 +6,7 @@ use Rattle.handshake_expand.proofs.blocks.channel_blocks.Given as goal
 
 abbrev pub invariant-loop-channel : goal.invariant-loop-channel
 invariant-loop-channel l = record {
-  blocks : map block_value l.blocks.items ++ blocks_from (channel_block (program_of l.program) []) l.channel-index (drop l.channel-index l.channel-items) ≡ blocks_from (channel_block (program_of l.program) []) 0 l.channel-items;
+  blocks : map block_value l.blocks.items ++ blocks_from (channel_block (program_of l.program) []) l.channel-index (drop l.channel-index l.channel-items) ≡
+      blocks_from (channel_block (program_of l.program) []) 0 l.channel-items;
   next : l.next ≡ 2 + wires_before l.channel-items l.channel-index;
 }

@@ -23,7 +23,8 @@ loop-site-preserved c =
     }
 
 pub returns-clause-channels : goal.returns-clause-channels
-returns-clause-channels c p same = c.loop-site.invariant.channels p same ∙ ap (channel_blocks p) (take_all c.loop-site.site-index c.args.sites.now c.loop-site-test.false)
+returns-clause-channels c p same = c.loop-site.invariant.channels p same
+    ∙ ap (channel_blocks p) (take_all c.loop-site.site-index c.args.sites.now c.loop-site-test.false)
 
 pub returns-clause-vars : goal.returns-clause-vars
 returns-clause-vars c p same = c.loop-site.invariant.vars p same ∙ ap (var_blocks p) (take_all c.loop-site.site-index c.args.sites.now c.loop-site-test.false)

@@ -5,6 +5,7 @@ use Rattle.handshake_expand.proofs.blocks.place_sites.Given as goal
 
 abbrev pub invariant-loop-site : goal.invariant-loop-site
 invariant-loop-site l = record {
-  channels : (p : TypedProgram) → map block_value l.initial.channels ≡ channel_blocks p [] → map block_value l.channels ≡ channel_blocks p (take l.site-index l.sites);
+  channels : (p : TypedProgram) → map block_value l.initial.channels ≡ channel_blocks p [] →
+      map block_value l.channels ≡ channel_blocks p (take l.site-index l.sites);
   vars : (p : TypedProgram) → map block_value l.initial.vars ≡ var_blocks p [] → map block_value l.vars ≡ var_blocks p (take l.site-index l.sites);
 }

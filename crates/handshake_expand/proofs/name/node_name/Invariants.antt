@@ -13,6 +13,7 @@ invariant-loop-channel l = record {
 
 abbrev pub invariant-loop-var : goal.invariant-loop-var
 invariant-loop-var l = record {
-  name : get_or (names_from_blocks (program_of l.program) (drop l.var-index l.var-items) (vars_from (program_of l.program) + blocks_before l.var-items l.var-index)) l.place [] ≡ name_of_node (program_of l.program) l.node;
+  name : get_or (names_from_blocks (program_of l.program) (drop l.var-index l.var-items)
+      (vars_from (program_of l.program) + blocks_before l.var-items l.var-index)) l.place [] ≡ name_of_node (program_of l.program) l.node;
   at : vars_from (program_of l.program) + blocks_before l.var-items l.var-index + l.place ≡ l.node;
 }

@@ -5,7 +5,8 @@ use Rattle.handshake_expand.specs.Named.{bit_tails, bits_named}
 use Rattle.handshake_expand.proofs.NameLists.{bit_named}
 use Rattle.handshake_expand.proofs.name.var_name.Goals as goal
 
-named : (v : Var) (name tail : List ℕ) (node : ℕ) → name ≡ v.name → tail ≡ get_or bit_tails (node % 5) [] → node < 5 * v.width → name ++ codes "." ++ decimal (node / 5) ++ tail ≡ get_or (bits_named v) node []
+named : (v : Var) (name tail : List ℕ) (node : ℕ) → name ≡ v.name → tail ≡ get_or bit_tails (node % 5) [] → node < 5 * v.width →
+    name ++ codes "." ++ decimal (node / 5) ++ tail ≡ get_or (bits_named v) node []
 named v name tail node is of within =
     ap (λ n. n ++ codes "." ++ decimal (node / 5) ++ tail) is
     ∙ (ap (λ t. v.name ++ codes "." ++ decimal (node / 5) ++ t) of

@@ -5,10 +5,12 @@ use Rattle.handshake_expand.specs.Named.{wires_named}
 use Rattle.handshake_expand.proofs.NameLists.{ack_named, true_named, false_named}
 use Rattle.handshake_expand.proofs.name.wire_name.Goals as goal
 
-true_side : (c : Channel) (name : _) (wire : _) → name ≡ c.name → wire < 2 * c.width → wire % 2 ≡ 0 → name ++ codes "." ++ decimal (wire / 2) ++ codes ".t" ≡ get_or (wires_named c) wire []
+true_side : (c : Channel) (name : _) (wire : _) → name ≡ c.name → wire < 2 * c.width → wire % 2 ≡ 0 →
+    name ++ codes "." ++ decimal (wire / 2) ++ codes ".t" ≡ get_or (wires_named c) wire []
 true_side c name wire is within side = ap (λ n. n ++ codes "." ++ decimal (wire / 2) ++ codes ".t") is ∙ sym (true_named c wire within side)
 
-false_side : (c : Channel) (name : _) (wire : _) → name ≡ c.name → wire < 2 * c.width → 0 < wire % 2 → name ++ codes "." ++ decimal (wire / 2) ++ codes ".f" ≡ get_or (wires_named c) wire []
+false_side : (c : Channel) (name : _) (wire : _) → name ≡ c.name → wire < 2 * c.width → 0 < wire % 2 →
+    name ++ codes "." ++ decimal (wire / 2) ++ codes ".f" ≡ get_or (wires_named c) wire []
 false_side c name wire is within side = ap (λ n. n ++ codes "." ++ decimal (wire / 2) ++ codes ".f") is ∙ sym (false_named c wire within side)
 
 pub returns-then-wire-from-clause-name : goal.returns-then-wire-from-clause-name

@@ -8,7 +8,9 @@ use Rattle.handshake_expand.proofs.print.+part_lines.Given as goal
 
 abbrev pub invariant-loop-child : goal.invariant-loop-child
 invariant-loop-child l = record {
-  lines : (level : ℕ) → l.fn.margin.items ≡ indent level → l.to.items ++ child_lines (program_of l.program) (suc level) (each_tree (drop l.child-index l.child-items)) ≡ l.fn.to.items ++ part_lines (program_of l.program) level (tree_of l.fn.part);
+  lines : (level : ℕ) → l.fn.margin.items ≡ indent level →
+      l.to.items ++ child_lines (program_of l.program) (suc level) (each_tree (drop l.child-index l.child-items)) ≡ l.fn.to.items
+      ++ part_lines (program_of l.program) level (tree_of l.fn.part);
   margin : l.margin.items ≡ l.fn.margin.items ++ codes "  ";
   nodes : HaveNodesBelow (nodes_of (program_of l.program)) (each_tree (drop l.child-index l.child-items));
 }

@@ -13,8 +13,10 @@ abbrev pub invariant-sequence-loop-place : goal.invariant-sequence-loop-place
 invariant-sequence-loop-place l =
     let p = program_of l.program in
     record {
-      children : in_front l.children.items (expanded_in_turn p (members_of (drop l.place l.members)) l.asked l.next) ≡ expanded_in_turn p (members_of l.members) l.fn.request l.fn.from;
-      sites : l.sites.items ++ sites_in_turn p (own_sites p) (members_of (drop l.place l.members)) l.next ≡ l.fn.sites.items ++ sites_in_turn p (own_sites p) (members_of l.members) l.fn.from;
+      children : in_front l.children.items (expanded_in_turn p (members_of (drop l.place l.members)) l.asked l.next) ≡ expanded_in_turn p (members_of l.members)
+          l.fn.request l.fn.from;
+      sites : l.sites.items ++ sites_in_turn p (own_sites p) (members_of (drop l.place l.members)) l.next ≡ l.fn.sites.items
+          ++ sites_in_turn p (own_sites p) (members_of l.members) l.fn.from;
       size : l.next + turn_size p (members_of (drop l.place l.members)) ≡ l.fn.from + turn_size p (members_of l.members);
       answer : turn_answer p (members_of (drop l.place l.members)) l.next ≡ turn_answer p (members_of l.members) l.fn.from;
       formed : AreProcesses l.program.channels l.program.vars (members_of (drop l.place l.members));
@@ -25,8 +27,10 @@ abbrev pub invariant-parallel-loop-branch : goal.invariant-parallel-loop-branch
 invariant-parallel-loop-branch l =
     let p = program_of l.program in
     record {
-      children : in_front l.children.items (expanded_branches p (members_of (drop l.branch-index l.branches)) l.next) ≡ expanded_branches p (members_of l.branches) l.fn.from;
-      sites : l.sites.items ++ sites_in_branches p (own_sites p) (members_of (drop l.branch-index l.branches)) l.next ≡ l.fn.sites.items ++ sites_in_branches p (own_sites p) (members_of l.branches) l.fn.from;
+      children : in_front l.children.items (expanded_branches p (members_of (drop l.branch-index l.branches)) l.next) ≡
+          expanded_branches p (members_of l.branches) l.fn.from;
+      sites : l.sites.items ++ sites_in_branches p (own_sites p) (members_of (drop l.branch-index l.branches)) l.next ≡ l.fn.sites.items
+          ++ sites_in_branches p (own_sites p) (members_of l.branches) l.fn.from;
       size : l.next + branches_size p (members_of (drop l.branch-index l.branches)) ≡ l.fn.from + branches_size p (members_of l.branches);
       formed : AreProcesses l.program.channels l.program.vars (members_of (drop l.branch-index l.branches));
     }
@@ -37,8 +41,10 @@ invariant-selection-loop-arm l =
     let own = own_before l.fn.again in
     let choices = arms_of l.arms in
     record {
-      children : in_front l.children.items (expanded_bodies p (arms_of (drop l.arm-index l.arms)) l.start l.next) ≡ expanded_bodies p choices (l.fn.from + own + choice_count choices) (bodies_from choices own l.fn.from);
-      sites : l.sites.items ++ sites_in_bodies p (own_sites p) (arms_of (drop l.arm-index l.arms)) l.next ≡ l.fn.sites.items ++ sites_in_bodies p (own_sites p) choices (bodies_from choices own l.fn.from);
+      children : in_front l.children.items (expanded_bodies p (arms_of (drop l.arm-index l.arms)) l.start l.next) ≡
+          expanded_bodies p choices (l.fn.from + own + choice_count choices) (bodies_from choices own l.fn.from);
+      sites : l.sites.items ++ sites_in_bodies p (own_sites p) (arms_of (drop l.arm-index l.arms)) l.next ≡ l.fn.sites.items
+          ++ sites_in_bodies p (own_sites p) choices (bodies_from choices own l.fn.from);
       size : l.next + bodies_size p (arms_of (drop l.arm-index l.arms)) ≡ l.fn.from + size_of p (choosing l.fn.again choices);
       starts : l.start + (length l.arms - l.arm-index) ≤ l.fn.from + size_of p (choosing l.fn.again choices);
       formed : AreChoices l.program.channels l.program.vars (arms_of (drop l.arm-index l.arms));

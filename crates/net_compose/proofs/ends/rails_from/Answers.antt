@@ -7,7 +7,8 @@ pub loop-bit-init : goal.loop-bit-init
 loop-bit-init c =
     let all : c.args.width - 0 ≡ c.args.width = omega arith in
     record {
-      rails = ap (λ n. c.new-rails.result.items ++ rails_of (pairs_from n c.args.from)) all ∙ ap (λ xs. xs ++ rails_of (pairs_from c.args.width c.args.from)) c.new-rails.ensures.items;
+      rails = ap (λ n. c.new-rails.result.items ++ rails_of (pairs_from n c.args.from)) all
+          ∙ ap (λ xs. xs ++ rails_of (pairs_from c.args.width c.args.from)) c.new-rails.ensures.items;
       node = omega arith;
     }
 
@@ -22,4 +23,5 @@ loop-bit-preserved c =
     }
 
 pub returns : goal.returns
-returns c = rails_done c.loop-bit.rails.items _ (c.args.width - c.loop-bit._bit) c.loop-bit.node (omega (arith, c.loop-bit-test.false)) c.loop-bit.invariant.rails
+returns c = rails_done c.loop-bit.rails.items _ (c.args.width - c.loop-bit._bit) c.loop-bit.node (omega (arith, c.loop-bit-test.false))
+    c.loop-bit.invariant.rails

@@ -16,10 +16,12 @@ pub loop-bit-preserved : goal.loop-bit-preserved
 loop-bit-preserved c =
     let left : c.args.width - c.loop-bit._bit ≡ suc (c.args.width - (c.loop-bit._bit + 1)) = omega (arith, c.loop-bit-test.true) in
     record {
-      raised = raise_step (c.args.width - c.loop-bit._bit) (c.args.width - (c.loop-bit._bit + 1)) c.loop-bit.left c.loop-bit.node c.rail_of-rail.result c.loop-bit.first _ left c.rail_of-rail.ensures.value c.loop-bit.invariant.raised;
+      raised = raise_step (c.args.width - c.loop-bit._bit) (c.args.width - (c.loop-bit._bit + 1)) c.loop-bit.left c.loop-bit.node c.rail_of-rail.result
+          c.loop-bit.first _ left c.rail_of-rail.ensures.value c.loop-bit.invariant.raised;
       count = length-set c.loop-bit.first c.rail_of-rail.result _ ∙ c.loop-bit.invariant.count;
       node = omega (arith, c.loop-bit.invariant.node);
     }
 
 pub returns-clause-raised : goal.returns-clause-raised
-returns-clause-raised c = raise_end (c.args.width - c.loop-bit._bit) c.loop-bit.left c.loop-bit.node c.loop-bit.first _ (omega (arith, c.loop-bit-test.false)) c.loop-bit.invariant.raised
+returns-clause-raised c = raise_end (c.args.width - c.loop-bit._bit) c.loop-bit.left c.loop-bit.node c.loop-bit.first _ (omega (arith, c.loop-bit-test.false))
+    c.loop-bit.invariant.raised

@@ -21,7 +21,8 @@ loop-arm-init c = record {
 
 pub expr_nodes-size-requires : goal.expr_nodes-size-requires
 expr_nodes-size-requires c =
-    (guard_typed (program_of c.args.program.now) c.args.arms.now c.loop-arm.arm-index _ c.loop-arm-test.true c.arm-item.is _ _ c.loop-arm.invariant.formed).0.formed
+    (guard_typed (program_of c.args.program.now) c.args.arms.now c.loop-arm.arm-index _ c.loop-arm-test.true c.arm-item.is _ _
+        c.loop-arm.invariant.formed).0.formed
 
 pub overflow_cast-size : goal.overflow_cast-size
 overflow_cast-size c =
@@ -30,11 +31,13 @@ overflow_cast-size c =
 
 pub emit_formula-requires-clause-formed : goal.emit_formula-requires-clause-formed
 emit_formula-requires-clause-formed c =
-    (guard_typed (program_of c.args.program.now) c.args.arms.now c.loop-arm.arm-index _ c.loop-arm-test.true c.arm-item.is _ _ c.loop-arm.invariant.formed).0.formed
+    (guard_typed (program_of c.args.program.now) c.args.arms.now c.loop-arm.arm-index _ c.loop-arm-test.true c.arm-item.is _ _
+        c.loop-arm.invariant.formed).0.formed
 
 pub emit_formula-requires-clause-reads : goal.emit_formula-requires-clause-reads
 emit_formula-requires-clause-reads c =
-    (guard_typed (program_of c.args.program.now) c.args.arms.now c.loop-arm.arm-index _ c.loop-arm-test.true c.arm-item.is _ _ c.loop-arm.invariant.formed).0.reads
+    (guard_typed (program_of c.args.program.now) c.args.arms.now c.loop-arm.arm-index _ c.loop-arm-test.true c.arm-item.is _ _
+        c.loop-arm.invariant.formed).0.reads
 
 pub emit_formula-requires-clause-before : goal.emit_formula-requires-clause-before
 emit_formula-requires-clause-before c = omega (arith, c.loop-arm.invariant.low, c.requires.before)
@@ -63,7 +66,8 @@ loop-arm-preserved c =
     let at : next + c.expr_nodes-size.result ≡ next + formula_size (formula_of a.guard) = ap (λ n. next + n) size in
     record {
       rules = guards_step p arms i a c.loop-arm-test.true c.arm-item.is c.args.request next (next + c.expr_nodes-size.result) c.loop-arm.rules _ _ at
-          (c.rules_counted.ensures p.vars (bits_at p) (has_bits p) (formula_of a.guard) c.args.request next typed.0.formed typed.0.reads) c.in_ok-pair.ensures.made c.loop-arm.invariant.rules;
+          (c.rules_counted.ensures p.vars (bits_at p) (has_bits p) (formula_of a.guard) c.args.request next typed.0.formed typed.0.reads)
+              c.in_ok-pair.ensures.made c.loop-arm.invariant.rules;
       rails = pairs_step p arms i a c.loop-arm-test.true c.arm-item.is next (next + c.expr_nodes-size.result) c.loop-arm.rails.items _ _ _ at
           (c.deref.ensures.value ∙ c.in_ok-pair.ensures.rails) c.in_ok-extend_from_slice.ensures.items c.loop-arm.invariant.rails;
       count = omega (arith, c.emit_formula.ensures.nodes, c.loop-arm.invariant.count);
@@ -73,7 +77,9 @@ loop-arm-preserved c =
     }
 
 pub returns-clause-made : goal.returns-clause-made
-returns-clause-made c = guards_done (program_of c.args.program.now) c.args.arms.now c.loop-arm.arm-index c.loop-arm-test.false c.args.request c.loop-arm.next c.loop-arm.rules _ c.loop-arm.invariant.rules
+returns-clause-made c = guards_done (program_of c.args.program.now) c.args.arms.now c.loop-arm.arm-index c.loop-arm-test.false c.args.request c.loop-arm.next
+    c.loop-arm.rules _ c.loop-arm.invariant.rules
 
 pub returns-clause-rails : goal.returns-clause-rails
-returns-clause-rails c = pairs_done (program_of c.args.program.now) c.args.arms.now c.loop-arm.arm-index c.loop-arm-test.false c.loop-arm.next c.loop-arm.rails.items _ c.loop-arm.invariant.rails
+returns-clause-rails c = pairs_done (program_of c.args.program.now) c.args.arms.now c.loop-arm.arm-index c.loop-arm-test.false c.loop-arm.next
+    c.loop-arm.rails.items _ c.loop-arm.invariant.rails

@@ -12,7 +12,8 @@ abbrev pub invariant-loop-arm : goal.invariant-loop-arm
 invariant-loop-arm l =
     let p = program_of l.program in
     record {
-      rules : with_owned (owned_from l.next (guards_rules p (arms_of (drop l.arm-index l.arms)) l.request l.next)) l.rules ≡ with_owned (owned_from l.from (guards_rules p (arms_of l.arms) l.request l.from)) l.fn.rules;
+      rules : with_owned (owned_from l.next (guards_rules p (arms_of (drop l.arm-index l.arms)) l.request l.next)) l.rules ≡
+          with_owned (owned_from l.from (guards_rules p (arms_of l.arms) l.request l.from)) l.fn.rules;
       rails : l.rails.items ++ rails_of (guard_pairs (arms_of (drop l.arm-index l.arms)) l.next) ≡ rails_of (guard_pairs (arms_of l.arms) l.from);
       count : length l.rules.up ≡ length l.fn.rules.up;
       size : l.next + guards_size (arms_of (drop l.arm-index l.arms)) ≡ l.from + guards_size (arms_of l.arms);

@@ -19,20 +19,24 @@ emit_merges-requires-clause-bit c = wide_enough (rails_in c.args.sites.now) c.lo
 
 pub emit_merges-requires-clause-behind : goal.emit_merges-requires-clause-behind
 emit_merges-requires-clause-behind c =
-    each_behind (rails_in c.args.sites.now) (c.loop-bit.node + 1) (c.args.from + 2 * c.args.width) (omega (arith, c.loop-bit.invariant.node, c.loop-bit-test.true)) c.requires.behind
+    each_behind (rails_in c.args.sites.now) (c.loop-bit.node + 1) (c.args.from + 2 * c.args.width) (omega (arith, c.loop-bit.invariant.node,
+        c.loop-bit-test.true)) c.requires.behind
 
 pub emit_merges-requires-clause-within : goal.emit_merges-requires-clause-within
-emit_merges-requires-clause-within c = each_within (rails_in c.args.sites.now) (length c.args.rules.now.up) (length c.loop-bit.rules.up) c.loop-bit.invariant.count c.requires.within
+emit_merges-requires-clause-within c = each_within (rails_in c.args.sites.now) (length c.args.rules.now.up) (length c.loop-bit.rules.up)
+    c.loop-bit.invariant.count c.requires.within
 
 pub loop-bit-preserved : goal.loop-bit-preserved
 loop-bit-preserved c =
     let left : c.args.width - c.loop-bit.bit ≡ suc (c.args.width - (c.loop-bit.bit + 1)) = omega (arith, c.loop-bit-test.true) in
     record {
-      rules = rails_step (bits_in c.args.sites.now) c.loop-bit.bit (c.args.width - (c.loop-bit.bit + 1)) (c.args.width - c.loop-bit.bit) c.loop-bit.node (c.loop-bit.node + 2) c.loop-bit.rules _ _ left refl
+      rules = rails_step (bits_in c.args.sites.now) c.loop-bit.bit (c.args.width - (c.loop-bit.bit + 1)) (c.args.width - c.loop-bit.bit) c.loop-bit.node
+          (c.loop-bit.node + 2) c.loop-bit.rules _ _ left refl
           c.in_ok-emit_merges.ensures.made c.loop-bit.invariant.rules;
       count = omega (arith, c.emit_merges.ensures.nodes, c.loop-bit.invariant.count);
       node = omega (arith, c.loop-bit.invariant.node);
     }
 
 pub returns-clause-made : goal.returns-clause-made
-returns-clause-made c = rails_end (bits_in c.args.sites.now) c.loop-bit.bit (c.args.width - c.loop-bit.bit) c.loop-bit.node c.loop-bit.rules _ (omega (arith, c.loop-bit-test.false)) c.loop-bit.invariant.rules
+returns-clause-made c = rails_end (bits_in c.args.sites.now) c.loop-bit.bit (c.args.width - c.loop-bit.bit) c.loop-bit.node c.loop-bit.rules _
+    (omega (arith, c.loop-bit-test.false)) c.loop-bit.invariant.rules

@@ -17,11 +17,13 @@ loop-reader-preserved c =
     let noted = noted_more (λ n. guard_names n (up_of net m)) (λ n. guard_names n (down_of net m)) m old mid new up down in
     record {
       count = noted.count ∙ c.loop-reader.invariant.count;
-      each = λ n within. noted_reader net m old new (λ k h. c.loop-reader.invariant.each k (omega (arith, c.loop-reader.invariant.count))) noted n (omega (arith, c.loop-reader.invariant.count));
+      each = λ n within. noted_reader net m old new (λ k h. c.loop-reader.invariant.each k (omega (arith, c.loop-reader.invariant.count))) noted n
+          (omega (arith, c.loop-reader.invariant.count));
     }
 
 pub returns-clause-fan : goal.returns-clause-fan
 returns-clause-fan c =
     let net = c.args.net.now in
     let whole : c.loop-reader.reader ≡ length net.first = omega (arith, ap length c.first-nodes.ensures.first) in
-    fill_by_all (readers_below net (length net.first)) c.loop-reader.readers.items (length net.first) [] c.loop-reader.invariant.count (λ k h. rw (← whole) (c.loop-reader.invariant.each k h))
+    fill_by_all (readers_below net (length net.first)) c.loop-reader.readers.items (length net.first) [] c.loop-reader.invariant.count
+        (λ k h. rw (← whole) (c.loop-reader.invariant.each k h))

@@ -2,4 +2,5 @@ use Rattle.sharing_check.proofs.Telling.{adds_more, tells_alone}
 use Rattle.sharing_check.proofs.deeds.sent.Goals as goal
 
 pub returns : goal.returns
-returns c = tells_alone _ _ _ _ (λ a b h. h) (c.no_deeds-deeds.ensures c.args.cause) (adds_more _ _ _ _ _ _ c.in_ok-note_send.ensures c.in_ok-note_reads.ensures)
+returns c = tells_alone _ _ _ _ (λ a b h. h) (c.no_deeds-deeds.ensures c.args.cause)
+    (adds_more _ _ _ _ _ _ c.in_ok-note_send.ensures c.in_ok-note_reads.ensures)

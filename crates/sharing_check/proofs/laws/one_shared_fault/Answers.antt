@@ -13,7 +13,8 @@ not_unshared body c s t h none = none h.a h.b h.parallel h.clash
 one_pair : (body : Process) (c : FaultCode) (s t u v : Span) → IsFirstShared body c s t → IsFirstShared body c u v → (s ≡ u) × (t ≡ v)
 one_pair body c s t u v h k =
     let second : t ≡ v = no_later_one t v (h.least_second u v k.shared) (k.least_second s t h.shared) in
-    let first : s ≡ u = no_later_one s u (h.least_first u (subst (λ (w : Span). SharedAt body c u w) (sym second) k.shared)) (k.least_first s (subst (λ (w : Span). SharedAt body c s w) second h.shared)) in
+    let first : s ≡ u = no_later_one s u (h.least_first u (subst (λ (w : Span). SharedAt body c u w) (sym second) k.shared))
+        (k.least_first s (subst (λ (w : Span). SharedAt body c s w) second h.shared)) in
     (first, second)
 
 once : (body : Process) (causes : List FaultCode) (c d : FaultCode) (s t u v : Span) → IsFirstSharedFault body causes c s t

@@ -6,7 +6,8 @@ use Rattle.width_check.proofs.evaluate.+value.Given as goal
 
 abbrev pub invariant-loop-part : goal.invariant-loop-part
 invariant-loop-part l = record {
-  joined : l.number * 2 ^ widths_of (parts_of (drop l.part-index l.part-items)) + joined_value (slice_index l.store) (parts_of (drop l.part-index l.part-items)) ≡ joined_value (slice_index l.store) (parts_of l.part-items);
+  joined : l.number * 2 ^ widths_of (parts_of (drop l.part-index l.part-items)) + joined_value (slice_index l.store) (parts_of (drop l.part-index l.part-items))
+      ≡ joined_value (slice_index l.store) (parts_of l.part-items);
   formed : AreWellFormed (parts_of (drop l.part-index l.part-items));
   most : joined_value (slice_index l.store) (parts_of l.part-items) < 2 ^ 64;
   widths : widths_of (parts_of (drop l.part-index l.part-items)) ≤ 64;

@@ -10,7 +10,8 @@ use Rattle.width_check.proofs.making.+make_expression.Given as goal
 
 abbrev pub invariant-loop-part : goal.invariant-loop-part
 invariant-loop-part l = record {
-  made : before_parts l.made.items (parts_form l.scope.decls.now (parts_of (drop l.part-index l.part-items))) ≡ parts_form l.scope.decls.now (parts_of l.part-items);
+  made : before_parts l.made.items (parts_form l.scope.decls.now (parts_of (drop l.part-index l.part-items))) ≡
+      parts_form l.scope.decls.now (parts_of l.part-items);
   shaped : AreShapedParts (parts_of (drop l.part-index l.part-items));
   full : (s : Span) → ¬ Contains (lacking_parts l.scope.decls.now (parts_of (drop l.part-index l.part-items))) s;
   sound : IsSound l.scope.decls.now (met_in_parts l.scope.decls.now (parts_of (drop l.part-index l.part-items)));
@@ -18,7 +19,8 @@ invariant-loop-part l = record {
 
 abbrev pub invariant-loop-link : goal.invariant-loop-link
 invariant-loop-link l = record {
-  made : before_links l.made.items (operations_form l.scope.decls.now l.width (links_of (drop l.link-index l.link-items))) ≡ operations_form l.scope.decls.now l.width (links_of l.link-items);
+  made : before_links l.made.items (operations_form l.scope.decls.now l.width (links_of (drop l.link-index l.link-items))) ≡
+      operations_form l.scope.decls.now l.width (links_of l.link-items);
   shaped : AreShapedLinks (links_of (drop l.link-index l.link-items));
   sound : IsSound l.scope.decls.now (met_in_links l.scope.decls.now l.width (links_of (drop l.link-index l.link-items)));
   front : l.front ≡ l.initial.front;

@@ -7,40 +7,52 @@ use Rattle.width_check.proofs.Doing.{assign_sound, send_sound, receive_sound, th
 use Rattle.width_check.proofs.making.+make_statement.Goals as goal
 
 pub bits-requires-clause-declared : goal.bits-requires-clause-declared
-bits-requires-clause-declared t c = is_declared c.args.scope.now.decls.now c.in-Assign.target.name true (assign_sound c.args.scope.now.decls.now c.in-Assign.target (expression_of c.in-Assign.value) (rw c.in-Assign.is at c.requires.sound)).0
+bits-requires-clause-declared t c = is_declared c.args.scope.now.decls.now c.in-Assign.target.name true
+    (assign_sound c.args.scope.now.decls.now c.in-Assign.target (expression_of c.in-Assign.value) (rw c.in-Assign.is at c.requires.sound)).0
 
 pub make_expression-requires-clause-sound : goal.make_expression-requires-clause-sound
 make_expression-requires-clause-sound t c =
-    rw c.bits.ensures.value (assign_sound c.args.scope.now.decls.now c.in-Assign.target (expression_of c.in-Assign.value) (rw c.in-Assign.is at c.requires.sound)).1
+    rw c.bits.ensures.value (assign_sound c.args.scope.now.decls.now c.in-Assign.target (expression_of c.in-Assign.value)
+        (rw c.in-Assign.is at c.requires.sound)).1
 
 pub bits-requires-in-Send-clause-declared : goal.bits-requires-in-Send-clause-declared
-bits-requires-in-Send-clause-declared t c = is_declared c.args.scope.now.decls.now c.in-Send.chan.name false (send_sound c.args.scope.now.decls.now c.in-Send.chan (expression_of c.in-Send.value) (rw c.in-Send.is at c.requires.sound)).0
+bits-requires-in-Send-clause-declared t c =
+    is_declared c.args.scope.now.decls.now c.in-Send.chan.name false (send_sound c.args.scope.now.decls.now c.in-Send.chan (expression_of c.in-Send.value)
+    (rw c.in-Send.is at c.requires.sound)).0
 
 pub make_expression-requires-in-Send-clause-sound : goal.make_expression-requires-in-Send-clause-sound
 make_expression-requires-in-Send-clause-sound t c =
-    rw c.bits-in-Send.ensures.value (send_sound c.args.scope.now.decls.now c.in-Send.chan (expression_of c.in-Send.value) (rw c.in-Send.is at c.requires.sound)).1
+    rw c.bits-in-Send.ensures.value (send_sound c.args.scope.now.decls.now c.in-Send.chan (expression_of c.in-Send.value)
+        (rw c.in-Send.is at c.requires.sound)).1
 
 pub number-requires-in-Receive : goal.number-requires-in-Receive
-number-requires-in-Receive t c = is_declared c.args.scope.now.decls.now c.in-Receive.chan.name false (receive_sound c.args.scope.now.decls.now c.in-Receive.chan c.in-Receive.target (rw c.in-Receive.is at c.requires.sound)).0
+number-requires-in-Receive t c = is_declared c.args.scope.now.decls.now c.in-Receive.chan.name false
+    (receive_sound c.args.scope.now.decls.now c.in-Receive.chan c.in-Receive.target (rw c.in-Receive.is at c.requires.sound)).0
 
 pub number-requires-in-Receive-2 : goal.number-requires-in-Receive-2
-number-requires-in-Receive-2 t c = is_declared c.args.scope.now.decls.now c.in-Receive.target.name true (receive_sound c.args.scope.now.decls.now c.in-Receive.chan c.in-Receive.target (rw c.in-Receive.is at c.requires.sound)).1
+number-requires-in-Receive-2 t c = is_declared c.args.scope.now.decls.now c.in-Receive.target.name true
+    (receive_sound c.args.scope.now.decls.now c.in-Receive.chan c.in-Receive.target (rw c.in-Receive.is at c.requires.sound)).1
 
 pub loop-part-init : goal.loop-part-init
 loop-part-init t c =
-    let left = then_left c.args.scope.now.decls.now c.args.s.now c.in-Then.parts c.deref-part-items.result.now c.in-Then.is c.deref-part-items.ensures.value c.requires.shaped c.requires.call_free c.requires.sound in
+    let left = then_left c.args.scope.now.decls.now c.args.s.now c.in-Then.parts c.deref-part-items.result.now c.in-Then.is c.deref-part-items.ensures.value
+        c.requires.shaped c.requires.call_free c.requires.sound in
     record { made = rw c.new-made.ensures.items refl; shaped = left.shaped; free = left.free; sound = left.sound }
 
 pub make_statement-requires : goal.make_statement-requires
 make_statement-requires t c =
-    let r = member_ready c.args.scope.now.decls.now c.deref-part-items.result.now c.loop-part.part-index c.part-item.result c.loop-part-test.true c.part-item.is (record { shaped = c.loop-part.invariant.shaped; free = c.loop-part.invariant.free; sound = c.loop-part.invariant.sound }) in
+    let r = member_ready c.args.scope.now.decls.now c.deref-part-items.result.now c.loop-part.part-index c.part-item.result c.loop-part-test.true c.part-item.is
+        (record { shaped = c.loop-part.invariant.shaped; free = c.loop-part.invariant.free; sound = c.loop-part.invariant.sound }) in
     (search (rules, the_lemmas, get_or_read), (c.requires.ranged, (r.shaped, (r.free, r.sound))))
 
 pub loop-part-preserved : goal.loop-part-preserved
 loop-part-preserved t c =
-    let left = members_next c.args.scope.now.decls.now c.deref-part-items.result.now c.loop-part.part-index c.part-item.result c.loop-part-test.true c.part-item.is (record { shaped = c.loop-part.invariant.shaped; free = c.loop-part.invariant.free; sound = c.loop-part.invariant.sound }) in
+    let left = members_next c.args.scope.now.decls.now c.deref-part-items.result.now c.loop-part.part-index c.part-item.result c.loop-part-test.true
+        c.part-item.is (record { shaped = c.loop-part.invariant.shaped; free = c.loop-part.invariant.free; sound = c.loop-part.invariant.sound }) in
     record {
-      made = member_made c.args.scope.now.decls.now c.deref-part-items.result.now c.loop-part.part-index c.part-item.result c.loop-part.made.items c.push.new.self.items c.in_ok-make_statement-in-Then.field-0 _ c.loop-part-test.true c.part-item.is c.in_ok-make_statement-in-Then.ensures c.in_ok-push-in-Then.ensures.items c.loop-part.invariant.made;
+      made = member_made c.args.scope.now.decls.now c.deref-part-items.result.now c.loop-part.part-index c.part-item.result c.loop-part.made.items
+          c.push.new.self.items c.in_ok-make_statement-in-Then.field-0 _ c.loop-part-test.true c.part-item.is c.in_ok-make_statement-in-Then.ensures
+          c.in_ok-push-in-Then.ensures.items c.loop-part.invariant.made;
       shaped = left.shaped;
       free = left.free;
       sound = left.sound;
@@ -48,19 +60,24 @@ loop-part-preserved t c =
 
 pub loop-branch-init : goal.loop-branch-init
 loop-branch-init t c =
-    let left = beside_left c.args.scope.now.decls.now c.args.s.now c.in-Beside.parts c.deref-branch-items.result.now c.in-Beside.is c.deref-branch-items.ensures.value c.requires.shaped c.requires.call_free c.requires.sound in
+    let left = beside_left c.args.scope.now.decls.now c.args.s.now c.in-Beside.parts c.deref-branch-items.result.now c.in-Beside.is
+        c.deref-branch-items.ensures.value c.requires.shaped c.requires.call_free c.requires.sound in
     record { made = rw c.new-made-in-Beside.ensures.items refl; shaped = left.shaped; free = left.free; sound = left.sound }
 
 pub make_statement-requires-in-loop-branch : goal.make_statement-requires-in-loop-branch
 make_statement-requires-in-loop-branch t c =
-    let r = member_ready c.args.scope.now.decls.now c.deref-branch-items.result.now c.loop-branch.branch-index c.branch-item.result c.loop-branch-test.true c.branch-item.is (record { shaped = c.loop-branch.invariant.shaped; free = c.loop-branch.invariant.free; sound = c.loop-branch.invariant.sound }) in
+    let r = member_ready c.args.scope.now.decls.now c.deref-branch-items.result.now c.loop-branch.branch-index c.branch-item.result c.loop-branch-test.true
+        c.branch-item.is (record { shaped = c.loop-branch.invariant.shaped; free = c.loop-branch.invariant.free; sound = c.loop-branch.invariant.sound }) in
     (search (rules, the_lemmas, get_or_read), (c.requires.ranged, (r.shaped, (r.free, r.sound))))
 
 pub loop-branch-preserved : goal.loop-branch-preserved
 loop-branch-preserved t c =
-    let left = members_next c.args.scope.now.decls.now c.deref-branch-items.result.now c.loop-branch.branch-index c.branch-item.result c.loop-branch-test.true c.branch-item.is (record { shaped = c.loop-branch.invariant.shaped; free = c.loop-branch.invariant.free; sound = c.loop-branch.invariant.sound }) in
+    let left = members_next c.args.scope.now.decls.now c.deref-branch-items.result.now c.loop-branch.branch-index c.branch-item.result c.loop-branch-test.true
+        c.branch-item.is (record { shaped = c.loop-branch.invariant.shaped; free = c.loop-branch.invariant.free; sound = c.loop-branch.invariant.sound }) in
     record {
-      made = member_made c.args.scope.now.decls.now c.deref-branch-items.result.now c.loop-branch.branch-index c.branch-item.result c.loop-branch.made.items c.push-in-loop-branch.new.self.items c.in_ok-make_statement-in-Beside.field-0 _ c.loop-branch-test.true c.branch-item.is c.in_ok-make_statement-in-Beside.ensures c.in_ok-push-in-Beside.ensures.items c.loop-branch.invariant.made;
+      made = member_made c.args.scope.now.decls.now c.deref-branch-items.result.now c.loop-branch.branch-index c.branch-item.result c.loop-branch.made.items
+          c.push-in-loop-branch.new.self.items c.in_ok-make_statement-in-Beside.field-0 _ c.loop-branch-test.true c.branch-item.is
+          c.in_ok-make_statement-in-Beside.ensures c.in_ok-push-in-Beside.ensures.items c.loop-branch.invariant.made;
       shaped = left.shaped;
       free = left.free;
       sound = left.sound;
@@ -68,23 +85,29 @@ loop-branch-preserved t c =
 
 pub loop-arm-init : goal.loop-arm-init
 loop-arm-init t c =
-    let left = select_left c.args.scope.now.decls.now c.args.s.now c.in-Select.again c.in-Select.arms c.deref-arm-items.result.now c.in-Select.is c.deref-arm-items.ensures.value c.requires.shaped c.requires.call_free c.requires.sound in
+    let left = select_left c.args.scope.now.decls.now c.args.s.now c.in-Select.again c.in-Select.arms c.deref-arm-items.result.now c.in-Select.is
+        c.deref-arm-items.ensures.value c.requires.shaped c.requires.call_free c.requires.sound in
     record { made = rw c.new-made-in-Select.ensures.items refl; shaped = left.shaped; free = left.free; sound = left.sound }
 
 pub make_expression-requires-in-loop-arm-clause-sound : goal.make_expression-requires-in-loop-arm-clause-sound
 make_expression-requires-in-loop-arm-clause-sound t c =
-    (arm_ready c.args.scope.now.decls.now c.deref-arm-items.result.now c.loop-arm.arm-index c.arm-item.result c.loop-arm-test.true c.arm-item.is (record { shaped = c.loop-arm.invariant.shaped; free = c.loop-arm.invariant.free; sound = c.loop-arm.invariant.sound })).guard_sound
+    (arm_ready c.args.scope.now.decls.now c.deref-arm-items.result.now c.loop-arm.arm-index c.arm-item.result c.loop-arm-test.true c.arm-item.is
+        (record { shaped = c.loop-arm.invariant.shaped; free = c.loop-arm.invariant.free; sound = c.loop-arm.invariant.sound })).guard_sound
 
 pub make_statement-requires-in-loop-arm : goal.make_statement-requires-in-loop-arm
 make_statement-requires-in-loop-arm t c =
-    let r = arm_ready c.args.scope.now.decls.now c.deref-arm-items.result.now c.loop-arm.arm-index c.arm-item.result c.loop-arm-test.true c.arm-item.is (record { shaped = c.loop-arm.invariant.shaped; free = c.loop-arm.invariant.free; sound = c.loop-arm.invariant.sound }) in
+    let r = arm_ready c.args.scope.now.decls.now c.deref-arm-items.result.now c.loop-arm.arm-index c.arm-item.result c.loop-arm-test.true c.arm-item.is
+        (record { shaped = c.loop-arm.invariant.shaped; free = c.loop-arm.invariant.free; sound = c.loop-arm.invariant.sound }) in
     (search (rules, the_lemmas, get_or_read), (c.requires.ranged, (r.body.shaped, (r.body.free, r.body.sound))))
 
 pub loop-arm-preserved : goal.loop-arm-preserved
 loop-arm-preserved t c =
-    let left = arms_next c.args.scope.now.decls.now c.deref-arm-items.result.now c.loop-arm.arm-index c.arm-item.result c.loop-arm-test.true c.arm-item.is (record { shaped = c.loop-arm.invariant.shaped; free = c.loop-arm.invariant.free; sound = c.loop-arm.invariant.sound }) in
+    let left = arms_next c.args.scope.now.decls.now c.deref-arm-items.result.now c.loop-arm.arm-index c.arm-item.result c.loop-arm-test.true c.arm-item.is
+        (record { shaped = c.loop-arm.invariant.shaped; free = c.loop-arm.invariant.free; sound = c.loop-arm.invariant.sound }) in
     record {
-      made = arm_made c.args.scope.now.decls.now c.deref-arm-items.result.now c.loop-arm.arm-index c.arm-item.result c.loop-arm.made.items c.push-in-loop-arm.new.self.items c.in_ok-guard-in-Select.guard c.in_ok-body-in-Select.body _ c.loop-arm-test.true c.arm-item.is c.in_ok-guard-in-Select.ensures c.in_ok-body-in-Select.ensures c.in_ok-push-in-Select.ensures.items c.loop-arm.invariant.made;
+      made = arm_made c.args.scope.now.decls.now c.deref-arm-items.result.now c.loop-arm.arm-index c.arm-item.result c.loop-arm.made.items
+          c.push-in-loop-arm.new.self.items c.in_ok-guard-in-Select.guard c.in_ok-body-in-Select.body _ c.loop-arm-test.true c.arm-item.is
+          c.in_ok-guard-in-Select.ensures c.in_ok-body-in-Select.ensures c.in_ok-push-in-Select.ensures.items c.loop-arm.invariant.made;
       shaped = left.shaped;
       free = left.free;
       sound = left.sound;
@@ -106,10 +129,13 @@ returns-in-Receive t c =
     rw (c.in-Receive.is, c.number-in-Receive.ensures.channel sound.0, c.number-in-Receive-2.ensures.var sound.1) refl
 
 pub returns-after-loop-part : goal.returns-after-loop-part
-returns-after-loop-part t c = then_made c.args.scope.now.decls.now c.args.s.now c.in-Then.parts c.deref-part-items.result.now c.loop-part.part-index c.loop-part.made c.in-Then.is c.deref-part-items.ensures.value c.loop-part-test.false c.loop-part.invariant.made
+returns-after-loop-part t c = then_made c.args.scope.now.decls.now c.args.s.now c.in-Then.parts c.deref-part-items.result.now c.loop-part.part-index
+    c.loop-part.made c.in-Then.is c.deref-part-items.ensures.value c.loop-part-test.false c.loop-part.invariant.made
 
 pub returns-after-loop-branch : goal.returns-after-loop-branch
-returns-after-loop-branch t c = beside_made c.args.scope.now.decls.now c.args.s.now c.in-Beside.parts c.deref-branch-items.result.now c.loop-branch.branch-index c.loop-branch.made c.in-Beside.is c.deref-branch-items.ensures.value c.loop-branch-test.false c.loop-branch.invariant.made
+returns-after-loop-branch t c = beside_made c.args.scope.now.decls.now c.args.s.now c.in-Beside.parts c.deref-branch-items.result.now c.loop-branch.branch-index
+    c.loop-branch.made c.in-Beside.is c.deref-branch-items.ensures.value c.loop-branch-test.false c.loop-branch.invariant.made
 
 pub returns-after-loop-arm : goal.returns-after-loop-arm
-returns-after-loop-arm t c = select_made c.args.scope.now.decls.now c.args.s.now c.in-Select.again c.in-Select.arms c.deref-arm-items.result.now c.loop-arm.arm-index c.loop-arm.made c.in-Select.is c.deref-arm-items.ensures.value c.loop-arm-test.false c.loop-arm.invariant.made
+returns-after-loop-arm t c = select_made c.args.scope.now.decls.now c.args.s.now c.in-Select.again c.in-Select.arms c.deref-arm-items.result.now
+    c.loop-arm.arm-index c.loop-arm.made c.in-Select.is c.deref-arm-items.ensures.value c.loop-arm-test.false c.loop-arm.invariant.made

@@ -9,7 +9,8 @@ use Rattle.width_check.proofs.making.+make_statement.Given as goal
 
 abbrev pub invariant-loop-part : goal.invariant-loop-part
 invariant-loop-part l = record {
-  made : before_members l.made.items (processes_form l.scope.decls.now (members_of (drop l.part-index l.part-items))) ≡ processes_form l.scope.decls.now (members_of l.part-items);
+  made : before_members l.made.items (processes_form l.scope.decls.now (members_of (drop l.part-index l.part-items))) ≡
+      processes_form l.scope.decls.now (members_of l.part-items);
   shaped : AreShapedMembers (members_of (drop l.part-index l.part-items));
   free : some_has_call (members_of (drop l.part-index l.part-items)) ≡ false;
   sound : IsSound l.scope.decls.now (met_of_each l.scope.decls.now (members_of (drop l.part-index l.part-items)));
@@ -17,7 +18,8 @@ invariant-loop-part l = record {
 
 abbrev pub invariant-loop-branch : goal.invariant-loop-branch
 invariant-loop-branch l = record {
-  made : before_members l.made.items (processes_form l.scope.decls.now (members_of (drop l.branch-index l.branch-items))) ≡ processes_form l.scope.decls.now (members_of l.branch-items);
+  made : before_members l.made.items (processes_form l.scope.decls.now (members_of (drop l.branch-index l.branch-items))) ≡
+      processes_form l.scope.decls.now (members_of l.branch-items);
   shaped : AreShapedMembers (members_of (drop l.branch-index l.branch-items));
   free : some_has_call (members_of (drop l.branch-index l.branch-items)) ≡ false;
   sound : IsSound l.scope.decls.now (met_of_each l.scope.decls.now (members_of (drop l.branch-index l.branch-items)));
@@ -25,7 +27,8 @@ invariant-loop-branch l = record {
 
 abbrev pub invariant-loop-arm : goal.invariant-loop-arm
 invariant-loop-arm l = record {
-  made : before_arms l.made.items (choices_form l.scope.decls.now (arms_of (drop l.arm-index l.arm-items))) ≡ choices_form l.scope.decls.now (arms_of l.arm-items);
+  made : before_arms l.made.items (choices_form l.scope.decls.now (arms_of (drop l.arm-index l.arm-items))) ≡
+      choices_form l.scope.decls.now (arms_of l.arm-items);
   shaped : AreShapedArms (arms_of (drop l.arm-index l.arm-items));
   free : arm_has_call (arms_of (drop l.arm-index l.arm-items)) ≡ false;
   sound : IsSound l.scope.decls.now (met_of_arms l.scope.decls.now (arms_of (drop l.arm-index l.arm-items)));

@@ -6,4 +6,5 @@ use Rattle.width_check.specs.Walk.{links_of}
 use Rattle.width_check.proofs.scope.+is_widthless.Given as goal
 
 abbrev pub invariant-loop-link : goal.invariant-loop-link
-invariant-loop-link l = (ds : List Decl) → is_none (first_width ds (links_of (drop l.link-index l.link-items))) ≡ is_none (first_width ds (links_of l.link-items))
+invariant-loop-link l = (ds : List Decl) →
+    is_none (first_width ds (links_of (drop l.link-index l.link-items))) ≡ is_none (first_width ds (links_of l.link-items))

@@ -11,19 +11,23 @@ loop-part-preserved t c =
     let own = c.with_expression-surveyed.ensures.own refl in
     let total = noted_parts c.args.scope.now.decls.now c.args.findings (parts_of c.deref-part-items.result.now) in
     record {
-      found = part_step c.args.scope.now.decls.now _ c.loop-part.part-index _ _ _ _ total _ _ c.loop-part-test.true c.part-item.is c.loop-part.invariant.found own c.span.ensures c.with_expression-surveyed.ensures.findings c.with_part-findings.ensures;
-      own = part_summed c.args.scope.now.decls.now _ c.loop-part.part-index _ _ _ _ _ _ c.loop-part-test.true c.part-item.is c.loop-part.invariant.own own c.unwrap_or-in-loop-part.ensures c.sum-own.ensures;
+      found = part_step c.args.scope.now.decls.now _ c.loop-part.part-index _ _ _ _ total _ _ c.loop-part-test.true c.part-item.is c.loop-part.invariant.found
+          own c.span.ensures c.with_expression-surveyed.ensures.findings c.with_part-findings.ensures;
+      own = part_summed c.args.scope.now.decls.now _ c.loop-part.part-index _ _ _ _ _ _ c.loop-part-test.true c.part-item.is c.loop-part.invariant.own own
+          c.unwrap_or-in-loop-part.ensures c.sum-own.ensures;
       most = capped_most _ _ c.sum-own.ensures;
     }
 
 pub loop-link-preserved : goal.loop-link-preserved
 loop-link-preserved t c =
-    link_step c.args.scope.now.decls.now _ _ c.loop-link.link-index _ _ _ _ c.loop-link-test.true c.link-item.is c.loop-link.invariant c.with_expression-in-loop-link.ensures.findings
+    link_step c.args.scope.now.decls.now _ _ c.loop-link.link-index _ _ _ _ c.loop-link-test.true c.link-item.is c.loop-link.invariant
+        c.with_expression-in-loop-link.ensures.findings
 
 pub returns-after-loop-part-clause-findings : goal.returns-after-loop-part-clause-findings
 returns-after-loop-part-clause-findings t c =
     let own = sum_done c.args.scope.now.decls.now _ c.loop-part.part-index _ _ c.loop-part-test.false c.loop-part.invariant.own c.loop-part.invariant.most in
-    part_done c.args.scope.now.decls.now _ _ _ _ c.loop-part.part-index _ _ _ _ _ c.args.wanted c.in-Join.is c.deref-part-items.ensures.value c.loop-part-test.false c.loop-part.invariant.found own c.unwrap_or-in-Join.ensures c.with_leaf.ensures
+    part_done c.args.scope.now.decls.now _ _ _ _ c.loop-part.part-index _ _ _ _ _ c.args.wanted c.in-Join.is c.deref-part-items.ensures.value
+        c.loop-part-test.false c.loop-part.invariant.found own c.unwrap_or-in-Join.ensures c.with_leaf.ensures
 
 pub returns-after-loop-part-clause-own : goal.returns-after-loop-part-clause-own
 returns-after-loop-part-clause-own t c = λ none.

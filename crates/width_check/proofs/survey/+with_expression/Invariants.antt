@@ -6,13 +6,16 @@ use Rattle.width_check.proofs.survey.+with_expression.Given as goal
 
 abbrev pub invariant-loop-part : goal.invariant-loop-part
 invariant-loop-part l = record {
-  found : noted_parts l.scope.decls.now l.findings (parts_of (drop l.part-index l.part-items)) ≡ noted_parts l.scope.decls.now l.fn.findings (parts_of l.part-items);
-  own : capped (l.own + own_widths l.scope.decls.now (parts_of (drop l.part-index l.part-items))) ≡ capped (own_widths l.scope.decls.now (parts_of l.part-items));
+  found : noted_parts l.scope.decls.now l.findings (parts_of (drop l.part-index l.part-items)) ≡ noted_parts l.scope.decls.now l.fn.findings
+      (parts_of l.part-items);
+  own : capped (l.own + own_widths l.scope.decls.now (parts_of (drop l.part-index l.part-items))) ≡
+      capped (own_widths l.scope.decls.now (parts_of l.part-items));
   most : l.own ≤ 65;
 }
 
 abbrev pub invariant-loop-link : goal.invariant-loop-link
-invariant-loop-link l = noted l.scope.decls.now l.findings (met_in_links l.scope.decls.now l.width (links_of (drop l.link-index l.link-items))) ≡ noted l.scope.decls.now l.initial.findings (met_in_links l.scope.decls.now l.width (links_of l.link-items))
+invariant-loop-link l = noted l.scope.decls.now l.findings (met_in_links l.scope.decls.now l.width (links_of (drop l.link-index l.link-items))) ≡
+    noted l.scope.decls.now l.initial.findings (met_in_links l.scope.decls.now l.width (links_of l.link-items))
 
 abbrev pub decreases-with_expression : goal.decreases-with_expression
 decreases-with_expression l = goal.size-with_expression l

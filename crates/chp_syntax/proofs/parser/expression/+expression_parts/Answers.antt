@@ -27,14 +27,18 @@ sum-loop-op-init t c =
 
 pub sum-returns-in_err-next-clause-bad : goal.sum-returns-in_err-next-clause-bad
 sum-returns-in_err-next-clause-bad t c =
-    exit c.from_residual-in_err-next.result c.in_err-next.field-0.0 c.from_residual-in_err-next.ensures.1 (chained_bad sum_level c.loop-op.invariant.read (operator_good sum_of c.args.tokens.now c.loop-op.at c.in-Some.op (sym c.in-Some.ensures))) c.in_err-next.ensures.bad
+    exit c.from_residual-in_err-next.result c.in_err-next.field-0.0 c.from_residual-in_err-next.ensures.1
+    (chained_bad sum_level c.loop-op.invariant.read (operator_good sum_of c.args.tokens.now c.loop-op.at c.in-Some.op (sym c.in-Some.ensures)))
+    c.in_err-next.ensures.bad
 
 pub sum-loop-op-preserved : goal.sum-loop-op-preserved
 sum-loop-op-preserved t c =
     record {
       within = c.in_ok-next.ensures.within;
       moved = omega (arith, c.loop-op.invariant.moved, c.in_ok-next.ensures.moved);
-      read = rw (c.in_ok-push.ensures.items, map-append link_of c.loop-op.links.items) (chained_more sum_level c.loop-op.invariant.read (operator_good sum_of c.args.tokens.now c.loop-op.at c.in-Some.op (sym c.in-Some.ensures)) c.in_ok-next.ensures.good);
+      read = rw (c.in_ok-push.ensures.items, map-append link_of c.loop-op.links.items)
+          (chained_more sum_level c.loop-op.invariant.read (operator_good sum_of c.args.tokens.now c.loop-op.at c.in-Some.op (sym c.in-Some.ensures))
+          c.in_ok-next.ensures.good);
     }
 
 pub sum-returns-clause-good : goal.sum-returns-clause-good
@@ -55,14 +59,18 @@ conjunction-loop-op-init t c =
 
 pub conjunction-returns-in_err-next-clause-bad : goal.conjunction-returns-in_err-next-clause-bad
 conjunction-returns-in_err-next-clause-bad t c =
-    exit c.from_residual-in_err-next.result c.in_err-next.field-0.0 c.from_residual-in_err-next.ensures.1 (chained_bad conjunction_level c.loop-op.invariant.read (operator_good and_of c.args.tokens.now c.loop-op.at c.in-Some.op (sym c.in-Some.ensures))) c.in_err-next.ensures.bad
+    exit c.from_residual-in_err-next.result c.in_err-next.field-0.0 c.from_residual-in_err-next.ensures.1
+    (chained_bad conjunction_level c.loop-op.invariant.read (operator_good and_of c.args.tokens.now c.loop-op.at c.in-Some.op (sym c.in-Some.ensures)))
+    c.in_err-next.ensures.bad
 
 pub conjunction-loop-op-preserved : goal.conjunction-loop-op-preserved
 conjunction-loop-op-preserved t c =
     record {
       within = c.in_ok-next.ensures.within;
       moved = omega (arith, c.loop-op.invariant.moved, c.in_ok-next.ensures.moved);
-      read = rw (c.in_ok-push.ensures.items, map-append link_of c.loop-op.links.items) (chained_more conjunction_level c.loop-op.invariant.read (operator_good and_of c.args.tokens.now c.loop-op.at c.in-Some.op (sym c.in-Some.ensures)) c.in_ok-next.ensures.good);
+      read = rw (c.in_ok-push.ensures.items, map-append link_of c.loop-op.links.items)
+          (chained_more conjunction_level c.loop-op.invariant.read (operator_good and_of c.args.tokens.now c.loop-op.at c.in-Some.op (sym c.in-Some.ensures))
+          c.in_ok-next.ensures.good);
     }
 
 pub conjunction-returns-clause-good : goal.conjunction-returns-clause-good
@@ -83,14 +91,18 @@ exclusive-loop-op-init t c =
 
 pub exclusive-returns-in_err-next-clause-bad : goal.exclusive-returns-in_err-next-clause-bad
 exclusive-returns-in_err-next-clause-bad t c =
-    exit c.from_residual-in_err-next.result c.in_err-next.field-0.0 c.from_residual-in_err-next.ensures.1 (chained_bad exclusive_level c.loop-op.invariant.read (operator_good xor_of c.args.tokens.now c.loop-op.at c.in-Some.op (sym c.in-Some.ensures))) c.in_err-next.ensures.bad
+    exit c.from_residual-in_err-next.result c.in_err-next.field-0.0 c.from_residual-in_err-next.ensures.1
+    (chained_bad exclusive_level c.loop-op.invariant.read (operator_good xor_of c.args.tokens.now c.loop-op.at c.in-Some.op (sym c.in-Some.ensures)))
+    c.in_err-next.ensures.bad
 
 pub exclusive-loop-op-preserved : goal.exclusive-loop-op-preserved
 exclusive-loop-op-preserved t c =
     record {
       within = c.in_ok-next.ensures.within;
       moved = omega (arith, c.loop-op.invariant.moved, c.in_ok-next.ensures.moved);
-      read = rw (c.in_ok-push.ensures.items, map-append link_of c.loop-op.links.items) (chained_more exclusive_level c.loop-op.invariant.read (operator_good xor_of c.args.tokens.now c.loop-op.at c.in-Some.op (sym c.in-Some.ensures)) c.in_ok-next.ensures.good);
+      read = rw (c.in_ok-push.ensures.items, map-append link_of c.loop-op.links.items)
+          (chained_more exclusive_level c.loop-op.invariant.read (operator_good xor_of c.args.tokens.now c.loop-op.at c.in-Some.op (sym c.in-Some.ensures))
+          c.in_ok-next.ensures.good);
     }
 
 pub exclusive-returns-clause-good : goal.exclusive-returns-clause-good
@@ -111,14 +123,18 @@ disjunction-loop-op-init t c =
 
 pub disjunction-returns-in_err-next-clause-bad : goal.disjunction-returns-in_err-next-clause-bad
 disjunction-returns-in_err-next-clause-bad t c =
-    exit c.from_residual-in_err-next.result c.in_err-next.field-0.0 c.from_residual-in_err-next.ensures.1 (chained_bad disjunction_level c.loop-op.invariant.read (operator_good or_of c.args.tokens.now c.loop-op.at c.in-Some.op (sym c.in-Some.ensures))) c.in_err-next.ensures.bad
+    exit c.from_residual-in_err-next.result c.in_err-next.field-0.0 c.from_residual-in_err-next.ensures.1
+    (chained_bad disjunction_level c.loop-op.invariant.read (operator_good or_of c.args.tokens.now c.loop-op.at c.in-Some.op (sym c.in-Some.ensures)))
+    c.in_err-next.ensures.bad
 
 pub disjunction-loop-op-preserved : goal.disjunction-loop-op-preserved
 disjunction-loop-op-preserved t c =
     record {
       within = c.in_ok-next.ensures.within;
       moved = omega (arith, c.loop-op.invariant.moved, c.in_ok-next.ensures.moved);
-      read = rw (c.in_ok-push.ensures.items, map-append link_of c.loop-op.links.items) (chained_more disjunction_level c.loop-op.invariant.read (operator_good or_of c.args.tokens.now c.loop-op.at c.in-Some.op (sym c.in-Some.ensures)) c.in_ok-next.ensures.good);
+      read = rw (c.in_ok-push.ensures.items, map-append link_of c.loop-op.links.items)
+          (chained_more disjunction_level c.loop-op.invariant.read (operator_good or_of c.args.tokens.now c.loop-op.at c.in-Some.op (sym c.in-Some.ensures))
+          c.in_ok-next.ensures.good);
     }
 
 pub disjunction-returns-clause-good : goal.disjunction-returns-clause-good
@@ -139,14 +155,18 @@ parts-loop-alloc-init t c =
 
 pub parts-returns-in_err-next-clause-bad : goal.parts-returns-in_err-next-clause-bad
 parts-returns-in_err-next-clause-bad t c =
-    exit c.from_residual-in_err-next.result c.in_err-next.field-0.0 c.from_residual-in_err-next.ensures.1 (members_bad parts_group c.loop-alloc.invariant.read (exactly_good (Sign mark.Comma) c.args.tokens.now c.loop-alloc.at (c.loop-alloc-test.ensures.0 refl))) c.in_err-next.ensures.bad
+    exit c.from_residual-in_err-next.result c.in_err-next.field-0.0 c.from_residual-in_err-next.ensures.1
+    (members_bad parts_group c.loop-alloc.invariant.read
+    (exactly_good (Sign mark.Comma) c.args.tokens.now c.loop-alloc.at (c.loop-alloc-test.ensures.0 refl))) c.in_err-next.ensures.bad
 
 pub parts-loop-alloc-preserved : goal.parts-loop-alloc-preserved
 parts-loop-alloc-preserved t c =
     record {
       within = c.in_ok-next.ensures.within;
       moved = omega (arith, c.loop-alloc.invariant.moved, c.in_ok-next.ensures.moved);
-      read = rw (c.in_ok-push-2.ensures.items, map-append expression_of c.loop-alloc.members.items) (members_more parts_group c.loop-alloc.invariant.read (exactly_good (Sign mark.Comma) c.args.tokens.now c.loop-alloc.at (c.loop-alloc-test.ensures.0 refl)) c.in_ok-next.ensures.good);
+      read = rw (c.in_ok-push-2.ensures.items, map-append expression_of c.loop-alloc.members.items)
+          (members_more parts_group c.loop-alloc.invariant.read
+          (exactly_good (Sign mark.Comma) c.args.tokens.now c.loop-alloc.at (c.loop-alloc-test.ensures.0 refl)) c.in_ok-next.ensures.good);
     }
 
 pub parts-returns-clause-good : goal.parts-returns-clause-good
@@ -156,11 +176,13 @@ parts-returns-clause-good t c =
 
 pub negated-returns-then-not-mark_at-clause-good : goal.negated-returns-then-not-mark_at-clause-good
 negated-returns-then-not-mark_at-clause-good t c =
-    IfOk-weaker c.primary.result _ _ (λ x g. good_done (by_part plain_seam (plain_start (drop c.args.at.now c.args.tokens.now) (not_so c.if-not-mark_at.ensures.1)) g)) c.primary.ensures.good
+    IfOk-weaker c.primary.result _ _ (λ x g. good_done
+    (by_part plain_seam (plain_start (drop c.args.at.now c.args.tokens.now) (not_so c.if-not-mark_at.ensures.1)) g)) c.primary.ensures.good
 
 pub negated-returns-then-not-mark_at-clause-bad : goal.negated-returns-then-not-mark_at-clause-bad
 negated-returns-then-not-mark_at-clause-bad t c =
-    IfErr-weaker c.primary.result _ _ (λ e w. fault_by e (part_bad plain_seam (plain_start (drop c.args.at.now c.args.tokens.now) (not_so c.if-not-mark_at.ensures.1))) w) c.primary.ensures.bad
+    IfErr-weaker c.primary.result _ _ (λ e w.
+    fault_by e (part_bad plain_seam (plain_start (drop c.args.at.now c.args.tokens.now) (not_so c.if-not-mark_at.ensures.1))) w) c.primary.ensures.bad
 
 pub negated-returns-in_err-tilde-clause-bad : goal.negated-returns-in_err-tilde-clause-bad
 negated-returns-in_err-tilde-clause-bad t c =
@@ -172,7 +194,8 @@ negated-returns-in_err-inner-clause-bad t c =
     let s0 = tilde_start (drop c.args.at.now c.args.tokens.now) (c.if-not-mark_at.ensures.0 refl) in
     let s1 = by_part tilde_seam s0 c.in_ok-tilde.ensures.good in
     let o = c.in_ok-tilde.tilde in
-    exit c.from_residual-in_err-inner.result c.in_err-inner.field-0.0 c.from_residual-in_err-inner.ensures.1 (part_bad (inner_seam o) s1) c.in_err-inner.ensures.bad
+    exit c.from_residual-in_err-inner.result c.in_err-inner.field-0.0 c.from_residual-in_err-inner.ensures.1 (part_bad (inner_seam o) s1)
+    c.in_err-inner.ensures.bad
 
 pub negated-returns-clause-good : goal.negated-returns-clause-good
 negated-returns-clause-good t c =
@@ -200,7 +223,8 @@ comparison-returns-in_err-right-clause-bad t c =
     let is = sym c.in-Some.ensures in
     let first = covered_of c.in_ok-first.first in
     let s3 = by_part (compared_seam first) (with_comparison o s1 is) (operator_good comparison_of c.args.tokens.now c.sum.new.at o is) in
-    exit c.from_residual-in_err-right.result c.in_err-right.field-0.0 c.from_residual-in_err-right.ensures.1 (part_bad (right_seam first o) s3) c.in_err-right.ensures.bad
+    exit c.from_residual-in_err-right.result c.in_err-right.field-0.0 c.from_residual-in_err-right.ensures.1 (part_bad (right_seam first o) s3)
+    c.in_err-right.ensures.bad
 
 pub comparison-returns-clause-good : goal.comparison-returns-clause-good
 comparison-returns-clause-good t c =
@@ -211,7 +235,10 @@ comparison-returns-clause-good t c =
     let first = covered_of c.in_ok-first.first in
     let s3 = by_part (compared_seam first) (with_comparison o s1 is) (operator_good comparison_of c.args.tokens.now c.sum.new.at o is) in
     let good = good_done (by_part (right_seam first o) s3 c.in_ok-right.ensures.good) in
-    IfOk-weaker c.chain.result _ _ (λ x e. compared_is first (covered_of c.in_ok-right.right) o good e (ap (λ (ls : List Link). map link_of ls) c.in_ok-push.ensures.items ∙ ap (λ (ls : List Link). map link_of (ls ++ (record { op = o; right = c.in_ok-right.right.value } ∷ []))) c.new-links.ensures.items)) c.chain.ensures.done
+    IfOk-weaker c.chain.result _ _ (λ x e. compared_is first (covered_of c.in_ok-right.right) o good e
+    (ap (λ (ls : List Link). map link_of ls) c.in_ok-push.ensures.items
+    ∙ ap (λ (ls : List Link). map link_of (ls ++ (record { op = o; right = c.in_ok-right.right.value } ∷ []))) c.new-links.ensures.items))
+    c.chain.ensures.done
 
 pub primary-returns-in_err-number-in-Number-clause-bad : goal.primary-returns-in_err-number-in-Number-clause-bad
 primary-returns-in_err-number-in-Number-clause-bad t c =
@@ -226,14 +253,16 @@ primary-returns-in_ok-number-in-Number-clause-good t c =
 pub primary-returns-in_err-open-in-Round-clause-bad : goal.primary-returns-in_err-open-in-Round-clause-bad
 primary-returns-in_err-open-in-Round-clause-bad t c =
     let s0 = rounded_start (drop c.args.at.now c.args.tokens.now) (sym c.in-Round.ensures) in
-    exit c.from_residual-in_err-open-in-Round.result c.in_err-open-in-Round.field-0.0 c.from_residual-in_err-open-in-Round.ensures.1 (part_bad round_1 s0) c.in_err-open-in-Round.ensures.bad
+    exit c.from_residual-in_err-open-in-Round.result c.in_err-open-in-Round.field-0.0 c.from_residual-in_err-open-in-Round.ensures.1 (part_bad round_1 s0)
+    c.in_err-open-in-Round.ensures.bad
 
 pub primary-returns-in_err-inner-in-Round-clause-bad : goal.primary-returns-in_err-inner-in-Round-clause-bad
 primary-returns-in_err-inner-in-Round-clause-bad t c =
     let s0 = rounded_start (drop c.args.at.now c.args.tokens.now) (sym c.in-Round.ensures) in
     let o = c.in_ok-open-in-Round.open in
     let s1 = by_part round_1 s0 c.in_ok-open-in-Round.ensures.good in
-    exit c.from_residual-in_err-inner-in-Round.result c.in_err-inner-in-Round.field-0.0 c.from_residual-in_err-inner-in-Round.ensures.1 (part_bad (round_2 o) s1) c.in_err-inner-in-Round.ensures.bad
+    exit c.from_residual-in_err-inner-in-Round.result c.in_err-inner-in-Round.field-0.0 c.from_residual-in_err-inner-in-Round.ensures.1
+    (part_bad (round_2 o) s1) c.in_err-inner-in-Round.ensures.bad
 
 pub primary-returns-in_err-close-in-Round-clause-bad : goal.primary-returns-in_err-close-in-Round-clause-bad
 primary-returns-in_err-close-in-Round-clause-bad t c =
@@ -242,7 +271,8 @@ primary-returns-in_err-close-in-Round-clause-bad t c =
     let s1 = by_part round_1 s0 c.in_ok-open-in-Round.ensures.good in
     let e = covered_of c.in_ok-inner-in-Round.inner in
     let s2 = by_part (round_2 o) s1 c.in_ok-inner-in-Round.ensures.good in
-    exit c.from_residual-in_err-close-in-Round.result c.in_err-close-in-Round.field-0.0 c.from_residual-in_err-close-in-Round.ensures.1 (part_bad (round_3 o e) s2) c.in_err-close-in-Round.ensures.bad
+    exit c.from_residual-in_err-close-in-Round.result c.in_err-close-in-Round.field-0.0 c.from_residual-in_err-close-in-Round.ensures.1
+    (part_bad (round_3 o e) s2) c.in_err-close-in-Round.ensures.bad
 
 pub primary-returns-in_ok-close-in-Round-clause-good : goal.primary-returns-in_ok-close-in-Round-clause-good
 primary-returns-in_ok-close-in-Round-clause-good t c =
@@ -256,14 +286,16 @@ primary-returns-in_ok-close-in-Round-clause-good t c =
 pub primary-returns-in_err-open-in-Curly-clause-bad : goal.primary-returns-in_err-open-in-Curly-clause-bad
 primary-returns-in_err-open-in-Curly-clause-bad t c =
     let s0 = joined_start (drop c.args.at.now c.args.tokens.now) (sym c.in-Curly.ensures) in
-    exit c.from_residual-in_err-open-in-Curly.result c.in_err-open-in-Curly.field-0.0 c.from_residual-in_err-open-in-Curly.ensures.1 (part_bad curly_1 s0) c.in_err-open-in-Curly.ensures.bad
+    exit c.from_residual-in_err-open-in-Curly.result c.in_err-open-in-Curly.field-0.0 c.from_residual-in_err-open-in-Curly.ensures.1 (part_bad curly_1 s0)
+    c.in_err-open-in-Curly.ensures.bad
 
 pub primary-returns-in_err-members-in-Curly-clause-bad : goal.primary-returns-in_err-members-in-Curly-clause-bad
 primary-returns-in_err-members-in-Curly-clause-bad t c =
     let s0 = joined_start (drop c.args.at.now c.args.tokens.now) (sym c.in-Curly.ensures) in
     let o = c.in_ok-open-in-Curly.open in
     let s1 = by_part curly_1 s0 c.in_ok-open-in-Curly.ensures.good in
-    exit c.from_residual-in_err-members-in-Curly.result c.in_err-members-in-Curly.field-0.0 c.from_residual-in_err-members-in-Curly.ensures.1 (part_bad (curly_2 o) s1) c.in_err-members-in-Curly.ensures.bad
+    exit c.from_residual-in_err-members-in-Curly.result c.in_err-members-in-Curly.field-0.0 c.from_residual-in_err-members-in-Curly.ensures.1
+    (part_bad (curly_2 o) s1) c.in_err-members-in-Curly.ensures.bad
 
 pub primary-returns-in_err-close-in-Curly-clause-bad : goal.primary-returns-in_err-close-in-Curly-clause-bad
 primary-returns-in_err-close-in-Curly-clause-bad t c =
@@ -272,7 +304,8 @@ primary-returns-in_err-close-in-Curly-clause-bad t c =
     let s1 = by_part curly_1 s0 c.in_ok-open-in-Curly.ensures.good in
     let e = parts_of c.in_ok-members-in-Curly.members in
     let s2 = by_part (curly_2 o) s1 c.in_ok-members-in-Curly.ensures.good in
-    exit c.from_residual-in_err-close-in-Curly.result c.in_err-close-in-Curly.field-0.0 c.from_residual-in_err-close-in-Curly.ensures.1 (part_bad (curly_3 o e) s2) c.in_err-close-in-Curly.ensures.bad
+    exit c.from_residual-in_err-close-in-Curly.result c.in_err-close-in-Curly.field-0.0 c.from_residual-in_err-close-in-Curly.ensures.1
+    (part_bad (curly_3 o e) s2) c.in_err-close-in-Curly.ensures.bad
 
 pub primary-returns-in_ok-close-in-Curly-clause-good : goal.primary-returns-in_ok-close-in-Curly-clause-good
 primary-returns-in_ok-close-in-Curly-clause-good t c =

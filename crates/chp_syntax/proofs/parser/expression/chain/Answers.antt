@@ -9,7 +9,8 @@ use Rattle.chp_syntax.proofs.Rows.{chain_tree}
 use Rattle.chp_syntax.proofs.parser.expression.chain.Goals as goal
 
 -- a chain with at least one link
-some_links : (c : Covered) (ls : List (Op × Expression)) (last : Span) → (length ls ≡ 0 → ⊥) → cover (chain c.expression (onto and_pair ls no_links) (from_to c.at last)) (from_to c.at last) ≡ chained_to c ls last
+some_links : (c : Covered) (ls : List (Op × Expression)) (last : Span) → (length ls ≡ 0 → ⊥) →
+    cover (chain c.expression (onto and_pair ls no_links) (from_to c.at last)) (from_to c.at last) ≡ chained_to c ls last
 some_links c [] last h = absurd (h refl)
 some_links c (x ∷ ls) last h = refl
 

@@ -23,7 +23,8 @@ returns-in_err-first-clause-bad c =
     let i = c.in_ok-of.of in
     let bracket = c.if-not-mark_at.ensures.0 refl in
     let s3 = by_part (open_seam i) (indexed s1 bracket) (exactly_good (Sign mark.OpenSquare) c.args.tokens.now c.take_name.new.at bracket) in
-    exit c.from_residual-in_err-first.result c.in_err-first.field-0.0 c.from_residual-in_err-first.ensures.1 (part_bad (place_seam i) s3) c.in_err-first.ensures.bad
+    exit c.from_residual-in_err-first.result c.in_err-first.field-0.0 c.from_residual-in_err-first.ensures.1 (part_bad (place_seam i) s3)
+    c.in_err-first.ensures.bad
 
 pub returns-in_err-close-clause-bad : goal.returns-in_err-close-clause-bad
 returns-in_err-close-clause-bad c =
@@ -35,7 +36,8 @@ returns-in_err-close-clause-bad c =
     let n = c.in_ok-first.first in
     let s4 = by_part (place_seam i) s3 c.in_ok-first.ensures.good in
     let s5 = unsliced i n s4 (not_so c.if-not-mark_at-2.ensures.1) in
-    exit c.from_residual-in_err-close.result c.in_err-close.field-0.0 c.from_residual-in_err-close.ensures.1 (part_bad (bit_seam i n) s5) c.in_err-close.ensures.bad
+    exit c.from_residual-in_err-close.result c.in_err-close.field-0.0 c.from_residual-in_err-close.ensures.1 (part_bad (bit_seam i n) s5)
+    c.in_err-close.ensures.bad
 
 pub returns-then-not-mark_at-2-clause-good : goal.returns-then-not-mark_at-2-clause-good
 returns-then-not-mark_at-2-clause-good c =
@@ -60,7 +62,8 @@ returns-in_err-second-clause-bad c =
     let s4 = by_part (place_seam i) s3 c.in_ok-first.ensures.good in
     let colon = c.if-not-mark_at-2.ensures.0 refl in
     let s6 = by_part (colon_seam i n) (sliced i n s4 colon) (exactly_good (Sign mark.Colon) c.args.tokens.now c.take_number.new.at colon) in
-    exit c.from_residual-in_err-second.result c.in_err-second.field-0.0 c.from_residual-in_err-second.ensures.1 (part_bad (low_seam i n) s6) c.in_err-second.ensures.bad
+    exit c.from_residual-in_err-second.result c.in_err-second.field-0.0 c.from_residual-in_err-second.ensures.1 (part_bad (low_seam i n) s6)
+    c.in_err-second.ensures.bad
 
 pub returns-in_err-close-2-clause-bad : goal.returns-in_err-close-2-clause-bad
 returns-in_err-close-2-clause-bad c =
@@ -75,7 +78,8 @@ returns-in_err-close-2-clause-bad c =
     let s6 = by_part (colon_seam i n) (sliced i n s4 colon) (exactly_good (Sign mark.Colon) c.args.tokens.now c.take_number.new.at colon) in
     let m = c.in_ok-second.second in
     let s7 = by_part (low_seam i n) s6 c.in_ok-second.ensures.good in
-    exit c.from_residual-in_err-close-2.result c.in_err-close-2.field-0.0 c.from_residual-in_err-close-2.ensures.1 (part_bad (slice_seam i n m) s7) c.in_err-close-2.ensures.bad
+    exit c.from_residual-in_err-close-2.result c.in_err-close-2.field-0.0 c.from_residual-in_err-close-2.ensures.1 (part_bad (slice_seam i n m) s7)
+    c.in_err-close-2.ensures.bad
 
 pub returns-clause-good : goal.returns-clause-good
 returns-clause-good c =

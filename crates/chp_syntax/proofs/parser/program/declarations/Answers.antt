@@ -11,7 +11,8 @@ loop-alloc-init c = record {
 
 pub returns-in_err-item-clause-bad : goal.returns-in_err-item-clause-bad
 returns-in_err-item-clause-bad c =
-    exit c.from_residual.result c.in_err-item.field-0.0 c.from_residual.ensures.1 (declaring_bad c.loop-alloc.invariant.read c.loop-alloc-test.ensures.some) c.in_err-item.ensures.bad
+    exit c.from_residual.result c.in_err-item.field-0.0 c.from_residual.ensures.1 (declaring_bad c.loop-alloc.invariant.read c.loop-alloc-test.ensures.some)
+    c.in_err-item.ensures.bad
 
 pub loop-alloc-preserved : goal.loop-alloc-preserved
 loop-alloc-preserved c = record {

@@ -21,7 +21,8 @@ returns-in_err-take_mark-clause-bad c =
     let s1 = by_part procedure_1 s0 c.in_ok-take_word.ensures.good in
     let i = c.in_ok-name.name in
     let s2 = by_part procedure_2 s1 c.in_ok-name.ensures.good in
-    exit c.from_residual-in_err-take_mark.result c.in_err-take_mark.field-0.0 c.from_residual-in_err-take_mark.ensures.1 (part_bad (procedure_3 i) s2) c.in_err-take_mark.ensures.bad
+    exit c.from_residual-in_err-take_mark.result c.in_err-take_mark.field-0.0 c.from_residual-in_err-take_mark.ensures.1 (part_bad (procedure_3 i) s2)
+    c.in_err-take_mark.ensures.bad
 
 pub returns-in_err-body-clause-bad : goal.returns-in_err-body-clause-bad
 returns-in_err-body-clause-bad c =
@@ -30,7 +31,8 @@ returns-in_err-body-clause-bad c =
     let i = c.in_ok-name.name in
     let s2 = by_part procedure_2 s1 c.in_ok-name.ensures.good in
     let s3 = by_part (procedure_3 i) s2 c.in_ok-take_mark.ensures.good in
-    exit c.from_residual-in_err-body.result c.in_err-body.field-0.0 c.from_residual-in_err-body.ensures.1 (part_bad (procedure_4 i) s3) c.in_err-body.ensures.bad
+    exit c.from_residual-in_err-body.result c.in_err-body.field-0.0 c.from_residual-in_err-body.ensures.1 (part_bad (procedure_4 i) s3)
+    c.in_err-body.ensures.bad
 
 pub returns-in_err-take_mark-2-clause-bad : goal.returns-in_err-take_mark-2-clause-bad
 returns-in_err-take_mark-2-clause-bad c =
@@ -41,7 +43,8 @@ returns-in_err-take_mark-2-clause-bad c =
     let s3 = by_part (procedure_3 i) s2 c.in_ok-take_mark.ensures.good in
     let d = proc_of i (statement_of c.in_ok-body.body) in
     let s4 = by_part (procedure_4 i) s3 c.in_ok-body.ensures.good in
-    exit c.from_residual-in_err-take_mark-2.result c.in_err-take_mark-2.field-0.0 c.from_residual-in_err-take_mark-2.ensures.1 (part_bad (semicolon_seam d) s4) c.in_err-take_mark-2.ensures.bad
+    exit c.from_residual-in_err-take_mark-2.result c.in_err-take_mark-2.field-0.0 c.from_residual-in_err-take_mark-2.ensures.1 (part_bad (semicolon_seam d) s4)
+    c.in_err-take_mark-2.ensures.bad
 
 pub returns-clause-good : goal.returns-clause-good
 returns-clause-good c =

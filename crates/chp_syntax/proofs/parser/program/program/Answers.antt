@@ -14,7 +14,8 @@ returns-in_err-take_word-clause-bad c =
     let s0 = program_start (drop c.args.at.now c.args.tokens.now) in
     let d = declared_of c.in_ok-declared.declared in
     let s1 = by_part declared_seam s0 c.in_ok-declared.ensures.good in
-    exit c.from_residual-in_err-take_word.result c.in_err-take_word.field-0.0 c.from_residual-in_err-take_word.ensures.1 (part_bad (begin_seam d) s1) c.in_err-take_word.ensures.bad
+    exit c.from_residual-in_err-take_word.result c.in_err-take_word.field-0.0 c.from_residual-in_err-take_word.ensures.1 (part_bad (begin_seam d) s1)
+    c.in_err-take_word.ensures.bad
 
 pub returns-in_err-body-clause-bad : goal.returns-in_err-body-clause-bad
 returns-in_err-body-clause-bad c =
@@ -32,7 +33,8 @@ returns-in_err-take_word-2-clause-bad c =
     let s2 = by_part (begin_seam d) s1 c.in_ok-take_word.ensures.good in
     let t = statement_of c.in_ok-body.body in
     let s3 = by_part (par_seam d) s2 c.in_ok-body.ensures.good in
-    exit c.from_residual-in_err-take_word-2.result c.in_err-take_word-2.field-0.0 c.from_residual-in_err-take_word-2.ensures.1 (part_bad (end_seam d t) s3) c.in_err-take_word-2.ensures.bad
+    exit c.from_residual-in_err-take_word-2.result c.in_err-take_word-2.field-0.0 c.from_residual-in_err-take_word-2.ensures.1 (part_bad (end_seam d t) s3)
+    c.in_err-take_word-2.ensures.bad
 
 pub returns-then-at-tokens-clause-bad : goal.returns-then-at-tokens-clause-bad
 returns-then-at-tokens-clause-bad c =

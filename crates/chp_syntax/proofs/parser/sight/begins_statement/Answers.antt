@@ -13,9 +13,11 @@ begins_at : (xs : List Token) → begins_par xs ≡ begins_par_with (atom_front 
 begins_at [] = refl
 begins_at (t ∷ xs) = refl
 
-at_front : (all : List Token) (at : _) (f : AtomFront) → f ≡ atom_front (sees (drop at all)) → begins_par (drop at all) ≡ begins_par_with f (begins_par (drop (at + 1) all)) (sees (drop (at + 1) all))
+at_front : (all : List Token) (at : _) (f : AtomFront) → f ≡ atom_front (sees (drop at all)) →
+    begins_par (drop at all) ≡ begins_par_with f (begins_par (drop (at + 1) all)) (sees (drop (at + 1) all))
 at_front all at f e =
-    begins_at (drop at all) ∙ (ap (λ (g : AtomFront). begins_par_with g (begins_par (drop 1 (drop at all))) (sees (drop 1 (drop at all)))) (sym e) ∙ ap (λ (l : List Token). begins_par_with f (begins_par l) (sees l)) (drop-drop 1 at all))
+    begins_at (drop at all) ∙ (ap (λ (g : AtomFront). begins_par_with g (begins_par (drop 1 (drop at all))) (sees (drop 1 (drop at all)))) (sym e)
+    ∙ ap (λ (l : List Token). begins_par_with f (begins_par l) (sees l)) (drop-drop 1 at all))
 
 round_front : (o : Option Token) → IsKind (Sign mark.OpenRound) o → atom.Round ≡ atom_front o
 round_front None h = absurd h
@@ -24,7 +26,8 @@ round_front (Some t) h = sym (ap atom_kind h)
 pub loop-at-preserved : goal.loop-at-preserved
 loop-at-preserved c = record {
   within = kind_within (Sign mark.OpenRound) c.args.tokens.now c.loop-at.at (c.loop-at-test.ensures.0 refl);
-  same = sym (at_front c.args.tokens.now c.loop-at.at atom.Round (round_front (sees (drop c.loop-at.at c.args.tokens.now)) (c.loop-at-test.ensures.0 refl))) ∙ c.loop-at.invariant.same;
+  same = sym (at_front c.args.tokens.now c.loop-at.at atom.Round (round_front (sees (drop c.loop-at.at c.args.tokens.now)) (c.loop-at-test.ensures.0 refl)))
+      ∙ c.loop-at.invariant.same;
 }
 
 pub returns-in-Name : goal.returns-in-Name

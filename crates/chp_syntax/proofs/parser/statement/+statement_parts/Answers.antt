@@ -26,13 +26,15 @@ atom-returns-in_ok-span-in-Skip-clause-good t c =
 pub atom-returns-in_err-take_word-in-Call-clause-bad : goal.atom-returns-in_err-take_word-in-Call-clause-bad
 atom-returns-in_err-take_word-in-Call-clause-bad t c =
     let s0 = call_start (drop c.args.at.now c.args.tokens.now) (sym c.in-Call.ensures) in
-    exit c.from_residual-in_err-take_word-in-Call.result c.in_err-take_word-in-Call.field-0.0 c.from_residual-in_err-take_word-in-Call.ensures.1 (part_bad call_1 s0) c.in_err-take_word-in-Call.ensures.bad
+    exit c.from_residual-in_err-take_word-in-Call.result c.in_err-take_word-in-Call.field-0.0 c.from_residual-in_err-take_word-in-Call.ensures.1
+    (part_bad call_1 s0) c.in_err-take_word-in-Call.ensures.bad
 
 pub atom-returns-in_err-of-in-Call-clause-bad : goal.atom-returns-in_err-of-in-Call-clause-bad
 atom-returns-in_err-of-in-Call-clause-bad t c =
     let s0 = call_start (drop c.args.at.now c.args.tokens.now) (sym c.in-Call.ensures) in
     let s1 = by_part call_1 s0 c.in_ok-take_word-in-Call.ensures.good in
-    exit c.from_residual-in_err-of-in-Call.result c.in_err-of-in-Call.field-0.0 c.from_residual-in_err-of-in-Call.ensures.1 (part_bad call_2 s1) c.in_err-of-in-Call.ensures.bad
+    exit c.from_residual-in_err-of-in-Call.result c.in_err-of-in-Call.field-0.0 c.from_residual-in_err-of-in-Call.ensures.1 (part_bad call_2 s1)
+    c.in_err-of-in-Call.ensures.bad
 
 pub atom-returns-in_ok-of-in-Call-clause-good : goal.atom-returns-in_ok-of-in-Call-clause-good
 atom-returns-in_ok-of-in-Call-clause-good t c =
@@ -43,13 +45,15 @@ atom-returns-in_ok-of-in-Call-clause-good t c =
 pub atom-returns-in_err-take_mark-in-Round-clause-bad : goal.atom-returns-in_err-take_mark-in-Round-clause-bad
 atom-returns-in_err-take_mark-in-Round-clause-bad t c =
     let s0 = round_start (drop c.args.at.now c.args.tokens.now) (sym c.in-Round.ensures) in
-    exit c.from_residual-in_err-take_mark-in-Round.result c.in_err-take_mark-in-Round.field-0.0 c.from_residual-in_err-take_mark-in-Round.ensures.1 (part_bad round_1 s0) c.in_err-take_mark-in-Round.ensures.bad
+    exit c.from_residual-in_err-take_mark-in-Round.result c.in_err-take_mark-in-Round.field-0.0 c.from_residual-in_err-take_mark-in-Round.ensures.1
+    (part_bad round_1 s0) c.in_err-take_mark-in-Round.ensures.bad
 
 pub atom-returns-in_err-inner-in-Round-clause-bad : goal.atom-returns-in_err-inner-in-Round-clause-bad
 atom-returns-in_err-inner-in-Round-clause-bad t c =
     let s0 = round_start (drop c.args.at.now c.args.tokens.now) (sym c.in-Round.ensures) in
     let s1 = by_part round_1 s0 c.in_ok-take_mark-in-Round.ensures.good in
-    exit c.from_residual-in_err-inner-in-Round.result c.in_err-inner-in-Round.field-0.0 c.from_residual-in_err-inner-in-Round.ensures.1 (part_bad round_2 s1) c.in_err-inner-in-Round.ensures.bad
+    exit c.from_residual-in_err-inner-in-Round.result c.in_err-inner-in-Round.field-0.0 c.from_residual-in_err-inner-in-Round.ensures.1 (part_bad round_2 s1)
+    c.in_err-inner-in-Round.ensures.bad
 
 pub atom-returns-in_err-take_mark-in-Round-2-clause-bad : goal.atom-returns-in_err-take_mark-in-Round-2-clause-bad
 atom-returns-in_err-take_mark-in-Round-2-clause-bad t c =
@@ -57,7 +61,8 @@ atom-returns-in_err-take_mark-in-Round-2-clause-bad t c =
     let s1 = by_part round_1 s0 c.in_ok-take_mark-in-Round.ensures.good in
     let i = statement_of c.in_ok-inner-in-Round.inner in
     let s2 = by_part round_2 s1 c.in_ok-inner-in-Round.ensures.good in
-    exit c.from_residual-in_err-take_mark-in-Round-2.result c.in_err-take_mark-in-Round-2.field-0.0 c.from_residual-in_err-take_mark-in-Round-2.ensures.1 (part_bad (round_3 i) s2) c.in_err-take_mark-in-Round-2.ensures.bad
+    exit c.from_residual-in_err-take_mark-in-Round-2.result c.in_err-take_mark-in-Round-2.field-0.0 c.from_residual-in_err-take_mark-in-Round-2.ensures.1
+    (part_bad (round_3 i) s2) c.in_err-take_mark-in-Round-2.ensures.bad
 
 pub atom-returns-in_ok-take_mark-in-Round-2-clause-good : goal.atom-returns-in_ok-take_mark-in-Round-2-clause-good
 atom-returns-in_ok-take_mark-in-Round-2-clause-good t c =
@@ -70,20 +75,23 @@ atom-returns-in_ok-take_mark-in-Round-2-clause-good t c =
 pub atom-returns-in_err-take_mark-in-Star-clause-bad : goal.atom-returns-in_err-take_mark-in-Star-clause-bad
 atom-returns-in_err-take_mark-in-Star-clause-bad t c =
     let s0 = star_start (drop c.args.at.now c.args.tokens.now) (sym c.in-Star.ensures) in
-    exit c.from_residual-in_err-take_mark-in-Star.result c.in_err-take_mark-in-Star.field-0.0 c.from_residual-in_err-take_mark-in-Star.ensures.1 (part_bad star_1 s0) c.in_err-take_mark-in-Star.ensures.bad
+    exit c.from_residual-in_err-take_mark-in-Star.result c.in_err-take_mark-in-Star.field-0.0 c.from_residual-in_err-take_mark-in-Star.ensures.1
+    (part_bad star_1 s0) c.in_err-take_mark-in-Star.ensures.bad
 
 pub atom-returns-in_err-take_mark-in-Star-2-clause-bad : goal.atom-returns-in_err-take_mark-in-Star-2-clause-bad
 atom-returns-in_err-take_mark-in-Star-2-clause-bad t c =
     let s0 = star_start (drop c.args.at.now c.args.tokens.now) (sym c.in-Star.ensures) in
     let s1 = by_part star_1 s0 c.in_ok-take_mark-in-Star.ensures.good in
-    exit c.from_residual-in_err-take_mark-in-Star-2.result c.in_err-take_mark-in-Star-2.field-0.0 c.from_residual-in_err-take_mark-in-Star-2.ensures.1 (part_bad star_2 s1) c.in_err-take_mark-in-Star-2.ensures.bad
+    exit c.from_residual-in_err-take_mark-in-Star-2.result c.in_err-take_mark-in-Star-2.field-0.0 c.from_residual-in_err-take_mark-in-Star-2.ensures.1
+    (part_bad star_2 s1) c.in_err-take_mark-in-Star-2.ensures.bad
 
 pub atom-returns-in_err-inner-in-Star-clause-bad : goal.atom-returns-in_err-inner-in-Star-clause-bad
 atom-returns-in_err-inner-in-Star-clause-bad t c =
     let s0 = star_start (drop c.args.at.now c.args.tokens.now) (sym c.in-Star.ensures) in
     let s1 = by_part star_1 s0 c.in_ok-take_mark-in-Star.ensures.good in
     let s2 = by_part star_2 s1 c.in_ok-take_mark-in-Star-2.ensures.good in
-    exit c.from_residual-in_err-inner-in-Star.result c.in_err-inner-in-Star.field-0.0 c.from_residual-in_err-inner-in-Star.ensures.1 (part_bad star_3 s2) c.in_err-inner-in-Star.ensures.bad
+    exit c.from_residual-in_err-inner-in-Star.result c.in_err-inner-in-Star.field-0.0 c.from_residual-in_err-inner-in-Star.ensures.1 (part_bad star_3 s2)
+    c.in_err-inner-in-Star.ensures.bad
 
 pub atom-returns-in_err-take_mark-in-Star-3-clause-bad : goal.atom-returns-in_err-take_mark-in-Star-3-clause-bad
 atom-returns-in_err-take_mark-in-Star-3-clause-bad t c =
@@ -92,7 +100,8 @@ atom-returns-in_err-take_mark-in-Star-3-clause-bad t c =
     let s2 = by_part star_2 s1 c.in_ok-take_mark-in-Star-2.ensures.good in
     let i = statement_of c.in_ok-inner-in-Star.inner in
     let s3 = by_part star_3 s2 c.in_ok-inner-in-Star.ensures.good in
-    exit c.from_residual-in_err-take_mark-in-Star-3.result c.in_err-take_mark-in-Star-3.field-0.0 c.from_residual-in_err-take_mark-in-Star-3.ensures.1 (part_bad (star_4 i) s3) c.in_err-take_mark-in-Star-3.ensures.bad
+    exit c.from_residual-in_err-take_mark-in-Star-3.result c.in_err-take_mark-in-Star-3.field-0.0 c.from_residual-in_err-take_mark-in-Star-3.ensures.1
+    (part_bad (star_4 i) s3) c.in_err-take_mark-in-Star-3.ensures.bad
 
 pub atom-returns-in_ok-take_mark-in-Star-3-clause-good : goal.atom-returns-in_ok-take_mark-in-Star-3-clause-good
 atom-returns-in_ok-take_mark-in-Star-3-clause-good t c =
@@ -106,13 +115,15 @@ atom-returns-in_ok-take_mark-in-Star-3-clause-good t c =
 pub atom-returns-in_err-take_mark-in-Square-clause-bad : goal.atom-returns-in_err-take_mark-in-Square-clause-bad
 atom-returns-in_err-take_mark-in-Square-clause-bad t c =
     let s0 = square_start (drop c.args.at.now c.args.tokens.now) (sym c.in-Square.ensures) in
-    exit c.from_residual-in_err-take_mark-in-Square.result c.in_err-take_mark-in-Square.field-0.0 c.from_residual-in_err-take_mark-in-Square.ensures.1 (part_bad square_1 s0) c.in_err-take_mark-in-Square.ensures.bad
+    exit c.from_residual-in_err-take_mark-in-Square.result c.in_err-take_mark-in-Square.field-0.0 c.from_residual-in_err-take_mark-in-Square.ensures.1
+    (part_bad square_1 s0) c.in_err-take_mark-in-Square.ensures.bad
 
 pub atom-returns-in_err-arms-in-Square-clause-bad : goal.atom-returns-in_err-arms-in-Square-clause-bad
 atom-returns-in_err-arms-in-Square-clause-bad t c =
     let s0 = square_start (drop c.args.at.now c.args.tokens.now) (sym c.in-Square.ensures) in
     let s1 = by_part square_1 s0 c.in_ok-take_mark-in-Square.ensures.good in
-    exit c.from_residual-in_err-arms-in-Square.result c.in_err-arms-in-Square.field-0.0 c.from_residual-in_err-arms-in-Square.ensures.1 (part_bad square_2 s1) c.in_err-arms-in-Square.ensures.bad
+    exit c.from_residual-in_err-arms-in-Square.result c.in_err-arms-in-Square.field-0.0 c.from_residual-in_err-arms-in-Square.ensures.1 (part_bad square_2 s1)
+    c.in_err-arms-in-Square.ensures.bad
 
 pub atom-returns-in_err-take_mark-in-Square-2-clause-bad : goal.atom-returns-in_err-take_mark-in-Square-2-clause-bad
 atom-returns-in_err-take_mark-in-Square-2-clause-bad t c =
@@ -120,7 +131,8 @@ atom-returns-in_err-take_mark-in-Square-2-clause-bad t c =
     let s1 = by_part square_1 s0 c.in_ok-take_mark-in-Square.ensures.good in
     let i = armed_of c.in_ok-arms-in-Square.arms in
     let s2 = by_part square_2 s1 c.in_ok-arms-in-Square.ensures.good in
-    exit c.from_residual-in_err-take_mark-in-Square-2.result c.in_err-take_mark-in-Square-2.field-0.0 c.from_residual-in_err-take_mark-in-Square-2.ensures.1 (part_bad (square_3 i) s2) c.in_err-take_mark-in-Square-2.ensures.bad
+    exit c.from_residual-in_err-take_mark-in-Square-2.result c.in_err-take_mark-in-Square-2.field-0.0 c.from_residual-in_err-take_mark-in-Square-2.ensures.1
+    (part_bad (square_3 i) s2) c.in_err-take_mark-in-Square-2.ensures.bad
 
 pub atom-returns-in_ok-take_mark-in-Square-2-clause-good : goal.atom-returns-in_ok-take_mark-in-Square-2-clause-good
 atom-returns-in_ok-take_mark-in-Square-2-clause-good t c =
@@ -144,7 +156,8 @@ branch-returns-in_err-take_mark-clause-bad t c =
     let s0 = branch_start (drop c.args.at.now c.args.tokens.now) in
     let e = covered_of c.in_ok-guard.guard in
     let s1 = by_part guard_seam s0 c.in_ok-guard.ensures.good in
-    exit c.from_residual-in_err-take_mark.result c.in_err-take_mark.field-0.0 c.from_residual-in_err-take_mark.ensures.1 (part_bad (arrow_seam e) s1) c.in_err-take_mark.ensures.bad
+    exit c.from_residual-in_err-take_mark.result c.in_err-take_mark.field-0.0 c.from_residual-in_err-take_mark.ensures.1 (part_bad (arrow_seam e) s1)
+    c.in_err-take_mark.ensures.bad
 
 pub branch-returns-in_err-body-clause-bad : goal.branch-returns-in_err-body-clause-bad
 branch-returns-in_err-body-clause-bad t c =
@@ -172,7 +185,8 @@ inside-returns-then-begins_statement-clause-good t c =
 
 pub inside-returns-in_err-arms-clause-bad : goal.inside-returns-in_err-arms-clause-bad
 inside-returns-in_err-arms-clause-bad t c =
-    exit c.from_residual-in_err-arms.result c.in_err-arms.field-0.0 c.from_residual-in_err-arms.ensures.1 (arms_bad (sym c.if-begins_statement.ensures)) c.in_err-arms.ensures.bad
+    exit c.from_residual-in_err-arms.result c.in_err-arms.field-0.0 c.from_residual-in_err-arms.ensures.1 (arms_bad (sym c.if-begins_statement.ensures))
+    c.in_err-arms.ensures.bad
 
 pub inside-returns-clause-good : goal.inside-returns-clause-good
 inside-returns-clause-good t c =
@@ -200,26 +214,32 @@ both-loop-alloc-init t c =
 
 pub both-returns-in_err-next-clause-bad : goal.both-returns-in_err-next-clause-bad
 both-returns-in_err-next-clause-bad t c =
-    exit c.from_residual-in_err-next.result c.in_err-next.field-0.0 c.from_residual-in_err-next.ensures.1 (members_bad both_group c.loop-alloc.invariant.read (exactly_good (Sign mark.Comma) c.args.tokens.now c.loop-alloc.at (c.loop-alloc-test.ensures.0 refl))) c.in_err-next.ensures.bad
+    exit c.from_residual-in_err-next.result c.in_err-next.field-0.0 c.from_residual-in_err-next.ensures.1
+    (members_bad both_group c.loop-alloc.invariant.read
+    (exactly_good (Sign mark.Comma) c.args.tokens.now c.loop-alloc.at (c.loop-alloc-test.ensures.0 refl))) c.in_err-next.ensures.bad
 
 pub both-loop-alloc-preserved : goal.both-loop-alloc-preserved
 both-loop-alloc-preserved t c =
     let e = c.in_ok-push-2.ensures.items in
-    let lengths : length (c.loop-alloc.parts.items ++ (c.in_ok-next.next ∷ [])) ≡ length c.loop-alloc.parts.items + 1 = length-append c.loop-alloc.parts.items (c.in_ok-next.next ∷ []) in
+    let lengths : length (c.loop-alloc.parts.items ++ (c.in_ok-next.next ∷ [])) ≡ length c.loop-alloc.parts.items + 1 =
+    length-append c.loop-alloc.parts.items (c.in_ok-next.next ∷ []) in
     let some = c.loop-alloc.invariant.some in
     record {
       within = c.in_ok-next.ensures.within;
       moved = omega (arith, c.loop-alloc.invariant.moved, c.in_ok-next.ensures.moved);
       some = rw e (omega (arith, lengths));
       several = rw e (λ h. absurd (omega (arith, h, lengths, some)));
-      read = rw (e, map-append statement_of c.loop-alloc.parts.items) (members_more both_group c.loop-alloc.invariant.read (exactly_good (Sign mark.Comma) c.args.tokens.now c.loop-alloc.at (c.loop-alloc-test.ensures.0 refl)) c.in_ok-next.ensures.good);
+      read = rw (e, map-append statement_of c.loop-alloc.parts.items)
+          (members_more both_group c.loop-alloc.invariant.read
+          (exactly_good (Sign mark.Comma) c.args.tokens.now c.loop-alloc.at (c.loop-alloc-test.ensures.0 refl)) c.in_ok-next.ensures.good);
     }
 
 pub both-returns-clause-good : goal.both-returns-clause-good
 both-returns-clause-good t c =
     let never = not_so c.loop-alloc-test.ensures.1 in
     members_end both_group (statement_of (Beside c.loop-alloc.parts)) c.loop-alloc.invariant.read never
-    (several besides parallel_of (λ t u us. refl) (statement_of (Beside c.loop-alloc.parts)) (map statement_of c.loop-alloc.parts.items) (beside_tree c.loop-alloc.parts) (λ h. never (c.loop-alloc.invariant.several (sym (length-map c.loop-alloc.parts.items statement_of) ∙ h))))
+    (several besides parallel_of (λ t u us. refl) (statement_of (Beside c.loop-alloc.parts)) (map statement_of c.loop-alloc.parts.items)
+    (beside_tree c.loop-alloc.parts) (λ h. never (c.loop-alloc.invariant.several (sym (length-map c.loop-alloc.parts.items statement_of) ∙ h))))
 
 pub seq-returns-in_err-first-clause-bad : goal.seq-returns-in_err-first-clause-bad
 seq-returns-in_err-first-clause-bad t c =
@@ -243,26 +263,32 @@ seq-loop-alloc-init t c =
 
 pub seq-returns-in_err-next-clause-bad : goal.seq-returns-in_err-next-clause-bad
 seq-returns-in_err-next-clause-bad t c =
-    exit c.from_residual-in_err-next.result c.in_err-next.field-0.0 c.from_residual-in_err-next.ensures.1 (members_bad seq_group c.loop-alloc.invariant.read (exactly_good (Sign mark.Semicolon) c.args.tokens.now c.loop-alloc.at (c.loop-alloc-test.ensures.0 refl))) c.in_err-next.ensures.bad
+    exit c.from_residual-in_err-next.result c.in_err-next.field-0.0 c.from_residual-in_err-next.ensures.1
+    (members_bad seq_group c.loop-alloc.invariant.read
+    (exactly_good (Sign mark.Semicolon) c.args.tokens.now c.loop-alloc.at (c.loop-alloc-test.ensures.0 refl))) c.in_err-next.ensures.bad
 
 pub seq-loop-alloc-preserved : goal.seq-loop-alloc-preserved
 seq-loop-alloc-preserved t c =
     let e = c.in_ok-push-2.ensures.items in
-    let lengths : length (c.loop-alloc.parts.items ++ (c.in_ok-next.next ∷ [])) ≡ length c.loop-alloc.parts.items + 1 = length-append c.loop-alloc.parts.items (c.in_ok-next.next ∷ []) in
+    let lengths : length (c.loop-alloc.parts.items ++ (c.in_ok-next.next ∷ [])) ≡ length c.loop-alloc.parts.items + 1 =
+    length-append c.loop-alloc.parts.items (c.in_ok-next.next ∷ []) in
     let some = c.loop-alloc.invariant.some in
     record {
       within = c.in_ok-next.ensures.within;
       moved = omega (arith, c.loop-alloc.invariant.moved, c.in_ok-next.ensures.moved);
       some = rw e (omega (arith, lengths));
       several = rw e (λ h. absurd (omega (arith, h, lengths, some)));
-      read = rw (e, map-append statement_of c.loop-alloc.parts.items) (members_more seq_group c.loop-alloc.invariant.read (exactly_good (Sign mark.Semicolon) c.args.tokens.now c.loop-alloc.at (c.loop-alloc-test.ensures.0 refl)) c.in_ok-next.ensures.good);
+      read = rw (e, map-append statement_of c.loop-alloc.parts.items)
+          (members_more seq_group c.loop-alloc.invariant.read
+          (exactly_good (Sign mark.Semicolon) c.args.tokens.now c.loop-alloc.at (c.loop-alloc-test.ensures.0 refl)) c.in_ok-next.ensures.good);
     }
 
 pub seq-returns-clause-good : goal.seq-returns-clause-good
 seq-returns-clause-good t c =
     let never = not_so c.loop-alloc-test.ensures.1 in
     members_end seq_group (statement_of (Then c.loop-alloc.parts)) c.loop-alloc.invariant.read never
-    (several follows sequence_of (λ t u us. refl) (statement_of (Then c.loop-alloc.parts)) (map statement_of c.loop-alloc.parts.items) (then_tree c.loop-alloc.parts) (λ h. never (c.loop-alloc.invariant.several (sym (length-map c.loop-alloc.parts.items statement_of) ∙ h))))
+    (several follows sequence_of (λ t u us. refl) (statement_of (Then c.loop-alloc.parts)) (map statement_of c.loop-alloc.parts.items)
+    (then_tree c.loop-alloc.parts) (λ h. never (c.loop-alloc.invariant.several (sym (length-map c.loop-alloc.parts.items statement_of) ∙ h))))
 
 pub par-returns-in_err-first-clause-bad : goal.par-returns-in_err-first-clause-bad
 par-returns-in_err-first-clause-bad t c =
@@ -286,26 +312,32 @@ par-loop-alloc-init t c =
 
 pub par-returns-in_err-next-clause-bad : goal.par-returns-in_err-next-clause-bad
 par-returns-in_err-next-clause-bad t c =
-    exit c.from_residual-in_err-next.result c.in_err-next.field-0.0 c.from_residual-in_err-next.ensures.1 (members_bad par_group c.loop-alloc.invariant.read (exactly_good (Sign mark.BarBar) c.args.tokens.now c.loop-alloc.at (c.loop-alloc-test.ensures.0 refl))) c.in_err-next.ensures.bad
+    exit c.from_residual-in_err-next.result c.in_err-next.field-0.0 c.from_residual-in_err-next.ensures.1
+    (members_bad par_group c.loop-alloc.invariant.read
+    (exactly_good (Sign mark.BarBar) c.args.tokens.now c.loop-alloc.at (c.loop-alloc-test.ensures.0 refl))) c.in_err-next.ensures.bad
 
 pub par-loop-alloc-preserved : goal.par-loop-alloc-preserved
 par-loop-alloc-preserved t c =
     let e = c.in_ok-push-2.ensures.items in
-    let lengths : length (c.loop-alloc.parts.items ++ (c.in_ok-next.next ∷ [])) ≡ length c.loop-alloc.parts.items + 1 = length-append c.loop-alloc.parts.items (c.in_ok-next.next ∷ []) in
+    let lengths : length (c.loop-alloc.parts.items ++ (c.in_ok-next.next ∷ [])) ≡ length c.loop-alloc.parts.items + 1 =
+    length-append c.loop-alloc.parts.items (c.in_ok-next.next ∷ []) in
     let some = c.loop-alloc.invariant.some in
     record {
       within = c.in_ok-next.ensures.within;
       moved = omega (arith, c.loop-alloc.invariant.moved, c.in_ok-next.ensures.moved);
       some = rw e (omega (arith, lengths));
       several = rw e (λ h. absurd (omega (arith, h, lengths, some)));
-      read = rw (e, map-append statement_of c.loop-alloc.parts.items) (members_more par_group c.loop-alloc.invariant.read (exactly_good (Sign mark.BarBar) c.args.tokens.now c.loop-alloc.at (c.loop-alloc-test.ensures.0 refl)) c.in_ok-next.ensures.good);
+      read = rw (e, map-append statement_of c.loop-alloc.parts.items)
+          (members_more par_group c.loop-alloc.invariant.read
+          (exactly_good (Sign mark.BarBar) c.args.tokens.now c.loop-alloc.at (c.loop-alloc-test.ensures.0 refl)) c.in_ok-next.ensures.good);
     }
 
 pub par-returns-clause-good : goal.par-returns-clause-good
 par-returns-clause-good t c =
     let never = not_so c.loop-alloc-test.ensures.1 in
     members_end par_group (statement_of (Beside c.loop-alloc.parts)) c.loop-alloc.invariant.read never
-    (several besides parallel_of (λ t u us. refl) (statement_of (Beside c.loop-alloc.parts)) (map statement_of c.loop-alloc.parts.items) (beside_tree c.loop-alloc.parts) (λ h. never (c.loop-alloc.invariant.several (sym (length-map c.loop-alloc.parts.items statement_of) ∙ h))))
+    (several besides parallel_of (λ t u us. refl) (statement_of (Beside c.loop-alloc.parts)) (map statement_of c.loop-alloc.parts.items)
+    (beside_tree c.loop-alloc.parts) (λ h. never (c.loop-alloc.invariant.several (sym (length-map c.loop-alloc.parts.items statement_of) ∙ h))))
 
 pub choices-returns-in_err-first-clause-bad : goal.choices-returns-in_err-first-clause-bad
 choices-returns-in_err-first-clause-bad t c =
@@ -321,14 +353,18 @@ choices-loop-alloc-init t c =
 
 pub choices-returns-in_err-next-clause-bad : goal.choices-returns-in_err-next-clause-bad
 choices-returns-in_err-next-clause-bad t c =
-    exit c.from_residual-in_err-next.result c.in_err-next.field-0.0 c.from_residual-in_err-next.ensures.1 (members_bad choices_group c.loop-alloc.invariant.read (exactly_good (Sign mark.Choice) c.args.tokens.now c.loop-alloc.at (c.loop-alloc-test.ensures.0 refl))) c.in_err-next.ensures.bad
+    exit c.from_residual-in_err-next.result c.in_err-next.field-0.0 c.from_residual-in_err-next.ensures.1
+    (members_bad choices_group c.loop-alloc.invariant.read
+    (exactly_good (Sign mark.Choice) c.args.tokens.now c.loop-alloc.at (c.loop-alloc-test.ensures.0 refl))) c.in_err-next.ensures.bad
 
 pub choices-loop-alloc-preserved : goal.choices-loop-alloc-preserved
 choices-loop-alloc-preserved t c =
     record {
       within = c.in_ok-next.ensures.within;
       moved = omega (arith, c.loop-alloc.invariant.moved, c.in_ok-next.ensures.moved);
-      read = rw (c.in_ok-push-2.ensures.items, map-append guarded_of c.loop-alloc.arms.items) (members_more choices_group c.loop-alloc.invariant.read (exactly_good (Sign mark.Choice) c.args.tokens.now c.loop-alloc.at (c.loop-alloc-test.ensures.0 refl)) c.in_ok-next.ensures.good);
+      read = rw (c.in_ok-push-2.ensures.items, map-append guarded_of c.loop-alloc.arms.items)
+          (members_more choices_group c.loop-alloc.invariant.read
+          (exactly_good (Sign mark.Choice) c.args.tokens.now c.loop-alloc.at (c.loop-alloc-test.ensures.0 refl)) c.in_ok-next.ensures.good);
     }
 
 pub choices-returns-clause-good : goal.choices-returns-clause-good

@@ -14,7 +14,8 @@ returns-in_err-take_mark-in-Assign-clause-bad c =
     let i = c.in_ok-name.name in
     let s1 = by_part target_seam s0 c.in_ok-name.ensures.good in
     let s2 = assigned_start i s1 (sym c.in-Assign.ensures) in
-    exit c.from_residual-in_err-take_mark-in-Assign.result c.in_err-take_mark-in-Assign.field-0.0 c.from_residual-in_err-take_mark-in-Assign.ensures.1 (part_bad (assign_1 i) s2) c.in_err-take_mark-in-Assign.ensures.bad
+    exit c.from_residual-in_err-take_mark-in-Assign.result c.in_err-take_mark-in-Assign.field-0.0 c.from_residual-in_err-take_mark-in-Assign.ensures.1
+    (part_bad (assign_1 i) s2) c.in_err-take_mark-in-Assign.ensures.bad
 
 pub returns-in_err-value-in-Assign-clause-bad : goal.returns-in_err-value-in-Assign-clause-bad
 returns-in_err-value-in-Assign-clause-bad c =
@@ -23,7 +24,8 @@ returns-in_err-value-in-Assign-clause-bad c =
     let s1 = by_part target_seam s0 c.in_ok-name.ensures.good in
     let s2 = assigned_start i s1 (sym c.in-Assign.ensures) in
     let s3 = by_part (assign_1 i) s2 c.in_ok-take_mark-in-Assign.ensures.good in
-    exit c.from_residual-in_err-value-in-Assign.result c.in_err-value-in-Assign.field-0.0 c.from_residual-in_err-value-in-Assign.ensures.1 (part_bad (assign_2 i) s3) c.in_err-value-in-Assign.ensures.bad
+    exit c.from_residual-in_err-value-in-Assign.result c.in_err-value-in-Assign.field-0.0 c.from_residual-in_err-value-in-Assign.ensures.1
+    (part_bad (assign_2 i) s3) c.in_err-value-in-Assign.ensures.bad
 
 pub returns-in_ok-value-in-Assign-clause-good : goal.returns-in_ok-value-in-Assign-clause-good
 returns-in_ok-value-in-Assign-clause-good c =
@@ -40,7 +42,8 @@ returns-in_err-take_mark-in-Send-clause-bad c =
     let i = c.in_ok-name.name in
     let s1 = by_part target_seam s0 c.in_ok-name.ensures.good in
     let s2 = sent_start i s1 (sym c.in-Send.ensures) in
-    exit c.from_residual-in_err-take_mark-in-Send.result c.in_err-take_mark-in-Send.field-0.0 c.from_residual-in_err-take_mark-in-Send.ensures.1 (part_bad (send_1 i) s2) c.in_err-take_mark-in-Send.ensures.bad
+    exit c.from_residual-in_err-take_mark-in-Send.result c.in_err-take_mark-in-Send.field-0.0 c.from_residual-in_err-take_mark-in-Send.ensures.1
+    (part_bad (send_1 i) s2) c.in_err-take_mark-in-Send.ensures.bad
 
 pub returns-in_err-value-in-Send-clause-bad : goal.returns-in_err-value-in-Send-clause-bad
 returns-in_err-value-in-Send-clause-bad c =
@@ -49,7 +52,8 @@ returns-in_err-value-in-Send-clause-bad c =
     let s1 = by_part target_seam s0 c.in_ok-name.ensures.good in
     let s2 = sent_start i s1 (sym c.in-Send.ensures) in
     let s3 = by_part (send_1 i) s2 c.in_ok-take_mark-in-Send.ensures.good in
-    exit c.from_residual-in_err-value-in-Send.result c.in_err-value-in-Send.field-0.0 c.from_residual-in_err-value-in-Send.ensures.1 (part_bad (send_2 i) s3) c.in_err-value-in-Send.ensures.bad
+    exit c.from_residual-in_err-value-in-Send.result c.in_err-value-in-Send.field-0.0 c.from_residual-in_err-value-in-Send.ensures.1 (part_bad (send_2 i) s3)
+    c.in_err-value-in-Send.ensures.bad
 
 pub returns-in_ok-value-in-Send-clause-good : goal.returns-in_ok-value-in-Send-clause-good
 returns-in_ok-value-in-Send-clause-good c =
@@ -66,7 +70,8 @@ returns-in_err-take_mark-in-Receive-clause-bad c =
     let i = c.in_ok-name.name in
     let s1 = by_part target_seam s0 c.in_ok-name.ensures.good in
     let s2 = received_start i s1 (sym c.in-Receive.ensures) in
-    exit c.from_residual-in_err-take_mark-in-Receive.result c.in_err-take_mark-in-Receive.field-0.0 c.from_residual-in_err-take_mark-in-Receive.ensures.1 (part_bad (receive_1 i) s2) c.in_err-take_mark-in-Receive.ensures.bad
+    exit c.from_residual-in_err-take_mark-in-Receive.result c.in_err-take_mark-in-Receive.field-0.0 c.from_residual-in_err-take_mark-in-Receive.ensures.1
+    (part_bad (receive_1 i) s2) c.in_err-take_mark-in-Receive.ensures.bad
 
 pub returns-in_err-target-in-Receive-clause-bad : goal.returns-in_err-target-in-Receive-clause-bad
 returns-in_err-target-in-Receive-clause-bad c =
@@ -75,7 +80,8 @@ returns-in_err-target-in-Receive-clause-bad c =
     let s1 = by_part target_seam s0 c.in_ok-name.ensures.good in
     let s2 = received_start i s1 (sym c.in-Receive.ensures) in
     let s3 = by_part (receive_1 i) s2 c.in_ok-take_mark-in-Receive.ensures.good in
-    exit c.from_residual-in_err-target-in-Receive.result c.in_err-target-in-Receive.field-0.0 c.from_residual-in_err-target-in-Receive.ensures.1 (part_bad (receive_2 i) s3) c.in_err-target-in-Receive.ensures.bad
+    exit c.from_residual-in_err-target-in-Receive.result c.in_err-target-in-Receive.field-0.0 c.from_residual-in_err-target-in-Receive.ensures.1
+    (part_bad (receive_2 i) s3) c.in_err-target-in-Receive.ensures.bad
 
 pub returns-in_ok-target-in-Receive-clause-good : goal.returns-in_ok-target-in-Receive-clause-good
 returns-in_ok-target-in-Receive-clause-good c =

@@ -9,9 +9,11 @@ decreases-own_width l = goal.size-own_width l
 
 abbrev pub invariant-loop-part : goal.invariant-loop-part
 invariant-loop-part l = record {
-  sum : capped (l.width + own_widths l.self.decls.now (parts_of (drop l.part-index l.part-items))) ≡ capped (own_widths l.self.decls.now (parts_of l.part-items));
+  sum : capped (l.width + own_widths l.self.decls.now (parts_of (drop l.part-index l.part-items))) ≡
+      capped (own_widths l.self.decls.now (parts_of l.part-items));
   most : l.width ≤ 64;
 }
 
 abbrev pub invariant-loop-link : goal.invariant-loop-link
-invariant-loop-link l = option_map capped (first_width l.self.decls.now (links_of (drop l.link-index l.link-items))) ≡ option_map capped (first_width l.self.decls.now (links_of l.link-items))
+invariant-loop-link l = option_map capped (first_width l.self.decls.now (links_of (drop l.link-index l.link-items))) ≡
+    option_map capped (first_width l.self.decls.now (links_of l.link-items))

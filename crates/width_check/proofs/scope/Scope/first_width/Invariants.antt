@@ -5,4 +5,5 @@ use Rattle.width_check.specs.Walk.{capped, links_of}
 use Rattle.width_check.proofs.scope.Scope.first_width.Given as goal
 
 abbrev pub invariant-loop-link : goal.invariant-loop-link
-invariant-loop-link l = option_map capped (first_width l.self.decls.now (links_of (drop l.link-index l.links))) ≡ option_map capped (first_width l.self.decls.now (links_of l.links))
+invariant-loop-link l = option_map capped (first_width l.self.decls.now (links_of (drop l.link-index l.links))) ≡
+    option_map capped (first_width l.self.decls.now (links_of l.links))
