@@ -6,7 +6,7 @@ use Rattle.std.proofs.Math.Logic.{⊎_elim}
 use Rattle.std.proofs.lemmas.Bool.{cases_eq, cases_Bool, or_cases, not-true, not_from_false}
 use Rattle.std.proofs.lemmas.List.Elements.{All-cons, All-contains}
 use Rattle.prs_core.specs.Moves.{guard_holds}
-use Rattle.prs_core.specs.Parts.{Part, Owned, Wire, Moment, IsFirst, Keeps, is_valid, turned, after, fires, may_move}
+use Rattle.prs_core.specs.Parts.{Part, Owned, Wire, Moment, IsFirstState, Keeps, is_valid, turned, moment_after, fires, may_move}
 use Rattle.prs_core.specs.Keeping.{OwnKeeps, EachKeeps, kept_by_each}
 use Rattle.prs_core.specs.Turning.{turned_here, turned_apart}
 use Rattle.prs_core.specs.Deciding.{implies, implies_at, implies_both, at_2, left_of, right_of, both_of, at_6}
@@ -60,7 +60,7 @@ module _ (request ack : ℕ) (bits : List PortBit) (distinct : IsDistinct reques
 
   -- one node of a bit: it is enough to look at that bit
   bit_goes : (m : Moment) (i k : ℕ) → i < length bits → k < 4 → Holds m → bit_legal (turned m.value (node bits i k)) i ≡ true →
-      Holds (after part m (node bits i k))
+      Holds (moment_after part m (node bits i k))
   bit_goes m i k within few holds here j inside =
       ⊎_elim
       (λ (e : j ≡ i). subst (λ l. bit_legal (turned m.value (node bits i k)) l ≡ true) (sym e) here)
@@ -120,7 +120,7 @@ module _ (request ack : ℕ) (bits : List PortBit) (distinct : IsDistinct reques
   a = m.value ack
 
   abbrev Next : ℕ → Type 0
-  Next n = Holds request ack bits distinct (after (part request ack bits distinct) m n)
+  Next n = Holds request ack bits distinct (moment_after (part request ack bits distinct) m n)
 
   abbrev to_bit : (i k : ℕ) → i < length bits → k < 4 → bit_legal request ack bits distinct (turned m.value (node bits i k)) i ≡ true → Next (node bits i k)
   to_bit i k within few h = bit_goes request ack bits distinct m i k within few holds h
@@ -425,7 +425,7 @@ first_legal r a x y q p er ea nx nq =
         (λ r a x y q p. implies (not r) (implies (not a) (implies (neutral x y) (implies (neutral q p) (legal r a x y q p))))) refl r a x y q p)
         (not_from_false r er) (not_from_false a ea)) nx nq
 
-at_start : (request ack : ℕ) (bits : List PortBit) (distinct : IsDistinct request ack bits) (v : ℕ → Bool) → IsFirst (port_part request ack bits) v →
+at_start : (request ack : ℕ) (bits : List PortBit) (distinct : IsDistinct request ack bits) (v : ℕ → Bool) → IsFirstState (port_part request ack bits) v →
     Holds request ack bits distinct (record { value = v; noted = λ n. false })
 at_start request ack bits distinct v is i within =
     let rails = low_rails v ack bits (right_of (not (v ack)) _ (right_of (not (v request)) _ is.outside)) in

@@ -7,7 +7,7 @@ use Rattle.prs_core.specs.Moves.{guard_holds}
 use Rattle.prs_core.specs.Parts.{Owned, fires, turned}
 use Rattle.prs_core.specs.Turning.{turned_here, turned_apart}
 use Rattle.cell_parallel.specs.Trees.{tree_top, tree_owned}
-use Rattle.cell_parallel.specs.TreeParts.{IsOutside, AreOutside, is_settled, IsSettled, TreeMove, by_rule, of_leaf, elsewhere, Settles}
+use Rattle.cell_parallel.specs.TreeParts.{IsOutsideTree, AreOutside, is_settled, IsTreeSettled, TreeMove, by_rule, of_leaf, elsewhere, Settles}
 use Rattle.cell_parallel.proofs.Joins.{Join, as_owned, tree_joins, join_of, owned_of, Each, down, up, inputs, unique, top_join, some_joins}
 
 -- a C-element's two tests on its own value and those of its inputs, as they compute
@@ -136,19 +136,19 @@ module _ (leaves : List ℕ) (from : ℕ) (some : 0 < length leaves) (outside : 
   abbrev Moves : (ℕ → Bool) → Join → Type 0
   Moves v j = moves (v j.node) (v j.left) (v j.right) ≡ true
 
-  of_joins : (v : ℕ → Bool) → Settled v → IsSettled leaves from v
+  of_joins : (v : ℕ → Bool) → Settled v → IsTreeSettled leaves from v
   of_joins v s o among =
       let (j, here, is) = join_of leaves from o among in
       subst (λ (x : Owned). is_settled v top x ≡ true) is (s j here)
 
-  to_joins : (v : ℕ → Bool) → IsSettled leaves from v → Settled v
+  to_joins : (v : ℕ → Bool) → IsTreeSettled leaves from v → Settled v
   to_joins v s j among = s (as_owned j) (owned_of leaves from j among)
 
-  not_own : (node : ℕ) → IsOutside leaves from node → (j : Join) → Contains joins j → j.node ≢ node
+  not_own : (node : ℕ) → IsOutsideTree leaves from node → (j : Join) → Contains joins j → j.node ≢ node
   not_own node out j among = All-contains (λ (o : Owned). o.node ≢ node) (tree_owned leaves from) (as_owned j) out (owned_of leaves from j among)
 
   -- a node that isn't the tree's own isn't its top, where it has one of its own
-  not_top : (node : ℕ) → IsOutside leaves from node → (j : Join) → Contains joins j → top ≢ node
+  not_top : (node : ℕ) → IsOutsideTree leaves from node → (j : Join) → Contains joins j → top ≢ node
   not_top node out j among e =
       let (k, here, is) = top_join leaves from (some_joins leaves from j among) in
       not_own node out k here (is ∙ e)
@@ -226,7 +226,7 @@ module _ (leaves : List ℕ) (from : ℕ) (some : 0 < length leaves) (outside : 
       by (inl e) = turned_apart v top j.node (λ same. differ (v top) (ap v (sym same) ∙ e)) ∙ (e ∙ sym (turned_here v top))
       by (inr e) = ap w e
 
-  inputs_far : (node : ℕ) → IsOutside leaves from node → All (λ leaf. leaf ≢ node) leaves → (j : Join) → Contains joins j → (j.left ≢ node) × (j.right ≢ node)
+  inputs_far : (node : ℕ) → IsOutsideTree leaves from node → All (λ leaf. leaf ≢ node) leaves → (j : Join) → Contains joins j → (j.left ≢ node) × (j.right ≢ node)
   inputs_far node out far = inputs (λ n. n ≢ node) (length leaves) leaves from (recursion_from_All (λ leaf. leaf ≢ node) leaves far)
       (λ j among. not_own node out j among)
 
@@ -287,7 +287,7 @@ module _ (leaves : List ℕ) (from : ℕ) (some : 0 < length leaves) (outside : 
     where
       by : (leaf : ℕ) → Contains leaves leaf → (v leaf ≡ not (v top)) ⊎ (leaf ≡ top) → v leaf ≡ not (v top)
       by leaf here (inl e) = e
-      by leaf here (inr e) = absurd (not_own leaf (All-contains (IsOutside leaves from) leaves leaf outside here) j among (at ∙ sym e))
+      by leaf here (inr e) = absurd (not_own leaf (All-contains (IsOutsideTree leaves from) leaves leaf outside here) j among (at ∙ sym e))
 
   rests : (v : ℕ → Bool) → Settled v → v top ≡ false → All (λ leaf. v leaf ≡ false) leaves → (j : Join) → Contains joins j → v j.node ≡ false
   rests v s low all =

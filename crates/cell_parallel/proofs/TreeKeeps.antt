@@ -3,11 +3,11 @@ use Rattle.std.proofs.Common.{◌≡◌, ℕ, ◌<◌, Bool, true, false, List, 
 use Rattle.std.specs.Prelude.{not, ◌&&◌, if◌then◌else◌}
 use Rattle.std.specs.List.{list_all}
 use Rattle.std.proofs.lemmas.List.Elements.{All-contains, All-from_recursion, Contains-append_right}
-use Rattle.prs_core.specs.Parts.{Owned, Part, Wire, Moment, IsFirst, IsMove, Keeps, wire, fires, may_move, all_low}
+use Rattle.prs_core.specs.Parts.{Owned, Part, Wire, Moment, IsFirstState, IsMove, Keeps, wire, fires, may_move, all_low}
 use Rattle.prs_core.specs.Keeping.{kept_by}
 use Rattle.prs_core.specs.Turning.{among_cases, none_among, among_mapped, mapped_among}
 use Rattle.cell_parallel.specs.Trees.{tree_top, tree_owned}
-use Rattle.cell_parallel.specs.TreeParts.{AreOutside, IsOutside, IsSettled, TreeMove, by_rule, of_leaf, Settles, tree_part}
+use Rattle.cell_parallel.specs.TreeParts.{AreOutside, IsOutsideTree, IsTreeSettled, TreeMove, by_rule, of_leaf, Settles, tree_part}
 use Rattle.cell_parallel.proofs.Joins.{join_of, some_joins}
 use Rattle.cell_parallel.proofs.Settling.{settles}
 
@@ -58,7 +58,7 @@ module _ (leaves : List ℕ) (from : ℕ) (some : 0 < length leaves) (outside : 
   abbrev leaf_wire : ℕ → Wire
   leaf_wire leaf = wire leaf (λ m. not (m.value top)) (λ m. m.value top)
 
-  first : (v : ℕ → Bool) → IsFirst part v → IsSettled leaves from v
+  first : (v : ℕ → Bool) → IsFirstState part v → IsTreeSettled leaves from v
   first v is = known.first v (λ o among. low o among ∙ sym (top_low o among))
     where
       low : (o : Owned) → Contains (tree_owned leaves from) o → v o.node ≡ false
@@ -93,9 +93,9 @@ module _ (leaves : List ℕ) (from : ℕ) (some : 0 < length leaves) (outside : 
       let (leaf, here, is) = among_mapped leaf_wire leaves outer.w outer.among in
       let at : node ≡ leaf = outer.at ∙ ap (λ (w : Wire). w.node) (sym is) in
       let may : may_move m (leaf_wire leaf) ≡ true = subst (λ (w : Wire). may_move m w ≡ true) (sym is) outer.may in
-      subst (TreeMove leaves from m.value) (sym at) (of_leaf (All-contains (IsOutside leaves from) leaves leaf outside here) (leaf_value m leaf may))
+      subst (TreeMove leaves from m.value) (sym at) (of_leaf (All-contains (IsOutsideTree leaves from) leaves leaf outside here) (leaf_value m leaf may))
 
-  promised : (m : Moment) → IsSettled leaves from m.value → (o : Owned) → Contains (tree_owned leaves from) o → fires m.value o ≡ true → (w : Wire) →
+  promised : (m : Moment) → IsTreeSettled leaves from m.value → (o : Owned) → Contains (tree_owned leaves from) o → fires m.value o ≡ true → (w : Wire) →
       Contains part.promises w → w.node ≡ o.node → may_move m w ≡ true
   promised m s o among f w here at = by (among_cases (wire top (λ m. list_all m.value leaves) (λ m. all_low m.value leaves)) [] w here)
     where
@@ -110,7 +110,7 @@ module _ (leaves : List ℕ) (from : ℕ) (some : 0 < length leaves) (outside : 
           subst (λ (x : Wire). may_move m x ≡ true) is
               (turn (m.value top) (λ n there. All-contains (λ leaf. m.value leaf ≡ not (m.value top)) leaves n all there))
 
-  lows : (v : ℕ → Bool) → IsSettled leaves from v → all_low v (top ∷ leaves) ≡ true → all_low v (map (λ (o : Owned). o.node) (tree_owned leaves from)) ≡ true
+  lows : (v : ℕ → Bool) → IsTreeSettled leaves from v → all_low v (top ∷ leaves) ≡ true → all_low v (map (λ (o : Owned). o.node) (tree_owned leaves from)) ≡ true
   lows v s h =
       each_low v (map (λ (o : Owned). o.node) (tree_owned leaves from)) (λ n among.
       let (o, here, is) = among_mapped (λ (o : Owned). o.node) (tree_owned leaves from) n among in
@@ -125,7 +125,7 @@ module _ (leaves : List ℕ) (from : ℕ) (some : 0 < length leaves) (outside : 
       All-low ns h = All-from_recursion (λ n. v n ≡ false) ns (each ns h)
 
   pub keeps : Keeps part
-  keeps = kept_by part (λ m. IsSettled leaves from m.value) first (λ m node s move. known.stays m.value node s (move_of m node move)) (λ m s. record {
+  keeps = kept_by part (λ m. IsTreeSettled leaves from m.value) first (λ m node s move. known.stays m.value node s (move_of m node move)) (λ m s. record {
     promised = promised m s;
     firm = λ o among f node move ne. known.firm m.value o node s among f (move_of m node move) ne;
     apart = λ o among. known.apart m.value o among;

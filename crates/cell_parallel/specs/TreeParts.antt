@@ -21,19 +21,19 @@ tree_part leaves from =
     }
 
 -- the node is none of the tree's own
-abbrev pub IsOutside : (leaves : List ℕ) → (from node : ℕ) → Type 0
-IsOutside leaves from node = All (λ (o : Owned). o.node ≢ node) (tree_owned leaves from)
+abbrev pub IsOutsideTree : (leaves : List ℕ) → (from node : ℕ) → Type 0
+IsOutsideTree leaves from node = All (λ (o : Owned). o.node ≢ node) (tree_owned leaves from)
 
 -- no leaf is a node of the tree's own
 abbrev pub AreOutside : (leaves : List ℕ) → (from : ℕ) → Type 0
-AreOutside leaves from = All (IsOutside leaves from) leaves
+AreOutside leaves from = All (IsOutsideTree leaves from) leaves
 
 -- The wave turns at the top: a C-element that hasn't the top's value has the guard by which it left it.
 abbrev pub is_settled : (ℕ → Bool) → (top : ℕ) → Owned → Bool
 is_settled v top o = if v o.node then v top || guard_holds v o.rules.up else not (v top) || guard_holds v o.rules.down
 
-abbrev pub IsSettled : (leaves : List ℕ) → (from : ℕ) → (ℕ → Bool) → Type 0
-IsSettled leaves from v = (o : Owned) → Contains (tree_owned leaves from) o →
+abbrev pub IsTreeSettled : (leaves : List ℕ) → (from : ℕ) → (ℕ → Bool) → Type 0
+IsTreeSettled leaves from v = (o : Owned) → Contains (tree_owned leaves from) o →
     is_settled v (tree_top leaves from) o ≡ true
 
 -- What may move beside a tree: one of its own nodes by a rule, a leaf that has the top's value, or a node that isn't in
@@ -41,34 +41,34 @@ IsSettled leaves from v = (o : Owned) → Contains (tree_owned leaves from) o �
 pub data TreeMove (leaves : List ℕ) (from : ℕ) (v : ℕ → Bool) (node : ℕ) : Type 0 where
   by_rule : (o : Owned) → Contains (tree_owned leaves from) o → fires v o ≡ true → node ≡ o.node →
       TreeMove leaves from v node
-  of_leaf : IsOutside leaves from node → v node ≡ v (tree_top leaves from) → TreeMove leaves from v node
-  elsewhere : IsOutside leaves from node → All (λ leaf. leaf ≢ node) leaves → TreeMove leaves from v node
+  of_leaf : IsOutsideTree leaves from node → v node ≡ v (tree_top leaves from) → TreeMove leaves from v node
+  elsewhere : IsOutsideTree leaves from node → All (λ leaf. leaf ≢ node) leaves → TreeMove leaves from v node
 
 -- What a settled tree keeps, for all that stands on it.
 pub record Settles (leaves : List ℕ) (from : ℕ) : Type 0 where
   -- it is settled where all its nodes have one value, and stays so
   pub first : (v : ℕ → Bool) → ((o : Owned) → Contains (tree_owned leaves from) o → v o.node ≡ v (tree_top leaves from))
-      → IsSettled leaves from v
-  pub stays : (v : ℕ → Bool) (node : ℕ) → IsSettled leaves from v → TreeMove leaves from v node →
-      IsSettled leaves from (turned v node)
+      → IsTreeSettled leaves from v
+  pub stays : (v : ℕ → Bool) (node : ℕ) → IsTreeSettled leaves from v → TreeMove leaves from v node →
+      IsTreeSettled leaves from (turned v node)
   -- a node of its own moves only away from the top's value; where its rule is enabled no other move disables it, and
   -- none is pulled both ways
-  pub leaves_it : (v : ℕ → Bool) (o : Owned) → IsSettled leaves from v → Contains (tree_owned leaves from) o →
+  pub leaves_it : (v : ℕ → Bool) (o : Owned) → IsTreeSettled leaves from v → Contains (tree_owned leaves from) o →
       fires v o ≡ true → v o.node ≡ v (tree_top leaves from)
-  pub firm : (v : ℕ → Bool) (o : Owned) (node : ℕ) → IsSettled leaves from v → Contains (tree_owned leaves from) o →
+  pub firm : (v : ℕ → Bool) (o : Owned) (node : ℕ) → IsTreeSettled leaves from v → Contains (tree_owned leaves from) o →
       fires v o ≡ true → TreeMove leaves from v node → node ≢ o.node → fires (turned v node) o ≡ true
   pub apart : (v : ℕ → Bool) (o : Owned) → Contains (tree_owned leaves from) o →
       (guard_holds v o.rules.up && guard_holds v o.rules.down) ≡ false
   -- the top turns once all leaves have; where it is low with all leaves, all nodes are; where nothing moves, some leaf
   -- has its value
-  pub turns : (v : ℕ → Bool) (o : Owned) → IsSettled leaves from v → Contains (tree_owned leaves from) o →
+  pub turns : (v : ℕ → Bool) (o : Owned) → IsTreeSettled leaves from v → Contains (tree_owned leaves from) o →
       fires v o ≡ true → o.node ≡ tree_top leaves from → All (λ leaf. v leaf ≡ not (v (tree_top leaves from))) leaves
-  pub rests : (v : ℕ → Bool) → IsSettled leaves from v → v (tree_top leaves from) ≡ false →
+  pub rests : (v : ℕ → Bool) → IsTreeSettled leaves from v → v (tree_top leaves from) ≡ false →
       All (λ leaf. v leaf ≡ false) leaves → (o : Owned) → Contains (tree_owned leaves from) o → v o.node ≡ false
   -- where all leaves have the top's value, all nodes have it
-  pub flat : (v : ℕ → Bool) → IsSettled leaves from v → All (λ leaf. v leaf ≡ v (tree_top leaves from)) leaves →
+  pub flat : (v : ℕ → Bool) → IsTreeSettled leaves from v → All (λ leaf. v leaf ≡ v (tree_top leaves from)) leaves →
       (o : Owned) → Contains (tree_owned leaves from) o → v o.node ≡ v (tree_top leaves from)
-  pub waits : (v : ℕ → Bool) → IsSettled leaves from v →
+  pub waits : (v : ℕ → Bool) → IsTreeSettled leaves from v →
       ((o : Owned) → Contains (tree_owned leaves from) o → fires v o ≡ false) →
       (leaf : ℕ) × Contains leaves leaf × (v leaf ≡ v (tree_top leaves from))
   -- the top is one of its nodes, but for a leaf alone

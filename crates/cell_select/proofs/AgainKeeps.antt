@@ -4,9 +4,9 @@ use Rattle.std.specs.Prelude.{◌&&◌, ◌||◌, if◌then◌else◌, ◌==◌,
 use Rattle.std.proofs.Math.Logic.{⊎_elim}
 use Rattle.prs_core.specs.Moves.{guard_holds}
 use Rattle.prs_core.specs.Pairs.{rails_of, or_of}
-use Rattle.prs_core.specs.Parts.{Owned, owned, Moment, Wire, IsFirst, IsKept, all_low, fires, may_move}
+use Rattle.prs_core.specs.Parts.{Owned, owned, Moment, Wire, IsFirstState, IsKept, all_low, fires, may_move}
 use Rattle.cell_select.specs.Selections.{joined_answer, evaluation, turn_request, leave_latch, leave_answer}
-use Rattle.cell_select.specs.Contract.{Branch, Place, AgainNodes, again_nodes, again_owned, again_own, rises_under, eval_wire, start_wire, start_wires, request_wire, branch_wires, latches_of, starts_of, answers_of, guards_of, guards_neutral, guards_valid, guards_false, none_true, alone_true, one_true, AreApart}
+use Rattle.cell_select.specs.Contract.{Branch, BranchPlace, AgainNodes, again_nodes, again_owned, again_inner, rises_under, eval_wire, start_wire, start_wires, request_wire, branch_wires, latches_of, starts_of, answers_of, guards_of, guards_neutral, guards_valid, guards_false, none_true, alone_true, one_true, AreApart}
 use Rattle.cell_select.proofs.Plain.{plain_again, plain_answer}
 use Rattle.cell_select.proofs.Tables.{implies, implies_at, and_left, and_right, both, not_true, true_not, true_false}
 use Rattle.cell_select.proofs.Distinct.{distinct_from}
@@ -121,7 +121,7 @@ again_setting c apart = record {
   answer_down = λ v noted p. refl;
 }
 
-abbrev Rule : AgainNodes → Place → Owned → ℕ → Type 0
+abbrev Rule : AgainNodes → BranchPlace → Owned → ℕ → Type 0
 Rule c p o j = AsRule again_machine (again_frame c) c.branches p o j
 
 abbrev answer_owned : AgainNodes → Owned
@@ -142,7 +142,7 @@ any_owned c = owned c.any (or_of (c.leave ∷ latches_of c.branches))
 abbrev leave_owned : AgainNodes → Owned
 leave_owned c = owned c.leave (leave_latch c.turn (guards_of c.branches))
 
-answer_rule : (c : AgainNodes) (p : Place) → IsPlace c.branches p → Rule c p (answer_owned c) 1
+answer_rule : (c : AgainNodes) (p : BranchPlace) → IsPlace c.branches p → Rule c p (answer_owned c) 1
 answer_rule c p is = record {
   less = omega arith;
   own = refl;
@@ -151,10 +151,10 @@ answer_rule c p is = record {
   down = λ v noted calm. refl;
 }
 
-turn_rule : (c : AgainNodes) (p : Place) → IsPlace c.branches p → Rule c p (turn_owned c) 2
+turn_rule : (c : AgainNodes) (p : BranchPlace) → IsPlace c.branches p → Rule c p (turn_owned c) 2
 turn_rule c p is = record { less = omega arith; own = refl; at = refl; up = λ v noted calm. refl; down = λ v noted calm. refl }
 
-joined_rule : (c : AgainNodes) (p : Place) → IsPlace c.branches p → Rule c p (joined_owned c) 3
+joined_rule : (c : AgainNodes) (p : BranchPlace) → IsPlace c.branches p → Rule c p (joined_owned c) 3
 joined_rule c p is = record {
   less = omega arith;
   own = refl;
@@ -164,10 +164,10 @@ joined_rule c p is = record {
       ∙ only_answer v p calm);
 }
 
-eval_rule : (c : AgainNodes) (p : Place) → IsPlace c.branches p → Rule c p (eval_owned c) 4
+eval_rule : (c : AgainNodes) (p : BranchPlace) → IsPlace c.branches p → Rule c p (eval_owned c) 4
 eval_rule c p is = record { less = omega arith; own = refl; at = refl; up = λ v noted calm. refl; down = λ v noted calm. refl }
 
-any_rule : (c : AgainNodes) (p : Place) → IsPlace c.branches p → Rule c p (any_owned c) 5
+any_rule : (c : AgainNodes) (p : BranchPlace) → IsPlace c.branches p → Rule c p (any_owned c) 5
 any_rule c p is = record {
   less = omega arith;
   own = refl;
@@ -178,7 +178,7 @@ any_rule c p is = record {
       ∙ ap (λ (xs : List Branch). not (v c.leave) && all_low v (latches_of xs)) is ∙ ap (λ b. not (v c.leave) && b) (only_latch v p calm));
 }
 
-leave_rule : (c : AgainNodes) (p : Place) → IsPlace c.branches p → Rule c p (leave_owned c) 6
+leave_rule : (c : AgainNodes) (p : BranchPlace) → IsPlace c.branches p → Rule c p (leave_owned c) 6
 leave_rule c p is = record {
   less = omega arith;
   own = refl;
@@ -187,7 +187,7 @@ leave_rule c p is = record {
   down = λ v noted calm. refl;
 }
 
-latch_placed : (c : AgainNodes) (q : Place) → IsPlace c.branches q → AsPlaced again_machine (again_frame c) c.branches q (latch_owned c.turn q) 7
+latch_placed : (c : AgainNodes) (q : BranchPlace) → IsPlace c.branches q → AsPlaced again_machine (again_frame c) c.branches q (latch_owned c.turn q) 7
 latch_placed c q is = record {
   is = is;
   rule = record { less = omega arith; own = refl; at = refl; up = λ v noted calm. latch_up v c.turn q; down = λ v noted calm. refl };
@@ -196,7 +196,7 @@ latch_placed c q is = record {
   still = λ v still. latch_still v c.turn q still;
 }
 
-start_placed : (c : AgainNodes) (q : Place) → IsPlace c.branches q →
+start_placed : (c : AgainNodes) (q : BranchPlace) → IsPlace c.branches q →
     AsPlaced again_machine (again_frame c) c.branches q (start_owned (guards_of c.branches) q) 8
 start_placed c q is = record {
   is = is;
@@ -206,7 +206,7 @@ start_placed c q is = record {
   still = λ v still. start_still v c.branches q still;
 }
 
-in_frame : (c : AgainNodes) (o x : Owned) (j : ℕ) → j < 7 → o ≡ x → ((p : Place) → IsPlace c.branches p → Rule c p x j) →
+in_frame : (c : AgainNodes) (o x : Owned) (j : ℕ) → j < 7 → o ≡ x → ((p : BranchPlace) → IsPlace c.branches p → Rule c p x j) →
     InFrame again_machine (again_frame c) c.branches o
 in_frame c o x j lt e rule = (j, lt, λ p is. subst (λ (o : Owned). Rule c p o j) (sym e) (rule p is))
 
@@ -270,13 +270,13 @@ again_is_part c = record {
 }
 
 -- what the table adds, seen from a branch
-abbrev ctl : AgainNodes → Moment → Place → List Bool
+abbrev ctl : AgainNodes → Moment → BranchPlace → List Bool
 ctl c m p = map m.value (controls (again_frame c) p)
 
-abbrev rls : AgainNodes → Moment → Place → List Bool
+abbrev rls : AgainNodes → Moment → BranchPlace → List Bool
 rls c m p = seen_rails m.value m.noted c.branches p
 
-abbrev pub Sees : AgainNodes → Moment → Place → Type 0
+abbrev pub Sees : AgainNodes → Moment → BranchPlace → Type 0
 Sees c m p = View again_machine (again_frame c) c.branches m p
 
 record Extras (c q : List Bool) : Type 0 where
@@ -286,7 +286,7 @@ record Extras (c q : List Bool) : Type 0 where
   first : at_first c ≡ true
   waits : waits_test c q ≡ true
 
-extras : (c : AgainNodes) → AreApart (again_nodes c) → (m : Moment) (p : Place) → Sees c m p → Extras (ctl c m p) (rls c m p)
+extras : (c : AgainNodes) → AreApart (again_nodes c) → (m : Moment) (p : BranchPlace) → Sees c m p → Extras (ctl c m p) (rls c m p)
 extras c apart m p view =
     let cs = ctl c m p in
     let q = rls c m p in
@@ -302,7 +302,7 @@ extras c apart m p view =
       waits = and_right (at_first cs) _ fourth;
     }
 
-answer_holds : (c : AgainNodes) → AreApart (again_nodes c) → (m : Moment) (p : Place) → Sees c m p → can again_machine 1 (ctl c m p) (rls c m p) ≡ true →
+answer_holds : (c : AgainNodes) → AreApart (again_nodes c) → (m : Moment) (p : BranchPlace) → Sees c m p → can again_machine 1 (ctl c m p) (rls c m p) ≡ true →
     may_move m (plain_answer c) ≡ true
 answer_holds c apart m p view may =
     let v = m.value in
@@ -310,7 +310,7 @@ answer_holds c apart m p view may =
     ap (λ i. if v c.answer then not (v c.request) && (not (v c.eval) && (guards_neutral v c.branches && i)) else v c.request
         && (guards_false m.noted c.branches && (not (v c.eval) && (guards_neutral v c.branches && i)))) (idle_is v c.branches p view.is view.calm) ∙ promise
 
-eval_holds : (c : AgainNodes) → AreApart (again_nodes c) → (m : Moment) (p : Place) → Sees c m p → can again_machine 4 (ctl c m p) (rls c m p) ≡ true →
+eval_holds : (c : AgainNodes) → AreApart (again_nodes c) → (m : Moment) (p : BranchPlace) → Sees c m p → can again_machine 4 (ctl c m p) (rls c m p) ≡ true →
     may_move m (rises_under c.request (eval_wire c.turn c.answer c.eval c.branches)) ≡ true
 eval_holds c apart m p view may =
     let v = m.value in
@@ -323,7 +323,7 @@ eval_holds c apart m p view may =
     ap (λ i. if v c.eval then guards_valid v c.branches && i else v c.request && (v c.turn && (not (v c.answer) && (guards_neutral v c.branches && i))))
         (idle_is v c.branches p view.is view.calm) ∙ strong
 
-start_holds : (c : AgainNodes) → AreApart (again_nodes c) → (m : Moment) (p : Place) → Sees c m p → can again_machine 8 (ctl c m p) (rls c m p) ≡ true →
+start_holds : (c : AgainNodes) → AreApart (again_nodes c) → (m : Moment) (p : BranchPlace) → Sees c m p → can again_machine 8 (ctl c m p) (rls c m p) ≡ true →
     may_move m (rises_under c.request (start_wire c.turn c.answer c.eval c.branches p)) ≡ true
 start_holds c apart m p view may =
     let v = m.value in
@@ -352,8 +352,8 @@ promise_of c apart m w h =
     (contains_cons (plain_answer c) (map under (e ∷ starts)) w h)
 
 -- as at first where the request and the answer are low
-lows_of : (c : AgainNodes) → AreApart (again_nodes c) → (m : Moment) (p : Place) → Sees c m p → all_low m.value (c.request ∷ c.answer ∷ []) ≡ true →
-    all_low m.value (again_own c) ≡ true
+lows_of : (c : AgainNodes) → AreApart (again_nodes c) → (m : Moment) (p : BranchPlace) → Sees c m p → all_low m.value (c.request ∷ c.answer ∷ []) ≡ true →
+    all_low m.value (again_inner c) ≡ true
 lows_of c apart m p view low =
     let v = m.value in
     let a = and_left (not (v c.answer)) true (and_right (not (v c.request)) (not (v c.answer) && true) low) in
@@ -376,13 +376,13 @@ Waits c m = ((w : Wire) × Contains (plain_again c).allows w × (may_move m w �
 by_branch : (c : AgainNodes) (m : Moment) → MayMove m c.eval c.branches → Waits c m
 by_branch c m h = inl (h.0, contains_next (request_wire c.request c.answer) (branch_wires c.eval c.branches) h.0 h.1, h.2)
 
-latch_low : (c : AgainNodes) (m : Moment) (p q : Place) → Sees c m p → IsPlace c.branches q → m.value p.this.latch ≡ false → m.value q.this.latch ≡ false
+latch_low : (c : AgainNodes) (m : Moment) (p q : BranchPlace) → Sees c m p → IsPlace c.branches q → m.value p.this.latch ≡ false → m.value q.this.latch ≡ false
 latch_low c m p q view at low =
-    ⊎_elim (λ (same : p ≡ q). ap (λ (r : Place). m.value r.this.latch) (sym same) ∙ low)
+    ⊎_elim (λ (same : p ≡ q). ap (λ (r : BranchPlace). m.value r.this.latch) (sym same) ∙ low)
         (λ (apart : Apart p q). (quiet_among m.value p q.this view.calm apart.second).latch) (one_or_apart c.branches p q view.is at)
 
 -- no latch may rise: neither is a guard true alone, nor are all false
-latch_fires : (c : AgainNodes) (m : Moment) (q : Place) → m.value q.this.latch ≡ false → alone_true m.value q ≡ true →
+latch_fires : (c : AgainNodes) (m : Moment) (q : BranchPlace) → m.value q.this.latch ≡ false → alone_true m.value q ≡ true →
     fires m.value (latch_owned c.turn q) ≡ true
 latch_fires c m q low alone =
     ap (λ b. if b then guard_holds m.value (latch_owned c.turn q).rules.down else guard_holds m.value (latch_owned c.turn q).rules.up) low
@@ -393,7 +393,7 @@ leave_fires c m low none =
     ap (λ b. if b then guard_holds m.value (leave_owned c).rules.down else guard_holds m.value (leave_owned c).rules.up) low
         ∙ ap (λ b. b || false) (falses_hold m.value c.branches ∙ none)
 
-awaits : (c : AgainNodes) (m : Moment) (p : Place) → Sees c m p → ((o : Owned) → Contains (again_owned c) o → fires m.value o ≡ false) → m.value c.eval ≡ true →
+awaits : (c : AgainNodes) (m : Moment) (p : BranchPlace) → Sees c m p → ((o : Owned) → Contains (again_owned c) o → fires m.value o ≡ false) → m.value c.eval ≡ true →
     m.value p.this.latch ≡ false → m.value c.leave ≡ false → (valid zero_true one : Bool) → guards_valid m.value c.branches ≡ valid →
     none_true m.value c.branches ≡ zero_true → one_true m.value c.branches ≡ one → Waits c m
 awaits c m p view none e low out false zero_true one is_valid is_none is_one =
@@ -408,7 +408,7 @@ awaits c m p view none e low out true false true is_valid is_none is_one =
     absurd (true_false (latch_fires c m q.0 (latch_low c m p q.0 view q.1 low) q.2)
         (none (latch_owned c.turn q.0) (behind_all c (latch_owned c.turn q.0) there)))
 
-waits_of : (c : AgainNodes) → AreApart (again_nodes c) → (m : Moment) (p : Place) → Sees c m p →
+waits_of : (c : AgainNodes) → AreApart (again_nodes c) → (m : Moment) (p : BranchPlace) → Sees c m p →
     ((o : Owned) → Contains (again_owned c) o → fires m.value o ≡ false) → Waits c m
 waits_of c apart m p view none =
     let v = m.value in
@@ -464,7 +464,7 @@ waits_of c apart m p view none =
     (or_cases (can again_machine 0 cs q || can again_machine 9 cs q) _ wait)
 
 abbrev pub Reaches : AgainNodes → Moment → Type 0
-Reaches c m = (p : Place) × Sees c m p
+Reaches c m = (p : BranchPlace) × Sees c m p
 
 -- first values
 abbrev all_down : List Bool
@@ -474,7 +474,7 @@ fit_first : (q : List Bool) (n w u k z y kz : Bool) → q ≡ n ∷ w ∷ u ∷ 
 fit_first q n w u k z y kz e low con = ap (again_fit all_down) e ∙ both _ _ (ap consistent (sym e) ∙ con) (both _ _ low refl)
 
 first_by : (c : AgainNodes) → AreApart (again_nodes c) → (b : Branch) (rest : List Branch) → c.branches ≡ b ∷ rest → (v : ℕ → Bool) →
-    IsFirst (plain_again c) v → Reaches c (record { value = v; noted = λ n. false })
+    IsFirstState (plain_again c) v → Reaches c (record { value = v; noted = λ n. false })
 first_by c apart b rest is v first =
     let p = at_place [] b rest in
     let wires = first_wires v c.eval c.branches (and_right (not (v c.request)) _ first.outside) in
@@ -506,7 +506,7 @@ first_by c apart b rest is v first =
       },
     )
 
-pub first_of : (c : AgainNodes) → AreApart (again_nodes c) → (bs : List Branch) → c.branches ≡ bs → 0 < length bs → (v : ℕ → Bool) → IsFirst (plain_again c) v →
+pub first_of : (c : AgainNodes) → AreApart (again_nodes c) → (bs : List Branch) → c.branches ≡ bs → 0 < length bs → (v : ℕ → Bool) → IsFirstState (plain_again c) v →
     Reaches c (record { value = v; noted = λ n. false })
 first_of c apart [] is some v first = absurd (omega (arith, some))
 first_of c apart (b ∷ rest) is some v first = first_by c apart b rest is v first

@@ -4,10 +4,10 @@ use Rattle.std.proofs.Common.{◌≡◌, ℕ, ◌<◌, Bool, true, false, not, L
 use Rattle.std.specs.Prelude.{◌&&◌, if◌then◌else◌, Contains}
 use Rattle.std.proofs.Math.Logic.{⊎_elim}
 use Rattle.prs_core.specs.Pairs.{rails_of}
-use Rattle.prs_core.specs.Parts.{Owned, Moment, Wire, IsFirst, IsMove, IsKept, Keeps, after, fires, may_move, turned}
+use Rattle.prs_core.specs.Parts.{Owned, Moment, Wire, IsFirstState, IsMove, IsKept, Keeps, moment_after, fires, may_move, turned}
 use Rattle.prs_core.specs.Keeping.{kept_by}
 use Rattle.prs_core.specs.Turning.{mapped_among}
-use Rattle.cell_select.specs.Contract.{Place, AgainNodes, again_nodes, again_owned, again_part, again_answer, rises_under, eval_wire, start_wire, start_wires, guards_of, controls_of, guards_neutral, guards_false, branches_idle, alone_true, noting, once, AreApart}
+use Rattle.cell_select.specs.Contract.{BranchPlace, AgainNodes, again_nodes, again_owned, again_part, again_answer, rises_under, eval_wire, start_wire, start_wires, guards_of, controls_of, guards_neutral, guards_false, branches_idle, alone_true, noting, once, AreApart}
 use Rattle.cell_select.proofs.Plain.{plain_again, plain_answer}
 use Rattle.cell_select.proofs.Tables.{implies, implies_at, and_left, and_right, both, not_true, true_not}
 use Rattle.cell_select.proofs.Distinct.{Fresh, Distinct, distinct_from, fresh_right}
@@ -37,7 +37,7 @@ record Noted (c : AgainNodes) (m : Moment) : Type 0 where
   reaches : Reaches c (record { value = m.value; noted = old })
   agree : Agree c.branches old m.noted
   ended : ended_ok (m.value c.request) (m.value c.eval) (m.value c.leave) (m.noted c.eval) ≡ true
-  started : (y : Place) → IsPlace c.branches y → start_ok (m.value c.eval) (m.value y.this.latch) (m.value y.this.start) (m.noted y.this.start) ≡ true
+  started : (y : BranchPlace) → IsPlace c.branches y → start_ok (m.value c.eval) (m.value y.this.latch) (m.value y.this.start) (m.noted y.this.start) ≡ true
 
 abbrev plain : Moment → (ℕ → Bool) → Moment
 plain m old = record { value = m.value; noted = old }
@@ -51,7 +51,7 @@ plain_move c m old node (inr theirs) = inr (record {
   at = theirs.at;
 })
 
-first_noted : (c : AgainNodes) → AreApart (again_nodes c) → 0 < length c.branches → (v : ℕ → Bool) → IsFirst (again_part c) v →
+first_noted : (c : AgainNodes) → AreApart (again_nodes c) → 0 < length c.branches → (v : ℕ → Bool) → IsFirstState (again_part c) v →
     Noted c (record { value = v; noted = λ n. false })
 first_noted c apart some v first = record {
   old = λ n. false;
@@ -71,11 +71,11 @@ module _ (c : AgainNodes) (apart : AreApart (again_nodes c)) (m : Moment) (node 
   distinct : Distinct (again_nodes c)
   distinct = distinct_from (again_nodes c) apart
 
-  tests : (j : ℕ) → j < 7 → ((z : Place) → node ≡ slice_index_or (controls (again_frame c) z) j 0) →
-      (z : Place) × (can again_machine j (map v (controls (again_frame c) z)) (seen_rails v h.old c.branches z) ≡ true)
+  tests : (j : ℕ) → j < 7 → ((z : BranchPlace) → node ≡ slice_index_or (controls (again_frame c) z) j 0) →
+      (z : BranchPlace) × (can again_machine j (map v (controls (again_frame c) z)) (seen_rails v h.old c.branches z) ≡ true)
       × (end_test (map v (controls (again_frame c) z)) (seen_rails v h.old c.branches z) ≡ true)
   tests j lt at =
-      let seen : (z : Place) × SeenAt again_machine (again_frame c) c.branches (plain m h.old) z j =
+      let seen : (z : BranchPlace) × SeenAt again_machine (again_frame c) c.branches (plain m h.old) z j =
           frame_seen again_machine (again_frame c) c.branches c.request c.answer c.eval (plain_again c) (plain m h.old) h.reaches.0 node setting
           (again_is_part c) h.reaches.1 move j lt at in
       (seen.0, seen.1.1, tried_at again_machine (again_frame c) c.branches c.eval (plain m h.old) seen.0 end_test setting seen.1.0 ends_tried)
@@ -119,9 +119,9 @@ module _ (c : AgainNodes) (apart : AreApart (again_nodes c)) (m : Moment) (node 
       ap (ended_ok (turned v node c.request) (turned v node c.eval) (turned v node c.leave)) (noted_eval c.request c.eval c.branches m node eval_rails)
       ∙ ended_step v m.noted c.request c.eval c.leave node distinct.0.1.1.1.0 distinct.0.1.1.1.1.1.0 asks_anew ends_asked h.ended
 
-  noted_after : Noted c (after (again_part c) m node)
+  noted_after : Noted c (moment_after (again_part c) m node)
   noted_after = record {
-    old = (after (plain_again c) (plain m h.old) node).noted;
+    old = (moment_after (plain_again c) (plain m h.old) node).noted;
     reaches = view_kept again_machine (again_frame c) c.branches c.request c.answer c.eval (plain_again c) (plain m h.old) h.reaches.0 node setting
         (again_is_part c) h.reaches.1 move;
     agree = agree_after c.request c.eval c.branches v h.old m.noted node h.agree;
@@ -133,7 +133,7 @@ module _ (c : AgainNodes) (apart : AreApart (again_nodes c)) (m : Moment) (node 
   abbrev within : Bool
   within = not (v c.eval) && (not (v c.answer) && (guards_neutral v c.branches && branches_idle v c.branches))
 
-  start_by : (y : Place) → IsPlace c.branches y → node ≡ y.this.start → (b : Bool) → v y.this.start ≡ b →
+  start_by : (y : BranchPlace) → IsPlace c.branches y → node ≡ y.this.start → (b : Bool) → v y.this.start ≡ b →
       may_move (plain m h.old) (rises_under c.request (start_wire c.turn c.answer c.eval c.branches y)) ≡ true →
       may_move m (rises_under c.request (once (start_wire c.turn c.answer c.eval c.branches y))) ≡ true
   start_by y is same true high may =

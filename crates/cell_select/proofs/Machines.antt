@@ -6,7 +6,7 @@ use Rattle.std.proofs.Math.Logic.{⊎_elim}
 use Rattle.std.proofs.lemmas.List.{append_assoc}
 use Rattle.prs_core.specs.Pairs.{rails_of}
 use Rattle.prs_core.specs.Parts.{Moment, turned, all_low}
-use Rattle.cell_select.specs.Contract.{Branch, Place, guards_of, controls_of, as_evaluated}
+use Rattle.cell_select.specs.Contract.{Branch, BranchPlace, guards_of, controls_of, as_evaluated}
 use Rattle.cell_select.proofs.Tables.{implies, implies_at, and_left, and_right, both, not_true, true_not, true_false, all_lists, all_lists_at, all_below, all_below_at, other, same_number, other_number}
 use Rattle.cell_select.proofs.Distinct.{Fresh, Distinct, Cross, flip, flips, still, value_at, one_place, cross_at, distinct_left, distinct_right, distinct_cross, fresh_left, fresh_right, swapped, low_still, cross_turned}
 use Rattle.cell_select.proofs.Places.{IsPlace}
@@ -89,7 +89,7 @@ abbrev pub whole_test : Machine → Bool
 whole_test M = all_lists M.size (λ c. when (M.control c) (λ _. all_lists 7 (λ q. when (M.fit c q) (λ _. state_test M c q))))
 
 -- the nodes whose values are the controls
-abbrev pub controls : List ℕ → Place → List ℕ
+abbrev pub controls : List ℕ → BranchPlace → List ℕ
 controls frame p = frame ++ (p.this.latch ∷ p.this.start ∷ p.this.answer ∷ [])
 
 -- how a machine stands for nodes
@@ -102,14 +102,14 @@ pub record Setting (M : Machine) (frame : List ℕ) (bs : List Branch) (eval : �
   pub whole : whole_test M ≡ true
   -- the request is the first control and the answer the second; the last follows the start
   pub second : 1 < M.latch
-  pub request_up : (v noted : ℕ → Bool) (p : Place) → M.up 0 (map v (controls frame p)) (seen_rails v noted bs p) ≡ not (bit_at (map v (controls frame p)) 1)
-  pub request_down : (v noted : ℕ → Bool) (p : Place) → M.down 0 (map v (controls frame p)) (seen_rails v noted bs p) ≡ bit_at (map v (controls frame p)) 1
-  pub answer_up : (v noted : ℕ → Bool) (p : Place) →
+  pub request_up : (v noted : ℕ → Bool) (p : BranchPlace) → M.up 0 (map v (controls frame p)) (seen_rails v noted bs p) ≡ not (bit_at (map v (controls frame p)) 1)
+  pub request_down : (v noted : ℕ → Bool) (p : BranchPlace) → M.down 0 (map v (controls frame p)) (seen_rails v noted bs p) ≡ bit_at (map v (controls frame p)) 1
+  pub answer_up : (v noted : ℕ → Bool) (p : BranchPlace) →
       M.up (M.latch + 2) (map v (controls frame p)) (seen_rails v noted bs p) ≡ bit_at (map v (controls frame p)) (M.latch + 1)
-  pub answer_down : (v noted : ℕ → Bool) (p : Place) →
+  pub answer_down : (v noted : ℕ → Bool) (p : BranchPlace) →
       M.down (M.latch + 2) (map v (controls frame p)) (seen_rails v noted bs p) ≡ not (bit_at (map v (controls frame p)) (M.latch + 1))
 
-pub record View (M : Machine) (frame : List ℕ) (bs : List Branch) (m : Moment) (p : Place) : Type 0 where
+pub record View (M : Machine) (frame : List ℕ) (bs : List Branch) (m : Moment) (p : BranchPlace) : Type 0 where
   pub is : IsPlace bs p
   pub calm : is_calm m.value p ≡ true
   pub single : guards_single m.value bs ≡ true
@@ -124,14 +124,14 @@ append_length : (xs ys : List ℕ) → length (xs ++ ys) ≡ length xs + length 
 append_length [] ys = omega arith
 append_length (x ∷ xs) ys = let rest = append_length xs ys in omega (arith, rest)
 
-pub controls_length : (M : Machine) (frame : List ℕ) (bs : List Branch) (eval : ℕ) (p : Place) → Setting M frame bs eval → length (controls frame p) ≡ M.size
+pub controls_length : (M : Machine) (frame : List ℕ) (bs : List Branch) (eval : ℕ) (p : BranchPlace) → Setting M frame bs eval → length (controls frame p) ≡ M.size
 controls_length M frame bs eval p s =
     let l = append_length frame (p.this.latch ∷ p.this.start ∷ p.this.answer ∷ []) in
     let long = s.long in
     let size = s.size in
     omega (arith, l, long, size)
 
-pub values_length : (M : Machine) (frame : List ℕ) (bs : List Branch) (eval : ℕ) (v : ℕ → Bool) (p : Place) → Setting M frame bs eval →
+pub values_length : (M : Machine) (frame : List ℕ) (bs : List Branch) (eval : ℕ) (v : ℕ → Bool) (p : BranchPlace) → Setting M frame bs eval →
     length (map v (controls frame p)) ≡ M.size
 values_length M frame bs eval v p s = map_length v (controls frame p) ∙ controls_length M frame bs eval p s
 
@@ -141,7 +141,7 @@ controls_parts : (before : List Branch) (b : Branch) (behind : List Branch) → 
 controls_parts [] b behind = refl
 controls_parts (x ∷ before) b behind = ap (λ (ns : List ℕ). x.latch ∷ x.start ∷ x.answer ∷ ns) (controls_parts before b behind)
 
-pub around : (frame : List ℕ) (bs : List Branch) (p : Place) → IsPlace bs p → Distinct (frame ++ (controls_of bs ++ rails_of (guards_of bs))) →
+pub around : (frame : List ℕ) (bs : List Branch) (p : BranchPlace) → IsPlace bs p → Distinct (frame ++ (controls_of bs ++ rails_of (guards_of bs))) →
     Distinct (controls frame p ++ (controls_of p.before ++ (controls_of p.behind ++ rails_of (guards_of bs))))
 around frame bs p is d =
     let mine = p.this.latch ∷ p.this.start ∷ p.this.answer ∷ [] in
@@ -163,7 +163,7 @@ table_at M c q h lc lq control fit =
         (all_lists_at M.size (λ c. when (M.control c) (λ _. all_lists 7 (λ q. when (M.fit c q) (λ _. state_test M c q)))) h c lc) control) q lq)
     fit
 
-pub state_of : (M : Machine) (frame : List ℕ) (bs : List Branch) (eval : ℕ) (m : Moment) (p : Place) → Setting M frame bs eval → View M frame bs m p →
+pub state_of : (M : Machine) (frame : List ℕ) (bs : List Branch) (eval : ℕ) (m : Moment) (p : BranchPlace) → Setting M frame bs eval → View M frame bs m p →
     state_test M (map m.value (controls frame p)) (seen_rails m.value m.noted bs p) ≡ true
 state_of M frame bs eval m p s view = table_at M (map m.value (controls frame p)) (seen_rails m.value m.noted bs p) s.whole
     (values_length M frame bs eval m.value p s) refl view.control view.fit
@@ -234,18 +234,18 @@ aim_of M c q r h idle long con same =
         (both (consistent r) (same_seen q r) con same)
 
 -- what a moment says after a control has moved
-note_same : (v noted : ℕ → Bool) (bs : List Branch) (p : Place) (b : Bool) →
+note_same : (v noted : ℕ → Bool) (bs : List Branch) (p : BranchPlace) (b : Bool) →
     seen_rails v (λ n. if b then v n else noted n) bs p ≡ renoted b (seen_rails v noted bs p)
 note_same v noted bs p true = refl
 note_same v noted bs p false = refl
 
-pub record Moved (M : Machine) (frame : List ℕ) (bs : List Branch) (v : ℕ → Bool) (p : Place) (i : ℕ) (node : ℕ) : Type 0 where
+pub record Moved (M : Machine) (frame : List ℕ) (bs : List Branch) (v : ℕ → Bool) (p : BranchPlace) (i : ℕ) (node : ℕ) : Type 0 where
   pub calm : is_calm (turned v node) p ≡ true
   pub controls : map (turned v node) (controls frame p) ≡ flip i (map v (controls frame p))
   pub rails : (noted : ℕ → Bool) → seen_rails (turned v node) noted bs p ≡ seen_rails v noted bs p
   pub fresh : Fresh node (rails_of (guards_of bs))
 
-pub control_moved : (M : Machine) (frame : List ℕ) (bs : List Branch) (eval : ℕ) (v : ℕ → Bool) (p : Place) (i node : ℕ) → Setting M frame bs eval →
+pub control_moved : (M : Machine) (frame : List ℕ) (bs : List Branch) (eval : ℕ) (v : ℕ → Bool) (p : BranchPlace) (i node : ℕ) → Setting M frame bs eval →
     IsPlace bs p → is_calm v p ≡ true → i < M.size → node ≡ slice_index_or (controls frame p) i 0 → Moved M frame bs v p i node
 control_moved M frame bs eval v p i node s is calm lt at =
     let d = around frame bs p is s.apart in
@@ -273,14 +273,14 @@ get_left [] ys i lt = absurd (omega (arith, lt))
 get_left (x ∷ xs) ys zero lt = refl
 get_left (x ∷ xs) ys (suc i) lt = get_left xs ys i (omega (arith, lt))
 
-pub eval_there : (M : Machine) (frame : List ℕ) (bs : List Branch) (eval : ℕ) (p : Place) → Setting M frame bs eval →
+pub eval_there : (M : Machine) (frame : List ℕ) (bs : List Branch) (eval : ℕ) (p : BranchPlace) → Setting M frame bs eval →
     slice_index_or (controls frame p) M.eval 0 ≡ eval
 eval_there M frame bs eval p s =
     let inside = s.inside in
     let long = s.long in
     get_left frame (p.this.latch ∷ p.this.start ∷ p.this.answer ∷ []) M.eval (omega (arith, inside, long)) ∙ s.there
 
-pub eval_value : (M : Machine) (frame : List ℕ) (bs : List Branch) (eval : ℕ) (v : ℕ → Bool) (p : Place) → Setting M frame bs eval →
+pub eval_value : (M : Machine) (frame : List ℕ) (bs : List Branch) (eval : ℕ) (v : ℕ → Bool) (p : BranchPlace) → Setting M frame bs eval →
     bit_at (map v (controls frame p)) M.eval ≡ v eval
 eval_value M frame bs eval v p s =
     let inside = s.inside in
@@ -288,7 +288,7 @@ eval_value M frame bs eval v p s =
     let long = controls_length M frame bs eval p s in
     value_at v (controls frame p) M.eval (omega (arith, inside, size, long)) ∙ ap v (eval_there M frame bs eval p s)
 
-same_test : (M : Machine) (frame : List ℕ) (bs : List Branch) (eval : ℕ) (p : Place) (i node : ℕ) → Setting M frame bs eval → IsPlace bs p → i < M.size →
+same_test : (M : Machine) (frame : List ℕ) (bs : List Branch) (eval : ℕ) (p : BranchPlace) (i node : ℕ) → Setting M frame bs eval → IsPlace bs p → i < M.size →
     node ≡ slice_index_or (controls frame p) i 0 → (b : Bool) → (i == M.eval) ≡ b → (node == eval) ≡ b
 same_test M frame bs eval p i node s is lt at true e =
     ap (λ n. n == eval) (at ∙ ap (λ k. slice_index_or (controls frame p) k 0) (eqb-true i M.eval e) ∙ eval_there M frame bs eval p s) ∙ same_number eval
@@ -302,7 +302,7 @@ same_test M frame bs eval p i node s is lt at false e =
         (ap (λ k. k == M.eval) (one_place (controls frame p) apart i M.eval (omega (arith, lt, long)) (omega (arith, inside, size, long)) (sym at ∙ same
         ∙ sym (eval_there M frame bs eval p s))) ∙ same_number M.eval) e)
 
-pub control_kept : (M : Machine) (frame : List ℕ) (bs : List Branch) (eval : ℕ) (m : Moment) (p : Place) (i node : ℕ) → Setting M frame bs eval →
+pub control_kept : (M : Machine) (frame : List ℕ) (bs : List Branch) (eval : ℕ) (m : Moment) (p : BranchPlace) (i node : ℕ) → Setting M frame bs eval →
     View M frame bs m p → i < M.size → node ≡ slice_index_or (controls frame p) i 0 →
     can M i (map m.value (controls frame p)) (seen_rails m.value m.noted bs p) ≡ true →
     View M frame bs (record { value = turned m.value node; noted = as_evaluated eval m node }) p
@@ -330,7 +330,7 @@ control_kept M frame bs eval m p i node s view lt at can_i =
     same_bit c i k false e = refl
 
 -- a rail moves
-abbrev pub RailMay : (eval : ℕ) → (v : ℕ → Bool) → Place → ℕ → Type 0
+abbrev pub RailMay : (eval : ℕ) → (v : ℕ → Bool) → BranchPlace → ℕ → Type 0
 RailMay eval v q rail = (if v rail then not (v eval) else (v eval && (not (v q.this.guard.t) && not (v q.this.guard.f)))) ≡ true
 
 rail_at : (before : List Branch) (b : Branch) (behind : List Branch) (ns : List ℕ) → Cross (rails_of (guards_of (before ++ b ∷ behind))) ns →
@@ -338,7 +338,7 @@ rail_at : (before : List Branch) (b : Branch) (behind : List Branch) (ns : List 
 rail_at [] b behind ns h = (h.0, h.1.0)
 rail_at (x ∷ before) b behind ns h = rail_at before b behind ns h.1.1
 
-pub rail_off : (frame : List ℕ) (bs : List Branch) (p q : Place) (rail : ℕ) → IsPlace bs p → IsPlace bs q → IsRail q rail →
+pub rail_off : (frame : List ℕ) (bs : List Branch) (p q : BranchPlace) (rail : ℕ) → IsPlace bs p → IsPlace bs q → IsRail q rail →
     Distinct (frame ++ (controls_of bs ++ rails_of (guards_of bs))) → Fresh rail (controls frame p ++ (controls_of p.before ++ controls_of p.behind))
 rail_off frame bs p q rail is at which d =
     let rails = rails_of (guards_of bs) in
@@ -359,13 +359,13 @@ fresh_place [] n i lt h = absurd (omega (arith, lt))
 fresh_place (m ∷ ns) n zero lt h = h.0
 fresh_place (m ∷ ns) n (suc i) lt h = fresh_place ns n i (omega (arith, lt)) h.1
 
-pub record RailAfter (M : Machine) (frame : List ℕ) (bs : List Branch) (eval : ℕ) (m : Moment) (p : Place) (rail : ℕ) : Type 0 where
+pub record RailAfter (M : Machine) (frame : List ℕ) (bs : List Branch) (eval : ℕ) (m : Moment) (p : BranchPlace) (rail : ℕ) : Type 0 where
   pub view : View M frame bs (record { value = turned m.value rail; noted = as_evaluated eval m rail }) p
   pub calm : is_calm (turned m.value rail) p ≡ true
   pub same : map (turned m.value rail) (controls frame p) ≡ map m.value (controls frame p)
   pub step : RailStepped M (map m.value (controls frame p)) (seen_rails m.value m.noted bs p) (seen_rails (turned m.value rail) m.noted bs p)
 
-pub rail_kept : (M : Machine) (frame : List ℕ) (bs : List Branch) (eval : ℕ) (m : Moment) (p q : Place) (rail : ℕ) → Setting M frame bs eval →
+pub rail_kept : (M : Machine) (frame : List ℕ) (bs : List Branch) (eval : ℕ) (m : Moment) (p q : BranchPlace) (rail : ℕ) → Setting M frame bs eval →
     View M frame bs m p → IsPlace bs q → IsRail q rail → RailMay eval m.value q rail → RailAfter M frame bs eval m p rail
 rail_kept M frame bs eval m p q rail s view at which may =
     let v = m.value in

@@ -4,7 +4,7 @@ use Rattle.std.specs.Prelude.{◌&&◌, ◌||◌, if◌then◌else◌, ◌==◌}
 use Rattle.std.proofs.Math.Logic.{⊎_elim}
 use Rattle.prs_core.specs.Pairs.{rails_of}
 use Rattle.prs_core.specs.Parts.{Part, Moment, Wire, IsMove, turned, may_move}
-use Rattle.cell_select.specs.Contract.{Branch, Place, guards_of, controls_of, guards_false, alone_true, as_evaluated, is_rail, noting, once, request_wire}
+use Rattle.cell_select.specs.Contract.{Branch, BranchPlace, guards_of, controls_of, guards_false, alone_true, as_evaluated, is_rail, noting, once, request_wire}
 use Rattle.cell_select.proofs.Tables.{implies, implies_at, and_left, and_right, both, not_true, true_false, all_lists, all_lists_at, same_number, other_number}
 use Rattle.cell_select.proofs.Distinct.{Fresh, turned_here, turned_other, cross_at, distinct_cross, fresh_left, fresh_right}
 use Rattle.cell_select.proofs.Places.{IsPlace, Among, Apart, among_left, among_right, among_middle, one_or_apart, IsBranchWire, t_wire, f_wire, d_wire}
@@ -66,7 +66,7 @@ false_agrees f g (x ∷ xs) h =
 pub all_false_agrees : (bs : List Branch) (f g : ℕ → Bool) → Agree bs f g → guards_false f bs ≡ guards_false g bs
 all_false_agrees bs f g h = false_agrees f g bs h.falses
 
-pub alone_agrees : (bs : List Branch) (f g : ℕ → Bool) (p : Place) → IsPlace bs p → Agree bs f g → alone_true f p ≡ alone_true g p
+pub alone_agrees : (bs : List Branch) (f g : ℕ → Bool) (p : BranchPlace) → IsPlace bs p → Agree bs f g → alone_true f p ≡ alone_true g p
 alone_agrees bs f g p is h =
     let there : (b : Branch) → Among b (p.before ++ p.this ∷ p.behind) → Among b bs = λ b a. subst (Among b) (sym is) a in
     ap (λ x. x && (guards_false f p.before && guards_false f p.behind)) (h.trues p.this (there p.this (among_middle p.this p.before p.behind)))
@@ -98,7 +98,7 @@ fresh_control n b (x ∷ bs) i lt (inl e) h =
 fresh_control n b (x ∷ bs) i lt (inr a) h = fresh_control n b bs i lt a h.1.1.1
 
 -- the node of a control stands among no other branch's
-elsewhere : (M : Machine) (frame : List ℕ) (bs : List Branch) (eval : ℕ) (z : Place) (k node : ℕ) (b : Branch) (i : ℕ) → Setting M frame bs eval →
+elsewhere : (M : Machine) (frame : List ℕ) (bs : List Branch) (eval : ℕ) (z : BranchPlace) (k node : ℕ) (b : Branch) (i : ℕ) → Setting M frame bs eval →
     IsPlace bs z → k < M.size → node ≡ slice_index_or (controls frame z) k 0 → Among b (z.before ++ z.behind) → i < 3 →
     node ≢ slice_index_or (b.latch ∷ b.start ∷ b.answer ∷ []) i 0
 elsewhere M frame bs eval z k node b i s is less at a lt =
@@ -112,7 +112,7 @@ elsewhere M frame bs eval z k node b i s is less at a lt =
         (fresh_left node (controls_of z.behind) rails (fresh_right node (controls_of z.before) (controls_of z.behind ++ rails) fresh)))
     (among_cases b z.before z.behind a)
 
-pub rail_no_control : (M : Machine) (frame : List ℕ) (bs : List Branch) (eval : ℕ) (m : Moment) (z q : Place) (k node : ℕ) → Setting M frame bs eval →
+pub rail_no_control : (M : Machine) (frame : List ℕ) (bs : List Branch) (eval : ℕ) (m : Moment) (z q : BranchPlace) (k node : ℕ) → Setting M frame bs eval →
     IsPlace bs z → k < M.size → AsRail bs eval m node q → node ≢ slice_index_or (controls frame z) k 0
 rail_no_control M frame bs eval m z q k node s is less rail =
     let long = controls_length M frame bs eval z s in
@@ -120,11 +120,11 @@ rail_no_control M frame bs eval m z q k node s is less rail =
     fresh_place (controls frame z) node k (omega (arith, long, less)) off
 
 -- a move of a branch's latch, start or answer may be seen from that branch
-abbrev pub SeenAt : Machine → List ℕ → List Branch → Moment → Place → ℕ → Type 0
+abbrev pub SeenAt : Machine → List ℕ → List Branch → Moment → BranchPlace → ℕ → Type 0
 SeenAt M frame bs m y k = View M frame bs m y × (can M k (map m.value (controls frame y)) (seen_rails m.value m.noted bs y) ≡ true)
 
-pub seen_at : (M : Machine) (frame : List ℕ) (bs : List Branch) (request answer eval : ℕ) (part : Part) (m : Moment) (p : Place) (node : ℕ) →
-    Setting M frame bs eval → IsPart M frame bs request answer eval part → View M frame bs m p → IsMove part m node → (y : Place) → IsPlace bs y → (i : ℕ) →
+pub seen_at : (M : Machine) (frame : List ℕ) (bs : List Branch) (request answer eval : ℕ) (part : Part) (m : Moment) (p : BranchPlace) (node : ℕ) →
+    Setting M frame bs eval → IsPart M frame bs request answer eval part → View M frame bs m p → IsMove part m node → (y : BranchPlace) → IsPlace bs y → (i : ℕ) →
     i < 3 → node ≡ slice_index_or (y.this.latch ∷ y.this.start ∷ y.this.answer ∷ []) i 0 → SeenAt M frame bs m y (M.latch + i)
 seen_at M frame bs request answer eval part m p node s part_is view move y is i lt at =
     let size = s.size in
@@ -134,18 +134,18 @@ seen_at M frame bs request answer eval part m p node s part_is view move y is i 
     ⊎_elim
     (λ (t : (k : ℕ) × AsControl M frame bs m seen.0 node k). ⊎_elim
     (λ (same : seen.0 ≡ y).
-    let mine = subst (λ (z : Place). View M frame bs m z × AsControl M frame bs m z node t.0) same (seen.2, t.1) in
+    let mine = subst (λ (z : BranchPlace). View M frame bs m z × AsControl M frame bs m z node t.0) same (seen.2, t.1) in
     let index : t.0 ≡ M.latch + i = one_control M frame bs eval y t.0 (M.latch + i) s is mine.1.less less (sym mine.1.at ∙ here) in
     (mine.0, ap (λ k. can M k (map m.value (controls frame y)) (seen_rails m.value m.noted bs y)) (sym index) ∙ mine.1.may))
     (λ (apart : Apart seen.0 y). absurd (elsewhere M frame bs eval seen.0 t.0 node y.this i s seen.2.is t.1.less t.1.at apart.second lt at))
     (one_or_apart bs seen.0 y seen.2.is is))
-    (λ (t : (q : Place) × AsRail bs eval m node q). absurd (rail_no_control M frame bs eval m y t.0 (M.latch + i) node s is less t.1 here))
+    (λ (t : (q : BranchPlace) × AsRail bs eval m node q). absurd (rail_no_control M frame bs eval m y t.0 (M.latch + i) node s is less t.1 here))
     seen.3
 
 -- a move of one of the other controls may be seen from some branch
-pub frame_seen : (M : Machine) (frame : List ℕ) (bs : List Branch) (request answer eval : ℕ) (part : Part) (m : Moment) (p : Place) (node : ℕ) →
+pub frame_seen : (M : Machine) (frame : List ℕ) (bs : List Branch) (request answer eval : ℕ) (part : Part) (m : Moment) (p : BranchPlace) (node : ℕ) →
     Setting M frame bs eval → IsPart M frame bs request answer eval part → View M frame bs m p → IsMove part m node → (j : ℕ) → j < M.latch →
-    ((z : Place) → node ≡ slice_index_or (controls frame z) j 0) → (z : Place) × (SeenAt M frame bs m z j)
+    ((z : BranchPlace) → node ≡ slice_index_or (controls frame z) j 0) → (z : BranchPlace) × (SeenAt M frame bs m z j)
 frame_seen M frame bs request answer eval part m p node s part_is view move j lt at =
     let size = s.size in
     let less : j < M.size = omega (arith, size, lt) in
@@ -154,14 +154,14 @@ frame_seen M frame bs request answer eval part m p node s part_is view move j lt
     (λ (t : (k : ℕ) × AsControl M frame bs m seen.0 node k).
     let index : t.0 ≡ j = one_control M frame bs eval seen.0 t.0 j s seen.2.is t.1.less less (sym t.1.at ∙ at seen.0) in
     (seen.0, (seen.2, ap (λ k. can M k (map m.value (controls frame seen.0)) (seen_rails m.value m.noted bs seen.0)) (sym index) ∙ t.1.may)))
-    (λ (t : (q : Place) × AsRail bs eval m node q). absurd (rail_no_control M frame bs eval m seen.0 t.0 j node s seen.2.is less t.1 (at seen.0)))
+    (λ (t : (q : BranchPlace) × AsRail bs eval m node q). absurd (rail_no_control M frame bs eval m seen.0 t.0 j node s seen.2.is less t.1 (at seen.0)))
     seen.3
 
 -- a test of all states that are reached
 abbrev pub tried : Machine → (List Bool → List Bool → Bool) → Bool
 tried M test = all_lists M.size (λ c. when (M.control c) (λ _. all_lists 7 (λ q. when (M.fit c q) (λ _. test c q))))
 
-pub tried_at : (M : Machine) (frame : List ℕ) (bs : List Branch) (eval : ℕ) (m : Moment) (p : Place) (test : List Bool → List Bool → Bool) →
+pub tried_at : (M : Machine) (frame : List ℕ) (bs : List Branch) (eval : ℕ) (m : Moment) (p : BranchPlace) (test : List Bool → List Bool → Bool) →
     Setting M frame bs eval → View M frame bs m p → tried M test ≡ true → test (map m.value (controls frame p)) (seen_rails m.value m.noted bs p) ≡ true
 tried_at M frame bs eval m p test s view h =
     let c = map m.value (controls frame p) in
@@ -188,7 +188,7 @@ noted_eval request eval bs m node fresh =
         (no_rail eval bs fresh)
     ∙ ap (λ b. if node == (if b then request else eval) then false else node == eval || m.noted eval) (same_number eval)
 
-pub control_fresh : (M : Machine) (frame : List ℕ) (bs : List Branch) (eval : ℕ) (y : Place) (i : ℕ) → Setting M frame bs eval → IsPlace bs y → i < 3 →
+pub control_fresh : (M : Machine) (frame : List ℕ) (bs : List Branch) (eval : ℕ) (y : BranchPlace) (i : ℕ) → Setting M frame bs eval → IsPlace bs y → i < 3 →
     Fresh (slice_index_or (y.this.latch ∷ y.this.start ∷ y.this.answer ∷ []) i 0) (rails_of (guards_of bs))
 control_fresh M frame bs eval y i s is lt =
     let long = controls_length M frame bs eval y s in
@@ -200,7 +200,7 @@ control_fresh M frame bs eval y i s is lt =
     subst (λ n. Fresh n rails) (last_there M frame bs eval y i s)
     (fresh_right _ (controls_of y.behind) rails (fresh_right _ (controls_of y.before) (controls_of y.behind ++ rails) fresh))
 
-pub latch_no_start : (M : Machine) (frame : List ℕ) (bs : List Branch) (eval : ℕ) (y : Place) → Setting M frame bs eval → IsPlace bs y →
+pub latch_no_start : (M : Machine) (frame : List ℕ) (bs : List Branch) (eval : ℕ) (y : BranchPlace) → Setting M frame bs eval → IsPlace bs y →
     y.this.latch ≢ y.this.start
 latch_no_start M frame bs eval y s is e =
     let size = s.size in
@@ -208,7 +208,7 @@ latch_no_start M frame bs eval y s is e =
         (last_there M frame bs eval y 0 s ∙ e ∙ sym (last_there M frame bs eval y 1 s)) in
     omega (arith, same)
 
-pub among_place : (bs : List Branch) (y : Place) → IsPlace bs y → Among y.this bs
+pub among_place : (bs : List Branch) (y : BranchPlace) → IsPlace bs y → Among y.this bs
 among_place bs y is = subst (Among y.this) (sym is) (among_middle y.this y.before y.behind)
 
 -- a branch whose latch is up, once the guards are let go: where its start has moved since, it is high
@@ -415,7 +415,7 @@ start_test M c q =
     implies (can M M.latch c q && not (bit_at c M.latch)) (bit_at c M.eval)
     && implies (can M (M.latch + 1) c q) (if bit_at c (M.latch + 1) then not (bit_at c M.latch) else bit_at c M.latch)
 
-pub start_no_eval : (M : Machine) (frame : List ℕ) (bs : List Branch) (eval : ℕ) (y : Place) → Setting M frame bs eval → IsPlace bs y → y.this.start ≢ eval
+pub start_no_eval : (M : Machine) (frame : List ℕ) (bs : List Branch) (eval : ℕ) (y : BranchPlace) → Setting M frame bs eval → IsPlace bs y → y.this.start ≢ eval
 start_no_eval M frame bs eval y s is e =
     let size = s.size in
     let inside = s.inside in
@@ -436,9 +436,9 @@ if_false false x h e = e
 
 -- a machine with its part, at a moment, and a move
 module _ (M : Machine) (frame : List ℕ) (bs : List Branch) (request answer eval : ℕ) (part : Part) (v old : ℕ →
-    Bool) (p : Place) (node : ℕ) (s : Setting M frame bs eval) (part_is : IsPart M frame bs request answer eval part)
+    Bool) (p : BranchPlace) (node : ℕ) (s : Setting M frame bs eval) (part_is : IsPart M frame bs request answer eval part)
     (view : View M frame bs (record { value = v; noted = old }) p) (move : IsMove part (record { value = v; noted = old }) node)
-    (tries : tried M (start_test M) ≡ true) (y : Place) (is : IsPlace bs y) where
+    (tries : tried M (start_test M) ≡ true) (y : BranchPlace) (is : IsPlace bs y) where
   abbrev c : List Bool
   c = map v (controls frame y)
 

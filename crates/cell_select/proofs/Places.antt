@@ -8,17 +8,17 @@ use Rattle.prs_core.specs.Nets.{is_high}
 use Rattle.prs_core.specs.Pairs.{Pair}
 use Rattle.prs_core.specs.Parts.{Owned, owned, owned_at, Wire}
 use Rattle.cell_select.specs.Selections.{all_false, latches, started, starts}
-use Rattle.cell_select.specs.Contract.{Branch, Place, places_from, latches_of, starts_of, guards_of, branch_wires, rail_wire, answer_wire}
+use Rattle.cell_select.specs.Contract.{Branch, BranchPlace, places_from, latches_of, starts_of, guards_of, branch_wires, guard_wire, answer_wire}
 use Rattle.cell_select.proofs.Emitted.{latch_of, latches_behind, owned_append}
 
-abbrev pub IsPlace : List Branch → Place → Type 0
+abbrev pub IsPlace : List Branch → BranchPlace → Type 0
 IsPlace bs p = bs ≡ p.before ++ p.this ∷ p.behind
 
 abbrev pub Among : Branch → List Branch → Type 0
 Among x [] = ⊥
 Among x (y ∷ ys) = (x ≡ y) ⊎ Among x ys
 
-abbrev pub at_place : (before : List Branch) → Branch → (behind : List Branch) → Place
+abbrev pub at_place : (before : List Branch) → Branch → (behind : List Branch) → BranchPlace
 at_place before b behind = record { before = before; this = b; behind = behind }
 
 pub among_left : (x : Branch) (ys zs : List Branch) → Among x ys → Among x (ys ++ zs)
@@ -35,7 +35,7 @@ among_middle x [] zs = inl refl
 among_middle x (y ∷ ys) zs = inr (among_middle x ys zs)
 
 -- two places of a list are one, or each branch is among the others of the other
-pub record Apart (p q : Place) : Type 0 where
+pub record Apart (p q : BranchPlace) : Type 0 where
   pub second : Among q.this (p.before ++ p.behind)
   pub first : Among p.this (q.before ++ q.behind)
 
@@ -52,7 +52,7 @@ tails x y xs ys e = cc (e)
 further : (z w : Branch) (b1 : List Branch) (x : Branch) (h1 b2 : List Branch) (y : Branch) (h2 : List Branch) → z ≡ w →
     (at_place b1 x h1 ≡ at_place b2 y h2) ⊎ Apart (at_place b1 x h1) (at_place b2 y h2) →
     (at_place (z ∷ b1) x h1 ≡ at_place (w ∷ b2) y h2) ⊎ Apart (at_place (z ∷ b1) x h1) (at_place (w ∷ b2) y h2)
-further z w b1 x h1 b2 y h2 e (inl same) = inl (ap (λ (p : Place). at_place (z ∷ p.before) p.this p.behind) same ∙ ap (λ u. at_place (u ∷ b2) y h2) e)
+further z w b1 x h1 b2 y h2 e (inl same) = inl (ap (λ (p : BranchPlace). at_place (z ∷ p.before) p.this p.behind) same ∙ ap (λ u. at_place (u ∷ b2) y h2) e)
 further z w b1 x h1 b2 y h2 e (inr apart) = inr (record { second = inr apart.second; first = inr apart.first })
 
 places_of : (b1 : List Branch) (x : Branch) (h1 b2 : List Branch) (y : Branch) (h2 : List Branch) → b1 ++ x ∷ h1 ≡ b2 ++ y ∷ h2 →
@@ -65,7 +65,7 @@ places_of (z ∷ zs) x h1 [] y h2 e = inr (record { second = inl (sym (heads z y
 places_of (z ∷ zs) x h1 (w ∷ ws) y h2 e =
     further z w zs x h1 ws y h2 (heads z w (zs ++ x ∷ h1) (ws ++ y ∷ h2) e) (places_of zs x h1 ws y h2 (tails z w (zs ++ x ∷ h1) (ws ++ y ∷ h2) e))
 
-pub one_or_apart : (bs : List Branch) (p q : Place) → IsPlace bs p → IsPlace bs q → (p ≡ q) ⊎ Apart p q
+pub one_or_apart : (bs : List Branch) (p q : BranchPlace) → IsPlace bs p → IsPlace bs q → (p ≡ q) ⊎ Apart p q
 one_or_apart bs p q e f = places_of p.before p.this p.behind q.before q.this q.behind (sym e ∙ f)
 
 -- elements of a list that is made of the branches
@@ -85,19 +85,19 @@ contains_here x xs = (0, omega arith, refl)
 pub contains_next : {X : Type 0} (x : X) (xs : List X) (y : X) → Contains xs y → Contains (x ∷ xs) y
 contains_next x xs y h = let lt = h.1 in (suc h.0, omega (arith, lt), h.2)
 
-moved_on : (pre : List Branch) (b : Branch) (rest : List Branch) (p : Place) → IsPlace ((pre ++ b ∷ []) ++ rest) p → IsPlace (pre ++ b ∷ rest) p
+moved_on : (pre : List Branch) (b : Branch) (rest : List Branch) (p : BranchPlace) → IsPlace ((pre ++ b ∷ []) ++ rest) p → IsPlace (pre ++ b ∷ rest) p
 moved_on pre b rest p h = sym (append_assoc pre (b ∷ []) rest) ∙ h
 
-abbrev pub latch_owned : (request : ℕ) → Place → Owned
+abbrev pub latch_owned : (request : ℕ) → BranchPlace → Owned
 latch_owned request p = owned p.this.latch (latch_of request (all_false (guards_of p.before) ++ is_high p.this.guard.t ∷ all_false (guards_of p.behind)))
 
-abbrev pub start_owned : List Pair → Place → Owned
+abbrev pub start_owned : List Pair → BranchPlace → Owned
 start_owned hs p = owned p.this.start (started p.this.latch hs)
 
-abbrev pub IsMade : {X : Type 0} → List Branch → (Place → X) → X → Type 0
-IsMade bs f x = (p : Place) × IsPlace bs p × (x ≡ f p)
+abbrev pub IsMade : {X : Type 0} → List Branch → (BranchPlace → X) → X → Type 0
+IsMade bs f x = (p : BranchPlace) × IsPlace bs p × (x ≡ f p)
 
-pub place_in : {X : Type 0} (f : Place → X) (pre bs : List Branch) (w : X) → Contains (map f (places_from pre bs)) w → IsMade (pre ++ bs) f w
+pub place_in : {X : Type 0} (f : BranchPlace → X) (pre bs : List Branch) (w : X) → Contains (map f (places_from pre bs)) w → IsMade (pre ++ bs) f w
 place_in f pre [] w h = absurd (contains_none w h)
 place_in f pre (b ∷ bs) w h =
     ⊎_elim (λ e. (at_place pre b bs, refl, e))
@@ -172,14 +172,14 @@ start_from hs pre (x ∷ before) b behind =
     contains_next (start_owned hs (at_place pre x behind)) (owned_at (starts_of (before ++ b ∷ behind)) (starts (latches_of (before ++ b ∷ behind)) hs)) _
         (start_from hs pre before b behind)
 
-pub latch_there : (request : ℕ) (p : Place) → Contains (branches_owned request (p.before ++ p.this ∷ p.behind)) (latch_owned request p)
+pub latch_there : (request : ℕ) (p : BranchPlace) → Contains (branches_owned request (p.before ++ p.this ∷ p.behind)) (latch_owned request p)
 latch_there request p =
     let bs = p.before ++ p.this ∷ p.behind in
     subst (λ os. Contains os (latch_owned request p)) (sym (owned_apart request bs))
     (Contains-append_left (owned_at (latches_of bs) (latches_behind request [] (guards_of bs)))
         (owned_at (starts_of bs) (starts (latches_of bs) (guards_of bs))) (latch_owned request p) (latch_from request [] p.before p.this p.behind))
 
-pub start_there : (request : ℕ) (p : Place) →
+pub start_there : (request : ℕ) (p : BranchPlace) →
     Contains (branches_owned request (p.before ++ p.this ∷ p.behind)) (start_owned (guards_of (p.before ++ p.this ∷ p.behind)) p)
 start_there request p =
     let bs = p.before ++ p.this ∷ p.behind in
@@ -189,17 +189,17 @@ start_there request p =
         (start_from (guards_of bs) p.before p.before p.this p.behind))
 
 -- the wires of the branches' neighbours
-abbrev pub t_wire : (eval : ℕ) → Place → Wire
-t_wire eval p = rail_wire eval p.this.guard p.this.guard.t
+abbrev pub t_wire : (eval : ℕ) → BranchPlace → Wire
+t_wire eval p = guard_wire eval p.this.guard p.this.guard.t
 
-abbrev pub f_wire : (eval : ℕ) → Place → Wire
-f_wire eval p = rail_wire eval p.this.guard p.this.guard.f
+abbrev pub f_wire : (eval : ℕ) → BranchPlace → Wire
+f_wire eval p = guard_wire eval p.this.guard p.this.guard.f
 
-abbrev pub d_wire : Place → Wire
+abbrev pub d_wire : BranchPlace → Wire
 d_wire p = answer_wire p.this
 
 abbrev pub IsBranchWire : (eval : ℕ) → List Branch → Wire → Type 0
-IsBranchWire eval bs w = (p : Place) × IsPlace bs p × ((w ≡ t_wire eval p) ⊎ ((w ≡ f_wire eval p) ⊎ (w ≡ d_wire p)))
+IsBranchWire eval bs w = (p : BranchPlace) × IsPlace bs p × ((w ≡ t_wire eval p) ⊎ ((w ≡ f_wire eval p) ⊎ (w ≡ d_wire p)))
 
 pub wire_in : (eval : ℕ) (pre bs : List Branch) (w : Wire) → Contains (branch_wires eval bs) w → IsBranchWire eval (pre ++ bs) w
 wire_in eval pre [] w h = absurd (contains_none w h)
@@ -220,19 +220,19 @@ over_three eval b bs w h =
         (contains_next (f_wire eval p) (d_wire p ∷ branch_wires eval bs) w (contains_next (d_wire p) (branch_wires eval bs) w h))
 
 pub t_there : (eval : ℕ) (before : List Branch) (b : Branch) (behind : List Branch) →
-    Contains (branch_wires eval (before ++ b ∷ behind)) (rail_wire eval b.guard b.guard.t)
-t_there eval [] b behind = contains_here (rail_wire eval b.guard b.guard.t) (rail_wire eval b.guard b.guard.f ∷ answer_wire b ∷ branch_wires eval behind)
-t_there eval (x ∷ before) b behind = over_three eval x (before ++ b ∷ behind) (rail_wire eval b.guard b.guard.t) (t_there eval before b behind)
+    Contains (branch_wires eval (before ++ b ∷ behind)) (guard_wire eval b.guard b.guard.t)
+t_there eval [] b behind = contains_here (guard_wire eval b.guard b.guard.t) (guard_wire eval b.guard b.guard.f ∷ answer_wire b ∷ branch_wires eval behind)
+t_there eval (x ∷ before) b behind = over_three eval x (before ++ b ∷ behind) (guard_wire eval b.guard b.guard.t) (t_there eval before b behind)
 
 pub f_there : (eval : ℕ) (before : List Branch) (b : Branch) (behind : List Branch) →
-    Contains (branch_wires eval (before ++ b ∷ behind)) (rail_wire eval b.guard b.guard.f)
-f_there eval [] b behind = contains_next (rail_wire eval b.guard b.guard.t) (rail_wire eval b.guard b.guard.f ∷ answer_wire b ∷ branch_wires eval behind)
-    (rail_wire eval b.guard b.guard.f) (contains_here (rail_wire eval b.guard b.guard.f) (answer_wire b ∷ branch_wires eval behind))
-f_there eval (x ∷ before) b behind = over_three eval x (before ++ b ∷ behind) (rail_wire eval b.guard b.guard.f) (f_there eval before b behind)
+    Contains (branch_wires eval (before ++ b ∷ behind)) (guard_wire eval b.guard b.guard.f)
+f_there eval [] b behind = contains_next (guard_wire eval b.guard b.guard.t) (guard_wire eval b.guard b.guard.f ∷ answer_wire b ∷ branch_wires eval behind)
+    (guard_wire eval b.guard b.guard.f) (contains_here (guard_wire eval b.guard b.guard.f) (answer_wire b ∷ branch_wires eval behind))
+f_there eval (x ∷ before) b behind = over_three eval x (before ++ b ∷ behind) (guard_wire eval b.guard b.guard.f) (f_there eval before b behind)
 
 pub d_there : (eval : ℕ) (before : List Branch) (b : Branch) (behind : List Branch) → Contains (branch_wires eval (before ++ b ∷ behind)) (answer_wire b)
-d_there eval [] b behind = contains_next (rail_wire eval b.guard b.guard.t) (rail_wire eval b.guard b.guard.f ∷ answer_wire b ∷ branch_wires eval behind)
-    (answer_wire b) (contains_next (rail_wire eval b.guard b.guard.f) (answer_wire b ∷ branch_wires eval behind) (answer_wire b)
+d_there eval [] b behind = contains_next (guard_wire eval b.guard b.guard.t) (guard_wire eval b.guard b.guard.f ∷ answer_wire b ∷ branch_wires eval behind)
+    (answer_wire b) (contains_next (guard_wire eval b.guard b.guard.f) (answer_wire b ∷ branch_wires eval behind) (answer_wire b)
     (contains_here (answer_wire b) (branch_wires eval behind)))
 d_there eval (x ∷ before) b behind = over_three eval x (before ++ b ∷ behind) (answer_wire b) (d_there eval before b behind)
 

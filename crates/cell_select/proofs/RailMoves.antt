@@ -4,13 +4,13 @@ use Rattle.std.specs.Prelude.{◌&&◌, if◌then◌else◌, ◌==◌}
 use Rattle.std.proofs.Math.Logic.{⊎_elim}
 use Rattle.prs_core.specs.Pairs.{Pair, rails_of}
 use Rattle.prs_core.specs.Parts.{turned}
-use Rattle.cell_select.specs.Contract.{Branch, Place, guards_of, guards_neutral, guards_false, none_true, alone_true}
+use Rattle.cell_select.specs.Contract.{Branch, BranchPlace, guards_of, guards_neutral, guards_false, none_true, alone_true}
 use Rattle.cell_select.proofs.Tables.{implies, and_left, and_right, both, not_true, true_not, true_false, no_true}
 use Rattle.cell_select.proofs.Distinct.{Fresh, Distinct, turned_here, turned_other, low_still}
 use Rattle.cell_select.proofs.Places.{IsPlace, Apart, one_or_apart}
 use Rattle.cell_select.proofs.Rails.{is_single, guards_single, is_won, seen_rails, consistent, rails_go, rails_consistent, false_among, false_at, neutral_at}
 
-abbrev pub IsRail : Place → ℕ → Type 0
+abbrev pub IsRail : BranchPlace → ℕ → Type 0
 IsRail q rail = (rail ≡ q.this.guard.t) ⊎ (rail ≡ q.this.guard.f)
 
 and_false : (x : Bool) → not (x && false) ≡ true
@@ -48,7 +48,7 @@ single_below w v b (x ∷ bs) h =
     both _ _ (pair_below w v b x.guard (and_left (is_single v x.guard) (guards_single v bs) h))
         (single_below w v b bs (and_right (is_single v x.guard) (guards_single v bs) h))
 
-won_below : (w v : ℕ → Bool) → Below w v → (p : Place) → is_won v p ≡ true → is_won w p ≡ true
+won_below : (w v : ℕ → Bool) → Below w v → (p : BranchPlace) → is_won v p ≡ true → is_won w p ≡ true
 won_below w v b p h =
     let rest = and_right (not (v p.this.guard.f)) (none_true v p.before && none_true v p.behind) h in
     both _ _ (true_not _ (b p.this.guard.f (not_true _ (and_left (not (v p.this.guard.f)) (none_true v p.before && none_true v p.behind) h))))
@@ -83,7 +83,7 @@ fresh_from : (n : ℕ) (before : List Branch) (b : Branch) (behind : List Branch
 fresh_from n [] b behind h = h
 fresh_from n (x ∷ before) b behind h = fresh_from n before b behind h.1.1
 
-pub seen_still : (v noted : ℕ → Bool) (n : ℕ) (bs : List Branch) (p : Place) → IsPlace bs p → Fresh n (rails_of (guards_of bs)) →
+pub seen_still : (v noted : ℕ → Bool) (n : ℕ) (bs : List Branch) (p : BranchPlace) → IsPlace bs p → Fresh n (rails_of (guards_of bs)) →
     seen_rails (turned v n) noted bs p ≡ seen_rails v noted bs p
 seen_still v noted n bs p is h =
     let parts = subst (λ (xs : List Branch). Fresh n (rails_of (guards_of xs))) is h in
@@ -134,19 +134,19 @@ single_rises v rail (x ∷ before) b behind d which lt lf h =
     ∙ both _ _ (and_left (is_single v x.guard) (guards_single v rest) h)
         (single_rises v rail before b behind d.1.1 which lt lf (and_right (is_single v x.guard) (guards_single v rest) h))
 
-rail_value : (v : ℕ → Bool) (q : Place) (rail : ℕ) (b : Bool) → IsRail q rail → v rail ≡ b → (v q.this.guard.t ≡ b) ⊎ (v q.this.guard.f ≡ b)
+rail_value : (v : ℕ → Bool) (q : BranchPlace) (rail : ℕ) (b : Bool) → IsRail q rail → v rail ≡ b → (v q.this.guard.t ≡ b) ⊎ (v q.this.guard.f ≡ b)
 rail_value v q rail b (inl e) h = inl (ap v (sym e) ∙ h)
 rail_value v q rail b (inr e) h = inr (ap v (sym e) ∙ h)
 
-not_neutral : (v : ℕ → Bool) (bs : List Branch) (q : Place) (rail : ℕ) → IsPlace bs q → IsRail q rail → v rail ≡ true → guards_neutral v bs ≡ false
+not_neutral : (v : ℕ → Bool) (bs : List Branch) (q : BranchPlace) (rail : ℕ) → IsPlace bs q → IsRail q rail → v rail ≡ true → guards_neutral v bs ≡ false
 not_neutral v bs q rail is which h =
     no_true _ (λ n. let low = neutral_at v bs q is n in ⊎_elim (λ e. true_false e low.0) (λ e. true_false e low.1) (rail_value v q rail true which h))
 
-not_alone : (v : ℕ → Bool) (bs : List Branch) (p q : Place) → IsPlace bs p → IsPlace bs q → v q.this.guard.t ≡ false → v q.this.guard.f ≡ false →
+not_alone : (v : ℕ → Bool) (bs : List Branch) (p q : BranchPlace) → IsPlace bs p → IsPlace bs q → v q.this.guard.t ≡ false → v q.this.guard.f ≡ false →
     alone_true v p ≡ false
 not_alone v bs p q is at lt lf =
     no_true _ (λ w. ⊎_elim
-    (λ (same : p ≡ q). true_false (ap (λ (r : Place). v r.this.guard.t) (sym same)
+    (λ (same : p ≡ q). true_false (ap (λ (r : BranchPlace). v r.this.guard.t) (sym same)
         ∙ and_left (v p.this.guard.t) (guards_false v p.before && guards_false v p.behind) w) lt)
     (λ (apart : Apart p q). true_false (false_among v p q.this w apart.second) lf)
     (one_or_apart bs p q is at))
@@ -160,7 +160,7 @@ implied true b h = h refl
 implied false b h = refl
 
 -- the allowed move of a rail
-pub record RailMoved (v noted : ℕ → Bool) (eval rail : ℕ) (bs : List Branch) (p : Place) : Type 0 where
+pub record RailMoved (v noted : ℕ → Bool) (eval rail : ℕ) (bs : List Branch) (p : BranchPlace) : Type 0 where
   pub single : guards_single (turned v rail) bs ≡ true
   pub go : rails_go (v eval) (seen_rails v noted bs p) (seen_rails (turned v rail) noted bs p) ≡ true
 
@@ -169,7 +169,7 @@ goes : (e n w u k z y kz n' w' u' z' y' : Bool) → consistent (n' ∷ w' ∷ u'
     rails_go e (n ∷ w ∷ u ∷ k ∷ z ∷ y ∷ kz ∷ []) (n' ∷ w' ∷ u' ∷ k ∷ z' ∷ y' ∷ kz ∷ []) ≡ true
 goes e n w u k z y kz n' w' u' z' y' c h = both _ _ c (both _ _ (same_same k) (both _ _ (same_same kz) h))
 
-rail_falls : (v noted : ℕ → Bool) (eval rail : ℕ) (bs : List Branch) (p q : Place) → IsPlace bs p → IsPlace bs q → IsRail q rail → guards_single v bs ≡ true →
+rail_falls : (v noted : ℕ → Bool) (eval rail : ℕ) (bs : List Branch) (p q : BranchPlace) → IsPlace bs p → IsPlace bs q → IsRail q rail → guards_single v bs ≡ true →
     v rail ≡ true → v eval ≡ false → RailMoved v noted eval rail bs p
 rail_falls v noted eval rail bs p q is at which s high low =
     let w = turned v rail in
@@ -185,7 +185,7 @@ rail_falls v noted eval rail bs p q is at which s high low =
           ∙ both _ _ (true_not _ n) (both _ _ (implied _ _ (won_below w v b p)) (implied _ _ (none_below w v b bs))));
     }
 
-rail_rises : (v noted : ℕ → Bool) (eval rail : ℕ) (bs : List Branch) (p q : Place) → IsPlace bs p → IsPlace bs q → IsRail q rail →
+rail_rises : (v noted : ℕ → Bool) (eval rail : ℕ) (bs : List Branch) (p q : BranchPlace) → IsPlace bs p → IsPlace bs q → IsRail q rail →
     Distinct (rails_of (guards_of bs)) → guards_single v bs ≡ true → v rail ≡ false → v eval ≡ true → v q.this.guard.t ≡ false → v q.this.guard.f ≡ false →
     RailMoved v noted eval rail bs p
 rail_rises v noted eval rail bs p q is at which d s low high lt lf =
@@ -204,7 +204,7 @@ rail_rises v noted eval rail bs p q is at which d s low high lt lf =
               (both _ _ (true_not _ (no_true _ (λ z. true_false (false_at v bs q at z) lf))) (true_not _ (not_neutral w bs q rail at which up))));
     }
 
-by_value : (v noted : ℕ → Bool) (eval rail : ℕ) (bs : List Branch) (p q : Place) (b : Bool) → v rail ≡ b → IsPlace bs p → IsPlace bs q → IsRail q rail →
+by_value : (v noted : ℕ → Bool) (eval rail : ℕ) (bs : List Branch) (p q : BranchPlace) (b : Bool) → v rail ≡ b → IsPlace bs p → IsPlace bs q → IsRail q rail →
     Distinct (rails_of (guards_of bs)) → guards_single v bs ≡ true →
     (if b then not (v eval) else (v eval && (not (v q.this.guard.t) && not (v q.this.guard.f)))) ≡ true → RailMoved v noted eval rail bs p
 by_value v noted eval rail bs p q true e is at which d s may = rail_falls v noted eval rail bs p q is at which s e (not_true _ may)
@@ -213,7 +213,7 @@ by_value v noted eval rail bs p q false e is at which d s may =
     rail_rises v noted eval rail bs p q is at which d s e (and_left (v eval) _ may)
         (not_true _ (and_left (not (v q.this.guard.t)) (not (v q.this.guard.f)) low)) (not_true _ (and_right (not (v q.this.guard.t)) _ low))
 
-pub rail_moved : (v noted : ℕ → Bool) (eval rail : ℕ) (bs : List Branch) (p q : Place) → IsPlace bs p → IsPlace bs q → IsRail q rail →
+pub rail_moved : (v noted : ℕ → Bool) (eval rail : ℕ) (bs : List Branch) (p q : BranchPlace) → IsPlace bs p → IsPlace bs q → IsRail q rail →
     Distinct (rails_of (guards_of bs)) → guards_single v bs ≡ true →
     (if v rail then not (v eval) else (v eval && (not (v q.this.guard.t) && not (v q.this.guard.f)))) ≡ true → RailMoved v noted eval rail bs p
 rail_moved v noted eval rail bs p q is at which d s may = by_value v noted eval rail bs p q (v rail) refl is at which d s may

@@ -9,7 +9,7 @@ use Rattle.prs_core.specs.Moves.{literal_holds, term_holds}
 use Rattle.prs_core.specs.Pairs.{Pair, lows, or_of}
 use Rattle.prs_core.specs.Parts.{all_low}
 use Rattle.cell_select.specs.Selections.{all_false}
-use Rattle.cell_select.specs.Contract.{Branch, Place, latches_of, starts_of, answers_of, guards_of, controls_of, guards_neutral, guards_false, none_true, alone_true}
+use Rattle.cell_select.specs.Contract.{Branch, BranchPlace, latches_of, starts_of, answers_of, guards_of, controls_of, guards_neutral, guards_false, none_true, alone_true}
 use Rattle.cell_select.proofs.Tables.{implies, implies_at, and_left, and_right, both, not_true, all_lists_at}
 use Rattle.cell_select.proofs.Places.{IsPlace, Among, among_middle}
 
@@ -21,12 +21,12 @@ abbrev pub guards_single : (ℕ → Bool) → List Branch → Bool
 guards_single v bs = list_all (is_single v) (guards_of bs)
 
 -- its guard isn't false, and no other is true
-abbrev pub is_won : (ℕ → Bool) → Place → Bool
+abbrev pub is_won : (ℕ → Bool) → BranchPlace → Bool
 is_won v p = not (v p.this.guard.f) && (none_true v p.before && none_true v p.behind)
 
 -- all rails are low; this guard alone is true; it isn't false and no other true; it alone was noted; all guards are false; none is
 -- true; all were noted as false
-abbrev pub seen_rails : (value noted : ℕ → Bool) → List Branch → Place → List Bool
+abbrev pub seen_rails : (value noted : ℕ → Bool) → List Branch → BranchPlace → List Bool
 seen_rails v noted bs p =
     guards_neutral v bs ∷ alone_true v p ∷ is_won v p ∷ alone_true noted p ∷ guards_false v bs ∷ none_true v bs ∷ guards_false noted bs ∷ []
 
@@ -101,7 +101,7 @@ parts_consistent t f na fa ya nc fc yc s h i j k =
     implies_at _ _ (all_lists_at 8 by_parts refl (t ∷ f ∷ na ∷ fa ∷ ya ∷ nc ∷ fc ∷ yc ∷ []) refl)
     (both _ _ s (both _ _ (implied na ya h) (both _ _ (implied nc yc i) (both _ _ (implied fa ya j) (implied fc yc k)))))
 
-pub rails_consistent : (v noted : ℕ → Bool) (bs : List Branch) (p : Place) → IsPlace bs p → guards_single v bs ≡ true →
+pub rails_consistent : (v noted : ℕ → Bool) (bs : List Branch) (p : BranchPlace) → IsPlace bs p → guards_single v bs ≡ true →
     consistent (seen_rails v noted bs p) ≡ true
 rails_consistent v noted bs p is s =
     let whole = sym (all_parts (λ (b : Branch). is_single v b.guard) p.before p.this p.behind) ∙ ap (list_all (λ (b : Branch). is_single v b.guard)) (sym is)
@@ -149,7 +149,7 @@ wanted_from v [] l ys = refl
 wanted_from v (x ∷ xs) l ys = ap (λ r. literal_holds v x && r) (wanted_from v xs l ys)
     ∙ and_assoc (literal_holds v x) (list_all (literal_holds v) xs) (literal_holds v l && list_all (literal_holds v) ys)
 
-pub wanted_is : (v : ℕ → Bool) (p : Place) →
+pub wanted_is : (v : ℕ → Bool) (p : BranchPlace) →
     list_all (literal_holds v) (all_false (guards_of p.before) ++ is_high p.this.guard.t ∷ all_false (guards_of p.behind)) ≡ alone_true v p
 wanted_is v p =
     wanted_from v (all_false (guards_of p.before)) (is_high p.this.guard.t) (all_false (guards_of p.behind))
@@ -168,7 +168,7 @@ or_down [] b behind = refl
 or_down (x ∷ before) b behind = refl
 
 -- the others do nothing: their latches, starts and answers are low
-abbrev pub is_calm : (ℕ → Bool) → Place → Bool
+abbrev pub is_calm : (ℕ → Bool) → BranchPlace → Bool
 is_calm v p = all_low v (controls_of p.before) && all_low v (controls_of p.behind)
 
 calm_map : (f : Branch → ℕ) (v : ℕ → Bool) → ((b : Branch) → (rest : Bool) → (not (v b.latch) && (not (v b.start) && (not (v b.answer) && rest))) ≡ true →
@@ -206,19 +206,19 @@ pick_answer v b rest h =
     let d = and_right (not (v b.start)) _ s in
     (and_left (not (v b.answer)) rest d, and_right (not (v b.answer)) rest d)
 
-pub only_latch : (v : ℕ → Bool) (p : Place) → is_calm v p ≡ true → all_low v (latches_of (p.before ++ p.this ∷ p.behind)) ≡ not (v p.this.latch)
+pub only_latch : (v : ℕ → Bool) (p : BranchPlace) → is_calm v p ≡ true → all_low v (latches_of (p.before ++ p.this ∷ p.behind)) ≡ not (v p.this.latch)
 only_latch v p h =
     one_in (λ (b : Branch). b.latch) v p.before p.this p.behind
         (calm_map (λ (b : Branch). b.latch) v (pick_latch v) p.before (and_left _ (all_low v (controls_of p.behind)) h))
         (calm_map (λ (b : Branch). b.latch) v (pick_latch v) p.behind (and_right (all_low v (controls_of p.before)) _ h))
 
-pub only_start : (v : ℕ → Bool) (p : Place) → is_calm v p ≡ true → all_low v (starts_of (p.before ++ p.this ∷ p.behind)) ≡ not (v p.this.start)
+pub only_start : (v : ℕ → Bool) (p : BranchPlace) → is_calm v p ≡ true → all_low v (starts_of (p.before ++ p.this ∷ p.behind)) ≡ not (v p.this.start)
 only_start v p h =
     one_in (λ (b : Branch). b.start) v p.before p.this p.behind
         (calm_map (λ (b : Branch). b.start) v (pick_start v) p.before (and_left _ (all_low v (controls_of p.behind)) h))
         (calm_map (λ (b : Branch). b.start) v (pick_start v) p.behind (and_right (all_low v (controls_of p.before)) _ h))
 
-pub only_answer : (v : ℕ → Bool) (p : Place) → is_calm v p ≡ true → all_low v (answers_of (p.before ++ p.this ∷ p.behind)) ≡ not (v p.this.answer)
+pub only_answer : (v : ℕ → Bool) (p : BranchPlace) → is_calm v p ≡ true → all_low v (answers_of (p.before ++ p.this ∷ p.behind)) ≡ not (v p.this.answer)
 only_answer v p h =
     one_in (λ (b : Branch). b.answer) v p.before p.this p.behind
         (calm_map (λ (b : Branch). b.answer) v (pick_answer v) p.before (and_left _ (all_low v (controls_of p.behind)) h))
@@ -243,7 +243,7 @@ among_cases b [] ys h = inr h
 among_cases b (x ∷ xs) ys (inl e) = inl (inl e)
 among_cases b (x ∷ xs) ys (inr h) = ⊎_elim (λ l. inl (inr l)) (λ r. inr r) (among_cases b xs ys h)
 
-pub quiet_among : (v : ℕ → Bool) (p : Place) (b : Branch) → is_calm v p ≡ true → Among b (p.before ++ p.behind) → IsQuiet v b
+pub quiet_among : (v : ℕ → Bool) (p : BranchPlace) (b : Branch) → is_calm v p ≡ true → Among b (p.before ++ p.behind) → IsQuiet v b
 quiet_among v p b h a =
     ⊎_elim (λ l. quiet_in v b p.before (and_left _ (all_low v (controls_of p.behind)) h) l)
         (λ r. quiet_in v b p.behind (and_right (all_low v (controls_of p.before)) _ h) r) (among_cases b p.before p.behind a)
@@ -254,13 +254,13 @@ false_in v b (x ∷ bs) h (inl e) = ap (λ (y : Branch). v y.guard.f) e ∙ and_
 false_in v b (x ∷ bs) h (inr a) = false_in v b bs (and_right (v x.guard.f) (guards_false v bs) h) a
 
 -- where one guard is true alone another is false
-pub false_among : (v : ℕ → Bool) (p : Place) (b : Branch) → alone_true v p ≡ true → Among b (p.before ++ p.behind) → v b.guard.f ≡ true
+pub false_among : (v : ℕ → Bool) (p : BranchPlace) (b : Branch) → alone_true v p ≡ true → Among b (p.before ++ p.behind) → v b.guard.f ≡ true
 false_among v p b h a =
     let rest = and_right (v p.this.guard.t) (guards_false v p.before && guards_false v p.behind) h in
     ⊎_elim (λ l. false_in v b p.before (and_left _ (guards_false v p.behind) rest) l)
         (λ r. false_in v b p.behind (and_right (guards_false v p.before) _ rest) r) (among_cases b p.before p.behind a)
 
-pub false_at : (v : ℕ → Bool) (bs : List Branch) (q : Place) → IsPlace bs q → guards_false v bs ≡ true → v q.this.guard.f ≡ true
+pub false_at : (v : ℕ → Bool) (bs : List Branch) (q : BranchPlace) → IsPlace bs q → guards_false v bs ≡ true → v q.this.guard.f ≡ true
 false_at v bs q is h = false_in v q.this bs h (subst (Among q.this) (sym is) (among_middle q.this q.before q.behind))
 
 neutral_in : (v : ℕ → Bool) (b : Branch) (bs : List Branch) → guards_neutral v bs ≡ true → Among b bs → (v b.guard.t ≡ false) × (v b.guard.f ≡ false)
@@ -272,6 +272,6 @@ neutral_in v b (x ∷ bs) h (inl e) =
 neutral_in v b (x ∷ bs) h (inr a) = neutral_in v b bs
     (and_right (not (v x.guard.f)) (guards_neutral v bs) (and_right (not (v x.guard.t)) (not (v x.guard.f) && guards_neutral v bs) h)) a
 
-pub neutral_at : (v : ℕ → Bool) (bs : List Branch) (q : Place) → IsPlace bs q → guards_neutral v bs ≡ true →
+pub neutral_at : (v : ℕ → Bool) (bs : List Branch) (q : BranchPlace) → IsPlace bs q → guards_neutral v bs ≡ true →
     (v q.this.guard.t ≡ false) × (v q.this.guard.f ≡ false)
 neutral_at v bs q is h = neutral_in v q.this bs h (subst (Among q.this) (sym is) (among_middle q.this q.before q.behind))

@@ -4,9 +4,9 @@ use Rattle.std.specs.Prelude.{◌&&◌, ◌||◌, if◌then◌else◌, ◌==◌,
 use Rattle.std.proofs.Math.Logic.{⊎_elim}
 use Rattle.prs_core.specs.Moves.{guard_holds}
 use Rattle.prs_core.specs.Pairs.{or_of}
-use Rattle.prs_core.specs.Parts.{Owned, owned, Moment, Wire, IsFirst, IsKept, all_low, fires, may_move}
+use Rattle.prs_core.specs.Parts.{Owned, owned, Moment, Wire, IsFirstState, IsKept, all_low, fires, may_move}
 use Rattle.cell_select.specs.Selections.{joined_answer, evaluation}
-use Rattle.cell_select.specs.Contract.{Branch, Place, SelectNodes, select_nodes, select_owned, select_own, select_answer, eval_wire, start_wire, start_wires, request_wire, branch_wires, latches_of, starts_of, answers_of, guards_of, guards_neutral, guards_valid, guards_false, none_true, alone_true, one_true, AreApart}
+use Rattle.cell_select.specs.Contract.{Branch, BranchPlace, SelectNodes, select_nodes, select_owned, select_inner, select_answer, eval_wire, start_wire, start_wires, request_wire, branch_wires, latches_of, starts_of, answers_of, guards_of, guards_neutral, guards_valid, guards_false, none_true, alone_true, one_true, AreApart}
 use Rattle.cell_select.proofs.Plain.{plain_select}
 use Rattle.cell_select.proofs.Tables.{implies, implies_at, and_left, and_right, both, not_true, true_not, true_false}
 use Rattle.cell_select.proofs.Distinct.{distinct_from}
@@ -109,10 +109,10 @@ select_setting c apart = record {
   answer_down = λ v noted p. refl;
 }
 
-abbrev Rule : SelectNodes → Place → Owned → ℕ → Type 0
+abbrev Rule : SelectNodes → BranchPlace → Owned → ℕ → Type 0
 Rule c p o j = AsRule select_machine (select_frame c) c.branches p o j
 
-answer_rule : (c : SelectNodes) (p : Place) → IsPlace c.branches p → Rule c p (owned c.answer (joined_answer c.any (answers_of c.branches))) 1
+answer_rule : (c : SelectNodes) (p : BranchPlace) → IsPlace c.branches p → Rule c p (owned c.answer (joined_answer c.any (answers_of c.branches))) 1
 answer_rule c p is = record {
   less = omega arith;
   own = refl;
@@ -122,10 +122,10 @@ answer_rule c p is = record {
       ∙ only_answer v p calm);
 }
 
-eval_rule : (c : SelectNodes) (p : Place) → IsPlace c.branches p → Rule c p (owned c.eval (evaluation c.request c.any)) 2
+eval_rule : (c : SelectNodes) (p : BranchPlace) → IsPlace c.branches p → Rule c p (owned c.eval (evaluation c.request c.any)) 2
 eval_rule c p is = record { less = omega arith; own = refl; at = refl; up = λ v noted calm. refl; down = λ v noted calm. refl }
 
-any_rule : (c : SelectNodes) (p : Place) → IsPlace c.branches p → Rule c p (owned c.any (or_of (latches_of c.branches))) 3
+any_rule : (c : SelectNodes) (p : BranchPlace) → IsPlace c.branches p → Rule c p (owned c.any (or_of (latches_of c.branches))) 3
 any_rule c p is = record {
   less = omega arith;
   own = refl;
@@ -137,7 +137,7 @@ any_rule c p is = record {
       ∙ ap (λ b. b || false) (low_terms v (latches_of (p.before ++ p.this ∷ p.behind)) ∙ only_latch v p calm);
 }
 
-latch_placed : (c : SelectNodes) (q : Place) → IsPlace c.branches q → AsPlaced select_machine (select_frame c) c.branches q (latch_owned c.request q) 4
+latch_placed : (c : SelectNodes) (q : BranchPlace) → IsPlace c.branches q → AsPlaced select_machine (select_frame c) c.branches q (latch_owned c.request q) 4
 latch_placed c q is = record {
   is = is;
   rule = record { less = omega arith; own = refl; at = refl; up = λ v noted calm. latch_up v c.request q; down = λ v noted calm. refl };
@@ -146,7 +146,7 @@ latch_placed c q is = record {
   still = λ v still. latch_still v c.request q still;
 }
 
-start_placed : (c : SelectNodes) (q : Place) → IsPlace c.branches q →
+start_placed : (c : SelectNodes) (q : BranchPlace) → IsPlace c.branches q →
     AsPlaced select_machine (select_frame c) c.branches q (start_owned (guards_of c.branches) q) 5
 start_placed c q is = record {
   is = is;
@@ -156,7 +156,7 @@ start_placed c q is = record {
   still = λ v still. start_still v c.branches q still;
 }
 
-in_frame : (c : SelectNodes) (o x : Owned) (j : ℕ) → j < 4 → o ≡ x → ((p : Place) → IsPlace c.branches p → Rule c p x j) →
+in_frame : (c : SelectNodes) (o x : Owned) (j : ℕ) → j < 4 → o ≡ x → ((p : BranchPlace) → IsPlace c.branches p → Rule c p x j) →
     InFrame select_machine (select_frame c) c.branches o
 in_frame c o x j lt e rule = (j, lt, λ p is. subst (λ (o : Owned). Rule c p o j) (sym e) (rule p is))
 
@@ -190,24 +190,24 @@ select_is_part c = record {
 }
 
 -- what the table adds, seen from a branch
-abbrev ctl : SelectNodes → Moment → Place → List Bool
+abbrev ctl : SelectNodes → Moment → BranchPlace → List Bool
 ctl c m p = map m.value (controls (select_frame c) p)
 
-abbrev rls : SelectNodes → Moment → Place → List Bool
+abbrev rls : SelectNodes → Moment → BranchPlace → List Bool
 rls c m p = seen_rails m.value m.noted c.branches p
 
-abbrev pub Sees : SelectNodes → Moment → Place → Type 0
+abbrev pub Sees : SelectNodes → Moment → BranchPlace → Type 0
 Sees c m p = View select_machine (select_frame c) c.branches m p
 
-extras : (c : SelectNodes) → AreApart (select_nodes c) → (m : Moment) (p : Place) → Sees c m p → select_extra (ctl c m p) (rls c m p) ≡ true
+extras : (c : SelectNodes) → AreApart (select_nodes c) → (m : Moment) (p : BranchPlace) → Sees c m p → select_extra (ctl c m p) (rls c m p) ≡ true
 extras c apart m p view = extra_of select_machine (ctl c m p) (rls c m p)
     (state_of select_machine (select_frame c) c.branches c.eval m p (select_setting c apart) view)
 
-answers_is : (c : SelectNodes) (v : ℕ → Bool) (p : Place) → IsPlace c.branches p → is_calm v p ≡ true →
+answers_is : (c : SelectNodes) (v : ℕ → Bool) (p : BranchPlace) → IsPlace c.branches p → is_calm v p ≡ true →
     all_low v (answers_of c.branches) ≡ not (v p.this.answer)
 answers_is c v p is calm = ap (λ (xs : List Branch). all_low v (answers_of xs)) is ∙ only_answer v p calm
 
-answer_holds : (c : SelectNodes) → AreApart (select_nodes c) → (m : Moment) (p : Place) → Sees c m p → can select_machine 1 (ctl c m p) (rls c m p) ≡ true →
+answer_holds : (c : SelectNodes) → AreApart (select_nodes c) → (m : Moment) (p : BranchPlace) → Sees c m p → can select_machine 1 (ctl c m p) (rls c m p) ≡ true →
     may_move m (select_answer c) ≡ true
 answer_holds c apart m p view may =
     let v = m.value in
@@ -218,7 +218,7 @@ answer_holds c apart m p view may =
     ∙ ap (λ i. if v c.answer then not (v c.request) && (not (v c.eval) && (not (v p.this.start) && not (v p.this.answer))) else v c.request && not i)
         (answers_is c v p view.is view.calm) ∙ promise
 
-eval_holds : (c : SelectNodes) → AreApart (select_nodes c) → (m : Moment) (p : Place) → Sees c m p → can select_machine 2 (ctl c m p) (rls c m p) ≡ true →
+eval_holds : (c : SelectNodes) → AreApart (select_nodes c) → (m : Moment) (p : BranchPlace) → Sees c m p → can select_machine 2 (ctl c m p) (rls c m p) ≡ true →
     may_move m (eval_wire c.request c.answer c.eval c.branches) ≡ true
 eval_holds c apart m p view may =
     let v = m.value in
@@ -232,7 +232,7 @@ eval_holds c apart m p view may =
     ap (λ i. if v c.eval then guards_valid v c.branches && i else v c.request && (not (v c.answer) && (guards_neutral v c.branches && i)))
         (idle_is v c.branches p view.is view.calm) ∙ strong
 
-start_holds : (c : SelectNodes) → AreApart (select_nodes c) → (m : Moment) (p : Place) → Sees c m p → can select_machine 5 (ctl c m p) (rls c m p) ≡ true →
+start_holds : (c : SelectNodes) → AreApart (select_nodes c) → (m : Moment) (p : BranchPlace) → Sees c m p → can select_machine 5 (ctl c m p) (rls c m p) ≡ true →
     may_move m (start_wire c.request c.answer c.eval c.branches p) ≡ true
 start_holds c apart m p view may =
     let v = m.value in
@@ -262,8 +262,8 @@ promise_of c apart m w h =
     (contains_cons (select_answer c) (e ∷ starts) w h)
 
 -- as at first where the request and the answer are low
-lows_of : (c : SelectNodes) → AreApart (select_nodes c) → (m : Moment) (p : Place) → Sees c m p → all_low m.value (c.request ∷ c.answer ∷ []) ≡ true →
-    all_low m.value (select_own c) ≡ true
+lows_of : (c : SelectNodes) → AreApart (select_nodes c) → (m : Moment) (p : BranchPlace) → Sees c m p → all_low m.value (c.request ∷ c.answer ∷ []) ≡ true →
+    all_low m.value (select_inner c) ≡ true
 lows_of c apart m p view low =
     let v = m.value in
     let q = rls c m p in
@@ -286,19 +286,19 @@ Waits c m = ((w : Wire) × Contains (plain_select c).allows w × (may_move m w �
 by_branch : (c : SelectNodes) (m : Moment) → MayMove m c.eval c.branches → Waits c m
 by_branch c m h = inl (h.0, contains_next (request_wire c.request c.answer) (branch_wires c.eval c.branches) h.0 h.1, h.2)
 
-latch_low : (c : SelectNodes) (m : Moment) (p q : Place) → Sees c m p → IsPlace c.branches q → m.value p.this.latch ≡ false → m.value q.this.latch ≡ false
+latch_low : (c : SelectNodes) (m : Moment) (p q : BranchPlace) → Sees c m p → IsPlace c.branches q → m.value p.this.latch ≡ false → m.value q.this.latch ≡ false
 latch_low c m p q view at low =
-    ⊎_elim (λ (same : p ≡ q). ap (λ (r : Place). m.value r.this.latch) (sym same) ∙ low)
+    ⊎_elim (λ (same : p ≡ q). ap (λ (r : BranchPlace). m.value r.this.latch) (sym same) ∙ low)
         (λ (apart : Apart p q). (quiet_among m.value p q.this view.calm apart.second).latch) (one_or_apart c.branches p q view.is at)
 
 -- no latch may rise: no guard is true alone
-latch_fires : (c : SelectNodes) (m : Moment) (q : Place) → m.value q.this.latch ≡ false → alone_true m.value q ≡ true →
+latch_fires : (c : SelectNodes) (m : Moment) (q : BranchPlace) → m.value q.this.latch ≡ false → alone_true m.value q ≡ true →
     fires m.value (latch_owned c.request q) ≡ true
 latch_fires c m q low alone =
     ap (λ b. if b then guard_holds m.value (latch_owned c.request q).rules.down else guard_holds m.value (latch_owned c.request q).rules.up) low
         ∙ latch_up m.value c.request q ∙ ap (λ b. b || false) alone
 
-awaits : (c : SelectNodes) (m : Moment) (p : Place) → Sees c m p → ((o : Owned) → Contains (select_owned c) o → fires m.value o ≡ false) →
+awaits : (c : SelectNodes) (m : Moment) (p : BranchPlace) → Sees c m p → ((o : Owned) → Contains (select_owned c) o → fires m.value o ≡ false) →
     m.value c.eval ≡ true → m.value p.this.latch ≡ false → (valid one : Bool) → guards_valid m.value c.branches ≡ valid → one_true m.value c.branches ≡ one →
     Waits c m
 awaits c m p view none e low false one is_valid is_one = by_branch c m (low_may m c.eval c.branches e (low_guard m.value c.branches view.single is_valid))
@@ -314,7 +314,7 @@ awaits c m p view none e low true true is_valid is_one =
         (contains_next an (branches_owned c.request c.branches) (latch_owned c.request q.0) there)) in
     absurd (true_false (latch_fires c m q.0 (latch_low c m p q.0 view q.1 low) q.2) (none (latch_owned c.request q.0) among))
 
-waits_of : (c : SelectNodes) → AreApart (select_nodes c) → (m : Moment) (p : Place) → Sees c m p →
+waits_of : (c : SelectNodes) → AreApart (select_nodes c) → (m : Moment) (p : BranchPlace) → Sees c m p →
     ((o : Owned) → Contains (select_owned c) o → fires m.value o ≡ false) → Waits c m
 waits_of c apart m p view none =
     let v = m.value in
@@ -364,7 +364,7 @@ waits_of c apart m p view none =
     (or_cases (can select_machine 0 cs q || can select_machine 6 cs q) _ wait)
 
 abbrev pub Reaches : SelectNodes → Moment → Type 0
-Reaches c m = (p : Place) × Sees c m p
+Reaches c m = (p : BranchPlace) × Sees c m p
 
 -- first values
 fit_first : (q : List Bool) (n w u k z y kz : Bool) → q ≡ n ∷ w ∷ u ∷ k ∷ z ∷ y ∷ kz ∷ [] → n ≡ true → consistent q ≡ true →
@@ -373,7 +373,7 @@ fit_first q n w u k z y kz e low con =
     ap (select_fit (false ∷ false ∷ false ∷ false ∷ false ∷ false ∷ false ∷ [])) e ∙ both _ _ (ap consistent (sym e) ∙ con) (both _ _ low refl)
 
 first_by : (c : SelectNodes) → AreApart (select_nodes c) → (b : Branch) (rest : List Branch) → c.branches ≡ b ∷ rest → (v : ℕ → Bool) →
-    IsFirst (plain_select c) v → Reaches c (record { value = v; noted = λ n. false })
+    IsFirstState (plain_select c) v → Reaches c (record { value = v; noted = λ n. false })
 first_by c apart b rest is v first =
     let p = at_place [] b rest in
     let wires = first_wires v c.eval c.branches (and_right (not (v c.request)) _ first.outside) in
@@ -402,7 +402,7 @@ first_by c apart b rest is v first =
     )
 
 pub first_of : (c : SelectNodes) → AreApart (select_nodes c) → (bs : List Branch) → c.branches ≡ bs → 0 < length bs → (v : ℕ → Bool) →
-    IsFirst (plain_select c) v → Reaches c (record { value = v; noted = λ n. false })
+    IsFirstState (plain_select c) v → Reaches c (record { value = v; noted = λ n. false })
 first_of c apart [] is some v first = absurd (omega (arith, some))
 first_of c apart (b ∷ rest) is some v first = first_by c apart b rest is v first
 

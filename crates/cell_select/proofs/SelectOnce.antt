@@ -4,9 +4,9 @@ use Rattle.std.proofs.Common.{◌≡◌, ℕ, ◌<◌, Bool, true, false, not, L
 use Rattle.std.specs.Prelude.{◌&&◌, if◌then◌else◌, Contains}
 use Rattle.std.proofs.Math.Logic.{⊎_elim}
 use Rattle.prs_core.specs.Pairs.{rails_of}
-use Rattle.prs_core.specs.Parts.{Owned, Moment, Wire, IsFirst, IsMove, IsKept, Keeps, after, fires, may_move, turned}
+use Rattle.prs_core.specs.Parts.{Owned, Moment, Wire, IsFirstState, IsMove, IsKept, Keeps, moment_after, fires, may_move, turned}
 use Rattle.prs_core.specs.Keeping.{kept_by}
-use Rattle.cell_select.specs.Contract.{Place, SelectNodes, select_nodes, select_owned, select_part, select_answer, eval_wire, start_wire, start_wires, guards_of, controls_of, guards_neutral, branches_idle, alone_true, noting, once, AreApart}
+use Rattle.cell_select.specs.Contract.{BranchPlace, SelectNodes, select_nodes, select_owned, select_part, select_answer, eval_wire, start_wire, start_wires, guards_of, controls_of, guards_neutral, branches_idle, alone_true, noting, once, AreApart}
 use Rattle.cell_select.proofs.Plain.{plain_select}
 use Rattle.cell_select.proofs.Tables.{implies, implies_at, and_left, and_right, both, not_true}
 use Rattle.cell_select.proofs.Distinct.{Distinct, distinct_from, fresh_right}
@@ -35,7 +35,7 @@ record Noted (c : SelectNodes) (m : Moment) : Type 0 where
   reaches : Reaches c (record { value = m.value; noted = old })
   agree : Agree c.branches old m.noted
   asked : eval_ok (m.value c.request) (m.value c.eval) (m.value c.any) (m.noted c.eval) ≡ true
-  started : (y : Place) → IsPlace c.branches y → start_ok (m.value c.eval) (m.value y.this.latch) (m.value y.this.start) (m.noted y.this.start) ≡ true
+  started : (y : BranchPlace) → IsPlace c.branches y → start_ok (m.value c.eval) (m.value y.this.latch) (m.value y.this.start) (m.noted y.this.start) ≡ true
 
 abbrev plain : Moment → (ℕ → Bool) → Moment
 plain m old = record { value = m.value; noted = old }
@@ -49,7 +49,7 @@ plain_move c m old node (inr theirs) = inr (record {
   at = theirs.at;
 })
 
-first_noted : (c : SelectNodes) → AreApart (select_nodes c) → 0 < length c.branches → (v : ℕ → Bool) → IsFirst (select_part c) v →
+first_noted : (c : SelectNodes) → AreApart (select_nodes c) → 0 < length c.branches → (v : ℕ → Bool) → IsFirstState (select_part c) v →
     Noted c (record { value = v; noted = λ n. false })
 first_noted c apart some v first = record {
   old = λ n. false;
@@ -83,7 +83,7 @@ module _ (c : SelectNodes) (apart : AreApart (select_nodes c)) (m : Moment) (nod
   distinct = distinct_from (select_nodes c) apart
 
   abbrev Frame : ℕ → Type 0
-  Frame j = (z : Place) × SeenAt select_machine (select_frame c) c.branches (plain m h.old) z j
+  Frame j = (z : BranchPlace) × SeenAt select_machine (select_frame c) c.branches (plain m h.old) z j
 
   evaluates : node ≡ c.eval → (if v c.eval then not (not (v c.any)) else not (v c.any)) ≡ true
   evaluates same =
@@ -110,9 +110,9 @@ module _ (c : SelectNodes) (apart : AreApart (select_nodes c)) (m : Moment) (nod
           (noted_eval c.request c.eval c.branches m node (fresh_right c.eval (controls_of c.branches) (rails_of (guards_of c.branches)) distinct.1.1.0.1))
       ∙ eval_step v m.noted c.request c.eval c.any node distinct.1.1.0.0 (λ same high. if_high (v c.eval) (v c.any) high (evaluates same)) lets_go h.asked
 
-  noted_after : Noted c (after (select_part c) m node)
+  noted_after : Noted c (moment_after (select_part c) m node)
   noted_after = record {
-    old = (after (plain_select c) (plain m h.old) node).noted;
+    old = (moment_after (plain_select c) (plain m h.old) node).noted;
     reaches = view_kept select_machine (select_frame c) c.branches c.request c.answer c.eval (plain_select c) (plain m h.old) h.reaches.0 node setting
         (select_is_part c) h.reaches.1 move;
     agree = agree_after c.request c.eval c.branches v h.old m.noted node h.agree;
@@ -128,7 +128,7 @@ module _ (c : SelectNodes) (apart : AreApart (select_nodes c)) (m : Moment) (nod
       (λ low rises. both _ _ rises (eval_new (v c.request) (v c.eval) (v c.any) (m.noted c.eval) h.asked (and_left (v c.request) _ rises) low
           (if_low (v c.eval) (v c.any) low (evaluates same))))
 
-  start_once : (y : Place) → IsPlace c.branches y → node ≡ y.this.start → may_move (plain m h.old) (start_wire c.request c.answer c.eval c.branches y) ≡ true →
+  start_once : (y : BranchPlace) → IsPlace c.branches y → node ≡ y.this.start → may_move (plain m h.old) (start_wire c.request c.answer c.eval c.branches y) ≡ true →
       may_move m (once (start_wire c.request c.answer c.eval c.branches y)) ≡ true
   start_once y is same may =
       once_may v h.old m.noted (start_wire c.request c.answer c.eval c.branches y) (v y.this.start) refl may refl

@@ -5,7 +5,7 @@ use Rattle.std.proofs.Math.Logic.{⊎_elim}
 use Rattle.prs_core.specs.Moves.{guard_holds}
 use Rattle.prs_core.specs.Pairs.{rails_of}
 use Rattle.prs_core.specs.Parts.{Owned, Part, Moment, Wire, IsMove, turned, all_low, fires, may_move}
-use Rattle.cell_select.specs.Contract.{Branch, Place, guards_of, controls_of, guards_neutral, guards_false, none_true, alone_true, as_evaluated, request_wire}
+use Rattle.cell_select.specs.Contract.{Branch, BranchPlace, guards_of, controls_of, guards_neutral, guards_false, none_true, alone_true, as_evaluated, request_wire}
 use Rattle.cell_select.proofs.Tables.{implies_at, and_left, and_right, both, not_true, true_not, true_false, no_true}
 use Rattle.cell_select.proofs.Distinct.{Fresh, flip, value_at, one_place, distinct_left, distinct_cross, cross_at, fresh_left, fresh_right}
 use Rattle.cell_select.proofs.Places.{IsPlace, Among, Apart, one_or_apart, IsBranchWire, t_wire, f_wire, d_wire}
@@ -18,12 +18,12 @@ get_right [] ys i = let e : 0 + i ≡ i = omega arith in ap (λ k. slice_index_o
 get_right (x ∷ xs) ys i = let e : suc (length xs) + i ≡ suc (length xs + i) = omega arith in ap (λ k. slice_index_or (x ∷ (xs ++ ys)) k 0) e ∙ get_right xs ys i
 
 -- the last three controls
-pub last_there : (M : Machine) (frame : List ℕ) (bs : List Branch) (eval : ℕ) (p : Place) (i : ℕ) → Setting M frame bs eval →
+pub last_there : (M : Machine) (frame : List ℕ) (bs : List Branch) (eval : ℕ) (p : BranchPlace) (i : ℕ) → Setting M frame bs eval →
     slice_index_or (controls frame p) (M.latch + i) 0 ≡ slice_index_or (p.this.latch ∷ p.this.start ∷ p.this.answer ∷ []) i 0
 last_there M frame bs eval p i s =
     ap (λ k. slice_index_or (controls frame p) (k + i) 0) (sym s.long) ∙ get_right frame (p.this.latch ∷ p.this.start ∷ p.this.answer ∷ []) i
 
-pub last_value : (M : Machine) (frame : List ℕ) (bs : List Branch) (eval : ℕ) (v : ℕ → Bool) (p : Place) (i : ℕ) → Setting M frame bs eval → i < 3 →
+pub last_value : (M : Machine) (frame : List ℕ) (bs : List Branch) (eval : ℕ) (v : ℕ → Bool) (p : BranchPlace) (i : ℕ) → Setting M frame bs eval → i < 3 →
     bit_at (map v (controls frame p)) (M.latch + i) ≡ v (slice_index_or (p.this.latch ∷ p.this.start ∷ p.this.answer ∷ []) i 0)
 last_value M frame bs eval v p i s lt =
     let long = controls_length M frame bs eval p s in
@@ -33,20 +33,20 @@ last_value M frame bs eval v p i s lt =
 plus_zero : (n : ℕ) → n + 0 ≡ n
 plus_zero n = omega arith
 
-pub latch_value : (M : Machine) (frame : List ℕ) (bs : List Branch) (eval : ℕ) (v : ℕ → Bool) (p : Place) → Setting M frame bs eval →
+pub latch_value : (M : Machine) (frame : List ℕ) (bs : List Branch) (eval : ℕ) (v : ℕ → Bool) (p : BranchPlace) → Setting M frame bs eval →
     bit_at (map v (controls frame p)) M.latch ≡ v p.this.latch
 latch_value M frame bs eval v p s = ap (λ k. bit_at (map v (controls frame p)) k) (sym (plus_zero M.latch)) ∙ last_value M frame bs eval v p 0 s (omega arith)
 
-pub start_value : (M : Machine) (frame : List ℕ) (bs : List Branch) (eval : ℕ) (v : ℕ → Bool) (p : Place) → Setting M frame bs eval →
+pub start_value : (M : Machine) (frame : List ℕ) (bs : List Branch) (eval : ℕ) (v : ℕ → Bool) (p : BranchPlace) → Setting M frame bs eval →
     bit_at (map v (controls frame p)) (M.latch + 1) ≡ v p.this.start
 start_value M frame bs eval v p s = last_value M frame bs eval v p 1 s (omega arith)
 
-pub answer_value : (M : Machine) (frame : List ℕ) (bs : List Branch) (eval : ℕ) (v : ℕ → Bool) (p : Place) → Setting M frame bs eval →
+pub answer_value : (M : Machine) (frame : List ℕ) (bs : List Branch) (eval : ℕ) (v : ℕ → Bool) (p : BranchPlace) → Setting M frame bs eval →
     bit_at (map v (controls frame p)) (M.latch + 2) ≡ v p.this.answer
 answer_value M frame bs eval v p s = last_value M frame bs eval v p 2 s (omega arith)
 
 -- a branch that does nothing and can't begin
-pub record IsStill (v : ℕ → Bool) (q : Place) : Type 0 where
+pub record IsStill (v : ℕ → Bool) (q : BranchPlace) : Type 0 where
   pub quiet : IsQuiet v q.this
   pub alone : alone_true v q ≡ false
 
@@ -73,7 +73,7 @@ low_all v (x ∷ before) b behind k h g =
         (both _ _ (and_left (not (v x.start)) _ rest)
         (both _ _ (and_left (not (v x.answer)) _ last) (low_all v before b behind k (and_right (not (v x.answer)) _ last) g)))
 
-pub record AllQuiet (v : ℕ → Bool) (q : Place) : Type 0 where
+pub record AllQuiet (v : ℕ → Bool) (q : BranchPlace) : Type 0 where
   pub calm : is_calm v q ≡ true
   pub quiet : IsQuiet v q.this
 
@@ -90,7 +90,7 @@ quiet_parts v (x ∷ before) b behind h =
     let r = quiet_parts v before b behind (and_right (not (v x.answer)) _ last) in
     (both _ _ (and_left (not (v x.latch)) _ h) (both _ _ (and_left (not (v x.start)) _ rest) (both _ _ (and_left (not (v x.answer)) _ last) r.0)), r.1)
 
-pub all_quiet : (v : ℕ → Bool) (bs : List Branch) (q : Place) → IsPlace bs q → all_low v (controls_of bs) ≡ true → AllQuiet v q
+pub all_quiet : (v : ℕ → Bool) (bs : List Branch) (q : BranchPlace) → IsPlace bs q → all_low v (controls_of bs) ≡ true → AllQuiet v q
 all_quiet v bs q is h =
     let r = quiet_parts v q.before q.this q.behind (subst (λ (xs : List Branch). all_low v (controls_of xs) ≡ true) is h) in
     record { calm = both _ _ r.0 r.1.1; quiet = r.1.0 }
@@ -99,12 +99,12 @@ map_append : (v : ℕ → Bool) (xs ys : List ℕ) → map v (xs ++ ys) ≡ map 
 map_append v [] ys = refl
 map_append v (x ∷ xs) ys = ap (λ bs. v x ∷ bs) (map_append v xs ys)
 
-quiet_controls : (v : ℕ → Bool) (frame : List ℕ) (q : Place) → IsQuiet v q.this → map v (controls frame q) ≡ map v frame ++ (false ∷ false ∷ false ∷ [])
+quiet_controls : (v : ℕ → Bool) (frame : List ℕ) (q : BranchPlace) → IsQuiet v q.this → map v (controls frame q) ≡ map v frame ++ (false ∷ false ∷ false ∷ [])
 quiet_controls v frame q k =
     map_append v frame (q.this.latch ∷ q.this.start ∷ q.this.answer ∷ []) ∙ ap (λ b. map v frame ++ (b ∷ v q.this.start ∷ v q.this.answer ∷ [])) k.latch
     ∙ ap (λ b. map v frame ++ (false ∷ b ∷ v q.this.answer ∷ [])) k.start ∙ ap (λ b. map v frame ++ (false ∷ false ∷ b ∷ [])) k.answer
 
-aim_by : (M : Machine) (frame : List ℕ) (bs : List Branch) (eval : ℕ) (m : Moment) (p q : Place) → Setting M frame bs eval → View M frame bs m p →
+aim_by : (M : Machine) (frame : List ℕ) (bs : List Branch) (eval : ℕ) (m : Moment) (p q : BranchPlace) → Setting M frame bs eval → View M frame bs m p →
     IsPlace bs q → (b : Bool) → under_way M (map m.value (controls frame p)) ≡ b → View M frame bs m q ⊎ IsStill m.value q
 aim_by M frame bs eval m p q s view at false idle =
     let v = m.value in
@@ -141,12 +141,12 @@ aim_by M frame bs eval m p q s view at true busy =
     (one_or_apart bs p q view.is at)
 
 -- another branch may be looked at, or it does nothing
-pub aim : (M : Machine) (frame : List ℕ) (bs : List Branch) (eval : ℕ) (m : Moment) (p q : Place) → Setting M frame bs eval → View M frame bs m p →
+pub aim : (M : Machine) (frame : List ℕ) (bs : List Branch) (eval : ℕ) (m : Moment) (p q : BranchPlace) → Setting M frame bs eval → View M frame bs m p →
     IsPlace bs q → View M frame bs m q ⊎ IsStill m.value q
 aim M frame bs eval m p q s view at = aim_by M frame bs eval m p q s view at (under_way M (map m.value (controls frame p))) refl
 
 -- where this branch's guard isn't false every other branch does nothing
-pub still_beside : (M : Machine) (frame : List ℕ) (bs : List Branch) (m : Moment) (p q : Place) → View M frame bs m p → is_won m.value p ≡ true → Apart p q →
+pub still_beside : (M : Machine) (frame : List ℕ) (bs : List Branch) (m : Moment) (p q : BranchPlace) → View M frame bs m p → is_won m.value p ≡ true → Apart p q →
     IsStill m.value q
 still_beside M frame bs m p q view won apart = record {
   quiet = quiet_among m.value p q.this view.calm apart.second;
@@ -154,14 +154,14 @@ still_beside M frame bs m p q view won apart = record {
 }
 
 -- a node with its rules is one of the controls
-pub record AsRule (M : Machine) (frame : List ℕ) (bs : List Branch) (p : Place) (o : Owned) (j : ℕ) : Type 0 where
+pub record AsRule (M : Machine) (frame : List ℕ) (bs : List Branch) (p : BranchPlace) (o : Owned) (j : ℕ) : Type 0 where
   pub less : j < M.size
   pub own : M.own j ≡ true
   pub at : o.node ≡ slice_index_or (controls frame p) j 0
   pub up : (v noted : ℕ → Bool) → is_calm v p ≡ true → guard_holds v o.rules.up ≡ M.up j (map v (controls frame p)) (seen_rails v noted bs p)
   pub down : (v noted : ℕ → Bool) → is_calm v p ≡ true → guard_holds v o.rules.down ≡ M.down j (map v (controls frame p)) (seen_rails v noted bs p)
 
-pub record AsPlaced (M : Machine) (frame : List ℕ) (bs : List Branch) (q : Place) (o : Owned) (j : ℕ) : Type 0 where
+pub record AsPlaced (M : Machine) (frame : List ℕ) (bs : List Branch) (q : BranchPlace) (o : Owned) (j : ℕ) : Type 0 where
   pub is : IsPlace bs q
   pub rule : AsRule M frame bs q o j
   pub which : (j ≡ M.latch) ⊎ (j ≡ M.latch + 1)
@@ -170,10 +170,10 @@ pub record AsPlaced (M : Machine) (frame : List ℕ) (bs : List Branch) (q : Pla
 
 -- of its own nodes, seen from whichever branch, or a branch's latch or start
 abbrev pub InFrame : Machine → List ℕ → List Branch → Owned → Type 0
-InFrame M frame bs o = (j : ℕ) × (j < M.latch) × ((p : Place) → IsPlace bs p → AsRule M frame bs p o j)
+InFrame M frame bs o = (j : ℕ) × (j < M.latch) × ((p : BranchPlace) → IsPlace bs p → AsRule M frame bs p o j)
 
 abbrev pub InBranch : Machine → List ℕ → List Branch → Owned → Type 0
-InBranch M frame bs o = (q : Place) × (j : ℕ) × AsPlaced M frame bs q o j
+InBranch M frame bs o = (q : BranchPlace) × (j : ℕ) × AsPlaced M frame bs q o j
 
 pub record IsPart (M : Machine) (frame : List ℕ) (bs : List Branch) (request answer eval : ℕ) (part : Part) : Type 0 where
   pub own : (o : Owned) → Contains part.own o → InFrame M frame bs o ⊎ InBranch M frame bs o
@@ -181,14 +181,14 @@ pub record IsPart (M : Machine) (frame : List ℕ) (bs : List Branch) (request a
   pub first : slice_index_or frame 0 0 ≡ request
   pub second : slice_index_or frame 1 0 ≡ answer
 
-rule_value : (M : Machine) (frame : List ℕ) (bs : List Branch) (eval : ℕ) (v : ℕ → Bool) (p : Place) (o : Owned) (j : ℕ) → Setting M frame bs eval →
+rule_value : (M : Machine) (frame : List ℕ) (bs : List Branch) (eval : ℕ) (v : ℕ → Bool) (p : BranchPlace) (o : Owned) (j : ℕ) → Setting M frame bs eval →
     AsRule M frame bs p o j → v o.node ≡ bit_at (map v (controls frame p)) j
 rule_value M frame bs eval v p o j s r =
     let long = controls_length M frame bs eval p s in
     let less = r.less in
     ap v r.at ∙ sym (value_at v (controls frame p) j (omega (arith, less, long)))
 
-pub fires_is : (M : Machine) (frame : List ℕ) (bs : List Branch) (eval : ℕ) (v noted : ℕ → Bool) (p : Place) (o : Owned) (j : ℕ) → Setting M frame bs eval →
+pub fires_is : (M : Machine) (frame : List ℕ) (bs : List Branch) (eval : ℕ) (v noted : ℕ → Bool) (p : BranchPlace) (o : Owned) (j : ℕ) → Setting M frame bs eval →
     is_calm v p ≡ true → AsRule M frame bs p o j → fires v o ≡ can M j (map v (controls frame p)) (seen_rails v noted bs p)
 fires_is M frame bs eval v noted p o j s calm r =
     let c = map v (controls frame p) in
@@ -196,28 +196,28 @@ fires_is M frame bs eval v noted p o j s calm r =
     ap (λ b. if b then guard_holds v o.rules.down else guard_holds v o.rules.up) (rule_value M frame bs eval v p o j s r)
     ∙ ap (λ d. if bit_at c j then d else guard_holds v o.rules.up) (r.down v noted calm) ∙ ap (λ u. if bit_at c j then M.down j c q else u) (r.up v noted calm)
 
-still_fires : (M : Machine) (frame : List ℕ) (bs : List Branch) (v : ℕ → Bool) (q : Place) (o : Owned) (j : ℕ) → AsPlaced M frame bs q o j → IsStill v q →
+still_fires : (M : Machine) (frame : List ℕ) (bs : List Branch) (v : ℕ → Bool) (q : BranchPlace) (o : Owned) (j : ℕ) → AsPlaced M frame bs q o j → IsStill v q →
     fires v o ≡ false
 still_fires M frame bs v q o j r still = ap (λ b. if b then guard_holds v o.rules.down else guard_holds v o.rules.up) (r.low v still.quiet) ∙ r.still v still
 
 -- a move, seen from a branch
-pub record AsControl (M : Machine) (frame : List ℕ) (bs : List Branch) (m : Moment) (p : Place) (node i : ℕ) : Type 0 where
+pub record AsControl (M : Machine) (frame : List ℕ) (bs : List Branch) (m : Moment) (p : BranchPlace) (node i : ℕ) : Type 0 where
   pub less : i < M.size
   pub at : node ≡ slice_index_or (controls frame p) i 0
   pub may : can M i (map m.value (controls frame p)) (seen_rails m.value m.noted bs p) ≡ true
 
-pub record AsRail (bs : List Branch) (eval : ℕ) (m : Moment) (node : ℕ) (q : Place) : Type 0 where
+pub record AsRail (bs : List Branch) (eval : ℕ) (m : Moment) (node : ℕ) (q : BranchPlace) : Type 0 where
   pub is : IsPlace bs q
   pub which : IsRail q node
   pub may : RailMay eval m.value q node
 
-abbrev pub Turn : Machine → List ℕ → List Branch → ℕ → Moment → Place → ℕ → Type 0
-Turn M frame bs eval m p node = ((i : ℕ) × AsControl M frame bs m p node i) ⊎ ((q : Place) × AsRail bs eval m node q)
+abbrev pub Turn : Machine → List ℕ → List Branch → ℕ → Moment → BranchPlace → ℕ → Type 0
+Turn M frame bs eval m p node = ((i : ℕ) × AsControl M frame bs m p node i) ⊎ ((q : BranchPlace) × AsRail bs eval m node q)
 
-abbrev pub Seen : Machine → List ℕ → List Branch → ℕ → Moment → (Place → Type 0) → ℕ → Type 0
-Seen M frame bs eval m P node = (p : Place) × (P p) × (View M frame bs m p) × Turn M frame bs eval m p node
+abbrev pub Seen : Machine → List ℕ → List Branch → ℕ → Moment → (BranchPlace → Type 0) → ℕ → Type 0
+Seen M frame bs eval m P node = (p : BranchPlace) × (P p) × (View M frame bs m p) × Turn M frame bs eval m p node
 
-own_turn : (M : Machine) (frame : List ℕ) (bs : List Branch) (eval : ℕ) (m : Moment) (p : Place) (o : Owned) (j node : ℕ) → Setting M frame bs eval →
+own_turn : (M : Machine) (frame : List ℕ) (bs : List Branch) (eval : ℕ) (m : Moment) (p : BranchPlace) (o : Owned) (j node : ℕ) → Setting M frame bs eval →
     View M frame bs m p → AsRule M frame bs p o j → fires m.value o ≡ true → node ≡ o.node → Turn M frame bs eval m p node
 own_turn M frame bs eval m p o j node s view r f at =
     inl (j, record { less = r.less; at = at ∙ r.at; may = sym (fires_is M frame bs eval m.value m.noted p o j s view.calm r) ∙ f })
@@ -227,7 +227,7 @@ frame_there [] ys i lt = absurd (omega (arith, lt))
 frame_there (x ∷ xs) ys zero lt = refl
 frame_there (x ∷ xs) ys (suc i) lt = frame_there xs ys i (omega (arith, lt))
 
-frame_value : (M : Machine) (frame : List ℕ) (bs : List Branch) (eval : ℕ) (v : ℕ → Bool) (p : Place) (i : ℕ) → Setting M frame bs eval → i < M.latch →
+frame_value : (M : Machine) (frame : List ℕ) (bs : List Branch) (eval : ℕ) (v : ℕ → Bool) (p : BranchPlace) (i : ℕ) → Setting M frame bs eval → i < M.latch →
     bit_at (map v (controls frame p)) i ≡ v (slice_index_or frame i 0)
 frame_value M frame bs eval v p i s lt =
     let long = controls_length M frame bs eval p s in
@@ -236,7 +236,7 @@ frame_value M frame bs eval v p i s lt =
     value_at v (controls frame p) i (omega (arith, lt, long, size))
         ∙ ap v (frame_there frame (p.this.latch ∷ p.this.start ∷ p.this.answer ∷ []) i (omega (arith, lt, all)))
 
-pub request_turn : (M : Machine) (frame : List ℕ) (bs : List Branch) (request answer eval : ℕ) (m : Moment) (p : Place) (node : ℕ) → Setting M frame bs eval →
+pub request_turn : (M : Machine) (frame : List ℕ) (bs : List Branch) (request answer eval : ℕ) (m : Moment) (p : BranchPlace) (node : ℕ) → Setting M frame bs eval →
     slice_index_or frame 0 0 ≡ request → slice_index_or frame 1 0 ≡ answer → may_move m (request_wire request answer) ≡ true → node ≡ request →
     Turn M frame bs eval m p node
 request_turn M frame bs request answer eval m p node s first second may at =
@@ -258,7 +258,7 @@ request_turn M frame bs request answer eval m p node s first second may at =
       },
     )
 
-answer_turn : (M : Machine) (frame : List ℕ) (bs : List Branch) (eval : ℕ) (m : Moment) (p : Place) (node : ℕ) → Setting M frame bs eval →
+answer_turn : (M : Machine) (frame : List ℕ) (bs : List Branch) (eval : ℕ) (m : Moment) (p : BranchPlace) (node : ℕ) → Setting M frame bs eval →
     may_move m (d_wire p) ≡ true → node ≡ p.this.answer → Turn M frame bs eval m p node
 answer_turn M frame bs eval m p node s may at =
     let v = m.value in
@@ -278,12 +278,12 @@ answer_turn M frame bs eval m p node s may at =
       },
     )
 
-still_answer : (m : Moment) (q : Place) → IsStill m.value q → may_move m (d_wire q) ≡ false
+still_answer : (m : Moment) (q : BranchPlace) → IsStill m.value q → may_move m (d_wire q) ≡ false
 still_answer m q still = ap (λ b. if b then not (m.value q.this.start) else m.value q.this.start) still.quiet.answer ∙ still.quiet.start
 
 -- from a branch that may be looked at
-turn_by : (M : Machine) (frame : List ℕ) (bs : List Branch) (request answer eval : ℕ) (part : Part) (m : Moment) (P : Place → Type 0) (p : Place) (node : ℕ) →
-    Setting M frame bs eval → IsPart M frame bs request answer eval part → ((y : Place) → IsPlace bs y → (P y × View M frame bs m y) ⊎ IsStill m.value y) →
+turn_by : (M : Machine) (frame : List ℕ) (bs : List Branch) (request answer eval : ℕ) (part : Part) (m : Moment) (P : BranchPlace → Type 0) (p : BranchPlace) (node : ℕ) →
+    Setting M frame bs eval → IsPart M frame bs request answer eval part → ((y : BranchPlace) → IsPlace bs y → (P y × View M frame bs m y) ⊎ IsStill m.value y) →
     P p → View M frame bs m p → IsMove part m node → Seen M frame bs eval m P node
 turn_by M frame bs request answer eval part m P p node s part_is pick ok view (inl own) =
     ⊎_elim (λ (f : InFrame M frame bs own.o). (p, ok, view, own_turn M frame bs eval m p own.o f.0 node s view (f.2 p view.is) own.enabled own.at))
@@ -311,22 +311,22 @@ turn_by M frame bs request answer eval part m P p node s part_is pick ok view (i
     b.2)
     (part_is.wires theirs.w theirs.among)
   where
-    rail_may : (q : Place) (rail : ℕ) (w : Wire) → w ≡ t_wire eval q → node ≡ w.node → may_move m w ≡ true → RailMay eval m.value q node
+    rail_may : (q : BranchPlace) (rail : ℕ) (w : Wire) → w ≡ t_wire eval q → node ≡ w.node → may_move m w ≡ true → RailMay eval m.value q node
     rail_may q rail w e at may = subst (λ n. RailMay eval m.value q n) (sym (at ∙ ap (λ (w : Wire). w.node) e)) (ap (may_move m) (sym e) ∙ may)
 
-    rail_may_f : (q : Place) (w : Wire) → w ≡ f_wire eval q → node ≡ w.node → may_move m w ≡ true → RailMay eval m.value q node
+    rail_may_f : (q : BranchPlace) (w : Wire) → w ≡ f_wire eval q → node ≡ w.node → may_move m w ≡ true → RailMay eval m.value q node
     rail_may_f q w e at may = subst (λ n. RailMay eval m.value q n) (sym (at ∙ ap (λ (w : Wire). w.node) e)) (ap (may_move m) (sym e) ∙ may)
 
-abbrev Any : Place → Type 0
+abbrev Any : BranchPlace → Type 0
 Any p = Unit {0}
 
-pub turn_any : (M : Machine) (frame : List ℕ) (bs : List Branch) (request answer eval : ℕ) (part : Part) (m : Moment) (p : Place) (node : ℕ) →
+pub turn_any : (M : Machine) (frame : List ℕ) (bs : List Branch) (request answer eval : ℕ) (part : Part) (m : Moment) (p : BranchPlace) (node : ℕ) →
     Setting M frame bs eval → IsPart M frame bs request answer eval part → View M frame bs m p → IsMove part m node → Seen M frame bs eval m Any node
 turn_any M frame bs request answer eval part m p node s part_is view move =
     turn_by M frame bs request answer eval part m Any p node s part_is
         (λ y at. ⊎_elim (λ g. inl (tt, g)) (λ still. inr still) (aim M frame bs eval m p y s view at)) tt view move
 
-pub turn_won : (M : Machine) (frame : List ℕ) (bs : List Branch) (request answer eval : ℕ) (part : Part) (m : Moment) (p : Place) (node : ℕ) →
+pub turn_won : (M : Machine) (frame : List ℕ) (bs : List Branch) (request answer eval : ℕ) (part : Part) (m : Moment) (p : BranchPlace) (node : ℕ) →
     Setting M frame bs eval → IsPart M frame bs request answer eval part → View M frame bs m p → is_won m.value p ≡ true → IsMove part m node →
     Seen M frame bs eval m (λ y. y ≡ p) node
 turn_won M frame bs request answer eval part m p node s part_is view won move =
@@ -335,17 +335,17 @@ turn_won M frame bs request answer eval part m p node s part_is view won move =
         (λ (apart : Apart p y). inr (still_beside M frame bs m p y view won apart)) (one_or_apart bs p y view.is at)) refl view move
 
 -- every move keeps it
-pub view_kept : (M : Machine) (frame : List ℕ) (bs : List Branch) (request answer eval : ℕ) (part : Part) (m : Moment) (p : Place) (node : ℕ) →
+pub view_kept : (M : Machine) (frame : List ℕ) (bs : List Branch) (request answer eval : ℕ) (part : Part) (m : Moment) (p : BranchPlace) (node : ℕ) →
     Setting M frame bs eval → IsPart M frame bs request answer eval part → View M frame bs m p → IsMove part m node →
-    (p : Place) × View M frame bs (record { value = turned m.value node; noted = as_evaluated eval m node }) p
+    (p : BranchPlace) × View M frame bs (record { value = turned m.value node; noted = as_evaluated eval m node }) p
 view_kept M frame bs request answer eval part m p node s part_is view move =
     let seen = turn_any M frame bs request answer eval part m p node s part_is view move in
     ⊎_elim (λ (t : (i : ℕ) × AsControl M frame bs m seen.0 node i). (seen.0, control_kept M frame bs eval m seen.0 t.0 node s seen.2 t.1.less t.1.at t.1.may))
-    (λ (t : (q : Place) × AsRail bs eval m node q). (seen.0, (rail_kept M frame bs eval m seen.0 t.0 node s seen.2 t.1.is t.1.which t.1.may).view))
+    (λ (t : (q : BranchPlace) × AsRail bs eval m node q). (seen.0, (rail_kept M frame bs eval m seen.0 t.0 node s seen.2 t.1.is t.1.which t.1.may).view))
     seen.3
 
 -- no move disables an enabled rule
-firm_at : (M : Machine) (frame : List ℕ) (bs : List Branch) (eval : ℕ) (m : Moment) (p : Place) (o : Owned) (j node : ℕ) → Setting M frame bs eval →
+firm_at : (M : Machine) (frame : List ℕ) (bs : List Branch) (eval : ℕ) (m : Moment) (p : BranchPlace) (o : Owned) (j node : ℕ) → Setting M frame bs eval →
     View M frame bs m p → AsRule M frame bs p o j → fires m.value o ≡ true → node ≢ o.node → Turn M frame bs eval m p node →
     fires (turned m.value node) o ≡ true
 firm_at M frame bs eval m p o j node s view r f ne (inl t) =
@@ -368,7 +368,7 @@ or_right : (a b : Bool) → b ≡ true → (a || b) ≡ true
 or_right true b h = refl
 or_right false b h = h
 
-fired_won : (M : Machine) (frame : List ℕ) (bs : List Branch) (eval : ℕ) (m : Moment) (p : Place) (j : ℕ) → Setting M frame bs eval → View M frame bs m p →
+fired_won : (M : Machine) (frame : List ℕ) (bs : List Branch) (eval : ℕ) (m : Moment) (p : BranchPlace) (j : ℕ) → Setting M frame bs eval → View M frame bs m p →
     (j ≡ M.latch) ⊎ (j ≡ M.latch + 1) → can M j (map m.value (controls frame p)) (seen_rails m.value m.noted bs p) ≡ true → is_won m.value p ≡ true
 fired_won M frame bs eval m p j s view which may =
     let c = map m.value (controls frame p) in
@@ -377,7 +377,7 @@ fired_won M frame bs eval m p j s view which may =
     (or_right (under_way M c) _ (⊎_elim (λ (e : j ≡ M.latch). or_left _ _ (ap (λ k. can M k c q) (sym e) ∙ may))
         (λ (e : j ≡ M.latch + 1). or_right _ _ (or_left _ _ (ap (λ k. can M k c q) (sym e) ∙ may))) which))
 
-pub firm_of : (M : Machine) (frame : List ℕ) (bs : List Branch) (request answer eval : ℕ) (part : Part) (m : Moment) (p : Place) → Setting M frame bs eval →
+pub firm_of : (M : Machine) (frame : List ℕ) (bs : List Branch) (request answer eval : ℕ) (part : Part) (m : Moment) (p : BranchPlace) → Setting M frame bs eval →
     IsPart M frame bs request answer eval part → View M frame bs m p → (o : Owned) → Contains part.own o → fires m.value o ≡ true → (node : ℕ) →
     IsMove part m node → node ≢ o.node → fires (turned m.value node) o ≡ true
 firm_of M frame bs request answer eval part m p s part_is view o among f node move ne =
@@ -389,13 +389,13 @@ firm_of M frame bs request answer eval part m p s part_is view o among f node mo
     let may = sym (fires_is M frame bs eval m.value m.noted b.0 o b.1 s g.calm b.2.rule) ∙ f in
     let won = fired_won M frame bs eval m b.0 b.1 s g b.2.which may in
     let seen = turn_won M frame bs request answer eval part m b.0 node s part_is g won move in
-    firm_at M frame bs eval m b.0 o b.1 node s g b.2.rule f ne (subst (λ (y : Place). Turn M frame bs eval m y node) seen.1 seen.3))
+    firm_at M frame bs eval m b.0 o b.1 node s g b.2.rule f ne (subst (λ (y : BranchPlace). Turn M frame bs eval m y node) seen.1 seen.3))
     (λ still. absurd (true_false f (still_fires M frame bs m.value b.0 o b.1 b.2 still)))
     (aim M frame bs eval m p b.0 s view b.2.is))
     (part_is.own o among)
 
 -- no node is pulled both ways
-pub apart_of : (M : Machine) (frame : List ℕ) (bs : List Branch) (request answer eval : ℕ) (part : Part) (m : Moment) (p : Place) → Setting M frame bs eval →
+pub apart_of : (M : Machine) (frame : List ℕ) (bs : List Branch) (request answer eval : ℕ) (part : Part) (m : Moment) (p : BranchPlace) → Setting M frame bs eval →
     IsPart M frame bs request answer eval part → View M frame bs m p → (o : Owned) → Contains part.own o →
     (guard_holds m.value o.rules.up && guard_holds m.value o.rules.down) ≡ false
 apart_of M frame bs request answer eval part m p s part_is view o among =
@@ -404,7 +404,7 @@ apart_of M frame bs request answer eval part m p s part_is view o among =
         (λ still. ap (λ u. u && guard_holds m.value o.rules.down) (b.2.still m.value still)) (aim M frame bs eval m p b.0 s view b.2.is))
     (part_is.own o among)
   where
-    rule_apart : (p : Place) → View M frame bs m p → (j : ℕ) → AsRule M frame bs p o j →
+    rule_apart : (p : BranchPlace) → View M frame bs m p → (j : ℕ) → AsRule M frame bs p o j →
         (guard_holds m.value o.rules.up && guard_holds m.value o.rules.down) ≡ false
     rule_apart p view j r =
         let c = map m.value (controls frame p) in
@@ -415,16 +415,16 @@ apart_of M frame bs request answer eval part m p s part_is view o among =
 -- a promise that stands on a control
 pub record FramePromise (M : Machine) (frame : List ℕ) (bs : List Branch) (m : Moment) (w : Wire) (j : ℕ) : Type 0 where
   pub less : j < M.latch
-  pub at : (p : Place) → IsPlace bs p → w.node ≡ slice_index_or (controls frame p) j 0
-  pub holds : (p : Place) → View M frame bs m p → can M j (map m.value (controls frame p)) (seen_rails m.value m.noted bs p) ≡ true → may_move m w ≡ true
+  pub at : (p : BranchPlace) → IsPlace bs p → w.node ≡ slice_index_or (controls frame p) j 0
+  pub holds : (p : BranchPlace) → View M frame bs m p → can M j (map m.value (controls frame p)) (seen_rails m.value m.noted bs p) ≡ true → may_move m w ≡ true
 
-pub record StartPromise (M : Machine) (frame : List ℕ) (bs : List Branch) (m : Moment) (w : Wire) (y : Place) : Type 0 where
+pub record StartPromise (M : Machine) (frame : List ℕ) (bs : List Branch) (m : Moment) (w : Wire) (y : BranchPlace) : Type 0 where
   pub is : IsPlace bs y
   pub at : w.node ≡ y.this.start
   pub holds : View M frame bs m y → can M (M.latch + 1) (map m.value (controls frame y)) (seen_rails m.value m.noted bs y) ≡ true → may_move m w ≡ true
 
 abbrev pub IsPromise : Machine → List ℕ → List Branch → Moment → Wire → Type 0
-IsPromise M frame bs m w = ((j : ℕ) × FramePromise M frame bs m w j) ⊎ ((y : Place) × StartPromise M frame bs m w y)
+IsPromise M frame bs m w = ((j : ℕ) × FramePromise M frame bs m w j) ⊎ ((y : BranchPlace) × StartPromise M frame bs m w y)
 
 fresh_among : (n : ℕ) (b : Branch) (bs : List Branch) → Among b bs → Fresh n (controls_of bs) → (n ≢ b.latch) × (n ≢ b.start)
 fresh_among n b [] a h = absurd a
@@ -432,7 +432,7 @@ fresh_among n b (x ∷ bs) (inl e) h = (λ same. h.0 (same ∙ ap (λ (y : Branc
 fresh_among n b (x ∷ bs) (inr a) h = fresh_among n b bs a h.1.1.1
 
 -- two controls seen from one branch that are one node
-pub one_control : (M : Machine) (frame : List ℕ) (bs : List Branch) (eval : ℕ) (p : Place) (i j : ℕ) → Setting M frame bs eval → IsPlace bs p → i < M.size →
+pub one_control : (M : Machine) (frame : List ℕ) (bs : List Branch) (eval : ℕ) (p : BranchPlace) (i j : ℕ) → Setting M frame bs eval → IsPlace bs p → i < M.size →
     j < M.size → slice_index_or (controls frame p) i 0 ≡ slice_index_or (controls frame p) j 0 → i ≡ j
 one_control M frame bs eval p i j s is lt less e =
     let long = controls_length M frame bs eval p s in
@@ -440,7 +440,7 @@ one_control M frame bs eval p i j s is lt less e =
         (around frame bs p is s.apart)) i j (omega (arith, lt, long)) (omega (arith, less, long)) e
 
 -- a start is no latch and no start of another branch
-start_apart : (M : Machine) (frame : List ℕ) (bs : List Branch) (eval : ℕ) (y : Place) (b : Branch) → Setting M frame bs eval → IsPlace bs y →
+start_apart : (M : Machine) (frame : List ℕ) (bs : List Branch) (eval : ℕ) (y : BranchPlace) (b : Branch) → Setting M frame bs eval → IsPlace bs y →
     Among b (y.before ++ y.behind) → (y.this.start ≢ b.latch) × (y.this.start ≢ b.start)
 start_apart M frame bs eval y b s is a =
     let long = controls_length M frame bs eval y s in
@@ -455,14 +455,14 @@ start_apart M frame bs eval y b s is a =
         (fresh_right y.this.start (controls_of y.before) (controls_of y.behind ++ rails_of (guards_of bs)) fresh)))
     (among_cases b y.before y.behind a)
 
-pub promised_of : (M : Machine) (frame : List ℕ) (bs : List Branch) (request answer eval : ℕ) (part : Part) (m : Moment) (p : Place) → Setting M frame bs eval →
+pub promised_of : (M : Machine) (frame : List ℕ) (bs : List Branch) (request answer eval : ℕ) (part : Part) (m : Moment) (p : BranchPlace) → Setting M frame bs eval →
     IsPart M frame bs request answer eval part → View M frame bs m p → (o : Owned) → Contains part.own o → fires m.value o ≡ true → (w : Wire) →
     IsPromise M frame bs m w → w.node ≡ o.node → may_move m w ≡ true
 promised_of M frame bs request answer eval part m p s part_is view o among f w promise e =
     ⊎_elim (λ (k : InFrame M frame bs o). ⊎_elim (λ (g : (j : ℕ) × FramePromise M frame bs m w j). frame_frame k g)
-        (λ (g : (y : Place) × StartPromise M frame bs m w y). frame_start k g) promise)
+        (λ (g : (y : BranchPlace) × StartPromise M frame bs m w y). frame_start k g) promise)
     (λ (b : InBranch M frame bs o). ⊎_elim (λ (g : (j : ℕ) × FramePromise M frame bs m w j). branch_frame b g)
-        (λ (g : (y : Place) × StartPromise M frame bs m w y). branch_start b g) promise)
+        (λ (g : (y : BranchPlace) × StartPromise M frame bs m w y). branch_start b g) promise)
     (part_is.own o among)
   where
     size : M.size ≡ M.latch + 3
@@ -479,7 +479,7 @@ promised_of M frame bs request answer eval part m p s part_is view o among f w p
         g.1.holds p view (ap (λ j. can M j (map m.value (controls frame p)) (seen_rails m.value m.noted bs p)) (sym same)
             ∙ sym (fires_is M frame bs eval m.value m.noted p o k.0 s view.calm rule) ∙ f)
 
-    frame_start : InFrame M frame bs o → (y : Place) × StartPromise M frame bs m w y → may_move m w ≡ true
+    frame_start : InFrame M frame bs o → (y : BranchPlace) × StartPromise M frame bs m w y → may_move m w ≡ true
     frame_start k g =
         let rule = k.2 g.0 g.1.is in
         let lt = k.1 in
@@ -496,22 +496,22 @@ promised_of M frame bs request answer eval part m p s part_is view o among f w p
         let same : b.1 ≡ g.0 = one_control M frame bs eval b.0 b.1 g.0 s b.2.is all (omega (arith, less, size)) (sym b.2.rule.at ∙ sym e ∙ g.1.at b.0 b.2.is) in
         ⊎_elim (λ (h : b.1 ≡ M.latch). absurd (omega (arith, less, same, h))) (λ (h : b.1 ≡ M.latch + 1). absurd (omega (arith, less, same, h))) b.2.which
 
-    at_start : (b : InBranch M frame bs o) → (g : (y : Place) × StartPromise M frame bs m w y) → b.0 ≡ g.0 → may_move m w ≡ true
+    at_start : (b : InBranch M frame bs o) → (g : (y : BranchPlace) × StartPromise M frame bs m w y) → b.0 ≡ g.0 → may_move m w ≡ true
     at_start b g place =
         let size = s.size in
         let all = b.2.rule.less in
-        let here : o.node ≡ slice_index_or (controls frame b.0) (M.latch + 1) 0 = sym e ∙ g.1.at ∙ ap (λ (y : Place). y.this.start) (sym place)
+        let here : o.node ≡ slice_index_or (controls frame b.0) (M.latch + 1) 0 = sym e ∙ g.1.at ∙ ap (λ (y : BranchPlace). y.this.start) (sym place)
             ∙ sym (last_there M frame bs eval b.0 1 s) in
         let same : b.1 ≡ M.latch + 1 = one_control M frame bs eval b.0 b.1 (M.latch + 1) s b.2.is all (omega (arith, size)) (sym b.2.rule.at ∙ here) in
         ⊎_elim (λ (v : View M frame bs m b.0).
         let fired = ap (λ j. can M j (map m.value (controls frame b.0)) (seen_rails m.value m.noted bs b.0)) (sym same)
             ∙ sym (fires_is M frame bs eval m.value m.noted b.0 o b.1 s v.calm b.2.rule) ∙ f in
         g.1.holds (subst (View M frame bs m) place v)
-            (subst (λ (y : Place). can M (M.latch + 1) (map m.value (controls frame y)) (seen_rails m.value m.noted bs y) ≡ true) place fired))
+            (subst (λ (y : BranchPlace). can M (M.latch + 1) (map m.value (controls frame y)) (seen_rails m.value m.noted bs y) ≡ true) place fired))
         (λ still. absurd (true_false f (still_fires M frame bs m.value b.0 o b.1 b.2 still)))
         (aim M frame bs eval m p b.0 s view b.2.is)
 
-    branch_start : InBranch M frame bs o → (y : Place) × StartPromise M frame bs m w y → may_move m w ≡ true
+    branch_start : InBranch M frame bs o → (y : BranchPlace) × StartPromise M frame bs m w y → may_move m w ≡ true
     branch_start b g =
         ⊎_elim (λ (same : b.0 ≡ g.0). at_start b g same)
         (λ (apart : Apart b.0 g.0).

@@ -6,7 +6,7 @@ use Rattle.std.proofs.lemmas.List.Folds.{list_all-append}
 use Rattle.prs_core.specs.Moves.{guard_holds}
 use Rattle.prs_core.specs.Pairs.{rails_of}
 use Rattle.prs_core.specs.Parts.{Moment, Wire, all_low, is_valid, may_move}
-use Rattle.cell_select.specs.Contract.{Branch, Place, latches_of, starts_of, answers_of, guards_of, controls_of, guards_neutral, guards_valid, guards_false, none_true, alone_true, one_true, branches_idle, branch_wires}
+use Rattle.cell_select.specs.Contract.{Branch, BranchPlace, latches_of, starts_of, answers_of, guards_of, controls_of, guards_neutral, guards_valid, guards_false, none_true, alone_true, one_true, branches_idle, branch_wires}
 use Rattle.cell_select.proofs.Tables.{and_left, and_right, both, not_true, true_not}
 use Rattle.cell_select.proofs.Places.{IsPlace, at_place, t_wire, f_wire, d_wire, t_there, f_there, d_there, latch_owned, start_owned}
 use Rattle.cell_select.proofs.Rails.{is_single, guards_single, wanted_is, low_terms, is_calm, only_start, only_answer}
@@ -26,14 +26,14 @@ or_cases true b h = inl refl
 or_cases false b h = inr h
 
 -- a branch somewhere in the list, as a place
-abbrev further : Branch → Place → Place
+abbrev further : Branch → BranchPlace → BranchPlace
 further x q = at_place (x ∷ q.before) q.this q.behind
 
-further_is : (x : Branch) (bs : List Branch) (q : Place) → IsPlace bs q → IsPlace (x ∷ bs) (further x q)
+further_is : (x : Branch) (bs : List Branch) (q : BranchPlace) → IsPlace bs q → IsPlace (x ∷ bs) (further x q)
 further_is x bs q is = ap (λ (ys : List Branch). x ∷ ys) is
 
 abbrev pub HighRail : (ℕ → Bool) → List Branch → Type 0
-HighRail v bs = (q : Place) × (IsPlace bs q) × ((v q.this.guard.t ≡ true) ⊎ (v q.this.guard.f ≡ true))
+HighRail v bs = (q : BranchPlace) × (IsPlace bs q) × ((v q.this.guard.t ≡ true) ⊎ (v q.this.guard.f ≡ true))
 
 some_rail_by : (v : ℕ → Bool) (b : Branch) (bs : List Branch) (t f : Bool) → v b.guard.t ≡ t → v b.guard.f ≡ f → guards_neutral v (b ∷ bs) ≡ false →
     (guards_neutral v bs ≡ false → HighRail v bs) → HighRail v (b ∷ bs)
@@ -48,7 +48,7 @@ some_rail v [] h = absurd (cc h)
 some_rail v (b ∷ bs) h = some_rail_by v b bs (v b.guard.t) (v b.guard.f) refl refl h (some_rail v bs)
 
 abbrev pub LowGuard : (ℕ → Bool) → List Branch → Type 0
-LowGuard v bs = (q : Place) × (IsPlace bs q) × (v q.this.guard.t ≡ false) × (v q.this.guard.f ≡ false)
+LowGuard v bs = (q : BranchPlace) × (IsPlace bs q) × (v q.this.guard.t ≡ false) × (v q.this.guard.f ≡ false)
 
 low_guard_by : (v : ℕ → Bool) (b : Branch) (bs : List Branch) (t f : Bool) → v b.guard.t ≡ t → v b.guard.f ≡ f → is_single v b.guard ≡ true →
     guards_valid v (b ∷ bs) ≡ false → (guards_valid v bs ≡ false → LowGuard v bs) → LowGuard v (b ∷ bs)
@@ -82,7 +82,7 @@ valid_false v (b ∷ bs) h n =
     (valid_false v bs (and_right (is_valid v b.guard) (guards_valid v bs) h) (and_right (not (v b.guard.t)) (none_true v bs) n))
 
 abbrev pub AlonePlace : (ℕ → Bool) → List Branch → Type 0
-AlonePlace v bs = (q : Place) × (IsPlace bs q) × (alone_true v q ≡ true)
+AlonePlace v bs = (q : BranchPlace) × (IsPlace bs q) × (alone_true v q ≡ true)
 
 one_place_by : (v : ℕ → Bool) (b : Branch) (bs : List Branch) (t : Bool) → v b.guard.t ≡ t → guards_valid v (b ∷ bs) ≡ true →
     (if t then none_true v bs else one_true v bs) ≡ true → (one_true v bs ≡ true → AlonePlace v bs) → AlonePlace v (b ∷ bs)
@@ -129,7 +129,7 @@ alone_parts v (x ∷ before) b behind s t h k =
     both _ _ (valid_f (v x.guard.t) (v x.guard.f) (and_left (is_single v x.guard) rest s) (and_left (v x.guard.f) (guards_false v before) h))
     (alone_parts v before b behind (and_right (is_single v x.guard) rest s) t (and_right (v x.guard.f) (guards_false v before) h) k)
 
-pub alone_valid : (v : ℕ → Bool) (bs : List Branch) (p : Place) → IsPlace bs p → guards_single v bs ≡ true → alone_true v p ≡ true → guards_valid v bs ≡ true
+pub alone_valid : (v : ℕ → Bool) (bs : List Branch) (p : BranchPlace) → IsPlace bs p → guards_single v bs ≡ true → alone_true v p ≡ true → guards_valid v bs ≡ true
 alone_valid v bs p is s h =
     let rest = and_right (v p.this.guard.t) (guards_false v p.before && guards_false v p.behind) h in
     subst (λ (xs : List Branch). guards_valid v xs ≡ true) (sym is)
@@ -161,26 +161,26 @@ low_may m eval bs e h =
           ∙ both _ _ e (both _ _ (true_not _ h.2) (true_not _ h.3)),
     )
 
-pub answer_may : (m : Moment) (eval : ℕ) (bs : List Branch) (q : Place) → IsPlace bs q → may_move m (d_wire q) ≡ true → MayMove m eval bs
+pub answer_may : (m : Moment) (eval : ℕ) (bs : List Branch) (q : BranchPlace) → IsPlace bs q → may_move m (d_wire q) ≡ true → MayMove m eval bs
 answer_may m eval bs q is h = (d_wire q, subst (λ (xs : List Branch). Contains (branch_wires eval xs) (d_wire q)) (sym is)
     (d_there eval q.before q.this q.behind), h)
 
 -- the rules of a latch and of a start, by the values of the nodes
-pub latch_up : (v : ℕ → Bool) (request : ℕ) (p : Place) → guard_holds v (latch_owned request p).rules.up ≡ (alone_true v p || false)
+pub latch_up : (v : ℕ → Bool) (request : ℕ) (p : BranchPlace) → guard_holds v (latch_owned request p).rules.up ≡ (alone_true v p || false)
 latch_up v request p = ap (λ b. b || false) (wanted_is v p)
 
-pub start_up : (v : ℕ → Bool) (bs : List Branch) (p : Place) →
+pub start_up : (v : ℕ → Bool) (bs : List Branch) (p : BranchPlace) →
     guard_holds v (start_owned (guards_of bs) p).rules.up ≡ ((v p.this.latch && guards_neutral v bs) || false)
 start_up v bs p = ap (λ b. (v p.this.latch && b) || false) (low_terms v (rails_of (guards_of bs)))
 
-pub latch_still : (v : ℕ → Bool) (request : ℕ) (p : Place) → IsStill v p → guard_holds v (latch_owned request p).rules.up ≡ false
+pub latch_still : (v : ℕ → Bool) (request : ℕ) (p : BranchPlace) → IsStill v p → guard_holds v (latch_owned request p).rules.up ≡ false
 latch_still v request p still = latch_up v request p ∙ ap (λ b. b || false) still.alone
 
-pub start_still : (v : ℕ → Bool) (bs : List Branch) (p : Place) → IsStill v p → guard_holds v (start_owned (guards_of bs) p).rules.up ≡ false
+pub start_still : (v : ℕ → Bool) (bs : List Branch) (p : BranchPlace) → IsStill v p → guard_holds v (start_owned (guards_of bs) p).rules.up ≡ false
 start_still v bs p still = start_up v bs p ∙ ap (λ b. (b && guards_neutral v bs) || false) still.quiet.latch
 
 -- no branch is under way, seen from one
-pub idle_is : (v : ℕ → Bool) (bs : List Branch) (p : Place) → IsPlace bs p → is_calm v p ≡ true →
+pub idle_is : (v : ℕ → Bool) (bs : List Branch) (p : BranchPlace) → IsPlace bs p → is_calm v p ≡ true →
     branches_idle v bs ≡ (not (v p.this.start) && not (v p.this.answer))
 idle_is v bs p is calm =
     ap (branches_idle v) is ∙ ap (λ a. a && all_low v (answers_of (p.before ++ p.this ∷ p.behind))) (only_start v p calm)

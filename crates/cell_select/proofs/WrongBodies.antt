@@ -7,7 +7,7 @@ use Rattle.prs_core.specs.Pairs.{no_rules, rails_of, lows, or_of}
 use Rattle.prs_core.specs.Parts.{Owned, owned, owned_at, Part, Keeps, at_first}
 use Rattle.prs_core.specs.Breaking.{broken}
 use Rattle.cell_select.specs.Selections.{joined_answer, evaluation, latches, starts}
-use Rattle.cell_select.specs.Contract.{Branch, SelectNodes, select_owned, select_part, select_own, AgainNodes, again_owned, again_part, guards_of}
+use Rattle.cell_select.specs.Contract.{Branch, SelectNodes, select_owned, select_part, select_inner, AgainNodes, again_owned, again_part, guards_of}
 
 abbrev all_low_first : ℕ → Bool
 all_low_first n = false
@@ -46,7 +46,7 @@ eager_latches = map (λ (b : Branch). record { up = one_term (is_high b.guard.t 
 
 abbrev eager_select : Part
 eager_select = record (select_part two_guards) {
-  own = owned_at (select_own two_guards) (joined_answer 12 (30 ∷ 31 ∷ []) ∷ evaluation 5 12 ∷ or_of (13 ∷ 14 ∷ [])
+  own = owned_at (select_inner two_guards) (joined_answer 12 (30 ∷ 31 ∷ []) ∷ evaluation 5 12 ∷ or_of (13 ∷ 14 ∷ [])
       ∷ (eager_latches ++ starts (13 ∷ 14 ∷ []) (guards_of two_branches)));
 }
 
@@ -60,7 +60,7 @@ restarted b = record { up = one_term (is_high b.latch ∷ is_low b.answer ∷ lo
 
 abbrev restless_select : Part
 restless_select = record (select_part two_guards) {
-  own = owned_at (select_own two_guards) (no_rules ∷ evaluation 5 12 ∷ or_of (13 ∷ 14 ∷ [])
+  own = owned_at (select_inner two_guards) (no_rules ∷ evaluation 5 12 ∷ or_of (13 ∷ 14 ∷ [])
       ∷ (latches 5 (guards_of two_branches) ++ map restarted two_branches));
 }
 
@@ -78,7 +78,7 @@ let_go_latches =
 
 abbrev asking_select : Part
 asking_select = record (select_part two_guards) {
-  own = owned_at (select_own two_guards) (no_rules ∷ evaluation 5 12 ∷ or_of (13 ∷ 14 ∷ [])
+  own = owned_at (select_inner two_guards) (no_rules ∷ evaluation 5 12 ∷ or_of (13 ∷ 14 ∷ [])
       ∷ (let_go_latches ++ starts (13 ∷ 14 ∷ []) (guards_of two_branches)));
 }
 

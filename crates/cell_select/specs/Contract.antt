@@ -47,11 +47,11 @@ abbrev pub select_nodes : SelectNodes → List ℕ
 select_nodes c = c.request ∷ c.answer ∷ c.eval ∷ c.any ∷ (controls_of c.branches ++ rails_of (guards_of c.branches))
 
 -- its own nodes: the answer, the request of the guards, whether a latch is up, the latches and the starts
-abbrev pub select_own : SelectNodes → List ℕ
-select_own c = c.answer ∷ c.eval ∷ c.any ∷ (latches_of c.branches ++ starts_of c.branches)
+abbrev pub select_inner : SelectNodes → List ℕ
+select_inner c = c.answer ∷ c.eval ∷ c.any ∷ (latches_of c.branches ++ starts_of c.branches)
 
 abbrev pub select_owned : SelectNodes → List Owned
-select_owned c = owned_at (select_own c) (select_rules (choosing_of c.request c.any c.branches))
+select_owned c = owned_at (select_inner c) (select_rules (choosing_of c.request c.any c.branches))
 
 -- the nodes at a guarded repetition: also the request of one turn, the joined answers, and the latch by which it ends
 pub record AgainNodes : Type 0 where
@@ -69,8 +69,8 @@ again_nodes c =
     c.request ∷ c.answer ∷ c.turn ∷ c.joined ∷ c.eval ∷ c.any ∷ c.leave
         ∷ (controls_of c.branches ++ rails_of (guards_of c.branches))
 
-abbrev pub again_own : AgainNodes → List ℕ
-again_own c =
+abbrev pub again_inner : AgainNodes → List ℕ
+again_inner c =
     c.answer ∷ c.turn ∷ c.joined ∷ c.eval ∷ c.any ∷ c.leave ∷ (latches_of c.branches ++ starts_of c.branches)
 
 abbrev pub repeating_of : AgainNodes → Repeating
@@ -78,7 +78,7 @@ repeating_of c =
     record { request = c.request; joined = c.joined; leave = c.leave; turn = choosing_of c.turn c.any c.branches }
 
 abbrev pub again_owned : AgainNodes → List Owned
-again_owned c = owned_at (again_own c) (again_rules (repeating_of c))
+again_owned c = owned_at (again_inner c) (again_rules (repeating_of c))
 
 -- no rail of a guard is high
 abbrev pub guards_neutral : (ℕ → Bool) → List Branch → Bool
@@ -98,18 +98,18 @@ guards_false v bs = list_all (λ (b : Branch). v b.guard.f) bs
 
 -- A branch with those before it and those behind it, since a guard is judged beside all others. Below: each branch of a
 -- list so.
-pub record Place : Type 0 where
+pub record BranchPlace : Type 0 where
   pub before : List Branch
   pub this : Branch
   pub behind : List Branch
 
-abbrev pub places_from : (before behind : List Branch) → List Place
+abbrev pub places_from : (before behind : List Branch) → List BranchPlace
 places_from before [] = []
 places_from before (b ∷ behind) = record { before = before; this = b; behind = behind }
     ∷ places_from (before ++ b ∷ []) behind
 
 -- its guard is true, and those of all others are false
-abbrev pub alone_true : (ℕ → Bool) → Place → Bool
+abbrev pub alone_true : (ℕ → Bool) → BranchPlace → Bool
 alone_true v p = v p.this.guard.t && (guards_false v p.before && guards_false v p.behind)
 
 -- exactly one guard is true, by the rails that are high for true
@@ -145,8 +145,8 @@ abbrev pub once : Wire → Wire
 once w = wire w.node (λ m. w.rises m && not (m.noted w.node)) w.falls
 
 -- A rail rises where the guards are asked for and neither rail of its guard is high, and falls where they aren't.
-abbrev pub rail_wire : (eval : ℕ) → Pair → ℕ → Wire
-rail_wire eval p rail = wire rail (λ m. m.value eval && (not (m.value p.t) && not (m.value p.f)))
+abbrev pub guard_wire : (eval : ℕ) → Pair → ℕ → Wire
+guard_wire eval p rail = wire rail (λ m. m.value eval && (not (m.value p.t) && not (m.value p.f)))
     (λ m. not (m.value eval))
 
 -- A branch's answer follows its start.
@@ -155,7 +155,7 @@ answer_wire b = wire b.answer (λ m. m.value b.start) (λ m. not (m.value b.star
 
 abbrev pub branch_wires : (eval : ℕ) → List Branch → List Wire
 branch_wires eval [] = []
-branch_wires eval (b ∷ bs) = rail_wire eval b.guard b.guard.t ∷ rail_wire eval b.guard b.guard.f ∷ answer_wire b
+branch_wires eval (b ∷ bs) = guard_wire eval b.guard b.guard.t ∷ guard_wire eval b.guard b.guard.f ∷ answer_wire b
     ∷ branch_wires eval bs
 
 -- The request is raised where the answer is low, and lowered where it is high.
@@ -172,7 +172,7 @@ eval_wire request answer eval bs =
 
 -- The one branch whose guard alone was true is started, under the request, once the guards are let go and no branch is
 -- under way; its start falls where it has answered.
-abbrev pub start_wire : (request answer eval : ℕ) → List Branch → Place → Wire
+abbrev pub start_wire : (request answer eval : ℕ) → List Branch → BranchPlace → Wire
 start_wire request answer eval bs p =
     wire p.this.start
     (λ m. m.value request && (alone_true m.noted p
@@ -198,7 +198,7 @@ select_part c = record {
   promises = select_answer c ∷ map once (eval_wire c.request c.answer c.eval c.branches
       ∷ start_wires c.request c.answer c.eval c.branches);
   allows = request_wire c.request c.answer ∷ branch_wires c.eval c.branches;
-  lows = select_own c;
+  lows = select_inner c;
   bits = [];
   ports = c.request ∷ c.answer ∷ [];
   blocked = λ v. guards_valid v c.branches && not (one_true v c.branches);
@@ -228,7 +228,7 @@ again_part c = record {
   promises = again_answer c ∷ map (rises_under c.request) (eval_wire c.turn c.answer c.eval c.branches
       ∷ map once (start_wires c.turn c.answer c.eval c.branches));
   allows = request_wire c.request c.answer ∷ branch_wires c.eval c.branches;
-  lows = again_own c;
+  lows = again_inner c;
   bits = [];
   ports = c.request ∷ c.answer ∷ [];
   blocked = λ v. guards_valid v c.branches && (not (none_true v c.branches) && not (one_true v c.branches));

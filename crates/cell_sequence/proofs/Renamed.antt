@@ -10,7 +10,7 @@ use Rattle.prs_core.specs.declared.rule.Literal.{Literal}
 use Rattle.prs_core.specs.Nets.{GuardValue}
 use Rattle.prs_core.specs.Moves.{guard_holds, term_holds}
 use Rattle.prs_core.specs.Pairs.{Pair}
-use Rattle.prs_core.specs.Parts.{Part, Owned, owned, Wire, wire, Moment, IsMove, IsKept, Keeps, Reached, at_first, and_then, all_low, is_valid, turned, after, fires, may_move}
+use Rattle.prs_core.specs.Parts.{Part, Owned, owned, Wire, wire, Moment, IsMove, IsKept, Keeps, Reached, at_first, and_then, all_low, is_valid, turned, moment_after, fires, may_move}
 use Rattle.prs_core.specs.Turning.{among_mapped, mapped_among}
 
 abbrev pub IsOneToOne : (ℕ → ℕ) → Type 0
@@ -85,7 +85,7 @@ module _ (to : ℕ → ℕ) (one : IsOneToOne to) (notes : Moment → ℕ → �
   abbrev new : Part
   new = renamed to notes p
 
-  after_seen : (m : Moment) (node : ℕ) → seen to (after new m (to node)) ≡ after p (seen to m) node
+  after_seen : (m : Moment) (node : ℕ) → seen to (moment_after new m (to node)) ≡ moment_after p (seen to m) node
   after_seen m node =
       ap (λ (v : ℕ → Bool). let n : Moment = record { value = v; noted = λ k. notes m (to node) (to k) } in n) (turned_same to one m.value node)
       ∙ ap (λ (a : ℕ → Bool). let n : Moment = record { value = turned (λ k. m.value (to k)) node; noted = a } in n) (fun_ext (agree m node))
@@ -110,7 +110,7 @@ module _ (to : ℕ → ℕ) (one : IsOneToOne to) (notes : Moment → ℕ → �
       })
   reached_seen m (and_then before node reached move) =
       let (k, at, move_k) = move_seen before node move in
-      subst (λ n. Reached p (seen to (after new before n))) (sym at)
+      subst (λ n. Reached p (seen to (moment_after new before n))) (sym at)
           (subst (Reached p) (sym (after_seen before k)) (and_then (seen to before) k (reached_seen before reached) move_k))
 
   kept_seen : (m : Moment) → IsKept p (seen to m) → IsKept new m

@@ -7,14 +7,14 @@ use Rattle.std.proofs.lemmas.Bool.{true≢false, or_cases, not-true, eqb-true, e
 use Rattle.std.proofs.lemmas.List.Elements.{All-nil, All-cons}
 use Rattle.std.proofs.lemmas.List.Folds.{Any-from_list_any}
 use Rattle.prs_core.specs.Moves.{guard_holds}
-use Rattle.prs_core.specs.Parts.{Part, Owned, Wire, Moment, IsFirst, Keeps, all_low, is_valid, turned, after, fires, may_move}
+use Rattle.prs_core.specs.Parts.{Part, Owned, Wire, Moment, IsFirstState, Keeps, all_low, is_valid, turned, moment_after, fires, may_move}
 use Rattle.prs_core.specs.Keeping.{OwnKeeps, EachKeeps, kept_by_each}
 use Rattle.prs_core.specs.Deciding.{implies, implies_at, left_of, right_of, both_of}
 
 -- an enabled rule moves only a wire that is to move, goes to a legal moment, and no other move disables it
 abbrev pub own_test : (p : Part) (legal : Moment → Bool) (m : Moment) → Owned → Bool
 own_test p legal m o =
-    legal (after p m o.node)
+    legal (moment_after p m o.node)
     && (list_all (λ (w : Wire). implies (w.node == o.node) (may_move m w)) p.promises
     && (list_all (λ (other : Owned). implies (fires m.value other) (other.node == o.node || fires (turned m.value other.node) o)) p.own
     && list_all (λ (w : Wire). implies (may_move m w) (w.node == o.node || fires (turned m.value w.node) o)) p.allows))
@@ -26,7 +26,7 @@ waits_test p m = list_any (λ o. fires m.value o) p.own || (list_any (λ w. may_
 abbrev pub moment_test : (p : Part) (legal : Moment → Bool) (m : Moment) → Bool
 moment_test p legal m =
     list_all (λ (o : Owned). implies (fires m.value o) (own_test p legal m o)) p.own
-    && (list_all (λ (w : Wire). implies (may_move m w) (legal (after p m w.node))) p.allows
+    && (list_all (λ (w : Wire). implies (may_move m w) (legal (moment_after p m w.node))) p.allows
     && (list_all (λ (o : Owned). not (guard_holds m.value o.rules.up && guard_holds m.value o.rules.down)) p.own
     && (implies (all_low m.value p.ports) (all_low m.value p.lows)
     && (implies (all_low m.value p.ports) (list_all (is_valid m.value) p.bits)
@@ -49,7 +49,7 @@ own_from : (p : Part) (legal : Moment → Bool) (m : Moment) (o : Owned) → own
 own_from p legal m o h =
     let promises = list_all (λ (w : Wire). implies (w.node == o.node) (may_move m w)) p.promises in
     let own = list_all (λ (other : Owned). implies (fires m.value other) (other.node == o.node || fires (turned m.value other.node) o)) p.own in
-    let h2 = right_of (legal (after p m o.node)) _ h in
+    let h2 = right_of (legal (moment_after p m o.node)) _ h in
     let h3 = right_of promises _ h2 in record {
       goes = left_of _ _ h;
       promised = all_of (λ (w : Wire). implies (w.node == o.node) (may_move m w)) (λ (w : Wire). w.node ≡ o.node →
@@ -81,7 +81,7 @@ waits_from p m h none =
 each_from : (p : Part) (legal : Moment → Bool) (m : Moment) → moment_test p legal m ≡ true → EachKeeps p (λ m. legal m ≡ true) m
 each_from p legal m h =
     let own = λ (o : Owned). implies (fires m.value o) (own_test p legal m o) in
-    let outside = λ (w : Wire). implies (may_move m w) (legal (after p m w.node)) in
+    let outside = λ (w : Wire). implies (may_move m w) (legal (moment_after p m w.node)) in
     let apart = λ (o : Owned). not (guard_holds m.value o.rules.up && guard_holds m.value o.rules.down) in
     let lows = implies (all_low m.value p.ports) (all_low m.value p.lows) in
     let bits = implies (all_low m.value p.ports) (list_all (is_valid m.value) p.bits) in
@@ -91,7 +91,7 @@ each_from p legal m h =
     let h5 = right_of lows _ h4 in record {
       own = all_of own (λ (o : Owned). fires m.value o ≡ true → OwnKeeps p (λ m. legal m ≡ true) m o) (λ o t fire. own_from p legal m o (implies_at _ _ t fire))
           p.own (left_of _ _ h);
-      outside = all_of outside (λ (w : Wire). may_move m w ≡ true → legal (after p m w.node) ≡ true) (λ w t may. implies_at _ _ t may) p.allows
+      outside = all_of outside (λ (w : Wire). may_move m w ≡ true → legal (moment_after p m w.node) ≡ true) (λ w t may. implies_at _ _ t may) p.allows
           (left_of _ _ h2);
       apart = all_of apart (λ (o : Owned). (guard_holds m.value o.rules.up && guard_holds m.value o.rules.down) ≡ false) (λ o t. not-true _ t) p.own
           (left_of _ _ h3);
@@ -100,7 +100,7 @@ each_from p legal m h =
       waits = waits_from p m (right_of bits _ h5);
     }
 
-first_from : (p : Part) (legal : Moment → Bool) (v : ℕ → Bool) → first_test p legal v ≡ true → IsFirst p v →
+first_from : (p : Part) (legal : Moment → Bool) (v : ℕ → Bool) → first_test p legal v ≡ true → IsFirstState p v →
     legal (record { value = v; noted = λ n. false }) ≡ true
 first_from p legal v h is = implies_at _ _ h (both_of _ _ is.outside (both_of _ _ is.own is.bits))
 

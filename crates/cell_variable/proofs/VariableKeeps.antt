@@ -6,12 +6,12 @@ use Rattle.std.proofs.lemmas.Bool.{cases_eq, cases_lt, or_cases}
 use Rattle.std.proofs.lemmas.List.Elements.{All-contains, Contains-get_or, Contains-append_left, Contains-append_right, Contains-append_cases}
 use Rattle.prs_core.specs.Moves.{guard_holds}
 use Rattle.prs_core.specs.Pairs.{rails_of}
-use Rattle.prs_core.specs.Parts.{Owned, Part, Wire, Moment, IsFirst, IsMove, IsKept, Keeps, after, owned, wire, fires, turned, may_move, all_low, is_valid}
+use Rattle.prs_core.specs.Parts.{Owned, Part, Wire, Moment, IsFirstState, IsMove, IsKept, Keeps, moment_after, owned, wire, fires, turned, may_move, all_low, is_valid}
 use Rattle.prs_core.specs.Keeping.{kept_by}
 use Rattle.prs_core.specs.Turning.{turned_here, turned_apart, among_cases, none_among, among_mapped, mapped_among}
 use Rattle.prs_core.specs.Deciding.{left_of, right_of, both_of}
 use Rattle.cell_parallel.specs.Trees.{tree_owned, tree_rules}
-use Rattle.cell_parallel.specs.TreeParts.{IsOutside, AreOutside, IsSettled, TreeMove, by_rule, of_leaf, elsewhere, Settles}
+use Rattle.cell_parallel.specs.TreeParts.{IsOutsideTree, AreOutside, IsTreeSettled, TreeMove, by_rule, of_leaf, elsewhere, Settles}
 use Rattle.cell_variable.specs.Variables.{Bit, bit_at, bits_from, kept_rail, bit_written, bit_owned, written_leaves, all_written, variable_owned}
 use Rattle.cell_variable.specs.VariableParts.{has_written, bit_promises, bit_allows, variable_part}
 use Rattle.cell_variable.proofs.Filled.{leaves_length}
@@ -62,11 +62,11 @@ module _ (width from : ℕ) (some : 1 ≤ width) (settles : (leaves : List ℕ) 
   behind : (o : Owned) → Contains tree o → tree_from ≤ o.node
   behind o among = not_before tree_from (tree_rules leaves tree_from) o among
 
-  outside : (node : ℕ) → node < tree_from → IsOutside leaves tree_from node
+  outside : (node : ℕ) → node < tree_from → IsOutsideTree leaves tree_from node
   outside node before = all_from (λ (o : Owned). o.node ≢ node) tree (λ o among e. let far = behind o among in omega (arith, before, far, e))
 
   are_outside : AreOutside leaves tree_from
-  are_outside = all_from (IsOutside leaves tree_from) leaves (λ leaf among.
+  are_outside = all_from (IsOutsideTree leaves tree_from) leaves (λ leaf among.
       let (s, bit, at) = leaf_bit width from leaf among in
       let within = bit_within s bit in
       outside leaf (omega (arith, at, within.1)))
@@ -116,15 +116,15 @@ module _ (width from : ℕ) (some : 1 ≤ width) (settles : (leaves : List ℕ) 
       by (inl before) write_t = inl (omega (arith, at, is, before))
       by (inl before) write_f = inl (omega (arith, at, is, before))
       by (inl before) written = inl (omega (arith, at, is, before))
-      by (inr after) k = inr (past (cases_eq i j) k)
+      by (inr moment_after) k = inr (past (cases_eq i j) k)
         where
           past : (i ≡ j) ⊎ (i ≢ j) → (k : Role) → t + 5 ≤ place k s
           past (inl e) k = absurd (ne (omega (arith, at, is, e)))
-          past (inr other) rail_t = omega (arith, at, is, after, other)
-          past (inr other) rail_f = omega (arith, at, is, after, other)
-          past (inr other) write_t = omega (arith, at, is, after, other)
-          past (inr other) write_f = omega (arith, at, is, after, other)
-          past (inr other) written = omega (arith, at, is, after, other)
+          past (inr other) rail_t = omega (arith, at, is, moment_after, other)
+          past (inr other) rail_f = omega (arith, at, is, moment_after, other)
+          past (inr other) write_t = omega (arith, at, is, moment_after, other)
+          past (inr other) write_f = omega (arith, at, is, moment_after, other)
+          past (inr other) written = omega (arith, at, is, moment_after, other)
 
   -- a move is at a bit, or in the tree
   data Moved (v : ℕ → Bool) (node : ℕ) : Type 0 where
@@ -225,12 +225,12 @@ module _ (width from : ℕ) (some : 1 ≤ width) (settles : (leaves : List ℕ) 
           (ap (turned v (s + 4)) e ∙ (turned_here v (s + 4) ∙ ap (λ n. not (v n)) (sym e)))
           (table.stays_alone (now v (v ack) s) l m)
 
-  leaf_turned : (v : ℕ → Bool) (o : Owned) → IsSettled leaves tree_from v → Contains tree o → fires v o ≡ true → o.node ≡ ack → (s : ℕ) → IsBit width from s →
+  leaf_turned : (v : ℕ → Bool) (o : Owned) → IsTreeSettled leaves tree_from v → Contains tree o → fires v o ≡ true → o.node ≡ ack → (s : ℕ) → IsBit width from s →
       v (s + 4) ≡ not (v ack)
   leaf_turned v o settled among f at s bit =
       All-contains (λ leaf. v leaf ≡ not (v ack)) leaves (s + 4) (known.turns v o settled among f at) (bit_leaf width from s bit)
 
-  legal_kept : (v : ℕ → Bool) (node : ℕ) → Legal v → IsSettled leaves tree_from v → Moved v node → Legal (turned v node)
+  legal_kept : (v : ℕ → Bool) (node : ℕ) → Legal v → IsTreeSettled leaves tree_from v → Moved v node → Legal (turned v node)
   legal_kept v node l settled (at_bit s bit k m at) t other =
       subst (λ n. legal (now (turned v n) (turned v n ack) t) ≡ true) (sym at) (by (cases_eq s t))
     where
@@ -276,9 +276,9 @@ module _ (width from : ℕ) (some : 1 ≤ width) (settles : (leaves : List ℕ) 
 
   pub record Holds (m : Moment) : Type 0 where
     pub legal : Legal m.value
-    pub settled : IsSettled leaves tree_from m.value
+    pub settled : IsTreeSettled leaves tree_from m.value
 
-  first : (v : ℕ → Bool) → IsFirst part v → Holds (record { value = v; noted = λ n. false })
+  first : (v : ℕ → Bool) → IsFirstState part v → Holds (record { value = v; noted = λ n. false })
   first v is = record {
     legal = λ s bit.
         let low = writes s bit in
@@ -335,7 +335,7 @@ module _ (width from : ℕ) (some : 1 ≤ width) (settles : (leaves : List ℕ) 
       by (inl e) = turned_by e (table.role_cases k j)
       by (inr far) = carry (may k) _ s (now v (v ack) s) (v ack) (five_beside v (v ack) s (place j t) (bits_apart t s other bit far j)) refl m
 
-  firm : (v : ℕ → Bool) (o : Owned) (node : ℕ) → Legal v → IsSettled leaves tree_from v → Mine o → fires v o ≡ true → Moved v node → node ≢ o.node →
+  firm : (v : ℕ → Bool) (o : Owned) (node : ℕ) → Legal v → IsTreeSettled leaves tree_from v → Mine o → fires v o ≡ true → Moved v node → node ≢ o.node →
       fires (turned v node) o ≡ true
   firm v o node l settled (of_tree among) f move ne = known.firm v o node settled among f (tree_move v node l move) ne
   firm v o node l settled (of_bit s bit k own at same pulled) f move ne =
@@ -346,7 +346,7 @@ module _ (width from : ℕ) (some : 1 ≤ width) (settles : (leaves : List ℕ) 
       (λ m. all_low m.value (rails_of (map (λ (b : Bit). b.w) (bits_from width from))))
 
   -- the acknowledge turns once each bit is ready
-  ready_bits : (v : ℕ → Bool) (o : Owned) → Legal v → IsSettled leaves tree_from v → Mine o → fires v o ≡ true → o.node ≡ ack → (s : ℕ) → IsBit width from s →
+  ready_bits : (v : ℕ → Bool) (o : Owned) → Legal v → IsTreeSettled leaves tree_from v → Mine o → fires v o ≡ true → o.node ≡ ack → (s : ℕ) → IsBit width from s →
       ready (now v (v ack) s) ≡ true
   ready_bits v o l settled (of_tree among) f at s bit = table.ready_after (now v (v ack) s) (l s bit) (leaf_turned v o settled among f at s bit)
   ready_bits v o l settled (of_bit t other k own here same pulled) f at s bit = by k own (sym here ∙ at) (sym (same v (v ack)) ∙ f)
@@ -445,7 +445,7 @@ module _ (width from : ℕ) (some : 1 ≤ width) (settles : (leaves : List ℕ) 
         (low_from_not (v (s + 2)) (left_of (not (v (s + 2))) _ both), low_from_not (v (s + 3)) (right_of (not (v (s + 2))) _ both));
   }
 
-  lows : (v : ℕ → Bool) → Legal v → IsSettled leaves tree_from v → Idle v → all_low v part.lows ≡ true
+  lows : (v : ℕ → Bool) → Legal v → IsTreeSettled leaves tree_from v → Idle v → all_low v part.lows ≡ true
   lows v l settled idle =
       each_low v part.lows (λ n among. by n (Contains-append_cases leaves (map (λ (o : Owned). o.node) tree) n among))
     where
@@ -490,7 +490,7 @@ module _ (width from : ℕ) (some : 1 ≤ width) (settles : (leaves : List ℕ) 
           (at_one s bit (owned (s + 1) (kept_rail (s + 3) s (s + 2))) (1, omega arith, refl))
           (at_one s bit (owned (s + 4) (bit_written (bit_at s))) (2, omega arith, refl)))
 
-  kept : (m : Moment) (node : ℕ) → Holds m → IsMove part m node → Holds (after part m node)
+  kept : (m : Moment) (node : ℕ) → Holds m → IsMove part m node → Holds (moment_after part m node)
   kept m node h move =
       let at = moved m node move in record {
         legal = legal_kept m.value node h.legal h.settled at;

@@ -12,7 +12,7 @@ use Rattle.clap.specs.Lexer.{has_byte, long_of, name_and_value}
 use Rattle.clap.specs.Walk.{Held, Rule, Text, Walk, arg_by_long, finished, first_of, idle, nothing_held, reacted, walk, walked}
 use Rattle.clap.specs.Simple.{Shape, built, entered, filled, with_index}
 use Rattle.clap.specs.Takes.{default_passes, entered_passes, is_valid, settle_passes, flag_word_passes, flags_pass, level_passes, long_passes, takes, turn_passes, walk_passes}
-use Rattle.chp_cli.specs.Commands.{Asked, compiles, compile_form, compile_of, compile_with, has_reset, is_flag, plain_compile, plain_file, reset_rule, without_reset}
+use Rattle.chp_cli.specs.Commands.{Asked, compiles, compile_form, compile_of, compile_with, asks_reset, is_flag, plain_compile, plain_file, reset_rule, without_reset}
 use Rattle.chp_cli.specs.Forms.{texts_of}
 use Rattle.chp_cli.proofs.Plain.{IsPlain, plain_word, first_char, behind_hyphen, dashes}
 
@@ -352,9 +352,9 @@ behind_file a (b ∷ rest) f t r = second b rest (sort_of b)
     second b (c ∷ rest) a_tail = rw (t, r) refl
     second b rest a_reset = rw (t, r) (behind_both a rest f t)
     second b rest (a_flag g s q) = rw (s, q, g, t,
-        r) (sym (either_none (has_reset rest) _ _ (two_none a b (without_reset rest) f t s) (two_none a b rest f t s)))
+        r) (sym (either_none (asks_reset rest) _ _ (two_none a b (without_reset rest) f t s) (two_none a b rest f t s)))
     second b rest (a_plain g s q) = rw (s, q, g, t,
-        r) (sym (either_none (has_reset rest) _ _ (two_none a b (without_reset rest) f t s) (two_none a b rest f t s)))
+        r) (sym (either_none (asks_reset rest) _ _ (two_none a b (without_reset rest) f t s) (two_none a b rest f t s)))
 
 file_met : (a : Text) (rest : List Text) → is_flag a ≡ false → bytes_eq a dashes ≡ false → bytes_eq a flag_word ≡ false
     → read nothing false (a ∷ rest) ≡ read (the_file a) false rest
@@ -369,7 +369,7 @@ read_plainly (a ∷ rest) = turn a rest (sort_of a)
     turn a (b ∷ []) a_tail = refl
     turn a (b ∷ c ∷ rest) a_tail = refl
     turn a rest a_reset = behind_flag rest
-    turn a rest (a_flag f t r) = rw (t, r, f) (sym (either_none (has_reset rest) _ _ (flag_none a (without_reset rest) f t) (flag_none a rest f t)))
+    turn a rest (a_flag f t r) = rw (t, r, f) (sym (either_none (asks_reset rest) _ _ (flag_none a (without_reset rest) f t) (flag_none a rest f t)))
     turn a rest (a_plain f t r) = file_met a rest f t r ∙ behind_file a rest f t r
 
 compile_outcome : (name : Text) (words : List Text) → compile_of name words ≡ outcome name (at nothing false) words

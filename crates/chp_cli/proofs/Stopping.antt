@@ -13,7 +13,7 @@ use Rattle.chp_cli.specs.declared.answer.Stop.{Stop}
 use Rattle.chp_cli.specs.declared.answer.Stop.TheVariants.{Refused, Unread, NoMemory}
 use Rattle.chp_cli.specs.Answers.{Given, Gives, Answer, misses, refuses}
 use Rattle.chp_cli.specs.Lines.{too_long_line}
-use Rattle.chp_cli.specs.Replies.{Halts, IsUnread, Stops, written}
+use Rattle.chp_cli.specs.Replies.{Halts, IsUnread, Stops, told_answer}
 use Rattle.chp_cli.specs.Steps.{FromFile, no_file, long_file, a_file, FromProgram, no_program, a_program, FromChecks, has_calls, faulty, accepted, FromNodes, too_many, few_enough, FromNet, no_net, a_net, IsTextOf, IsFileOf, Never}
 
 -- ---- a step by itself is the same step of a command
@@ -89,8 +89,8 @@ err_in (Ok value) P Q is p = tt
 err_in (Err e) P Q is p = is e p
 
 module _ (text : List ℕ) (program : ProgramTree) (Next : ProgramTree → Answer → Type 0) (read : IsTextOf text program) (r : Result Output Stop) where
-  pub program_answers : IfOk r (λ output. Next program (written output)) → IfOk r (λ output. FromProgram text Next (written output))
-  program_answers = ok_in r (λ output. Next program (written output)) (λ output. FromProgram text Next (written output)) (λ output is. a_program read is)
+  pub program_answers : IfOk r (λ output. Next program (told_answer output)) → IfOk r (λ output. FromProgram text Next (told_answer output))
+  program_answers = ok_in r (λ output. Next program (told_answer output)) (λ output. FromProgram text Next (told_answer output)) (λ output is. a_program read is)
 
   pub program_stops : IfErr r (Halts (Next program)) → IfErr r (Halts (FromProgram text Next))
   program_stops = err_in r (Halts (Next program)) (Halts (FromProgram text Next))
@@ -99,25 +99,25 @@ module _ (text : List ℕ) (program : ProgramTree) (Next : ProgramTree → Answe
 -- the checks, of whose program this is the typed form
 module _ (program : ProgramTree) (typed form : TypedProgram) (Next : TypedProgram → Answer → Type 0) (same : typed ≡ form) (is_accepted : IsAccepted program)
     (r : Result Output Stop) where
-  pub form_answers : IfOk r (λ output. Next typed (written output)) → IfOk r (λ output. FromChecks program (Next form) (written output))
-  form_answers = ok_in r (λ output. Next typed (written output)) (λ output. FromChecks program (Next form) (written output))
-      (λ output is. accepted is_accepted (subst (λ p. Next p (written output)) same is))
+  pub form_answers : IfOk r (λ output. Next typed (told_answer output)) → IfOk r (λ output. FromChecks program (Next form) (told_answer output))
+  form_answers = ok_in r (λ output. Next typed (told_answer output)) (λ output. FromChecks program (Next form) (told_answer output))
+      (λ output is. accepted is_accepted (subst (λ p. Next p (told_answer output)) same is))
 
   pub form_stops : IfErr r (Halts (Next typed)) → IfErr r (Halts (FromChecks program (Next form)))
   form_stops = err_in r (Halts (Next typed)) (Halts (FromChecks program (Next form)))
       (halts_in (Next typed) (FromChecks program (Next form)) (λ answer is. accepted is_accepted (subst (λ p. Next p answer) same is)))
 
 module _ (text : List ℕ) (net : NetValue) (Next : NetValue → Answer → Type 0) (read : IsFileOf text net) (r : Result Output Stop) where
-  pub net_answers : IfOk r (λ output. Next net (written output)) → IfOk r (λ output. FromNet text Next (written output))
-  net_answers = ok_in r (λ output. Next net (written output)) (λ output. FromNet text Next (written output)) (λ output is. a_net read is)
+  pub net_answers : IfOk r (λ output. Next net (told_answer output)) → IfOk r (λ output. FromNet text Next (told_answer output))
+  net_answers = ok_in r (λ output. Next net (told_answer output)) (λ output. FromNet text Next (told_answer output)) (λ output is. a_net read is)
 
   pub net_stops : IfErr r (Halts (Next net)) → IfErr r (Halts (FromNet text Next))
   net_stops = err_in r (Halts (Next net)) (Halts (FromNet text Next)) (halts_in (Next net) (FromNet text Next) (λ answer is. a_net read is))
 
 module _ (given : Given) (name : List ℕ) (most : ℕ) (text : List ℕ) (Next : List ℕ → Answer →
     Type 0) (gives : Gives given name text) (short : length text ≤ most) (r : Result Output Stop) where
-  pub file_answers : IfOk r (λ output. Next text (written output)) → IfOk r (λ output. FromFile given name most Next (written output))
-  file_answers = ok_in r (λ output. Next text (written output)) (λ output. FromFile given name most Next (written output)) (λ output is. a_file gives short is)
+  pub file_answers : IfOk r (λ output. Next text (told_answer output)) → IfOk r (λ output. FromFile given name most Next (told_answer output))
+  file_answers = ok_in r (λ output. Next text (told_answer output)) (λ output. FromFile given name most Next (told_answer output)) (λ output is. a_file gives short is)
 
   pub file_stops : (files : List (List ℕ)) (before after : ℕ) → IfErr r (Halts (Next text)) →
       IfErr r (Stops (FromFile given name most Next) files given before after)

@@ -110,9 +110,9 @@ plain_file (first ∷ second ∷ []) = if bytes_eq first (codes "--") then Some 
 plain_file _ = None
 
 -- `--reset` stands among the words, and no `--` before it
-abbrev pub has_reset : List Text → Bool
-has_reset [] = false
-has_reset (word ∷ rest) = not (bytes_eq word (codes "--")) && (bytes_eq word (codes "--reset") || has_reset rest)
+abbrev pub asks_reset : List Text → Bool
+asks_reset [] = false
+asks_reset (word ∷ rest) = not (bytes_eq word (codes "--")) && (bytes_eq word (codes "--reset") || asks_reset rest)
 
 -- the words without the first `--reset`
 abbrev pub without_reset : List Text → List Text
@@ -121,7 +121,7 @@ without_reset (word ∷ rest) = if bytes_eq word (codes "--reset") then rest els
 
 -- the words of `compile`: those of a file, and `--reset` once at most at any place before `--`
 abbrev pub plain_compile : List Text → Option Asked
-plain_compile words = if has_reset words
+plain_compile words = if asks_reset words
     then option_map (λ file. compiles file true) (plain_file (without_reset words))
     else option_map (λ file. compiles file false) (plain_file words)
 

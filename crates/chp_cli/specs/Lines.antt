@@ -8,7 +8,7 @@ use Rattle.chp_base.specs.declared.fault.FaultCode.TheVariants as code
 use Rattle.chp_base.specs.Faults.{number_of}
 use Rattle.prs_file.specs.declared.fault.NetFault.{NetFault}
 use Rattle.prs_file.specs.declared.fault.NetFault.TheVariants as net
-use Rattle.prs_file.specs.Faults.{number_of as net_number}
+use Rattle.prs_file.specs.Faults.{net_fault_number as net_number}
 
 -- ---- of the call
 

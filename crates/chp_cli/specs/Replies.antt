@@ -13,8 +13,8 @@ use Rattle.chp_cli.specs.declared.status.Status.TheVariants as status
 use Rattle.chp_cli.specs.Answers.{Given, Answer, writes, refuses, misses, status_with, line_with}
 use Rattle.chp_cli.specs.Lines.{usage_line, read_line, write_line, no_memory_line, refused_line, too_long_line, nodes_line, bad_net_line, not_built_line}
 
-abbrev pub written : Output → Answer
-written output = writes output.end output.text.items
+abbrev pub told_answer : Output → Answer
+told_answer output = writes output.end output.text.items
 
 abbrev pub refusal_status : Refusal → Status
 refusal_status (Text fault) = status.RefusedText

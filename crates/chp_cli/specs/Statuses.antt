@@ -3,16 +3,16 @@ use Rattle.std.specs.Prelude.{ℕ, Bool, true, false}
 use Rattle.chp_cli.specs.declared.status.Status.{Status}
 use Rattle.chp_cli.specs.declared.status.Status.TheVariants.{Done, RefusedText, Usage, Read, Write, NoMemory, TooLarge, BadFile, NotBuilt}
 
-abbrev pub number_of : Status → ℕ
-number_of Done = 0
-number_of RefusedText = 1
-number_of Usage = 2
-number_of Read = 3
-number_of Write = 4
-number_of NoMemory = 6
-number_of TooLarge = 7
-number_of BadFile = 8
-number_of NotBuilt = 19
+abbrev pub status_number : Status → ℕ
+status_number Done = 0
+status_number RefusedText = 1
+status_number Usage = 2
+status_number Read = 3
+status_number Write = 4
+status_number NoMemory = 6
+status_number TooLarge = 7
+status_number BadFile = 8
+status_number NotBuilt = 19
 
 -- the statuses with which the whole output was written
 abbrev pub is_whole : Status → Bool

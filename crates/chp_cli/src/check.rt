@@ -2,10 +2,10 @@
 
 ghost use Rattle.std.specs.Prelude.{◌≡◌, ◌≤◌, ◌∷◌, [], length, IfOk, IfErr};
 ghost use Rattle.chp_syntax.specs.Shape.{IsShaped};
-ghost use Rattle.chp_syntax.specs.View.{program_of};
+ghost use Rattle.chp_syntax.specs.View.{program_tree};
 ghost use Rattle.chp_cli.specs.Answers.{given_by};
 ghost use Rattle.chp_cli.specs.Checking.{Checks, ChecksProgram, accepted_text};
-ghost use Rattle.chp_cli.specs.Replies.{Halts, Stops, written};
+ghost use Rattle.chp_cli.specs.Replies.{Halts, Stops, told_answer};
 ghost use Rattle.chp_cli.specs.Steps.{FromProgram, most_of_text};
 
 use crate::answer::{Ending, Output, Stop};
@@ -28,10 +28,10 @@ fn accepted_text(alloc: Global, nodes: u64) -> Result<Vec<u8>, AllocError>
 }
 
 fn check_program<'a>(alloc: Global, program: &Program) -> Result<Output, Stop<'a>>
-    requires shaped { IsShaped (program_of program.now) }
+    requires shaped { IsShaped (program_tree program.now) }
     requires few { program.now.procs.items ≡ [] → length program.now.decls.items ≤ most_of_text }
-    ensures answered { IfOk result (λ output. ChecksProgram (program_of program.now) (written output)) }
-    ensures stopped { IfErr result (Halts (ChecksProgram (program_of program.now))) }
+    ensures answered { IfOk result (λ output. ChecksProgram (program_tree program.now) (told_answer output)) }
+    ensures stopped { IfErr result (Halts (ChecksProgram (program_tree program.now))) }
 {
     let disjoint = match checked_program(alloc, program) {
         Ok(disjoint) => disjoint,
@@ -48,7 +48,7 @@ fn check_program<'a>(alloc: Global, program: &Program) -> Result<Output, Stop<'a
 
 fn check_text<'a>(alloc: Global, text: &[u8]) -> Result<Output, Stop<'a>>
     requires { length text.now ≤ most_of_text }
-    ensures answered { IfOk result (λ output. FromProgram text.now ChecksProgram (written output)) }
+    ensures answered { IfOk result (λ output. FromProgram text.now ChecksProgram (told_answer output)) }
     ensures stopped { IfErr result (Halts (FromProgram text.now ChecksProgram)) }
 {
     match program_of_text(alloc, text) {
@@ -60,7 +60,7 @@ fn check_text<'a>(alloc: Global, text: &[u8]) -> Result<Output, Stop<'a>>
 /// What `check` answers for the file of this name.
 pub fn check<'a, S: Shelf>(alloc: Global, shelf: &mut S, file: &'a str) -> Result<Output, Stop<'a>>
     ensures answered { IfOk result (λ output. Checks (given_by (S.tells shelf.old) (S.holds shelf.old)) file.entry.now
-        (written output)) }
+        (told_answer output)) }
     ensures stopped { IfErr result (Stops (Checks (given_by (S.tells shelf.old) (S.holds shelf.old)) file.entry.now)
         (file.entry.now ∷ []) (given_by (S.tells shelf.old) (S.holds shelf.old)) (S.faults shelf.old)
         (S.faults shelf.new)) }

@@ -2,14 +2,14 @@
 
 ghost use Rattle.std.specs.Prelude.{◌≡◌, ◌≢◌, ◌≤◌, ◌∷◌, [], All, None, codes, length, if◌then◌else◌, IfOk, IfErr};
 ghost use Rattle.chp_syntax.specs.Shape.{IsShaped};
-ghost use Rattle.chp_syntax.specs.View.{program_of};
+ghost use Rattle.chp_syntax.specs.View.{program_tree};
 ghost use Rattle.prs_core.specs.Nets.{IsNet};
 ghost use Rattle.prs_file.specs.Spelling.{NetText};
 ghost use Rattle.reset_net.specs.Resets.{reset_of};
 ghost use Rattle.width_check.specs.Typed.{program_of as typed_of};
 ghost use Rattle.chp_cli.specs.Answers.{given_by};
 ghost use Rattle.chp_cli.specs.Compiling.{Compiles, CompilesNet, CompilesProgram};
-ghost use Rattle.chp_cli.specs.Replies.{Halts, Stops, written};
+ghost use Rattle.chp_cli.specs.Replies.{Halts, Stops, told_answer};
 ghost use Rattle.chp_cli.specs.Steps.{FromNodes, FromProgram, most_of_text};
 
 use crate::answer::{Ending, Output, Refusal, Stop};
@@ -40,7 +40,7 @@ fn net_text(alloc: Global, net: Net, reset: bool) -> Result<Vec<u8>, AllocError>
 
 /// The rule file of an accepted program.
 fn compile_accepted<'a>(alloc: Global, program: &Disjoint, reset: bool) -> Result<Output, Stop<'a>>
-    ensures answered { IfOk result (λ output. FromNodes (typed_of program.now) (CompilesNet reset) (written output)) }
+    ensures answered { IfOk result (λ output. FromNodes (typed_of program.now) (CompilesNet reset) (told_answer output)) }
     ensures stopped { IfErr result (Halts (FromNodes (typed_of program.now) (CompilesNet reset))) }
 {
     carries_reset();
@@ -61,10 +61,10 @@ fn compile_accepted<'a>(alloc: Global, program: &Disjoint, reset: bool) -> Resul
 }
 
 fn compile_program<'a>(alloc: Global, program: &Program, reset: bool) -> Result<Output, Stop<'a>>
-    requires shaped { IsShaped (program_of program.now) }
+    requires shaped { IsShaped (program_tree program.now) }
     requires few { program.now.procs.items ≡ [] → length program.now.decls.items ≤ most_of_text }
-    ensures answered { IfOk result (λ output. CompilesProgram reset (program_of program.now) (written output)) }
-    ensures stopped { IfErr result (Halts (CompilesProgram reset (program_of program.now))) }
+    ensures answered { IfOk result (λ output. CompilesProgram reset (program_tree program.now) (told_answer output)) }
+    ensures stopped { IfErr result (Halts (CompilesProgram reset (program_tree program.now))) }
 {
     match checked_program(alloc, program) {
         Ok(disjoint) => compile_accepted(alloc, &disjoint, reset),
@@ -74,7 +74,7 @@ fn compile_program<'a>(alloc: Global, program: &Program, reset: bool) -> Result<
 
 fn compile_text<'a>(alloc: Global, text: &[u8], reset: bool) -> Result<Output, Stop<'a>>
     requires { length text.now ≤ most_of_text }
-    ensures answered { IfOk result (λ output. FromProgram text.now (CompilesProgram reset) (written output)) }
+    ensures answered { IfOk result (λ output. FromProgram text.now (CompilesProgram reset) (told_answer output)) }
     ensures stopped { IfErr result (Halts (FromProgram text.now (CompilesProgram reset))) }
 {
     match program_of_text(alloc, text) {
@@ -91,7 +91,7 @@ pub fn compile<'a, S: Shelf>(
     reset: bool,
 ) -> Result<Output, Stop<'a>>
     ensures answered { IfOk result (λ output. Compiles reset (given_by (S.tells shelf.old) (S.holds shelf.old))
-        file.entry.now (written output)) }
+        file.entry.now (told_answer output)) }
     ensures stopped { IfErr result (Stops
         (Compiles reset (given_by (S.tells shelf.old) (S.holds shelf.old)) file.entry.now) (file.entry.now ∷ [])
         (given_by (S.tells shelf.old) (S.holds shelf.old)) (S.faults shelf.old) (S.faults shelf.new)) }

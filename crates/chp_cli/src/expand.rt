@@ -2,12 +2,12 @@
 
 ghost use Rattle.std.specs.Prelude.{◌≡◌, ◌≤◌, ◌∷◌, [], length, IfOk, IfErr};
 ghost use Rattle.chp_syntax.specs.Shape.{IsShaped};
-ghost use Rattle.chp_syntax.specs.View.{program_of};
+ghost use Rattle.chp_syntax.specs.View.{program_tree};
 ghost use Rattle.handshake_expand.specs.Layout.{node_count};
 ghost use Rattle.width_check.specs.Typed.{program_of as typed_of};
 ghost use Rattle.chp_cli.specs.Answers.{given_by};
 ghost use Rattle.chp_cli.specs.Expanding.{Expands, ExpandsProgram, TreeReport, tree_text};
-ghost use Rattle.chp_cli.specs.Replies.{Halts, Stops, written};
+ghost use Rattle.chp_cli.specs.Replies.{Halts, Stops, told_answer};
 ghost use Rattle.chp_cli.specs.Steps.{FromNodes, FromProgram, most_of_nodes, most_of_text};
 
 use crate::answer::{Ending, Output, Stop};
@@ -29,7 +29,7 @@ fn tree_text(alloc: Global, program: &Typed) -> Result<Vec<u8>, AllocError>
 
 /// The tree of parts of an accepted program.
 fn expand_accepted<'a>(alloc: Global, program: &Typed) -> Result<Output, Stop<'a>>
-    ensures answered { IfOk result (λ output. FromNodes (typed_of program.now) TreeReport (written output)) }
+    ensures answered { IfOk result (λ output. FromNodes (typed_of program.now) TreeReport (told_answer output)) }
     ensures stopped { IfErr result (Halts (FromNodes (typed_of program.now) TreeReport)) }
 {
     if let Err(stop) = counted(program) {
@@ -45,10 +45,10 @@ fn expand_accepted<'a>(alloc: Global, program: &Typed) -> Result<Output, Stop<'a
 }
 
 fn expand_program<'a>(alloc: Global, program: &Program) -> Result<Output, Stop<'a>>
-    requires shaped { IsShaped (program_of program.now) }
+    requires shaped { IsShaped (program_tree program.now) }
     requires few { program.now.procs.items ≡ [] → length program.now.decls.items ≤ most_of_text }
-    ensures answered { IfOk result (λ output. ExpandsProgram (program_of program.now) (written output)) }
-    ensures stopped { IfErr result (Halts (ExpandsProgram (program_of program.now))) }
+    ensures answered { IfOk result (λ output. ExpandsProgram (program_tree program.now) (told_answer output)) }
+    ensures stopped { IfErr result (Halts (ExpandsProgram (program_tree program.now))) }
 {
     match checked_program(alloc, program) {
         Ok(disjoint) => expand_accepted(alloc, disjoint.typed()),
@@ -58,7 +58,7 @@ fn expand_program<'a>(alloc: Global, program: &Program) -> Result<Output, Stop<'
 
 fn expand_text<'a>(alloc: Global, text: &[u8]) -> Result<Output, Stop<'a>>
     requires { length text.now ≤ most_of_text }
-    ensures answered { IfOk result (λ output. FromProgram text.now ExpandsProgram (written output)) }
+    ensures answered { IfOk result (λ output. FromProgram text.now ExpandsProgram (told_answer output)) }
     ensures stopped { IfErr result (Halts (FromProgram text.now ExpandsProgram)) }
 {
     match program_of_text(alloc, text) {
@@ -70,7 +70,7 @@ fn expand_text<'a>(alloc: Global, text: &[u8]) -> Result<Output, Stop<'a>>
 /// What `expand` answers for the file of this name.
 pub fn expand<'a, S: Shelf>(alloc: Global, shelf: &mut S, file: &'a str) -> Result<Output, Stop<'a>>
     ensures answered { IfOk result (λ output. Expands (given_by (S.tells shelf.old) (S.holds shelf.old)) file.entry.now
-        (written output)) }
+        (told_answer output)) }
     ensures stopped { IfErr result (Stops (Expands (given_by (S.tells shelf.old) (S.holds shelf.old)) file.entry.now)
         (file.entry.now ∷ []) (given_by (S.tells shelf.old) (S.holds shelf.old)) (S.faults shelf.old)
         (S.faults shelf.new)) }

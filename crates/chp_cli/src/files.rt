@@ -2,7 +2,7 @@
 
 ghost use Rattle.std.specs.Prelude.{◌≡◌, ◌-◌, ◌<◌, ◌≤◌, ◌^◌, ◌∷◌, [], length, IfOk, IfErr, OnOk};
 ghost use Rattle.chp_syntax.specs.Shape.{IsShaped};
-ghost use Rattle.chp_syntax.specs.View.{program_of};
+ghost use Rattle.chp_syntax.specs.View.{program_tree};
 ghost use Rattle.handshake_expand.specs.Layout.{node_count};
 ghost use Rattle.width_check.specs.Accepted.{IsAccepted};
 ghost use Rattle.width_check.specs.Form.{typed_form};
@@ -60,8 +60,8 @@ pub fn text_of_file<'a, S: Shelf>(
 /// The program that the text reads as.
 pub fn program_of_text<'a>(alloc: Global, text: &[u8]) -> Result<Program, Stop<'a>>
     requires { length text.now ≤ most_of_text }
-    ensures read { IfOk result (λ program. IsTextOf text.now (program_of program)) }
-    ensures shaped { IfOk result (λ program. IsShaped (program_of program)) }
+    ensures read { IfOk result (λ program. IsTextOf text.now (program_tree program)) }
+    ensures shaped { IfOk result (λ program. IsShaped (program_tree program)) }
     ensures few { IfOk result (λ program. program.procs.items ≡ [] → length program.decls.items ≤ most_of_text) }
     ensures stopped { IfErr result (Halts (FromProgram text.now Never)) }
 {
@@ -75,11 +75,11 @@ pub fn program_of_text<'a>(alloc: Global, text: &[u8]) -> Result<Program, Stop<'
 /// The program with its names resolved. It is refused for the first fault of its names and widths, or else of sharing;
 /// one with procedures or calls isn't served yet.
 pub fn checked_program<'a>(alloc: Global, program: &Program) -> Result<Disjoint, Stop<'a>>
-    requires shaped { IsShaped (program_of program.now) }
+    requires shaped { IsShaped (program_tree program.now) }
     requires few { program.now.procs.items ≡ [] → length program.now.decls.items ≤ most_of_text }
-    ensures accepted { OnOk result (IsAccepted (program_of program.now)) }
-    ensures form { IfOk result (λ disjoint. typed_of disjoint ≡ typed_form (program_of program.now)) }
-    ensures stopped { IfErr result (Halts (FromChecks (program_of program.now) (Never (program_of program.now)))) }
+    ensures accepted { OnOk result (IsAccepted (program_tree program.now)) }
+    ensures form { IfOk result (λ disjoint. typed_of disjoint ≡ typed_form (program_tree program.now)) }
+    ensures stopped { IfErr result (Halts (FromChecks (program_tree program.now) (Never (program_tree program.now)))) }
 {
     if !is_call_free(program) {
         return Err(Stop::Refused(Refusal::NotBuilt));

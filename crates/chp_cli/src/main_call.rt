@@ -5,7 +5,7 @@ ghost use Rattle.chp_edge.specs.Faults.{Rose, IsReadFault};
 ghost use Rattle.chp_cli.specs.Answers.{Answer, given_by, status_of};
 ghost use Rattle.chp_cli.specs.Commands.{IsAnswer, asked, asked_by, files_of};
 ghost use Rattle.chp_cli.specs.Ends.{AnswersTo, Ends, IsFile};
-ghost use Rattle.chp_cli.specs.Replies.{Stops, end_line, end_status, written};
+ghost use Rattle.chp_cli.specs.Replies.{Stops, end_line, end_status, told_answer};
 ghost use Rattle.chp_cli.specs.Statuses.{is_whole};
 
 use crate::answer::{End, Output, Stop};
@@ -27,7 +27,7 @@ fn answer<'a, S: Shelf>(
     command: &Command<'a>,
 ) -> Result<Output, Stop<'a>>
     ensures answered { IfOk result (λ output.
-        IsAnswer (asked command.now) (given_by (S.tells shelf.old) (S.holds shelf.old)) (written output)) }
+        IsAnswer (asked command.now) (given_by (S.tells shelf.old) (S.holds shelf.old)) (told_answer output)) }
     ensures stopped { IfErr result (Stops
         (IsAnswer (asked command.now) (given_by (S.tells shelf.old) (S.holds shelf.old))) (files_of (asked command.now))
         (given_by (S.tells shelf.old) (S.holds shelf.old)) (S.faults shelf.old) (S.faults shelf.new)) }

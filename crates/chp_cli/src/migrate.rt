@@ -5,7 +5,7 @@ ghost use Rattle.prs_file.specs.Spelling.{NetText};
 ghost use Rattle.reset_net.specs.Resets.{reset_of};
 ghost use Rattle.chp_cli.specs.Answers.{given_by};
 ghost use Rattle.chp_cli.specs.Migrating.{Migrates, MigratesNet, named_reset};
-ghost use Rattle.chp_cli.specs.Replies.{Halts, Stops, written};
+ghost use Rattle.chp_cli.specs.Replies.{Halts, Stops, told_answer};
 ghost use Rattle.chp_cli.specs.Steps.{FromNet, IsFileOf, most_of_net};
 
 use crate::answer::{Ending, Output, Refusal, Stop};
@@ -44,7 +44,7 @@ pub fn reset_text(alloc: Global, net: Net) -> Result<Vec<u8>, AllocError>
 /// else that of the net with a reset node.
 fn migrate_net<'a>(alloc: Global, text: Vec<u8>, net: Net) -> Result<Output, Stop<'a>>
     requires { IsFileOf text.items net }
-    ensures answered { IfOk result (λ output. MigratesNet net (written output)) }
+    ensures answered { IfOk result (λ output. MigratesNet net (told_answer output)) }
     ensures stopped { IfErr result (Halts (MigratesNet net)) }
 {
     if net.reset().is_some() {
@@ -69,7 +69,7 @@ fn migrate_net<'a>(alloc: Global, text: Vec<u8>, net: Net) -> Result<Output, Sto
 
 fn migrate_text<'a>(alloc: Global, text: Vec<u8>) -> Result<Output, Stop<'a>>
     requires { length text.items ≤ most_of_net }
-    ensures answered { IfOk result (λ output. FromNet text.items MigratesNet (written output)) }
+    ensures answered { IfOk result (λ output. FromNet text.items MigratesNet (told_answer output)) }
     ensures stopped { IfErr result (Halts (FromNet text.items MigratesNet)) }
 {
     match net_of_text(alloc, &text) {
@@ -85,7 +85,7 @@ pub fn migrate<'a, S: Shelf>(
     file: &'a str,
 ) -> Result<Output, Stop<'a>>
     ensures answered { IfOk result (λ output. Migrates (given_by (S.tells shelf.old) (S.holds shelf.old)) file.entry.now
-        (written output)) }
+        (told_answer output)) }
     ensures stopped { IfErr result (Stops (Migrates (given_by (S.tells shelf.old) (S.holds shelf.old)) file.entry.now)
         (file.entry.now ∷ []) (given_by (S.tells shelf.old) (S.holds shelf.old)) (S.faults shelf.old)
         (S.faults shelf.new)) }

@@ -1,7 +1,7 @@
 //! How a command ends.
 
 ghost use Rattle.std.specs.Prelude.{◌≡◌};
-ghost use Rattle.chp_cli.specs.Statuses.{number_of};
+ghost use Rattle.chp_cli.specs.Statuses.{status_number};
 
 /// How a command ends. Each has the number with which the program ends.
 #[derive(Clone, Copy, Debug, PartialEq, Eq)]
@@ -29,7 +29,7 @@ pub enum Status {
 impl Status {
     /// The number with which the program ends.
     pub fn number(&self) -> u8
-        ensures { result ≡ number_of self.now }
+        ensures { result ≡ status_number self.now }
     {
         match self {
             Status::Done => 0,

@@ -6,7 +6,7 @@ use Rattle.width_check.specs.Processes.{Formula, Process, skipping, assigning, s
 use Rattle.width_check.specs.Values.{value, IsWellFormed}
 use Rattle.width_check.specs.Sharing.{reads_var, done_at, reads_of, occurrences}
 use Rattle.chp_meaning.specs.Terms.{Term, Terms, finished, active, in_sequence, in_parallel, no_branches, and_branch, is_finished, all_finished, together, opened, opened_turn, opened_each, followed, Place, here, in_first, in_branch, statement_at, branch_at, with_left, with_branch}
-use Rattle.chp_meaning.specs.Halves.{read_back, in_halves}
+use Rattle.chp_meaning.specs.Halves.{read_through, in_halves}
 use Rattle.chp_meaning.proofs.Places.{In, followed_on, together_on}
 use Rattle.chp_meaning.proofs.Moves.{Agree, value_same}
 
@@ -52,9 +52,9 @@ mutual
     both_finished : Alike N M old new finished finished
     both_active : {p q : Process} → Same N M p q → Alike N M old new (active p) (active q)
     at_first : {x h : ℕ} {at : Span} {e : Formula} → Halving N M x h e →
-        Alike N M old new (active (assigning x at e)) (in_sequence (active (assigning h at e)) (and_member (assigning x at (read_back h e at)) no_members))
-    at_second : {x h : ℕ} {at : Span} {e : Formula} → Halving N M x h e → value (slice_index new) (read_back h e at) ≡ value (slice_index old) e →
-        Alike N M old new (active (assigning x at e)) (active (assigning x at (read_back h e at)))
+        Alike N M old new (active (assigning x at e)) (in_sequence (active (assigning h at e)) (and_member (assigning x at (read_through h e at)) no_members))
+    at_second : {x h : ℕ} {at : Span} {e : Formula} → Halving N M x h e → value (slice_index new) (read_through h e at) ≡ value (slice_index old) e →
+        Alike N M old new (active (assigning x at e)) (active (assigning x at (read_through h e at)))
     both_in_sequence : {t u : Term} {ps qs : Processes} → Alike N M old new t u → EachLike N M ps qs → Alike N M old new (in_sequence t ps) (in_sequence u qs)
     both_in_parallel : {ts us : Terms} → EachAlike N M old new ts us → Alike N M old new (in_parallel ts) (in_parallel us)
 
@@ -157,7 +157,7 @@ mutual
   framed old' new' (both_active s) f g = both_active s
   framed old' new' (at_first h) f g = at_first h
   framed {old = old} {new = new} old' new' (at_second {x = x} {h = k} {at = at} {e = e} h v) f g =
-      at_second h (value_same (slice_index new') (slice_index new) (read_back k e at) (λ y s i. g here _ refl y s (inr i))
+      at_second h (value_same (slice_index new') (slice_index new) (read_through k e at) (λ y s i. g here _ refl y s (inr i))
           ∙ (v ∙ sym (value_same (slice_index old') (slice_index old) e (λ y s i. f here _ refl y s (inr i)))))
   framed old' new' (both_in_sequence a ms) f g = both_in_sequence (framed old' new' a (λ w p h. f (in_first w) p h) (λ w p h. g (in_first w) p h)) ms
   framed old' new' (both_in_parallel a) f g = both_in_parallel (each_framed old' new' a (λ j w p h. f (in_branch j w) p h) (λ j w p h. g (in_branch j w) p h))
@@ -173,13 +173,13 @@ mutual
 pub data Pair (N M : ℕ) (old new : List ℕ) : Process → Process → Type 0 where
   pair_same : {p q : Process} → Same N M p q → Pair N M old new p q
   pair_first : {x h : ℕ} {at : Span} {e : Formula} → Halving N M x h e → Pair N M old new (assigning x at e) (assigning h at e)
-  pair_second : {x h : ℕ} {at : Span} {e : Formula} → Halving N M x h e → value (slice_index new) (read_back h e at) ≡ value (slice_index old) e →
-      Pair N M old new (assigning x at e) (assigning x at (read_back h e at))
+  pair_second : {x h : ℕ} {at : Span} {e : Formula} → Halving N M x h e → value (slice_index new) (read_through h e at) ≡ value (slice_index old) e →
+      Pair N M old new (assigning x at e) (assigning x at (read_through h e at))
 
 -- behind a first half comes the second one
 abbrev pub behind : {N M : ℕ} {old new : List ℕ} {p q : Process} → Pair N M old new p q → Term → Term
 behind (pair_same s) l = l
-behind (pair_first {x = x} {h = k} {at = at} {e = e} h) l = followed l (and_member (assigning x at (read_back k e at)) no_members)
+behind (pair_first {x = x} {h = k} {at = at} {e = e} h) l = followed l (and_member (assigning x at (read_through k e at)) no_members)
 behind (pair_second h v) l = l
 
 -- the program's statement that goes with the one at the place, and what may be put for both
@@ -213,14 +213,14 @@ mutual
   find {N = N} {M = M} {old = old} {new = new} (at_first {x = x} {h = k} {at = at} {e = f} i) (in_first here) q h =
       let e : assigning k at f ≡ q = cc h in
       subst (λ z. Found N M old new (active (assigning x at f))
-          (in_sequence (active (assigning k at f)) (and_member (assigning x at (read_back k f at)) no_members)) (in_first here) z) e
+          (in_sequence (active (assigning k at f)) (and_member (assigning x at (read_through k f at)) no_members)) (in_first here) z) e
       (record { place = here; process = assigning x at f; on = refl; pair = pair_first i; put = λ old' new' l m f g a. a })
   find (at_first i) (in_first (in_first b)) q h = absurd (cc h)
   find (at_first i) (in_first (in_branch k b)) q h = absurd (cc h)
   find (at_first i) (in_branch k b) q h = absurd (cc h)
   find {N = N} {M = M} {old = old} {new = new} (at_second {x = x} {h = k} {at = at} {e = f} i v) here q h =
-      let e : assigning x at (read_back k f at) ≡ q = cc h in
-      subst (λ z. Found N M old new (active (assigning x at f)) (active (assigning x at (read_back k f at))) here z) e
+      let e : assigning x at (read_through k f at) ≡ q = cc h in
+      subst (λ z. Found N M old new (active (assigning x at f)) (active (assigning x at (read_through k f at))) here z) e
       (record { place = here; process = assigning x at f; on = refl; pair = pair_second i v; put = λ old' new' l m f g a. a })
   find (at_second i v) (in_first b) q h = absurd (cc h)
   find (at_second i v) (in_branch k b) q h = absurd (cc h)
@@ -298,13 +298,13 @@ mutual
   standing (both_active s) (in_branch k a) p h = absurd (cc h)
   standing {N = N} {M = M} {old = old} {new = new} (at_first {x = x} {h = k} {at = at} {e = f} i) here p h =
       let e : assigning x at f ≡ p = cc h in
-      subst (λ z. Standing N M old new (in_sequence (active (assigning k at f)) (and_member (assigning x at (read_back k f at)) no_members)) z) e
+      subst (λ z. Standing N M old new (in_sequence (active (assigning k at f)) (and_member (assigning x at (read_through k f at)) no_members)) z) e
       (record { place = in_first here; process = assigning k at f; on = refl; pair = pair_first i })
   standing (at_first i) (in_first a) p h = absurd (cc h)
   standing (at_first i) (in_branch k a) p h = absurd (cc h)
   standing {N = N} {M = M} {old = old} {new = new} (at_second {x = x} {h = k} {at = at} {e = f} i v) here p h =
       let e : assigning x at f ≡ p = cc h in
-      subst (λ z. Standing N M old new (active (assigning x at (read_back k f at))) z) e (record { place = here; process = assigning x at (read_back k f at);
+      subst (λ z. Standing N M old new (active (assigning x at (read_through k f at))) z) e (record { place = here; process = assigning x at (read_through k f at);
           on = refl; pair = pair_second i v })
   standing (at_second i v) (in_first a) p h = absurd (cc h)
   standing (at_second i v) (in_branch k a) p h = absurd (cc h)

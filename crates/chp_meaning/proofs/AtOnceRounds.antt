@@ -14,7 +14,7 @@ use Rattle.chp_meaning.specs.Terms.{Term, Terms, finished, active, in_sequence, 
 use Rattle.chp_meaning.specs.Steps.{Configuration, value_in, open_branches, Step, a_skip, an_assignment, a_selection, a_turn, an_end, a_repetition, a_communication, a_delivery, an_arrival}
 use Rattle.chp_meaning.specs.Rounds.{is_enabled, enabled_places, taken, round}
 use Rattle.chp_meaning.specs.Remaining.{term_of, branch_of, IsRunnable}
-use Rattle.chp_meaning.specs.AtOnce.{Outset, plain_move, sent_move, meeting_move, next_of, received_move, ending_move, is_inside, is_met, true_guards, counted, choosing_move, move_of, chosen_remains, ended, moves_of, noted_send, noted_receive, written_in, written, less, used_on, used, passed_on, passed}
+use Rattle.chp_meaning.specs.AtOnce.{Outset, plain_move, sent_move, meeting_move, next_of, received_move, ending_move, offers_inside, is_met, true_guards, guards_counted, choosing_move, move_of, chosen_remains, ended, moves_of, noted_send, noted_receive, written_in, written, less, used_on, used, passed_on, passed}
 use Rattle.chp_meaning.proofs.Places.{In, in_left, in_right, in_either, Distinct, same_place}
 use Rattle.chp_meaning.proofs.Fitting.{Fits, places_apart}
 use Rattle.chp_meaning.proofs.Moves.{Entry, entry, Deal, leave, written as deal_written, put, appended, dealt, deal, Port, sends, receives, Part as Takes, part_stands, parts_apart, stands, own_apart, Kept, again, left_stays, unwritten, unoffered, writer, ports_apart, offer_port}
@@ -118,35 +118,35 @@ plain_numbers (k ∷ ks) = let e : 0 + k ≡ k = omega arith in ap (λ x. x ∷ 
 from_start : (c : Configuration) (cs : Choices) → (ks : List ℕ) × (true_guards c.store 0 cs ≡ ks) × (open_branches c cs ≡ map (branch_of cs) ks)
 from_start c cs = let r = guards_numbered c 0 cs in (r.0, r.1 ∙ plain_numbers r.0, r.2)
 
-one_open : (c : Configuration) (cs : Choices) (p : Process) → open_branches c cs ≡ p ∷ [] → (k : ℕ) × (counted (true_guards c.store 0 cs) ≡ One k)
+one_open : (c : Configuration) (cs : Choices) (p : Process) → open_branches c cs ≡ p ∷ [] → (k : ℕ) × (guards_counted (true_guards c.store 0 cs) ≡ One k)
     × (branch_of cs k ≡ p)
 one_open c cs p e = let r = from_start c cs in by_list r.0 r.1 (sym r.2 ∙ e)
   where
-    by_list : (ks : List ℕ) → true_guards c.store 0 cs ≡ ks → map (branch_of cs) ks ≡ p ∷ [] → (k : ℕ) × (counted (true_guards c.store 0 cs) ≡ One k)
+    by_list : (ks : List ℕ) → true_guards c.store 0 cs ≡ ks → map (branch_of cs) ks ≡ p ∷ [] → (k : ℕ) × (guards_counted (true_guards c.store 0 cs) ≡ One k)
         × (branch_of cs k ≡ p)
     by_list [] g h = absurd (cc h)
-    by_list (k ∷ []) g h = (k, ap counted g, cc h)
+    by_list (k ∷ []) g h = (k, ap guards_counted g, cc h)
     by_list (k ∷ j ∷ ks) g h = absurd (cc h)
 
-none_open : (c : Configuration) (cs : Choices) → open_branches c cs ≡ [] → counted (true_guards c.store 0 cs) ≡ Zero
+none_open : (c : Configuration) (cs : Choices) → open_branches c cs ≡ [] → guards_counted (true_guards c.store 0 cs) ≡ Zero
 none_open c cs e = let r = from_start c cs in by_list r.0 r.1 (sym r.2 ∙ e)
   where
-    by_list : (ks : List ℕ) → true_guards c.store 0 cs ≡ ks → map (branch_of cs) ks ≡ [] → counted (true_guards c.store 0 cs) ≡ Zero
-    by_list [] g h = ap counted g
+    by_list : (ks : List ℕ) → true_guards c.store 0 cs ≡ ks → map (branch_of cs) ks ≡ [] → guards_counted (true_guards c.store 0 cs) ≡ Zero
+    by_list [] g h = ap guards_counted g
     by_list (k ∷ ks) g h = absurd (cc h)
 
-open_one : (c : Configuration) (cs : Choices) (k : ℕ) → counted (true_guards c.store 0 cs) ≡ One k → (p : Process) × (open_branches c cs ≡ p ∷ [])
-open_one c cs k e = let r = from_start c cs in by_list r.0 r.2 (sym (ap counted r.1) ∙ e)
+open_one : (c : Configuration) (cs : Choices) (k : ℕ) → guards_counted (true_guards c.store 0 cs) ≡ One k → (p : Process) × (open_branches c cs ≡ p ∷ [])
+open_one c cs k e = let r = from_start c cs in by_list r.0 r.2 (sym (ap guards_counted r.1) ∙ e)
   where
-    by_list : (ks : List ℕ) → open_branches c cs ≡ map (branch_of cs) ks → counted ks ≡ One k → (p : Process) × (open_branches c cs ≡ p ∷ [])
+    by_list : (ks : List ℕ) → open_branches c cs ≡ map (branch_of cs) ks → guards_counted ks ≡ One k → (p : Process) × (open_branches c cs ≡ p ∷ [])
     by_list [] g h = absurd (cc h)
     by_list (j ∷ []) g h = (branch_of cs j, g)
     by_list (j ∷ i ∷ ks) g h = absurd (cc h)
 
-open_none : (c : Configuration) (cs : Choices) → counted (true_guards c.store 0 cs) ≡ Zero → open_branches c cs ≡ []
-open_none c cs e = let r = from_start c cs in by_list r.0 r.2 (sym (ap counted r.1) ∙ e)
+open_none : (c : Configuration) (cs : Choices) → guards_counted (true_guards c.store 0 cs) ≡ Zero → open_branches c cs ≡ []
+open_none c cs e = let r = from_start c cs in by_list r.0 r.2 (sym (ap guards_counted r.1) ∙ e)
   where
-    by_list : (ks : List ℕ) → open_branches c cs ≡ map (branch_of cs) ks → counted ks ≡ Zero → open_branches c cs ≡ []
+    by_list : (ks : List ℕ) → open_branches c cs ≡ map (branch_of cs) ks → guards_counted ks ≡ Zero → open_branches c cs ≡ []
     by_list [] g h = g
     by_list (j ∷ []) g h = absurd (cc h)
     by_list (j ∷ i ∷ ks) g h = absurd (cc h)
@@ -180,11 +180,11 @@ step_move {c = c} m f run (an_assignment {x = x} {s = s} {e = i} on) q h =
 step_move {c = c} m f run (a_selection {choices = cs} {p = p} on true_ones) q h =
     let e : choosing false cs ≡ q = cc (on, h) in
     let o = one_open c cs p true_ones in
-    subst (λ r. move_of (outset_for c) r ≡ Some plain_move) e (one_move false (counted (true_guards c.store 0 cs)) o.0 o.1)
+    subst (λ r. move_of (outset_for c) r ≡ Some plain_move) e (one_move false (guards_counted (true_guards c.store 0 cs)) o.0 o.1)
 step_move {c = c} m f run (a_turn {choices = cs} {p = p} on true_ones) q h =
     let e : choosing true cs ≡ q = cc (on, h) in
     let o = one_open c cs p true_ones in
-    subst (λ r. move_of (outset_for c) r ≡ Some plain_move) e (one_move true (counted (true_guards c.store 0 cs)) o.0 o.1)
+    subst (λ r. move_of (outset_for c) r ≡ Some plain_move) e (one_move true (guards_counted (true_guards c.store 0 cs)) o.0 o.1)
 step_move {c = c} m f run (an_end {choices = cs} on true_ones) q h =
     let e : choosing true cs ≡ q = cc (on, h) in
     subst (λ r. move_of (outset_for c) r ≡ Some plain_move) e (ap (choosing_move true) (none_open c cs true_ones))
@@ -216,7 +216,7 @@ ends_finished : (q : Process) (x : Option Move) (m : Move) (met : Bool) → x �
 ends_finished q x m met e = ap (λ y. term_of q (ended y met)) e
 
 -- a branch, begun
-branch_begins : (n m : ℕ) (again : Bool) (cs : Choices) (store : List ℕ) (k : ℕ) → IsRunnable n m (choosing again cs) → counted (true_guards store 0 cs) ≡ One k
+branch_begins : (n m : ℕ) (again : Bool) (cs : Choices) (store : List ℕ) (k : ℕ) → IsRunnable n m (choosing again cs) → guards_counted (true_guards store 0 cs) ≡ One k
     → Begins (branch_of cs k)
 branch_begins n m again cs store k r e = begins n m (branch_of cs k) (part_runnable n m (choosing again cs) k (one_below store cs k (sym e)) r)
 
@@ -287,7 +287,7 @@ received_can c a k x s t m h (takes count) offered is = absurd (cc is)
 received_can c a k x s t m h nothing offered is = absurd (cc is)
 
 chosen_can : (c : Configuration) (a : Place) (again : Bool) (cs : Choices) (m : Move) → statement_at c.term a ≡ Some (choosing again cs) → (g : TrueGuards) →
-    counted (true_guards c.store 0 cs) ≡ g → choosing_move again g ≡ Some m → Can c a
+    guards_counted (true_guards c.store 0 cs) ≡ g → choosing_move again g ≡ Some m → Can c a
 chosen_can c a true cs m h Zero e is = (_, an_end h (open_none c cs e))
 chosen_can c a false cs m h Zero e is = absurd (cc is)
 chosen_can c a true cs m h (One k) e is = let o = open_one c cs k e in (_, a_turn h o.1)
@@ -302,21 +302,21 @@ move_can c a (sending k s e) m h is = sent_can c a k s e m h (offer_at c.rests k
 move_can c a (receiving k s x t) m h is = received_can c a k x s t m h (offer_at c.rests k) refl is
 move_can c a (in_turn ms) m h is = absurd (cc is)
 move_can c a (side_by_side ms) m h is = absurd (cc is)
-move_can c a (choosing again cs) m h is = chosen_can c a again cs m h (counted (true_guards c.store 0 cs)) refl is
+move_can c a (choosing again cs) m h is = chosen_can c a again cs m h (guards_counted (true_guards c.store 0 cs)) refl is
 move_can c a (repeating p) m h is = (_, a_repetition h)
 
 -- the other end of a communication
 
-is_nothing : (o : OfferValue) → is_inside o ≡ true → o ≡ nothing
+is_nothing : (o : OfferValue) → offers_inside o ≡ true → o ≡ nothing
 is_nothing (gives vs) e = absurd (cc e)
 is_nothing (takes count) e = absurd (cc e)
 is_nothing nothing e = refl
 
 met_by : (c : Configuration) (k x : ℕ) (s t : Span) → is_met (outset_for c) (receiving k s x t) ≡ true → (offer_at c.rests k ≡ nothing) × (w : Place)
     × (u : Span) × (e : Formula) × (statement_at c.term w ≡ Some (sending k u e))
-met_by c k x s t h = by_offer (is_inside (offer_at c.rests k)) refl h
+met_by c k x s t h = by_offer (offers_inside (offer_at c.rests k)) refl h
   where
-    by_offer : (b : Bool) → is_inside (offer_at c.rests k) ≡ b → (if b then slice_index_or (outset_for c).sends k false else false) ≡ true →
+    by_offer : (b : Bool) → offers_inside (offer_at c.rests k) ≡ b → (if b then slice_index_or (outset_for c).sends k false else false) ≡ true →
         (offer_at c.rests k ≡ nothing) × (w : Place) × (u : Span) × (e : Formula) × (statement_at c.term w ≡ Some (sending k u e))
     by_offer true g i = let v = waits_send c k i in (is_nothing (offer_at c.rests k) g, v.0, v.1, v.2, v.3)
     by_offer false g i = absurd (cc i)
@@ -327,7 +327,7 @@ other_left {c = c} m run (a_communication {at = b} other {k = k} {x = x} {s = s}
     let place : other ≡ o = cc h in
     let e : receiving k t x u ≡ q = cc (there, g, place) in
     let none : ending_move (outset_for c) (receiving k t x u) ≡ None = ap (λ v. received_move k x (next_of v)) inside in
-    let met : is_met (outset_for c) (receiving k t x u) ≡ true = ap (λ v. if is_inside v then slice_index_or (outset_for c).sends k false else false) inside
+    let met : is_met (outset_for c) (receiving k t x u) ≡ true = ap (λ v. if offers_inside v then slice_index_or (outset_for c).sends k false else false) inside
         ∙ send_waits c m run b k s i on in
     subst (λ r. left_of (outset_for c) r ≡ finished) e (ap (λ y. term_of (receiving k t x u) (ended y (is_met (outset_for c) (receiving k t x u)))) none
         ∙ ap (λ y. term_of (receiving k t x u) (ended None y)) met)
@@ -593,7 +593,7 @@ stays_whole o (sending k s i) e unmet = stays_ended (sending k s i) (ending_move
 stays_whole o (receiving k s x t) e unmet = stays_ended (receiving k s x t) (ending_move o (receiving k s x t)) (is_met o (receiving k s x t)) e unmet
 stays_whole o (in_turn ms) e unmet = refl
 stays_whole o (side_by_side ms) e unmet = refl
-stays_whole o (choosing again cs) e unmet = stays_chosen again cs (counted (true_guards o.store 0 cs)) e
+stays_whole o (choosing again cs) e unmet = stays_chosen again cs (guards_counted (true_guards o.store 0 cs)) e
 stays_whole o (repeating p) e unmet = absurd (cc e)
 
 move_or_none : (x : Option Move) → (x ≡ None) ⊎ ((m : Move) × (x ≡ Some m))

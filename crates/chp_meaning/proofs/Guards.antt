@@ -9,7 +9,7 @@ use Rattle.width_check.specs.View.{formula_of, process_of}
 use Rattle.chp_meaning.specs.declared.effect.TrueGuards.{TrueGuards}
 use Rattle.chp_meaning.specs.declared.effect.TrueGuards.TheVariants.{Zero, One, Several as Many}
 use Rattle.chp_meaning.specs.Remaining.{choices_of, GuardsHaveValues}
-use Rattle.chp_meaning.specs.AtOnce.{true_guards, counted}
+use Rattle.chp_meaning.specs.AtOnce.{true_guards, guards_counted}
 
 -- the guards found so far, and then these
 abbrev pub after_found : TrueGuards → List ℕ → List ℕ
@@ -17,7 +17,7 @@ after_found Zero rest = rest
 after_found (One k) rest = k ∷ rest
 after_found Many rest = 0 ∷ 0 ∷ rest
 
-pub found_all : (found : TrueGuards) → counted (after_found found []) ≡ found
+pub found_all : (found : TrueGuards) → guards_counted (after_found found []) ≡ found
 found_all Zero = refl
 found_all (One k) = refl
 found_all Many = refl

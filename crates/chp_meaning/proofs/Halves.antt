@@ -14,7 +14,7 @@ use Rattle.width_check.specs.Sharing.{reads_var, writes_var, receives_on, done_a
 use Rattle.chp_meaning.specs.Terms.{Term, finished, active, opened, followed, Place, statement_at, with_left}
 use Rattle.chp_meaning.specs.Steps.{Configuration, value_in, open_branches, one_fewer, leaving, storing, passing, offering, Step, a_skip, an_assignment, a_selection, a_turn, an_end, a_repetition, a_communication, a_delivery, an_arrival, Leads, no_step, one_step}
 use Rattle.chp_meaning.specs.Ends.{CanStep}
-use Rattle.chp_meaning.specs.Halves.{read_back, IsAbreast}
+use Rattle.chp_meaning.specs.Halves.{read_through, IsAbreast}
 use Rattle.chp_meaning.proofs.Places.{In, same_place, still}
 use Rattle.chp_meaning.proofs.Fitting.{Fits, places_apart, left_fits}
 use Rattle.chp_meaning.proofs.Moves.{value_same, own_apart}
@@ -146,7 +146,7 @@ wrote N M c d n a b x v below s u alike = record {
 begun : (N M : ℕ) (c d : Configuration) → Near N M c d → (b : Place) (x h : ℕ) (at : Span) (e : Formula) (i : Halving N M x h e) →
     statement_at d.term b ≡ Some (assigning h at e) → (a : Place) → statement_at c.term a ≡ Some (assigning x at e)
     → ((old' new' : List ℕ) (l m : Term) → OthersKept c.store old' c.term a → OthersKept d.store new' d.term b →
-        Alike N M old' new' l (followed m (and_member (assigning x at (read_back h e at)) no_members)) →
+        Alike N M old' new' l (followed m (and_member (assigning x at (read_through h e at)) no_members)) →
         Alike N M old' new' (with_left c.term a l) (with_left d.term b m))
     → Followed N M c (storing (leaving d b finished) h (value_in d e))
 begun N M c d n b x h at e i there a on put = record {
@@ -169,7 +169,7 @@ begun N M c d n b x h at e i there a on put = record {
   };
 }
   where
-    full : value (slice_index (slice_set d.store h (value_in d e))) (read_back h e at) ≡ value (slice_index c.store) e
+    full : value (slice_index (slice_set d.store h (value_in d e))) (read_through h e at) ≡ value (slice_index c.store) e
     full =
         let l : h < length d.store = let k = i.within in let m = n.new_length in omega arith in
         ap (λ v. v / 2 ^ 0 % 2 ^ (width_of e - 1 + 1 - 0)) (get_or-set_same d.store h (value_in d e) 0 l)
@@ -262,7 +262,7 @@ assign_by : (N M : ℕ) (c d : Configuration) → Near N M c d → (a b : Place)
 assign_by N M c d n a b x s e p on there (pair_same (same_assign below reads)) put =
     assigned N M c d n a b x s e e below on there (values_near N M c d n e reads) put
 assign_by N M c d n a b x s e p on there (pair_first {x = y} i) put = begun N M c d n b y x s e i there a on put
-assign_by N M c d n a b x s e p on there (pair_second {h = h} {e = f} i v) put = assigned N M c d n a b x s f (read_back h f s) i.target on there (sym v) put
+assign_by N M c d n a b x s e p on there (pair_second {h = h} {e = f} i v) put = assigned N M c d n a b x s f (read_through h f s) i.target on there (sym v) put
 
 communicated : (N M : ℕ) (c d : Configuration) → Near N M c d → (b other : Place) (k x : ℕ) (s t u : Span) (e : Formula) →
     statement_at d.term b ≡ Some (sending k s e) → statement_at d.term other ≡ Some (receiving k t x u) → offer_at d.rests k ≡ nothing
@@ -417,7 +417,7 @@ assign_after : {N M : ℕ} {old new : List ℕ} {x : ℕ} {s : Span} {e : Formul
     (y : ℕ) × (t : Span) × (f : Formula) × (q ≡ assigning y t f)
 assign_after {x = x} {s = s} {e = e} (pair_same (same_assign below reads)) = (x, s, e, refl)
 assign_after {s = s} {e = e} (pair_first {h = h} i) = (h, s, e, refl)
-assign_after {x = x} {s = s} {e = e} (pair_second {h = h} i v) = (x, s, read_back h e s, refl)
+assign_after {x = x} {s = s} {e = e} (pair_second {h = h} i v) = (x, s, read_through h e s, refl)
 
 goes_on : (N M : ℕ) {c d e : Configuration} {a : Place} → Near N M c d → Step c a e → CanStep d
 goes_on N M {a = a} n (a_skip on) =

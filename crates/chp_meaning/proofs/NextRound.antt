@@ -20,8 +20,8 @@ use Rattle.chp_meaning.specs.Terms.{Place}
 use Rattle.chp_meaning.specs.Steps.{Configuration, Step}
 use Rattle.chp_meaning.specs.Rounds.{round}
 use Rattle.chp_meaning.specs.Remaining.{remains_of, term_of, CanRemain, IsRunnable}
-use Rattle.chp_meaning.specs.AtOnce.{Outset, plain_move, sent_move, meeting_move, next_of, received_move, choosing_move, true_guards, counted, move_of, moves_of, noted_send, noted_receive, statements, written, written_in, less, used, used_on, passed, passed_on, is_below, number_below, held}
-use Rattle.chp_meaning.specs.Standing.{rest_of, items_of, histories_of, configuration_of, IsStanding, IsUnchanged, IsPlan, IsSettled, AreWithin, next_outset, next_moves}
+use Rattle.chp_meaning.specs.AtOnce.{Outset, plain_move, sent_move, meeting_move, next_of, received_move, choosing_move, true_guards, guards_counted, move_of, moves_of, noted_send, noted_receive, statements, written, written_in, less, used, used_on, passed, passed_on, is_below, number_below, held_values}
+use Rattle.chp_meaning.specs.Standing.{offer_of_rest, items_of, histories_of, configuration_of, IsStanding, IsUnchanged, IsPlan, HaveMoved, AreWithin, next_outset, next_moves}
 use Rattle.chp_meaning.proofs.Places.{In, in_either}
 use Rattle.chp_meaning.proofs.Fitting.{Fits}
 use Rattle.chp_meaning.proofs.Settling.{all_passed_length}
@@ -107,7 +107,7 @@ move_within n m o (sending k s i) w r below e = sent_within n m o k (value (λ j
 move_within n m o (receiving k s x t) w r below e = received_within n m k x (next_of (offer_at o.rests k)) w r.0 r.1 e
 move_within n m o (in_turn ms) w r below e = absurd (cc e)
 move_within n m o (side_by_side ms) w r below e = absurd (cc e)
-move_within n m o (choosing again cs) w r below e = chosen_within n m again (counted (true_guards o.store 0 cs)) w e
+move_within n m o (choosing again cs) w r below e = chosen_within n m again (guards_counted (true_guards o.store 0 cs)) w e
 move_within n m o (repeating p) w r below e = plain_within n m w e
 
 -- how a program stands
@@ -156,21 +156,21 @@ used_length rests (w ∷ ms) = used_length (used rests w) ms ∙ one w.uses
     one None = refl
     one (Some k) = length-set rests k (less (offer_at rests k))
 
-settled_rests : (c d : Config) (left : Left) (moves : List Move) → IsSettled c d left moves → length d.rests.items ≡ length c.rests.items
+settled_rests : (c d : Config) (left : Left) (moves : List Move) → HaveMoved c d left moves → length d.rests.items ≡ length c.rests.items
 settled_rests c d left moves s =
-    sym (length-map d.rests.items rest_of) ∙ (ap (λ (xs : List OfferValue). length xs) s.rests
-        ∙ (used_length (map rest_of c.rests.items) moves ∙ length-map c.rests.items rest_of))
+    sym (length-map d.rests.items offer_of_rest) ∙ (ap (λ (xs : List OfferValue). length xs) s.rests
+        ∙ (used_length (map offer_of_rest c.rests.items) moves ∙ length-map c.rests.items offer_of_rest))
 
-settled_store : (c d : Config) (left : Left) (moves : List Move) → IsSettled c d left moves → length d.store.items ≡ length c.store.items
+settled_store : (c d : Config) (left : Left) (moves : List Move) → HaveMoved c d left moves → length d.store.items ≡ length c.store.items
 settled_store c d left moves s = ap (λ (xs : List ℕ). length xs) s.store ∙ written_length c.store.items moves
 
-settled_histories : (c d : Config) (left : Left) (moves : List Move) → IsSettled c d left moves → length d.histories.items ≡ length c.histories.items
+settled_histories : (c d : Config) (left : Left) (moves : List Move) → HaveMoved c d left moves → length d.histories.items ≡ length c.histories.items
 settled_histories c d left moves s =
     sym (length-map d.histories.items (λ h. h.items))
         ∙ (ap (λ (xs : List (List ℕ)). length xs) s.histories ∙ (all_passed_length (histories_of c) moves ∙ length-map c.histories.items (λ h. h.items)))
 
 pub settled_stands : (body : Process) (c d : Config) (left : Left) (moves : List Move) → IsStanding body c → IsPlan body c left moves →
-    IsSettled c d left moves → IsStanding body d
+    HaveMoved c d left moves → IsStanding body d
 settled_stands body c d left moves s p t =
     let n = settled_rests c d left moves t in
     let m = settled_store c d left moves t in
@@ -188,17 +188,17 @@ settled_stands body c d left moves s p t =
 outset_same : (body : Process) (c : Config) → outset_for (configuration_of body c) ≡ next_outset body c
 outset_same body c =
     let ss : actives (term_of body (remains_of c.left)) ≡ statements body (remains_of c.left) = sym (statements_are body (remains_of c.left)) in
-    let n : length (map rest_of c.rests.items) ≡ length c.rests.items = length-map c.rests.items rest_of in
+    let n : length (map offer_of_rest c.rests.items) ≡ length c.rests.items = length-map c.rests.items offer_of_rest in
     ap (λ (k : ℕ). outset_of k (actives (term_of body (remains_of c.left)))) n ∙ ap (λ (ps : List Process). outset_of (length c.rests.items) ps) ss
   where
     outset_of : ℕ → List Process → Outset
-    outset_of k ps = record { store = c.store.items; rests = map rest_of c.rests.items; sends = fold (noted_send true) (replicate k false) ps; receives =
+    outset_of k ps = record { store = c.store.items; rests = map offer_of_rest c.rests.items; sends = fold (noted_send true) (replicate k false) ps; receives =
         fold (noted_receive true) (replicate k None) ps }
 
 runs_all : (body : Process) (c : Config) → IsStanding body c → AllRun (configuration_of body c) (length c.store.items)
 runs_all body c s q i =
     let j = subst (λ (ps : List Process). In ps q) (sym (statements_are body (remains_of c.left))) i in
-    subst (λ k. Runs k (length c.store.items) q) (sym (length-map c.rests.items rest_of)) (all_run body c s q j)
+    subst (λ k. Runs k (length c.store.items) q) (sym (length-map c.rests.items offer_of_rest)) (all_run body c s q j)
 
 round_parts : (body : Process) (c : Config) → IsStanding body c → Fits (configuration_of body c).term → AtOnce (configuration_of body c)
 round_parts body c s f = at_once (configuration_of body c) (length c.store.items) f (lively body (remains_of c.left) s.remains) (runs_all body c s)
@@ -211,7 +211,7 @@ same_parts : (c d : Configuration) → c.term ≡ d.term → c.store ≡ d.store
 same_parts c d e f g h = λ i. record { term = e i; store = f i; rests = g i; histories = h i }
 
 pub settled_round : (body : Process) (c d : Config) (left : Left) (moves : List Move) → IsStanding body c → Fits (configuration_of body c).term →
-    IsPlan body c left moves → IsSettled c d left moves → configuration_of body d ≡ round (configuration_of body c)
+    IsPlan body c left moves → HaveMoved c d left moves → configuration_of body d ≡ round (configuration_of body c)
 settled_round body c d left moves s f p t =
     let r = round_parts body c s f in
     let ms : moves ≡ moves_of (outset_for (configuration_of body c)) (actives (configuration_of body c).term) = p.moves_are ∙ sym (moves_same body c) in
@@ -220,7 +220,7 @@ settled_round body c d left moves s f p t =
     ∙ (advanced_term (length c.rests.items) (length c.store.items) (next_outset body c) body (remains_of c.left) s.runnable s.remains
     ∙ (ap (λ o. all_left (left_of o) (term_of body (remains_of c.left))) (sym (outset_same body c)) ∙ sym r.term)))
     (t.store ∙ (ap (fold written c.store.items) ms ∙ sym r.store))
-    (t.rests ∙ (ap (fold used (map rest_of c.rests.items)) ms ∙ sym r.rests))
+    (t.rests ∙ (ap (fold used (map offer_of_rest c.rests.items)) ms ∙ sym r.rests))
     (t.histories ∙ (ap (fold passed (histories_of c)) ms ∙ sym r.histories))
 
 pub no_step_planned : (body : Process) (c : Config) → IsStanding body c → Fits (configuration_of body c).term → next_moves body c ≡ [] →
@@ -235,7 +235,7 @@ step_planned body c w ws e = step_if_some (configuration_of body c) w ws (moves_
 
 pub unchanged_same : (body : Process) (c d : Config) → IsUnchanged c d → configuration_of body d ≡ configuration_of body c
 unchanged_same body c d u = same_parts (configuration_of body d) (configuration_of body c) (ap (λ l. term_of body (remains_of l)) u.left_is) u.store
-    (ap (λ v. map rest_of v.items) u.rests) u.histories
+    (ap (λ v. map offer_of_rest v.items) u.rests) u.histories
 
 pub unchanged_stands : (body : Process) (c d : Config) → IsStanding body c → IsUnchanged c d → IsStanding body d
 unchanged_stands body c d s u =
@@ -253,7 +253,7 @@ unchanged_stands body c d s u =
 
 -- how many values have passed
 
-pub held_set : (hs : List (List ℕ)) (k : ℕ) (h : List ℕ) → k < length hs → held (set hs k (get_or hs k [] ++ h)) ≡ held hs + length h
+pub held_set : (hs : List (List ℕ)) (k : ℕ) (h : List ℕ) → k < length hs → held_values (set hs k (get_or hs k [] ++ h)) ≡ held_values hs + length h
 held_set [] k h lt = absurd (omega (arith, lt))
 held_set (x ∷ xs) zero h lt = omega (arith, sum_by-cons length (x ++ h) xs, sum_by-cons length x xs, length-append x h)
 held_set (x ∷ xs) (suc k) h lt = omega (arith, sum_by-cons length x (set xs k (get_or xs k [] ++ h)), sum_by-cons length x xs,
@@ -262,7 +262,7 @@ held_set (x ∷ xs) (suc k) h lt = omega (arith, sum_by-cons length x (set xs k 
 abbrev pub passing : List Move → ℕ
 passing ms = count_by (λ (w : Move). is_some w.pass) ms
 
-one_held : (hs : List (List ℕ)) (x : Option (ℕ × ℕ)) → is_below (length hs) x ≡ true → held (passed_on hs x) ≡ held hs + cond (is_some x) 1 0
+one_held : (hs : List (List ℕ)) (x : Option (ℕ × ℕ)) → is_below (length hs) x ≡ true → held_values (passed_on hs x) ≡ held_values hs + cond (is_some x) 1 0
 one_held hs None b = omega arith
 one_held hs (Some p) b = held_set hs p.0 (p.1 ∷ []) (ltb-true p.0 (length hs) b)
 
@@ -271,16 +271,16 @@ passed_length hs None = refl
 passed_length hs (Some p) = length-set hs p.0 (history_at hs p.0 ++ p.1 ∷ [])
 
 pub held_passed : (ms : List Move) (hs : List (List ℕ)) → ((w : Move) → In ms w → is_below (length hs) w.pass ≡ true) →
-    held (fold passed hs ms) ≡ held hs + passing ms
+    held_values (fold passed hs ms) ≡ held_values hs + passing ms
 held_passed [] hs below = omega arith
 held_passed (w ∷ ms) hs below =
     let next = held_passed ms (passed hs w) (λ u i. subst (λ n. is_below n u.pass ≡ true) (sym (passed_length hs w.pass)) (below u (inr i))) in
     omega (arith, next, one_held hs w.pass (below w (inl refl)), sum_by-cons (λ (x : Move). cond (is_some x.pass) 1 0) w ms)
 
-pub settled_held : (body : Process) (c d : Config) (left : Left) (moves : List Move) → IsStanding body c → IsPlan body c left moves → IsSettled c d left moves →
-    held (histories_of d) ≡ held (histories_of c) + passing moves
+pub settled_held : (body : Process) (c d : Config) (left : Left) (moves : List Move) → IsStanding body c → IsPlan body c left moves → HaveMoved c d left moves →
+    held_values (histories_of d) ≡ held_values (histories_of c) + passing moves
 settled_held body c d left moves s p t =
-    ap held t.histories ∙ held_passed moves (histories_of c) (λ w i.
+    ap held_values t.histories ∙ held_passed moves (histories_of c) (λ w i.
     let j = subst (λ (ms : List Move). In ms w) p.moves_are i in
     subst (λ n. is_below n w.pass ≡ true) (sym (length-map c.histories.items (λ h. h.items) ∙ s.histories)) (each_within body c s w j).passes)
 
@@ -298,11 +298,11 @@ within_after c d moves u w =
       uses = subst (λ k. All (λ (x : Move). number_below k x.uses ≡ true) moves) (sym n) w.uses;
     }
 
-pub settled_after : (c d e : Config) (left : Left) (moves : List Move) → IsUnchanged c d → IsSettled d e left moves → IsSettled c e left moves
+pub settled_after : (c d e : Config) (left : Left) (moves : List Move) → IsUnchanged c d → HaveMoved d e left moves → HaveMoved c e left moves
 settled_after c d e left moves u s = record {
   left_is = s.left_is;
   store = s.store ∙ ap (λ xs. fold written xs moves) u.store;
-  rests = s.rests ∙ ap (λ v. fold used (map rest_of v.items) moves) u.rests;
+  rests = s.rests ∙ ap (λ v. fold used (map offer_of_rest v.items) moves) u.rests;
   histories = s.histories ∙ ap (λ hs. fold passed hs moves) u.histories;
   sends = s.sends ∙ u.sends;
   receives = s.receives ∙ u.receives;
@@ -323,19 +323,19 @@ planned_of body c left all some e p = record { left_is = p.left_is; moves_are = 
 
 -- the histories from a place on
 pub held_next : (hs : List (Vec ℕ Global)) (i : ℕ) (h : Vec ℕ Global) → i < length hs → h ≡ get_or hs i h →
-    held (items_of (drop i hs)) ≡ length h.items + held (items_of (drop (i + 1) hs))
+    held_values (items_of (drop i hs)) ≡ length h.items + held_values (items_of (drop (i + 1) hs))
 held_next hs i h lt at =
-    ap (λ xs. held (items_of xs)) (drop_more hs i h lt) ∙ (ap (λ (x : Vec ℕ Global). held (x.items ∷ items_of (drop (i + 1) hs))) (sym at)
+    ap (λ xs. held_values (items_of xs)) (drop_more hs i h lt) ∙ (ap (λ (x : Vec ℕ Global). held_values (x.items ∷ items_of (drop (i + 1) hs))) (sym at)
         ∙ sum_by-cons length h.items (items_of (drop (i + 1) hs)))
 
-pub held_last : (hs : List (Vec ℕ Global)) (i : ℕ) → length hs ≤ i → held (items_of (drop i hs)) ≡ 0
-held_last hs i le = ap (λ xs. held (items_of xs)) (drop_all i hs le)
+pub held_last : (hs : List (Vec ℕ Global)) (i : ℕ) → length hs ≤ i → held_values (items_of (drop i hs)) ≡ 0
+held_last hs i le = ap (λ xs. held_values (items_of xs)) (drop_all i hs le)
 
 pub planned_held : (body : Process) (c : Config) (left : Left) (moves : List Move) → IsStanding body c → Fits (configuration_of body c).term →
-    IsPlan body c left moves → held (round (configuration_of body c)).histories ≡ held (histories_of c) + passing moves
+    IsPlan body c left moves → held_values (round (configuration_of body c)).histories ≡ held_values (histories_of c) + passing moves
 planned_held body c left moves s f p =
     let r = round_parts body c s f in
     let ms : moves ≡ moves_of (outset_for (configuration_of body c)) (actives (configuration_of body c).term) = p.moves_are ∙ sym (moves_same body c) in
-    ap held (r.histories ∙ ap (fold passed (histories_of c)) (sym ms)) ∙ held_passed moves (histories_of c) (λ w i.
+    ap held_values (r.histories ∙ ap (fold passed (histories_of c)) (sym ms)) ∙ held_passed moves (histories_of c) (λ w i.
     let j = subst (λ (xs : List Move). In xs w) p.moves_are i in
     subst (λ n. is_below n w.pass ≡ true) (sym (length-map c.histories.items (λ h. h.items) ∙ s.histories)) (each_within body c s w j).passes)

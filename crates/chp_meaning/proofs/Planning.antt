@@ -16,7 +16,7 @@ use Rattle.chp_meaning.specs.declared.effect.TrueGuards.TheVariants.{Zero, One, 
 use Rattle.chp_meaning.specs.declared.left.Left.{Left, Branches, Inside}
 use Rattle.chp_meaning.specs.declared.config.Config.{Config}
 use Rattle.chp_meaning.specs.Remaining.{over, whole, Several, no_more, and_left, remains_of, several_of, choices_of, part_of, part_count, CanRemain, EachCanRemain, gathered, IsRunnable, RunsOn, ChoicesRunnable, GuardsHaveValues}
-use Rattle.chp_meaning.specs.AtOnce.{Outset, plain_move, true_guards, counted, choosing_move, move_of, chosen_remains, step_remains, advanced, each_advanced, statements, each_statements, moves_of, noted_send, noted_receive, if_waiting}
+use Rattle.chp_meaning.specs.AtOnce.{Outset, plain_move, true_guards, guards_counted, choosing_move, move_of, chosen_remains, step_remains, advanced, each_advanced, statements, each_statements, moves_of, noted_send, noted_receive, if_waiting}
 use Rattle.chp_meaning.specs.Standing.{CanRun}
 use Rattle.chp_meaning.proofs.Places.{In}
 use Rattle.chp_meaning.proofs.Rows.{select_said, inside_said, branches_said, count_lefts, part_runnable, front, front_push, front_all}
@@ -43,16 +43,16 @@ guards_below store j (and_choice g p more) k i = by_test (value (slice_index sto
     by_test true (inr h) rest = omega (arith, rest h)
     by_test false h rest = omega (arith, rest h)
 
-one_counted : (ks : List ℕ) (k : ℕ) → One k ≡ counted ks → In ks k
+one_counted : (ks : List ℕ) (k : ℕ) → One k ≡ guards_counted ks → In ks k
 one_counted [] k e = absurd (cc e)
 one_counted (j ∷ []) k e = inl (cc e)
 one_counted (j ∷ i ∷ ks) k e = absurd (cc e)
 
-pub one_below : (store : List ℕ) (cs : Choices) (k : ℕ) → One k ≡ counted (true_guards store 0 cs) → k < choice_count cs
+pub one_below : (store : List ℕ) (cs : Choices) (k : ℕ) → One k ≡ guards_counted (true_guards store 0 cs) → k < choice_count cs
 one_below store cs k e = let below = guards_below store 0 cs k (one_counted (true_guards store 0 cs) k e) in omega (arith, below)
 
 pub one_within : (store : List ℕ) (s : TStmt) (again : Bool) (v : Vec TArm Global) (xs : List TArm) (k : ℕ) → s ≡ Select again v → xs ≡ v.items →
-    One k ≡ counted (true_guards store 0 (choices_of xs)) → k < part_count (process_of s)
+    One k ≡ guards_counted (true_guards store 0 (choices_of xs)) → k < part_count (process_of s)
 one_within store s again v xs k is same e =
     let below = guards_below store 0 (choices_of xs) k (one_counted (true_guards store 0 (choices_of xs)) k e) in
     let count : choice_count (choices_of xs) ≡ part_count (process_of s) = ap (λ (ys : List TArm). choice_count (choices_of ys)) same
@@ -60,19 +60,19 @@ one_within store s again v xs k is same e =
     omega (arith, below, count)
 
 pub select_remains : (o : Outset) (s : TStmt) (again : Bool) (v : Vec TArm Global) (xs : List TArm) (g : TrueGuards) → s ≡ Select again v → xs ≡ v.items →
-    g ≡ counted (true_guards o.store 0 (choices_of xs))
+    g ≡ guards_counted (true_guards o.store 0 (choices_of xs))
     → step_remains o (process_of s) ≡ chosen_remains (process_of s) again g
 select_remains o s again v xs g is same e =
     ap (step_remains o) (select_said s again v is)
-    ∙ (ap (λ p. chosen_remains p again (counted (true_guards o.store 0 (choices_of v.items)))) (sym (select_said s again v is))
-    ∙ ap (chosen_remains (process_of s) again) (ap (λ (ys : List TArm). counted (true_guards o.store 0 (choices_of ys))) (sym same) ∙ sym e))
+    ∙ (ap (λ p. chosen_remains p again (guards_counted (true_guards o.store 0 (choices_of v.items)))) (sym (select_said s again v is))
+    ∙ ap (chosen_remains (process_of s) again) (ap (λ (ys : List TArm). guards_counted (true_guards o.store 0 (choices_of ys))) (sym same) ∙ sym e))
 
 pub select_move : (o : Outset) (s : TStmt) (again : Bool) (v : Vec TArm Global) (xs : List TArm) (g : TrueGuards) → s ≡ Select again v → xs ≡ v.items →
-    g ≡ counted (true_guards o.store 0 (choices_of xs))
+    g ≡ guards_counted (true_guards o.store 0 (choices_of xs))
     → move_of o (process_of s) ≡ choosing_move again g
 select_move o s again v xs g is same e =
     ap (move_of o) (select_said s again v is)
-    ∙ ap (choosing_move again) (ap (λ (ys : List TArm). counted (true_guards o.store 0 (choices_of ys))) (sym same) ∙ sym e)
+    ∙ ap (choosing_move again) (ap (λ (ys : List TArm). guards_counted (true_guards o.store 0 (choices_of ys))) (sym same) ∙ sym e)
 
 -- what is left of a part
 

@@ -7,8 +7,8 @@ use Rattle.chp_meaning.specs.declared.effect.Move.{Move}
 use Rattle.chp_meaning.specs.declared.effect.TrueGuards.{TrueGuards}
 use Rattle.chp_meaning.specs.declared.effect.TrueGuards.TheVariants.{Zero, One, Several as Many}
 use Rattle.chp_meaning.specs.Terms.{Term, Terms, finished, active, in_sequence, in_parallel, no_branches, and_branch, is_finished, all_finished, together, opened, opened_turn, opened_each, followed}
-use Rattle.chp_meaning.specs.Remaining.{Remains, over, whole, within, alongside, Several, no_more, and_left, is_over, all_over, how_many, member_at, part_of, part_count, members_from, coming, before, term_of, terms_of, is_beside, is_group, CanRemain, EachCanRemain, begun, each_begun, after_part, resumed, gathered, IsRunnable, AreRunnable}
-use Rattle.chp_meaning.specs.AtOnce.{Outset, true_guards, counted, ending_move, is_met, entered, chosen_remains, ended, step_remains, advanced, each_advanced, statements, each_statements}
+use Rattle.chp_meaning.specs.Remaining.{Remains, over, whole, within, alongside, Several, no_more, and_left, none_remains, all_over, how_many, member_at, part_of, part_count, members_from, coming, before, term_of, terms_of, is_beside, is_group, CanRemain, EachCanRemain, begun, each_begun, after_part, resumed, gathered, IsRunnable, AreRunnable}
+use Rattle.chp_meaning.specs.AtOnce.{Outset, true_guards, guards_counted, ending_move, is_met, entered, chosen_remains, ended, step_remains, advanced, each_advanced, statements, each_statements}
 use Rattle.chp_meaning.proofs.Places.{In, in_either}
 use Rattle.chp_meaning.proofs.Rows.{part_runnable}
 use Rattle.chp_meaning.proofs.Planning.{one_below}
@@ -48,13 +48,13 @@ before_unfinished : (t : Term) (more : Processes) → is_finished t ≡ false �
 before_unfinished t no_members h = h
 before_unfinished t (and_member p more) h = refl
 
-pub goes_on : (p : Process) (r : Remains) → CanRemain p r → is_over r ≡ false → is_finished (term_of p r) ≡ false
+pub goes_on : (p : Process) (r : Remains) → CanRemain p r → none_remains r ≡ false → is_finished (term_of p r) ≡ false
 goes_on p over c h = absurd (cc h)
 goes_on p whole c h = refl
 goes_on p (within k r) c h = before_unfinished (term_of (part_of p k) r) (coming p k) (goes_on (part_of p k) r c.3 c.2)
 goes_on p (alongside rs) c h = refl
 
-pub finished_is : (p : Process) (r : Remains) → CanRemain p r → is_finished (term_of p r) ≡ is_over r
+pub finished_is : (p : Process) (r : Remains) → CanRemain p r → is_finished (term_of p r) ≡ none_remains r
 finished_is p over c = refl
 finished_is p whole c = refl
 finished_is p (within k r) c = goes_on p (within k r) c refl
@@ -63,7 +63,7 @@ finished_is p (alongside rs) c = refl
 all_finished_is : (p : Process) (k : ℕ) (rs : Several) → EachCanRemain p k rs → all_finished (terms_of p k rs) ≡ all_over rs
 all_finished_is p k no_more c = refl
 all_finished_is p k (and_left r rest) c = ap (λ b. b && all_finished (terms_of p (suc k) rest)) (finished_is (part_of p k) r c.0)
-    ∙ ap (λ b. is_over r && b) (all_finished_is p (suc k) rest c.1)
+    ∙ ap (λ b. none_remains r && b) (all_finished_is p (suc k) rest c.1)
 
 before_lively : (t : Term) (more : Processes) → is_finished t ≡ false → Lively t → Lively (before t more)
 before_lively t no_members h v = v
@@ -85,7 +85,7 @@ mutual
 pub record Begins (p : Process) : Type 0 where
   pub term : term_of p (begun p) ≡ opened p
   pub can : CanRemain p (begun p)
-  pub goes : is_over (begun p) ≡ false
+  pub goes : none_remains (begun p) ≡ false
 
 -- the members of all are from this number on these
 abbrev From : Processes → ℕ → Processes → Type 0
@@ -106,7 +106,7 @@ from_at (and_member q rest) (suc k) p more e = from_at rest k p more e
 -- the members, from a number on, are begun as branches
 abbrev AllGo : Processes → Type 0
 AllGo no_members = Unit {0}
-AllGo (and_member p more) = (is_over (begun p) ≡ false) × (is_finished (opened p) ≡ false) × AllGo more
+AllGo (and_member p more) = (none_remains (begun p) ≡ false) × (is_finished (opened p) ≡ false) × AllGo more
 
 record EachBegins (p : Process) (k : ℕ) (ms : Processes) : Type 0 where
   terms : terms_of p k (each_begun ms) ≡ opened_each ms
@@ -239,7 +239,7 @@ step_can n m o (sending k s e) r g = ended_can (sending k s e) (ending_move o (s
 step_can n m o (receiving k s x t) r g = ended_can (receiving k s x t) (ending_move o (receiving k s x t)) (is_met o (receiving k s x t)) g
 step_can n m o (in_turn ms) r g = absurd (cc g)
 step_can n m o (side_by_side ms) r g = absurd (cc g)
-step_can n m o (choosing again cs) r g = chosen_can n m again cs (counted (true_guards o.store 0 cs)) r (λ k e. one_below o.store cs k (sym e))
+step_can n m o (choosing again cs) r g = chosen_can n m again cs (guards_counted (true_guards o.store 0 cs)) r (λ k e. one_below o.store cs k (sym e))
 step_can n m o (repeating p) r g = entered_can n m (repeating p) 0 r refl (omega arith)
 
 -- what a round leaves

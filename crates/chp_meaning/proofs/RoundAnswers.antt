@@ -14,11 +14,11 @@ use Rattle.chp_meaning.specs.Fitting.{Fits}
 use Rattle.chp_meaning.specs.Terms.{Place}
 use Rattle.chp_meaning.specs.Steps.{Configuration, Step, Leads, no_step, one_step}
 use Rattle.chp_meaning.specs.Rounds.{enabled_places, taken, round, rounds_from}
-use Rattle.chp_meaning.specs.AtOnce.{held}
+use Rattle.chp_meaning.specs.AtOnce.{held_values}
 use Rattle.chp_meaning.specs.declared.left.Left.{Left}
 use Rattle.chp_meaning.specs.declared.run.RunEnd.{RunEnd}
 use Rattle.chp_meaning.specs.declared.run.RunEnd.TheVariants.{Rest, Spent, TooMany}
-use Rattle.chp_meaning.specs.Standing.{configuration_of, histories_of, IsStanding, IsUnchanged, IsPlan, IsSettled, next_moves}
+use Rattle.chp_meaning.specs.Standing.{configuration_of, histories_of, IsStanding, IsUnchanged, IsPlan, HaveMoved, next_moves}
 use Rattle.chp_meaning.specs.Ends.{IsReached, CanStep, held_in, is_some_step, IsEnd, IsWithin, end_by}
 use Rattle.chp_meaning.proofs.Places.{In}
 use Rattle.chp_meaning.proofs.Fitting.{meeting_sound, opened_fits}
@@ -75,16 +75,16 @@ rounds_more (suc m) n c = let e : suc (m + n) ≡ suc m + n = omega arith in rou
 
 -- values never go away
 
-held_more : (hs : List (List ℕ)) (w : Option (Entry ℕ)) → held hs ≤ held (appended hs w)
+held_more : (hs : List (List ℕ)) (w : Option (Entry ℕ)) → held_values hs ≤ held_values (appended hs w)
 held_more hs None = omega arith
 held_more hs (Some (entry k v)) = by_range (cases_lt k (length hs))
   where
-    by_range : (k < length hs) ⊎ (length hs ≤ k) → held hs ≤ held (slice_set hs k (history_at hs k ++ v ∷ []))
+    by_range : (k < length hs) ⊎ (length hs ≤ k) → held_values hs ≤ held_values (slice_set hs k (history_at hs k ++ v ∷ []))
     by_range (inl lt) = omega (arith, held_set hs k (v ∷ []) lt)
-    by_range (inr le) = omega (arith, ap held (set_past hs k (history_at hs k ++ v ∷ []) le))
+    by_range (inr le) = omega (arith, ap held_values (set_past hs k (history_at hs k ++ v ∷ []) le))
 
 step_held : {c d : Configuration} {a : Place} → Step c a d → held_in c ≤ held_in d
-step_held {c = c} {d = d} {a = a} s = omega (arith, held_more c.histories (deal s).pass, ap (λ (x : Configuration). held x.histories) (step_deals s))
+step_held {c = c} {d = d} {a = a} s = omega (arith, held_more c.histories (deal s).pass, ap (λ (x : Configuration). held_values x.histories) (step_deals s))
 
 pub run_held : {c d : Configuration} {n : ℕ} → Leads c n d → held_in c ≤ held_in d
 run_held no_step = omega arith
@@ -95,7 +95,7 @@ rounds_held m n c f le =
     let l = rounds_lead m c f in
     let k = rounds_lead (n - m) (rounds_from c m) (leads_fit f l.1) in
     let e : m + (n - m) ≡ n = omega (arith, le) in
-    omega (arith, run_held k.1, ap (λ (x : Configuration). held x.histories) (rounds_more m (n - m) c ∙ ap (rounds_from c) e))
+    omega (arith, run_held k.1, ap (λ (x : Configuration). held_values x.histories) (rounds_more m (n - m) c ∙ ap (rounds_from c) e))
 
 -- in a run of rounds
 
@@ -116,9 +116,9 @@ pub stopped : {X E : Type 0} (r : Result X E) (body : Process) (old : Configurat
 stopped r body old i n c d a le = on_err r (IsWithin n old (configuration_of body d)) (i, le, now_is body old i c d a)
 
 -- the histories hold no more than they did
-pub still_few : {X E : Type 0} (r : Result X E) (count most : ℕ) (c d : Config) → IsUnchanged c d → count ≡ held (histories_of c) → count ≤ most →
-    OnErr r (held (histories_of d) ≤ most)
-still_few r count most c d u is few = on_err r (held (histories_of d) ≤ most) (omega (arith, ap held u.histories, is, few))
+pub still_few : {X E : Type 0} (r : Result X E) (count most : ℕ) (c d : Config) → IsUnchanged c d → count ≡ held_values (histories_of c) → count ≤ most →
+    OnErr r (held_values (histories_of d) ≤ most)
+still_few r count most c d u is few = on_err r (held_values (histories_of d) ≤ most) (omega (arith, ap held_values u.histories, is, few))
 
 rest_there : (body : Process) (old : Configuration) (i : ℕ) (c d : Config) → Fits old.term → IsAt body old i c d → next_moves body c ≡ [] →
     ¬ CanStep (configuration_of body d)
@@ -127,11 +127,11 @@ rest_there body old i c d f a none can =
     let there : CanStep (configuration_of body c) = subst CanStep e can in
     no_step_planned body c a.standing (at_fits body old i c d f a) none there.0 there.1 there.2
 
-held_there : (body : Process) (old : Configuration) (i : ℕ) (c d : Config) → IsAt body old i c d → held_in (configuration_of body d) ≡ held (histories_of c)
-held_there body old i c d a = ap held a.unchanged.histories
+held_there : (body : Process) (old : Configuration) (i : ℕ) (c d : Config) → IsAt body old i c d → held_in (configuration_of body d) ≡ held_values (histories_of c)
+held_there body old i c d a = ap held_values a.unchanged.histories
 
 pub rested : (body : Process) (old : Configuration) (i n most : ℕ) (c d : Config) (left : Left) (moves : List Move) → Fits old.term → IsAt body old i c d →
-    IsPlan body c left moves → moves ≡ [] → i ≤ n → held (histories_of c) ≤ most → IsEnd n most old (configuration_of body d) Rest
+    IsPlan body c left moves → moves ≡ [] → i ≤ n → held_values (histories_of c) ≤ most → IsEnd n most old (configuration_of body d) Rest
 rested body old i n most c d left moves f a p none le few =
     let rest = rest_there body old i c d f a (sym p.moves_are ∙ none) in
     let there = now_is body old i c d a in
@@ -141,17 +141,17 @@ rested body old i n most c d left moves f a p none le few =
     (omega (arith, few, held_there body old i c d a, ap held_in last), last, rest)
 
 pub overfull : (body : Process) (old : Configuration) (i n most : ℕ) (c d : Config) (left : Left) (moves : List Move) → Fits old.term → IsAt body old i c d →
-    IsPlan body c left moves → i < n → held (histories_of c) ≤ most → most < held (histories_of c) + passing moves →
+    IsPlan body c left moves → i < n → held_values (histories_of c) ≤ most → most < held_values (histories_of c) + passing moves →
     IsEnd n most old (configuration_of body d) TooMany
 overfull body old i n most c d left moves f a p lt few many =
     let there = now_is body old i c d a in
-    let next : held_in (rounds_from old (suc i)) ≡ held (histories_of c) + passing moves =
+    let next : held_in (rounds_from old (suc i)) ≡ held_values (histories_of c) + passing moves =
     ap held_in (one_round_more i old ∙ ap round (sym a.so_far)) ∙ planned_held body c left moves a.standing (at_fits body old i c d f a) p in
     let more = rounds_held (suc i) n old f (omega (arith, lt)) in
     (omega (arith, next, many, more), (i, lt, there, omega (arith, few, held_there body old i c d a), omega (arith, next, many)))
 
 pub ended : (body : Process) (old : Configuration) (n most : ℕ) (c d : Config) (left : Left) (moves : List Move) → Fits old.term → IsAt body old n c d →
-    IsPlan body c left moves → held (histories_of c) ≤ most → (xs : List Move) → xs ≡ moves → IsEnd n most old (configuration_of body d) (end_by xs)
+    IsPlan body c left moves → held_values (histories_of c) ≤ most → (xs : List Move) → xs ≡ moves → IsEnd n most old (configuration_of body d) (end_by xs)
 ended body old n most c d left moves f a p few [] e = rested body old n n most c d left moves f a p (sym e) (omega arith) few
 ended body old n most c d left moves f a p few (x ∷ xs) e =
     let last = now_is body old n c d a in
@@ -159,7 +159,7 @@ ended body old n most c d left moves f a p few (x ∷ xs) e =
     (omega (arith, few, held_there body old n c d a, ap held_in last), last, subst CanStep (sym (unchanged_same body c d a.unchanged)) can)
 
 pub after_round : (body : Process) (old : Configuration) (i : ℕ) (c d e : Config) (left : Left) (moves : List Move) → Fits old.term → IsAt body old i c d →
-    IsPlan body c left moves → IsSettled d e left moves → configuration_of body e ≡ rounds_from old (i + 1)
+    IsPlan body c left moves → HaveMoved d e left moves → configuration_of body e ≡ rounds_from old (i + 1)
 after_round body old i c d e left moves f a p s =
     let k : suc i ≡ i + 1 = omega arith in
     settled_round body c e left moves a.standing (at_fits body old i c d f a) p (settled_after c d e left moves a.unchanged s)

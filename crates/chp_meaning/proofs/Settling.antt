@@ -10,7 +10,7 @@ use Rattle.env_script.specs.Runs.{history_at}
 use Rattle.chp_meaning.specs.declared.config.Rest.{Rest}
 use Rattle.chp_meaning.specs.declared.effect.Move.{Move}
 use Rattle.chp_meaning.specs.AtOnce.{less, used, used_on, passed, passed_on, shorter, withdrawn_on, is_below, number_below}
-use Rattle.chp_meaning.specs.Standing.{items_of, rest_of}
+use Rattle.chp_meaning.specs.Standing.{items_of, offer_of_rest}
 
 pub on_err : {X E : Type 0} (r : Result X E) (P : Type 0) → P → OnErr r P
 on_err (Ok x) P h = tt
@@ -102,17 +102,17 @@ withdrawn_more before now new ms n len d some le same below is so_far =
     let length_there : length earlier ≡ len = sym (passed_length earlier x.pass) ∙ (ap (λ (hs : List (List ℕ)). length hs) (sym there) ∙ same) in
     is ∙ (ap (λ hs. withdrawn_on hs x.pass) there ∙ back earlier x.pass (ap (λ k. is_below k x.pass) length_there ∙ below))
 
-rest_is : (rs : List Rest) (k : ℕ) (d : Rest) → k < length rs → offer_at (map rest_of rs) k ≡ rest_of (get_or rs k d)
+rest_is : (rs : List Rest) (k : ℕ) (d : Rest) → k < length rs → offer_at (map offer_of_rest rs) k ≡ offer_of_rest (get_or rs k d)
 rest_is [] k d lt = absurd (omega (arith, lt))
 rest_is (r ∷ rs) zero d lt = refl
 rest_is (r ∷ rs) (suc k) d lt = rest_is rs k d (omega (arith, lt))
 
-pub used_one : (rs : List Rest) (k : ℕ) (d new : Rest) (step : Move) → k < length rs → step.uses ≡ Some k → rest_of new ≡ less (rest_of (get_or rs k d)) →
-    map rest_of (slice_set rs k new) ≡ used (map rest_of rs) step
+pub used_one : (rs : List Rest) (k : ℕ) (d new : Rest) (step : Move) → k < length rs → step.uses ≡ Some k → offer_of_rest new ≡ less (offer_of_rest (get_or rs k d)) →
+    map offer_of_rest (slice_set rs k new) ≡ used (map offer_of_rest rs) step
 used_one rs k d new step lt is e =
-    map-set rest_of rs k new
-    ∙ (ap (λ o. slice_set (map rest_of rs) k o) (e ∙ ap less (sym (rest_is rs k d lt)))
-    ∙ ap (λ w. used_on (map rest_of rs) w) (sym is))
+    map-set offer_of_rest rs k new
+    ∙ (ap (λ o. slice_set (map offer_of_rest rs) k o) (e ∙ ap less (sym (rest_is rs k d lt)))
+    ∙ ap (λ w. used_on (map offer_of_rest rs) w) (sym is))
 
 pub number_in_range : (n : ℕ) (uses : Option ℕ) (k : ℕ) → uses ≡ Some k → number_below n uses ≡ true → k < n
 number_in_range n uses k is b = ltb-true k n (sym (ap (number_below n) is) ∙ b)

@@ -13,8 +13,8 @@ use Rattle.chp_meaning.specs.declared.config.Config.{Config}
 use Rattle.chp_meaning.specs.Terms.{opened}
 use Rattle.chp_meaning.specs.Steps.{Configuration, no_step, start_of}
 use Rattle.chp_meaning.specs.Remaining.{remains_of, term_of, begun, IsRunnable, AreRunnable, ChoicesRunnable}
-use Rattle.chp_meaning.specs.Standing.{rest_of, items_of, histories_of, configuration_of, IsStanding}
-use Rattle.chp_meaning.specs.AtOnce.{held}
+use Rattle.chp_meaning.specs.Standing.{offer_of_rest, items_of, histories_of, configuration_of, IsStanding}
+use Rattle.chp_meaning.specs.AtOnce.{held_values}
 use Rattle.std.proofs.lemmas.List.Sums.{sum_by-cons}
 use Rattle.chp_meaning.specs.Ends.{seen, IsReached, IsOf}
 use Rattle.chp_meaning.proofs.Remainders.{begins}
@@ -51,7 +51,7 @@ script_length (c ∷ cs) (o ∷ os) h = ap suc (script_length cs os h.1)
 pub record IsFirst (body : Process) (channels : ℕ) (script : List OfferValue) (c : Config) : Type 0 where
   pub runnable : IsRunnable channels (length c.store.items) body
   pub left_is : remains_of c.left ≡ begun body
-  pub rests : map rest_of c.rests.items ≡ script
+  pub rests : map offer_of_rest c.rests.items ≡ script
   pub histories : items_of c.histories.items ≡ replicate channels []
   pub sends : c.sends.items ≡ replicate channels false
   pub receives : c.receives.items ≡ replicate channels None
@@ -59,7 +59,7 @@ pub record IsFirst (body : Process) (channels : ℕ) (script : List OfferValue) 
 pub first_stands : (body : Process) (channels : ℕ) (script : List OfferValue) (c : Config) → IsFirst body channels script c → length script ≡ channels →
     IsStanding body c
 first_stands body channels script c f fits =
-    let n : channels ≡ length c.rests.items = sym fits ∙ (ap (λ (xs : List OfferValue). length xs) (sym f.rests) ∙ length-map c.rests.items rest_of) in
+    let n : channels ≡ length c.rests.items = sym fits ∙ (ap (λ (xs : List OfferValue). length xs) (sym f.rests) ∙ length-map c.rests.items offer_of_rest) in
     let none : List ℕ = [] in
     let h : length c.histories.items ≡ channels = sym (length-map c.histories.items (λ x. x.items))
         ∙ (ap (λ (xs : List (List ℕ)). length xs) f.histories ∙ length-replicate channels none) in
@@ -100,10 +100,10 @@ program_runs t n m is e f = subst (λ k. IsRunnable k m (process_of t.body)) (sy
     (subst (λ k. IsRunnable (length t.channels) k (process_of t.body)) (sym f) (process_runs t.channels t.vars (process_of t.body) is))
 
 -- before the first step no value has passed
-none_held : (n : ℕ) → held (replicate n []) ≡ 0
+none_held : (n : ℕ) → held_values (replicate n []) ≡ 0
 none_held zero = refl
 none_held (suc n) = let none : List ℕ = [] in omega (arith, sum_by-cons length none (replicate n none), none_held n)
 
 pub held_at_first : (body : Process) (c : Config) (store : List ℕ) (script : List OfferValue) (n most : ℕ) →
-    configuration_of body c ≡ record { term = opened body; store = store; rests = script; histories = replicate n [] } → held (histories_of c) ≤ most
-held_at_first body c store script n most e = omega (arith, ap (λ (x : Configuration). held x.histories) e, none_held n)
+    configuration_of body c ≡ record { term = opened body; store = store; rests = script; histories = replicate n [] } → held_values (histories_of c) ≤ most
+held_at_first body c store script n most e = omega (arith, ap (λ (x : Configuration). held_values x.histories) e, none_held n)

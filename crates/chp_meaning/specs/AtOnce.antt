@@ -49,13 +49,13 @@ ending_move o (sending k s e) = sent_move o k (value (slice_index o.store) e) (o
 ending_move o (receiving k s x t) = received_move k x (next_of (offer_at o.rests k))
 ending_move o _ = None
 
-abbrev pub is_inside : OfferValue → Bool
-is_inside nothing = true
-is_inside _ = false
+abbrev pub offers_inside : OfferValue → Bool
+offers_inside nothing = true
+offers_inside _ = false
 
 -- a receive to which an active send sends
 abbrev pub is_met : Outset → Process → Bool
-is_met o (receiving k s x t) = if is_inside (offer_at o.rests k) then slice_index_or o.sends k false else false
+is_met o (receiving k s x t) = if offers_inside (offer_at o.rests k) then slice_index_or o.sends k false else false
 is_met o _ = false
 
 -- the numbers of the guards that are true, from a number on
@@ -64,10 +64,10 @@ true_guards store k no_choices = []
 true_guards store k (and_choice g p more) = if value (slice_index store) g == 1 then k
     ∷ true_guards store (k + 1) more else true_guards store (k + 1) more
 
-abbrev pub counted : List ℕ → TrueGuards
-counted [] = Zero
-counted (k ∷ []) = One k
-counted _ = Many
+abbrev pub guards_counted : List ℕ → TrueGuards
+guards_counted [] = Zero
+guards_counted (k ∷ []) = One k
+guards_counted _ = Many
 
 abbrev pub choosing_move : Bool → TrueGuards → Option Move
 choosing_move again (One k) = Some plain_move
@@ -76,7 +76,7 @@ choosing_move again _ = None
 
 -- the step at an active statement's place
 abbrev pub move_of : Outset → Process → Option Move
-move_of o (choosing again choices) = choosing_move again (counted (true_guards o.store 0 choices))
+move_of o (choosing again choices) = choosing_move again (guards_counted (true_guards o.store 0 choices))
 move_of o (repeating p) = Some plain_move
 move_of o p = ending_move o p
 
@@ -96,7 +96,7 @@ ended None false = whole
 -- what is left of an active statement
 abbrev pub step_remains : Outset → Process → Remains
 step_remains o (choosing again choices) =
-    chosen_remains (choosing again choices) again (counted (true_guards o.store 0 choices))
+    chosen_remains (choosing again choices) again (guards_counted (true_guards o.store 0 choices))
 step_remains o (repeating p) = entered (repeating p) 0
 step_remains o p = ended (ending_move o p) (is_met o p)
 
@@ -170,8 +170,8 @@ abbrev pub passed : List (List ℕ) → Move → List (List ℕ)
 passed histories m = passed_on histories m.pass
 
 -- how many values have passed
-abbrev pub held : List (List ℕ) → ℕ
-held histories = sum_by length histories
+abbrev pub held_values : List (List ℕ) → ℕ
+held_values histories = sum_by length histories
 
 -- the last value is taken away again
 abbrev pub shorter : List ℕ → List ℕ

@@ -9,7 +9,7 @@ use Rattle.chp_meaning.specs.declared.run.RunEnd.TheVariants.{Rest, Spent, TooMa
 use Rattle.chp_meaning.specs.Terms.{Place}
 use Rattle.chp_meaning.specs.Steps.{Configuration, Step, Leads, start_of}
 use Rattle.chp_meaning.specs.Rounds.{rounds_from}
-use Rattle.chp_meaning.specs.AtOnce.{held}
+use Rattle.chp_meaning.specs.AtOnce.{held_values}
 use Rattle.chp_meaning.specs.Standing.{IsStanding, configuration_of}
 
 -- how a program stands
@@ -32,7 +32,7 @@ CanStep c = (at : Place) × (d : Configuration) × Step c at d
 
 -- how many values have passed, on all channels together
 abbrev pub held_in : Configuration → ℕ
-held_in c = held c.histories
+held_in c = held_values c.histories
 
 -- From the first configuration n rounds are wanted, and the histories may hold so many values. They would hold more,
 -- and this is the last configuration in which they don't; or they hold no more, and no step is left, or one is.

@@ -43,11 +43,11 @@ abbrev mutual
   hidden_in_choices (and_choice g p more) = hidden_vars p ++ hidden_in_choices more
 
 -- all of a variable that is as wide as the expression
-abbrev pub read_back : ℕ → Formula → Span → Formula
-read_back h e at = reading h (width_of e - 1) 0 at
+abbrev pub read_through : ℕ → Formula → Span → Formula
+read_through h e at = reading h (width_of e - 1) 0 at
 
 abbrev pub in_halves : ℕ → ℕ → Span → Formula → Process
-in_halves h x at e = in_turn (and_member (assigning h at e) (and_member (assigning x at (read_back h e at)) no_members))
+in_halves h x at e = in_turn (and_member (assigning h at e) (and_member (assigning x at (read_through h e at)) no_members))
 
 abbrev pub halved_assign : Bool → ℕ → ℕ → Span → Formula → Process
 halved_assign false h x at e = assigning x at e

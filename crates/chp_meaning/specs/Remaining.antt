@@ -35,21 +35,21 @@ abbrev pub several_of : List Left → Several
 several_of [] = no_more
 several_of (l ∷ ls) = and_left (remains_of l) (several_of ls)
 
-abbrev pub members_of : List TStmt → Processes
-members_of [] = no_members
-members_of (s ∷ rest) = and_member (process_of s) (members_of rest)
+abbrev pub statement_processes : List TStmt → Processes
+statement_processes [] = no_members
+statement_processes (s ∷ rest) = and_member (process_of s) (statement_processes rest)
 
 abbrev pub choices_of : List TArm → Choices
 choices_of [] = no_choices
 choices_of (a ∷ rest) = and_choice (formula_of a.guard) (process_of a.body) (choices_of rest)
 
-abbrev pub is_over : Remains → Bool
-is_over over = true
-is_over _ = false
+abbrev pub none_remains : Remains → Bool
+none_remains over = true
+none_remains _ = false
 
 abbrev pub all_over : Several → Bool
 all_over no_more = true
-all_over (and_left r rest) = is_over r && all_over rest
+all_over (and_left r rest) = none_remains r && all_over rest
 
 abbrev pub how_many : Several → ℕ
 how_many no_more = 0
@@ -123,7 +123,7 @@ abbrev mutual
   pub CanRemain : Process → Remains → Type 0
   CanRemain p over = Unit {0}
   CanRemain p whole = is_group p ≡ false
-  CanRemain p (within k r) = (k < part_count p) × (is_beside p ≡ false) × (is_over r ≡ false)
+  CanRemain p (within k r) = (k < part_count p) × (is_beside p ≡ false) × (none_remains r ≡ false)
       × CanRemain (part_of p k) r
   CanRemain p (alongside rs) = (is_beside p ≡ true) × (how_many rs ≡ part_count p) × (all_over rs ≡ false)
       × EachCanRemain p 0 rs
@@ -157,7 +157,7 @@ after_part _ k = over
 
 -- this is left of part k
 abbrev pub resumed : Process → ℕ → Remains → Remains
-resumed p k r = if is_over r then after_part p k else within k r
+resumed p k r = if none_remains r then after_part p k else within k r
 
 abbrev pub gathered : Several → Remains
 gathered rs = if all_over rs then over else alongside rs

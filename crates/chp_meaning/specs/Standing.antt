@@ -14,16 +14,16 @@ use Rattle.chp_meaning.specs.Remaining.{remains_of, term_of, CanRemain, IsRunnab
 use Rattle.chp_meaning.specs.AtOnce.{Outset, noted_send, noted_receive, statements, moves_of, advanced, written, used, passed, is_below, number_below}
 
 -- the values that are still to come, the count that is left
-abbrev pub rest_of : Rest → OfferValue
-rest_of (Gives values sent) = gives (drop sent values.items)
-rest_of (Takes count) = takes count
-rest_of Nothing = nothing
+abbrev pub offer_of_rest : Rest → OfferValue
+offer_of_rest (Gives values sent) = gives (drop sent values.items)
+offer_of_rest (Takes count) = takes count
+offer_of_rest Nothing = nothing
 
 abbrev pub items_of : List (Vec ℕ Global) → List (List ℕ)
 items_of histories = map (λ h. h.items) histories
 
 abbrev pub outset_of : Config → Outset
-outset_of c = record { store = c.store.items; rests = map rest_of c.rests.items; sends = c.sends.items; receives =
+outset_of c = record { store = c.store.items; rests = map offer_of_rest c.rests.items; sends = c.sends.items; receives =
     c.receives.items }
 
 abbrev pub histories_of : Config → List (List ℕ)
@@ -32,7 +32,7 @@ histories_of c = items_of c.histories.items
 -- of a program that does this
 abbrev pub configuration_of : Process → Config → Configuration
 configuration_of body c = record { term = term_of body (remains_of c.left); store = c.store.items; rests =
-    map rest_of c.rests.items; histories = histories_of c }
+    map offer_of_rest c.rests.items; histories = histories_of c }
 
 -- What is kept between rounds of a program that does this: its numbers are within the lists, what is left can be left
 -- of it, and no end is noted.
@@ -47,7 +47,7 @@ pub record IsStanding (body : Process) (c : Config) : Type 0 where
 abbrev pub next_outset : Process → Config → Outset
 next_outset body c = record {
   store = c.store.items;
-  rests = map rest_of c.rests.items;
+  rests = map offer_of_rest c.rests.items;
   sends = fold (noted_send true) (replicate (length c.rests.items) false) (statements body (remains_of c.left));
   receives = fold (noted_receive true) (replicate (length c.rests.items) None) (statements body (remains_of c.left));
 }
@@ -67,10 +67,10 @@ pub record AreWithin (c : Config) (moves : List Move) : Type 0 where
   pub uses : All (λ (m : Move). number_below (length c.rests.items) m.uses ≡ true) moves
 
 -- the same but for what the moves change, and what is left
-pub record IsSettled (old new : Config) (left : Left) (moves : List Move) : Type 0 where
+pub record HaveMoved (old new : Config) (left : Left) (moves : List Move) : Type 0 where
   pub left_is : new.left ≡ left
   pub store : new.store.items ≡ fold written old.store.items moves
-  pub rests : map rest_of new.rests.items ≡ fold used (map rest_of old.rests.items) moves
+  pub rests : map offer_of_rest new.rests.items ≡ fold used (map offer_of_rest old.rests.items) moves
   pub histories : histories_of new ≡ fold passed (histories_of old) moves
   pub sends : new.sends.items ≡ old.sends.items
   pub receives : new.receives.items ≡ old.receives.items

@@ -9,7 +9,7 @@ ghost use Rattle.width_check.specs.View.{process_of};
 ghost use Rattle.chp_meaning.specs.Terms.{opened, is_finished};
 ghost use Rattle.chp_meaning.specs.Steps.{start_of};
 ghost use Rattle.chp_meaning.specs.Remaining.{IsRunnable};
-ghost use Rattle.chp_meaning.specs.Standing.{rest_of, items_of, histories_of, configuration_of, IsStanding};
+ghost use Rattle.chp_meaning.specs.Standing.{offer_of_rest, items_of, histories_of, configuration_of, IsStanding};
 ghost use Rattle.chp_meaning.specs.Ends.{seen, IsOf};
 
 use crate::left::{Left, is_done, opened};
@@ -48,7 +48,7 @@ fn first_values(alloc: Global, vars: &[Var]) -> Result<Vec<u64>, AllocError>
 }
 
 fn whole_offer(alloc: Global, offer: &Offer) -> Result<Rest, AllocError>
-    ensures { IfOk result (λ rest. rest_of rest ≡ offered offer.now) }
+    ensures { IfOk result (λ rest. offer_of_rest rest ≡ offered offer.now) }
 {
     match offer {
         Offer::Values(values) => {
@@ -62,7 +62,7 @@ fn whole_offer(alloc: Global, offer: &Offer) -> Result<Rest, AllocError>
 
 /// All of a script.
 fn whole_script(alloc: Global, script: &Script) -> Result<Vec<Rest>, AllocError>
-    ensures { IfOk result (λ rests. map rest_of rests.items ≡ script.now) }
+    ensures { IfOk result (λ rests. map offer_of_rest rests.items ≡ script.now) }
 {
     let mut rests = Vec::new(alloc);
     for offer in script.offers() {

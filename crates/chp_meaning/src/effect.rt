@@ -4,8 +4,8 @@ ghost use Rattle.std.specs.Prelude.{◌≡◌, ◌<◌, length};
 ghost use Rattle.env_script.specs.Scripts.{offer_at, is_over};
 ghost use Rattle.width_check.specs.View.{process_of};
 ghost use Rattle.chp_meaning.specs.Remaining.{choices_of, GuardsHaveValues};
-ghost use Rattle.chp_meaning.specs.AtOnce.{plain_move, next_of, sent_move, received_move, ending_move, is_met, true_guards, counted};
-ghost use Rattle.chp_meaning.specs.Standing.{rest_of, outset_of, HasTables, CanRun};
+ghost use Rattle.chp_meaning.specs.AtOnce.{plain_move, next_of, sent_move, received_move, ending_move, is_met, true_guards, guards_counted};
+ghost use Rattle.chp_meaning.specs.Standing.{offer_of_rest, outset_of, HasTables, CanRun};
 
 use crate::config::{Config, Rest};
 use env_script::Count;
@@ -35,7 +35,7 @@ pub(crate) fn plain_move() -> Move
 
 /// The next value that the environment sends.
 fn next_value(rest: &Rest) -> Option<u64>
-    ensures { result ≡ next_of (rest_of rest.now) }
+    ensures { result ≡ next_of (offer_of_rest rest.now) }
 {
     match rest {
         Rest::Gives { values, sent } => values.get(*sent).copied(),
@@ -140,7 +140,7 @@ pub(crate) enum TrueGuards {
 /// Which guards of the arms are true.
 pub(crate) fn chosen(arms: &[TArm], store: &[u64]) -> TrueGuards
     requires { GuardsHaveValues (choices_of arms.now) }
-    ensures { result ≡ counted (true_guards store.now 0 (choices_of arms.now)) }
+    ensures { result ≡ guards_counted (true_guards store.now 0 (choices_of arms.now)) }
 {
     let mut found = TrueGuards::Zero;
     for (index, arm) in arms.iter().enumerate() {

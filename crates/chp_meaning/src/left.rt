@@ -3,7 +3,7 @@
 ghost use Rattle.std.specs.Prelude.{◌≡◌, ◌<◌, IfOk};
 ghost use Rattle.std.specs.List.{list_all};
 ghost use Rattle.width_check.specs.View.{process_of};
-ghost use Rattle.chp_meaning.specs.Remaining.{remains_of, several_of, is_over, part_of, part_count, begun, after_part, resumed, gathered, within, HasMembers};
+ghost use Rattle.chp_meaning.specs.Remaining.{remains_of, several_of, none_remains, part_of, part_count, begun, after_part, resumed, gathered, within, HasMembers};
 
 use std::alloc::{AllocError, Global};
 use width_check::TStmt;
@@ -22,7 +22,7 @@ pub(crate) enum Left {
 }
 
 pub(crate) fn is_done(left: &Left) -> bool
-    ensures { result ≡ is_over (remains_of left.now) }
+    ensures { result ≡ none_remains (remains_of left.now) }
 {
     match left {
         Left::Done => true,
@@ -117,7 +117,7 @@ pub(crate) fn resumed(
 }
 
 fn all_done(lefts: &[Left]) -> bool
-    ensures { result ≡ list_all (λ left. is_over (remains_of left)) lefts.now }
+    ensures { result ≡ list_all (λ left. none_remains (remains_of left)) lefts.now }
 {
     lefts.iter().all(|left| is_done(left))
 }

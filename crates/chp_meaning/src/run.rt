@@ -9,9 +9,9 @@ ghost use Rattle.chp_meaning.specs.Fitting.{Fits};
 ghost use Rattle.chp_meaning.specs.Rounds.{round};
 ghost use Rattle.chp_meaning.specs.Laws.{OneHistory, RoundsHold};
 ghost use Rattle.chp_meaning.specs.Remaining.{remains_of, CanRemain};
-ghost use Rattle.chp_meaning.specs.AtOnce.{advanced, moves_of, statements, held};
+ghost use Rattle.chp_meaning.specs.AtOnce.{advanced, moves_of, statements, held_values};
 ghost use Rattle.chp_meaning.specs.Ends.{seen, IsOf, CanStep, IsEnd, IsWithin, held_in, is_some_step, end_by};
-ghost use Rattle.chp_meaning.specs.Standing.{outset_of, histories_of, items_of, configuration_of, next_moves, CanRun, IsStanding, IsPlan, AreWithin, IsSettled, IsUnchanged};
+ghost use Rattle.chp_meaning.specs.Standing.{outset_of, histories_of, items_of, configuration_of, next_moves, CanRun, IsStanding, IsPlan, AreWithin, HaveMoved, IsUnchanged};
 
 use crate::config::Config;
 use crate::effect::Move;
@@ -77,7 +77,7 @@ fn planned(
 /// Makes the round of a plan. Where memory runs out nothing is changed.
 fn settled(config: &mut Config, left: Left, moves: &[Move]) -> Result<(), AllocError>
     requires { AreWithin config.old moves.now }
-    ensures ok { OnOk result (IsSettled config.old config.new left moves.now) }
+    ensures ok { OnOk result (HaveMoved config.old config.new left moves.now) }
     ensures err { OnErr result (IsUnchanged config.old config.new) }
 {
     pass_all(&mut config.histories, moves)?;
@@ -122,8 +122,8 @@ pub fn round(alloc: Global, config: &mut Config, program: &Typed) -> Result<bool
 
 /// How many values have passed on all channels together.
 fn held(histories: &[Vec<u64>], most: u32) -> u64
-    requires { held (items_of histories.now) ≤ most }
-    ensures { result ≡ held (items_of histories.now) }
+    requires { held_values (items_of histories.now) ≤ most }
+    ensures { result ≡ held_values (items_of histories.now) }
 {
     let mut count: u64 = 0;
     for history in histories {
@@ -159,7 +159,7 @@ pub(crate) fn run_of(
     most: u32,
 ) -> Result<RunEnd, AllocError>
     requires standing { IsStanding (process_of body.now) config.old }
-    requires held { held (histories_of config.old) ≤ most }
+    requires held_values { held_values (histories_of config.old) ≤ most }
     ensures standing { IsStanding (process_of body.now) config.new }
     ensures end { Fits (configuration_of (process_of body.now) config.old).term →
         IfOk result (λ end. IsEnd n most (configuration_of (process_of body.now) config.old)
@@ -167,7 +167,7 @@ pub(crate) fn run_of(
     ensures err { Fits (configuration_of (process_of body.now) config.old).term →
         OnErr result (IsWithin n (configuration_of (process_of body.now) config.old)
         (configuration_of (process_of body.now) config.new)) }
-    ensures few { OnErr result (held (histories_of config.new) ≤ most) }
+    ensures few { OnErr result (held_values (histories_of config.new) ≤ most) }
 {
     let mut count = held(&config.histories, most);
     for _made in 0..n {
@@ -196,7 +196,7 @@ pub fn run_rounds(
 ) -> Result<RunEnd, AllocError>
     requires sharing { MeetsSharing (process_of program.now.body) }
     requires of { IsOf program.now config.old }
-    requires held { held_in (seen program.now config.old) ≤ most }
+    requires held_values { held_in (seen program.now config.old) ≤ most }
     ensures of { IsOf program.now config.new }
     ensures end { IfOk result (λ end. IsEnd n most (seen program.now config.old) (seen program.now config.new) end) }
     ensures err { OnErr result (IsWithin n (seen program.now config.old) (seen program.now config.new)) }

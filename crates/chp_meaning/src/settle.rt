@@ -2,7 +2,7 @@
 
 ghost use Rattle.std.specs.Prelude.{◌≡◌, length, fold, map, All, OnOk, OnErr, slice_set, true};
 ghost use Rattle.chp_meaning.specs.AtOnce.{passed, passed_on, withdrawn_on, written, used, less, is_below, number_below};
-ghost use Rattle.chp_meaning.specs.Standing.{rest_of, items_of};
+ghost use Rattle.chp_meaning.specs.Standing.{offer_of_rest, items_of};
 
 use crate::config::Rest;
 use crate::effect::Move;
@@ -70,7 +70,7 @@ pub(crate) fn write_all(store: &mut [u64], moves: &[Move])
 
 /// One value or one acceptance fewer.
 fn use_one(rest: &mut Rest)
-    ensures { rest_of rest.new ≡ less (rest_of rest.old) }
+    ensures { offer_of_rest rest.new ≡ less (offer_of_rest rest.old) }
 {
     match rest {
         Rest::Gives { values, sent } => {
@@ -90,7 +90,7 @@ fn use_one(rest: &mut Rest)
 /// The script has one value or acceptance fewer on the channel on which one is used, if one is.
 fn use_up(rests: &mut [Rest], step: &Move)
     requires { number_below (length rests.old) step.now.uses ≡ true }
-    ensures { map rest_of rests.new ≡ used (map rest_of rests.old) step.now }
+    ensures { map offer_of_rest rests.new ≡ used (map offer_of_rest rests.old) step.now }
 {
     if let Some(chan) = step.uses {
         use_one(&mut rests[chan as usize]);
@@ -100,7 +100,7 @@ fn use_up(rests: &mut [Rest], step: &Move)
 /// The script has one value or acceptance fewer where one was used.
 pub(crate) fn use_all(rests: &mut [Rest], moves: &[Move])
     requires { All (λ step. number_below (length rests.old) step.uses ≡ true) moves.now }
-    ensures { map rest_of rests.new ≡ fold used (map rest_of rests.old) moves.now }
+    ensures { map offer_of_rest rests.new ≡ fold used (map offer_of_rest rests.old) moves.now }
 {
     for step in moves {
         use_up(rests, step);

@@ -13,8 +13,8 @@ use Rattle.chp_syntax.specs.declared.tree.Op.TheVariants as op
 use Rattle.chp_syntax.specs.declared.parser.sight.Numeral.{Numeral}
 use Rattle.chp_syntax.specs.declared.parser.sight.PrimaryFront.TheVariants as primary
 use Rattle.chp_syntax.specs.Trees.{Expression, number, whole, slice, bit, join, negation, Expressions, no_parts, and_part, Links, no_links, and_link}
-use Rattle.chp_syntax.specs.Grammar.{named, numeral, from_to, or_of, xor_of, and_of, sum_of, comparison_of, Covered, cover, Tail, no_tail, end_of, longer, chained, chain_of, Primary, a_number, a_name, a_bit, a_slice, a_join, in_brackets, Parts, the_parts, MoreParts, no_more_parts, one_more_part, Negated, plain, negated, Sum, the_sum, MoreSum, no_more_sum, one_more_sum, Comparison, not_compared, compared, Conjunction, the_conjunction, MoreConjunction, no_more_conjunction, one_more_conjunction, Exclusive, the_exclusive, MoreExclusive, no_more_exclusive, one_more_exclusive, Disjunction, the_disjunction, MoreDisjunction, no_more_disjunction, one_more_disjunction}
-use Rattle.chp_syntax.specs.Parts.{Part, sees, IsKind, reads, rank, Stops, Anything, Exactly, exactly, Operator, operator, AName, the_name, ANumber, the_number, Good, Bad, primary_front}
+use Rattle.chp_syntax.specs.Grammar.{named, numeral, from_to, or_operator, xor_of, and_of, sum_of, comparison_of, Covered, cover, Tail, no_tail, end_of, longer, chained, chain_of, Primary, a_number, a_name, a_bit, a_slice, a_join, in_brackets, Parts, the_parts, MoreParts, no_more_parts, one_more_part, Negated, plain, negated, Sum, the_sum, MoreSum, no_more_sum, one_more_sum, Comparison, not_compared, compared, Conjunction, the_conjunction, MoreConjunction, no_more_conjunction, one_more_conjunction, Exclusive, the_exclusive, MoreExclusive, no_more_exclusive, one_more_exclusive, Disjunction, the_disjunction, MoreDisjunction, no_more_disjunction, one_more_disjunction}
+use Rattle.chp_syntax.specs.Parts.{GrammarPart, sees, IsKind, kind_read, rank, StopsAt, Anything, Exactly, exactly, Operator, operator, AName, the_name, ANumber, the_number, Good, Bad, primary_front}
 use Rattle.chp_syntax.specs.View.{onto, and_pair, chained_to}
 use Rattle.chp_syntax.proofs.Steps.{zero_span, SoFar, Ends, Seam, Then, and_then, Done, all_done, Either, one, other, start, instead, bad_here, not_one, not_other, exactly_seen, operator_seen, ends_exactly, ends_number, ends_done, ends_then, ends_one, any_seam, kind_seam, last_seam, last_any, stops_more, stops_done, then_kind}
 use Rattle.chp_syntax.proofs.Group.{Further, no_further, a_further, Grouping, SoMany, group_first, group_more, group_bad, group_end, group_ends}
@@ -38,13 +38,13 @@ pub record Level : Type 1 where
   pub ends_sign : Ends (Operator op)
 
 abbrev pub Stands : Level → Option Token → Type 0
-Stands v t = (o : Op) × (reads v.op t ≡ Some o)
+Stands v t = (o : Op) × (kind_read v.op t ≡ Some o)
 
-pub level_marked : (v : Level) (t : Option Token) → Stands v t → Stops (suc v.k) t
+pub level_marked : (v : Level) (t : Option Token) → Stands v t → StopsAt (suc v.k) t
 level_marked v None h = tt
 level_marked v (Some t) h = omega (arith, v.ranked t.kind h.0 h.1)
 
-pub level_apart : (v : Level) (t : Option Token) → Stands v t → Stops v.k t → ⊥
+pub level_apart : (v : Level) (t : Option Token) → Stands v t → StopsAt v.k t → ⊥
 level_apart v None h f = let e : ◌≡◌ {A = Option Op} None (Some h.0) = h.1 in cc e
 level_apart v (Some t) h f = let lt : rank t.kind < v.k = f in omega (arith, lt, v.ranked t.kind h.0 h.1)
 
@@ -56,9 +56,9 @@ grouping_of v = record {
   O = Op;
   I = Op × Covered;
   W = v.W;
-  F = Stops v.k;
+  F = StopsAt v.k;
   R = v.R;
-  G = Stops (suc v.k);
+  G = StopsAt (suc v.k);
   M = v.M;
   S = Operator v.op;
   H = Stands v;
@@ -114,11 +114,11 @@ pub record Chained (v : Level) (xs left : List Token) (c : Covered) (links : Lis
   pub same : map link_plain got ≡ links
   pub ends : last_of c got ≡ last
 
-pub chained_first : (v : Level) {xs left : List Token} {c : Covered} → Good v.R (Stops (suc v.k)) xs left c → Chained v xs left c [] c.at
+pub chained_first : (v : Level) {xs left : List Token} {c : Covered} → Good v.R (StopsAt (suc v.k)) xs left c → Chained v xs left c [] c.at
 chained_first v good = record { got = []; so = group_first (grouping_of v) good; same = refl; ends = refl }
 
 pub chained_more : (v : Level) {xs left mid to : List Token} {c n : Covered} {links : List (Op × Expression)} {last : Span} {o : Op} →
-    Chained v xs left c links last → Good (Operator v.op) Anything left mid o → Good v.R (Stops (suc v.k)) mid to n →
+    Chained v xs left c links last → Good (Operator v.op) Anything left mid o → Good v.R (StopsAt (suc v.k)) mid to n →
     Chained v xs to c (links ++ ((o, n.expression) ∷ [])) n.at
 chained_more v {c = c} {n = n} {o = o} s sign good = record {
   got = s.got ++ ((o, n) ∷ []);
@@ -128,13 +128,13 @@ chained_more v {c = c} {n = n} {o = o} s sign good = record {
 }
 
 pub chained_bad : (v : Level) {xs left mid to : List Token} {c : Covered} {links : List (Op × Expression)} {last : Span} {o : Op} →
-    Chained v xs left c links last → Good (Operator v.op) Anything left mid o → Bad v.R (Stops (suc v.k)) mid to → Bad v.W (Stops v.k) xs to
+    Chained v xs left c links last → Good (Operator v.op) Anything left mid o → Bad v.R (StopsAt (suc v.k)) mid to → Bad v.W (StopsAt v.k) xs to
 chained_bad v s sign bad = group_bad (grouping_of v) s.so sign bad
 
 pub chained_end : (v : Level) {xs left : List Token} {c a : Covered} {links : List (Op × Expression)} {last : Span} → Chained v xs left c links last →
-    reads v.op (sees left) ≡ None → a ≡ chained_to c links last → Good v.W (Stops v.k) xs left a
+    kind_read v.op (sees left) ≡ None → a ≡ chained_to c links last → Good v.W (StopsAt v.k) xs left a
 chained_end v {xs} {left} {c} {a} {links} {last} s none e =
-    subst (λ (b : Covered). Good v.W (Stops v.k) xs left b)
+    subst (λ (b : Covered). Good v.W (StopsAt v.k) xs left b)
     (chain_is c s.got ∙ (ap (λ (ls : List (Op × Expression)). chained_to c ls (last_of c s.got)) s.same
     ∙ (ap (λ (p : Span). chained_to c links p) s.ends ∙ sym e)))
     (group_end (grouping_of v) s.so (λ h. let x : ◌≡◌ {A = Option Op} None (Some h.0) = sym none ∙ h.1 in cc x))
@@ -272,7 +272,7 @@ exclusive_level = record {
 pub ends_exclusive : Ends Exclusive
 ends_exclusive = group_ends (grouping_of exclusive_level)
 
-pub disjunction_ranked : (j : TokenKind) (o : Op) → or_of j ≡ Some o → rank j ≡ 5
+pub disjunction_ranked : (j : TokenKind) (o : Op) → or_operator j ≡ Some o → rank j ≡ 5
 disjunction_ranked (Sign mark.Bar) o e = refl
 disjunction_ranked (Sign _) o e = absurd (cc e)
 disjunction_ranked (Word w) o e = absurd (cc e)
@@ -284,11 +284,11 @@ pub disjunction_out : {l rest : List Token} {a : Covered} → Disjunction l rest
 disjunction_out (the_disjunction {mid = mid} {c = c} {us = us} a n) = (mid, c, us, a, n, refl)
 
 pub disjunction_more : {l rest : List Token} {us : Tail} → MoreDisjunction l rest us →
-    Further Exclusive MoreDisjunction (Operator or_of) (λ o c. let p : Op × Covered = (o, c) in p) no_tail (λ x us. longer x.0 x.1 us) l rest us
+    Further Exclusive MoreDisjunction (Operator or_operator) (λ o c. let p : Op × Covered = (o, c) in p) no_tail (λ x us. longer x.0 x.1 us) l rest us
 disjunction_more no_more_disjunction = no_further
 disjunction_more (one_more_disjunction e a n) = a_further (operator e) a n
 
-pub disjunction_in : {l x mid rest : List Token} {o : Op} {c : Covered} {us : Tail} → Operator or_of l x o → Exclusive x mid c → MoreDisjunction mid rest us →
+pub disjunction_in : {l x mid rest : List Token} {o : Op} {c : Covered} {us : Tail} → Operator or_operator l x o → Exclusive x mid c → MoreDisjunction mid rest us →
     MoreDisjunction l rest (longer o c us)
 disjunction_in (operator e) a n = one_more_disjunction e a n
 
@@ -297,7 +297,7 @@ disjunction_level = record {
   W = Disjunction;
   R = Exclusive;
   M = MoreDisjunction;
-  op = or_of;
+  op = or_operator;
   k = 5;
   w_in = λ l mid rest c us a n. the_disjunction a n;
   w_out = λ l rest a w. disjunction_out w;
@@ -313,10 +313,10 @@ pub ends_disjunction : Ends Disjunction
 ends_disjunction = group_ends (grouping_of disjunction_level)
 
 -- the comparison
-abbrev pub Compared : Covered → Part Covered
+abbrev pub Compared : Covered → GrammarPart Covered
 Compared c = Then (Operator comparison_of) (λ o. Then Sum (λ d. Done (chain_of c (longer o d no_tail))))
 
-abbrev pub After_sum : Covered → Part Covered
+abbrev pub After_sum : Covered → GrammarPart Covered
 After_sum c = Either (Done c) (Compared c)
 
 comparison_in : {l rest : List Token} {a : Covered} → Then Sum After_sum l rest a → Comparison l rest a
@@ -327,8 +327,8 @@ comparison_out : {l rest : List Token} {a : Covered} → Comparison l rest a →
 comparison_out (not_compared s) = and_then s (one all_done)
 comparison_out (compared s e r) = and_then s (other (and_then (operator e) (and_then r all_done)))
 
-pub comparison_start : (xs : List Token) → SoFar Comparison (Stops 8) xs xs (Then Sum After_sum)
-comparison_start xs = instead (Then Sum After_sum) (start Comparison (Stops 8) xs) (λ l rest a q. comparison_in q) (λ l rest a s f w. comparison_out w)
+pub comparison_start : (xs : List Token) → SoFar Comparison (StopsAt 8) xs xs (Then Sum After_sum)
+comparison_start xs = instead (Then Sum After_sum) (start Comparison (StopsAt 8) xs) (λ l rest a q. comparison_in q) (λ l rest a s f w. comparison_out w)
 
 pub compared_ranked : (j : TokenKind) (o : Op) → comparison_of j ≡ Some o → rank j ≡ 8
 compared_ranked (Sign mark.Equal) o e = refl
@@ -342,54 +342,54 @@ compared_ranked (Word w) o e = absurd (cc e)
 compared_ranked (Ident w) o e = absurd (cc e)
 compared_ranked (Number w) o e = absurd (cc e)
 
-compared_9 : (t : Option Token) (o : Op) → reads comparison_of t ≡ Some o → Stops 9 t
+compared_9 : (t : Option Token) (o : Op) → kind_read comparison_of t ≡ Some o → StopsAt 9 t
 compared_9 None o h = tt
 compared_9 (Some t) o h = omega (arith, compared_ranked t.kind o h)
 
-compared_8 : (t : Option Token) (o : Op) → reads comparison_of t ≡ Some o → Stops 8 t → ⊥
+compared_8 : (t : Option Token) (o : Op) → kind_read comparison_of t ≡ Some o → StopsAt 8 t → ⊥
 compared_8 None o h f = let e : ◌≡◌ {A = Option Op} None (Some o) = h in cc e
 compared_8 (Some t) o h f = let lt : rank t.kind < 8 = f in omega (arith, lt, compared_ranked t.kind o h)
 
-sum_before : (c : Covered) (l rest : List Token) (a : Covered) → Stops 8 (sees rest) → After_sum c l rest a → Stops 9 (sees l)
-sum_before c l rest a f (one q) = stops_more 8 9 (sees l) (omega arith) (stops_done (Stops 8) l rest f q)
+sum_before : (c : Covered) (l rest : List Token) (a : Covered) → StopsAt 8 (sees rest) → After_sum c l rest a → StopsAt 9 (sees l)
+sum_before c l rest a f (one q) = stops_more 8 9 (sees l) (omega arith) (stops_done (StopsAt 8) l rest f q)
 sum_before c l rest a f (other (and_then {b = o} s q)) = compared_9 (sees l) o (operator_seen s)
 
-pub sum_seam : Seam Sum (Stops 9) (Stops 8) After_sum
+pub sum_seam : Seam Sum (StopsAt 9) (StopsAt 8) After_sum
 sum_seam = record { stops = sum_before; ends = λ c. ends_one (ends_done c) }
 
-pub compared_seam : (c : Covered) → Seam (Operator comparison_of) Anything (Stops 8) (λ o. Then Sum (λ d. Done (chain_of c (longer o d no_tail))))
+pub compared_seam : (c : Covered) → Seam (Operator comparison_of) Anything (StopsAt 8) (λ o. Then Sum (λ d. Done (chain_of c (longer o d no_tail))))
 compared_seam c = any_seam (λ o. ends_then ends_sum (λ d. ends_done (chain_of c (longer o d no_tail))))
 
-pub right_seam : (c : Covered) (o : Op) → Seam Sum (Stops 9) (Stops 8) (λ d. Done (chain_of c (longer o d no_tail)))
+pub right_seam : (c : Covered) (o : Op) → Seam Sum (StopsAt 9) (StopsAt 8) (λ d. Done (chain_of c (longer o d no_tail)))
 right_seam c o = record {
-  stops = λ d l rest a f q. stops_more 8 9 (sees l) (omega arith) (stops_done (Stops 8) l rest f q);
+  stops = λ d l rest a f q. stops_more 8 9 (sees l) (omega arith) (stops_done (StopsAt 8) l rest f q);
   ends = λ d. ends_done (chain_of c (longer o d no_tail));
 }
 
-pub uncompared : {xs left : List Token} {c : Covered} → SoFar Comparison (Stops 8) xs left (After_sum c) → reads comparison_of (sees left) ≡ None →
-    SoFar Comparison (Stops 8) xs left (Done c)
+pub uncompared : {xs left : List Token} {c : Covered} → SoFar Comparison (StopsAt 8) xs left (After_sum c) → kind_read comparison_of (sees left) ≡ None →
+    SoFar Comparison (StopsAt 8) xs left (Done c)
 uncompared {xs} {left} {c} so none = not_other so never
   where
-    never : (l rest : List Token) (a : Covered) → sees l ≡ sees left → Stops 8 (sees rest) → Compared c l rest a → ⊥
+    never : (l rest : List Token) (a : Covered) → sees l ≡ sees left → StopsAt 8 (sees rest) → Compared c l rest a → ⊥
     never l rest a s f (and_then {b = o} p q) = let x : ◌≡◌ {A = Option Op} None (Some o) =
-        sym none ∙ (sym (ap (λ (t : Option Token). reads comparison_of t) s) ∙ operator_seen p) in cc x
+        sym none ∙ (sym (ap (λ (t : Option Token). kind_read comparison_of t) s) ∙ operator_seen p) in cc x
 
-pub with_comparison : {xs left : List Token} {c : Covered} (o : Op) → SoFar Comparison (Stops 8) xs left (After_sum c) →
-    reads comparison_of (sees left) ≡ Some o → SoFar Comparison (Stops 8) xs left (Compared c)
-with_comparison {xs} {left} {c} o so h = not_one so (λ l rest a s f q. compared_8 (sees l) o (ap (λ (t : Option Token). reads comparison_of t) s ∙ h)
-    (stops_done (Stops 8) l rest f q))
+pub with_comparison : {xs left : List Token} {c : Covered} (o : Op) → SoFar Comparison (StopsAt 8) xs left (After_sum c) →
+    kind_read comparison_of (sees left) ≡ Some o → SoFar Comparison (StopsAt 8) xs left (Compared c)
+with_comparison {xs} {left} {c} o so h = not_one so (λ l rest a s f q. compared_8 (sees l) o (ap (λ (t : Option Token). kind_read comparison_of t) s ∙ h)
+    (stops_done (StopsAt 8) l rest f q))
 
 pub compared_is : {xs left : List Token} (c d : Covered) (o : Op) {x : Covered} {links : List (Op × Expression)} →
-    Good Comparison (Stops 8) xs left (chain_of c (longer o d no_tail)) → x ≡ chained_to c links d.at → links ≡ (o, d.expression) ∷ [] →
-    Good Comparison (Stops 8) xs left x
+    Good Comparison (StopsAt 8) xs left (chain_of c (longer o d no_tail)) → x ≡ chained_to c links d.at → links ≡ (o, d.expression) ∷ [] →
+    Good Comparison (StopsAt 8) xs left x
 compared_is {xs} {left} c d o {x} {links} good e is =
-    subst (λ (b : Covered). Good Comparison (Stops 8) xs left b) (sym (e ∙ ap (λ (ls : List (Op × Expression)). chained_to c ls d.at) is)) good
+    subst (λ (b : Covered). Good Comparison (StopsAt 8) xs left b) (sym (e ∙ ap (λ (ls : List (Op × Expression)). chained_to c ls d.at) is)) good
 
 -- the negation
-abbrev pub Plain : Part Covered
+abbrev pub Plain : GrammarPart Covered
 Plain = Then Primary (λ c. Done c)
 
-abbrev pub Tilded : Part Covered
+abbrev pub Tilded : GrammarPart Covered
 Tilded = Then (Exactly (Sign mark.Tilde)) (λ t. Then Primary (λ c. Done (cover (negation c.expression (from_to t c.at)) (from_to t c.at))))
 
 negated_in : {l rest : List Token} {a : Covered} → Either Plain Tilded l rest a → Negated l rest a
@@ -400,8 +400,8 @@ negated_out : {l rest : List Token} {a : Covered} → Negated l rest a → Eithe
 negated_out (plain p) = one (and_then p all_done)
 negated_out (negated p) = other (and_then exactly (and_then p all_done))
 
-negated_start : (xs : List Token) → SoFar Negated (Stops 10) xs xs (Either Plain Tilded)
-negated_start xs = instead (Either Plain Tilded) (start Negated (Stops 10) xs) (λ l rest a q. negated_in q) (λ l rest a s f w. negated_out w)
+negated_start : (xs : List Token) → SoFar Negated (StopsAt 10) xs xs (Either Plain Tilded)
+negated_start xs = instead (Either Plain Tilded) (start Negated (StopsAt 10) xs) (λ l rest a q. negated_in q) (λ l rest a s f w. negated_out w)
 
 tilde_first : {l rest : List Token} {a : Covered} → Primary l rest a → IsKind (Sign mark.Tilde) (sees l) → ⊥
 tilde_first a_number h = cc h
@@ -411,33 +411,33 @@ tilde_first a_slice h = cc h
 tilde_first (a_join p) h = cc h
 tilde_first (in_brackets p) h = cc h
 
-pub plain_start : (xs : List Token) → (IsKind (Sign mark.Tilde) (sees xs) → ⊥) → SoFar Negated (Stops 10) xs xs Plain
+pub plain_start : (xs : List Token) → (IsKind (Sign mark.Tilde) (sees xs) → ⊥) → SoFar Negated (StopsAt 10) xs xs Plain
 plain_start xs never = not_other (negated_start xs) (λ l rest a s f q. never (subst (λ (t : Option Token). IsKind (Sign mark.Tilde) t) s (then_kind q)))
 
-pub tilde_start : (xs : List Token) → IsKind (Sign mark.Tilde) (sees xs) → SoFar Negated (Stops 10) xs xs Tilded
+pub tilde_start : (xs : List Token) → IsKind (Sign mark.Tilde) (sees xs) → SoFar Negated (StopsAt 10) xs xs Tilded
 tilde_start xs h = not_one (negated_start xs) never
   where
-    never : (l rest : List Token) (a : Covered) → sees l ≡ sees xs → Stops 10 (sees rest) → Plain l rest a → ⊥
+    never : (l rest : List Token) (a : Covered) → sees l ≡ sees xs → StopsAt 10 (sees rest) → Plain l rest a → ⊥
     never l rest a s f (and_then p q) = tilde_first p (subst (λ (t : Option Token). IsKind (Sign mark.Tilde) t) (sym s) h)
 
-pub plain_seam : Seam Primary (Stops 10) (Stops 10) (λ c. Done c)
+pub plain_seam : Seam Primary (StopsAt 10) (StopsAt 10) (λ c. Done c)
 plain_seam = last_seam (λ c. c)
 
 abbrev negation_of : Span → Covered → Covered
 negation_of t c = cover (negation c.expression (from_to t c.at)) (from_to t c.at)
 
-pub tilde_seam : Seam (Exactly (Sign mark.Tilde)) Anything (Stops 10)
+pub tilde_seam : Seam (Exactly (Sign mark.Tilde)) Anything (StopsAt 10)
     (λ t. Then Primary (λ c. Done (cover (negation c.expression (from_to t c.at)) (from_to t c.at))))
 tilde_seam = any_seam (λ t. ends_then ends_primary (λ c. ends_done (negation_of t c)))
 
-pub inner_seam : (t : Span) → Seam Primary (Stops 10) (Stops 10) (λ c. Done (cover (negation c.expression (from_to t c.at)) (from_to t c.at)))
+pub inner_seam : (t : Span) → Seam Primary (StopsAt 10) (StopsAt 10) (λ c. Done (cover (negation c.expression (from_to t c.at)) (from_to t c.at)))
 inner_seam t = last_seam (negation_of t)
 
 -- what is innermost, by its first token
 abbrev F10 : Option Token → Type 0
-F10 = Stops 10
+F10 = StopsAt 10
 
-abbrev pub Numbered : Part Covered
+abbrev pub Numbered : GrammarPart Covered
 Numbered = Then ANumber (λ n. Done (cover (number n.value n.at) n.at))
 
 numbered_in : {l rest : List Token} {a : Covered} → Numbered l rest a → Primary l rest a
@@ -459,22 +459,22 @@ bit_cover i n c = cover (bit i n.value (from_to i.at c)) (from_to i.at c)
 abbrev pub slice_cover : Named → Numeral → Numeral → Span → Covered
 slice_cover i n m c = cover (slice i n.value m.value (from_to i.at c)) (from_to i.at c)
 
-abbrev pub Bitten : Named → Numeral → Part Covered
+abbrev pub Bitten : Named → Numeral → GrammarPart Covered
 Bitten i n = Then (Exactly (Sign mark.CloseSquare)) (λ c. Done (bit_cover i n c))
 
-abbrev pub Slice_end : Named → Numeral → Numeral → Part Covered
+abbrev pub Slice_end : Named → Numeral → Numeral → GrammarPart Covered
 Slice_end i n m = Then (Exactly (Sign mark.CloseSquare)) (λ c. Done (slice_cover i n m c))
 
-abbrev pub Sliced : Named → Numeral → Part Covered
+abbrev pub Sliced : Named → Numeral → GrammarPart Covered
 Sliced i n = Then (Exactly (Sign mark.Colon)) (λ d. Then ANumber (Slice_end i n))
 
-abbrev pub Placed : Named → Numeral → Part Covered
+abbrev pub Placed : Named → Numeral → GrammarPart Covered
 Placed i n = Either (Bitten i n) (Sliced i n)
 
-abbrev pub Indexed : Named → Part Covered
+abbrev pub Indexed : Named → GrammarPart Covered
 Indexed i = Then (Exactly (Sign mark.OpenSquare)) (λ o. Then ANumber (Placed i))
 
-abbrev pub After_name : Named → Part Covered
+abbrev pub After_name : Named → GrammarPart Covered
 After_name i = Either (Done (cover (whole i) i.at)) (Indexed i)
 
 named_in : {l rest : List Token} {a : Covered} → Then AName After_name l rest a → Primary l rest a
@@ -527,7 +527,7 @@ pub unindexed : {xs left : List Token} {i : Named} → SoFar Primary F10 xs left
     SoFar Primary F10 xs left (Done (cover (whole i) i.at))
 unindexed so never = not_other so (λ l rest a s f q. never (subst (λ (t : Option Token). IsKind (Sign mark.OpenSquare) t) s (then_kind q)))
 
-square_10 : (t : Option Token) → IsKind (Sign mark.OpenSquare) t → Stops 10 t → ⊥
+square_10 : (t : Option Token) → IsKind (Sign mark.OpenSquare) t → StopsAt 10 t → ⊥
 square_10 None h f = h
 square_10 (Some t) h f = let lt : rank t.kind < 10 = f in let e : rank t.kind ≡ 10 = ap rank h in omega (arith, lt, e)
 
@@ -551,10 +551,10 @@ sliced i n so h = not_one so (λ l rest a s f q. not_both (sees l) (subst (λ (t
 abbrev pub join_cover : Span → Expressions → Span → Covered
 join_cover o es c = cover (join es (from_to o c)) (from_to o c)
 
-abbrev pub Curly_end : Span → Expressions → Part Covered
+abbrev pub Curly_end : Span → Expressions → GrammarPart Covered
 Curly_end o es = Then (Exactly (Sign mark.CloseCurly)) (λ c. Done (join_cover o es c))
 
-abbrev pub Joined : Part Covered
+abbrev pub Joined : GrammarPart Covered
 Joined = Then (Exactly (Sign mark.OpenCurly)) (λ o. Then Parts (Curly_end o))
 
 joined_in : {l rest : List Token} {a : Covered} → Joined l rest a → Primary l rest a
@@ -567,10 +567,10 @@ joined_out h _ = absurd (cc h)
 pub joined_start : (xs : List Token) → primary_front (sees xs) ≡ primary.Curly → SoFar Primary F10 xs xs Joined
 joined_start xs h = instead Joined (start Primary F10 xs) (λ l rest a q. joined_in q) (λ l rest a s f w. joined_out (ap primary_front s ∙ h) w)
 
-abbrev pub Round_end : Span → Covered → Part Covered
+abbrev pub Round_end : Span → Covered → GrammarPart Covered
 Round_end o e = Then (Exactly (Sign mark.CloseRound)) (λ c. Done (cover e.expression (from_to o c)))
 
-abbrev pub Rounded : Part Covered
+abbrev pub Rounded : GrammarPart Covered
 Rounded = Then (Exactly (Sign mark.OpenRound)) (λ o. Then Disjunction (Round_end o))
 
 rounded_in : {l rest : List Token} {a : Covered} → Rounded l rest a → Primary l rest a
@@ -589,7 +589,7 @@ round_ends o e = ends_then (ends_exactly (Sign mark.CloseRound)) (λ c. ends_don
 pub round_1 : Seam (Exactly (Sign mark.OpenRound)) Anything F10 (λ o. Then Disjunction (Round_end o))
 round_1 = any_seam (λ o. ends_then ends_disjunction (round_ends o))
 
-pub round_2 : (o : Span) → Seam Disjunction (Stops 5) F10 (Round_end o)
+pub round_2 : (o : Span) → Seam Disjunction (StopsAt 5) F10 (Round_end o)
 round_2 o = kind_seam (Sign mark.CloseRound) 5 (omega arith) (λ e c. ends_done (cover e.expression (from_to o c)))
 
 pub round_3 : (o : Span) (e : Covered) → Seam (Exactly (Sign mark.CloseRound)) Anything F10 (λ c. Done (cover e.expression (from_to o c)))
@@ -621,11 +621,11 @@ pub parts_in : {l x mid rest : List Token} {o : Span} {c : Covered} {es : Expres
     MoreParts mid rest es → MoreParts l rest (and_part c.expression es)
 parts_in exactly d n = one_more_part d n
 
-pub comma_5 : (t : Option Token) → IsKind (Sign mark.Comma) t → Stops 5 t
+pub comma_5 : (t : Option Token) → IsKind (Sign mark.Comma) t → StopsAt 5 t
 comma_5 None h = tt
 comma_5 (Some t) h = let e : rank t.kind ≡ 4 = ap rank h in omega (arith, e)
 
-pub comma_4 : (t : Option Token) → IsKind (Sign mark.Comma) t → Stops 4 t → ⊥
+pub comma_4 : (t : Option Token) → IsKind (Sign mark.Comma) t → StopsAt 4 t → ⊥
 comma_4 None h f = h
 comma_4 (Some t) h f = let e : rank t.kind ≡ 4 = ap rank h in let lt : rank t.kind < 4 = f in omega (arith, e, lt)
 
@@ -637,9 +637,9 @@ parts_group = record {
   O = Span;
   I = Expression;
   W = Parts;
-  F = Stops 4;
+  F = StopsAt 4;
   R = Disjunction;
-  G = Stops 5;
+  G = StopsAt 5;
   M = MoreParts;
   S = Exactly (Sign mark.Comma);
   H = IsKind (Sign mark.Comma);
@@ -669,7 +669,7 @@ join_ends o es = ends_then (ends_exactly (Sign mark.CloseCurly)) (λ c. ends_don
 pub curly_1 : Seam (Exactly (Sign mark.OpenCurly)) Anything F10 (λ o. Then Parts (Curly_end o))
 curly_1 = any_seam (λ o. ends_then ends_parts (join_ends o))
 
-pub curly_2 : (o : Span) → Seam Parts (Stops 4) F10 (Curly_end o)
+pub curly_2 : (o : Span) → Seam Parts (StopsAt 4) F10 (Curly_end o)
 curly_2 o = kind_seam (Sign mark.CloseCurly) 4 (omega arith) (λ es c. ends_done (join_cover o es c))
 
 pub curly_3 : (o : Span) (es : Expressions) → Seam (Exactly (Sign mark.CloseCurly)) Anything F10 (λ c. Done (join_cover o es c))

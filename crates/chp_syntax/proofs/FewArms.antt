@@ -13,10 +13,10 @@ use Rattle.chp_syntax.specs.declared.token.TokenKind.TheVariants.{Word, Ident, N
 use Rattle.chp_syntax.specs.declared.token.Mark.TheVariants as mark
 use Rattle.chp_syntax.specs.declared.tree.DeclKind.{DeclKind}
 use Rattle.chp_syntax.specs.Trees.{Expressions, Statement, Statements, no_members, and_member, Arms, Procedure, ProgramTree}
-use Rattle.chp_syntax.specs.Grammar.{sign, name, numeral, channel_of, Covered, Tail, Guarded, parallel_of, sequence_of, Primary, a_number, a_name, a_bit, a_slice, a_join, in_brackets, Parts, the_parts, MoreParts, no_more_parts, one_more_part, Negated, plain, negated, Sum, the_sum, MoreSum, no_more_sum, one_more_sum, Comparison, not_compared, compared, Conjunction, the_conjunction, MoreConjunction, no_more_conjunction, one_more_conjunction, Exclusive, the_exclusive, MoreExclusive, no_more_exclusive, one_more_exclusive, Disjunction, the_disjunction, MoreDisjunction, no_more_disjunction, one_more_disjunction, Atom, a_skip, an_assignment, a_send, a_receive, a_call, in_round, a_loop, a_guarded_loop, a_selection, Branch, the_branch, Choices, the_choices, MoreChoices, no_more_choices, one_more_choice, Both, the_both, MoreBoth, no_more_both, one_more_both, Seq, the_seq, MoreSeq, no_more_seq, one_more_seq, Par, the_par, MorePar, no_more_par, one_more_par, Declared, Item, valued, defined, and_item, Declaration, a_channel, a_variable, a_variable_with_first, a_procedure, Declarations, no_declaration, one_more_declaration, the_program, Derives}
+use Rattle.chp_syntax.specs.Grammar.{sign, name, numeral, kind_of_channel, Covered, Tail, Guarded, parallel_of, sequence_of, Primary, a_number, a_name, a_bit, a_slice, a_join, in_brackets, Parts, the_parts, MoreParts, no_more_parts, one_more_part, Negated, plain, negated, Sum, the_sum, MoreSum, no_more_sum, one_more_sum, Comparison, not_compared, compared, Conjunction, the_conjunction, MoreConjunction, no_more_conjunction, one_more_conjunction, Exclusive, the_exclusive, MoreExclusive, no_more_exclusive, one_more_exclusive, Disjunction, the_disjunction, MoreDisjunction, no_more_disjunction, one_more_disjunction, Atom, a_skip, an_assignment, a_send, a_receive, a_call, in_round, a_loop, a_guarded_loop, a_selection, Branch, the_branch, Choices, the_choices, MoreChoices, no_more_choices, one_more_choice, Both, the_both, MoreBoth, no_more_both, one_more_both, Seq, the_seq, MoreSeq, no_more_seq, one_more_seq, Par, the_par, MorePar, no_more_par, one_more_par, Declared, Item, valued, defined, and_item, Declaration, a_channel, a_variable, a_variable_with_first, a_procedure, Declarations, no_declaration, one_more_declaration, the_program, Derives}
 use Rattle.chp_syntax.specs.Reading.{few_arms, few_arms_each, few_arms_in, arm_count}
 use Rattle.chp_syntax.specs.Parts.{rank}
-use Rattle.chp_syntax.specs.Seventeenth.{chosen, counted, counts, is_full, is_seventeenth, is_narrow, IsSeventeenth}
+use Rattle.chp_syntax.specs.Seventeenth.{bar_counted, counted, counts, is_full, is_seventeenth, is_narrow, IsSeventeenth}
 use Rattle.chp_syntax.proofs.Expressions.{sum_ranked, conjunction_ranked, exclusive_ranked, disjunction_ranked, compared_ranked}
 
 -- operators count nothing
@@ -224,7 +224,7 @@ few_in_item (defined p) = few_arms p.body
 abbrev few_in_procs : List Procedure → Bool
 few_in_procs ps = list_all (λ (q : Procedure). few_arms q.body) ps
 
-over_channel : (j : TokenKind) (k : DeclKind) (at : Span) (ns : List ℕ) (ts : List Token) → channel_of j ≡ Some k →
+over_channel : (j : TokenKind) (k : DeclKind) (at : Span) (ns : List ℕ) (ts : List Token) → kind_of_channel j ≡ Some k →
     is_narrow ns (record { kind = j; at = at } ∷ ts) ≡ is_narrow ns ts
 over_channel (Word w) k at ns ts e = refl
 over_channel (Ident w) k at ns ts e = refl
@@ -307,8 +307,8 @@ narrow_more ts i t ns lt is so narrow h =
 pub not_narrow : {ts : List Token} {place : Span} → IsSeventeenth ts place → is_narrow [] ts ≡ false
 not_narrow {ts} {place} s =
     ap (λ (us : List Token). is_narrow [] us) s.is ∙ (narrow-append [] s.before (sign mark.Choice place ∷ s.behind)
-    ∙ (ap (λ (v : Bool). v && (not (is_full (counts [] s.before)) && is_narrow (chosen (counts [] s.before)) s.behind)) s.narrow
-    ∙ ap (λ (v : Bool). not v && is_narrow (chosen (counts [] s.before)) s.behind) s.full))
+    ∙ (ap (λ (v : Bool). v && (not (is_full (counts [] s.before)) && is_narrow (bar_counted (counts [] s.before)) s.behind)) s.narrow
+    ∙ ap (λ (v : Bool). not v && is_narrow (bar_counted (counts [] s.before)) s.behind) s.full))
 
 both_true : (a b : Bool) → (a && (b && true)) ≡ true → (a ≡ true) × (b ≡ true)
 both_true true true h = (refl, refl)

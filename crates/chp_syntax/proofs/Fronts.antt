@@ -9,7 +9,7 @@ use Rattle.chp_syntax.specs.declared.token.TokenKind.{TokenKind}
 use Rattle.chp_syntax.specs.declared.token.TokenKind.TheVariants.{Sign}
 use Rattle.chp_syntax.specs.declared.token.Mark.{Mark}
 use Rattle.chp_syntax.specs.Spelling.{Spells, sign_text}
-use Rattle.chp_syntax.specs.Tokens.{IsGap, IsRun, IsPiece, IsLongest, IsToken, IsNoToken}
+use Rattle.chp_syntax.specs.Tokens.{IsGap, IsWordRun, IsPiece, IsLongest, IsToken, IsNoToken}
 use Rattle.chp_syntax.specs.declared.scan.Front.{Front}
 use Rattle.chp_syntax.specs.Front.{IsFront, HasSign, LongestSign}
 use Rattle.chp_syntax.proofs.Spelled.{left_true, right_true, begins_with_part, sign_first}
@@ -20,7 +20,7 @@ taken_part zero text some = absurd (omega arith)
 taken_part (suc n) [] some = refl
 taken_part (suc n) (b ∷ bs) some = refl
 
-run_part : (bs : List ℕ) → IsRun bs → begins_with_part bs ≡ true
+run_part : (bs : List ℕ) → IsWordRun bs → begins_with_part bs ≡ true
 run_part [] run = absurd (omega (arith, run.some))
 run_part (b ∷ bs) run = left_true (word_part b) _ run.parts
 
@@ -58,7 +58,7 @@ word_most (b ∷ bs) (suc m) le all =
     let head : word_part b ≡ true = left_true (word_part b) _ all in
     rw head (omega (arith, word_most bs m (omega arith) (right_true (word_part b) _ all)))
 
-pub run_is : (n : ℕ) (text : List ℕ) → 0 < n → n ≡ prefix_len word_part text → IsRun (take n text)
+pub run_is : (n : ℕ) (text : List ℕ) → 0 < n → n ≡ prefix_len word_part text → IsWordRun (take n text)
 run_is n text some is = record {
   some = omega (arith, length-take n text, prefix_len-le-length word_part text);
   parts = subst (λ k. list_all word_part (take k text) ≡ true) (sym is) (word_front text);

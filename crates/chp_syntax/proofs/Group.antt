@@ -1,7 +1,7 @@
 -- Groups: a member, and then any number of members, each behind a separator.
 use Rattle.std.proofs.Common.{◌≡◌, List, [], ◌∷◌, ◌++◌, Option, refl, sym, ap, ◌∙◌, subst}
 use Rattle.chp_syntax.specs.declared.token.Token.{Token}
-use Rattle.chp_syntax.specs.Parts.{Part, sees, Anything, Good, Bad}
+use Rattle.chp_syntax.specs.Parts.{GrammarPart, sees, Anything, Good, Bad}
 use Rattle.chp_syntax.specs.View.{onto}
 use Rattle.chp_syntax.proofs.Steps.{SoFar, Ends, Seam, Then, and_then, then_parts, start, instead, by_part, part_bad, good_here, any_seam, ends_then}
 
@@ -48,7 +48,7 @@ pub record Grouping : Type 1 where
 
 module _ (g : Grouping) where
   -- what is to come after a first member and some more
-  abbrev pub Rest : g.B → List g.I → Part g.A
+  abbrev pub Rest : g.B → List g.I → GrammarPart g.A
   Rest b got l rest a = (us : g.U) × g.M l rest us × (a ≡ g.build b (onto g.more got us))
 
   further_stops : (l rest : List Token) (us : g.U) → Further g.R g.M g.S g.item g.none g.more l rest us → g.F (sees rest) → g.G (sees l)
@@ -95,7 +95,7 @@ module _ (g : Grouping) where
   pub group_first : {xs left : List Token} {b : g.B} → Good g.R g.G xs left b → SoMany xs left b []
   group_first {xs} good = record { so = by_part first_seam (group_start xs) good }
 
-  abbrev More : g.B → List g.I → Part g.A
+  abbrev More : g.B → List g.I → GrammarPart g.A
   More b got = Then g.S (λ o. Then g.R (λ n. Rest b (got ++ (g.item o n ∷ []))))
 
   more_out : (b : g.B) (got : List g.I) (l rest : List Token) (a : g.A) (us : g.U) → Further g.R g.M g.S g.item g.none g.more l rest us →

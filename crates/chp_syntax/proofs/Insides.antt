@@ -10,7 +10,7 @@ use Rattle.chp_syntax.specs.declared.parser.sight.AtomFront.{AtomFront}
 use Rattle.chp_syntax.specs.declared.parser.sight.AtomFront.TheVariants as atom
 use Rattle.chp_syntax.specs.Trees.{Statement, skips, selects, repeats, Arms}
 use Rattle.chp_syntax.specs.Grammar.{numeral, word, sign, Covered, Tail, Primary, a_number, a_name, a_bit, a_slice, a_join, in_brackets, Negated, plain, negated, Sum, the_sum, MoreSum, no_more_sum, one_more_sum, Comparison, not_compared, compared, Conjunction, the_conjunction, MoreConjunction, no_more_conjunction, one_more_conjunction, Exclusive, the_exclusive, MoreExclusive, no_more_exclusive, one_more_exclusive, Disjunction, the_disjunction, MoreDisjunction, no_more_disjunction, one_more_disjunction, Atom, a_skip, an_assignment, a_send, a_receive, a_call, in_round, a_loop, a_guarded_loop, a_selection, the_branch, Choices, the_choices, no_more_choices, Both, the_both, Seq, the_seq, Par, the_par}
-use Rattle.chp_syntax.specs.Parts.{sees, rank, Stops, Inside, a_body, some_arms, Good, Bad, atom_kind, action_kind, action_front, acts, begins_par, begins_par_with}
+use Rattle.chp_syntax.specs.Parts.{sees, rank, StopsAt, Inside, a_body, some_arms, Good, Bad, atom_kind, action_kind, action_front, acts, begins_par, begins_par_with}
 use Rattle.chp_syntax.proofs.Steps.{zero_span, sees_same, stops_more}
 use Rattle.chp_syntax.proofs.Expressions.{sum_ranked, conjunction_ranked, exclusive_ranked, disjunction_ranked, compared_ranked}
 use Rattle.chp_syntax.proofs.Statements.{atom_par}
@@ -218,28 +218,28 @@ arms_on ds u =
           (r.2 (more ++ rest))) (atom_par a_skip)) no_more_choices,
     )
 
-pub body_good : {xs left : List Token} {t : Statement} → Good Par (Stops 2) xs left t → Good Inside (Stops 1) xs left (repeats t)
+pub body_good : {xs left : List Token} {t : Statement} → Good Par (StopsAt 2) xs left t → Good Inside (StopsAt 1) xs left (repeats t)
 body_good {xs} {left} {t} good = record { done = good.done; is = good.is; derives = λ l. a_body (good.derives l); only = only }
   where
-    only : (l rest : List Token) (b : Statement) → sees l ≡ sees left → Stops 1 (sees rest) → Inside (good.done ++ l) rest b → (rest ≡ l) × (b ≡ repeats t)
+    only : (l rest : List Token) (b : Statement) → sees l ≡ sees left → StopsAt 1 (sees rest) → Inside (good.done ++ l) rest b → (rest ≡ l) × (b ≡ repeats t)
     only l rest b s f (a_body {t = u} p) = let e = good.only l rest u s (stops_more 1 2 (sees rest) (omega arith) f) p in (e.0, ap repeats e.1)
     only l rest b s f (some_arms p) = absurd (let e : true ≡ false = sym (par_begins (good.derives l)) ∙ choices_begin p in cc e)
 
-pub arms_good : {xs left : List Token} {bs : Arms} → Good Choices (Stops 1) xs left bs → Good Inside (Stops 1) xs left (selects true bs)
+pub arms_good : {xs left : List Token} {bs : Arms} → Good Choices (StopsAt 1) xs left bs → Good Inside (StopsAt 1) xs left (selects true bs)
 arms_good {xs} {left} {bs} good = record { done = good.done; is = good.is; derives = λ l. some_arms (good.derives l); only = only }
   where
-    only : (l rest : List Token) (b : Statement) → sees l ≡ sees left → Stops 1 (sees rest) → Inside (good.done ++ l) rest b →
+    only : (l rest : List Token) (b : Statement) → sees l ≡ sees left → StopsAt 1 (sees rest) → Inside (good.done ++ l) rest b →
         (rest ≡ l) × (b ≡ selects true bs)
     only l rest b s f (some_arms {bs = cs} p) = let e = good.only l rest cs s f p in (e.0, ap (λ ds. selects true ds) e.1)
     only l rest b s f (a_body p) = absurd (let e : true ≡ false = sym (par_begins p) ∙ choices_begin (good.derives l) in cc e)
 
 -- a fault of tokens that both may begin with is no fault of one of them
 clash : {A : Type 0} (R : List Token → List Token → A → Type 0) (d left : List Token) (x : Token) →
-    ((l rest : List Token) (b : A) → sees l ≡ sees left → Stops 1 (sees rest) → R (d ++ l) rest b → ⊥) → sees left ≡ Some x → Goes_on R (d ++ (x ∷ [])) → ⊥
+    ((l rest : List Token) (b : A) → sees l ≡ sees left → StopsAt 1 (sees rest) → R (d ++ l) rest b → ⊥) → sees left ≡ Some x → Goes_on R (d ++ (x ∷ [])) → ⊥
 clash {A} R d left x stuck s g =
     stuck (x ∷ (g.0 ++ [])) [] g.1 (sym s) tt (subst (λ (y : List Token). R y [] g.1) (append_assoc d (x ∷ []) (g.0 ++ [])) (g.2 []))
 
-pub body_bad : {xs left : List Token} → begins_par xs ≡ true → Bad Par (Stops 2) xs left → Bad Inside (Stops 1) xs left
+pub body_bad : {xs left : List Token} → begins_par xs ≡ true → Bad Par (StopsAt 2) xs left → Bad Inside (StopsAt 1) xs left
 body_bad {xs} {left} begins bad = record {
   done = bad.done;
   is = bad.is;
@@ -247,14 +247,14 @@ body_bad {xs} {left} begins bad = record {
   viable = let v = bad.viable in (v.0, repeats v.1, λ rest. a_body (v.2 rest));
 }
   where
-    stuck : (l rest : List Token) (b : Statement) → sees l ≡ sees left → Stops 1 (sees rest) → Inside (bad.done ++ l) rest b → ⊥
+    stuck : (l rest : List Token) (b : Statement) → sees l ≡ sees left → StopsAt 1 (sees rest) → Inside (bad.done ++ l) rest b → ⊥
     stuck l rest b s f (a_body {t = u} p) = bad.stuck l rest u s (stops_more 1 2 (sees rest) (omega arith) f) p
     stuck l rest b s f (some_arms p) =
         let x = shared bad.done l left s (ap begins_par (sym bad.is) ∙ begins) (choices_begin p) in
         clash Par bad.done left x.0 (λ l rest b s f p. bad.stuck l rest b s (stops_more 1 2 (sees rest) (omega arith) f) p) (sym s ∙ x.1)
         (statement_on (bad.done ++ (x.0 ∷ [])) x.2)
 
-pub arms_bad : {xs left : List Token} → begins_par xs ≡ false → Bad Choices (Stops 1) xs left → Bad Inside (Stops 1) xs left
+pub arms_bad : {xs left : List Token} → begins_par xs ≡ false → Bad Choices (StopsAt 1) xs left → Bad Inside (StopsAt 1) xs left
 arms_bad {xs} {left} begins bad = record {
   done = bad.done;
   is = bad.is;
@@ -262,7 +262,7 @@ arms_bad {xs} {left} begins bad = record {
   viable = let v = bad.viable in (v.0, selects true v.1, λ rest. some_arms (v.2 rest));
 }
   where
-    stuck : (l rest : List Token) (b : Statement) → sees l ≡ sees left → Stops 1 (sees rest) → Inside (bad.done ++ l) rest b → ⊥
+    stuck : (l rest : List Token) (b : Statement) → sees l ≡ sees left → StopsAt 1 (sees rest) → Inside (bad.done ++ l) rest b → ⊥
     stuck l rest b s f (some_arms {bs = cs} p) = bad.stuck l rest cs s f p
     stuck l rest b s f (a_body p) =
         let x = shared bad.done left l (sym s) (par_begins p) (ap begins_par (sym bad.is) ∙ begins) in

@@ -8,8 +8,8 @@ use Rattle.chp_syntax.specs.declared.token.Mark.TheVariants as mark
 use Rattle.chp_syntax.specs.declared.tree.DeclKind.{DeclKind}
 use Rattle.chp_syntax.specs.declared.tree.Op.{Op}
 use Rattle.chp_syntax.specs.Trees.{Expressions, Statement, Statements, Arms, ProgramTree}
-use Rattle.chp_syntax.specs.Grammar.{or_of, xor_of, and_of, sum_of, comparison_of}
-use Rattle.chp_syntax.specs.Grammar.{sign, name, numeral, channel_of, Covered, Tail, Guarded, Primary, a_number, a_name, a_bit, a_slice, a_join, in_brackets, Parts, the_parts, MoreParts, no_more_parts, one_more_part, Negated, plain, negated, Sum, the_sum, MoreSum, no_more_sum, one_more_sum, Comparison, not_compared, compared, Conjunction, the_conjunction, MoreConjunction, no_more_conjunction, one_more_conjunction, Exclusive, the_exclusive, MoreExclusive, no_more_exclusive, one_more_exclusive, Disjunction, the_disjunction, MoreDisjunction, no_more_disjunction, one_more_disjunction, Atom, a_skip, an_assignment, a_send, a_receive, a_call, in_round, a_loop, a_guarded_loop, a_selection, Branch, the_branch, Choices, the_choices, MoreChoices, no_more_choices, one_more_choice, Both, the_both, MoreBoth, no_more_both, one_more_both, Seq, the_seq, MoreSeq, no_more_seq, one_more_seq, Par, the_par, MorePar, no_more_par, one_more_par, Declared, Item, Declaration, a_channel, a_variable, a_variable_with_first, a_procedure, Declarations, no_declaration, one_more_declaration, the_program, Derives}
+use Rattle.chp_syntax.specs.Grammar.{or_operator, xor_of, and_of, sum_of, comparison_of}
+use Rattle.chp_syntax.specs.Grammar.{sign, name, numeral, kind_of_channel, Covered, Tail, Guarded, Primary, a_number, a_name, a_bit, a_slice, a_join, in_brackets, Parts, the_parts, MoreParts, no_more_parts, one_more_part, Negated, plain, negated, Sum, the_sum, MoreSum, no_more_sum, one_more_sum, Comparison, not_compared, compared, Conjunction, the_conjunction, MoreConjunction, no_more_conjunction, one_more_conjunction, Exclusive, the_exclusive, MoreExclusive, no_more_exclusive, one_more_exclusive, Disjunction, the_disjunction, MoreDisjunction, no_more_disjunction, one_more_disjunction, Atom, a_skip, an_assignment, a_send, a_receive, a_call, in_round, a_loop, a_guarded_loop, a_selection, Branch, the_branch, Choices, the_choices, MoreChoices, no_more_choices, one_more_choice, Both, the_both, MoreBoth, no_more_both, one_more_both, Seq, the_seq, MoreSeq, no_more_seq, one_more_seq, Par, the_par, MorePar, no_more_par, one_more_par, Declared, Item, Declaration, a_channel, a_variable, a_variable_with_first, a_procedure, Declarations, no_declaration, one_more_declaration, the_program, Derives}
 use Rattle.chp_syntax.specs.Limits.{is_probe, is_arbiter, has_kind}
 
 -- a token of the language
@@ -53,7 +53,7 @@ exclusive_own (Word w) o e = refl
 exclusive_own (Ident w) o e = refl
 exclusive_own (Number w) o e = refl
 
-disjunction_own : (j : TokenKind) (o : Op) → or_of j ≡ Some o → is_foreign j ≡ false
+disjunction_own : (j : TokenKind) (o : Op) → or_operator j ≡ Some o → is_foreign j ≡ false
 disjunction_own (Sign mark.Hash) o e = absurd (cc e)
 disjunction_own (Sign mark.BracketBar) o e = absurd (cc e)
 disjunction_own (Sign _) o e = refl
@@ -69,7 +69,7 @@ comparison_own (Word w) o e = refl
 comparison_own (Ident w) o e = refl
 comparison_own (Number w) o e = refl
 
-channel_own : (j : TokenKind) (k : DeclKind) → channel_of j ≡ Some k → is_foreign j ≡ false
+channel_own : (j : TokenKind) (k : DeclKind) → kind_of_channel j ≡ Some k → is_foreign j ≡ false
 channel_own (Sign m) k e = absurd (cc e)
 channel_own (Word w) k e = refl
 channel_own (Ident w) k e = refl

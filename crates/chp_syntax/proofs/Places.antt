@@ -4,7 +4,7 @@ use Rattle.std.proofs.lemmas.List.{take-append-drop, drop_more, take_more, take-
 use Rattle.chp_syntax.specs.declared.token.Token.{Token}
 use Rattle.chp_syntax.specs.declared.token.TokenKind.{TokenKind}
 use Rattle.chp_syntax.specs.Reading.{opened, depth_of, IsShallow}
-use Rattle.chp_syntax.specs.Limits.{has_kind, IsFirst, GoesOver}
+use Rattle.chp_syntax.specs.Limits.{has_kind, IsFirstToken, GoesOver}
 
 -- a list is what stands before a token, the token, and what stands behind it
 split_at : (ts : List Token) (i : ℕ) (t : Token) → i < length ts → t ≡ get_or ts i t → ts ≡ take i ts ++ t ∷ drop (i + 1) ts
@@ -12,7 +12,7 @@ split_at ts i t lt is =
     sym (take-append-drop i ts) ∙ ap (λ us. take i ts ++ us) (drop_more ts i t lt ∙ ap (λ u. u ∷ drop (i + 1) ts) (sym is))
 
 pub first_at : (test : TokenKind → Bool) (ts : List Token) (i : ℕ) (t : Token) → i < length ts → t ≡ get_or ts i t → has_kind test (take i ts) ≡ false →
-    test t.kind ≡ true → IsFirst test ts t.at
+    test t.kind ≡ true → IsFirstToken test ts t.at
 first_at test ts i t lt is none passes = record {
   before = take i ts;
   kind = t.kind;

@@ -12,9 +12,9 @@ use Rattle.chp_syntax.specs.declared.tree.DeclKind.TheVariants as declares
 use Rattle.chp_syntax.specs.declared.parser.sight.Numeral.{Numeral}
 use Rattle.chp_syntax.specs.declared.parser.sight.DeclFront.TheVariants as decl
 use Rattle.chp_syntax.specs.Trees.{Statement, ProgramTree}
-use Rattle.chp_syntax.specs.Grammar.{named, name, numeral, word, sign, channel_of, Atom, Par, Declared, no_declared, Item, valued, defined, and_item, unset, set, Declaration, a_channel, a_variable, a_variable_with_first, a_procedure, Declarations, no_declaration, one_more_declaration, Programs, the_program, Derives}
+use Rattle.chp_syntax.specs.Grammar.{named, name, numeral, word, sign, kind_of_channel, Atom, Par, Declared, no_declared, Item, valued, defined, and_item, unset, set, Declaration, a_channel, a_variable, a_variable_with_first, a_procedure, Declarations, no_declaration, one_more_declaration, Programs, the_program, Derives}
 use Rattle.chp_syntax.specs.Reading.{FirstFault}
-use Rattle.chp_syntax.specs.Parts.{Part, sees, IsKind, reads, Stops, Anything, Nothing, Undeclared, Exactly, exactly, Operator, operator, AName, the_name, ANumber, the_number, Good, Bad, decl_kind, decl_front}
+use Rattle.chp_syntax.specs.Parts.{GrammarPart, sees, IsKind, kind_read, StopsAt, Anything, Nothing, Undeclared, Exactly, exactly, Operator, operator, AName, the_name, ANumber, the_number, Good, Bad, decl_kind, decl_front}
 use Rattle.chp_syntax.specs.View.{onto, with_item}
 use Rattle.chp_syntax.proofs.Steps.{zero_span, SoFar, Ends, Seam, Then, and_then, then_parts, Done, all_done, done_parts, Either, one, other, start, instead, by_part, part_bad, bad_here, good_here, not_one, not_other, ends_exactly, ends_name, ends_number, ends_done, ends_then, ends_one, any_seam, kind_seam, last_any, then_kind}
 use Rattle.chp_syntax.proofs.Group.{onto_end}
@@ -27,14 +27,14 @@ FD = Anything
 abbrev pub decl_of : DeclKind → Named → Numeral → Item
 decl_of k i w = valued (unset k i w.value w.at)
 
-abbrev pub Semicolon_then : Item → Part Item
+abbrev pub Semicolon_then : Item → GrammarPart Item
 Semicolon_then d = Then (Exactly (Sign mark.Semicolon)) (λ e. Done d)
 
-abbrev pub Width_then : (Numeral → Part Item) → Part Item
+abbrev pub Width_then : (Numeral → GrammarPart Item) → GrammarPart Item
 Width_then Q = Then (Exactly (Sign mark.Colon)) (λ c. Then ANumber Q)
 
-abbrev pub Channelled : Part Item
-Channelled = Then (Operator channel_of) (λ k. Then AName (λ i. Width_then (λ w. Semicolon_then (decl_of k i w))))
+abbrev pub Channelled : GrammarPart Item
+Channelled = Then (Operator kind_of_channel) (λ k. Then AName (λ i. Width_then (λ w. Semicolon_then (decl_of k i w))))
 
 channel_in : {l rest : List Token} {a : Item} → Channelled l rest a → Declaration l rest a
 channel_in (and_then (operator e) (and_then the_name (and_then exactly (and_then the_number (and_then exactly all_done))))) = a_channel e
@@ -50,7 +50,7 @@ channel_out k h (a_procedure p) = absurd (cc h)
 pub channel_start : (k : DeclKind) (xs : List Token) → decl_front (sees xs) ≡ decl.Channel k → SoFar Declaration FD xs xs Channelled
 channel_start k xs h = instead Channelled (start Declaration FD xs) (λ l rest a q. channel_in q) (λ l rest a s f w. channel_out k (ap decl_front s ∙ h) w)
 
-channel_kind : (j : TokenKind) (k : DeclKind) → decl_kind j ≡ decl.Channel k → channel_of j ≡ Some k
+channel_kind : (j : TokenKind) (k : DeclKind) → decl_kind j ≡ decl.Channel k → kind_of_channel j ≡ Some k
 channel_kind (Word key.In) k h = let e : declares.In ≡ k = cc h in ap (λ (d : DeclKind). Some d) e
 channel_kind (Word key.Out) k h = let e : declares.Out ≡ k = cc h in ap (λ (d : DeclKind). Some d) e
 channel_kind (Word key.Chan) k h = let e : declares.Chan ≡ k = cc h in ap (λ (d : DeclKind). Some d) e
@@ -59,7 +59,7 @@ channel_kind (Ident n) k h = absurd (cc h)
 channel_kind (Number n) k h = absurd (cc h)
 channel_kind (Sign m) k h = absurd (cc h)
 
-pub channel_seen : (k : DeclKind) (t : Option Token) → decl_front t ≡ decl.Channel k → reads channel_of t ≡ Some k
+pub channel_seen : (k : DeclKind) (t : Option Token) → decl_front t ≡ decl.Channel k → kind_read kind_of_channel t ≡ Some k
 channel_seen k None h = absurd (cc h)
 channel_seen k (Some t) h = channel_kind t.kind k h
 
@@ -73,10 +73,10 @@ channel_within k all at h = omega (arith, some (drop at all) h, length-drop at a
 semicolon_ends : (d : Item) → Ends (Semicolon_then d)
 semicolon_ends d = ends_then (ends_exactly (Sign mark.Semicolon)) (λ e. ends_done d)
 
-width_ends : {Q : Numeral → Part Item} → ((w : Numeral) → Ends (Q w)) → Ends (Width_then Q)
+width_ends : {Q : Numeral → GrammarPart Item} → ((w : Numeral) → Ends (Q w)) → Ends (Width_then Q)
 width_ends e = ends_then (ends_exactly (Sign mark.Colon)) (λ c. ends_then ends_number e)
 
-pub channel_1 : Seam (Operator channel_of) Anything FD (λ k. Then AName (λ i. Width_then (λ w. Semicolon_then (decl_of k i w))))
+pub channel_1 : Seam (Operator kind_of_channel) Anything FD (λ k. Then AName (λ i. Width_then (λ w. Semicolon_then (decl_of k i w))))
 channel_1 = any_seam (λ k. ends_then ends_name (λ i. width_ends (λ w. semicolon_ends (decl_of k i w))))
 
 pub channel_2 : (k : DeclKind) → Seam AName Anything FD (λ i. Width_then (λ w. Semicolon_then (decl_of k i w)))
@@ -95,13 +95,13 @@ semicolon_seam d = last_any (λ e. d)
 abbrev pub set_of : Named → Numeral → Numeral → Item
 set_of i w x = valued (set i w.value w.at x.value x.at)
 
-abbrev pub First : Named → Numeral → Part Item
+abbrev pub First : Named → Numeral → GrammarPart Item
 First i w = Then (Exactly (Sign mark.Equal)) (λ q. Then ANumber (λ x. Semicolon_then (set_of i w x)))
 
-abbrev pub After_width : Named → Numeral → Part Item
+abbrev pub After_width : Named → Numeral → GrammarPart Item
 After_width i w = Either (Semicolon_then (decl_of declares.Var i w)) (First i w)
 
-abbrev pub Variable : Part Item
+abbrev pub Variable : GrammarPart Item
 Variable = Then (Exactly (Word key.Var)) (λ v. Then AName (λ i. Width_then (After_width i)))
 
 variable_in : {l rest : List Token} {a : Item} → Variable l rest a → Declaration l rest a
@@ -109,7 +109,7 @@ variable_in (and_then exactly (and_then the_name (and_then exactly (and_then the
 variable_in (and_then exactly (and_then the_name
     (and_then exactly (and_then the_number (other (and_then exactly (and_then the_number (and_then exactly all_done)))))))) = a_variable_with_first
 
-channel_declares : (j : TokenKind) (k : DeclKind) → channel_of j ≡ Some k → decl_kind j ≡ decl.Channel k
+channel_declares : (j : TokenKind) (k : DeclKind) → kind_of_channel j ≡ Some k → decl_kind j ≡ decl.Channel k
 channel_declares (Word key.In) k h = let e : declares.In ≡ k = cc h in ap (λ (d : DeclKind). decl.Channel d) e
 channel_declares (Word key.Out) k h = let e : declares.Out ≡ k = cc h in ap (λ (d : DeclKind). decl.Channel d) e
 channel_declares (Word key.Chan) k h = let e : declares.Chan ≡ k = cc h in ap (λ (d : DeclKind). decl.Channel d) e
@@ -169,7 +169,7 @@ with_first i w so h = not_one so (λ l rest a s f q. not_both (sees l) (subst (�
 abbrev pub proc_of : Named → Statement → Item
 proc_of i b = defined (record { name = i; body = b })
 
-abbrev pub Procedured : Part Item
+abbrev pub Procedured : GrammarPart Item
 Procedured = Then (Exactly (Word key.Proc)) (λ v. Then AName (λ i. Then (Exactly (Sign mark.Equal)) (λ q. Then Atom (λ b. Semicolon_then (proc_of i b)))))
 
 procedure_in : {l rest : List Token} {a : Item} → Procedured l rest a → Declaration l rest a
@@ -198,7 +198,7 @@ procedure_2 = any_seam (λ i. ends_then (ends_exactly (Sign mark.Equal)) (λ q. 
 pub procedure_3 : (i : Named) → Seam (Exactly (Sign mark.Equal)) Anything FD (λ q. Then Atom (λ b. Semicolon_then (proc_of i b)))
 procedure_3 i = any_seam (λ q. proc_ends i)
 
-pub procedure_4 : (i : Named) → Seam Atom (Stops 5) FD (λ b. Semicolon_then (proc_of i b))
+pub procedure_4 : (i : Named) → Seam Atom (StopsAt 5) FD (λ b. Semicolon_then (proc_of i b))
 procedure_4 i = kind_seam (Sign mark.Semicolon) 5 (omega arith) (λ b e. ends_done (proc_of i b))
 
 -- any number of declarations
@@ -218,7 +218,7 @@ ends_declaration = (
 pub declaration_bad : (xs : List Token) → Undeclared (sees xs) → Bad Declaration FD xs xs
 declaration_bad xs h = bad_here (start Declaration FD xs) (λ l rest a s f w. declaration_front w (ap decl_front s ∙ h)) ends_declaration
 
-abbrev pub Rest : List Item → Part Declared
+abbrev pub Rest : List Item → GrammarPart Declared
 Rest got l rest a = (us : Declared) × Declarations l rest us × (a ≡ onto and_item got us)
 
 pub record Declaring (xs left : List Token) (d : Declared) : Type 0 where
@@ -296,10 +296,10 @@ declaring_end {xs} {left} {d} s u =
 abbrev pub whole_of : Declared → Statement → ProgramTree
 whole_of d t = record { decls = d.decls; procs = d.procs; body = t }
 
-abbrev pub Ending : Declared → Statement → Part ProgramTree
+abbrev pub Ending : Declared → Statement → GrammarPart ProgramTree
 Ending d t = Then (Exactly (Word key.End)) (λ e. Done (whole_of d t))
 
-abbrev pub Beginning : Declared → Part ProgramTree
+abbrev pub Beginning : Declared → GrammarPart ProgramTree
 Beginning d = Then (Exactly (Word key.Begin)) (λ b. Then Par (Ending d))
 
 program_in : {l rest : List Token} {a : ProgramTree} → Then Declarations Beginning l rest a → Programs l rest a
@@ -327,7 +327,7 @@ declared_seam = record {
 pub begin_seam : (d : Declared) → Seam (Exactly (Word key.Begin)) Anything Nothing (λ b. Then Par (Ending d))
 begin_seam d = any_seam (λ b. body_ends d)
 
-pub par_seam : (d : Declared) → Seam Par (Stops 2) Nothing (Ending d)
+pub par_seam : (d : Declared) → Seam Par (StopsAt 2) Nothing (Ending d)
 par_seam d = kind_seam (Word key.End) 2 (omega arith) (λ t e. ends_done (whole_of d t))
 
 pub end_seam : (d : Declared) (t : Statement) → Seam (Exactly (Word key.End)) Anything Nothing (λ e. Done (whole_of d t))

@@ -11,7 +11,7 @@ use Rattle.chp_syntax.specs.Trees.{ProgramTree}
 use Rattle.chp_syntax.specs.Tokens.{Tokens}
 use Rattle.chp_syntax.specs.Grammar.{Derives}
 use Rattle.chp_syntax.specs.Reading.{depth_of, IsShallow, FirstFault, Reads}
-use Rattle.chp_syntax.specs.Limits.{is_probe, is_arbiter, has_kind, IsFirst, GoesOver}
+use Rattle.chp_syntax.specs.Limits.{is_probe, is_arbiter, has_kind, IsFirstToken, GoesOver}
 use Rattle.chp_syntax.specs.Refusals.{RefusedTokens, a_probe, an_arbiter, too_deep, no_program, too_many_arms}
 use Rattle.chp_syntax.proofs.OwnTokens.{no_probe, no_arbiter}
 use Rattle.chp_syntax.proofs.FewArms.{many_in_program}
@@ -29,7 +29,7 @@ has_at : (test : TokenKind → Bool) (before behind : List Token) (t : Token) �
 has_at test [] behind t h = or_left (test t.kind) _ h
 has_at test (x ∷ before) behind t h = or_right (test x.kind) _ (has_at test before behind t h)
 
-first_has : (test : TokenKind → Bool) {ts : List Token} {s : Span} → IsFirst test ts s → has_kind test ts ≡ true
+first_has : (test : TokenKind → Bool) {ts : List Token} {s : Span} → IsFirstToken test ts s → has_kind test ts ≡ true
 first_has test {ts} {s} f =
     let t : Token = record { kind = f.kind; at = s } in
     ap (λ (us : List Token). has_kind test us) f.is ∙ has_at test f.before f.behind t f.passes
@@ -65,11 +65,11 @@ refused_none {text} {ts} only refused p r =
     reads_none refused (subst (λ (us : List Token). Derives us p) e r.derives) (subst (λ (us : List Token). IsShallow us) e r.shallow) r
 
 -- tokens are refused for at most one cause, at one place
-first_before : {test : TokenKind → Bool} {ts c : List Token} {s : Span} (a : IsFirst test ts s) (m : List Token) →
-    c ≡ a.before ++ record { kind = a.kind; at = s } ∷ m → IsFirst test c s
+first_before : {test : TokenKind → Bool} {ts c : List Token} {s : Span} (a : IsFirstToken test ts s) (m : List Token) →
+    c ≡ a.before ++ record { kind = a.kind; at = s } ∷ m → IsFirstToken test c s
 first_before a m i = record { before = a.before; kind = a.kind; behind = m; is = i; passes = a.passes; none = a.none }
 
-first_once : (test : TokenKind → Bool) {ts : List Token} {s t : Span} → IsFirst test ts s → IsFirst test ts t → s ≡ t
+first_once : (test : TokenKind → Bool) {ts : List Token} {s t : Span} → IsFirstToken test ts s → IsFirstToken test ts t → s ≡ t
 first_once test {s = s} {t = t} a b =
     ap (λ (u : Token). u.at)
     (one_place a.before b.before a.behind b.behind (record { kind = a.kind; at = s }) (record { kind = b.kind; at = t }) (sym a.is ∙ b.is)

@@ -15,9 +15,9 @@ use Rattle.chp_syntax.specs.declared.tree.Op.{Op}
 use Rattle.chp_syntax.specs.Spelling.{Spells}
 use Rattle.chp_syntax.specs.Tokens.{Tokens, Cuts, so_far, a_gap, a_token}
 use Rattle.chp_syntax.specs.Trees.{Expression, Expressions, Links, no_links, and_link, Statement, Statements, no_members, and_member, Arms, Procedure, ProgramTree}
-use Rattle.chp_syntax.specs.Grammar.{or_of, xor_of, and_of, sum_of, Covered, Tail, chained, Guarded, parallel_of, sequence_of, Primary, a_number, a_name, a_bit, a_slice, a_join, in_brackets, Parts, the_parts, MoreParts, no_more_parts, one_more_part, Negated, plain, negated, Sum, the_sum, MoreSum, no_more_sum, one_more_sum, Comparison, not_compared, compared, Conjunction, the_conjunction, MoreConjunction, no_more_conjunction, one_more_conjunction, Exclusive, the_exclusive, MoreExclusive, no_more_exclusive, one_more_exclusive, Disjunction, the_disjunction, MoreDisjunction, no_more_disjunction, one_more_disjunction, Atom, a_skip, an_assignment, a_send, a_receive, a_call, in_round, a_loop, a_guarded_loop, a_selection, Branch, the_branch, Choices, the_choices, MoreChoices, no_more_choices, one_more_choice, Both, the_both, MoreBoth, no_more_both, one_more_both, Seq, the_seq, MoreSeq, no_more_seq, one_more_seq, Par, the_par, MorePar, no_more_par, one_more_par, Declared, Item, valued, defined, and_item, Declaration, a_channel, a_variable, a_variable_with_first, a_procedure, Declarations, no_declaration, one_more_declaration, the_program, Derives}
+use Rattle.chp_syntax.specs.Grammar.{or_operator, xor_of, and_of, sum_of, Covered, Tail, chained, Guarded, parallel_of, sequence_of, Primary, a_number, a_name, a_bit, a_slice, a_join, in_brackets, Parts, the_parts, MoreParts, no_more_parts, one_more_part, Negated, plain, negated, Sum, the_sum, MoreSum, no_more_sum, one_more_sum, Comparison, not_compared, compared, Conjunction, the_conjunction, MoreConjunction, no_more_conjunction, one_more_conjunction, Exclusive, the_exclusive, MoreExclusive, no_more_exclusive, one_more_exclusive, Disjunction, the_disjunction, MoreDisjunction, no_more_disjunction, one_more_disjunction, Atom, a_skip, an_assignment, a_send, a_receive, a_call, in_round, a_loop, a_guarded_loop, a_selection, Branch, the_branch, Choices, the_choices, MoreChoices, no_more_choices, one_more_choice, Both, the_both, MoreBoth, no_more_both, one_more_both, Seq, the_seq, MoreSeq, no_more_seq, one_more_seq, Par, the_par, MorePar, no_more_par, one_more_par, Declared, Item, valued, defined, and_item, Declaration, a_channel, a_variable, a_variable_with_first, a_procedure, Declarations, no_declaration, one_more_declaration, the_program, Derives}
 use Rattle.chp_syntax.specs.Reading.{Reads, arm_count, few_arms, few_arms_each, few_arms_in}
-use Rattle.chp_syntax.specs.Shape.{is_comparison, some_compares, link_count, part_count, IsShapedExpression, AreShapedParts, AreShapedLinks, IsShapedStatement, AreShapedMembers, AreShapedArms, IsShapedDecl, IsShapedProcedure, IsShaped}
+use Rattle.chp_syntax.specs.Shape.{is_comparison, some_compares, link_count, expression_count, IsShapedExpression, AreShapedParts, AreShapedLinks, IsShapedStatement, AreShapedMembers, AreShapedArms, IsShapedDecl, IsShapedProcedure, IsShaped}
 
 both_true : (a b : Bool) → (a && b) ≡ true → (a ≡ true) × (b ≡ true)
 both_true true b h = (refl, h)
@@ -47,7 +47,7 @@ xor_plain (Word w) o e = absurd (cc e)
 xor_plain (Ident w) o e = absurd (cc e)
 xor_plain (Number w) o e = absurd (cc e)
 
-or_plain : (j : TokenKind) (o : Op) → or_of j ≡ Some o → is_comparison o ≡ false
+or_plain : (j : TokenKind) (o : Op) → or_operator j ≡ Some o → is_comparison o ≡ false
 or_plain (Sign mark.Bar) o e = cc
 or_plain (Sign _) o e = absurd (cc e)
 or_plain (Word w) o e = absurd (cc e)
@@ -77,7 +77,7 @@ mutual
   primary_shaped (a_join p) = some_parts_shaped p
   primary_shaped (in_brackets p) = disjunction_shaped p
 
-  some_parts_shaped : {ts rest : List Token} {es : Expressions} → Parts ts rest es → (1 ≤ part_count es) × AreShapedParts es
+  some_parts_shaped : {ts rest : List Token} {es : Expressions} → Parts ts rest es → (1 ≤ expression_count es) × AreShapedParts es
   some_parts_shaped (the_parts d m) = (omega arith, (disjunction_shaped d, more_parts_shaped m))
 
   more_parts_shaped : {ts rest : List Token} {es : Expressions} → MoreParts ts rest es → AreShapedParts es

@@ -11,14 +11,14 @@ use Rattle.chp_syntax.specs.declared.parser.sight.AtomFront.TheVariants as atom
 use Rattle.chp_syntax.specs.declared.parser.sight.ActionFront.TheVariants as action
 use Rattle.chp_syntax.specs.Trees.{Statement, skips, assigns, sends, receives, selects, repeats, calls, Statements, no_members, and_member, Arms, no_arms}
 use Rattle.chp_syntax.specs.Grammar.{named, word, Covered, Guarded, guarded, sequence_of, parallel_of, Disjunction, Atom, a_skip, an_assignment, a_send, a_receive, a_call, in_round, a_loop, a_guarded_loop, a_selection, Branch, the_branch, Choices, the_choices, MoreChoices, no_more_choices, one_more_choice, Both, the_both, MoreBoth, no_more_both, one_more_both, Seq, the_seq, MoreSeq, no_more_seq, one_more_seq, Par, the_par, MorePar, no_more_par, one_more_par}
-use Rattle.chp_syntax.specs.Parts.{Part, sees, IsKind, rank, Stops, Anything, Exactly, exactly, AName, the_name, Inside, a_body, some_arms, Bad, atom_front, action_kind, action_front}
+use Rattle.chp_syntax.specs.Parts.{GrammarPart, sees, IsKind, rank, StopsAt, Anything, Exactly, exactly, AName, the_name, Inside, a_body, some_arms, Bad, atom_front, action_kind, action_front}
 use Rattle.chp_syntax.specs.View.{onto, and_guarded}
 use Rattle.chp_syntax.proofs.Steps.{zero_span, SoFar, Ends, Seam, Then, and_then, Done, all_done, Either, one, other, start, instead, bad_here, exactly_seen, ends_exactly, ends_name, ends_done, ends_then, ends_one, any_seam, kind_seam, last_seam, last_any, stops_more, then_kind}
 use Rattle.chp_syntax.proofs.Group.{Further, no_further, a_further, Grouping, group_ends}
 use Rattle.chp_syntax.proofs.Expressions.{ends_disjunction}
 
 abbrev F5 : Option Token → Type 0
-F5 = Stops 5
+F5 = StopsAt 5
 
 pub ends_atom : Ends Atom
 ends_atom = (word key.Skip zero_span ∷ [], skips zero_span, λ rest. a_skip)
@@ -39,11 +39,11 @@ pub both_in : {l x mid rest : List Token} {o : Span} {b : Statement} {us : State
     MoreBoth l rest (and_member b us)
 both_in exactly a n = one_more_both a n
 
-pub both_marked : (t : Option Token) → IsKind (Sign mark.Comma) t → Stops 5 t
+pub both_marked : (t : Option Token) → IsKind (Sign mark.Comma) t → StopsAt 5 t
 both_marked None h = tt
 both_marked (Some t) h = let e : rank t.kind ≡ 4 = ap rank h in omega (arith, e)
 
-pub both_apart : (t : Option Token) → IsKind (Sign mark.Comma) t → Stops 4 t → ⊥
+pub both_apart : (t : Option Token) → IsKind (Sign mark.Comma) t → StopsAt 4 t → ⊥
 both_apart None h f = h
 both_apart (Some t) h f = let e : rank t.kind ≡ 4 = ap rank h in let lt : rank t.kind < 4 = f in omega (arith, e, lt)
 
@@ -55,9 +55,9 @@ both_group = record {
   O = Span;
   I = Statement;
   W = Both;
-  F = Stops 4;
+  F = StopsAt 4;
   R = Atom;
-  G = Stops 5;
+  G = StopsAt 5;
   M = MoreBoth;
   S = Exactly (Sign mark.Comma);
   H = IsKind (Sign mark.Comma);
@@ -94,11 +94,11 @@ pub seq_in : {l x mid rest : List Token} {o : Span} {b : Statement} {us : Statem
     MoreSeq mid rest us → MoreSeq l rest (and_member b us)
 seq_in exactly a n = one_more_seq a n
 
-pub seq_marked : (t : Option Token) → IsKind (Sign mark.Semicolon) t → Stops 4 t
+pub seq_marked : (t : Option Token) → IsKind (Sign mark.Semicolon) t → StopsAt 4 t
 seq_marked None h = tt
 seq_marked (Some t) h = let e : rank t.kind ≡ 3 = ap rank h in omega (arith, e)
 
-pub seq_apart : (t : Option Token) → IsKind (Sign mark.Semicolon) t → Stops 3 t → ⊥
+pub seq_apart : (t : Option Token) → IsKind (Sign mark.Semicolon) t → StopsAt 3 t → ⊥
 seq_apart None h f = h
 seq_apart (Some t) h f = let e : rank t.kind ≡ 3 = ap rank h in let lt : rank t.kind < 3 = f in omega (arith, e, lt)
 
@@ -110,9 +110,9 @@ seq_group = record {
   O = Span;
   I = Statement;
   W = Seq;
-  F = Stops 3;
+  F = StopsAt 3;
   R = Both;
-  G = Stops 4;
+  G = StopsAt 4;
   M = MoreSeq;
   S = Exactly (Sign mark.Semicolon);
   H = IsKind (Sign mark.Semicolon);
@@ -149,11 +149,11 @@ pub par_in : {l x mid rest : List Token} {o : Span} {b : Statement} {us : Statem
     MorePar l rest (and_member b us)
 par_in exactly a n = one_more_par a n
 
-pub par_marked : (t : Option Token) → IsKind (Sign mark.BarBar) t → Stops 3 t
+pub par_marked : (t : Option Token) → IsKind (Sign mark.BarBar) t → StopsAt 3 t
 par_marked None h = tt
 par_marked (Some t) h = let e : rank t.kind ≡ 2 = ap rank h in omega (arith, e)
 
-pub par_apart : (t : Option Token) → IsKind (Sign mark.BarBar) t → Stops 2 t → ⊥
+pub par_apart : (t : Option Token) → IsKind (Sign mark.BarBar) t → StopsAt 2 t → ⊥
 par_apart None h f = h
 par_apart (Some t) h f = let e : rank t.kind ≡ 2 = ap rank h in let lt : rank t.kind < 2 = f in omega (arith, e, lt)
 
@@ -165,9 +165,9 @@ par_group = record {
   O = Span;
   I = Statement;
   W = Par;
-  F = Stops 2;
+  F = StopsAt 2;
   R = Seq;
-  G = Stops 3;
+  G = StopsAt 3;
   M = MorePar;
   S = Exactly (Sign mark.BarBar);
   H = IsKind (Sign mark.BarBar);
@@ -201,10 +201,10 @@ several V build is t bs e n b (x ∷ got) h =
     e ∙ (ap (λ (ys : List Statement). V (onto and_member ys no_members)) (sym h) ∙ sym (is b x (onto and_member got no_members)))
 
 -- expr "->" par
-abbrev pub Body : Covered → Part Guarded
+abbrev pub Body : Covered → GrammarPart Guarded
 Body e = Then Par (λ t. Done (guarded e.expression t))
 
-abbrev pub Arrowed : Covered → Part Guarded
+abbrev pub Arrowed : Covered → GrammarPart Guarded
 Arrowed e = Then (Exactly (Sign mark.Arrow)) (λ p. Body e)
 
 branch_in : {l rest : List Token} {a : Guarded} → Then Disjunction Arrowed l rest a → Branch l rest a
@@ -213,19 +213,19 @@ branch_in (and_then d (and_then exactly (and_then p all_done))) = the_branch d p
 branch_out : {l rest : List Token} {a : Guarded} → Branch l rest a → Then Disjunction Arrowed l rest a
 branch_out (the_branch d p) = and_then d (and_then exactly (and_then p all_done))
 
-pub branch_start : (xs : List Token) → SoFar Branch (Stops 2) xs xs (Then Disjunction Arrowed)
-branch_start xs = instead (Then Disjunction Arrowed) (start Branch (Stops 2) xs) (λ l rest a q. branch_in q) (λ l rest a s f w. branch_out w)
+pub branch_start : (xs : List Token) → SoFar Branch (StopsAt 2) xs xs (Then Disjunction Arrowed)
+branch_start xs = instead (Then Disjunction Arrowed) (start Branch (StopsAt 2) xs) (λ l rest a q. branch_in q) (λ l rest a s f w. branch_out w)
 
 body_ends : (e : Covered) → Ends (Body e)
 body_ends e = ends_then ends_par (λ t. ends_done (guarded e.expression t))
 
-pub guard_seam : Seam Disjunction (Stops 5) (Stops 2) Arrowed
+pub guard_seam : Seam Disjunction (StopsAt 5) (StopsAt 2) Arrowed
 guard_seam = kind_seam (Sign mark.Arrow) 5 (omega arith) (λ e p. body_ends e)
 
-pub arrow_seam : (e : Covered) → Seam (Exactly (Sign mark.Arrow)) Anything (Stops 2) (λ p. Body e)
+pub arrow_seam : (e : Covered) → Seam (Exactly (Sign mark.Arrow)) Anything (StopsAt 2) (λ p. Body e)
 arrow_seam e = any_seam (λ p. body_ends e)
 
-pub body_seam : (e : Covered) → Seam Par (Stops 2) (Stops 2) (λ t. Done (guarded e.expression t))
+pub body_seam : (e : Covered) → Seam Par (StopsAt 2) (StopsAt 2) (λ t. Done (guarded e.expression t))
 body_seam e = last_seam (λ t. guarded e.expression t)
 
 pub ends_branch : Ends Branch
@@ -246,11 +246,11 @@ pub choices_in : {l x mid rest : List Token} {o : Span} {b : Guarded} {us : Arms
     MoreChoices mid rest us → MoreChoices l rest (and_guarded b us)
 choices_in exactly a n = one_more_choice a n
 
-pub choices_marked : (t : Option Token) → IsKind (Sign mark.Choice) t → Stops 2 t
+pub choices_marked : (t : Option Token) → IsKind (Sign mark.Choice) t → StopsAt 2 t
 choices_marked None h = tt
 choices_marked (Some t) h = let e : rank t.kind ≡ 1 = ap rank h in omega (arith, e)
 
-pub choices_apart : (t : Option Token) → IsKind (Sign mark.Choice) t → Stops 1 t → ⊥
+pub choices_apart : (t : Option Token) → IsKind (Sign mark.Choice) t → StopsAt 1 t → ⊥
 choices_apart None h f = h
 choices_apart (Some t) h f = let e : rank t.kind ≡ 1 = ap rank h in let lt : rank t.kind < 1 = f in omega (arith, e, lt)
 
@@ -262,9 +262,9 @@ choices_group = record {
   O = Span;
   I = Guarded;
   W = Choices;
-  F = Stops 1;
+  F = StopsAt 1;
   R = Branch;
-  G = Stops 2;
+  G = StopsAt 2;
   M = MoreChoices;
   S = Exactly (Sign mark.Choice);
   H = IsKind (Sign mark.Choice);
@@ -292,43 +292,43 @@ pub ends_inside : Ends Inside
 ends_inside = (ends_par.0, repeats ends_par.1, λ rest. a_body (ends_par.2 rest))
 
 -- the alternatives of a statement, by their first tokens
-abbrev pub Skipped : Part Statement
+abbrev pub Skipped : GrammarPart Statement
 Skipped = Then (Exactly (Word key.Skip)) (λ s. Done (skips s))
 
-abbrev pub Called : Part Statement
+abbrev pub Called : GrammarPart Statement
 Called = Then (Exactly (Word key.Call)) (λ c. Then AName (λ i. Done (calls i)))
 
-abbrev pub Assigned : Named → Part Statement
+abbrev pub Assigned : Named → GrammarPart Statement
 Assigned i = Then (Exactly (Sign mark.Becomes)) (λ b. Then Disjunction (λ e. Done (assigns i e.expression)))
 
-abbrev pub Sent : Named → Part Statement
+abbrev pub Sent : Named → GrammarPart Statement
 Sent i = Then (Exactly (Sign mark.Bang)) (λ b. Then Disjunction (λ e. Done (sends i e.expression)))
 
-abbrev pub Received : Named → Part Statement
+abbrev pub Received : Named → GrammarPart Statement
 Received i = Then (Exactly (Sign mark.Question)) (λ b. Then AName (λ m. Done (receives i m)))
 
-abbrev pub After_target : Named → Part Statement
+abbrev pub After_target : Named → GrammarPart Statement
 After_target i = Either (Assigned i) (Either (Sent i) (Received i))
 
-abbrev pub Acted : Part Statement
+abbrev pub Acted : GrammarPart Statement
 Acted = Then AName After_target
 
-abbrev pub Round_end : Statement → Part Statement
+abbrev pub Round_end : Statement → GrammarPart Statement
 Round_end t = Then (Exactly (Sign mark.CloseRound)) (λ c. Done t)
 
-abbrev pub Rounded : Part Statement
+abbrev pub Rounded : GrammarPart Statement
 Rounded = Then (Exactly (Sign mark.OpenRound)) (λ o. Then Par Round_end)
 
-abbrev pub Square_end : Statement → Part Statement
+abbrev pub Square_end : Statement → GrammarPart Statement
 Square_end t = Then (Exactly (Sign mark.CloseSquare)) (λ c. Done t)
 
-abbrev pub Starred : Part Statement
+abbrev pub Starred : GrammarPart Statement
 Starred = Then (Exactly (Sign mark.Star)) (λ s. Then (Exactly (Sign mark.OpenSquare)) (λ o. Then Inside Square_end))
 
-abbrev pub Select_end : Arms → Part Statement
+abbrev pub Select_end : Arms → GrammarPart Statement
 Select_end bs = Then (Exactly (Sign mark.CloseSquare)) (λ c. Done (selects false bs))
 
-abbrev pub Squared : Part Statement
+abbrev pub Squared : GrammarPart Statement
 Squared = Then (Exactly (Sign mark.OpenSquare)) (λ o. Then Choices Select_end)
 
 skip_in : {l rest : List Token} {a : Statement} → Skipped l rest a → Atom l rest a
@@ -424,7 +424,7 @@ call_2 = last_any (λ i. calls i)
 pub round_1 : Seam (Exactly (Sign mark.OpenRound)) Anything F5 (λ o. Then Par Round_end)
 round_1 = any_seam (λ o. ends_then ends_par (λ t. ends_then (ends_exactly (Sign mark.CloseRound)) (λ c. ends_done t)))
 
-pub round_2 : Seam Par (Stops 2) F5 Round_end
+pub round_2 : Seam Par (StopsAt 2) F5 Round_end
 round_2 = kind_seam (Sign mark.CloseRound) 2 (omega arith) (λ t c. ends_done t)
 
 pub round_3 : (t : Statement) → Seam (Exactly (Sign mark.CloseRound)) Anything F5 (λ c. Done t)
@@ -439,7 +439,7 @@ star_1 = any_seam (λ s. ends_then (ends_exactly (Sign mark.OpenSquare)) (λ o. 
 pub star_2 : Seam (Exactly (Sign mark.OpenSquare)) Anything F5 (λ o. Then Inside Square_end)
 star_2 = any_seam (λ o. inside_ends)
 
-pub star_3 : Seam Inside (Stops 1) F5 Square_end
+pub star_3 : Seam Inside (StopsAt 1) F5 Square_end
 star_3 = kind_seam (Sign mark.CloseSquare) 1 (omega arith) (λ t c. ends_done t)
 
 pub star_4 : (t : Statement) → Seam (Exactly (Sign mark.CloseSquare)) Anything F5 (λ c. Done t)
@@ -448,7 +448,7 @@ star_4 t = last_any (λ c. t)
 pub square_1 : Seam (Exactly (Sign mark.OpenSquare)) Anything F5 (λ o. Then Choices Select_end)
 square_1 = any_seam (λ o. ends_then ends_choices (λ bs. ends_then (ends_exactly (Sign mark.CloseSquare)) (λ c. ends_done (selects false bs))))
 
-pub square_2 : Seam Choices (Stops 1) F5 Select_end
+pub square_2 : Seam Choices (StopsAt 1) F5 Select_end
 square_2 = kind_seam (Sign mark.CloseSquare) 1 (omega arith) (λ bs c. ends_done (selects false bs))
 
 pub square_3 : (bs : Arms) → Seam (Exactly (Sign mark.CloseSquare)) Anything F5 (λ c. Done (selects false bs))

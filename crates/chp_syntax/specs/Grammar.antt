@@ -59,9 +59,9 @@ abbrev pub from_to : Span → Span → Span
 from_to s t = record { from = s.from; to = t.to }
 
 -- the operators of each level
-abbrev pub or_of : TokenKind → Option Op
-or_of (Sign mark.Bar) = Some op.Or
-or_of _ = None
+abbrev pub or_operator : TokenKind → Option Op
+or_operator (Sign mark.Bar) = Some op.Or
+or_operator _ = None
 
 abbrev pub xor_of : TokenKind → Option Op
 xor_of (Sign mark.Caret) = Some op.Xor
@@ -86,11 +86,11 @@ sum_of (Sign mark.Minus) = Some op.Sub
 sum_of _ = None
 
 -- the kinds of channels
-abbrev pub channel_of : TokenKind → Option DeclKind
-channel_of (Word key.In) = Some declares.In
-channel_of (Word key.Out) = Some declares.Out
-channel_of (Word key.Chan) = Some declares.Chan
-channel_of _ = None
+abbrev pub kind_of_channel : TokenKind → Option DeclKind
+kind_of_channel (Word key.In) = Some declares.In
+kind_of_channel (Word key.Out) = Some declares.Out
+kind_of_channel (Word key.Chan) = Some declares.Chan
+kind_of_channel _ = None
 
 -- an expression with the tokens that it stands on, parentheses round it included
 pub record Covered : Type 0 where
@@ -219,7 +219,7 @@ mutual
   pub data MoreDisjunction : List Token → List Token → Tail → Type 0 where
     no_more_disjunction : {rest : List Token} → MoreDisjunction rest rest no_tail
     one_more_disjunction : {ts mid rest : List Token} {t : Token} {o : Op} {c : Covered} {us : Tail} →
-        or_of t.kind ≡ Some o → Exclusive ts mid c → MoreDisjunction mid rest us →
+        or_operator t.kind ≡ Some o → Exclusive ts mid c → MoreDisjunction mid rest us →
         MoreDisjunction (t ∷ ts) rest (longer o c us)
 
 mutual
@@ -321,7 +321,7 @@ set i w p x r = record { kind = declares.Var; name = i; width = w; width_at = p;
 -- decl
 pub data Declaration : List Token → List Token → Item → Type 0 where
   a_channel : {rest : List Token} {t : Token} {kind : DeclKind} {n : List ℕ} {w : ℕ} {s c p e : Span} →
-      channel_of t.kind ≡ Some kind →
+      kind_of_channel t.kind ≡ Some kind →
       Declaration (t ∷ name n s ∷ sign mark.Colon c ∷ numeral w p ∷ sign mark.Semicolon e ∷ rest) rest
       (valued (unset kind (named n s) w p))
   a_variable : {rest : List Token} {n : List ℕ} {w : ℕ} {v s c p e : Span} →

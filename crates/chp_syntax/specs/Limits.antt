@@ -22,7 +22,7 @@ abbrev pub has_kind : (TokenKind → Bool) → List Token → Bool
 has_kind test ts = list_any (λ (t : Token). test t.kind) ts
 
 -- the first of the tokens whose kind passes the test stands at this place
-pub record IsFirst (test : TokenKind → Bool) (ts : List Token) (place : Span) : Type 0 where
+pub record IsFirstToken (test : TokenKind → Bool) (ts : List Token) (place : Span) : Type 0 where
   pub before : List Token
   pub kind : TokenKind
   pub behind : List Token

@@ -23,8 +23,8 @@ use Rattle.chp_syntax.specs.Trees.{Statement, selects, repeats, Arms}
 use Rattle.chp_syntax.specs.Grammar.{Par, Choices, name, numeral}
 
 -- a part of the grammar: the tokens from a place on, those that are left, and what was read
-abbrev pub Part : Type 0 → Type 1
-Part A = List Token → List Token → A → Type 0
+abbrev pub GrammarPart : Type 0 → Type 1
+GrammarPart A = List Token → List Token → A → Type 0
 
 -- the one token of sight
 abbrev pub sees : List Token → Option Token
@@ -41,17 +41,17 @@ IsKind k None = ⊥
 IsKind k (Some t) = t.kind ≡ k
 
 -- what the next token says
-abbrev pub reads : {A : Type 0} → (TokenKind → Option A) → Option Token → Option A
-reads f None = None
-reads f (Some t) = f t.kind
+abbrev pub kind_read : {A : Type 0} → (TokenKind → Option A) → Option Token → Option A
+kind_read f None = None
+kind_read f (Some t) = f t.kind
 
 abbrev pub name_of : TokenKind → Option (List ℕ)
 name_of (Ident n) = Some n
 name_of _ = None
 
-abbrev pub number_of : TokenKind → Option ℕ
-number_of (Number n) = Some n
-number_of _ = None
+abbrev pub numeral_value : TokenKind → Option ℕ
+numeral_value (Number n) = Some n
+numeral_value _ = None
 
 -- how tightly a token binds on to what stands before it; 0 where it never does
 abbrev pub rank : TokenKind → ℕ
@@ -74,9 +74,9 @@ rank (Sign mark.OpenSquare) = 10
 rank _ = 0
 
 -- what stands before isn't gone on with, from this rank up
-abbrev pub Stops : ℕ → Option Token → Type 0
-Stops k None = Unit {0}
-Stops k (Some t) = rank t.kind < k
+abbrev pub StopsAt : ℕ → Option Token → Type 0
+StopsAt k None = Unit {0}
+StopsAt k (Some t) = rank t.kind < k
 
 abbrev pub Anything : Option Token → Type 0
 Anything t = Unit {0}

@@ -10,7 +10,7 @@ use Rattle.chp_syntax.specs.Trees.{ProgramTree}
 use Rattle.chp_syntax.specs.Tokens.{Tokens, BadToken}
 use Rattle.chp_syntax.specs.Grammar.{Derives}
 use Rattle.chp_syntax.specs.Reading.{IsShallow, FirstFault}
-use Rattle.chp_syntax.specs.Limits.{is_probe, is_arbiter, has_kind, IsFirst, GoesOver}
+use Rattle.chp_syntax.specs.Limits.{is_probe, is_arbiter, has_kind, IsFirstToken, GoesOver}
 use Rattle.chp_syntax.specs.Seventeenth.{IsSeventeenth}
 
 -- the place of a fault
@@ -29,18 +29,18 @@ spot [] end = record { from = end; to = end }
 spot (t ∷ ts) end = t.at
 
 -- nothing stands among the tokens that the language leaves out
-pub record IsPlain (ts : List Token) : Type 0 where
+pub record IsSpoken (ts : List Token) : Type 0 where
   pub probes : has_kind is_probe ts ≡ false
   pub arbiters : has_kind is_arbiter ts ≡ false
 
 -- why tokens are refused, and where; each cause comes only where none of those above it holds
 pub data RefusedTokens (ts : List Token) (end : ℕ) : FaultCode → Span → Type 0 where
-  a_probe : {s : Span} → IsFirst is_probe ts s → RefusedTokens ts end code.Probe s
-  an_arbiter : {s : Span} → has_kind is_probe ts ≡ false → IsFirst is_arbiter ts s → RefusedTokens ts end code.Arbiter s
-  too_deep : {s : Span} → IsPlain ts → GoesOver ts s → RefusedTokens ts end code.TooDeep s
-  no_program : {n : ℕ} → IsPlain ts → IsShallow ts → FirstFault ts n →
+  a_probe : {s : Span} → IsFirstToken is_probe ts s → RefusedTokens ts end code.Probe s
+  an_arbiter : {s : Span} → has_kind is_probe ts ≡ false → IsFirstToken is_arbiter ts s → RefusedTokens ts end code.Arbiter s
+  too_deep : {s : Span} → IsSpoken ts → GoesOver ts s → RefusedTokens ts end code.TooDeep s
+  no_program : {n : ℕ} → IsSpoken ts → IsShallow ts → FirstFault ts n →
       RefusedTokens ts end code.Syntax (spot (drop n ts) end)
-  too_many_arms : {s : Span} (p : ProgramTree) → IsPlain ts → IsShallow ts → Derives ts p → IsSeventeenth ts s →
+  too_many_arms : {s : Span} (p : ProgramTree) → IsSpoken ts → IsShallow ts → Derives ts p → IsSeventeenth ts s →
       RefusedTokens ts end code.TooManyGuards s
 
 -- why a text is refused, and where

@@ -12,9 +12,9 @@ abbrev pub closed : List ℕ → List ℕ
 closed [] = []
 closed (n ∷ ns) = ns
 
-abbrev pub chosen : List ℕ → List ℕ
-chosen [] = []
-chosen (n ∷ ns) = suc n ∷ ns
+abbrev pub bar_counted : List ℕ → List ℕ
+bar_counted [] = []
+bar_counted (n ∷ ns) = suc n ∷ ns
 
 -- how many signs `[]` stand, behind a token, in each bracket that is open, those of the innermost one first
 abbrev pub counted : List ℕ → TokenKind → List ℕ
@@ -24,7 +24,7 @@ counted ns (Sign mark.OpenCurly) = 0 ∷ ns
 counted ns (Sign mark.CloseRound) = closed ns
 counted ns (Sign mark.CloseSquare) = closed ns
 counted ns (Sign mark.CloseCurly) = closed ns
-counted ns (Sign mark.Choice) = chosen ns
+counted ns (Sign mark.Choice) = bar_counted ns
 counted ns _ = ns
 
 abbrev pub counts : List ℕ → List Token → List ℕ

@@ -21,22 +21,22 @@ abbrev pub some_compares : Links → Bool
 some_compares no_links = false
 some_compares (and_link op e more) = is_comparison op || some_compares more
 
-abbrev pub part_count : Expressions → ℕ
-part_count no_parts = 0
-part_count (and_part e more) = suc (part_count more)
+abbrev pub expression_count : Expressions → ℕ
+expression_count no_parts = 0
+expression_count (and_part e more) = suc (expression_count more)
 
 abbrev pub link_count : Links → ℕ
 link_count no_links = 0
 link_count (and_link op e more) = suc (link_count more)
 
-abbrev pub member_count : Statements → ℕ
-member_count no_members = 0
-member_count (and_member s more) = suc (member_count more)
+abbrev pub statement_count : Statements → ℕ
+statement_count no_members = 0
+statement_count (and_member s more) = suc (statement_count more)
 
 -- a join has a part, a chain has a link, and a link that compares is the only one
 abbrev mutual
   pub IsShapedExpression : Expression → Type 0
-  IsShapedExpression (join parts at) = (1 ≤ part_count parts) × AreShapedParts parts
+  IsShapedExpression (join parts at) = (1 ≤ expression_count parts) × AreShapedParts parts
   IsShapedExpression (negation e at) = IsShapedExpression e
   IsShapedExpression (chain e more at) = (1 ≤ link_count more) × (some_compares more ≡ true → link_count more ≡ 1)
       × IsShapedExpression e × AreShapedLinks more
@@ -55,8 +55,8 @@ abbrev mutual
   pub IsShapedStatement : Statement → Type 0
   IsShapedStatement (assigns target e) = IsShapedExpression e
   IsShapedStatement (sends chan e) = IsShapedExpression e
-  IsShapedStatement (follows members) = (2 ≤ member_count members) × AreShapedMembers members
-  IsShapedStatement (besides members) = (2 ≤ member_count members) × AreShapedMembers members
+  IsShapedStatement (follows members) = (2 ≤ statement_count members) × AreShapedMembers members
+  IsShapedStatement (besides members) = (2 ≤ statement_count members) × AreShapedMembers members
   IsShapedStatement (selects again arms) = (1 ≤ arm_count arms) × (arm_count arms ≤ 16) × AreShapedArms arms
   IsShapedStatement (repeats s) = IsShapedStatement s
   IsShapedStatement _ = Unit {0}

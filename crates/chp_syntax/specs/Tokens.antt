@@ -31,13 +31,13 @@ abbrev pub IsGap : ℕ → List ℕ → Type 0
 IsGap n text = ((n ≡ 1) × (begins_blank text ≡ true)) ⊎ IsComment n text
 
 -- letters, digits and underscores, at least one
-pub record IsRun (bs : List ℕ) : Type 0 where
+pub record IsWordRun (bs : List ℕ) : Type 0 where
   pub some : 0 < length bs
   pub parts : list_all word_part bs ≡ true
 
 -- what is never cut in two: a run, or a sign
 abbrev pub IsPiece : List ℕ → Type 0
-IsPiece bs = IsRun bs ⊎ ((m : Mark) × (bs ≡ sign_text m))
+IsPiece bs = IsWordRun bs ⊎ ((m : Mark) × (bs ≡ sign_text m))
 
 -- the first n bytes are a piece, and no more of them are one
 pub record IsLongest (n : ℕ) (text : List ℕ) : Type 0 where

@@ -59,8 +59,8 @@ abbrev mutual
 abbrev pub procedure_of : Proc → Procedure
 procedure_of p = record { name = p.name; body = statement_of p.body }
 
-abbrev pub program_of : Program → ProgramTree
-program_of p = record { decls = p.decls.items; procs = map procedure_of p.procs.items; body = statement_of p.body }
+abbrev pub program_tree : Program → ProgramTree
+program_tree p = record { decls = p.decls.items; procs = map procedure_of p.procs.items; body = statement_of p.body }
 
 -- members before further ones
 abbrev pub onto : {B U : Type 0} → (B → U → U) → List B → U → U

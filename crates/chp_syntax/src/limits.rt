@@ -2,7 +2,7 @@
 
 ghost use Rattle.std.specs.Prelude.{◌≡◌, ◌≤◌, false, IfSome, IfNone};
 ghost use Rattle.chp_syntax.specs.Reading.{opened, IsShallow};
-ghost use Rattle.chp_syntax.specs.Limits.{is_probe, is_arbiter, has_kind, IsFirst, GoesOver};
+ghost use Rattle.chp_syntax.specs.Limits.{is_probe, is_arbiter, has_kind, IsFirstToken, GoesOver};
 
 use crate::token::{Mark, Token, TokenKind};
 use chp_base::Span;
@@ -24,7 +24,7 @@ fn is_arbiter(kind: &TokenKind) -> bool
 
 /// The place of the first sign `#` of a probe, which our profile leaves out.
 pub(crate) fn probe(tokens: &[Token]) -> Option<Span>
-    ensures some { IfSome result (IsFirst is_probe tokens.now) }
+    ensures some { IfSome result (IsFirstToken is_probe tokens.now) }
     ensures none { IfNone result (has_kind is_probe tokens.now ≡ false) }
 {
     for token in tokens {
@@ -37,7 +37,7 @@ pub(crate) fn probe(tokens: &[Token]) -> Option<Span>
 
 /// The place of the first sign `[|` of an arbitrated selection, which our profile leaves out.
 pub(crate) fn arbiter(tokens: &[Token]) -> Option<Span>
-    ensures some { IfSome result (IsFirst is_arbiter tokens.now) }
+    ensures some { IfSome result (IsFirstToken is_arbiter tokens.now) }
     ensures none { IfNone result (has_kind is_arbiter tokens.now ≡ false) }
 {
     for token in tokens {

@@ -7,7 +7,7 @@ ghost use Rattle.chp_syntax.specs.Trees.{ProgramTree, Procedure};
 ghost use Rattle.chp_syntax.specs.Grammar.{Derives};
 ghost use Rattle.chp_syntax.specs.Reading.{FirstFault, IsShallow, Reads, few_arms};
 ghost use Rattle.chp_syntax.specs.Tokens.{IfRefused};
-ghost use Rattle.chp_syntax.specs.View.{program_of};
+ghost use Rattle.chp_syntax.specs.View.{program_tree};
 ghost use Rattle.chp_syntax.specs.Shape.{IsShaped};
 ghost use Rattle.chp_syntax.specs.Refusals.{WhenSyntax, WhenUnread, spot, RefusedTokens, RefusedText};
 
@@ -37,8 +37,8 @@ pub enum Unread {
 
 /// The program that the tokens are, or the place of the first one with which no program goes on.
 pub fn parse_tokens(alloc: Global, tokens: &[Token]) -> Result<Program, Unread>
-    ensures reads { IfOk result (λ p. Derives tokens.now (program_of p)) }
-    ensures only { IfOk result (λ p. (q : ProgramTree) → Derives tokens.now q → q ≡ program_of p) }
+    ensures reads { IfOk result (λ p. Derives tokens.now (program_tree p)) }
+    ensures only { IfOk result (λ p. (q : ProgramTree) → Derives tokens.now q → q ≡ program_tree p) }
     ensures fault { IfErr result (λ e. WhenSyntax e (FirstFault tokens.now)) }
     ensures none { IfErr result (λ e. WhenUnread e ((q : ProgramTree) → ¬ Derives tokens.now q)) }
 {
@@ -78,12 +78,12 @@ fn spot_at(tokens: &[Token], at: usize, end: u32) -> Span
 
 /// The program of the tokens of a text that ends at `end`.
 fn parse_list(alloc: Global, tokens: &[Token], end: u32) -> Result<Program, TextError>
-    ensures derives { IfOk result (λ p. Derives tokens.now (program_of p)) }
-    ensures only { IfOk result (λ p. (q : ProgramTree) → Derives tokens.now q → q ≡ program_of p) }
+    ensures derives { IfOk result (λ p. Derives tokens.now (program_tree p)) }
+    ensures only { IfOk result (λ p. (q : ProgramTree) → Derives tokens.now q → q ≡ program_tree p) }
     ensures shallow { IfOk result (λ p. IsShallow tokens.now) }
-    ensures few_in_procs { IfOk result (λ p. list_all (λ (q : Procedure). few_arms q.body) (program_of p).procs ≡
+    ensures few_in_procs { IfOk result (λ p. list_all (λ (q : Procedure). few_arms q.body) (program_tree p).procs ≡
         true) }
-    ensures few_in_body { IfOk result (λ p. few_arms (program_of p).body ≡ true) }
+    ensures few_in_body { IfOk result (λ p. few_arms (program_tree p).body ≡ true) }
     ensures other { IfErr result (IfRefused (λ f. f.other ≡ f.at)) }
     ensures place { IfErr result (IfRefused (λ f. RefusedTokens tokens.now end f.code f.at)) }
 {
@@ -123,9 +123,9 @@ fn parse_list(alloc: Global, tokens: &[Token], end: u32) -> Result<Program, Text
 /// causes are tested in this order, which is our profile's, and so is all of the syntax.
 pub fn parse(alloc: Global, text: &[u8]) -> Result<Program, TextError>
     requires { length text.now ≤ 262144 }
-    ensures reads { IfOk result (λ p. Reads text.now (program_of p)) }
-    ensures only { IfOk result (λ p. (q : ProgramTree) → Reads text.now q → q ≡ program_of p) }
-    ensures shaped { IfOk result (λ p. IsShaped (program_of p)) }
+    ensures reads { IfOk result (λ p. Reads text.now (program_tree p)) }
+    ensures only { IfOk result (λ p. (q : ProgramTree) → Reads text.now q → q ≡ program_tree p) }
+    ensures shaped { IfOk result (λ p. IsShaped (program_tree p)) }
     ensures other { IfErr result (IfRefused (λ f. f.other ≡ f.at)) }
     ensures place { IfErr result (IfRefused (λ f. RefusedText text.now f.code f.at)) }
     ensures refused { IfErr result (IfRefused (λ f. (q : ProgramTree) → ¬ Reads text.now q)) }

@@ -9,7 +9,7 @@ ghost use Rattle.chp_syntax.specs.declared.token.Mark.{Mark};
 ghost use Rattle.chp_syntax.specs.declared.token.TokenKind.{TokenKind};
 ghost use Rattle.chp_syntax.specs.declared.token.Token.{Token};
 ghost use Rattle.chp_syntax.specs.Spelling.{Spells, IsDecimal, IsHexadecimal, key_text, sign_text, hex_digit, digit_value, number_in};
-ghost use Rattle.chp_syntax.specs.Tokens.{IsRun, IsGap, InOrder, IfRefused, Tokens, BadToken};
+ghost use Rattle.chp_syntax.specs.Tokens.{IsWordRun, IsGap, InOrder, IfRefused, Tokens, BadToken};
 ghost use Rattle.chp_syntax.specs.Front.{IsFront, HasSign, LongestSign};
 
 use crate::token::{Key, Mark, Token, TokenKind};
@@ -222,7 +222,7 @@ fn number(run: &[u8]) -> Option<u64>
 
 /// What the run spells.
 fn word(alloc: Global, run: &[u8]) -> Result<Option<TokenKind>, AllocError>
-    requires { IsRun run.now }
+    requires { IsWordRun run.now }
     ensures some { IfOk result (λ o. IfSome o (λ kind. Spells kind run.now)) }
     ensures none { IfOk result (λ o. IfNone o ((kind : TokenKind) → ¬ Spells kind run.now)) }
 {

@@ -5,7 +5,7 @@ use Rattle.std.proofs.lemmas.Bool.Decides.{nat_tests}
 use Rattle.width_check.specs.Processes.{Formula, Process, Processes, member_count, TypedProgram, Choices, no_choices, and_choice}
 use Rattle.width_check.specs.Typing.{channel_width}
 use Rattle.circuit_places.specs.Lines.{Line, of_channel, of_var, Rails, Seen}
-use Rattle.circuit_places.specs.Circuit.{SiteSpot, PortSpot, site_stands, port_stands, Pairs, gate_count, gate_rule, fires, bit_at, joint_count, GuardedSpot, Spot, TurnSpot, BranchSpot, heard, stored, taking, child, latch, next, inner, of_skip, done, gate, of_assign, of_send, of_receive, in_members, of_branch, joint, in_this, in_others, of_loop, ask, in_body, in_last, in_member, in_later, guarded_stands, stands, turn_stands, branch_stands, GuardCells, GuardSpot, this_gate, other_gate, ChoiceSpot, this_choice, other_choice, of_core, of_guard, of_choice, of_round, guard_stands, choice_stands, guards_rule, low_guards}
+use Rattle.circuit_places.specs.Circuit.{SiteSpot, PortSpot, site_stands, port_stands, Pairs, gate_count, gate_rule, fires, cell_bit, joint_count, GuardedSpot, Spot, TurnSpot, BranchSpot, heard, stored, taking, child, latch, next, inner, of_skip, done, gate, of_assign, of_send, of_receive, in_members, of_branch, joint, in_this, in_others, of_loop, ask, in_body, in_last, in_member, in_later, guarded_stands, stands, turn_stands, branch_stands, GuardCells, GuardSpot, this_gate, other_gate, ChoiceSpot, this_choice, other_choice, of_core, of_guard, of_choice, of_round, guard_stands, choice_stands, guards_rule, low_guards}
 use Rattle.circuit_places.proofs.RailLemmas.{gate_there, snd_true}
 use Rattle.circuit_places.proofs.Trees.{joint_absent}
 use Rattle.circuit_places.proofs.Meets.{PortMeets, Meets, TurnMeets, EachMeets, ChoiceMeets}
@@ -87,7 +87,7 @@ module _ (P : TypedProgram) (env : Seen) (clean : Clean P env) where
     absent (at_turn t) meets f (in_members s) h = turn_absent t meets f s h
     absent (at_side m t b i) meets f (of_branch s) h = branches_absent b meets.2 f s h
     absent (at_side {members = members} {ks = ks} m t b i) meets f (joint k) h =
-        joint_absent (member_count members) (ends ks) (bit_at (joint_count (member_count members)) t) k (not_below k (joint_count (member_count members)) h)
+        joint_absent (member_count members) (ends ks) (cell_bit (joint_count (member_count members)) t) k (not_below k (joint_count (member_count members)) h)
     absent (at_body a) meets f (in_body s) h = absent a meets f s h
     absent (at_body a) meets f of_loop h = absurd (cc h)
     absent (at_body a) meets f ask h = absurd (cc h)

@@ -10,7 +10,7 @@ use Rattle.chp_meaning.specs.Terms.{finished}
 use Rattle.function_blocks.specs.RailFacts.{covered}
 use Rattle.circuit_places.specs.Lines.{Line, of_channel, of_var, same_line, Rails}
 use Rattle.circuit_places.specs.Circuit.{low as low_cells, GuardedSpot, turns, takers}
-use Rattle.circuit_places.specs.Whole.{Wires, seen, line_ack, is_heard, is_merged, value_on, neutral_on, brings, offers, Node, go_node, own_node, rail_node, ack_node, bit_node, wrote_node, joint_node, answers, ack_turned, passed, passed_after}
+use Rattle.circuit_places.specs.Whole.{Wires, wires_seen, line_ack, is_heard, is_merged, value_on, neutral_on, brings, offers, Node, go_node, own_node, rail_node, ack_node, bit_node, wrote_node, joint_node, answers, ack_turned, cells_passed, passed_after}
 use Rattle.circuit_places.proofs.RailLemmas.{fst_true, snd_true, neutral_low, each_bit}
 use Rattle.circuit_places.proofs.LineNames.{self_number, same_number}
 use Rattle.circuit_places.proofs.BitTable.{legal, held_t, held_f}
@@ -70,7 +70,7 @@ done_far P w hs k c e = here (w.ack k)
     apart : c ≡ k → ⊥
     apart same = absurd (cc (e, ap (λ x. x == k) same, self_number k))
 
-    here : (b : Bool) → completed (if b then hs else passed hs k (value_on (channel_width P.channels k) (w.rail (of_channel k)))) c ≡ completed hs c
+    here : (b : Bool) → completed (if b then hs else cells_passed hs k (value_on (channel_width P.channels k) (w.rail (of_channel k)))) c ≡ completed hs c
     here true = refl
     here false = passed_far hs k (value_on (channel_width P.channels k) (w.rail (of_channel k))) c apart
 
@@ -81,7 +81,7 @@ module _ (P : TypedProgram) (script : List OfferValue) {m : Mode} {g : GuardedAt
   abbrev after : List (List ℕ)
   after = passed_after {p = P.body} P.channels w hs (ack_node k)
 
-  ack_is : AckTurned P (seen P w) (seen P acked) (of_channel k)
+  ack_is : AckTurned P (wires_seen P w) (wires_seen P acked) (of_channel k)
   ack_is = record { here = ap (λ b. if b then not (w.ack k) else w.ack k) (self_number k); far = far; bits = refl; rails = λ c h. refl; widths = refl }
     where
       far : (l : Line) → same_line l (of_channel k) ≡ false → line_ack P acked l ≡ line_ack P w l
@@ -101,7 +101,7 @@ module _ (P : TypedProgram) (script : List OfferValue) {m : Mode} {g : GuardedAt
   far_done c e = done_far P w hs k c e
 
   -- Other moves stay, where those of the statements do, and the environment moves no rail of the channel.
-  ack_others : (n : Node P.body) → n ≢ ack_node k → ((s : GuardedSpot P.body) → guarded_moves (seen P w) g s ≡ true → guarded_moves (seen P acked) g s ≡ true)
+  ack_others : (n : Node P.body) → n ≢ ack_node k → ((s : GuardedSpot P.body) → guarded_moves (wires_seen P w) g s ≡ true → guarded_moves (wires_seen P acked) g s ≡ true)
       → ((j : ℕ) (b : Bool) → driven P script w hs (of_channel k) j b ≡ true → ⊥) → can P script g w hs n ≡ true → can P script g acked after n ≡ true
   ack_others go_node ne l d z = z
   ack_others (own_node s) ne l d z = l s z
@@ -183,16 +183,16 @@ module _ (P : TypedProgram) (script : List OfferValue) {m : Mode} {g : GuardedAt
         (λ (h : w.ack k ≡ true).
         let lows = may_high (channel_width P.channels k) w k (is_over t.count (completed hs k)) h t.may in
         acked_by (line_falls P script hs good (of_channel k) acked ack_is refl h lows (deaf kinds.1)) (others kinds.1)
-        (taken_out kinds.1 (subst (λ (b : Bool). Passing P (seen P w) (guarded_writing (line_ack P w) g) (of_channel k) b (root_left (line_ack P w) g)
+        (taken_out kinds.1 (subst (λ (b : Bool). Passing P (wires_seen P w) (guarded_writing (line_ack P w) g) (of_channel k) b (root_left (line_ack P w) g)
         (root_left (line_ack P acked) g)) (sym h) (line_stays P script hs good (of_channel k) acked ack_is refl h lows (deaf kinds.1)))
         (λ z y. free kinds.1 z y))
         (λ z y. (refl, inl (free kinds.1 z y))) quiet)
         (λ (h : w.ack k ≡ false).
         let some = (may_low (channel_width P.channels k) w k (is_over t.count (completed hs k)) h t.may).0 in
         acked_by (sent_rises P script hs good (of_channel k) acked ack_is refl h some (untaken kinds.1) wide) (others kinds.1)
-        (taken_out kinds.1 (subst (λ (b : Bool). Passing P (seen P w) (guarded_writing (line_ack P w) g) (of_channel k) b (root_left (line_ack P w) g)
+        (taken_out kinds.1 (subst (λ (b : Bool). Passing P (wires_seen P w) (guarded_writing (line_ack P w) g) (of_channel k) b (root_left (line_ack P w) g)
         (root_left (line_ack P acked) g)) (sym h)
-        (passes_of P (seen P w) (guarded_writing (line_ack P w) g) (of_channel k) (root_left (line_ack P w) g) (root_left (line_ack P acked) g)
+        (passes_of P (wires_seen P w) (guarded_writing (line_ack P w) g) (of_channel k) (root_left (line_ack P w) g) (root_left (line_ack P acked) g)
         (line_fires P script hs good (of_channel k) acked ack_is refl h some (untaken kinds.1) wide true false
         (guarded_says_is g k ∙ talks P script hs good (of_channel k) kinds.0 h some wide) (deaf kinds.1 k (self_number k))))) (λ z y. free kinds.1 z y))
         (λ z y. (refl, inl (free kinds.1 z y))) quiet)
@@ -316,10 +316,10 @@ module _ (P : TypedProgram) (script : List OfferValue) {m : Mode} {g : GuardedAt
         }
 
         Receiver : Process → Type 0
-        Receiver = Hearing P (seen P w) (of_channel k) (guarded_shown g) (guarded_writing (line_ack P w) g) (guarded_writing (line_ack P acked) g)
+        Receiver = Hearing P (wires_seen P w) (of_channel k) (guarded_shown g) (guarded_writing (line_ack P w) g) (guarded_writing (line_ack P acked) g)
 
         Sender : Process → Type 0
-        Sender = Sent P (seen P w) (guarded_writing (line_ack P w) g) (of_channel k)
+        Sender = Sent P (wires_seen P w) (guarded_writing (line_ack P w) g) (of_channel k)
 
         -- each rail that came is one that the variable's bits have
         has : (q : Process) (r : Receiver q) (i : ℕ) (one : Bool) → w.rail (of_channel k) i one ≡ true → w.bit r.var i one ≡ true

@@ -1,7 +1,7 @@
 -- The core as a port, and the guarded repetition round it.
 use Rattle.std.proofs.Common.{◌≡◌, ◌≢◌, ℕ, Bool, true, false, refl, sym, ap, ◌∙◌, subst}
-use Rattle.function_blocks.specs.Rails.{Pairs, Rule, fires, is_apart}
-use Rattle.circuit_places.specs.Heads.{Bits, low_bits, none_true, all_neutral, over}
+use Rattle.function_blocks.specs.Rails.{Pairs, Rule, one_rule_fires, is_apart}
+use Rattle.circuit_places.specs.Heads.{Bits, low_bits, nothing_true, all_neutral, over}
 use Rattle.circuit_places.specs.Cores.{Core, Turning, of_joined, of_ask, of_any, of_latch, of_start, RoundSpot, of_answer, of_turn, of_leave, core_rule, turning_rule, turned_turning, core_of, turning_of}
 use Rattle.circuit_places.proofs.Modes.{goes_asks}
 use Rattle.circuit_places.proofs.HeadFacts.{snd_true, both_true, false_none, over_false, neutral_over, over_alone}
@@ -96,12 +96,12 @@ module _ {n : ℕ} {G Q B C S T : Type 0} (W : Guards n G Q) (K : Branches n B C
   again_left y (turning x) = core_left W K y x
   again_left y _ = y.gone
 
-  rests_core : (s : CoreSpot n Q C) → fires (whole_rule W K false false (low_core W K) s) ≡ false
+  rests_core : (s : CoreSpot n Q C) → one_rule_fires (whole_rule W K false false (low_core W K) s) ≡ false
   rests_core (own s) = core_can_is {again = true} W K (in_control uncalled) (own s)
   rests_core (guard q) = W.low_quiet q
   rests_core (branch c) = K.low_quiet c
 
-  pub again_can_is : {m : Mode} (x : AgainAt n G W.heads K.At m) (s : AgainSpot n Q C) → fires (again_rule (asks m) (again_cells x) s) ≡ again_moves x s
+  pub again_can_is : {m : Mode} (x : AgainAt n G W.heads K.At m) (s : AgainSpot n Q C) → one_rule_fires (again_rule (asks m) (again_cells x) s) ≡ again_moves x s
   again_can_is again_rests (round of_answer) = refl
   again_can_is again_rests (round of_turn) = refl
   again_can_is again_rests (round of_leave) = neutral_over n (W.heads W.low) W.low_neutral
@@ -109,7 +109,7 @@ module _ {n : ℕ} {G Q B C S T : Type 0} (W : Guards n G Q) (K : Branches n B C
   again_can_is (turning x) (round t) = core_turning_is W K x t
   again_can_is (turning x) (in_core s) = core_can_is W K x s
   again_can_is (closing c) (round t) = closing_can_is n W.low (W.heads W.low) K.low W.low_neutral c t
-  again_can_is (closing c) (in_core (own s)) = ap (λ (a : Bits n). fires (core_rule (closing_turn c) (closing_leave c) (W.heads W.low) a
+  again_can_is (closing c) (in_core (own s)) = ap (λ (a : Bits n). one_rule_fires (core_rule (closing_turn c) (closing_leave c) (W.heads W.low) a
       (core_of {B = B} false false (closing_any c) (low_bits n) (low_bits n) W.low K.low)
       s)) K.low_answers ∙ closing_own_is W.low (W.heads W.low) K.low W.low_neutral c s
   again_can_is (closing c) (in_core (guard q)) = W.low_quiet q
@@ -230,8 +230,8 @@ module _ {n : ℕ} {G Q B C S T : Type 0} (W : Guards n G Q) (K : Branches n B C
     keeps = keeps;
   }
     where
-      may : lock_may noted (over n (W.heads g)) (none_true n (W.heads g)) ≡ true
-      may = both_true (none_true n (W.heads g)) (over n (W.heads g)) (false_none n (W.heads g) (W.single g f) (over_false n (W.heads g) o)) o
+      may : lock_may noted (over n (W.heads g)) (nothing_true n (W.heads g)) ≡ true
+      may = both_true (nothing_true n (W.heads g)) (over n (W.heads g)) (false_none n (W.heads g) (W.single g f) (over_false n (W.heads g) o)) o
 
       keeps : Kept (turning (in_control (evaluating g))) (turning (in_control (leaving refl noted g may))) (round of_leave)
       keeps (round of_turn) ne e = absurd (cc e)
@@ -246,7 +246,7 @@ module _ {n : ℕ} {G Q B C S T : Type 0} (W : Guards n G Q) (K : Branches n B C
       keeps (in_core (branch c)) ne e = absurd (cc e)
 
   -- and let go: it answers
-  answer_up : (t : true ≡ true) (g : G) (h : lock_may freed (over n (W.heads g)) (none_true n (W.heads g)) ≡ true) → W.good false g ≡ true
+  answer_up : (t : true ≡ true) (g : G) (h : lock_may freed (over n (W.heads g)) (nothing_true n (W.heads g)) ≡ true) → W.good false g ≡ true
       → all_neutral n (W.heads g) ≡ true → AgainAfter (turning (in_control (leaving t freed g h))) (round of_answer)
   answer_up t g h f z = record {
     mode = answered;
@@ -345,9 +345,9 @@ module _ {n : ℕ} {G Q B C S T : Type 0} (W : Guards n G Q) (K : Branches n B C
   round_after (turning (in_control (evaluating g))) of_answer z f e = absurd (cc e)
   round_after (turning (in_control (latched l i g h))) t z f e = absurd (cc e)
   round_after (turning (in_control (leaving s noted g h))) of_answer z f e =
-      absurd (cc (neutral_over n (W.heads g) e, snd_true (none_true n (W.heads g)) (over n (W.heads g)) h))
+      absurd (cc (neutral_over n (W.heads g) e, snd_true (nothing_true n (W.heads g)) (over n (W.heads g)) h))
   round_after (turning (in_control (leaving s spread g h))) of_answer z f e =
-      absurd (cc (neutral_over n (W.heads g) e, snd_true (none_true n (W.heads g)) (over n (W.heads g)) h))
+      absurd (cc (neutral_over n (W.heads g) e, snd_true (nothing_true n (W.heads g)) (over n (W.heads g)) h))
   round_after (turning (in_control (leaving s freed g h))) of_answer z f e = answer_up s g h f e
   round_after (turning (in_control (leaving s l g h))) of_turn z f e = absurd (cc e)
   round_after (turning (in_control (leaving s l g h))) of_leave z f e = absurd (cc e)

@@ -3,11 +3,11 @@ use Rattle.std.proofs.Common.{◌≡◌, ℕ, Bool, true, false, List, refl, sym
 use Rattle.std.specs.Prelude.{not, ◌&&◌}
 use Rattle.width_check.specs.Processes.{Formula, Process, skipping, assigning, sending, receiving, in_turn, side_by_side, choosing, repeating, Processes, no_members, and_member, member_count, Choices, no_choices, and_choice, choice_count}
 use Rattle.circuit_places.specs.Lines.{of_channel, of_var, Rails, Seen}
-use Rattle.circuit_places.specs.Circuit.{Port, PortSpot, low_port, port_rule, heard, stored, taking, of_receive, Site, SiteSpot, site_rule, low_site, gate_count, low_guarded, low, low_turn, low_bits, bit_at, joint_count, low_branches, branch_ends, same_bit, answer, GuardedSpot, Spot, TurnSpot, BranchSpot, child, latch, next, inner, of_skip, done, gate, of_assign, of_send, in_members, of_branch, joint, in_this, in_others, of_loop, ask, in_body, in_last, in_member, in_later, is_apart, guarded_rule, rule, turn_rule, branch_rule, GuardCells, low_guards, low_core, low_choices, choice_answers, GuardSpot, this_gate, other_gate, ChoiceSpot, this_choice, other_choice, of_core, of_guard, of_choice, of_round, heads, guards_rule, choice_rule}
+use Rattle.circuit_places.specs.Circuit.{Port, PortSpot, low_port, port_rule, heard, stored, taking, of_receive, Site, SiteSpot, site_rule, low_site, gate_count, low_guarded, low, low_turn, low_bits, cell_bit, joint_count, low_branches, branches_answered, same_bit, answer, GuardedSpot, Spot, TurnSpot, BranchSpot, child, latch, next, inner, of_skip, done, gate, of_assign, of_send, in_members, of_branch, joint, in_this, in_others, of_loop, ask, in_body, in_last, in_member, in_later, is_apart, guarded_rule, rule, turn_rule, branch_rule, GuardCells, low_guards, low_core, low_choices, choice_answers, GuardSpot, this_gate, other_gate, ChoiceSpot, this_choice, other_choice, of_core, of_guard, of_choice, of_round, heads, guards_rule, choice_rule}
 use Rattle.circuit_places.proofs.RailLemmas.{gate_apart, fst_true, snd_true, same_value}
 use Rattle.circuit_places.proofs.Trees.{joint_apart}
 use Rattle.circuit_places.proofs.Places.{Mode, asks, acks, site_of, all_ask, GuardedAt, At, TurnAt, BranchesAt, g_rests, g_in, g_past, g_back, port_of, rests, at_skip, at_assign, at_send, at_receive, at_turn, at_side, at_body, no_more, and_at, turn_rests, at_last, at_member, at_later, guarded_cells, cells, turn_cells, branch_cells, low_answer, next_is, link_asks, link_next, at_choice, at_turning, at_closing, ChoiceAt, control_at, inside_at, ChosenAt, this_one, another, chosen_index, chosen_cells, choice_cells, choice_leave, low_neutral}
-use Rattle.circuit_places.specs.Heads.{hot, all_neutral, over, none_true}
+use Rattle.circuit_places.specs.Heads.{hot, all_neutral, over, nothing_true}
 use Rattle.circuit_places.specs.Cores.{OwnSpot, core_rule, core_of, turning_of}
 use Rattle.circuit_places.proofs.HeadFacts.{neutral_over}
 use Rattle.circuit_places.proofs.CoreControl.{Control, uncalled, called, evaluating, latched, leaving, noted, spread, freed, lock_alone, Closing, told_all, lets_turn, lets_leave, lets_any, lets_answer, closing_turn, closing_leave, closing_any, closing_cells, control_leave, control_any, control_guards, core_apart, turning_apart}
@@ -83,7 +83,7 @@ left_known choices (evaluating g) e z = absurd (cc e)
 left_known choices (latched l i g h) e z = absurd (cc e)
 left_known choices (leaving y noted g h) e z = absurd (cc (
   lock_alone noted (over (choice_count choices) (heads choices g))
-      (none_true (choice_count choices) (heads choices g)) h refl,
+      (nothing_true (choice_count choices) (heads choices g)) h refl,
   neutral_over (choice_count choices) (heads choices g) z,
 ))
 left_known choices (leaving y spread g h) e z = refl
@@ -123,8 +123,8 @@ mutual
   low_apart (repeating p) env (in_body s) = low_apart p env s
   low_apart (receiving c at x to) env (of_receive s) = port_apart (env.rail (of_channel c)) (env.ack (of_channel c)) (env.ack (of_var x)) false low_port s
   low_apart (side_by_side members) env (of_branch s) = low_branch_apart members env s
-  low_apart (side_by_side members) env (joint k) = joint_apart (member_count members) (branch_ends members (low_branches members))
-      (bit_at (joint_count (member_count members)) (low_bits (joint_count (member_count members)))) k
+  low_apart (side_by_side members) env (joint k) = joint_apart (member_count members) (branches_answered members (low_branches members))
+      (cell_bit (joint_count (member_count members)) (low_bits (joint_count (member_count members)))) k
   low_apart (choosing false choices) env (of_core s) = low_core_apart choices s
   low_apart (choosing false choices) env (of_guard s) = guards_apart choices env.bit false (low_guards choices) s
   low_apart (choosing false choices) env (of_choice s) = low_choice_apart choices env s
@@ -177,8 +177,8 @@ mutual
       (asks m) (port_of (acks m) k q) s
   own_apart env (at_turn t) (in_members s) = turn_apart env t s
   own_apart env (at_side m t b h) (of_branch s) = branch_apart env (asks m) b h.asked s
-  own_apart env (at_side {members = members} m t b h) (joint k) = joint_apart (member_count members) (branch_ends members (branch_cells b))
-      (bit_at (joint_count (member_count members)) t) k
+  own_apart env (at_side {members = members} m t b h) (joint k) = joint_apart (member_count members) (branches_answered members (branch_cells b))
+      (cell_bit (joint_count (member_count members)) t) k
   own_apart env (at_body a) of_loop = refl
   own_apart env (at_body {p = p} a) ask = not_then (answer p (cells a))
   own_apart env (at_body a) (in_body s) = own_apart env a s

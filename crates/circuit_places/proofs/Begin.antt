@@ -7,7 +7,7 @@ use Rattle.width_check.specs.Processes.{Formula, Process, skipping, assigning, s
 use Rattle.chp_meaning.specs.Terms.{Terms, active, opened, opened_turn, opened_each, and_branch, together}
 use Rattle.circuit_places.specs.Lines.{Line, of_channel, of_var, same_line, Rails, Seen}
 use Rattle.circuit_places.specs.Whole.{value_on, neutral_on}
-use Rattle.circuit_places.specs.Circuit.{Pairs, low_pairs, gate_count, Bits, low_guarded, low, SiteSpot, low_turn, low_branches, low_bits, bit_at, joint_count, GuardedSpot, Spot, TurnSpot, BranchSpot, of_skip, done, gate, of_assign, of_send, of_receive, PortSpot, heard, stored, taking, in_members, of_branch, joint, in_this, in_others, in_last, in_member, in_later, Cells, ChoiceCells, low_choices, ChoiceSpot, this_choice, other_choice, of_core, of_guard, of_choice, of_round}
+use Rattle.circuit_places.specs.Circuit.{Pairs, low_pairs, gate_count, Bits, low_guarded, low, SiteSpot, low_turn, low_branches, low_bits, cell_bit, joint_count, GuardedSpot, Spot, TurnSpot, BranchSpot, of_skip, done, gate, of_assign, of_send, of_receive, PortSpot, heard, stored, taking, in_members, of_branch, joint, in_this, in_others, in_last, in_member, in_later, Cells, ChoiceCells, low_choices, ChoiceSpot, this_choice, other_choice, of_core, of_guard, of_choice, of_round}
 use Rattle.function_blocks.specs.Waves.{full, empty, Waves}
 use Rattle.circuit_places.proofs.RailLemmas.{fst_true, snd_true, never_and, low_out}
 use Rattle.circuit_places.proofs.Trees.{Settled, settled_low, top_low, top_of, flat_stands}
@@ -169,7 +169,7 @@ mutual
   answered_moves P env clean (at_turn t) f (in_members s) = turn_answered_moves P env clean t f s
   answered_moves P env clean (at_side _ t b h) f (of_branch s) = branches_past_moves env b h.asked (h.all refl) s
   answered_moves P env clean (at_side {members = members} {ks = ks} _ t b h) f (joint k) =
-      flat_stands (member_count members) h.known h.some (ends ks) (bit_at (joint_count (member_count members)) t) true h.settles h.top
+      flat_stands (member_count members) h.known h.some (ends ks) (cell_bit (joint_count (member_count members)) t) true h.settles h.top
       (ends_high b (h.all refl)) k
   answered_moves P env clean (at_choice (inside_at a reported)) f (of_core s) = refl
   answered_moves P env clean (at_choice (inside_at a reported)) f (of_guard s) = refl

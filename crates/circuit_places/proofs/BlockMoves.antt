@@ -9,7 +9,7 @@ use Rattle.width_check.specs.Processes.{TypedProgram}
 use Rattle.width_check.specs.Typing.{channel_width, var_width}
 use Rattle.circuit_places.specs.Lines.{Line, of_channel, of_var, same_line, Rails}
 use Rattle.circuit_places.specs.Circuit.{GuardedSpot, fires, same_bit, rails_turned, tree_answer}
-use Rattle.circuit_places.specs.Whole.{Wires, seen, line_ack, bit_rule, wrote_rule, Node, go_node, own_node, rail_node, ack_node, bit_node, wrote_node, joint_node, answers, bit_turned, wrote_turned, joint_turned}
+use Rattle.circuit_places.specs.Whole.{Wires, wires_seen, line_ack, bit_rule, wrote_rule, Node, go_node, own_node, rail_node, ack_node, bit_node, wrote_node, joint_node, answers, bit_turned, wrote_turned, joint_turned}
 use Rattle.circuit_places.proofs.RailLemmas.{fst_true, snd_true, not_true, each_bit}
 use Rattle.circuit_places.proofs.Writing.{OneTurned, guarded_writing_there, guarded_writing_falls, guarded_writing_other, guarded_writing_unread}
 use Rattle.circuit_places.proofs.LineNames.{self_number, same_number}
@@ -53,7 +53,7 @@ module _ (P : TypedProgram) (script : List OfferValue) {m : Mode} {g : GuardedAt
         ((good.block x (some_of less)).bits i less) (sym (bit_can (w.bit x) (w.rail (of_var x)) (w.wrote x) (line_ack P w (of_var x)) i one) ∙ e))
       where
         there : (side : Bool) → line_ack P w (of_var x) ≡ false → w.rail (of_var x) i side ≡ true → guarded_writing (line_ack P w) g x ≡ true
-        there side low h = guarded_writing_there (seen P w) g good.fits x i side low (good.rising (of_var x) i side refl low h)
+        there side low h = guarded_writing_there (wires_seen P w) g good.fits x i side low (good.rising (of_var x) i side refl low h)
 
         here : (not (line_ack P w (of_var x)) && (w.rail (of_var x) i true || w.rail (of_var x) i false)) ≡ true → guarded_writing (line_ack P w) g x ≡ true
         here h =
@@ -61,9 +61,9 @@ module _ (P : TypedProgram) (script : List OfferValue) {m : Mode} {g : GuardedAt
             either (w.rail (of_var x) i true) (w.rail (of_var x) i false) (snd_true (not (line_ack P w (of_var x))) _ h) (there true low) (there false low)
 
     -- and so it isn't read
-    bit_changed : i < var_width P.vars x → fires (bit_rule (w.rail (of_var x)) (w.bit x) i one) ≡ true → GuardedChanged P.body m (seen P w) (seen P bitten) g
-    bit_changed less e = guarded_changed P (seen P w) (seen P bitten) (Unread x) (unread_down x)
-        (bit_leaves P (seen P w) (seen P bitten) x refl bit_acks (λ c h. refl) bit_far) g good.meets
+    bit_changed : i < var_width P.vars x → fires (bit_rule (w.rail (of_var x)) (w.bit x) i one) ≡ true → GuardedChanged P.body m (wires_seen P w) (wires_seen P bitten) g
+    bit_changed less e = guarded_changed P (wires_seen P w) (wires_seen P bitten) (Unread x) (unread_down x)
+        (bit_leaves P (wires_seen P w) (wires_seen P bitten) x refl bit_acks (λ c h. refl) bit_far) g good.meets
         (record { read = guarded_writing_unread P (line_ack P w) g good.meets x (being_written less e) }) good.fits
       where
         bit_far : (y : ℕ) → (y == x) ≡ false → bitten.bit y ≡ w.bit y
@@ -127,8 +127,8 @@ module _ (P : TypedProgram) (script : List OfferValue) {m : Mode} {g : GuardedAt
                 (sym (same_number j i (fst_true (j == i) (same_bit s one) h))) less)
                 (λ (h : ((j == i) && same_bit s one) ≡ false). good.no_bit x j s (ap (λ b. if b then not (w.bit x i one) else w.bit x j s) (sym h) ∙ z))
 
-        others : (q : Node P.body) → q ≢ bit_node x i one → ((s : GuardedSpot P.body) → guarded_moves (seen P w) g s ≡ true
-            → guarded_moves (seen P bitten) g s ≡ true) → ((j : ℕ) (s : Bool) → (j ≡ i → s ≡ one → ⊥)
+        others : (q : Node P.body) → q ≢ bit_node x i one → ((s : GuardedSpot P.body) → guarded_moves (wires_seen P w) g s ≡ true
+            → guarded_moves (wires_seen P bitten) g s ≡ true) → ((j : ℕ) (s : Bool) → (j ≡ i → s ≡ one → ⊥)
             → fires (bit_rule (w.rail (of_var x)) (w.bit x) j s) ≡ true → fires (bit_rule (w.rail (of_var x)) (rails_turned (w.bit x) i one) j s) ≡ true)
             → ((j : ℕ) → fires (wrote_rule (w.rail (of_var x)) (w.bit x) (w.wrote x) j) ≡ true
             → fires (wrote_rule (w.rail (of_var x)) (rails_turned (w.bit x) i one) (w.wrote x) j) ≡ true)
@@ -185,7 +185,7 @@ module _ (P : TypedProgram) (script : List OfferValue) {m : Mode} {g : GuardedAt
       far_of (of_channel c) e = acks c
       far_of (of_var y) e = far y e
 
-      here : AckTurned P (seen P w) (seen P now) (of_var x)
+      here : AckTurned P (wires_seen P w) (wires_seen P now) (of_var x)
       here = record { here = over; far = far_of; bits = bits; rails = λ c h. ap (λ (r : Line → Rails). r (of_channel c)) rails; widths = refl }
 
       one_turned : OneTurned (line_ack P w) (line_ack P now) (of_var x)
@@ -210,7 +210,7 @@ module _ (P : TypedProgram) (script : List OfferValue) {m : Mode} {g : GuardedAt
             changed = sent_rises P script hs good (of_var x) now here rails h valid.0 unheard some;
             term = cases ((guarded_shown g).says (of_var x))
                 (λ (s : (guarded_shown g).says (of_var x) ≡ true). stores h (over ∙ ap not h) valid.1
-                (passes_of P (seen P w) (guarded_writing (line_ack P w) g) (of_var x) (root_left (line_ack P w) g) (root_left (line_ack P now) g)
+                (passes_of P (wires_seen P w) (guarded_writing (line_ack P w) g) (of_var x) (root_left (line_ack P w) g) (root_left (line_ack P now) g)
                 (line_fires P script hs good (of_var x) now here rails h valid.0 unheard some true false s refl)))
                 (λ (s : (guarded_shown g).says (of_var x) ≡ false). takes_in h (over ∙ ap not h)
                 (still_writing s (each_bit (var_width P.vars x) (w.rail (of_var x)) valid.0 0 (let z : 0 < var_width P.vars x = omega (arith, some) in z)))
@@ -227,7 +227,7 @@ module _ (P : TypedProgram) (script : List OfferValue) {m : Mode} {g : GuardedAt
           still_writing : (guarded_shown g).says (of_var x) ≡ false → (side : Bool) × (w.rail (of_var x) 0 side ≡ true)
               → guarded_writing (line_ack P now) g x ≡ true
           still_writing s (side, up) = guarded_writing_other (line_ack P w) (line_ack P now) x one_turned g x (inr s)
-              ∙ guarded_writing_there (seen P w) g good.fits x 0 side h (good.rising (of_var x) 0 side refl h up)
+              ∙ guarded_writing_there (wires_seen P w) g good.fits x 0 side h (good.rising (of_var x) 0 side refl h up)
 
   -- the node moves that says that a bit is written
   module _ (x i : ℕ) where
@@ -306,8 +306,8 @@ module _ (P : TypedProgram) (script : List OfferValue) {m : Mode} {g : GuardedAt
                 (λ (h : (j == i) ≡ true). subst (λ (v : ℕ). v < var_width P.vars x) (sym (same_number j i h)) less)
                 (λ (h : (j == i) ≡ false). good.no_wrote x j (ap (λ b. if b then not (w.wrote x j) else w.wrote x j) (sym h) ∙ z))
 
-        others : (q : Node P.body) → q ≢ wrote_node x i → ((s : GuardedSpot P.body) → guarded_moves (seen P w) g s ≡ true
-            → guarded_moves (seen P written) g s ≡ true)
+        others : (q : Node P.body) → q ≢ wrote_node x i → ((s : GuardedSpot P.body) → guarded_moves (wires_seen P w) g s ≡ true
+            → guarded_moves (wires_seen P written) g s ≡ true)
             → ((j : ℕ) → j ≢ i → fires (wrote_rule (w.rail (of_var x)) (w.bit x) (w.wrote x) j) ≡ true
             → fires (wrote_rule (w.rail (of_var x)) (w.bit x) (turned (w.wrote x) i) j) ≡ true)
             → ((k : ℕ) → node_moves (var_width P.vars x) (w.wrote x) (w.joint x) k ≡ true
@@ -392,8 +392,8 @@ module _ (P : TypedProgram) (script : List OfferValue) {m : Mode} {g : GuardedAt
           keeps = λ q ne z. others q ne v.changed.keeps r.joints z;
         }
       where
-        others : (q : Node P.body) → q ≢ joint_node x k → ((s : GuardedSpot P.body) → guarded_moves (seen P w) g s ≡ true
-            → guarded_moves (seen P jointed) g s ≡ true)
+        others : (q : Node P.body) → q ≢ joint_node x k → ((s : GuardedSpot P.body) → guarded_moves (wires_seen P w) g s ≡ true
+            → guarded_moves (wires_seen P jointed) g s ≡ true)
             → ((j : ℕ) → j ≢ k → node_moves (var_width P.vars x) (w.wrote x) (w.joint x) j ≡ true
             → node_moves (var_width P.vars x) (w.wrote x) (turned (w.joint x) k) j ≡ true)
             → can P script g w hs q ≡ true → can P script g jointed hs q ≡ true
@@ -466,7 +466,7 @@ next_of P script fitted {m = running} hs good go_node e = absurd (cc e)
 next_of P script fitted {m = answered} hs good go_node e = absurd (cc e)
 next_of P script fitted {m = returning} hs good go_node e = absurd (cc e)
 next_of P script fitted {g = g} {w = w} hs good (own_node s) e = own_next P script hs good s e
-    (guarded_advance P (seen P w) (clean_of good) good.meets g s good.fits
+    (guarded_advance P (wires_seen P w) (clean_of good) good.meets g s good.fits
     record {
       send = λ k i h. good.talk k (sends_merged P P.body good.meets k i) h;
       receive = λ c i h. good.listen c

@@ -19,8 +19,8 @@ use Rattle.cell_parallel.specs.Trees.{tree_top}
 use Rattle.std.specs.List.{range_with_len}
 use Rattle.std.proofs.lemmas.Bool.{cases_lt}
 use Rattle.circuit_places.specs.Lines.{Line, of_channel, of_var, line_width}
-use Rattle.circuit_places.specs.Circuit.{low, joint_count, tree_answer, same_bit, Guarded, Cells, turns, fires, no_rule, is_apart, guarded_rule, site_rails, takers}
-use Rattle.circuit_places.specs.Whole.{seen, line_ack, is_sent, is_heard, is_merged, merged, brings, drives, offers, bit_rule, wrote_rule, number_rail, first_bits, Whole, Node, go_node, own_node, rail_node, ack_node, bit_node, wrote_node, joint_node, is_node, rule_in, answers, enabled, wires_after, go_after, root_after, moved, first_of, Reaches, at_first, by_move}
+use Rattle.circuit_places.specs.Circuit.{low, joint_count, tree_answer, same_bit, QElementCells, Cells, turns, fires, no_rule, is_apart, guarded_rule, site_rails, takers}
+use Rattle.circuit_places.specs.Whole.{wires_seen, line_ack, is_sent, is_heard, is_merged, merged, brings, drives, offers, bit_rule, wrote_rule, number_rail, first_bits, Whole, Node, go_node, own_node, rail_node, ack_node, bit_node, wrote_node, joint_node, is_node, rule_in, answers, enabled, wires_after, go_after, root_after, cells_moved, first_cells, Reaches, at_first, by_move}
 use Rattle.chp_meaning.specs.Halves.{IsSized, IsSizedVar}
 use Rattle.circuit_places.specs.Carried.{IsSafe, IsCarried, CircuitsCarry}
 use Rattle.circuit_places.proofs.Places.{Mode, idle, running, answered, returning, asks, is_idle, GuardedAt, g_rests, guarded_cells, guarded_shown, guarded_writing, guarded_can_is}
@@ -168,7 +168,7 @@ module _ (P : TypedProgram) (script : List OfferValue) {moves : ℕ} {x : Whole 
       here true u =
           merged_can (x.wires.rail k i one) (site_rails P.body x.root.inner k i one)
           (λ e. same_sites P.body x.root.inner (low P.body) k i one ∙ r.good.sited k i one u e)
-          ∙ ap (λ b. turns (x.wires.rail k i one) b (not b)) (ap (λ (g : Guarded (Cells P.body)). any (site_rails P.body g.inner k i one)) r.same
+          ∙ ap (λ b. turns (x.wires.rail k i one) b (not b)) (ap (λ (g : QElementCells (Cells P.body)). any (site_rails P.body g.inner k i one)) r.same
           ∙ guarded_offered r.place k i one)
       here false u = no_fire (x.wires.rail k i one)
 
@@ -179,7 +179,7 @@ module _ (P : TypedProgram) (script : List OfferValue) {moves : ℕ} {x : Whole 
           (x.wires.ack k)) ≡ (b && turns (x.wires.ack k) ((guarded_shown r.place).take k) (not ((guarded_shown r.place).take k)))
       here true u =
           merged_can (x.wires.ack k) (takers P.body x.root.inner k) (λ e. same_takers P.body x.root.inner (low P.body) k ∙ r.good.heard_sited k e u)
-          ∙ ap (λ b. turns (x.wires.ack k) b (not b)) (ap (λ (g : Guarded (Cells P.body)). any (takers P.body g.inner k)) r.same ∙ guarded_taken r.place k)
+          ∙ ap (λ b. turns (x.wires.ack k) b (not b)) (ap (λ (g : QElementCells (Cells P.body)). any (takers P.body g.inner k)) r.same ∙ guarded_taken r.place k)
       here false u = no_fire (x.wires.ack k)
 
   by_bits : (v i : ℕ) {A : Type 0} → (i < var_width P.vars v → A) → ((i < var_width P.vars v → ⊥) → A) → A
@@ -197,9 +197,9 @@ module _ (P : TypedProgram) (script : List OfferValue) {moves : ℕ} {x : Whole 
   pub enabled_is : (n : Node P.body) → enabled P script x n ≡ can P script r.place x.wires x.histories n
   enabled_is go_node = ap (λ b. fires (no_rule b) || not b) r.go ∙ go_is r.mode r.root
   enabled_is (own_node s) =
-      or_false (fires (guarded_rule P.body (seen P x.wires) x.go x.root s))
-      ∙ (ap (λ b. fires (guarded_rule P.body (seen P x.wires) b x.root s)) r.go
-      ∙ (ap (λ g. fires (guarded_rule P.body (seen P x.wires) (asks r.mode) g s)) r.same ∙ guarded_can_is (seen P x.wires) r.place s))
+      or_false (fires (guarded_rule P.body (wires_seen P x.wires) x.go x.root s))
+      ∙ (ap (λ b. fires (guarded_rule P.body (wires_seen P x.wires) b x.root s)) r.go
+      ∙ (ap (λ g. fires (guarded_rule P.body (wires_seen P x.wires) (asks r.mode) g s)) r.same ∙ guarded_can_is (wires_seen P x.wires) r.place s))
   enabled_is (rail_node (of_channel c) i one) = ap (λ b. b || driven P script x.wires x.histories (of_channel c) i one) (rail_is (of_channel c) i one)
   enabled_is (rail_node (of_var v) i one) = ap (λ b. b || false) (rail_is (of_var v) i one)
   enabled_is (ack_node k) = ap (λ b. b || answers (channel_width P.channels k) x.wires k (completed x.histories k) (offer_at script k)) (ack_is k)
@@ -217,7 +217,7 @@ module _ (P : TypedProgram) (script : List OfferValue) {moves : ℕ} {x : Whole 
       (channel_width P.channels k) x.wires k (completed x.histories k) (offer_at script k)) unheard)
       ∙ may (ack_node k) (ap (enabled P script x) (sym is) ∙ e)
 
-  abbrev next_reached : Fitted P script → (n : Node P.body) → enabled P script x n ≡ true → Reached P script (suc moves) (moved P x n)
+  abbrev next_reached : Fitted P script → (n : Node P.body) → enabled P script x n ≡ true → Reached P script (suc moves) (cells_moved P x n)
   next_reached fitted n e =
       let y = next_of P script fitted x.histories r.good n (may n e) in
       record {
@@ -236,8 +236,8 @@ module _ (P : TypedProgram) (script : List OfferValue) {moves : ℕ} {x : Whole 
   apart : (n : Node P.body) → is_apart (rule_in P x n) ≡ true
   apart go_node = refl
   apart (own_node s) =
-      ap (λ b. is_apart (guarded_rule P.body (seen P x.wires) b x.root s)) r.go
-      ∙ (ap (λ g. is_apart (guarded_rule P.body (seen P x.wires) (asks r.mode) g s)) r.same ∙ guarded_apart (seen P x.wires) r.place s)
+      ap (λ b. is_apart (guarded_rule P.body (wires_seen P x.wires) b x.root s)) r.go
+      ∙ (ap (λ g. is_apart (guarded_rule P.body (wires_seen P x.wires) (asks r.mode) g s)) r.same ∙ guarded_apart (wires_seen P x.wires) r.place s)
   apart (rail_node k i one) = here (is_merged P k)
     where
       here : (b : Bool) → is_apart (if b then merged (x.wires.rail k i one) (site_rails P.body x.root.inner k i one) else no_rule (x.wires.rail k i one)) ≡ true
@@ -261,7 +261,7 @@ module _ (P : TypedProgram) (script : List OfferValue) {moves : ℕ} {x : Whole 
   apart (joint_node v k) = joint_apart (var_width P.vars v) (x.wires.wrote v) (x.wires.joint v) k
 
 stable : (P : TypedProgram) (script : List OfferValue) → Fitted P script → {moves : ℕ} (x : Whole P.body) → Reached P script moves x → (n m : Node P.body)
-    → n ≢ m → enabled P script x n ≡ true → enabled P script x m ≡ true → enabled P script (moved P x m) n ≡ true
+    → n ≢ m → enabled P script x n ≡ true → enabled P script x m ≡ true → enabled P script (cells_moved P x m) n ≡ true
 stable P script fitted x r n m ne hn hm =
     let y = next_of P script fitted x.histories r.good m (may P script r m hm) in
     enabled_is P script (next_reached P script r fitted m hm) n ∙ y.keeps n ne (may P script r n hn)
@@ -320,7 +320,7 @@ first_below (v ∷ vs) (suc x) i one e = first_below vs x i one e
 none_high : (n : ℕ) → tree_answer n (λ (i : ℕ). false) (λ (k : ℕ). false) ≡ false
 none_high n = all_low_value n (λ i. false) (λ k. false) (λ i. refl) (λ k. refl) (tree_top (range_with_len 0 n) n)
 
-first_low : (P : TypedProgram) (k : Line) → line_ack P (first_of P).wires k ≡ false
+first_low : (P : TypedProgram) (k : Line) → line_ack P (first_cells P).wires k ≡ false
 first_low P (of_channel c) = refl
 first_low P (of_var x) = none_high (var_width P.vars x)
 
@@ -335,7 +335,7 @@ first_block law P x some =
       tree = settling_low n (tree_over n law some) (λ i. false) (λ k. false) (λ i. refl) (λ k. refl);
     }
 
-first_reached : TreesSettle → (P : TypedProgram) (script : List OfferValue) → Fitted P script → Meets P P.body → Reached P script 0 (first_of P)
+first_reached : TreesSettle → (P : TypedProgram) (script : List OfferValue) → Fitted P script → Meets P P.body → Reached P script 0 (first_cells P)
 first_reached law P script fitted meets = record {
   mode = idle;
   place = g_rests;
@@ -359,7 +359,7 @@ first_reached law P script fitted meets = record {
     neutral = λ c u h t. absurd (cc h);
     heard_sited = λ c h u. absurd (cc h);
   };
-  brought = none_arrives P script (first_of P).histories (first_of P).wires (λ k i one. refl);
+  brought = none_arrives P script (first_cells P).histories (first_cells P).wires (λ k i one. refl);
   followed = started P script fitted;
 }
 
@@ -446,7 +446,7 @@ module _ (P : TypedProgram) (script : List OfferValue) (fitted : Fitted P script
 
   absent : (n : Node P.body) → is_node P n ≡ false → enabled P script x n ≡ false
   absent go_node h = absurd (cc h)
-  absent (own_node s) h = enabled_is P script r (own_node s) ∙ guarded_absent P (seen P x.wires) (clean_of r.good) r.place r.good.meets r.good.fits s h
+  absent (own_node s) h = enabled_is P script r (own_node s) ∙ guarded_absent P (wires_seen P x.wires) (clean_of r.good) r.place r.good.meets r.good.fits s h
   absent (rail_node k i one) h = no_rail k i one h
   absent (ack_node k) h = no_ack k h
   absent (bit_node v i one) h = or_false (fires (rule_in P x (bit_node v i one))) ∙ no_bit v i one h
@@ -470,8 +470,8 @@ carried P script fitted x r = record {
       let z = at_end P fitted x.wires x.histories r.place r.root r.good (all_rest P script fitted r none) r.followed in
       record {
         still = z.still;
-        ended = λ e. z.ended (sym (ap (λ (g : Guarded (Cells P.body)). g.next) r.same) ∙ e);
-        going = λ e. z.going (sym (ap (λ (g : Guarded (Cells P.body)). g.next) r.same) ∙ e);
+        ended = λ e. z.ended (sym (ap (λ (g : QElementCells (Cells P.body)). g.next) r.same) ∙ e);
+        going = λ e. z.going (sym (ap (λ (g : QElementCells (Cells P.body)). g.next) r.same) ∙ e);
       };
 }
 

@@ -10,7 +10,7 @@ use Rattle.circuit_places.specs.Lines.{of_channel, of_var}
 use Rattle.circuit_places.specs.Heads.{top, under}
 use Rattle.circuit_places.specs.Cores.{of_joined, of_ask, of_any, of_latch, of_start, of_answer, of_turn, of_leave}
 use Rattle.circuit_places.specs.Circuit.{Spot, child, latch, next, inner, of_skip, done, gate, of_assign, of_send, in_members, in_member, in_later, in_last, of_core, of_guard, of_choice, of_round, this_gate, other_gate, this_choice, other_choice}
-use Rattle.circuit_places.specs.Whole.{Whole, Node, go_node, own_node, rail_node, ack_node, bit_node, wrote_node, value_on, enabled, first_of}
+use Rattle.circuit_places.specs.Whole.{Whole, Node, go_node, own_node, rail_node, ack_node, bit_node, wrote_node, value_on, enabled, first_cells}
 use Rattle.circuit_places.proofs.Examples.{at, driven}
 
 abbrev arms : Choices
@@ -43,7 +43,7 @@ abbrev again_nodes : List (Node (choosing true arms))
 again_nodes = nodes_at true (of_round of_answer ∷ of_round of_turn ∷ of_round of_leave ∷ core_spots true)
 
 abbrev selected : (v w : ℕ) → Whole (choosing false arms)
-selected v w = driven (chosen false v w) (takes All ∷ []) select_nodes 48 (first_of (chosen false v w))
+selected v w = driven (chosen false v w) (takes All ∷ []) select_nodes 48 (first_cells (chosen false v w))
 
 abbrev moves_on : (v w : ℕ) → Bool
 moves_on v w = list_any (enabled (chosen false v w) (takes All ∷ []) (selected v w)) select_nodes
@@ -81,7 +81,7 @@ both_rest : moves_on 1 1 ≡ false
 both_rest = refl
 
 abbrev repeated : (count : ℕ) (v w : ℕ) → Whole (choosing true arms)
-repeated count v w = driven (chosen true v w) (takes (Times count) ∷ []) again_nodes 120 (first_of (chosen true v w))
+repeated count v w = driven (chosen true v w) (takes (Times count) ∷ []) again_nodes 120 (first_cells (chosen true v w))
 
 abbrev goes_on : (count : ℕ) (v w : ℕ) → Bool
 goes_on count v w = list_any (enabled (chosen true v w) (takes (Times count) ∷ []) (repeated count v w)) again_nodes
@@ -136,7 +136,7 @@ once_nodes =
     ∷ rail_node (of_var 0) 0 true ∷ rail_node (of_var 0) 0 false ∷ bit_node 0 0 true ∷ bit_node 0 0 false ∷ wrote_node 0 0 ∷ []
 
 abbrev once_at_last : (v : ℕ) → Whole (once 0).body
-once_at_last v = driven (once v) (takes All ∷ []) once_nodes 120 (first_of (once v))
+once_at_last v = driven (once v) (takes All ∷ []) once_nodes 120 (first_cells (once v))
 
 -- the guard is evaluated anew, over what its branch has written
 one_passes : (once_at_last 1).histories ≡ (1 ∷ []) ∷ []

@@ -2,8 +2,8 @@
 use Rattle.std.proofs.Common.{◌≡◌, ℕ, Bool, true, false, refl, ap, ◌∙◌}
 use Rattle.std.specs.Prelude.{not, ◌&&◌, ◌||◌, if◌then◌else◌}
 use Rattle.prs_core.specs.Deciding.{implies}
-use Rattle.function_blocks.specs.Rails.{Pairs, fires, is_apart}
-use Rattle.circuit_places.specs.Heads.{Index, Bits, low_bits, bit_of, some_bit, hot, none_true, all_neutral, alone, told, over}
+use Rattle.function_blocks.specs.Rails.{Pairs, one_rule_fires, is_apart}
+use Rattle.circuit_places.specs.Heads.{Index, Bits, low_bits, bit_of, some_bit, hot, nothing_true, all_neutral, alone, told, over}
 use Rattle.circuit_places.specs.Cores.{Core, Turning, OwnSpot, of_joined, of_ask, of_any, of_latch, of_start, RoundSpot, of_answer, of_turn, of_leave, core_rule, turning_rule, core_of, turning_of}
 pub use Rattle.circuit_places.proofs.Modes.{Mode, idle, running, answered, returning, asks, acks, goes}
 use Rattle.circuit_places.proofs.HeadFacts.{fst_true, snd_true, bit_none, some_none, hot_low, some_hot, bit_hot, none_alone, told_alone, told_over, neutral_alone, neutral_over}
@@ -31,7 +31,7 @@ pub data Control (again : Bool) (n : ℕ) (G : Type 0) (heads : G → Pairs n) :
   called : Control again n G heads running
   evaluating : (g : G) → Control again n G heads running
   latched : (l : Lock) (i : Index n) (g : G) → lock_may l (alone i (heads g)) (told i (heads g)) ≡ true → Control again n G heads running
-  leaving : again ≡ true → (l : Lock) (g : G) → lock_may l (over n (heads g)) (none_true n (heads g)) ≡ true → Control again n G heads running
+  leaving : again ≡ true → (l : Lock) (g : G) → lock_may l (over n (heads g)) (nothing_true n (heads g)) ≡ true → Control again n G heads running
 
 abbrev pub isnt_running : Mode → Bool
 isnt_running running = false
@@ -159,7 +159,7 @@ module _ {again : Bool} {n : ℕ} {G : Type 0} {heads : G → Pairs n} where
   turning_moves _ _ = false
 
   pub control_can_is : {m : Mode} {B : Type 0} (low : G) (b : B) → all_neutral n (heads low) ≡ true → (c : Control again n G heads m) (s : OwnSpot n)
-      → fires (core_rule (asks m) (control_leave c) (heads (control_guards low c)) (low_bits n) (control_cells low b c) s) ≡ control_moves c s
+      → one_rule_fires (core_rule (asks m) (control_leave c) (heads (control_guards low c)) (low_bits n) (control_cells low b c) s) ≡ control_moves c s
   control_can_is low b z uncalled of_joined = some_none n
   control_can_is low b z uncalled of_ask = refl
   control_can_is low b z uncalled of_any = some_none n
@@ -189,7 +189,7 @@ module _ {again : Bool} {n : ℕ} {G : Type 0} {heads : G → Pairs n} where
 
   -- round the core of a repetition that is called and hasn't answered
   pub turning_can_is : {m : Mode} {B : Type 0} (low : G) (b : B) → all_neutral n (heads low) ≡ true → (c : Control again n G heads m) (s : RoundSpot)
-      → fires (turning_rule true (heads (control_guards low c)) (turning_of false (asks m) (control_leave c) (control_cells low b c)) s) ≡ turning_moves c s
+      → one_rule_fires (turning_rule true (heads (control_guards low c)) (turning_of false (asks m) (control_leave c) (control_cells low b c)) s) ≡ turning_moves c s
   turning_can_is low b z uncalled of_answer = refl
   turning_can_is low b z uncalled of_turn = refl
   turning_can_is low b z uncalled of_leave = neutral_over n (heads low) z
@@ -272,7 +272,7 @@ joins : {n : ℕ} (i : Index n) (a m s : Bool) → (if a then not m && not (some
 joins {n = n} i a m s = ap (λ x. if a then not m && not x else x) (some_hot i s)
 
 pub way_can_is : {m k : Mode} {n : ℕ} {G B : Type 0} (low : G) (hs : Pairs n) (b : B) → all_neutral n hs ≡ true → (w : Way m k) (i : Index n) (s : OwnSpot n)
-    → fires (core_rule (asks m) false hs (hot i (acks k)) (way_cells low i b w) s) ≡ way_moves w i s
+    → one_rule_fires (core_rule (asks m) false hs (hot i (acks k)) (way_cells low i b w) s) ≡ way_moves w i s
 way_can_is low hs b z works i of_joined = joins i false true false
 way_can_is low hs b z works i of_ask = refl
 way_can_is low hs b z works i of_any = any_hot i true
@@ -305,7 +305,7 @@ way_can_is {n = n} low hs b z (backs any {k = k} h) i (of_start j) = start_back 
 
 pub way_turning_is : {m k : Mode} {n : ℕ} {G B : Type 0} (low : G) (hs : Pairs n) (b : B) → all_neutral n hs ≡ true
     → (w : Way m k) (i : Index n) (s : RoundSpot)
-    → fires (turning_rule true hs (turning_of false (asks m) false (way_cells low i b w)) s) ≡ way_turning w s
+    → one_rule_fires (turning_rule true hs (turning_of false (asks m) false (way_cells low i b w)) s) ≡ way_turning w s
 way_turning_is low hs b z works i of_answer = refl
 way_turning_is low hs b z works i of_turn = refl
 way_turning_is {n = n} low hs b z works i of_leave = neutral_over n hs z
@@ -323,7 +323,7 @@ way_turning_is low hs b z (backs any h) i of_turn = refl
 way_turning_is {n = n} low hs b z (backs any h) i of_leave = neutral_over n hs z
 
 pub closing_own_is : {m : Mode} {n : ℕ} {G B : Type 0} (low : G) (hs : Pairs n) (b : B) → all_neutral n hs ≡ true → (c : Closing m) (s : OwnSpot n)
-    → fires (core_rule (closing_turn c) (closing_leave c) hs (low_bits n) (closing_cells low b c).core s) ≡ closing_own c s
+    → one_rule_fires (core_rule (closing_turn c) (closing_leave c) hs (low_bits n) (closing_cells low b c).core s) ≡ closing_own c s
 closing_own_is {n = n} low hs b z c of_joined = some_none n
 closing_own_is low hs b z told_all of_ask = refl
 closing_own_is low hs b z lets_turn of_ask = refl
@@ -343,7 +343,7 @@ closing_own_is low hs b z c (of_latch j) = latch_none j (closing_turn c) hs (neu
 closing_own_is {n = n} low hs b z c (of_start j) = start_none j (all_neutral n hs)
 
 pub closing_can_is : {m : Mode} (n : ℕ) {G B : Type 0} (low : G) (hs : Pairs n) (b : B) → all_neutral n hs ≡ true → (c : Closing m) (s : RoundSpot)
-    → fires (turning_rule (asks m) hs (closing_cells low b c) s) ≡ closing_moves c s
+    → one_rule_fires (turning_rule (asks m) hs (closing_cells low b c) s) ≡ closing_moves c s
 closing_can_is n low hs b z told_all of_answer = refl
 closing_can_is n low hs b z told_all of_turn = refl
 closing_can_is n low hs b z told_all of_leave = refl

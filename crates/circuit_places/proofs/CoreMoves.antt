@@ -1,8 +1,8 @@
 -- What a core needs of its guards and of its branches; where it is, and what its own moves come to.
 use Rattle.std.proofs.Common.{◌≡◌, ◌≢◌, ℕ, Bool, true, false, refl, sym, ap, ◌∙◌, subst}
 use Rattle.std.specs.Prelude.{not}
-use Rattle.function_blocks.specs.Rails.{Pairs, Rule, fires, is_apart}
-use Rattle.circuit_places.specs.Heads.{Index, Bits, low_bits, bit_of, hot, none_true, all_neutral, all_valid, all_single, alone, told, over, below}
+use Rattle.function_blocks.specs.Rails.{Pairs, Rule, one_rule_fires, is_apart}
+use Rattle.circuit_places.specs.Heads.{Index, Bits, low_bits, bit_of, hot, nothing_true, all_neutral, all_valid, all_single, alone, told, over, below}
 use Rattle.circuit_places.specs.Cores.{Core, OwnSpot, of_joined, of_ask, of_any, of_latch, of_start, RoundSpot, of_answer, of_turn, of_leave, core_rule, turning_rule, turned_own, core_of, turning_of}
 use Rattle.circuit_places.proofs.HeadFacts.{fst_true, snd_true, both_true, hot_low, hot_is, hot_turned, hot_up, alone_told, over_false, false_valid, alone_valid, told_alone, told_falls, none_falls, neutral_alone, neutral_over, over_alone}
 use Rattle.circuit_places.proofs.CoreControl.{Mode, idle, running, answered, returning, asks, acks, goes, noted, spread, freed, lock_may, lock_alone, Control, uncalled, called, evaluating, latched, leaving, isnt_running, Way, works, worked, reported, letting, backs, control_leave, control_ask, control_guards, control_any, control_cells, control_moves, turning_moves, way_cells, way_moves, way_turning, control_can_is, turning_can_is, way_can_is, way_turning_is, core_apart, turning_apart}
@@ -16,22 +16,22 @@ pub record Guards (n : ℕ) (G Q : Type 0) : Type 0 where
   pub rule : Bool → G → Q → Rule
   pub good : Bool → G → Bool
   pub low_neutral : all_neutral n (heads low) ≡ true
-  pub low_quiet : (q : Q) → fires (rule false low q) ≡ false
+  pub low_quiet : (q : Q) → one_rule_fires (rule false low q) ≡ false
   pub begins : (r : Bool) → good r low ≡ true
-  pub own : (r : Bool) (g : G) (q : Q) → good r g ≡ true → fires (rule r g q) ≡ true → good r (turned g q) ≡ true
-  pub firm : (r : Bool) (g : G) (q p : Q) → good r g ≡ true → fires (rule r g q) ≡ true → p ≢ q → fires (rule r g p) ≡ true
-      → fires (rule r (turned g q) p) ≡ true
+  pub own : (r : Bool) (g : G) (q : Q) → good r g ≡ true → one_rule_fires (rule r g q) ≡ true → good r (turned g q) ≡ true
+  pub firm : (r : Bool) (g : G) (q p : Q) → good r g ≡ true → one_rule_fires (rule r g q) ≡ true → p ≢ q → one_rule_fires (rule r g p) ≡ true
+      → one_rule_fires (rule r (turned g q) p) ≡ true
   pub apart : (r : Bool) (g : G) (q : Q) → good r g ≡ true → is_apart (rule r g q) ≡ true
   pub single : (g : G) → good true g ≡ true → all_single n (heads g) ≡ true
   pub ease : (g : G) → good true g ≡ true → all_valid n (heads g) ≡ true → good false g ≡ true
-  pub full : (g : G) (q : Q) → good true g ≡ true → all_valid n (heads g) ≡ true → fires (rule true g q) ≡ false
+  pub full : (g : G) (q : Q) → good true g ≡ true → all_valid n (heads g) ≡ true → one_rule_fires (rule true g q) ≡ false
   pub empty : (g : G) → good false g ≡ true → all_neutral n (heads g) ≡ true → g ≡ low
-  pub falls : (g : G) (q : Q) → good false g ≡ true → fires (rule false g q) ≡ true → below n (heads (turned g q)) (heads g) ≡ true
+  pub falls : (g : G) (q : Q) → good false g ≡ true → one_rule_fires (rule false g q) ≡ true → below n (heads (turned g q)) (heads g) ≡ true
 
 -- where no gate of theirs moves, and what they read is valid
 pub record Arrives {n : ℕ} {G Q : Type 0} (W : Guards n G Q) : Type 0 where
-  pub up : (g : G) → W.good true g ≡ true → ((q : Q) → fires (W.rule true g q) ≡ false) → all_valid n (W.heads g) ≡ true
-  pub down : (g : G) → W.good false g ≡ true → ((q : Q) → fires (W.rule false g q) ≡ false) → all_neutral n (W.heads g) ≡ true
+  pub up : (g : G) → W.good true g ≡ true → ((q : Q) → one_rule_fires (W.rule true g q) ≡ false) → all_valid n (W.heads g) ≡ true
+  pub down : (g : G) → W.good false g ≡ true → ((q : Q) → one_rule_fires (W.rule false g q) ≡ false) → all_neutral n (W.heads g) ≡ true
 
 -- The branches, of which one is under way: its place, which one it is, the values of the nodes of all; what it needs of the
 -- wires, what it shows to them, and what is left of it.
@@ -54,10 +54,10 @@ pub record Branches (n : ℕ) (B C S T : Type 0) : Type 1 where
   pub opened : Index n → T
   pub Follows : S → T → T → Type 0
   pub low_answers : answers low ≡ low_bits n
-  pub low_quiet : (c : C) → fires (rule (low_bits n) low c) ≡ false
+  pub low_quiet : (c : C) → one_rule_fires (rule (low_bits n) low c) ≡ false
   pub low_apart : (c : C) → is_apart (rule (low_bits n) low c) ≡ true
   pub answers_are : {k : Mode} (a : At k) → answers (cells a) ≡ hot (index a) (acks k)
-  pub can_is : {k : Mode} (a : At k) (c : C) → fires (rule (hot (index a) (asks k)) (cells a) c) ≡ moves a c
+  pub can_is : {k : Mode} (a : At k) (c : C) → one_rule_fires (rule (hot (index a) (asks k)) (cells a) c) ≡ moves a c
   pub apart : {k : Mode} (a : At k) (c : C) → is_apart (rule (hot (index a) (asks k)) (cells a) c) ≡ true
   pub idle_is : (a : At idle) → cells a ≡ low
   pub idle_shows : (a : At idle) → shown a ≡ none
@@ -133,7 +133,7 @@ module _ {again : Bool} {n : ℕ} {G Q B C S T : Type 0} (W : Guards n G Q) (K :
 
   abbrev pub core_moves : {m : Mode} → CoreAt again n G W.heads K.At m → CoreSpot n Q C → Bool
   core_moves (in_control c) (own s) = control_moves c s
-  core_moves (in_control c) (guard q) = fires (W.rule (control_ask c) (control_guards W.low c) q)
+  core_moves (in_control c) (guard q) = one_rule_fires (W.rule (control_ask c) (control_guards W.low c) q)
   core_moves (in_branch a w) (own s) = way_moves w (K.index a) s
   core_moves (in_branch a w) (branch c) = K.moves a c
   core_moves _ _ = false
@@ -161,12 +161,12 @@ module _ {again : Bool} {n : ℕ} {G Q B C S T : Type 0} (W : Guards n G Q) (K :
 
   -- the rules allow what a place says
   pub core_can_is : {m : Mode} (x : CoreAt again n G W.heads K.At m) (s : CoreSpot n Q C)
-      → fires (whole_rule W K (asks m) (core_leave x) (core_cells x) s) ≡ core_moves x s
-  core_can_is {m = m} (in_control c) (own s) = ap (λ (y : Bits n). fires (core_rule (asks m) (control_leave c) (W.heads (control_guards W.low c)) y
+      → one_rule_fires (whole_rule W K (asks m) (core_leave x) (core_cells x) s) ≡ core_moves x s
+  core_can_is {m = m} (in_control c) (own s) = ap (λ (y : Bits n). one_rule_fires (core_rule (asks m) (control_leave c) (W.heads (control_guards W.low c)) y
       (control_cells W.low K.low c) s)) K.low_answers ∙ control_can_is W.low K.low W.low_neutral c s
   core_can_is (in_control c) (guard q) = refl
   core_can_is (in_control c) (branch b) = K.low_quiet b
-  core_can_is {m = m} (in_branch a w) (own s) = ap (λ (y : Bits n). fires
+  core_can_is {m = m} (in_branch a w) (own s) = ap (λ (y : Bits n). one_rule_fires
       (core_rule (asks m) false (W.heads W.low) y (way_cells W.low (K.index a) (K.cells a) w) s)) (K.answers_are a) ∙ way_can_is W.low (W.heads W.low) (K.cells
       a) W.low_neutral w (K.index a) s
   core_can_is (in_branch a w) (guard q) = W.low_quiet q
@@ -174,7 +174,7 @@ module _ {again : Bool} {n : ℕ} {G Q B C S T : Type 0} (W : Guards n G Q) (K :
 
   -- and round it
   pub core_turning_is : {m : Mode} (x : CoreAt again n G W.heads K.At m) (s : RoundSpot)
-      → fires (turning_rule true (W.heads (core_cells x).guards) (turning_of false (asks m) (core_leave x) (core_cells x)) s) ≡ core_turning x s
+      → one_rule_fires (turning_rule true (W.heads (core_cells x).guards) (turning_of false (asks m) (core_leave x) (core_cells x)) s) ≡ core_turning x s
   core_turning_is (in_control c) s = turning_can_is W.low K.low W.low_neutral c s
   core_turning_is (in_branch a w) s = way_turning_is W.low (W.heads W.low) (K.cells a) W.low_neutral w (K.index a) s
 
@@ -202,7 +202,7 @@ module _ {again : Bool} {n : ℕ} {G Q B C S T : Type 0} (W : Guards n G Q) (K :
   known called e z = absurd (cc e)
   known (evaluating g) e z = absurd (cc e)
   known (latched l i g h) e z = absurd (cc e)
-  known (leaving y noted g h) e z = absurd (cc (lock_alone noted (over n (W.heads g)) (none_true n (W.heads g)) h refl, neutral_over n (W.heads g) z))
+  known (leaving y noted g h) e z = absurd (cc (lock_alone noted (over n (W.heads g)) (nothing_true n (W.heads g)) h refl, neutral_over n (W.heads g) z))
   known (leaving y spread g h) e z = refl
   known (leaving y freed g h) e z = refl
 
@@ -229,12 +229,12 @@ goes_back running e = absurd (cc e)
 goes_back answered e = absurd (cc e)
 
 pub full_still : {n : ℕ} {G Q : Type 0} (W : Guards n G Q) (g : G) (q : Q) → W.good true g ≡ true → all_valid n (W.heads g) ≡ true
-    → fires (W.rule true g q) ≡ true → ⊥
+    → one_rule_fires (W.rule true g q) ≡ true → ⊥
 full_still W g q f v e = cc (W.full g q f v, e)
 
 pub low_still : {n : ℕ} {G Q : Type 0} (W : Guards n G Q) (g : G) (q : Q) → W.good false g ≡ true → all_neutral n (W.heads g) ≡ true
-    → fires (W.rule false g q) ≡ true → ⊥
-low_still {G = G} W g q f z e = cc (W.low_quiet q, ap (λ (x : G). fires (W.rule false x q)) (W.empty g f z), e)
+    → one_rule_fires (W.rule false g q) ≡ true → ⊥
+low_still {G = G} W g q f z e = cc (W.low_quiet q, ap (λ (x : G). one_rule_fires (W.rule false x q)) (W.empty g f z), e)
 
 module _ {again : Bool} {n : ℕ} {G Q B C S T : Type 0} (W : Guards n G Q) (K : Branches n B C S T) (y : Story T) where
   -- what a move of a core comes to: a place with that node turned over, and no other node's move is lost, in the core or round it
@@ -343,7 +343,7 @@ module _ {again : Bool} {n : ℕ} {G Q B C S T : Type 0} (W : Guards n G Q) (K :
       keeps (guard q) ne e = e
       keeps (branch c) ne e = absurd (cc e)
 
-  any_leaving : (y : again ≡ true) (g : G) (h : lock_may noted (over n (W.heads g)) (none_true n (W.heads g)) ≡ true) → W.good true g ≡ true
+  any_leaving : (y : again ≡ true) (g : G) (h : lock_may noted (over n (W.heads g)) (nothing_true n (W.heads g)) ≡ true) → W.good true g ≡ true
       → CoreAfter (in_control (leaving y noted g h)) (own of_any)
   any_leaving y g h f = record {
     mode = running;
@@ -403,7 +403,7 @@ module _ {again : Bool} {n : ℕ} {G Q B C S T : Type 0} (W : Guards n G Q) (K :
       keeps (guard q) ne e = absurd (full_still W g q f valid e)
       keeps (branch c) ne e = absurd (cc e)
 
-  ask_leaving : (y : again ≡ true) (g : G) (h : lock_may spread (over n (W.heads g)) (none_true n (W.heads g)) ≡ true) → W.good true g ≡ true
+  ask_leaving : (y : again ≡ true) (g : G) (h : lock_may spread (over n (W.heads g)) (nothing_true n (W.heads g)) ≡ true) → W.good true g ≡ true
       → CoreAfter (in_control (leaving y spread g h)) (own of_ask)
   ask_leaving y g h f = record {
     mode = running;
@@ -419,10 +419,10 @@ module _ {again : Bool} {n : ℕ} {G Q B C S T : Type 0} (W : Guards n G Q) (K :
   }
     where
       valid : all_valid n (W.heads g) ≡ true
-      valid = false_valid n (W.heads g) (over_false n (W.heads g) (snd_true (none_true n (W.heads g)) _ h))
+      valid = false_valid n (W.heads g) (over_false n (W.heads g) (snd_true (nothing_true n (W.heads g)) _ h))
 
-      may : lock_may freed (over n (W.heads g)) (none_true n (W.heads g)) ≡ true
-      may = both_true (none_true n (W.heads g)) true (fst_true (none_true n (W.heads g)) _ h) refl
+      may : lock_may freed (over n (W.heads g)) (nothing_true n (W.heads g)) ≡ true
+      may = both_true (nothing_true n (W.heads g)) true (fst_true (nothing_true n (W.heads g)) _ h) refl
 
       turns : Turns (in_control (leaving y spread g h)) (in_control (leaving y freed g may))
       turns of_answer e = e
@@ -439,7 +439,7 @@ module _ {again : Bool} {n : ℕ} {G Q B C S T : Type 0} (W : Guards n G Q) (K :
       keeps (branch c) ne e = absurd (cc e)
 
   -- a rail of a guard moves, as the guards are evaluated
-  guard_rises : (g : G) (q : Q) → W.good true g ≡ true → fires (W.rule true g q) ≡ true → CoreAfter (in_control (evaluating g)) (guard q)
+  guard_rises : (g : G) (q : Q) → W.good true g ≡ true → one_rule_fires (W.rule true g q) ≡ true → CoreAfter (in_control (evaluating g)) (guard q)
   guard_rises g q f m = record {
     mode = running;
     to = in_control (evaluating (W.turned g q));
@@ -469,7 +469,7 @@ module _ {again : Bool} {n : ℕ} {G Q B C S T : Type 0} (W : Guards n G Q) (K :
 
   -- and as they are let go
   guard_falls : (i : Index n) (g : G) (q : Q) (h : lock_may freed (alone i (W.heads g)) (told i (W.heads g)) ≡ true) → W.good false g ≡ true
-      → fires (W.rule false g q) ≡ true → CoreAfter (in_control (latched freed i g h)) (guard q)
+      → one_rule_fires (W.rule false g q) ≡ true → CoreAfter (in_control (latched freed i g h)) (guard q)
   guard_falls i g q h f m = record {
     mode = running;
     to = in_control (latched freed i (W.turned g q) may);
@@ -496,8 +496,8 @@ module _ {again : Bool} {n : ℕ} {G Q B C S T : Type 0} (W : Guards n G Q) (K :
       keeps (guard p) ne e = W.firm false g q p f m (λ (z : p ≡ q). ne (ap (λ x. guard x) z)) e
       keeps (branch c) ne e = absurd (cc e)
 
-  guard_leaves : (y : again ≡ true) (g : G) (q : Q) (h : lock_may freed (over n (W.heads g)) (none_true n (W.heads g)) ≡ true) → W.good false g ≡ true
-      → fires (W.rule false g q) ≡ true → CoreAfter (in_control (leaving y freed g h)) (guard q)
+  guard_leaves : (y : again ≡ true) (g : G) (q : Q) (h : lock_may freed (over n (W.heads g)) (nothing_true n (W.heads g)) ≡ true) → W.good false g ≡ true
+      → one_rule_fires (W.rule false g q) ≡ true → CoreAfter (in_control (leaving y freed g h)) (guard q)
   guard_leaves y g q h f m = record {
     mode = running;
     to = in_control (leaving y freed (W.turned g q) may);
@@ -511,9 +511,9 @@ module _ {again : Bool} {n : ℕ} {G Q B C S T : Type 0} (W : Guards n G Q) (K :
     turns = turns;
   }
     where
-      may : lock_may freed (over n (W.heads (W.turned g q))) (none_true n (W.heads (W.turned g q))) ≡ true
-      may = both_true (none_true n (W.heads (W.turned g q))) true (none_falls n (W.heads (W.turned g q)) (W.heads g) (W.falls g q f m)
-          (fst_true (none_true n (W.heads g)) _ h)) refl
+      may : lock_may freed (over n (W.heads (W.turned g q))) (nothing_true n (W.heads (W.turned g q))) ≡ true
+      may = both_true (nothing_true n (W.heads (W.turned g q))) true (none_falls n (W.heads (W.turned g q)) (W.heads g) (W.falls g q f m)
+          (fst_true (nothing_true n (W.heads g)) _ h)) refl
 
       turns : Turns (in_control (leaving y freed g h)) (in_control (leaving y freed (W.turned g q) may))
       turns of_answer e = absurd (low_still W g q f e m)
@@ -768,9 +768,9 @@ module _ {again : Bool} {n : ℕ} {G Q B C S T : Type 0} (W : Guards n G Q) (K :
   guard_after (in_control (latched spread i g h)) q f e = absurd (full_still W g q f (alone_valid i (W.heads g) (snd_true (told i (W.heads g)) _ h)) e)
   guard_after (in_control (latched freed i g h)) q f e = guard_falls i g q h f e
   guard_after (in_control (leaving y noted g h)) q f e =
-      absurd (full_still W g q f (false_valid n (W.heads g) (over_false n (W.heads g) (snd_true (none_true n (W.heads g)) _ h))) e)
+      absurd (full_still W g q f (false_valid n (W.heads g) (over_false n (W.heads g) (snd_true (nothing_true n (W.heads g)) _ h))) e)
   guard_after (in_control (leaving y spread g h)) q f e =
-      absurd (full_still W g q f (false_valid n (W.heads g) (over_false n (W.heads g) (snd_true (none_true n (W.heads g)) _ h))) e)
+      absurd (full_still W g q f (false_valid n (W.heads g) (over_false n (W.heads g) (snd_true (nothing_true n (W.heads g)) _ h))) e)
   guard_after (in_control (leaving y freed g h)) q f e = guard_leaves y g q h f e
   guard_after (in_branch a w) q f e = absurd (cc e)
 

@@ -1,7 +1,7 @@
 -- What a core promises to its guards and to its branches, and where it comes to rest.
 use Rattle.std.proofs.Common.{◌≡◌, ℕ, Bool, true, false, refl, ap, ◌∙◌}
 use Rattle.std.specs.Prelude.{◌&&◌}
-use Rattle.circuit_places.specs.Heads.{Index, Bits, low_bits, bit_of, hot, none_true, all_neutral, all_valid, alone, told, over}
+use Rattle.circuit_places.specs.Heads.{Index, Bits, low_bits, bit_of, hot, nothing_true, all_neutral, all_valid, alone, told, over}
 use Rattle.circuit_places.specs.Cores.{of_joined, of_ask, of_any, of_latch, of_start, RoundSpot, of_answer, of_turn, of_leave}
 use Rattle.circuit_places.proofs.HeadFacts.{fst_true, snd_true, both_true, bit_none, hot_low, bit_hot, hot_is, over_false, false_valid, alone_valid}
 use Rattle.circuit_places.proofs.CoreControl.{Mode, idle, running, answered, returning, asks, acks, noted, spread, freed, uncalled, called, evaluating, latched, leaving, isnt_running, works, worked, reported, letting, backs, told_all, lets_turn, lets_leave, lets_any, lets_answer}
@@ -16,7 +16,7 @@ module _ {again : Bool} {n : ℕ} {G Q B C S T : Type 0} (W : Guards n G Q) (K :
   ask_promise (in_control called) e = (λ z. refl, λ z. absurd (cc z))
   ask_promise (in_control (latched spread i g h)) e = (λ z. absurd (cc z), λ z. alone_valid i (W.heads g) (snd_true (told i (W.heads g)) _ h))
   ask_promise (in_control (leaving t spread g h)) e =
-      (λ z. absurd (cc z), λ z. false_valid n (W.heads g) (over_false n (W.heads g) (snd_true (none_true n (W.heads g)) _ h)))
+      (λ z. absurd (cc z), λ z. false_valid n (W.heads g) (over_false n (W.heads g) (snd_true (nothing_true n (W.heads g)) _ h)))
   ask_promise (in_control (latched noted i g h)) e = absurd (cc e)
   ask_promise (in_control (latched freed i g h)) e = absurd (cc e)
   ask_promise (in_control (leaving t noted g h)) e = absurd (cc e)

@@ -11,7 +11,7 @@ use Rattle.chp_meaning.specs.Terms.{Term, finished, Place, statement_at}
 use Rattle.chp_meaning.specs.Steps.{Configuration, Step, a_skip, an_assignment, a_selection, a_turn, an_end, a_repetition, a_communication, a_delivery, an_arrival, open_branches}
 use Rattle.circuit_places.specs.Lines.{Line, of_channel, of_var, Rails}
 use Rattle.circuit_places.specs.Circuit.{turns}
-use Rattle.circuit_places.specs.Whole.{Wires, seen, line_ack, is_heard, is_merged, number_rail, brings, drives, offers, value_on, neutral_on, Node, go_node, own_node, rail_node, ack_node, bit_node, wrote_node, joint_node, answers}
+use Rattle.circuit_places.specs.Whole.{Wires, wires_seen, line_ack, is_heard, is_merged, number_rail, brings, drives, offers, value_on, neutral_on, Node, go_node, own_node, rail_node, ack_node, bit_node, wrote_node, joint_node, answers}
 use Rattle.circuit_places.proofs.RailLemmas.{lows_neutral, value_same, each_bit}
 use Rattle.circuit_places.proofs.Flow.{low_of, cases, or_left, or_right, neither_left, neither_right}
 use Rattle.circuit_places.proofs.Talks.{either}
@@ -177,8 +177,8 @@ module _ (P : TypedProgram) {script : List OfferValue} (fitted : Fitted P script
   some_side n i (false, h) = or_right (n i true) (n i false) h
 
   -- over a high acknowledge of a channel on which the program receives all rails are low
-  held : (c : ℕ) → w.ack c ≡ true → Held P c (seen P w) (guarded_shown g)
-  held c high = guarded_held P (seen P w) c high g good.meets good.fits (λ s. none (own_node s))
+  held : (c : ℕ) → w.ack c ≡ true → Held P c (wires_seen P w) (guarded_shown g)
+  held c high = guarded_held P (wires_seen P w) c high g good.meets good.fits (λ s. none (own_node s))
 
   quiet : (c : ℕ) → c < length P.channels → is_heard (kind_at P.channels c) ≡ true → w.ack c ≡ true → (i : ℕ) (one : Bool)
       → w.rail (of_channel c) i one ≡ false
@@ -191,7 +191,7 @@ module _ (P : TypedProgram) {script : List OfferValue} (fitted : Fitted P script
       ∙ not_driven c o.0 o.1 i one)
 
   -- a receive that has let go doesn't hang
-  not_held : (c v : ℕ) → Releasing P c v (seen P w) (guarded_shown g) → ⊥
+  not_held : (c v : ℕ) → Releasing P c v (wires_seen P w) (guarded_shown g) → ⊥
   not_held c v r = cases (line_ack P w (of_var v))
       (λ (h : line_ack P w (of_var v) ≡ true).
       let (i, less, e) = block_rest v r.meets.some in
@@ -204,11 +204,11 @@ module _ (P : TypedProgram) {script : List OfferValue} (fitted : Fitted P script
       gone : (i : ℕ) (one : Bool) → (guarded_shown g).offer (of_var v) i one ≡ false
       gone i one = low_of ((guarded_shown g).offer (of_var v) i one) (r.all i one) (quiet c r.meets.within r.meets.heard r.high i one)
 
-  no_hanging : Hanging P (seen P w) (guarded_shown g) → ⊥
+  no_hanging : Hanging P (wires_seen P w) (guarded_shown g) → ⊥
   no_hanging (let_go (of_channel c) high talks gone) = cases (is_heard (kind_at P.channels c))
       (λ (u : is_heard (kind_at P.channels c) ≡ true). let r = (held c high).lets_go (good.listen c u high) in not_held c r.0 r.1)
       (λ (u : is_heard (kind_at P.channels c) ≡ false).
-      let x = guarded_site P (seen P w) (clean_of good) g good.meets good.fits (of_channel c) talks in
+      let x = guarded_site P (wires_seen P w) (clean_of good) g good.meets good.fits (of_channel c) talks in
       let o = fitted.sends c x.within x.merged u in
       let neutral : neutral_on (channel_width P.channels c) (w.rail (of_channel c)) ≡ true = lows_neutral (channel_width P.channels c) (w.rail (of_channel c))
       (λ i one. rails_are (of_channel c) i one x.merged ∙ gone i one) in
@@ -218,7 +218,7 @@ module _ (P : TypedProgram) {script : List OfferValue} (fitted : Fitted P script
       (value_on (channel_width P.channels c) (w.rail (of_channel c))) && is_over o.0 (completed hs c)) high ∙ neutral) in
       cc (may, not_answered c))
   no_hanging (let_go (of_var v) high talks gone) =
-      let x = guarded_site P (seen P w) (clean_of good) g good.meets good.fits (of_var v) talks in
+      let x = guarded_site P (wires_seen P w) (clean_of good) g good.meets good.fits (of_var v) talks in
       let (i, less, e) = block_rest v x.some in
       high_waits (now_at (w.bit v) (w.rail (of_var v)) (w.wrote v) (line_ack P w (of_var v)) i) high (rails_are (of_var v) i true refl ∙ gone i true)
       (rails_are (of_var v) i false refl ∙ gone i false) e
@@ -232,7 +232,7 @@ module _ (P : TypedProgram) {script : List OfferValue} (fitted : Fitted P script
   no_hanging (holding c v r) = not_held c v r
 
   -- each bit of each variable has a value
-  valid : Valid P (seen P w)
+  valid : Valid P (wires_seen P w)
   valid v i less = some_bit (now_at (w.bit v) (w.rail (of_var v)) (w.wrote v) (line_ack P w (of_var v)) i) ((good.block v (some_of less)).bits i less)
       (none (bit_node v i true)) (none (bit_node v i false))
     where
@@ -240,7 +240,7 @@ module _ (P : TypedProgram) {script : List OfferValue} (fitted : Fitted P script
       some_of less = omega (arith, less)
 
   -- where a receive waits, not each bit of its channel has a rail high
-  not_there : (c v : ℕ) → Listening P c v (seen P w) (guarded_shown g)
+  not_there : (c v : ℕ) → Listening P c v (wires_seen P w) (guarded_shown g)
       → ((i : ℕ) → i < channel_width P.channels c → (w.rail (of_channel c) i true || w.rail (of_channel c) i false) ≡ true) → ⊥
   not_there c v l brought = cases (line_ack P w (of_var v)) stored waits
     where
@@ -258,7 +258,7 @@ module _ (P : TypedProgram) {script : List OfferValue} (fitted : Fitted P script
           low_waits (now_at (w.bit v) (w.rail (of_var v)) (w.wrote v) (line_ack P w (of_var v)) i) h (taken i less) e
 
   -- so no value is left for it
-  none_left : (c v : ℕ) → Listening P c v (seen P w) (guarded_shown g) → (values : List ℕ) → offer_at script c ≡ gives values → (o : Option ℕ)
+  none_left : (c v : ℕ) → Listening P c v (wires_seen P w) (guarded_shown g) → (values : List ℕ) → offer_at script c ≡ gives values → (o : Option ℕ)
       → slice_get values (completed hs c) ≡ o → o ≡ None
   none_left c v l values is None e = refl
   none_left c v l values is (Some x) e = absurd (not_there c v l brought)
@@ -280,13 +280,13 @@ module _ (P : TypedProgram) {script : List OfferValue} (fitted : Fitted P script
       brought i less = let (one, h) = number_some (channel_width P.channels c) x i less in low_both i one h
 
   -- each bit of a channel on which a send waits has a rail high
-  sent_there : (c : ℕ) → Full P (of_channel c) (seen P w) (guarded_shown g) → is_some (value_on (channel_width P.channels c) (w.rail (of_channel c))) ≡ true
+  sent_there : (c : ℕ) → Full P (of_channel c) (wires_seen P w) (guarded_shown g) → is_some (value_on (channel_width P.channels c) (w.rail (of_channel c))) ≡ true
   sent_there c b = ap is_some (value_same (channel_width P.channels c) (w.rail (of_channel c)) ((guarded_shown g).offer (of_channel c))
       (λ i one. rails_are (of_channel c) i one b.merged)) ∙ b.whole
 
   -- so no receive waits beside it
-  no_meeting : (k x : ℕ) (s t u : Span) (e : Formula) → Blocked P (sending k s e) (seen P w) (guarded_shown g)
-      → Blocked P (receiving k t x u) (seen P w) (guarded_shown g) → ⊥
+  no_meeting : (k x : ℕ) (s t u : Span) (e : Formula) → Blocked P (sending k s e) (wires_seen P w) (guarded_shown g)
+      → Blocked P (receiving k t x u) (wires_seen P w) (guarded_shown g) → ⊥
   no_meeting k x s t u e (a_receive c v at to l is) q = cc is
   no_meeting k x s t u e p (a_send c at d b is) = cc is
   no_meeting k x s t u e (a_choice again choices b is) q = cc is
@@ -294,12 +294,12 @@ module _ (P : TypedProgram) {script : List OfferValue} (fitted : Fitted P script
   no_meeting k x s t u e (a_send c at d b is) (a_receive n v from to l its) =
       let one : k ≡ c = cc is in
       let other : k ≡ n = cc its in
-      let here = subst (λ (i : ℕ). Full P (of_channel i) (seen P w) (guarded_shown g)) (sym one ∙ other) b in
+      let here = subst (λ (i : ℕ). Full P (of_channel i) (wires_seen P w) (guarded_shown g)) (sym one ∙ other) b in
       not_there n v l (λ i less. some_side (w.rail (of_channel n)) i (each_bit (channel_width P.channels n) (w.rail (of_channel n)) (sent_there n here) i less))
 
   -- what waits has no acceptance left, or no value
   refused : {most : ℕ} {t : Term} (r : Followed P script most hs t w.bit (guarded_writing (line_ack P w) g)) (s : Process)
-      → Blocked P s (seen P w) (guarded_shown g) → Refused r.to s
+      → Blocked P s (wires_seen P w) (guarded_shown g) → Refused r.to s
   refused r s (a_choice again choices b is) =
       no_choice again choices is (λ p e. b.one (slice_index r.to.store) agree p (sym (open_is r.to choices) ∙ e))
       (λ t e. b.some t (slice_index r.to.store) agree (sym (open_is r.to choices) ∙ e))
@@ -345,7 +345,7 @@ module _ (P : TypedProgram) {script : List OfferValue} (fitted : Fitted P script
 waits : (P : TypedProgram) {script : List OfferValue} (fitted : Fitted P script) (w : Wires) (hs : List (List ℕ)) (g : GuardedAt P.body running)
     → (guarded_cells g).next ≡ false → Good P running g w → ((n : Node P.body) → can P script g w hs n ≡ false)
     → {most : ℕ} (r : Followed P script most hs (guarded_left (line_ack P w) g) w.bit (guarded_writing (line_ack P w) g))
-    → Waiting P (guarded_left (line_ack P w) g) (seen P w) (guarded_shown g) → AtEnd g r.to
+    → Waiting P (guarded_left (line_ack P w) g) (wires_seen P w) (guarded_shown g) → AtEnd g r.to
 waits P fitted w hs g low good none r x = record {
   still = no_step r.to (λ at s e. refused P fitted w hs g good none r s (stands at s e))
       (λ at other k v s t u e f h. no_meeting P fitted w hs g good none k v s t u e (stands at (sending k s e) f) (stands other (receiving k t v u) h));
@@ -353,7 +353,7 @@ waits P fitted w hs g low good none r x = record {
   going = λ e z. x.going (sym r.term ∙ z);
 }
   where
-    stands : (at : Place) (s : Process) → statement_at r.to.term at ≡ Some s → Blocked P s (seen P w) (guarded_shown g)
+    stands : (at : Place) (s : Process) → statement_at r.to.term at ≡ Some s → Blocked P s (wires_seen P w) (guarded_shown g)
     stands at s e = x.blocked at s (sym (ap (λ x. statement_at x at) r.term) ∙ e)
 
 pub at_end : (P : TypedProgram) {script : List OfferValue} (fitted : Fitted P script) (w : Wires) (hs : List (List ℕ)) {m : Mode} (g : GuardedAt P.body m)
@@ -361,9 +361,9 @@ pub at_end : (P : TypedProgram) {script : List OfferValue} (fitted : Fitted P sc
     → {most : ℕ} (r : Followed P script most hs (root_left (line_ack P w) g) w.bit (guarded_writing (line_ack P w) g)) → AtEnd g r.to
 at_end P fitted w hs g_rests ne good none r = absurd (cc (none go_node))
 at_end P {script = script} fitted w hs (g_in u a h) ne good none r = here
-    (guarded_rest P (seen P w) (clean_of good) (valid P fitted w hs (g_in u a h) good none) (g_in u a h) good.meets good.fits (λ s. none (own_node s)))
+    (guarded_rest P (wires_seen P w) (clean_of good) (valid P fitted w hs (g_in u a h) good none) (g_in u a h) good.meets good.fits (λ s. none (own_node s)))
   where
-    here : Rest P running (guarded_left (line_ack P w) (g_in u a h)) (seen P w) (guarded_shown (g_in u a h)) → AtEnd (g_in u a h) r.to
+    here : Rest P running (guarded_left (line_ack P w) (g_in u a h)) (wires_seen P w) (guarded_shown (g_in u a h)) → AtEnd (g_in u a h) r.to
     here (settled e) = absurd (cc e)
     here (waiting e x) = waits P fitted w hs (g_in u a h) refl good none r x
     here (hanging x) = absurd (no_hanging P fitted w hs (g_in u a h) good none x)

@@ -9,7 +9,7 @@ use Rattle.env_script.specs.Scripts.{OfferValue, gives, takes}
 use Rattle.width_check.specs.Processes.{constant, reading, skipping, assigning, sending, receiving, in_turn, side_by_side, no_members, and_member, TypedProgram}
 use Rattle.circuit_places.specs.Lines.{of_channel, of_var}
 use Rattle.circuit_places.specs.Circuit.{Spot, child, latch, next, inner, of_skip, done, gate, heard, stored, taking, of_assign, of_send, of_receive, in_members, of_branch, joint, in_this, in_others, in_last, in_member, in_later}
-use Rattle.circuit_places.specs.Whole.{Whole, Node, go_node, own_node, rail_node, ack_node, bit_node, wrote_node, joint_node, value_on, enabled, moved, first_of}
+use Rattle.circuit_places.specs.Whole.{Whole, Node, go_node, own_node, rail_node, ack_node, bit_node, wrote_node, joint_node, value_on, enabled, cells_moved, first_cells}
 
 abbrev pub at : Span
 at = record { from = 0; to = 1 }
@@ -26,7 +26,7 @@ twice = record {
 -- the first of the nodes that may move does, so many times
 abbrev pub first_moved : (P : TypedProgram) → List OfferValue → Whole P.body → List (Node P.body) → Whole P.body
 first_moved P script x [] = x
-first_moved P script x (n ∷ ns) = if enabled P script x n then moved P x n else first_moved P script x ns
+first_moved P script x (n ∷ ns) = if enabled P script x n then cells_moved P x n else first_moved P script x ns
 
 abbrev pub driven : (P : TypedProgram) → List OfferValue → List (Node P.body) → ℕ → Whole P.body → Whole P.body
 driven P script nodes zero x = x
@@ -53,7 +53,7 @@ nodes =
     ∷ then_nodes in_first send_spots (then_nodes in_second send_spots [])
 
 abbrev at_last : Whole twice.body
-at_last = driven twice (takes All ∷ []) nodes 48 (first_of twice)
+at_last = driven twice (takes All ∷ []) nodes 48 (first_cells twice)
 
 -- both numbers pass, in order, done rises, and nothing is left to move
 both_pass : at_last.histories ≡ (2 ∷ 1 ∷ []) ∷ []
@@ -67,7 +67,7 @@ all_rest = refl
 
 -- where the environment takes one alone, done stays low
 abbrev held_up : Whole twice.body
-held_up = driven twice (takes (Times 1) ∷ []) nodes 48 (first_of twice)
+held_up = driven twice (takes (Times 1) ∷ []) nodes 48 (first_cells twice)
 
 one_passes : held_up.histories ≡ (2 ∷ []) ∷ []
 one_passes = refl
@@ -103,7 +103,7 @@ three_nodes =
     (of_channel 1) 0 false ∷ ack_node 1 ∷ []
 
 abbrev beside_at_last : Whole three.body
-beside_at_last = driven three (takes All ∷ takes All ∷ []) three_nodes 64 (first_of three)
+beside_at_last = driven three (takes All ∷ takes All ∷ []) three_nodes 64 (first_cells three)
 
 both_branches_pass : beside_at_last.histories ≡ (1 ∷ []) ∷ (0 ∷ []) ∷ []
 both_branches_pass = refl
@@ -116,7 +116,7 @@ beside_rests = refl
 
 -- where one branch isn't taken, the others end, and done stays low
 abbrev beside_held : Whole three.body
-beside_held = driven three (takes All ∷ takes (Times 0) ∷ []) three_nodes 64 (first_of three)
+beside_held = driven three (takes All ∷ takes (Times 0) ∷ []) three_nodes 64 (first_cells three)
 
 first_passes : beside_held.histories ≡ (1 ∷ []) ∷ [] ∷ []
 first_passes = refl
@@ -153,9 +153,9 @@ writes_nodes =
     ∷ bit_node 0 0 true ∷ bit_node 0 0 false ∷ bit_node 0 1 true ∷ bit_node 0 1 false ∷ wrote_node 0 0 ∷ wrote_node 0 1 ∷ joint_node 0 0 ∷ []
 
 abbrev written_at_last : Whole writes.body
-written_at_last = driven writes (takes All ∷ []) writes_nodes 96 (first_of writes)
+written_at_last = driven writes (takes All ∷ []) writes_nodes 96 (first_cells writes)
 
-starts_so : value_on 2 ((first_of writes).wires.bit 0) ≡ Some 3
+starts_so : value_on 2 ((first_cells writes).wires.bit 0) ≡ Some 3
 starts_so = refl
 
 stores_last : value_on 2 (written_at_last.wires.bit 0) ≡ Some 1
@@ -172,7 +172,7 @@ writes_rest = refl
 
 -- where the send isn't taken the first value written stays
 abbrev written_held : Whole writes.body
-written_held = driven writes (takes (Times 0) ∷ []) writes_nodes 96 (first_of writes)
+written_held = driven writes (takes (Times 0) ∷ []) writes_nodes 96 (first_cells writes)
 
 stores_first : value_on 2 (written_held.wires.bit 0) ≡ Some 2
 stores_first = refl
@@ -201,7 +201,7 @@ relay_nodes =
     (λ i one. own_node (inner (in_members (in_later (in_last (of_send (gate i one)))))))
 
 abbrev relayed : Whole relay.body
-relayed = driven relay (gives (2 ∷ []) ∷ takes All ∷ []) relay_nodes 90 (first_of relay)
+relayed = driven relay (gives (2 ∷ []) ∷ takes All ∷ []) relay_nodes 90 (first_cells relay)
 
 -- the number passes on both channels, done rises, and nothing is left to move
 it_passes_on : relayed.histories ≡ (2 ∷ []) ∷ (2 ∷ []) ∷ []
@@ -215,7 +215,7 @@ relay_rests = refl
 
 -- where no number comes, nothing passes, and done stays low
 abbrev waiting : Whole relay.body
-waiting = driven relay (gives [] ∷ takes All ∷ []) relay_nodes 90 (first_of relay)
+waiting = driven relay (gives [] ∷ takes All ∷ []) relay_nodes 90 (first_cells relay)
 
 none_passes : waiting.histories ≡ [] ∷ [] ∷ []
 none_passes = refl

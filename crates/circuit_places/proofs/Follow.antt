@@ -15,7 +15,7 @@ use Rattle.chp_meaning.specs.Terms.{Term, finished, opened, Place, statement_at,
 use Rattle.chp_meaning.specs.Steps.{Configuration, one_fewer, leaving, value_in, storing, an_assignment, passing, offering, Step, a_skip, a_repetition, a_communication, a_delivery, an_arrival, Leads, no_step, one_step, start_of, open_branches, a_selection, a_turn, an_end}
 use Rattle.function_blocks.specs.Rails.{number_on}
 use Rattle.circuit_places.specs.Lines.{of_channel, of_var, Rails}
-use Rattle.circuit_places.specs.Whole.{seen, line_ack, is_heard, first_bits, wires_after, rail_turned, bit_turned, Wires, wrote_turned, joint_turned, value_on, Node, go_node, own_node, rail_node, ack_node, bit_node, wrote_node, joint_node, answers, passed, passed_after}
+use Rattle.circuit_places.specs.Whole.{wires_seen, line_ack, is_heard, first_bits, wires_after, rail_turned, bit_turned, Wires, wrote_turned, joint_turned, value_on, Node, go_node, own_node, rail_node, ack_node, bit_node, wrote_node, joint_node, answers, cells_passed, passed_after}
 use Rattle.circuit_places.proofs.Left.{Act, skips, goes_on, Follows, open_by, Goes, chooses, ends, body_at, branch_term}
 use Rattle.circuit_places.proofs.Flow.{cases}
 use Rattle.circuit_places.proofs.LineNames.{self_number, same_number}
@@ -193,7 +193,7 @@ module _ {P : TypedProgram} {script : List OfferValue} {most : ℕ} {hs : List (
     (k : ℕ) where
   -- a value passes
   module _ (y : Term) (count : Count) (offered : offer_at script k ≡ takes count) (more : is_over count (completed hs k) ≡ true)
-      (pass : Passes P (seen P w) busy (of_channel k) t y) where
+      (pass : Passes P (wires_seen P w) busy (of_channel k) t y) where
     read : value_on (channel_width P.channels k) (w.rail (of_channel k)) ≡ Some (value_in r.to pass.expression)
     read = pass.read (slice_index r.to.store) (λ v less calm. r.stored v less calm)
 
@@ -231,8 +231,8 @@ module _ {P : TypedProgram} {script : List OfferValue} {most : ℕ} {hs : List (
         ∙ (r.rests c ∙ sym (ap (λ h. left_over (offer_at script c) (length h))
         (get_or-set_other hs k c (history_at hs k ++ value_in r.to pass.expression ∷ []) [] ne))))
 
-    passes_on : Followed P script (suc most) (passed hs k (value_on (channel_width P.channels k) (w.rail (of_channel k)))) y now after
-    passes_on = subst (λ (o : Option ℕ). Followed P script (suc most) (passed hs k o) y now after) (sym read) (record {
+    passes_on : Followed P script (suc most) (cells_passed hs k (value_on (channel_width P.channels k) (w.rail (of_channel k)))) y now after
+    passes_on = subst (λ (o : Option ℕ). Followed P script (suc most) (cells_passed hs k o) y now after) (sym read) (record {
       to = passing (offering (leaving r.to pass.act.at finished) k (takes (one_fewer (fewer count (completed hs k))))) k (value_in r.to pass.expression);
       steps = suc r.steps;
       within = omega (arith, r.within);
@@ -247,8 +247,8 @@ module _ {P : TypedProgram} {script : List OfferValue} {most : ℕ} {hs : List (
     })
 
   acknowledged : (y : Term) → answers (channel_width P.channels k) w k (completed hs k) (offer_at script k) ≡ true → (b : Bool) → w.ack k ≡ b
-      → Passing P (seen P w) busy (of_channel k) b t y
-      → Followed P script (suc most) (if b then hs else passed hs k (value_on (channel_width P.channels k) (w.rail (of_channel k)))) y now after
+      → Passing P (wires_seen P w) busy (of_channel k) b t y
+      → Followed P script (suc most) (if b then hs else cells_passed hs k (value_on (channel_width P.channels k) (w.rail (of_channel k)))) y now after
   acknowledged y e true h move = stays r now after free y move
   acknowledged y e false h move =
       let o = takes_of (channel_width P.channels k) w k (completed hs k) (offer_at script k) e in
@@ -304,8 +304,8 @@ module _ {P : TypedProgram} {script : List OfferValue} {most : ℕ} {hs : List (
         get_or-set_other r.to.rests k c (gives (behind values (suc (completed hs k)))) nothing ne
         ∙ (r.rests c ∙ sym (ap (λ h. left_over (offer_at script c) (length h)) (get_or-set_other hs k c (history_at hs k ++ v ∷ []) [] ne))))
 
-    arrives_on : Followed P script (suc most) (passed hs k (value_on (channel_width P.channels k) (w.rail (of_channel k)))) y now after
-    arrives_on = subst (λ (o : Option ℕ). Followed P script (suc most) (passed hs k o) y now after) (sym told) (record {
+    arrives_on : Followed P script (suc most) (cells_passed hs k (value_on (channel_width P.channels k) (w.rail (of_channel k)))) y now after
+    arrives_on = subst (λ (o : Option ℕ). Followed P script (suc most) (cells_passed hs k o) y now after) (sym told) (record {
       to = passing (storing (offering (leaving r.to a.act.at finished) k (gives (behind values (suc (completed hs k))))) a.var v) k v;
       steps = suc r.steps;
       within = omega (arith, r.within);
@@ -347,8 +347,8 @@ module _ {P : TypedProgram} {script : List OfferValue} {most : ℕ} {hs : List (
         let ne : c ≡ k → ⊥ = λ (same : c ≡ k). absurd (cc (e, ap (λ x. x == k) same, self_number k)) in
         sym (ap (λ h. left_over (offer_at script c) (length h)) (get_or-set_other hs k c (history_at hs k ++ sent ∷ []) [] ne)))
 
-    exchanges_on : Followed P script (suc most) (passed hs k (value_on (channel_width P.channels k) (w.rail (of_channel k)))) y now after
-    exchanges_on = subst (λ (o : Option ℕ). Followed P script (suc most) (passed hs k o) y now after) (sym given) (record {
+    exchanges_on : Followed P script (suc most) (cells_passed hs k (value_on (channel_width P.channels k) (w.rail (of_channel k)))) y now after
+    exchanges_on = subst (λ (o : Option ℕ). Followed P script (suc most) (cells_passed hs k o) y now after) (sym given) (record {
       to = passing (storing (leaving (leaving r.to a.act.at finished) a.act.other finished) a.var sent) k sent;
       steps = suc r.steps;
       within = omega (arith, r.within);
@@ -445,21 +445,21 @@ acks : {P : TypedProgram} {script : List OfferValue} {most : ℕ} {hs : List (Li
     (r : Followed P script most hs t w.bit busy) (y : Term) (k : ℕ)
     → (is_heard (kind_at P.channels k) ≡ false → answers (channel_width P.channels k) w k (completed hs k) (offer_at script k) ≡ true) → Arriving P script hs w
     → Acks P busy after k w t y
-    → Followed P script (suc most) (if w.ack k then hs else passed hs k (value_on (channel_width P.channels k) (w.rail (of_channel k)))) y w.bit after
+    → Followed P script (suc most) (if w.ack k then hs else cells_passed hs k (value_on (channel_width P.channels k) (w.rail (of_channel k)))) y w.bit after
 acks w busy after fitted r y k e brought (taken_out out move free) = acknowledged w fitted r w.bit after (λ x f. (refl, free x f)) k y (e out)
     (w.ack k) refl move
 acks {P = P} {script = script} {most = most} {hs = hs} w busy after fitted r y k e brought (released heard high same free) =
-    subst (λ (b : Bool). Followed P script (suc most) (if b then hs else passed hs k
+    subst (λ (b : Bool). Followed P script (suc most) (if b then hs else cells_passed hs k
     (value_on (channel_width P.channels k) (w.rail (of_channel k)))) y w.bit after) (sym high) (stays r w.bit after (λ x f. (refl, free x f)) y same)
 acks {P = P} {script = script} {most = most} {hs = hs} w busy after fitted r y k e brought (taken_in heard alone a) =
     let o = fitted.hears k a.lands.within alone heard in
     let v = next_value (channel_width P.channels k) (completed hs k) (w.rail (of_channel k)) o.0 (fitted.wide k a.lands.within) (fitted.bounded k o.0 o.1)
     (brought k o.0 o.1 a.lands.low) a.lands.some in
-    subst (λ (b : Bool). Followed P script (suc most) (if b then hs else passed hs k
+    subst (λ (b : Bool). Followed P script (suc most) (if b then hs else cells_passed hs k
     (value_on (channel_width P.channels k) (w.rail (of_channel k)))) y w.bit after) (sym a.lands.low)
     (arrives_on w fitted r w.bit after k y o.0 o.1 a v.next v.is v.told (λ x f. refl))
 acks {P = P} {script = script} {most = most} {hs = hs} w busy after fitted r y k e brought (taken_over heard merged a) =
-    subst (λ (b : Bool). Followed P script (suc most) (if b then hs else passed hs k
+    subst (λ (b : Bool). Followed P script (suc most) (if b then hs else cells_passed hs k
     (value_on (channel_width P.channels k) (w.rail (of_channel k)))) y w.bit after) (sym a.lands.low)
     (exchanges_on w fitted r w.bit after k y (fitted.inside k a.lands.within merged heard) a (λ x f. refl))
 

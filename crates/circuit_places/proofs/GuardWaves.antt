@@ -7,7 +7,7 @@ use Rattle.width_check.specs.Processes.{Formula, Process, Choices, no_choices, a
 use Rattle.width_check.specs.Typing.{var_width}
 use Rattle.width_check.specs.Values.{width_of}
 use Rattle.width_check.specs.Reads.{reads}
-use Rattle.function_blocks.specs.Rails.{Pairs, Rails, Single, low_pairs, turned_pairs, fires, is_apart, value_on, neutral_on}
+use Rattle.function_blocks.specs.Rails.{Pairs, Rails, Single, low_pairs, turned_pairs, one_rule_fires, is_apart, value_on, neutral_on}
 use Rattle.function_blocks.specs.Parts.{gate_count}
 use Rattle.function_blocks.specs.Waves.{gate_rule, good, out_rail, full, empty}
 use Rattle.circuit_places.specs.Heads.{all_neutral, all_valid, all_single, below}
@@ -82,7 +82,7 @@ module _ (P : TypedProgram) (bits : ℕ → Rails) (lone : Single bits) where
   all_begin choices h false = guards_idle P bits choices h
 
   pub all_own : (choices : Choices) → GuardsMeet P choices → (r : Bool) (x : GuardCells choices) (q : GuardSpot choices) → guards_good choices bits r x ≡ true
-      → fires (guards_rule choices bits r x q) ≡ true → guards_good choices bits r (turned_guards choices x q) ≡ true
+      → one_rule_fires (guards_rule choices bits r x q) ≡ true → guards_good choices bits r (turned_guards choices x q) ≡ true
   all_own (and_choice g p more) h r x (this_gate i one) f e = both_true (good r bits g (turned_pairs (gate_count g) x.0 i one)) _
       (h.0.known.own r bits x.0 i one lone (fst_true (good r bits g x.0) _ f) e) (snd_true (good r bits g x.0) _ f)
   all_own (and_choice g p more) h r x (other_gate q) f e = both_true (good r bits g x.0) _ (fst_true (good r bits g x.0) _ f)
@@ -90,8 +90,8 @@ module _ (P : TypedProgram) (bits : ℕ → Rails) (lone : Single bits) where
   all_own no_choices h r x q f e = elim q [ ]
 
   pub all_firm : (choices : Choices) → GuardsMeet P choices → (r : Bool) (x : GuardCells choices) (q p : GuardSpot choices)
-      → guards_good choices bits r x ≡ true → fires (guards_rule choices bits r x q) ≡ true → p ≢ q → fires (guards_rule choices bits r x p) ≡ true
-      → fires (guards_rule choices bits r (turned_guards choices x q) p) ≡ true
+      → guards_good choices bits r x ≡ true → one_rule_fires (guards_rule choices bits r x q) ≡ true → p ≢ q → one_rule_fires (guards_rule choices bits r x p) ≡ true
+      → one_rule_fires (guards_rule choices bits r (turned_guards choices x q) p) ≡ true
   all_firm (and_choice g p more) h r x (this_gate i one) (this_gate j side) f e ne z =
       h.0.known.firm r bits x.0 i one j side lone (λ (a : j ≡ i) (b : side ≡ one). ne (ap (λ k. this_gate k side) a ∙ ap (λ k. this_gate i k) b))
       (fst_true (good r bits g x.0) _ f) e z
@@ -124,7 +124,7 @@ module _ (P : TypedProgram) (bits : ℕ → Rails) (lone : Single bits) where
       (all_ease more h.1 x.1 (snd_true (good true bits g x.0) _ f) (snd_true ((guard_head g x.0).t || (guard_head g x.0).f) _ v))
 
   pub all_full : (choices : Choices) → GuardsMeet P choices → (x : GuardCells choices) (q : GuardSpot choices) → guards_good choices bits true x ≡ true
-      → all_valid (choice_count choices) (heads choices x) ≡ true → fires (guards_rule choices bits true x q) ≡ false
+      → all_valid (choice_count choices) (heads choices x) ≡ true → one_rule_fires (guards_rule choices bits true x q) ≡ false
   all_full (and_choice g p more) h x (this_gate i one) f v =
       let this = fst_true (good true bits g x.0) _ f in
       h.0.known.quiet_full bits x.0 lone this
@@ -144,7 +144,7 @@ module _ (P : TypedProgram) (bits : ℕ → Rails) (lone : Single bits) where
       (all_empty more h.1 x.1 (snd_true (good false bits g x.0) _ f) (snd_true (not (guard_head g x.0).f) _ behind))
 
   pub all_falls : (choices : Choices) → GuardsMeet P choices → (x : GuardCells choices) (q : GuardSpot choices) → guards_good choices bits false x ≡ true
-      → fires (guards_rule choices bits false x q) ≡ true
+      → one_rule_fires (guards_rule choices bits false x q) ≡ true
       → below (choice_count choices) (heads choices (turned_guards choices x q)) (heads choices x) ≡ true
   all_falls (and_choice g p more) h x (this_gate i one) f e =
       let after = turned_pairs (gate_count g) x.0 i one in
@@ -181,7 +181,7 @@ module _ (P : TypedProgram) (bits : ℕ → Rails) (lone : Single bits) where
   -- where each bit of each variable has a rail high, the waves arrive
   module _ (valid : (v i : ℕ) → i < var_width P.vars v → (bits v i true || bits v i false) ≡ true) where
     all_up : (choices : Choices) → GuardsMeet P choices → (x : GuardCells choices) → guards_good choices bits true x ≡ true
-        → ((q : GuardSpot choices) → fires (guards_rule choices bits true x q) ≡ false) → all_valid (choice_count choices) (heads choices x) ≡ true
+        → ((q : GuardSpot choices) → one_rule_fires (guards_rule choices bits true x q) ≡ false) → all_valid (choice_count choices) (heads choices x) ≡ true
     all_up no_choices h x f n = refl
     all_up (and_choice g p more) h x f n = both_true ((guard_head g x.0).t || (guard_head g x.0).f) _
         (full_head P g h.0 x.0 (h.0.known.rest_up P.vars bits x.0 h.0.reads (λ v i r less. valid v i less) (fst_true (good true bits g x.0) _ f)
@@ -189,7 +189,7 @@ module _ (P : TypedProgram) (bits : ℕ → Rails) (lone : Single bits) where
         (all_up more h.1 x.1 (snd_true (good true bits g x.0) _ f) (λ q. n (other_gate q)))
 
     all_down : (choices : Choices) → GuardsMeet P choices → (x : GuardCells choices) → guards_good choices bits false x ≡ true
-        → ((q : GuardSpot choices) → fires (guards_rule choices bits false x q) ≡ false) → all_neutral (choice_count choices) (heads choices x) ≡ true
+        → ((q : GuardSpot choices) → one_rule_fires (guards_rule choices bits false x q) ≡ false) → all_neutral (choice_count choices) (heads choices x) ≡ true
     all_down no_choices h x f n = refl
     all_down (and_choice g p more) h x f n =
         let r = empty_head P g h.0 x.0 (h.0.known.rest_down bits x.0 (fst_true (good false bits g x.0) _ f) (λ i one. n (this_gate i one))) in

@@ -4,7 +4,7 @@ use Rattle.std.specs.Prelude.{not, ◌&&◌, ◌||◌}
 use Rattle.prs_core.specs.Deciding.{implies}
 use Rattle.function_blocks.specs.Rails.{Pairs}
 pub use Rattle.circuit_places.proofs.RailLemmas.{fst_true, snd_true, both_true, not_true}
-use Rattle.circuit_places.specs.Heads.{Index, top, under, Bits, low_bits, bit_of, some_bit, turned_bit, hot, all_false, none_true, all_neutral, all_valid, all_single, alone, told, over, below}
+use Rattle.circuit_places.specs.Heads.{Index, top, under, Bits, low_bits, bit_of, some_bit, turned_bit, hot, each_false, nothing_true, all_neutral, all_valid, all_single, alone, told, over, below}
 
 pub true_not : (b : Bool) → b ≡ false → not b ≡ true
 true_not true h = absurd (cc h)
@@ -50,7 +50,7 @@ pub hot_up : {n : ℕ} (i : Index n) → hot i true ≡ turned_bit i (low_bits n
 hot_up {n = n} i = hot_turned i false ∙ ap (λ (x : Bits n). turned_bit i x) (hot_low i)
 
 -- heads
-pub false_none : (n : ℕ) (hs : Pairs n) → all_single n hs ≡ true → all_false n hs ≡ true → none_true n hs ≡ true
+pub false_none : (n : ℕ) (hs : Pairs n) → all_single n hs ≡ true → each_false n hs ≡ true → nothing_true n hs ≡ true
 false_none zero hs s h = refl
 false_none (suc n) hs s h = both_true _ _ (here hs.0.t hs.0.f (fst_true _ _ s) (fst_true _ _ h)) (false_none n hs.1 (snd_true _ _ s) (snd_true _ _ h))
   where
@@ -70,11 +70,11 @@ alone_told (under i) hs s h = both_true _ _ (here hs.0.t hs.0.f (fst_true _ _ s)
     here true f s h = absurd (cc (s, h))
     here false f s h = refl
 
-pub over_false : (n : ℕ) (hs : Pairs n) → over n hs ≡ true → all_false n hs ≡ true
+pub over_false : (n : ℕ) (hs : Pairs n) → over n hs ≡ true → each_false n hs ≡ true
 over_false zero hs h = refl
 over_false (suc n) hs h = h
 
-pub false_valid : (n : ℕ) (hs : Pairs n) → all_false n hs ≡ true → all_valid n hs ≡ true
+pub false_valid : (n : ℕ) (hs : Pairs n) → each_false n hs ≡ true → all_valid n hs ≡ true
 false_valid zero hs h = refl
 false_valid (suc n) hs h = both_true _ _ (here hs.0.t hs.0.f (fst_true _ _ h)) (false_valid n hs.1 (snd_true _ _ h))
   where
@@ -92,16 +92,16 @@ alone_valid (under i) hs h = both_true _ _ (here hs.0.t hs.0.f (fst_true _ _ h))
 
 -- where no head is up, no guard is true alone, and they aren't all false
 pub neutral_alone : {n : ℕ} (i : Index n) (hs : Pairs n) → all_neutral n hs ≡ true → alone i hs ≡ false
-neutral_alone (top {n = n}) hs h = ap (λ b. b && all_false n hs.1) (not_true hs.0.t (fst_true _ _ h))
+neutral_alone (top {n = n}) hs h = ap (λ b. b && each_false n hs.1) (not_true hs.0.t (fst_true _ _ h))
 neutral_alone (under i) hs h = ap (λ b. b && alone i hs.1) (not_true hs.0.f (fst_true _ _ (snd_true (not hs.0.t) _ h)))
 
 pub neutral_over : (n : ℕ) (hs : Pairs n) → all_neutral n hs ≡ true → over n hs ≡ false
 neutral_over zero hs h = refl
-neutral_over (suc n) hs h = ap (λ b. b && all_false n hs.1) (not_true hs.0.f (fst_true _ _ (snd_true (not hs.0.t) _ h)))
+neutral_over (suc n) hs h = ap (λ b. b && each_false n hs.1) (not_true hs.0.f (fst_true _ _ (snd_true (not hs.0.t) _ h)))
 
 -- one guard at most is told
-pub none_alone : {n : ℕ} (k : Index n) (hs : Pairs n) → none_true n hs ≡ true → alone k hs ≡ false
-none_alone (top {n = n}) hs h = ap (λ b. b && all_false n hs.1) (not_true hs.0.t (fst_true _ _ h))
+pub none_alone : {n : ℕ} (k : Index n) (hs : Pairs n) → nothing_true n hs ≡ true → alone k hs ≡ false
+none_alone (top {n = n}) hs h = ap (λ b. b && each_false n hs.1) (not_true hs.0.t (fst_true _ _ h))
 none_alone (under k) hs h = ap (λ b. hs.0.f && b) (none_alone k hs.1 (snd_true _ _ h)) ∙ never hs.0.f
   where
     never : (b : Bool) → (b && false) ≡ false
@@ -115,8 +115,8 @@ told_alone (under i) top hs h a = absurd (cc (fst_true hs.0.t _ a, fst_true (not
 told_alone (under i) (under k) hs h a = ap (λ x. under x) (told_alone i k hs.1 (snd_true _ _ h) (snd_true _ _ a))
 
 -- where one guard is told, they aren't all false
-told_all : {n : ℕ} (i : Index n) (hs : Pairs n) → told i hs ≡ true → all_false n hs ≡ false
-told_all (top {n = n}) hs h = ap (λ b. b && all_false n hs.1) (not_true hs.0.f (fst_true _ _ h))
+told_all : {n : ℕ} (i : Index n) (hs : Pairs n) → told i hs ≡ true → each_false n hs ≡ false
+told_all (top {n = n}) hs h = ap (λ b. b && each_false n hs.1) (not_true hs.0.f (fst_true _ _ h))
 told_all (under i) hs h = ap (λ b. hs.0.f && b) (told_all i hs.1 (snd_true _ _ h)) ∙ never hs.0.f
   where
     never : (b : Bool) → (b && false) ≡ false
@@ -132,7 +132,7 @@ falls : (x y : Bool) → implies x y ≡ true → not y ≡ true → not x ≡ t
 falls true y h k = absurd (cc (h, ap not h, k))
 falls false y h k = refl
 
-pub none_falls : (n : ℕ) (x y : Pairs n) → below n x y ≡ true → none_true n y ≡ true → none_true n x ≡ true
+pub none_falls : (n : ℕ) (x y : Pairs n) → below n x y ≡ true → nothing_true n y ≡ true → nothing_true n x ≡ true
 none_falls zero x y b h = refl
 none_falls (suc n) x y b h = both_true _ _ (falls x.0.t y.0.t (fst_true _ _ b) (fst_true _ _ h))
     (none_falls n x.1 y.1 (snd_true (implies x.0.f y.0.f) _ (snd_true (implies x.0.t y.0.t) _ b)) (snd_true _ _ h))

@@ -11,7 +11,7 @@ use Rattle.width_check.specs.Processes.{Formula, constant, reading, Process, ski
 use Rattle.width_check.specs.Typing.{channel_width, var_width}
 use Rattle.circuit_places.specs.Lines.{of_channel, of_var}
 use Rattle.circuit_places.specs.Circuit.{gate_count, joint_count, SiteSpot, done, gate, PortSpot, heard, stored, taking, GuardedSpot, child, latch, next, inner, Spot, of_skip, of_assign, of_send, of_receive, in_members, of_branch, joint, ask, in_body, BranchSpot, in_this, in_others, TurnSpot, in_last, in_member, in_later}
-use Rattle.circuit_places.specs.Whole.{Whole, Node, go_node, own_node, rail_node, ack_node, bit_node, wrote_node, joint_node, value_on, enabled, first_of}
+use Rattle.circuit_places.specs.Whole.{Whole, Node, go_node, own_node, rail_node, ack_node, bit_node, wrote_node, joint_node, value_on, enabled, first_cells}
 use Rattle.circuit_places.proofs.Examples.{driven}
 
 -- all nodes of a circuit
@@ -77,7 +77,7 @@ meets = record {
 }
 
 abbrev met : Whole meets.body
-met = driven meets (nothing ∷ []) (all_nodes meets) 39 (first_of meets)
+met = driven meets (nothing ∷ []) (all_nodes meets) 39 (first_cells meets)
 
 -- the value passes once, it is stored, done rises, and nothing is left to move
 it_passes : met.histories ≡ (1 ∷ []) ∷ []
@@ -105,7 +105,7 @@ merges = record {
 }
 
 abbrev merged_at_last : Whole merges.body
-merged_at_last = driven merges (nothing ∷ takes All ∷ []) (all_nodes merges) 108 (first_of merges)
+merged_at_last = driven merges (nothing ∷ takes All ∷ []) (all_nodes merges) 108 (first_cells merges)
 
 both_pass : merged_at_last.histories ≡ (1 ∷ 0 ∷ []) ∷ (1 ∷ []) ∷ []
 both_pass = refl
@@ -131,7 +131,7 @@ abbrev relay_script : List OfferValue
 relay_script = gives (1 ∷ 0 ∷ []) ∷ nothing ∷ takes All ∷ []
 
 abbrev relayed : Whole relays.body
-relayed = driven relays relay_script (all_nodes relays) 128 (first_of relays)
+relayed = driven relays relay_script (all_nodes relays) 128 (first_cells relays)
 
 all_relayed : relayed.histories ≡ (1 ∷ 0 ∷ []) ∷ (1 ∷ 0 ∷ []) ∷ (1 ∷ 0 ∷ []) ∷ []
 all_relayed = refl
@@ -147,7 +147,7 @@ abbrev alone : TypedProgram
 alone = record { channels = record { name = []; kind = Chan; width = 1 } ∷ []; vars = []; body = sending 0 at (constant 1 1) }
 
 abbrev stuck : Whole alone.body
-stuck = driven alone (nothing ∷ []) (all_nodes alone) 4 (first_of alone)
+stuck = driven alone (nothing ∷ []) (all_nodes alone) 4 (first_cells alone)
 
 none_passes : stuck.histories ≡ [] ∷ []
 none_passes = refl

@@ -11,7 +11,7 @@ use Rattle.chp_meaning.specs.Terms.{opened}
 use Rattle.width_check.specs.Typing.{kind_at, channel_width, var_width}
 use Rattle.circuit_places.specs.Lines.{Line, of_channel, of_var, same_line, line_width, Rails}
 use Rattle.circuit_places.specs.Circuit.{low, GuardedSpot, turns, fires, same_bit, rails_turned, site_rails}
-use Rattle.circuit_places.specs.Whole.{Wires, seen, line_ack, is_heard, is_merged, bit_rule, wrote_rule, value_on, neutral_on, number_rail, brings, drives, offers, Node, go_node, own_node, rail_node, ack_node, bit_node, wrote_node, joint_node, answers, rail_turned}
+use Rattle.circuit_places.specs.Whole.{Wires, wires_seen, line_ack, is_heard, is_merged, bit_rule, wrote_rule, value_on, neutral_on, number_rail, brings, drives, offers, Node, go_node, own_node, rail_node, ack_node, bit_node, wrote_node, joint_node, answers, rail_turned}
 use Rattle.function_blocks.specs.RailFacts.{covers}
 use Rattle.circuit_places.proofs.RailLemmas.{fst_true, snd_true, both_true, not_true, same_value, neutral_low, each_bit}
 use Rattle.circuit_places.proofs.LineNames.{same_number, self_line, same_line_is}
@@ -113,10 +113,10 @@ drives_up n w c next i one low e =
 module _ (P : TypedProgram) (script : List OfferValue) {m : Mode} {g : GuardedAt P.body m} {w : Wires} (hs : List (List ℕ)) (good : Good P m g w) where
   -- what leaves the acknowledges, the variables' rails and those of channels on which the program receives leaves the
   -- statements
-  pub still_changed : (now : Wires) → ((k : Line) → line_ack P now k ≡ line_ack P w k) → now.bit ≡ w.bit → Received P (seen P w) (seen P now)
-      → GuardedChanged P.body m (seen P w) (seen P now) g
-  still_changed now same bits rails = guarded_changed P (seen P w) (seen P now) Any any_down
-      (still_leaves P (seen P w) (seen P now) refl same bits rails) g good.meets tt good.fits
+  pub still_changed : (now : Wires) → ((k : Line) → line_ack P now k ≡ line_ack P w k) → now.bit ≡ w.bit → Received P (wires_seen P w) (wires_seen P now)
+      → GuardedChanged P.body m (wires_seen P w) (wires_seen P now) g
+  still_changed now same bits rails = guarded_changed P (wires_seen P w) (wires_seen P now) Any any_down
+      (still_leaves P (wires_seen P w) (wires_seen P now) refl same bits rails) g good.meets tt good.fits
 
   pub still_left : (now : Wires) → ((k : Line) → line_ack P now k ≡ line_ack P w k) → root_left (line_ack P now) g ≡ root_left (line_ack P w) g
   still_left now same = ap (λ (a : Line → Bool). root_left a g) (fun_ext same)
@@ -134,7 +134,7 @@ module _ (P : TypedProgram) (script : List OfferValue) {m : Mode} {g : GuardedAt
 
   -- the site of a line of which one is under way
   site_of : (k : Line) → (guarded_shown g).talk k ≡ true → OneSite P k (guarded_shown g)
-  site_of k e = guarded_site P (seen P w) (clean_of good) g good.meets good.fits k e
+  site_of k e = guarded_site P (wires_seen P w) (clean_of good) g good.meets good.fits k e
 
   one : (k : Line) (i : ℕ) → (guarded_shown g).offer k i true ≡ true → (guarded_shown g).offer k i false ≡ true → ⊥
   one k i p q = (site_of k (guarded_offers_talks g k i true p)).single i p q
@@ -158,7 +158,7 @@ module _ (P : TypedProgram) (script : List OfferValue) {m : Mode} {g : GuardedAt
       covers (line_width P k) (w.rail k) ((guarded_shown g).offer k) (λ j b h. good.rising k j b n low h) (λ j p q. one k j p q) some i side
       (offered_below k i side o) o
 
-  rail_moved : (c i : ℕ) (side : Bool) → RailMoved P (seen P w) (seen P (rail_turned w (of_channel c) i side)) c i side
+  rail_moved : (c i : ℕ) (side : Bool) → RailMoved P (wires_seen P w) (wires_seen P (rail_turned w (of_channel c) i side)) c i side
   rail_moved c i side = record {
     acks = rail_acks P w (of_channel c) i side;
     bits = refl;
@@ -169,17 +169,17 @@ module _ (P : TypedProgram) (script : List OfferValue) {m : Mode} {g : GuardedAt
 
   -- what a rail's move does to the statements
   rail_up_changed : (k : Line) (i : ℕ) (side : Bool) → w.rail k i side ≡ false → ((c : ℕ) → of_channel c ≡ k → (guarded_shown g).take c ≡ false)
-      → GuardedChanged P.body m (seen P w) (seen P (rail_turned w k i side)) g
+      → GuardedChanged P.body m (wires_seen P w) (wires_seen P (rail_turned w k i side)) g
   rail_up_changed (of_var v) i side r free = still_changed (rail_turned w (of_var v) i side) (rail_acks P w (of_var v) i side) refl (λ c h. refl)
-  rail_up_changed (of_channel c) i side r free = guarded_changed P (seen P w) (seen P (rail_turned w (of_channel c) i side)) (Free c) (free_down c)
-      (rail_up_leaves P (seen P w) (seen P (rail_turned w (of_channel c) i side)) c i side (rail_moved c i side) r) g good.meets
+  rail_up_changed (of_channel c) i side r free = guarded_changed P (wires_seen P w) (wires_seen P (rail_turned w (of_channel c) i side)) (Free c) (free_down c)
+      (rail_up_leaves P (wires_seen P w) (wires_seen P (rail_turned w (of_channel c) i side)) c i side (rail_moved c i side) r) g good.meets
       (record { take = free c refl }) good.fits
 
   rail_down_changed : (k : Line) (i : ℕ) (side : Bool) → w.rail k i side ≡ true → line_ack P w k ≡ true
-      → GuardedChanged P.body m (seen P w) (seen P (rail_turned w k i side)) g
+      → GuardedChanged P.body m (wires_seen P w) (wires_seen P (rail_turned w k i side)) g
   rail_down_changed (of_var v) i side r high = still_changed (rail_turned w (of_var v) i side) (rail_acks P w (of_var v) i side) refl (λ c h. refl)
-  rail_down_changed (of_channel c) i side r high = guarded_changed P (seen P w) (seen P (rail_turned w (of_channel c) i side)) Any any_down
-      (rail_down_leaves P (seen P w) (seen P (rail_turned w (of_channel c) i side)) c i side (rail_moved c i side) r high) g good.meets tt good.fits
+  rail_down_changed (of_channel c) i side r high = guarded_changed P (wires_seen P w) (wires_seen P (rail_turned w (of_channel c) i side)) Any any_down
+      (rail_down_leaves P (wires_seen P w) (wires_seen P (rail_turned w (of_channel c) i side)) c i side (rail_moved c i side) r high) g good.meets tt good.fits
 
   -- a rail moves
   module _ (k : Line) (i : ℕ) (side : Bool) where
@@ -205,8 +205,8 @@ module _ (P : TypedProgram) (script : List OfferValue) {m : Mode} {g : GuardedAt
 
     -- Other moves stay, where those of the statements do, the environment doesn't acknowledge on the line, and its other moves
     -- of the line's rails stay.
-    pub rail_others : (n : Node P.body) → n ≢ rail_node k i side → ((s : GuardedSpot P.body) → guarded_moves (seen P w) g s ≡ true
-        → guarded_moves (seen P (rail_turned w k i side)) g s ≡ true)
+    pub rail_others : (n : Node P.body) → n ≢ rail_node k i side → ((s : GuardedSpot P.body) → guarded_moves (wires_seen P w) g s ≡ true
+        → guarded_moves (wires_seen P (rail_turned w k i side)) g s ≡ true)
         → ((c : ℕ) → k ≡ of_channel c → answers (channel_width P.channels c) w c (completed hs c) (offer_at script c) ≡ true → ⊥)
         → ((c : ℕ) → k ≡ of_channel c → (j : ℕ) (s : Bool) → (j ≡ i → s ≡ side → ⊥) → driven P script w hs (of_channel c) j s ≡ true
         → driven P script (rail_turned w k i side) hs (of_channel c) j s ≡ true)
@@ -546,7 +546,7 @@ module _ (P : TypedProgram) (script : List OfferValue) {m : Mode} {g : GuardedAt
 
     -- what holds afterwards
     record Brought : Type 0 where
-      pub changed : GuardedChanged P.body m (seen P w) (seen P brought) g
+      pub changed : GuardedChanged P.body m (wires_seen P w) (wires_seen P brought) g
       pub below : (j : ℕ) (b : Bool) → brought.rail (of_channel c) j b ≡ true → j < wide
       pub lone : (j : ℕ) → brought.rail (of_channel c) j true ≡ true → brought.rail (of_channel c) j false ≡ true → ⊥
       pub full : w.ack c ≡ false → (guarded_shown g).take c ≡ true → is_some (value_on wide (brought.rail (of_channel c))) ≡ true
@@ -694,15 +694,15 @@ module _ (P : TypedProgram) (script : List OfferValue) {m : Mode} {g : GuardedAt
 
   -- what is seen changes, and the rails stay
   pub record SeenChanged (now : Wires) : Type 0 where
-    pub fits : GuardedFits g (seen P now)
-    pub keeps : (s : GuardedSpot P.body) → guarded_moves (seen P w) g s ≡ true → guarded_moves (seen P now) g s ≡ true
+    pub fits : GuardedFits g (wires_seen P now)
+    pub keeps : (s : GuardedSpot P.body) → guarded_moves (wires_seen P w) g s ≡ true → guarded_moves (wires_seen P now) g s ≡ true
     pub talk : (c : Line) → is_merged P c ≡ true → line_ack P now c ≡ true → (guarded_shown g).talk c ≡ true
     pub rising : (c : Line) (i : ℕ) (one : Bool) → is_merged P c ≡ true → line_ack P now c ≡ false → now.rail c i one ≡ true
         → (guarded_shown g).offer c i one ≡ true
     pub falling : (c : Line) (i : ℕ) (one : Bool) → line_ack P now c ≡ true → (guarded_shown g).offer c i one ≡ true → now.rail c i one ≡ true
 
   -- no acknowledge turns over
-  pub seen_by : (now : Wires) → now.rail ≡ w.rail → ((k : Line) → line_ack P now k ≡ line_ack P w k) → GuardedChanged P.body m (seen P w) (seen P now) g
+  pub seen_by : (now : Wires) → now.rail ≡ w.rail → ((k : Line) → line_ack P now k ≡ line_ack P w k) → GuardedChanged P.body m (wires_seen P w) (wires_seen P now) g
       → SeenChanged now
   seen_by now rails same x =
       let rail_is : (c : Line) (i : ℕ) (one : Bool) → now.rail c i one ≡ w.rail c i one = λ c i one. ap (λ (r : Line → Rails). r c i one) rails in
@@ -726,7 +726,7 @@ module _ (P : TypedProgram) (script : List OfferValue) {m : Mode} {g : GuardedAt
       by_bit b = guarded_offers_talks g k 0 b.0 (good.rising k 0 b.0 merged low b.1)
 
   -- The acknowledge of a line turns over.
-  module _ (k : Line) (now : Wires) (t : AckTurned P (seen P w) (seen P now) k) (rails : now.rail ≡ w.rail) where
+  module _ (k : Line) (now : Wires) (t : AckTurned P (wires_seen P w) (wires_seen P now) k) (rails : now.rail ≡ w.rail) where
     rail_is : (c : Line) (i : ℕ) (one : Bool) → now.rail c i one ≡ w.rail c i one
     rail_is c i one = ap (λ (r : Line → Rails). r c i one) rails
 
@@ -734,9 +734,9 @@ module _ (P : TypedProgram) (script : List OfferValue) {m : Mode} {g : GuardedAt
       pub line_rises : Ready k (w.rail k) (guarded_writing (line_ack P w) g) P.body (guarded_shown g) → (is_merged P k ≡ true → (guarded_shown g).talk k ≡ true)
           → ((j : ℕ) (b : Bool) → (guarded_shown g).offer k j b ≡ true → w.rail k j b ≡ true) → SeenChanged now
       line_rises ready talk high =
-          let x = guarded_changed P (seen P w) (seen P now) (Ready k (w.rail k) (guarded_writing (line_ack P w) g))
+          let x = guarded_changed P (wires_seen P w) (wires_seen P now) (Ready k (w.rail k) (guarded_writing (line_ack P w) g))
           (ready_down k (w.rail k) (guarded_writing (line_ack P w) g))
-          (raise_leaves P (seen P w) (seen P now) k (guarded_writing (line_ack P w) g) t low some (λ l. refl)) g good.meets ready good.fits in
+          (raise_leaves P (wires_seen P w) (wires_seen P now) k (guarded_writing (line_ack P w) g) t low some (λ l. refl)) g good.meets ready good.fits in
           record {
             fits = x.fits;
             keeps = x.keeps;
@@ -767,18 +767,18 @@ module _ (P : TypedProgram) (script : List OfferValue) {m : Mode} {g : GuardedAt
 
         -- the step of those ends of the line that are under way
         abbrev pub Heard : Process → Type 0
-        Heard = Hearing P (seen P w) k (guarded_shown g) (guarded_writing (line_ack P w) g) (guarded_writing (line_ack P now) g)
+        Heard = Hearing P (wires_seen P w) k (guarded_shown g) (guarded_writing (line_ack P w) g) (guarded_writing (line_ack P now) g)
 
         pub line_fires : (s h : Bool) → (guarded_shown g).says k ≡ s → heard_on k (guarded_shown g) ≡ h
-            → Fired (Sent P (seen P w) (guarded_writing (line_ack P w) g) k) Heard s h (root_left (line_ack P w) g) (root_left (line_ack P now) g)
+            → Fired (Sent P (wires_seen P w) (guarded_writing (line_ack P w) g) k) Heard s h (root_left (line_ack P w) g) (root_left (line_ack P now) g)
         line_fires s h e f =
             subst (λ (b : Bool). Fired Sender Heard b h (root_left (line_ack P w) g) (root_left (line_ack P now) g)) e
             (subst (λ (b : Bool). Fired Sender Heard ((guarded_shown g).says k) b (root_left (line_ack P w) g) (root_left (line_ack P now) g)) f
             (root m g ((guarded_shown g).says k) (heard_on k (guarded_shown g))
-            (guarded_fires P (seen P w) (seen P now) (clean_of good) (guarded_writing (line_ack P w) g) k t low some g good.meets ready good.fits)))
+            (guarded_fires P (wires_seen P w) (wires_seen P now) (clean_of good) (guarded_writing (line_ack P w) g) k t low some g good.meets ready good.fits)))
           where
             Sender : Process → Type 0
-            Sender = Sent P (seen P w) (guarded_writing (line_ack P w) g) k
+            Sender = Sent P (wires_seen P w) (guarded_writing (line_ack P w) g) k
 
             root : (m : Mode) (a : GuardedAt P.body m) (s h : Bool) → Fired Sender Heard s h (guarded_left (line_ack P w) a) (guarded_left (line_ack P now) a)
                 → Fired Sender Heard s h (root_left (line_ack P w) a) (root_left (line_ack P now) a)
@@ -795,8 +795,8 @@ module _ (P : TypedProgram) (script : List OfferValue) {m : Mode} {g : GuardedAt
 
       pub line_falls : SeenChanged now
       line_falls =
-          let x = guarded_changed P (seen P w) (seen P now) (Kept k (w.rail k)) (kept_down k (w.rail k))
-          (lower_leaves P (seen P w) (seen P now) k t high lows (λ l. refl)) g good.meets kept good.fits in
+          let x = guarded_changed P (wires_seen P w) (wires_seen P now) (Kept k (w.rail k)) (kept_down k (w.rail k))
+          (lower_leaves P (wires_seen P w) (wires_seen P now) k t high lows (λ l. refl)) g good.meets kept good.fits in
           record {
             fits = x.fits;
             keeps = x.keeps;
@@ -816,7 +816,7 @@ module _ (P : TypedProgram) (script : List OfferValue) {m : Mode} {g : GuardedAt
           }
 
       pub line_stays : root_left (line_ack P now) g ≡ root_left (line_ack P w) g
-      line_stays = root_still now m g (guarded_still P (seen P w) (seen P now) k t high lows g good.meets kept good.fits)
+      line_stays = root_still now m g (guarded_still P (wires_seen P w) (wires_seen P now) k t high lows g good.meets kept good.fits)
 
   -- the phases of a channel's rails
   pub phase_up : (c i : ℕ) (side : Bool) → w.rail (of_channel c) i side ≡ false → can P script g w hs (rail_node (of_channel c) i side) ≡ true

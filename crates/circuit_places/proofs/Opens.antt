@@ -8,7 +8,7 @@ use Rattle.width_check.specs.Reads.{reads}
 use Rattle.function_blocks.specs.Rails.{Pairs, Rails, Single, number_on}
 use Rattle.function_blocks.specs.Parts.{gate_count}
 use Rattle.function_blocks.specs.Waves.{good, out_rail, store_of}
-use Rattle.circuit_places.specs.Heads.{Index, top, under, all_false, all_valid, alone, over}
+use Rattle.circuit_places.specs.Heads.{Index, top, under, each_false, all_valid, alone, over}
 use Rattle.circuit_places.specs.Circuit.{GuardCells, guard_head, guards_read, heads, guards_good}
 use Rattle.circuit_places.proofs.HeadFacts.{fst_true, snd_true, both_true}
 use Rattle.circuit_places.proofs.Meets.{GuardMeets, GuardsMeet}
@@ -42,13 +42,13 @@ module _ (P : TypedProgram) (bits : ℕ → Rails) (lone : Single bits) (store :
   says g p more h a x f one e = tells g h.0 (λ v z. a v (ap (λ b. b || guards_read more v) z)) x.0 (fst_true (good true bits g x.0) _ f) one e
 
   none_open : (choices : Choices) → GuardsMeet P choices → Agrees choices → (x : GuardCells choices) → guards_good choices bits true x ≡ true
-      → all_false (choice_count choices) (heads choices x) ≡ true → open_by store choices ≡ []
+      → each_false (choice_count choices) (heads choices x) ≡ true → open_by store choices ≡ []
   none_open no_choices h a x f o = refl
   none_open (and_choice g p more) h a x f o =
       closed g p more (says g p more h a x f false (fst_true (guard_head g x.0).f _ o))
       ∙ none_open more h.1 (behind g p more a) x.1 (snd_true (good true bits g x.0) _ f) (snd_true (guard_head g x.0).f _ o)
 
-  over_all : (n : ℕ) (hs : Pairs n) → over n hs ≡ true → all_false n hs ≡ true
+  over_all : (n : ℕ) (hs : Pairs n) → over n hs ≡ true → each_false n hs ≡ true
   over_all zero hs h = refl
   over_all (suc n) hs h = h
 
@@ -68,14 +68,14 @@ module _ (P : TypedProgram) (bits : ℕ → Rails) (lone : Single bits) (store :
 
   -- where all heads are valid: no branch is open only where all guards are false, and one alone only where its guard is true alone
   none_false : (choices : Choices) → GuardsMeet P choices → Agrees choices → (x : GuardCells choices) → guards_good choices bits true x ≡ true
-      → all_valid (choice_count choices) (heads choices x) ≡ true → open_by store choices ≡ [] → all_false (choice_count choices) (heads choices x) ≡ true
+      → all_valid (choice_count choices) (heads choices x) ≡ true → open_by store choices ≡ [] → each_false (choice_count choices) (heads choices x) ≡ true
   none_false no_choices h a x f v e = refl
   none_false (and_choice g p more) h a x f v e = by_head
       (λ z. none_false more h.1 (behind g p more a) x.1 (snd_true (good true bits g x.0) _ f)
       (snd_true ((guard_head g x.0).t || (guard_head g x.0).f) _ v) z) (guard_head g x.0).t (guard_head g x.0).f refl refl
     where
-      by_head : (open_by store more ≡ [] → all_false (choice_count more) (heads more x.1) ≡ true) → (t r : Bool) → (guard_head g x.0).t ≡ t
-          → (guard_head g x.0).f ≡ r → all_false (choice_count (and_choice g p more)) (heads (and_choice g p more) x) ≡ true
+      by_head : (open_by store more ≡ [] → each_false (choice_count more) (heads more x.1) ≡ true) → (t r : Bool) → (guard_head g x.0).t ≡ t
+          → (guard_head g x.0).f ≡ r → each_false (choice_count (and_choice g p more)) (heads (and_choice g p more) x) ≡ true
       by_head again true r z w = absurd (cc (opens g p more (says g p more h a x f true z), e))
       by_head again false true z w = both_true (guard_head g x.0).f _ w (again (sym (closed g p more (says g p more h a x f false w)) ∙ e))
       by_head again false false z w = absurd (cc (

@@ -10,7 +10,7 @@ pub use Rattle.circuit_places.proofs.Modes.{Mode, idle, running, answered, retur
 use Rattle.circuit_places.specs.Lines.{Line, of_channel, of_var, same_line, Rails, Seen}
 use Rattle.prs_core.specs.Deciding.{implies}
 use Rattle.circuit_places.specs.Whole.{value_on, neutral_on}
-use Rattle.circuit_places.specs.Circuit.{Port, PortSpot, low_port, port_rule, heard, stored, taking, of_receive, Guarded, Site, Pairs, SiteSpot, site_rule, low_site, Cells, TurnCells, Bits, BranchCells, low_bits, bit_at, joint_count, low_guarded, low, low_turn, low_branches, branch_ends, tree_answer, tree_rule, gate_count, answer, turn_answer, GuardedSpot, Spot, TurnSpot, BranchSpot, child, latch, next, inner, of_skip, done, gate, of_assign, of_send, in_members, of_branch, joint, in_this, in_others, of_loop, ask, in_body, in_last, in_member, in_later, fires, same_bit, gate_rule, guarded_rule, rule, turn_rule, branch_rule, Core, OwnSpot, RoundSpot, GuardCells, ChoiceCells, low_guards, low_core, low_choices, choice_answers, GuardSpot, this_gate, other_gate, ChoiceSpot, this_choice, other_choice, of_core, of_guard, of_choice, of_round, Pair, pair_of, guard_head, heads, guards_read, guards_rule, guards_good, choice_rule, low_pairs}
+use Rattle.circuit_places.specs.Circuit.{Port, PortSpot, low_port, port_rule, heard, stored, taking, of_receive, QElementCells, Site, Pairs, SiteSpot, site_rule, low_site, Cells, TurnCells, Bits, BranchCells, low_bits, cell_bit, joint_count, low_guarded, low, low_turn, low_branches, branches_answered, tree_answer, tree_rule, gate_count, answer, turn_answer, GuardedSpot, Spot, TurnSpot, BranchSpot, child, latch, next, inner, of_skip, done, gate, of_assign, of_send, in_members, of_branch, joint, in_this, in_others, of_loop, ask, in_body, in_last, in_member, in_later, fires, same_bit, gate_rule, guarded_rule, rule, turn_rule, branch_rule, Core, OwnSpot, RoundSpot, GuardCells, ChoiceCells, low_guards, low_core, low_choices, choice_answers, GuardSpot, this_gate, other_gate, ChoiceSpot, this_choice, other_choice, of_core, of_guard, of_choice, of_round, Pair, pair_of, guard_head, heads, guards_read, guards_rule, guards_good, choice_rule, low_pairs}
 use Rattle.width_check.specs.Reads.{reads}
 use Rattle.function_blocks.specs.Waves.{good, out_rail, full, empty, Waves}
 use Rattle.circuit_places.proofs.RailLemmas.{fst_true, snd_true, same_value, low_gate_quiet, low_out}
@@ -133,7 +133,7 @@ mutual
     at_later : {p q : Process} {more : Processes} {k n m : Mode} → GuardedAt p k → TurnAt (and_member q more) n → link m k n ≡ true
         → TurnAt (and_member p (and_member q more)) m
 
-abbrev pub guarded_of : {A : Type 0} → (child latch next : Bool) → A → Guarded A
+abbrev pub guarded_of : {A : Type 0} → (child latch next : Bool) → A → QElementCells A
 guarded_of c u b x = record { child = c; latch = u; next = b; inner = x }
 
 abbrev pub site_of : (e : Formula) → Bool → Pairs (gate_count e) → Site (gate_count e)
@@ -145,7 +145,7 @@ port_of a k q = record { answer = a; kept = k; taken = q }
 abbrev pub ring_of : (p : Process) → Bool → Cells p → Cells (repeating p)
 ring_of p b x = record { answer = false; ask = b; inner = x }
 
-abbrev pub turn_of : (p q : Process) (more : Processes) → Guarded (Cells p) → TurnCells (and_member q more) → TurnCells (and_member p (and_member q more))
+abbrev pub turn_of : (p q : Process) (more : Processes) → QElementCells (Cells p) → TurnCells (and_member q more) → TurnCells (and_member p (and_member q more))
 turn_of p q more x y = record { member = x; later = y }
 
 abbrev pub sides_of : (members : Processes) → BranchCells members → Bits (joint_count (member_count members)) → Cells (side_by_side members)
@@ -162,7 +162,7 @@ choice_leave (inside_at a w) = false
 
 -- the values of the nodes there
 abbrev mutual
-  pub guarded_cells : {p : Process} {m : Mode} → GuardedAt p m → Guarded (Cells p)
+  pub guarded_cells : {p : Process} {m : Mode} → GuardedAt p m → QElementCells (Cells p)
   guarded_cells {p = p} g_rests = low_guarded (low p)
   guarded_cells (g_in {m = m} u a h) = guarded_of (asks m) u false (cells a)
   guarded_cells {p = p} g_past = guarded_of false true true (low p)
@@ -463,7 +463,7 @@ abbrev mutual
   turn_moves _ _ _ = false
 
 -- nothing answers at rest
-pub low_end : (members : Processes) (i : ℕ) → branch_ends members (low_branches members) i ≡ false
+pub low_end : (members : Processes) (i : ℕ) → branches_answered members (low_branches members) i ≡ false
 low_end no_members i = refl
 low_end (and_member p more) zero = refl
 low_end (and_member p more) (suc i) = low_end more i
@@ -471,7 +471,7 @@ low_end (and_member p more) (suc i) = low_end more i
 low_sides_answer : (members : Processes) → answer (side_by_side members) (low (side_by_side members)) ≡ false
 low_sides_answer members =
     let n = member_count members in
-    all_low_value n (branch_ends members (low_branches members)) (bit_at (joint_count n) (low_bits (joint_count n))) (low_end members) (low_bit (joint_count n))
+    all_low_value n (branches_answered members (low_branches members)) (cell_bit (joint_count n) (low_bits (joint_count n))) (low_end members) (low_bit (joint_count n))
     (tree_top (range_with_len 0 n) n)
 
 mutual
@@ -533,12 +533,12 @@ not_running returning idle returning h e = cc e
 not_running _ _ _ h e = absurd (cc h)
 
 -- the ends of branches are those of their modes
-pub ends_at : {members : Processes} {ks : List Mode} (b : BranchesAt members ks) (i : ℕ) → branch_ends members (branch_cells b) i ≡ ends ks i
+pub ends_at : {members : Processes} {ks : List Mode} (b : BranchesAt members ks) (i : ℕ) → branches_answered members (branch_cells b) i ≡ ends ks i
 ends_at no_more i = refl
 ends_at (and_at g b) zero = next_is g
 ends_at (and_at g b) (suc i) = ends_at b i
 
-pub ends_are : {members : Processes} {ks : List Mode} (b : BranchesAt members ks) → branch_ends members (branch_cells b) ≡ ends ks
+pub ends_are : {members : Processes} {ks : List Mode} (b : BranchesAt members ks) → branches_answered members (branch_cells b) ≡ ends ks
 ends_are b = fun_ext (λ i. ends_at b i)
 
 control_acks : {again : Bool} {n : ℕ} {G : Type 0} {hs : G → Pairs n} {m : Mode} → Control again n G hs m → false ≡ acks m
@@ -557,7 +557,7 @@ mutual
   answer_is (at_send m u h) = refl
   answer_is (at_receive m k q h) = refl
   answer_is (at_turn t) = turn_answer_is t
-  answer_is (at_side {members = members} m t b h) = ap (λ (f : ℕ → Bool). tree_answer (member_count members) f (bit_at (joint_count (member_count members)) t))
+  answer_is (at_side {members = members} m t b h) = ap (λ (f : ℕ → Bool). tree_answer (member_count members) f (cell_bit (joint_count (member_count members)) t))
       (ends_are b) ∙ h.top
   answer_is (at_body a) = refl
   answer_is (at_choice (control_at c)) = control_acks c
@@ -636,7 +636,7 @@ mutual
   low_quiet (side_by_side members) env (of_branch s) = low_branch_quiet members env s
   low_quiet (side_by_side members) env (joint k) =
       let n = member_count members in
-      joint_quiet n (branch_ends members (low_branches members)) (bit_at (joint_count n) (low_bits (joint_count n))) (low_end members)
+      joint_quiet n (branches_answered members (low_branches members)) (cell_bit (joint_count n) (low_bits (joint_count n))) (low_end members)
       (low_bit (joint_count n)) k
   low_quiet (choosing false choices) env (of_core s) = low_core_quiet choices s
   low_quiet (choosing false choices) env (of_guard s) = low_guards_quiet choices env.bit s
@@ -741,7 +741,7 @@ mutual
   can_is env (at_turn t) (in_members s) = turn_can_is env t s
   can_is env (at_side m t b h) (of_branch s) = branch_can_is env (asks m) b h.asked s
   can_is env (at_side {members = members} m t b h) (joint k) = ap (λ (f : ℕ → Bool). fires
-      (tree_rule (member_count members) f (bit_at (joint_count (member_count members)) t) k)) (ends_are b)
+      (tree_rule (member_count members) f (cell_bit (joint_count (member_count members)) t) k)) (ends_are b)
   can_is env (at_body a) of_loop = refl
   can_is env (at_body {m = m} a) ask = ap (λ d. if asks m then d else not d) (answer_is a)
   can_is env (at_body a) (in_body s) = can_is env a s

@@ -5,9 +5,9 @@ use Rattle.std.specs.List.{list_all}
 use Rattle.prs_core.specs.Moves.{bit_value, with_bit}
 use Rattle.width_check.specs.Processes.{Formula}
 use Rattle.width_check.specs.Values.{width_of}
-use Rattle.function_blocks.specs.Rails.{Pair, pair_of, side_of, cross, neutral, Pairs, low_pairs, pair_in, fires, is_apart, same_bit, Rails, value_on, neutral_on}
-use Rattle.function_blocks.specs.Parts.{Input, Part, fixed, read_bit, made, gate_count, outs_of, parts_of}
-use Rattle.function_blocks.specs.Waves.{taken, holds, rows_of, part_rule, rule_among, gate_rule, rails_at, out_rail, empty, Waves}
+use Rattle.function_blocks.specs.Rails.{RailLevels, levels_of, side_of, cross, levels_neutral, Pairs, low_pairs, pair_in, one_rule_fires, is_apart, same_bit, Rails, value_on, neutral_on}
+use Rattle.function_blocks.specs.Parts.{Input, BlockPart, fixed, read_bit, made, gate_count, outs_of, parts_of}
+use Rattle.function_blocks.specs.Waves.{inputs_taken, holds, rows_of, part_rule, rule_among, gate_rule, input_rails, out_rail, empty, Waves}
 use Rattle.function_blocks.specs.RailFacts.{lows_in, told_high}
 use Rattle.function_blocks.proofs.Guards.{holds_none}
 use Rattle.function_blocks.proofs.GateLists.{low_in, quiet_in, there_in}
@@ -88,25 +88,25 @@ empty_low e known u low i one = here (out_rail e u i one) refl
     here false h = refl
 
 -- low gates don't move without a request, and have a value whose rails are low
-pub low_gate_quiet : (e : Formula) (bits : ℕ → Rails) (k : ℕ) (one : Bool) → fires (gate_rule e bits false (low_pairs (gate_count e)) k one) ≡ false
+pub low_gate_quiet : (e : Formula) (bits : ℕ → Rails) (k : ℕ) (one : Bool) → one_rule_fires (gate_rule e bits false (low_pairs (gate_count e)) k one) ≡ false
 low_gate_quiet e bits k one = quiet_in (pair_in (gate_count e) (low_pairs (gate_count e))) bits (low_in (gate_count e)) (parts_of e 0) (gate_count e) k one
 
-low_side : (crossed one : Bool) → side_of (cross crossed (pair_of false false)) one ≡ false
+low_side : (crossed one : Bool) → side_of (cross crossed (levels_of false false)) one ≡ false
 low_side true true = refl
 low_side true false = refl
 low_side false true = refl
 low_side false false = refl
 
-low_rails : (n : ℕ) (us : List Input) (i : ℕ) (one : Bool) → rails_at us (pair_in n (low_pairs n)) i one ≡ false
+low_rails : (n : ℕ) (us : List Input) (i : ℕ) (one : Bool) → input_rails us (pair_in n (low_pairs n)) i one ≡ false
 low_rails n [] i one = refl
-low_rails n (k ∷ ks) zero one = ap (λ (p : Pair). side_of (cross k.crossed p) one) (low_in n k.at) ∙ low_side k.crossed one
+low_rails n (k ∷ ks) zero one = ap (λ (p : RailLevels). side_of (cross k.crossed p) one) (low_in n k.at) ∙ low_side k.crossed one
 low_rails n (k ∷ ks) (suc i) one = low_rails n ks i one
 
 pub low_out : (e : Formula) (i : ℕ) (one : Bool) → out_rail e (low_pairs (gate_count e)) i one ≡ false
 low_out e i one = low_rails (gate_count e) (outs_of e 0) i one
 
 -- no gate beyond the last one moves
-pub gate_there : (e : Formula) (bits : ℕ → Rails) (r : Bool) (u : Pairs (gate_count e)) (k : ℕ) (one : Bool) → fires (gate_rule e bits r u k one) ≡ true
+pub gate_there : (e : Formula) (bits : ℕ → Rails) (r : Bool) (u : Pairs (gate_count e)) (k : ℕ) (one : Bool) → one_rule_fires (gate_rule e bits r u k one) ≡ true
     → k < gate_count e
 gate_there e bits r u k one h = there_in r (pair_in (gate_count e) u) bits (parts_of e 0) (gate_count e) u k one h
 
@@ -126,14 +126,14 @@ made_apart true true f = absurd (cc (f refl))
 made_apart true false f = refl
 made_apart false n f = refl
 
-part_apart : (r : Bool) (look : ℕ → Pair) (bits : ℕ → Rails) (g : Part) (p : Pair) (one : Bool) → is_apart (part_rule r look bits g p one) ≡ true
+part_apart : (r : Bool) (look : ℕ → RailLevels) (bits : ℕ → Rails) (g : BlockPart) (p : RailLevels) (one : Bool) → is_apart (part_rule r look bits g p one) ≡ true
 part_apart r look bits (fixed v) p one = fixed_apart (same_bit v one) r
 part_apart r look bits (read_bit x i) p one = read_apart r (bits x i one)
 part_apart r look bits (made f i more) p one =
-    made_apart (holds (rows_of one f) (taken look (i ∷ more))) (list_all neutral (taken look (i ∷ more)))
-    (λ h. holds_none (rows_of one f) (cross i.crossed (look i.at)) (taken look more) h)
+    made_apart (holds (rows_of one f) (inputs_taken look (i ∷ more))) (list_all levels_neutral (inputs_taken look (i ∷ more)))
+    (λ h. holds_none (rows_of one f) (cross i.crossed (look i.at)) (inputs_taken look more) h)
 
-among_apart : (r : Bool) (look : ℕ → Pair) (bits : ℕ → Rails) (gs : List Part) (n : ℕ) (u : Pairs n) (k : ℕ) (one : Bool)
+among_apart : (r : Bool) (look : ℕ → RailLevels) (bits : ℕ → Rails) (gs : List BlockPart) (n : ℕ) (u : Pairs n) (k : ℕ) (one : Bool)
     → is_apart (rule_among r look bits gs n u k one) ≡ true
 among_apart r look bits [] n u k one = refl
 among_apart r look bits (g ∷ gs) zero u k one = refl

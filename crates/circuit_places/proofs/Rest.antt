@@ -5,7 +5,7 @@ use Rattle.chp_base.specs.declared.span.Span.{Span}
 use Rattle.width_check.specs.Processes.{Formula, Process, assigning, sending, receiving, side_by_side, Processes, and_member, member_count, TypedProgram, choosing, Choices, choice_count, no_members}
 use Rattle.chp_meaning.specs.Terms.{Term, Terms, and_branch, is_finished, all_finished, together, finished, active, in_sequence, in_parallel, followed, Place, here as at_here, in_first, in_branch, statement_at, branch_at}
 use Rattle.circuit_places.specs.Lines.{Line, of_channel, of_var, same_line, line_width, Rails, Seen}
-use Rattle.circuit_places.specs.Circuit.{Pairs, gate_count, SiteSpot, PortSpot, heard, stored, taking, Bits, bit_at, joint_count, same_bit, GuardedSpot, Spot, TurnSpot, BranchSpot, child, latch, next, inner, of_skip, done, gate, of_assign, of_send, of_receive, in_members, of_branch, joint, in_this, in_others, ask, in_body, in_last, in_member, in_later, fires, GuardCells, low_guards, GuardSpot, ChoiceSpot, this_choice, other_choice, of_core, of_guard, of_choice, of_round, heads, guards_rule, guards_good}
+use Rattle.circuit_places.specs.Circuit.{Pairs, gate_count, SiteSpot, PortSpot, heard, stored, taking, Bits, cell_bit, joint_count, same_bit, GuardedSpot, Spot, TurnSpot, BranchSpot, child, latch, next, inner, of_skip, done, gate, of_assign, of_send, of_receive, in_members, of_branch, joint, in_this, in_others, ask, in_body, in_last, in_member, in_later, fires, GuardCells, low_guards, GuardSpot, ChoiceSpot, this_choice, other_choice, of_core, of_guard, of_choice, of_round, heads, guards_rule, guards_good}
 use Rattle.width_check.specs.Typing.{var_width}
 use Rattle.function_blocks.specs.Waves.{out_rail}
 use Rattle.circuit_places.specs.Whole.{is_merged, value_on}
@@ -401,7 +401,7 @@ module _ {members : Processes} {ks : List Mode} (P : TypedProgram) (env : Seen) 
   no_end : (m : Mode) (h : SideMay (member_count members) m ks t) → ((s : Spot (side_by_side members)) → moves env (at_side m t b h) s ≡ false) → (c : Bool)
       → ((i : ℕ) → i < member_count members → ends ks i ≡ c) → acks m ≡ not c → ⊥
   no_end m h n c all e =
-      let (i, less, is) = waits_on (member_count members) h.known (ends ks) (bit_at (joint_count (member_count members)) t) h.settles (λ k. n (joint k)) in
+      let (i, less, is) = waits_on (member_count members) h.known (ends ks) (cell_bit (joint_count (member_count members)) t) h.settles (λ k. n (joint k)) in
       differ c (sym (all i less) ∙ (is ∙ (h.top ∙ e)))
     where
       differ : (c : Bool) → c ≡ not c → ⊥

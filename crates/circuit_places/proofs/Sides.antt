@@ -6,7 +6,7 @@ use Rattle.width_check.specs.Processes.{Process, side_by_side, Processes, and_me
 use Rattle.prs_core.specs.Parts.{turned as turned_value}
 use Rattle.prs_core.specs.Turning.{turned_apart}
 use Rattle.circuit_places.specs.Lines.{Seen}
-use Rattle.circuit_places.specs.Circuit.{Bits, bit_at, joint_count, low_branches, turned_bits, GuardedSpot, Spot, BranchSpot, of_branch, joint, in_this, in_others, same_bit}
+use Rattle.circuit_places.specs.Circuit.{Bits, cell_bit, joint_count, low_branches, turned_bits, GuardedSpot, Spot, BranchSpot, of_branch, joint, in_this, in_others, same_bit}
 use Rattle.circuit_places.proofs.RailLemmas.{fst_true, snd_true, same_value}
 use Rattle.circuit_places.proofs.Trees.{Settled, top_of, joint_moves, turned_next, bits_low, leaf_turns, joint_moved, JointMoved, Topped, not_top, at_top, flat_nodes, flat_stands}
 use Rattle.circuit_places.proofs.Places.{Mode, idle, running, answered, returning, asks, acks, all_ask, all_ack, all_idle, ends, SideMay, GuardedAt, BranchesAt, rests, at_side, and_at, sides_of, guarded_cells, branch_cells, none_shown, guarded_shown, branches_shown, GuardedFits, BranchesFit, guarded_writing, branches_writing, moves, branch_moves}
@@ -173,7 +173,7 @@ module _ {members : Processes} {ks : List Mode} (env : Seen) (m : Mode) (t : Bit
           (λ k z. ap (λ (x : ℕ → Bool). joint_moves (member_count members) x t k) same ∙ z)
       here (one_end i less f e) =
           let same : ends r.modes ≡ turned_value (ends ks) i = fun_ext f in
-          let y = leaf_turns (member_count members) h.known h.some (ends ks) (bit_at (joint_count (member_count members)) t) i
+          let y = leaf_turns (member_count members) h.known h.some (ends ks) (cell_bit (joint_count (member_count members)) t) i
           (subst (λ (x : ℕ). i < x) (as_many b) less) h.settles (e ∙ (away m (side_goes m h r.way) ∙ sym h.top)) in
           moved_on
           (may (subst (λ (x : ℕ → Bool). Settled (member_count members) x t) (sym same) y.settled)
@@ -268,7 +268,7 @@ module _ {members : Processes} {ks : List Mode} (env : Seen) (t : Bits (joint_co
         same = sym (ap (λ x. sides_of members x (turned_bits (joint_count (member_count members)) t k)) (branches_idle b idles).0
             ∙ ap (λ x. sides_of members (low_branches members) x) (bits_low (joint_count (member_count members))
             (turned_bits (joint_count (member_count members)) t k) (flat_nodes (member_count members) h.known (ends ks)
-            (bit_at (joint_count (member_count members)) (turned_bits (joint_count (member_count members)) t k)) false r.settled top all)));
+            (cell_bit (joint_count (member_count members)) (turned_bits (joint_count (member_count members)) t k)) false r.settled top all)));
         way = refl;
         fits = tt;
         flow = flow_by env (branches_shown b) (branches_shown b) none_shown (branches_idle b idles).1 (flow_same env (branches_shown b));
@@ -283,7 +283,7 @@ module _ {members : Processes} {ks : List Mode} (env : Seen) (t : Bits (joint_co
       here idles (joint j) ne z =
           absurd (cc (
             flat_stands (member_count members) h.known h.some (ends ks)
-                (bit_at (joint_count (member_count members)) (turned_bits (joint_count (member_count members)) t k)) false r.settled top all j,
+                (cell_bit (joint_count (member_count members)) (turned_bits (joint_count (member_count members)) t k)) false r.settled top all j,
             r.keeps j (λ (e : j ≡ k). ne (ap (λ y. joint y) e)) z,
           ))
 
@@ -296,7 +296,7 @@ module _ {members : Processes} {ks : List Mode} (env : Seen) (t : Bits (joint_co
       here idle h r f e = absurd (cc h.awake)
       here answered h r f e = absurd (cc (
         flat_stands (member_count members) h.known h.some (ends ks)
-            (bit_at (joint_count (member_count members)) t) true h.settles h.top (ends_high b (h.all refl)) k,
+            (cell_bit (joint_count (member_count members)) t) true h.settles h.top (ends_high b (h.all refl)) k,
         e,
       ))
       here running h r f e = by r.top

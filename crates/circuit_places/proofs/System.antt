@@ -15,7 +15,7 @@ use Rattle.function_blocks.specs.Rails.{number_on}
 use Rattle.circuit_places.specs.Lines.{Line, of_channel, of_var, line_width, Seen, Rails}
 use Rattle.chp_meaning.specs.Terms.{Term, finished, opened}
 use Rattle.circuit_places.specs.Circuit.{low, GuardedSpot, turns, fires, site_rails, takers}
-use Rattle.circuit_places.specs.Whole.{first_bits, Wires, seen, line_ack, is_heard, is_merged, bit_rule, wrote_rule, value_on, neutral_on, Node, go_node, own_node, rail_node, ack_node, bit_node, wrote_node, joint_node, wrote_turned, joint_turned, receives, answers, offers, passed, passed_after, wires_after, go_after, root_after}
+use Rattle.circuit_places.specs.Whole.{first_bits, Wires, wires_seen, line_ack, is_heard, is_merged, bit_rule, wrote_rule, value_on, neutral_on, Node, go_node, own_node, rail_node, ack_node, bit_node, wrote_node, joint_node, wrote_turned, joint_turned, receives, answers, offers, cells_passed, passed_after, wires_after, go_after, root_after}
 use Rattle.circuit_places.proofs.RailLemmas.{fst_true, snd_true, both_true}
 use Rattle.circuit_places.proofs.Trees.{node_moves}
 use Rattle.circuit_places.proofs.Blocks.{Block, now_at}
@@ -37,7 +37,7 @@ use Rattle.circuit_places.proofs.Writing.{guarded_reads_uses, guarded_writing_un
 -- has receives; what has stored has a value before its acknowledge, and what lets go none.
 pub record Good (P : TypedProgram) (m : Mode) (g : GuardedAt P.body m) (w : Wires) : Type 0 where
   pub meets : Meets P P.body
-  pub fits : GuardedFits g (seen P w)
+  pub fits : GuardedFits g (wires_seen P w)
   pub talk : (k : Line) → is_merged P k ≡ true → line_ack P w k ≡ true → (guarded_shown g).talk k ≡ true
   pub rising : (k : Line) (i : ℕ) (one : Bool) → is_merged P k ≡ true → line_ack P w k ≡ false → w.rail k i one ≡ true → (guarded_shown g).offer k i one ≡ true
   pub falling : (k : Line) (i : ℕ) (one : Bool) → line_ack P w k ≡ true → (guarded_shown g).offer k i one ≡ true → w.rail k i one ≡ true
@@ -55,7 +55,7 @@ pub record Good (P : TypedProgram) (m : Mode) (g : GuardedAt P.body m) (w : Wire
   pub heard_sited : (c : ℕ) → w.ack c ≡ true → is_heard (kind_at P.channels c) ≡ true → is_nil (takers P.body (low P.body) c) ≡ false
 
 -- so no bit of a variable has both rails high
-pub clean_of : {P : TypedProgram} {m : Mode} {g : GuardedAt P.body m} {w : Wires} → Good P m g w → Clean P (seen P w)
+pub clean_of : {P : TypedProgram} {m : Mode} {g : GuardedAt P.body m} {w : Wires} → Good P m g w → Clean P (wires_seen P w)
 clean_of {P = P} {w = w} good = record {
   single = λ x i. here x i (w.bit x i true)
       (w.bit x i false) refl refl;
@@ -88,7 +88,7 @@ sent_turns P w k i one offer = is_merged P k && turns (w.rail k i one) offer (no
 -- which moves are enabled there
 abbrev pub can : (P : TypedProgram) → List OfferValue → {m : Mode} → GuardedAt P.body m → Wires → List (List ℕ) → Node P.body → Bool
 can P script {m = m} g w hs go_node = is_idle m
-can P script g w hs (own_node s) = guarded_moves (seen P w) g s
+can P script g w hs (own_node s) = guarded_moves (wires_seen P w) g s
 can P script g w hs (rail_node k i one) = sent_turns P w k i one ((guarded_shown g).offer k i one) || driven P script w hs k i one
 can P script g w hs (ack_node k) = heard_turns P w k ((guarded_shown g).take k) || answers (channel_width P.channels k) w k (completed hs k) (offer_at script k)
 can P script g w hs (bit_node x i one) = fires (bit_rule (w.rail (of_var x)) (w.bit x) i one)
@@ -110,7 +110,7 @@ pub data Stored (P : TypedProgram) (busy after : ℕ → Bool) (x : ℕ) (w now 
   no_store : line_ack P now (of_var x) ≡ line_ack P w (of_var x) → y ≡ t → Stored P busy after x w now t y
   cleared : line_ack P w (of_var x) ≡ true → line_ack P now (of_var x) ≡ false → y ≡ t → Stored P busy after x w now t y
   stores : line_ack P w (of_var x) ≡ false → line_ack P now (of_var x) ≡ true
-      → value_on (var_width P.vars x) (w.bit x) ≡ value_on (var_width P.vars x) (w.rail (of_var x)) → Passes P (seen P w) busy (of_var x) t y
+      → value_on (var_width P.vars x) (w.bit x) ≡ value_on (var_width P.vars x) (w.rail (of_var x)) → Passes P (wires_seen P w) busy (of_var x) t y
       → Stored P busy after x w now t y
   -- under a receive, whose variable is written until the channel's acknowledge rises
   takes_in : line_ack P w (of_var x) ≡ false → line_ack P now (of_var x) ≡ true → after x ≡ true → y ≡ t → Stored P busy after x w now t y
@@ -152,7 +152,7 @@ pub record Exchanges (P : TypedProgram) (busy after : ℕ → Bool) (c : ℕ) (w
 
 -- the environment acknowledges, or the program does
 pub data Acks (P : TypedProgram) (busy after : ℕ → Bool) (k : ℕ) (w : Wires) (t y : Term) : Type 0 where
-  taken_out : is_heard (kind_at P.channels k) ≡ false → Passing P (seen P w) busy (of_channel k) (w.ack k) t y → ((z : ℕ) → after z ≡ false → busy z ≡ false)
+  taken_out : is_heard (kind_at P.channels k) ≡ false → Passing P (wires_seen P w) busy (of_channel k) (w.ack k) t y → ((z : ℕ) → after z ≡ false → busy z ≡ false)
       → Acks P busy after k w t y
   taken_in : is_heard (kind_at P.channels k) ≡ true → is_merged P (of_channel k) ≡ false → Arrives P busy after k w t y → Acks P busy after k w t y
   taken_over : is_heard (kind_at P.channels k) ≡ true → is_merged P (of_channel k) ≡ true → Exchanges P busy after k w t y → Acks P busy after k w t y
@@ -235,7 +235,7 @@ pub record Fitted (P : TypedProgram) (script : List OfferValue) : Type 0 where
   pub firsts : (x : ℕ) → x < length P.vars → number_on (var_width P.vars x) (first_bits P.vars x) ≡ slice_index (map (λ (v : Var). v.first) P.vars) x
 
 -- what has passed on another channel stays
-pub passed_far : (hs : List (List ℕ)) (k : ℕ) (value : Option ℕ) (c : ℕ) → (c ≡ k → ⊥) → completed (passed hs k value) c ≡ completed hs c
+pub passed_far : (hs : List (List ℕ)) (k : ℕ) (value : Option ℕ) (c : ℕ) → (c ≡ k → ⊥) → completed (cells_passed hs k value) c ≡ completed hs c
 passed_far hs k None c ne = refl
 passed_far hs k (Some v) c ne = ap length (get_or-set_other hs k c (history_at hs k ++ v ∷ []) [] ne)
 
@@ -249,12 +249,12 @@ module _ (P : TypedProgram) (script : List OfferValue) {m : Mode} {g : GuardedAt
       (λ (h : line_ack P w k ≡ false). absurd (cc (good.rising k i one n h r, o)))
 
   -- a move of the root or the body
-  module _ (s : GuardedSpot P.body) (e : guarded_moves (seen P w) g s ≡ true) (r : GuardedAfter P.body m (seen P w) g s) where
+  module _ (s : GuardedSpot P.body) (e : guarded_moves (wires_seen P w) g s ≡ true) (r : GuardedAfter P.body m (wires_seen P w) g s) where
     own_keeps : (k : Node P.body) → k ≢ own_node s → can P script g w hs k ≡ true → can P script r.to w hs k ≡ true
     own_keeps go_node ne z = absurd (here m g e z)
       where
-        here : (m : Mode) (g : GuardedAt P.body m) → guarded_moves (seen P w) g s ≡ true → is_idle m ≡ true → ⊥
-        here idle g e z = cc (guarded_idle_moves (seen P w) g s, e)
+        here : (m : Mode) (g : GuardedAt P.body m) → guarded_moves (wires_seen P w) g s ≡ true → is_idle m ≡ true → ⊥
+        here idle g e z = cc (guarded_idle_moves (wires_seen P w) g s, e)
         here running g e z = cc z
         here answered g e z = cc z
         here returning g e z = cc z
@@ -302,7 +302,7 @@ module _ (P : TypedProgram) (script : List OfferValue) {m : Mode} {g : GuardedAt
     stays idle n h ne = absurd (cc h)
     stays answered n h ne = absurd (cc h)
 
-    told : (choices : Choices) (ps : List Process) → ToldBy (seen P w) (guarded_shown g).read choices ps
+    told : (choices : Choices) (ps : List Process) → ToldBy (wires_seen P w) (guarded_shown g).read choices ps
         → Decided P w.bit (guarded_writing (line_ack P w) g) choices ps
     told choices ps t store agree = t store (λ x read. agree x (uses_within P P.body good.meets x (guarded_reads_uses g x read)) (unwritten x read))
       where
@@ -312,7 +312,7 @@ module _ (P : TypedProgram) (script : List OfferValue) {m : Mode} {g : GuardedAt
             (λ (e : guarded_writing (line_ack P w) g x ≡ false). e)
 
     own_term : m ≢ returning → Follows (Decided P w.bit (guarded_writing (line_ack P w) g)) (root_left (line_ack P w) g) (root_left (line_ack P w) r.to)
-    own_term ne = here m r.mode g r.to r.way ne (follows_wider (ToldBy (seen P w) (guarded_shown g).read) (Decided P w.bit (guarded_writing (line_ack P w) g))
+    own_term ne = here m r.mode g r.to r.way ne (follows_wider (ToldBy (wires_seen P w) (guarded_shown g).read) (Decided P w.bit (guarded_writing (line_ack P w) g))
         told (guarded_left (line_ack P w) g) (guarded_left (line_ack P w) r.to) r.term)
       where
         here : (m n : Mode) (a : GuardedAt P.body m) (b : GuardedAt P.body n) → goes m n ≡ true → m ≢ returning

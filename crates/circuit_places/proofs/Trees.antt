@@ -14,8 +14,8 @@ use Rattle.prs_core.specs.Parts.{Owned, owned, owned_from, turned}
 use Rattle.prs_core.specs.Parts as parts
 use Rattle.prs_core.specs.Turning.{turned_here, turned_apart, among_cases, none_among}
 use Rattle.cell_parallel.specs.Trees.{c_element, level_rules, next_level, levels_rules, tree_rules, tree_top, tree_owned}
-use Rattle.cell_parallel.specs.TreeParts.{IsOutside, AreOutside, IsSettled, TreeMove, by_rule, of_leaf, Settles}
-use Rattle.circuit_places.specs.Circuit.{Bits, low_bits, bit_at, turned_bits, joint_count, tree_value, tree_answer, tree_node, tree_rule, fires, is_apart}
+use Rattle.cell_parallel.specs.TreeParts.{IsOutsideTree, AreOutside, IsTreeSettled, TreeMove, by_rule, of_leaf, Settles}
+use Rattle.circuit_places.specs.Circuit.{Bits, low_bits, cell_bit, turned_bits, joint_count, tree_value, tree_answer, tree_node, tree_rule, fires, is_apart}
 
 abbrev no_guards : NodeRules
 no_guards = record { up = []; down = [] }
@@ -99,12 +99,12 @@ joint_stands n leaf node k f = by (cases_lt k (joint_count n))
     by (inr h) = absurd (cc (joint_absent n leaf node k h, f))
 
 -- bits
-pub low_bit : (n k : ℕ) → bit_at n (low_bits n) k ≡ false
+pub low_bit : (n k : ℕ) → cell_bit n (low_bits n) k ≡ false
 low_bit zero k = refl
 low_bit (suc n) zero = refl
 low_bit (suc n) (suc k) = low_bit n k
 
-pub bits_low : (n : ℕ) (t : Bits n) → ((k : ℕ) → k < n → bit_at n t k ≡ false) → t ≡ low_bits n
+pub bits_low : (n : ℕ) (t : Bits n) → ((k : ℕ) → k < n → cell_bit n t k ≡ false) → t ≡ low_bits n
 bits_low zero t h = refl
 bits_low (suc n) t h = ap (λ (b : Bool). (b, t.1)) (h zero (omega arith)) ∙ ap (λ (b : Bits n). (false, b)) (bits_low n t.1 (λ k less. h (suc k) (omega arith)))
 
@@ -115,12 +115,12 @@ turned_next v i j = ap (λ b. if b then not (v (suc j)) else v (suc j)) (by (cas
     by (inl e) = eq-eqb (suc j) (suc i) (ap (λ x. suc x) e) ∙ sym (eq-eqb j i e)
     by (inr ne) = ne_eqb (suc j) (suc i) (λ e. ne (cc e)) ∙ sym (ne_eqb j i ne)
 
-turned_at : (n : ℕ) (t : Bits n) (i k : ℕ) → i < n → bit_at n (turned_bits n t i) k ≡ turned (bit_at n t) i k
+turned_at : (n : ℕ) (t : Bits n) (i k : ℕ) → i < n → cell_bit n (turned_bits n t i) k ≡ turned (cell_bit n t) i k
 turned_at zero t i k less = absurd (omega arith)
 turned_at (suc n) t zero zero less = refl
-turned_at (suc n) t zero (suc k) less = sym (turned_apart (bit_at (suc n) t) zero (suc k) (λ e. cc e))
-turned_at (suc n) t (suc i) zero less = sym (turned_apart (bit_at (suc n) t) (suc i) zero (λ e. cc e))
-turned_at (suc n) t (suc i) (suc k) less = turned_at n t.1 i k (omega arith) ∙ sym (turned_next (bit_at (suc n) t) i k)
+turned_at (suc n) t zero (suc k) less = sym (turned_apart (cell_bit (suc n) t) zero (suc k) (λ e. cc e))
+turned_at (suc n) t (suc i) zero less = sym (turned_apart (cell_bit (suc n) t) (suc i) zero (λ e. cc e))
+turned_at (suc n) t (suc i) (suc k) less = turned_at n t.1 i k (omega arith) ∙ sym (turned_next (cell_bit (suc n) t) i k)
 
 -- the values of a tree
 pub value_leaf : (n : ℕ) (leaf node : ℕ → Bool) (i : ℕ) → i < n → tree_value n leaf node i ≡ leaf i
@@ -202,7 +202,7 @@ abbrev pub TreesSettle : Type 0
 TreesSettle = (leaves : List ℕ) (from : ℕ) → 0 < length leaves → AreOutside leaves from → Settles leaves from
 
 pub record Settling (n : ℕ) (leaf : ℕ → Bool) (node : ℕ → Bool) : Type 0 where
-  pub is : IsSettled (range_with_len 0 n) n (tree_value n leaf node)
+  pub is : IsTreeSettled (range_with_len 0 n) n (tree_value n leaf node)
 
 abbrev pub node_moves : (n : ℕ) → (leaf node : ℕ → Bool) → ℕ → Bool
 node_moves n leaf node k = fires (tree_rule n leaf node k)
@@ -230,7 +230,7 @@ module _ (n : ℕ) where
   own_fires leaf node k = ap (λ b. if b then guard_holds (values leaf node) (tree_node n k).down else guard_holds (values leaf node) (tree_node n k).up)
       (value_node n leaf node k)
 
-  outside : (i : ℕ) → i < n → IsOutside leaves n i
+  outside : (i : ℕ) → i < n → IsOutsideTree leaves n i
   outside i less j d within e =
       let z : Contains (tree_owned leaves n) (get_or (tree_owned leaves n) j d) = Contains-get_or (tree_owned leaves n) j d within in
       let y = own_is (get_or (tree_owned leaves n) j d) z in
@@ -251,7 +251,7 @@ module _ (n : ℕ) where
 
   -- the law of trees says so
   pub tree_over : TreesSettle → 1 ≤ n → TreeOver n
-  tree_over law some = law leaves n (omega (arith, some, length-range_with_len 0 n)) (all_leaves (IsOutside leaves n) outside)
+  tree_over law some = law leaves n (omega (arith, some, length-range_with_len 0 n)) (all_leaves (IsOutsideTree leaves n) outside)
 
   module _ (known : TreeOver n) where
     -- all are low at first
@@ -284,7 +284,7 @@ module _ (n : ℕ) where
         let move : TreeMove leaves n (values leaf node) i = of_leaf (outside i less) (value_leaf n leaf node i less ∙ e) in
         let same = leaf_turned n leaf node i less in
         record {
-          settled = record { is = subst (λ (v : ℕ → Bool). IsSettled leaves n v) same (known.stays (values leaf node) i s.is move) };
+          settled = record { is = subst (λ (v : ℕ → Bool). IsTreeSettled leaves n v) same (known.stays (values leaf node) i s.is move) };
           top = sym (ap (λ (v : ℕ → Bool). v (tree_top leaves n)) same) ∙ turned_apart (values leaf node) i (tree_top leaves n) (top_apart some i less);
           keeps = λ k f.
               let below = joint_below n leaf node k f in
@@ -306,7 +306,7 @@ module _ (n : ℕ) where
 
     pub node_turns : (leaf : ℕ → Bool) (node : ℕ → Bool) (k : ℕ) → Settling n leaf node → node_moves n leaf node k ≡ true → NodeTurned leaf node k
     node_turns leaf node k s f = record {
-      settled = record { is = subst (λ (v : ℕ → Bool). IsSettled leaves n v) same (known.stays (values leaf node) (n + k) s.is move) };
+      settled = record { is = subst (λ (v : ℕ → Bool). IsTreeSettled leaves n v) same (known.stays (values leaf node) (n + k) s.is move) };
       top = by (cases_eq (n + k) (tree_top leaves n));
       keeps = λ j ne g.
           sym (own_fires leaf (turned node k) j)
@@ -386,20 +386,20 @@ module _ (n : ℕ) where
 
 -- the same where the nodes are a list of bits
 abbrev pub Settled : (n : ℕ) → (ℕ → Bool) → Bits (joint_count n) → Type 0
-Settled n leaf t = Settling n leaf (bit_at (joint_count n) t)
+Settled n leaf t = Settling n leaf (cell_bit (joint_count n) t)
 
 abbrev pub top_of : (n : ℕ) → (leaf : ℕ → Bool) → Bits (joint_count n) → Bool
-top_of n leaf t = tree_answer n leaf (bit_at (joint_count n) t)
+top_of n leaf t = tree_answer n leaf (cell_bit (joint_count n) t)
 
 abbrev pub joint_moves : (n : ℕ) → (leaf : ℕ → Bool) → Bits (joint_count n) → ℕ → Bool
-joint_moves n leaf t k = node_moves n leaf (bit_at (joint_count n) t) k
+joint_moves n leaf t k = node_moves n leaf (cell_bit (joint_count n) t) k
 
 module _ (n : ℕ) (known : TreeOver n) (leaf : ℕ → Bool) where
   pub settled_low : ((i : ℕ) → leaf i ≡ false) → Settled n leaf (low_bits (joint_count n))
-  settled_low low = settling_low n known leaf (bit_at (joint_count n) (low_bits (joint_count n))) low (low_bit (joint_count n))
+  settled_low low = settling_low n known leaf (cell_bit (joint_count n) (low_bits (joint_count n))) low (low_bit (joint_count n))
 
   pub top_low : ((i : ℕ) → leaf i ≡ false) → top_of n leaf (low_bits (joint_count n)) ≡ false
-  top_low low = answer_low n known leaf (bit_at (joint_count n) (low_bits (joint_count n))) low (low_bit (joint_count n))
+  top_low low = answer_low n known leaf (cell_bit (joint_count n) (low_bits (joint_count n))) low (low_bit (joint_count n))
 
   pub data Topped (t : Bits (joint_count n)) (k : ℕ) : Type 0 where
     not_top : top_of n leaf (turned_bits (joint_count n) t k) ≡ top_of n leaf t → Topped t k
@@ -417,12 +417,12 @@ module _ (n : ℕ) (known : TreeOver n) (leaf : ℕ → Bool) where
     keeps = λ j ne z. ap (λ (g : ℕ → Bool). node_moves n leaf g j) (sym same) ∙ r.keeps j ne z;
   }
     where
-      r : NodeTurned n known leaf (bit_at (joint_count n) t) k
-      r = node_turns n known leaf (bit_at (joint_count n) t) k s f
+      r : NodeTurned n known leaf (cell_bit (joint_count n) t) k
+      r = node_turns n known leaf (cell_bit (joint_count n) t) k s f
 
-      same : turned (bit_at (joint_count n) t) k ≡ bit_at (joint_count n) (turned_bits (joint_count n) t k)
-      same = sym (fun_ext (λ j. turned_at (joint_count n) t k j (joint_below n leaf (bit_at (joint_count n) t) k f)))
+      same : turned (cell_bit (joint_count n) t) k ≡ cell_bit (joint_count n) (turned_bits (joint_count n) t k)
+      same = sym (fun_ext (λ j. turned_at (joint_count n) t k j (joint_below n leaf (cell_bit (joint_count n) t) k f)))
 
-      by : TopTurned n known leaf (bit_at (joint_count n) t) k → Topped t k
+      by : TopTurned n known leaf (cell_bit (joint_count n) t) k → Topped t k
       by (stays_top e) = not_top (ap (λ (g : ℕ → Bool). tree_answer n leaf g) (sym same) ∙ e)
       by (turns_top e all) = at_top (ap (λ (g : ℕ → Bool). tree_answer n leaf g) (sym same) ∙ e) all

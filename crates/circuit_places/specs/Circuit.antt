@@ -6,8 +6,8 @@ use Rattle.prs_core.specs.Nets.{NodeRules}
 use Rattle.prs_core.specs.Moves.{guard_holds}
 use Rattle.cell_parallel.specs.Trees.{tree_rules, tree_top}
 use Rattle.chp_base.specs.declared.span.Span.{Span}
-pub use Rattle.function_blocks.specs.Rails.{Pair, pair_of, side_of, Pairs, low_pairs, turned_side, turned_pairs, Rule,
-    rule_of, no_rule, turns, fires, is_apart, same_bit}
+pub use Rattle.function_blocks.specs.Rails.{RailLevels, levels_of, side_of, Pairs, low_pairs, turned_side, turned_pairs, Rule,
+    rule_of, no_rule, turns, one_rule_fires, is_apart, same_bit}
 pub use Rattle.function_blocks.specs.Parts.{gate_count}
 pub use Rattle.circuit_places.specs.Heads.{Bits, low_bits}
 pub use Rattle.circuit_places.specs.Cores.{Core, Turning, OwnSpot, RoundSpot}
@@ -20,7 +20,7 @@ use Rattle.width_check.specs.Processes.{Formula, Process, skipping, assigning, s
 use Rattle.width_check.specs.Reads.{reads}
 
 -- A Q-element's child request, latch and next request, round its child.
-pub record Guarded (A : Type 0) : Type 0 where
+pub record QElementCells (A : Type 0) : Type 0 where
   pub child : Bool
   pub latch : Bool
   pub next : Bool
@@ -45,7 +45,7 @@ pub record Ring (A : Type 0) : Type 0 where
 
 -- a member of a sequence in its Q-element, and the members behind it
 pub record Turn (A B : Type 0) : Type 0 where
-  pub member : Guarded A
+  pub member : QElementCells A
   pub later : B
 
 -- branches side by side, and the nodes of the completion tree over their ends
@@ -81,24 +81,24 @@ abbrev mutual
 
   pub BranchCells : Processes → Type 0
   BranchCells no_members = Unit {0}
-  BranchCells (and_member p more) = Guarded (Cells p) × BranchCells more
+  BranchCells (and_member p more) = QElementCells (Cells p) × BranchCells more
 
   pub TurnCells : Processes → Type 0
   TurnCells no_members = Unit {0}
   TurnCells (and_member p no_members) = Cells p
   TurnCells (and_member p (and_member q more)) = Turn (Cells p) (TurnCells (and_member q more))
 
-abbrev pub bit_at : (n : ℕ) → Bits n → ℕ → Bool
-bit_at zero x i = false
-bit_at (suc n) x zero = x.0
-bit_at (suc n) x (suc i) = bit_at n x.1 i
+abbrev pub cell_bit : (n : ℕ) → Bits n → ℕ → Bool
+cell_bit zero x i = false
+cell_bit (suc n) x zero = x.0
+cell_bit (suc n) x (suc i) = cell_bit n x.1 i
 
 abbrev pub turned_bits : (n : ℕ) → Bits n → ℕ → Bits n
 turned_bits zero x i = x
 turned_bits (suc n) x zero = (not x.0, x.1)
 turned_bits (suc n) x (suc i) = (x.0, turned_bits n x.1 i)
 
-abbrev pub low_guarded : {A : Type 0} → A → Guarded A
+abbrev pub low_guarded : {A : Type 0} → A → QElementCells A
 low_guarded x = record { child = false; latch = false; next = false; inner = x }
 
 abbrev pub low_site : (e : Formula) → Site (gate_count e)
@@ -145,10 +145,10 @@ abbrev mutual
       record { member = low_guarded (low p); later = low_turn (and_member q more) }
 
 -- the ends of branches, their Q-elements' next requests
-abbrev pub branch_ends : (members : Processes) → BranchCells members → ℕ → Bool
-branch_ends no_members x i = false
-branch_ends (and_member p more) x zero = x.0.next
-branch_ends (and_member p more) x (suc i) = branch_ends more x.1 i
+abbrev pub branches_answered : (members : Processes) → BranchCells members → ℕ → Bool
+branches_answered no_members x i = false
+branches_answered (and_member p more) x zero = x.0.next
+branches_answered (and_member p more) x (suc i) = branches_answered more x.1 i
 
 -- A completion tree over the nodes 0 .. n - 1, whose own nodes are numbered from n on: all values, the one of its top,
 -- and the rules of its k-th node.
@@ -171,7 +171,7 @@ abbrev mutual
   answer (in_turn members) x = turn_answer members x
   answer (side_by_side members) x =
       let n = member_count members in
-      tree_answer n (branch_ends members x.branches) (bit_at (joint_count n) x.tree)
+      tree_answer n (branches_answered members x.branches) (cell_bit (joint_count n) x.tree)
   answer (repeating p) x = x.answer
   answer (choosing false _) x = x.answer
   answer (choosing true _) x = x.answer
@@ -296,8 +296,8 @@ port_rule rail ack va r x stored = rule_of x.kept (r && va) (not va)
 port_rule rail ack va r x (taking i one) = rule_of (x.taken i one) (r && rail i one) (not r && not (rail i one))
 
 -- the head of a guard is the pair of its bit
-abbrev pub guard_head : (e : Formula) → Pairs (gate_count e) → Pair
-guard_head e u = pair_of (out_rail e u 0 true) (out_rail e u 0 false)
+abbrev pub guard_head : (e : Formula) → Pairs (gate_count e) → RailLevels
+guard_head e u = levels_of (out_rail e u 0 true) (out_rail e u 0 false)
 
 -- of all guards: their heads, the rules of their gates under a request, what states of them there are under it, and the
 -- variables that they read
@@ -336,7 +336,7 @@ turned_guards (and_choice g p more) x (other_gate s) = (x.0, turned_guards more 
 --   loop, body answer la        r & ~la -> lr+   la -> lr-     and none for its answer
 --   selection, repetition       the core's; guards under its request for them, each branch under its start
 abbrev mutual
-  pub guarded_rule : (p : Process) → Seen → Bool → Guarded (Cells p) → GuardedSpot p → Rule
+  pub guarded_rule : (p : Process) → Seen → Bool → QElementCells (Cells p) → GuardedSpot p → Rule
   guarded_rule p w r x child = rule_of x.child (r && not x.latch) x.latch
   guarded_rule p w r x latch = rule_of x.latch (answer p x.inner) (not r)
   guarded_rule p w r x next = rule_of x.next (x.latch && not (answer p x.inner)) (not x.latch)
@@ -352,7 +352,7 @@ abbrev mutual
   rule (side_by_side members) w r x (of_branch s) = branch_rule members w r x.branches s
   rule (side_by_side members) w r x (joint k) =
       let n = member_count members in
-      tree_rule n (branch_ends members x.branches) (bit_at (joint_count n) x.tree) k
+      tree_rule n (branches_answered members x.branches) (cell_bit (joint_count n) x.tree) k
   rule (repeating p) w r x of_loop = no_rule x.answer
   rule (repeating p) w r x ask = rule_of x.ask (r && not (answer p x.inner)) (answer p x.inner)
   rule (repeating p) w r x (in_body s) = rule p w x.ask x.inner s
@@ -401,7 +401,7 @@ turned_port x (taking i one) = record x { taken = rails_turned x.taken i one }
 
 -- the cells with one node turned over
 abbrev mutual
-  pub turned_guarded : (p : Process) → Guarded (Cells p) → GuardedSpot p → Guarded (Cells p)
+  pub turned_guarded : (p : Process) → QElementCells (Cells p) → GuardedSpot p → QElementCells (Cells p)
   turned_guarded p x child = record x { child = not x.child }
   turned_guarded p x latch = record x { latch = not x.latch }
   turned_guarded p x next = record x { next = not x.next }

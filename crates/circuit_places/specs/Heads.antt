@@ -36,13 +36,13 @@ hot (top {n = n}) b = (b, low_bits n)
 hot (under i) b = (false, hot i b)
 
 -- of guards: all are false, none is true, all are neutral, all have a rail high
-abbrev pub all_false : (n : ℕ) → Pairs n → Bool
-all_false zero hs = true
-all_false (suc n) hs = hs.0.f && all_false n hs.1
+abbrev pub each_false : (n : ℕ) → Pairs n → Bool
+each_false zero hs = true
+each_false (suc n) hs = hs.0.f && each_false n hs.1
 
-abbrev pub none_true : (n : ℕ) → Pairs n → Bool
-none_true zero hs = true
-none_true (suc n) hs = not hs.0.t && none_true n hs.1
+abbrev pub nothing_true : (n : ℕ) → Pairs n → Bool
+nothing_true zero hs = true
+nothing_true (suc n) hs = not hs.0.t && nothing_true n hs.1
 
 abbrev pub all_neutral : (n : ℕ) → Pairs n → Bool
 all_neutral zero hs = true
@@ -59,18 +59,18 @@ all_single (suc n) hs = not (hs.0.t && hs.0.f) && all_single n hs.1
 
 -- that guard is true and all others are false
 abbrev pub alone : {n : ℕ} → Index n → Pairs n → Bool
-alone (top {n = n}) hs = hs.0.t && all_false n hs.1
+alone (top {n = n}) hs = hs.0.t && each_false n hs.1
 alone (under i) hs = hs.0.f && alone i hs.1
 
 -- that guard isn't false, and no other is true
 abbrev pub told : {n : ℕ} → Index n → Pairs n → Bool
-told (top {n = n}) hs = not hs.0.f && none_true n hs.1
+told (top {n = n}) hs = not hs.0.f && nothing_true n hs.1
 told (under i) hs = not hs.0.t && told i hs.1
 
 -- all guards are false; where there is no guard nothing is told
 abbrev pub over : (n : ℕ) → Pairs n → Bool
 over zero hs = false
-over (suc n) hs = hs.0.f && all_false n hs.1
+over (suc n) hs = hs.0.f && each_false n hs.1
 
 -- each rail that is high in the first is high in the second
 abbrev pub below : (n : ℕ) → Pairs n → Pairs n → Bool

@@ -14,7 +14,7 @@ use Rattle.width_check.specs.Processes.{Process, TypedProgram}
 use Rattle.width_check.specs.Typing.{kind_at, channel_width, var_width}
 pub use Rattle.function_blocks.specs.Rails.{value_on, neutral_on}
 use Rattle.circuit_places.specs.Lines.{Line, of_channel, of_var, same_line, line_width, Rails, Seen}
-use Rattle.circuit_places.specs.Circuit.{Guarded, Cells, low_guarded, low, joint_count, tree_answer, tree_rule, GuardedSpot, guarded_stands, Rule, rule_of, no_rule, fires, same_bit, guarded_rule, rails_turned, turned_guarded, site_rails, takers}
+use Rattle.circuit_places.specs.Circuit.{QElementCells, Cells, low_guarded, low, joint_count, tree_answer, tree_rule, GuardedSpot, guarded_stands, Rule, rule_of, no_rule, fires, same_bit, guarded_rule, rails_turned, turned_guarded, site_rails, takers}
 
 -- What stands apart from the statements: each channel's acknowledge, the rails of each line, and of each variable the
 -- rails of its bits, the nodes that say that a bit is written, and the tree over these.
@@ -31,14 +31,14 @@ line_ack P w (of_channel c) = w.ack c
 line_ack P w (of_var x) = tree_answer (var_width P.vars x) (w.wrote x) (w.joint x)
 
 -- what statements see of it
-abbrev pub seen : TypedProgram → Wires → Seen
-seen P w = record { width = line_width P; ack = line_ack P w; rail = w.rail; bit = w.bit }
+abbrev pub wires_seen : TypedProgram → Wires → Seen
+wires_seen P w = record { width = line_width P; ack = line_ack P w; rail = w.rail; bit = w.bit }
 
 -- the nodes' values, and for each channel the values that have passed, the first one first; the root is a Q-element
 -- between go and done, its next request, round the body
 pub record Whole (p : Process) : Type 0 where
   pub go : Bool
-  pub root : Guarded (Cells p)
+  pub root : QElementCells (Cells p)
   pub wires : Wires
   pub histories : List (List ℕ)
 
@@ -77,12 +77,12 @@ is_merged P (of_var x) = true
 
 -- A rail of a line is the OR of that of the line's sites: it rises where one of them is high, and falls where all
 -- are low. Without sites it has no rules.
-abbrev pub all_low : List Bool → Bool
-all_low [] = false
-all_low (b ∷ bs) = not b && list_all not bs
+abbrev pub lows_only : List Bool → Bool
+lows_only [] = false
+lows_only (b ∷ bs) = not b && list_all not bs
 
 abbrev pub merged : Bool → List Bool → Rule
-merged now sites = rule_of now (list_any (λ b. b) sites) (all_low sites)
+merged now sites = rule_of now (list_any (λ b. b) sites) (lows_only sites)
 
 -- The rules of a variable:
 --   rail of its value     w.t & ~x.f -> x.t+    w.f -> x.t-     and the same exchanged
@@ -99,7 +99,7 @@ wrote_rule w x wrote i =
 -- the OR of the nodes that say that a receive on the channel has stored.
 abbrev pub rule_in : (P : TypedProgram) → Whole P.body → Node P.body → Rule
 rule_in P x go_node = no_rule x.go
-rule_in P x (own_node s) = guarded_rule P.body (seen P x.wires) x.go x.root s
+rule_in P x (own_node s) = guarded_rule P.body (wires_seen P x.wires) x.go x.root s
 rule_in P x (rail_node k i one) =
     if is_merged P k then merged (x.wires.rail k i one) (site_rails P.body x.root.inner k i one)
     else no_rule (x.wires.rail k i one)
@@ -171,14 +171,14 @@ abbrev pub joint_turned : Wires → ℕ → ℕ → Wires
 joint_turned w x k = record w { joint = λ y. if y == x then turned (w.joint x) k else w.joint y }
 
 -- the value on the rails passes where the acknowledge rises
-abbrev pub passed : List (List ℕ) → ℕ → Option ℕ → List (List ℕ)
-passed histories k None = histories
-passed histories k (Some v) = slice_set histories k (history_at histories k ++ v ∷ [])
+abbrev pub cells_passed : List (List ℕ) → ℕ → Option ℕ → List (List ℕ)
+cells_passed histories k None = histories
+cells_passed histories k (Some v) = slice_set histories k (history_at histories k ++ v ∷ [])
 
 abbrev pub passed_after : {p : Process} → List Channel → Wires → List (List ℕ) → Node p → List (List ℕ)
 passed_after channels w histories (ack_node k) =
     if w.ack k then histories
-    else passed histories k (value_on (channel_width channels k) (w.rail (of_channel k)))
+    else cells_passed histories k (value_on (channel_width channels k) (w.rail (of_channel k)))
 passed_after channels w histories _ = histories
 
 abbrev pub wires_after : {p : Process} → Wires → Node p → Wires
@@ -193,13 +193,13 @@ abbrev pub go_after : {p : Process} → Bool → Node p → Bool
 go_after go go_node = not go
 go_after go _ = go
 
-abbrev pub root_after : (p : Process) → Guarded (Cells p) → Node p → Guarded (Cells p)
+abbrev pub root_after : (p : Process) → QElementCells (Cells p) → Node p → QElementCells (Cells p)
 root_after p x (own_node s) = turned_guarded p x s
 root_after p x _ = x
 
 -- the state after the node's move
-abbrev pub moved : (P : TypedProgram) → Whole P.body → Node P.body → Whole P.body
-moved P x n = record {
+abbrev pub cells_moved : (P : TypedProgram) → Whole P.body → Node P.body → Whole P.body
+cells_moved P x n = record {
   go = go_after x.go n;
   root = root_after P.body x.root n;
   wires = wires_after x.wires n;
@@ -213,8 +213,8 @@ first_bits (v ∷ vs) zero = number_rail v.width v.first
 first_bits (v ∷ vs) (suc x) = first_bits vs x
 
 -- all nodes are low but for the variables' first values, and nothing has passed
-abbrev pub first_of : (P : TypedProgram) → Whole P.body
-first_of P = record {
+abbrev pub first_cells : (P : TypedProgram) → Whole P.body
+first_cells P = record {
   go = false;
   root = low_guarded (low P.body);
   wires = record {
@@ -229,6 +229,6 @@ first_of P = record {
 
 -- a state that so many moves lead to, in any order
 pub data Reaches (P : TypedProgram) (script : List OfferValue) : ℕ → Whole P.body → Type 0 where
-  at_first : Reaches P script zero (first_of P)
+  at_first : Reaches P script zero (first_cells P)
   by_move : {k : ℕ} {x : Whole P.body} (n : Node P.body) → Reaches P script k x → enabled P script x n ≡ true
-      → Reaches P script (suc k) (moved P x n)
+      → Reaches P script (suc k) (cells_moved P x n)

@@ -15,14 +15,14 @@ use Rattle.env_script.specs.declared.line.Said.TheVariants.{Numbers, Every}
 use Rattle.env_script.specs.declared.line.Line.{Line}
 use Rattle.env_script.specs.declared.fault.ScriptFault.{ScriptFault}
 use Rattle.env_script.specs.Scripts.{OfferValue}
-use Rattle.env_script.specs.Numbers.{IsNumber, IsDecimal, IsHexadecimal, number_in}
+use Rattle.env_script.specs.Numbers.{IsNumber, IsDecimalWord, IsHexadecimalWord, number_of_word}
 use Rattle.env_script.specs.Cutting.{lines_of, words_of}
-use Rattle.env_script.specs.ScriptText.{SaysBehind, Says, channel_named, is_inside, suits, fits, values_in, values_on, values_told, IsLineOf, IsGood, is_some_line, IsTold, is_told, script_of, fault_at, fault_on, line_fault, LineFault, bad_line, of_line, IsScriptText, IsRefused}
+use Rattle.env_script.specs.ScriptText.{SaysBehind, LineSays, channel_named, is_inside, suits, fits, values_in, values_on, values_told, IsLineOf, IsGood, is_some_line, IsTold, is_told, script_of, fault_at, fault_on, line_fault, ScriptLineFault, bad_line, of_line, IsScriptText, IsScriptRefused}
 use Rattle.env_script.proofs.OneMore.{differ}
 
 -- Words say one thing.
 
-hex_is_no_decimal : (word : List ℕ) (n m : ℕ) → IsDecimal n word → IsHexadecimal m word → ⊥
+hex_is_no_decimal : (word : List ℕ) (n m : ℕ) → IsDecimalWord n word → IsHexadecimalWord m word → ⊥
 hex_is_no_decimal word n m d h =
     let wrong : list_all digit (codes "0x" ++ h.tail) ≡ true = ap (list_all digit) (sym h.begins) ∙ d.digits in
     absurd (cc wrong)
@@ -32,7 +32,7 @@ number_once word n m (inl d) (inl e) = sym d.value ∙ e.value
 number_once word n m (inl d) (inr h) = absurd (hex_is_no_decimal word n m d h)
 number_once word n m (inr h) (inl d) = absurd (hex_is_no_decimal word m n d h)
 number_once word n m (inr h) (inr k) =
-    sym h.value ∙ ap (number_in 16) (append_cancel_left (codes "0x") h.tail k.tail (sym h.begins ∙ k.begins)) ∙ k.value
+    sym h.value ∙ ap (number_of_word 16) (append_cancel_left (codes "0x") h.tail k.tail (sym h.begins ∙ k.begins)) ∙ k.value
 
 numbers_once : (words : List (List ℕ)) (ns ms : List ℕ) → AllZip IsNumber words ns → AllZip IsNumber words ms → ns ≡ ms
 numbers_once [] [] [] one two = refl
@@ -67,7 +67,7 @@ behind_once words (Numbers ns) (Numbers ms) one two = ap Numbers (numbers_once w
 line_same : (n m : List ℕ) (s t : Said) → n ≡ m → s ≡ t → ◌≡◌ {A = Line} (record { name = n; said = s }) (record { name = m; said = t })
 line_same n m s t one two = cc
 
-says_once : (words : List (List ℕ)) (l m : Line) → Says words l → Says words m → l ≡ m
+says_once : (words : List (List ℕ)) (l m : Line) → LineSays words l → LineSays words m → l ≡ m
 says_once words l m one two =
     let both : (l.name ++ codes ":") ∷ one.behind ≡ (m.name ++ codes ":") ∷ two.behind = sym one.spelled ∙ two.spelled in
     let head : l.name ++ codes ":" ≡ m.name ++ codes ":" = cc both in
@@ -76,7 +76,7 @@ says_once words l m one two =
     let said : l.said ≡ m.said = behind_once two.behind l.said m.said (subst (λ (ws : List (List ℕ)). SaysBehind ws l.said) tail one.said) two.said in
     line_same l.name m.name l.said m.said name said
 
-lines_once : (wss : List (List (List ℕ))) (ls ms : List Line) → AllZip Says wss ls → AllZip Says wss ms → ls ≡ ms
+lines_once : (wss : List (List (List ℕ))) (ls ms : List Line) → AllZip LineSays wss ls → AllZip LineSays wss ms → ls ≡ ms
 lines_once [] [] [] one two = refl
 lines_once [] [] (m ∷ ms) one two = absurd two
 lines_once [] (l ∷ ls) ms one two = absurd one
@@ -157,21 +157,21 @@ record Parted (wss vss : List (List (List ℕ))) (ls : List Line) : Type 0 where
   front : List Line
   back : List Line
   whole : ls ≡ front ++ back
-  fronts : AllZip Says wss front
-  backs : AllZip Says vss back
+  fronts : AllZip LineSays wss front
+  backs : AllZip LineSays vss back
 
-parted : (wss vss : List (List (List ℕ))) (ls : List Line) → AllZip Says (wss ++ vss) ls → Parted wss vss ls
+parted : (wss vss : List (List (List ℕ))) (ls : List Line) → AllZip LineSays (wss ++ vss) ls → Parted wss vss ls
 parted [] vss ls all = record { front = []; back = ls; whole = refl; fronts = tt; backs = all }
 parted (w ∷ wss) vss [] all = absurd all
 parted (w ∷ wss) vss (l ∷ ls) all =
     let rest = parted wss vss ls all.1 in
     record { front = l ∷ rest.front; back = rest.back; whole = ap (λ (ms : List Line). l ∷ ms) rest.whole; fronts = (all.0, rest.fronts); backs = rest.backs }
 
-says_some : (words : List (List ℕ)) (l : Line) → Says words l → 0 < length words
+says_some : (words : List (List ℕ)) (l : Line) → LineSays words l → 0 < length words
 says_some words l says = let e : length words ≡ suc (length says.behind) = ap length says.spelled in omega arith
 
 no_fault_at : (channels : List Channel) (fs : List Line) (words : List (List ℕ)) (wss : List (List (List ℕ))) (back : List Line) (fault : ScriptFault) →
-    IsGood channels (fs ++ back) → AllZip Says (words ∷ wss) back → LineFault channels fs words fault → ⊥
+    IsGood channels (fs ++ back) → AllZip LineSays (words ∷ wss) back → ScriptLineFault channels fs words fault → ⊥
 no_fault_at channels fs words wss [] fault good all is = all
 no_fault_at channels fs words wss (l ∷ back) fault good all (bad_line some none) = none l all.0
 no_fault_at channels fs words wss (l ∷ back) fault good all (of_line m says is) =
@@ -179,23 +179,23 @@ no_fault_at channels fs words wss (l ∷ back) fault good all (of_line m says is
     let none : line_fault channels fs m ≡ None = ap (line_fault channels fs) one ∙ faultless channels fs l back good in
     absurd (cc (is, none))
 
-fault_some : (channels : List Channel) (fs : List Line) (words : List (List ℕ)) (fault : ScriptFault) → LineFault channels fs words fault → 0 < length words
+fault_some : (channels : List Channel) (fs : List Line) (words : List (List ℕ)) (fault : ScriptFault) → ScriptLineFault channels fs words fault → 0 < length words
 fault_some channels fs words fault (bad_line some none) = some
 fault_some channels fs words fault (of_line l says is) = says_some words l says
 
 -- lines that are told have no fault among them
 no_fault_within : (channels : List Channel) (lines : List (List ℕ)) (ls : List Line) (before : List (List ℕ)) (here : List ℕ) (behind : List (List ℕ))
     (fs : List Line) (fault : ScriptFault) → IsTold channels lines ls → lines ≡ before ++ here ∷ behind → IsTold channels before fs →
-    LineFault channels fs (words_of here) fault → ⊥
+    ScriptLineFault channels fs (words_of here) fault → ⊥
 no_fault_within channels lines ls before here behind fs fault told parts front fault_here =
     let cut : worded lines ≡ worded before ++ (words_of here ∷ worded behind) = ap worded parts ∙ worded_parts before here behind
         ∙ ap (λ (v : List (List (List ℕ))). worded before ++ v) (worded_here here behind (fault_some channels fs (words_of here) fault fault_here)) in
-    let two = parted (worded before) (words_of here ∷ worded behind) ls (subst (λ (v : List (List (List ℕ))). AllZip Says v ls) cut told.says) in
+    let two = parted (worded before) (words_of here ∷ worded behind) ls (subst (λ (v : List (List (List ℕ))). AllZip LineSays v ls) cut told.says) in
     let one : two.front ≡ fs = lines_once (worded before) two.front fs two.fronts front.says in
     let good : IsGood channels (fs ++ two.back) = subst (IsGood channels) (two.whole ∙ ap (λ (v : List Line). v ++ two.back) one) told.good in
     no_fault_at channels fs (words_of here) (worded behind) two.back fault good two.backs fault_here
 
-pub no_script : (channels : List Channel) (text : List ℕ) (s : List OfferValue) (fault : ScriptFault) (line : ℕ) → IsRefused channels text fault line →
+pub no_script : (channels : List Channel) (text : List ℕ) (s : List OfferValue) (fault : ScriptFault) (line : ℕ) → IsScriptRefused channels text fault line →
     IsScriptText channels text s → ⊥
 no_script channels text s fault line refused is =
     no_fault_within channels (lines_of text) is.lines refused.before refused.here refused.behind refused.lines fault is.told refused.parts refused.told
@@ -203,8 +203,8 @@ no_script channels text s fault line refused is =
 
 -- Two refusals are one.
 
-fault_once : (channels : List Channel) (fs : List Line) (words : List (List ℕ)) (f g : ScriptFault) → LineFault channels fs words f →
-    LineFault channels fs words g → f ≡ g
+fault_once : (channels : List Channel) (fs : List Line) (words : List (List ℕ)) (f g : ScriptFault) → ScriptLineFault channels fs words f →
+    ScriptLineFault channels fs words g → f ≡ g
 fault_once channels fs words f g (bad_line some none) (bad_line some_too none_too) = refl
 fault_once channels fs words f g (bad_line some none) (of_line l says is) = absurd (none l says)
 fault_once channels fs words f g (of_line l says is) (bad_line some none) = absurd (none l says)
@@ -243,7 +243,7 @@ same_front (b ∷ before) here behind (o ∷ others) there rest same count =
     let more = same_front before here behind others there rest tail (omega arith) in
     record { fronts = ap (λ (x : List ℕ). x ∷ before) head ∙ ap (λ (xs : List (List ℕ)). o ∷ xs) more.fronts; heres = more.heres }
 
-pub one_refusal : (channels : List Channel) (text : List ℕ) (f g : ScriptFault) (n m : ℕ) → IsRefused channels text f n → IsRefused channels text g m →
+pub one_refusal : (channels : List Channel) (text : List ℕ) (f g : ScriptFault) (n m : ℕ) → IsScriptRefused channels text f n → IsScriptRefused channels text g m →
     (f ≡ g) × (n ≡ m)
 one_refusal channels text f g n m one two = by_order (cases_order (length one.before) (length two.before))
   where
@@ -255,9 +255,9 @@ one_refusal channels text f g n m one two = by_order (cases_order (length one.be
         let front = same_front one.before one.here one.behind two.before two.here two.behind same count in
         let told : IsTold channels two.before one.lines = subst (λ (v : List (List ℕ)). IsTold channels v one.lines) front.fronts one.told in
         let lines : one.lines ≡ two.lines = lines_once (worded two.before) one.lines two.lines told.says two.told.says in
-        let moved : LineFault channels two.lines (words_of two.here) f =
-            subst (λ (v : List ℕ). LineFault channels two.lines (words_of v) f) front.heres
-            (subst (λ (ls : List Line). LineFault channels ls (words_of one.here) f) lines one.fault_here) in
+        let moved : ScriptLineFault channels two.lines (words_of two.here) f =
+            subst (λ (v : List ℕ). ScriptLineFault channels two.lines (words_of v) f) front.heres
+            (subst (λ (ls : List Line). ScriptLineFault channels ls (words_of one.here) f) lines one.fault_here) in
         (fault_once channels two.lines (words_of two.here) f g moved two.fault_here, omega (arith, one.number, two.number))
     by_order (inr (inl less)) =
         let more = longer one.before one.here one.behind two.before two.here two.behind same less in

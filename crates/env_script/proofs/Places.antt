@@ -8,7 +8,7 @@ use Rattle.std.proofs.lemmas.List.{length-map}
 use Rattle.std.proofs.lemmas.List.Quantifiers.{position-Some}
 use Rattle.chp_base.specs.declared.channel.Channel.{Channel}
 use Rattle.env_script.specs.declared.line.Line.{Line}
-use Rattle.env_script.specs.ScriptText.{Says, channel_named}
+use Rattle.env_script.specs.ScriptText.{LineSays, channel_named}
 use Rattle.env_script.specs.LineSteps.{IsPlace}
 use Rattle.env_script.proofs.Sayings.{Words, texts}
 
@@ -86,17 +86,17 @@ pub no_place : (channels : List Channel) (bytes name : List ℕ) (answer : Optio
 no_place channels bytes name answer same answers none =
     ap (channel_named channels) (sym same) ∙ named_at channels bytes ∙ ap (at_place channels) (sym answers ∙ none)
 
-pub said_so : (words list : Words) (ws : List (List ℕ)) (l : Line) (o : Option Line) → list ≡ words → texts words ≡ ws → IfSome o (Says (texts list)) →
-    o ≡ Some l → Says ws l
+pub said_so : (words list : Words) (ws : List (List ℕ)) (l : Line) (o : Option Line) → list ≡ words → texts words ≡ ws → IfSome o (LineSays (texts list)) →
+    o ≡ Some l → LineSays ws l
 said_so words list ws l o same is says found =
-    let told : Says (texts list) l = rw found at says in
-    subst (λ (xs : List (List ℕ)). Says xs l) (ap texts same ∙ is) told
+    let told : LineSays (texts list) l = rw found at says in
+    subst (λ (xs : List (List ℕ)). LineSays xs l) (ap texts same ∙ is) told
 
 pub said_nothing : (words list : Words) (ws : List (List ℕ)) (o : Option Line) → list ≡ words → texts words ≡ ws →
-    IfNone o ((l : Line) → Says (texts list) l → ⊥) → o ≡ None → (l : Line) → Says ws l → ⊥
+    IfNone o ((l : Line) → LineSays (texts list) l → ⊥) → o ≡ None → (l : Line) → LineSays ws l → ⊥
 said_nothing words list ws o same is none nothing l says =
-    let never : (l : Line) → Says (texts list) l → ⊥ = rw nothing at none in
-    never l (subst (λ (xs : List (List ℕ)). Says xs l) (sym (ap texts same ∙ is)) says)
+    let never : (l : Line) → LineSays (texts list) l → ⊥ = rw nothing at none in
+    never l (subst (λ (xs : List (List ℕ)). LineSays xs l) (sym (ap texts same ∙ is)) says)
 
 pub some_words : (words : Words) (ws : List (List ℕ)) → texts words ≡ ws → 0 < length words → 0 < length ws
 some_words words ws is some = omega (arith, ap length is, length-map words (λ word. word.now))

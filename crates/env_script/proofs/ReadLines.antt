@@ -18,7 +18,7 @@ use Rattle.env_script.specs.declared.step.Taken.{Taken}
 use Rattle.env_script.specs.Scripts.{OfferValue}
 use Rattle.env_script.specs.Offers.{offered}
 use Rattle.env_script.specs.Cutting.{lines_of, words_of}
-use Rattle.env_script.specs.ScriptText.{Says, channel_named, is_inside, suits, fits, values_in, values_on, values_told, IsLineOf, is_some_line, IsTold, is_told, script_of, fault_on, fault_at, LineFault, bad_line, of_line, IsScriptText, IsRefused}
+use Rattle.env_script.specs.ScriptText.{LineSays, channel_named, is_inside, suits, fits, values_in, values_on, values_told, IsLineOf, is_some_line, IsTold, is_told, script_of, fault_on, fault_at, ScriptLineFault, bad_line, of_line, IsScriptText, IsScriptRefused}
 use Rattle.env_script.specs.LineSteps.{told_at, StepFault, says_nothing, of_nothing, of_channel, IsStep, IsReadSoFar}
 use Rattle.env_script.proofs.Sayings.{Words, texts}
 use Rattle.env_script.proofs.OneMore.{other_name, script_more, flags_more, flag_at, AreDistinct}
@@ -53,8 +53,8 @@ append-none : (xs : List (List (List ℕ))) → xs ++ [] ≡ xs
 append-none [] = refl
 append-none (x ∷ xs) = ap (λ (ys : List (List (List ℕ))). x ∷ ys) (append-none xs)
 
-says_push : (wss : List (List (List ℕ))) (ls : List Line) (words : List (List ℕ)) (l : Line) → AllZip Says wss ls → Says words l →
-    AllZip Says (wss ++ words ∷ []) (ls ++ l ∷ [])
+says_push : (wss : List (List (List ℕ))) (ls : List Line) (words : List (List ℕ)) (l : Line) → AllZip LineSays wss ls → LineSays words l →
+    AllZip LineSays (wss ++ words ∷ []) (ls ++ l ∷ [])
 says_push [] [] words l all says = (says, tt)
 says_push [] (m ∷ ls) words l all says = absurd all
 says_push (v ∷ wss) [] words l all says = absurd all
@@ -67,7 +67,7 @@ skipped channels ws line ls offers told values so_far none =
         lines_more ws line ∙ ap (λ (vs : List (List (List ℕ))). filter is_some_line (map words_of ws) ++ vs) (no_line (words_of line) none)
         ∙ append-none (filter is_some_line (map words_of ws)) in
     record {
-      lines_told = record { says = subst (λ (vs : List (List (List ℕ))). AllZip Says vs ls) (sym still) so_far.lines_told.says; good = so_far.lines_told.good };
+      lines_told = record { says = subst (λ (vs : List (List (List ℕ))). AllZip LineSays vs ls) (sym still) so_far.lines_told.says; good = so_far.lines_told.good };
       made = so_far.made;
       flags = so_far.flags;
       count = so_far.count;
@@ -119,7 +119,7 @@ taken channels ws line ls offers told values t distinct so_far step =
       ls ++ l ∷ [],
       record {
         lines_told = record {
-          says = subst (λ (vs : List (List (List ℕ))). AllZip Says vs (ls ++ l ∷ [])) (sym more_lines)
+          says = subst (λ (vs : List (List (List ℕ))). AllZip LineSays vs (ls ++ l ∷ [])) (sym more_lines)
               (says_push (filter is_some_line (map words_of ws)) ls (words_of line) l so_far.lines_told.says step.says);
           good = record {
             each = All-push (IsLineOf channels) ls l so_far.lines_told.good.each (record { channel = c; named = step.place.found; suited = is_free.suited;
@@ -149,7 +149,7 @@ pub one_offer_each : (channels : List Channel) (ws : List (List ℕ)) (ls : List
 one_offer_each channels ws ls offers told values so_far = ap length so_far.made ∙ length-map channels _
 
 fault_is : (channels : List Channel) (ws : List (List ℕ)) (ls : List Line) (offers : List OfferValue) (told : List Bool) (values : ℕ) (words : List (List ℕ))
-    (fault : ScriptFault) → IsReadSoFar channels ws ls offers told values → StepFault channels told values words fault → LineFault channels ls words fault
+    (fault : ScriptFault) → IsReadSoFar channels ws ls offers told values → StepFault channels told values words fault → ScriptLineFault channels ls words fault
 fault_is channels ws ls offers told values words fault so_far (says_nothing some none) = bad_line some none
 fault_is channels ws ls offers told values words fault so_far (of_nothing l says none) =
     of_line l says (ap (λ (o : Option Channel). fault_at o (is_told ls l.name) (values_told channels ls) l.said) none)
@@ -178,7 +178,7 @@ IsReadTo channels lines at offers told values = (ls : List Line) × IsReadSoFar 
 
 pub refused_at : (channels : List Channel) (text : List ℕ) (lines : Words) (at : ℕ) (d : Bor (List ℕ)) (offers : List OfferValue) (told flags : List Bool)
     (values : ℕ) (fault : ScriptFault) → texts lines ≡ lines_of text → at < length lines → IsReadTo channels lines at offers told values → flags ≡ told →
-    StepFault channels flags values (words_of (get_or lines at d).now) fault → IsRefused channels text fault (at + 1)
+    StepFault channels flags values (words_of (get_or lines at d).now) fault → IsScriptRefused channels text fault (at + 1)
 refused_at channels text lines at d offers told flags values fault cut within so_far same step =
     let line : List ℕ = (get_or lines at d).now in
     let here : StepFault channels told values (words_of line) fault =

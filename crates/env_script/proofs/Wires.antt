@@ -10,7 +10,7 @@ use Rattle.std.proofs.lemmas.List.{append_cancel_right, length-map}
 use Rattle.prs_core.specs.declared.wires.Wires.{Wires}
 use Rattle.prs_core.specs.Nets.{NetValue, IsNet, IsChannel, name_at, ack_name, most_nodes}
 use Rattle.env_script.specs.Scripts.{OfferValue, IsScript}
-use Rattle.env_script.specs.Environment.{channels_of}
+use Rattle.env_script.specs.Environment.{net_channels}
 use Rattle.env_script.specs.Wired.{IsWired}
 
 pub wired : (net : NetValue) (w : Wires) → IsChannel net w → IsWired (length net.first) w
@@ -31,7 +31,7 @@ script_length (w ∷ ws) [] is = absurd is
 script_length (w ∷ ws) (o ∷ os) is = ap suc (script_length ws os is.1)
 
 -- a script has one offer for each channel
-pub one_each : (net : NetValue) (script : List OfferValue) → IsScript (channels_of net) script → length script ≡ length net.channels
+pub one_each : (net : NetValue) (script : List OfferValue) → IsScript (net_channels net) script → length script ≡ length net.channels
 one_each net script is = script_length net.channels script is
 
 -- a net has no more channels than nodes

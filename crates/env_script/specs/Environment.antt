@@ -8,8 +8,8 @@ use Rattle.prs_core.specs.Nets.{NetValue}
 use Rattle.prs_core.specs.Moves.{rule_enabled, rail_value_of, neutral}
 use Rattle.env_script.specs.Scripts.{OfferValue, gives, takes, nothing, offer_at, is_over}
 
-abbrev pub channels_of : NetValue → List Channel
-channels_of net = map (λ (w : Wires). w.channel) net.channels
+abbrev pub net_channels : NetValue → List Channel
+net_channels net = map (λ (w : Wires). w.channel) net.channels
 
 -- the test passes at each number below the count
 abbrev pub all_below : ℕ → (ℕ → Bool) → Bool

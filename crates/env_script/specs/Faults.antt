@@ -3,9 +3,9 @@ use Rattle.std.specs.Prelude.{ℕ}
 use Rattle.env_script.specs.declared.fault.ScriptFault.{ScriptFault}
 use Rattle.env_script.specs.declared.fault.ScriptFault.TheVariants.{BadLine, NoSuchChannel, TooWide, DoubleChannel, TooManyValues}
 
-abbrev pub number_of : ScriptFault → ℕ
-number_of BadLine = 50
-number_of NoSuchChannel = 51
-number_of TooWide = 52
-number_of DoubleChannel = 53
-number_of TooManyValues = 54
+abbrev pub script_fault_number : ScriptFault → ℕ
+script_fault_number BadLine = 50
+script_fault_number NoSuchChannel = 51
+script_fault_number TooWide = 52
+script_fault_number DoubleChannel = 53
+script_fault_number TooManyValues = 54

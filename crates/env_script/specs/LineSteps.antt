@@ -9,7 +9,7 @@ use Rattle.env_script.specs.declared.step.Step.TheVariants.{Skip, Refused, Take}
 use Rattle.env_script.specs.declared.step.Taken.{Taken}
 use Rattle.env_script.specs.Scripts.{OfferValue}
 use Rattle.env_script.specs.Offers.{offered}
-use Rattle.env_script.specs.ScriptText.{Says, channel_named, fault_on, offer_of, script_of, is_told, values_in, values_told, IsTold}
+use Rattle.env_script.specs.ScriptText.{LineSays, channel_named, fault_on, offer_of, script_of, is_told, values_in, values_told, IsTold}
 
 abbrev pub told_at : List Bool → ℕ → Bool
 told_at told place = slice_index_or told place false
@@ -24,10 +24,10 @@ pub record IsPlace (channels : List Channel) (name : List ℕ) (place : ℕ) (c 
 -- why the words are refused, where these channels were told of and so many values came before
 pub data StepFault (channels : List Channel) (told : List Bool) (values : ℕ) (words : List (List ℕ)) : ScriptFault →
     Type 0 where
-  says_nothing : 0 < length words → ((l : Line) → ¬ Says words l) → StepFault channels told values words BadLine
-  of_nothing : (l : Line) → Says words l → channel_named channels l.name ≡ None →
+  says_nothing : 0 < length words → ((l : Line) → ¬ LineSays words l) → StepFault channels told values words BadLine
+  of_nothing : (l : Line) → LineSays words l → channel_named channels l.name ≡ None →
       StepFault channels told values words NoSuchChannel
-  of_channel : (l : Line) (c : Channel) (place : ℕ) {fault : ScriptFault} → Says words l →
+  of_channel : (l : Line) (c : Channel) (place : ℕ) {fault : ScriptFault} → LineSays words l →
       IsPlace channels l.name place c → fault_on c (told_at told place) values l.said ≡ Some fault →
       StepFault channels told values words fault
 
@@ -36,7 +36,7 @@ pub record IsStep (channels : List Channel) (told : List Bool) (values : ℕ) (w
     where
   pub line : Line
   pub channel : Channel
-  pub says : Says words line
+  pub says : LineSays words line
   pub place : IsPlace channels line.name t.place channel
   pub faultless : fault_on channel (told_at told t.place) values line.said ≡ None
   pub offer : offered t.offer ≡ offer_of channel.kind (Some line.said)

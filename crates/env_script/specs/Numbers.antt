@@ -3,32 +3,32 @@ use Rattle.std.specs.Prelude.{◌≡◌, ◌⊎◌, ℕ, ◌+◌, ◌*◌, ◌-�
 use Rattle.std.specs.List.{list_all}
 use Rattle.chp_base.specs.Names.{between, digit}
 
-abbrev pub hex_digit : ℕ → Bool
-hex_digit b = digit b || between 97 102 b || between 65 70 b
+abbrev pub hex_digit_of_word : ℕ → Bool
+hex_digit_of_word b = digit b || between 97 102 b || between 65 70 b
 
 -- what a digit of either kind stands for
-abbrev pub digit_value : ℕ → ℕ
-digit_value b = if digit b then b - 48 else if between 97 102 b then b - 87 else b - 55
+abbrev pub digit_of_word : ℕ → ℕ
+digit_of_word b = if digit b then b - 48 else if between 97 102 b then b - 87 else b - 55
 
 -- what digits stand for, the highest first
-abbrev pub number_in : ℕ → List ℕ → ℕ
-number_in base bs = fold (λ n b. base * n + digit_value b) 0 bs
+abbrev pub number_of_word : ℕ → List ℕ → ℕ
+number_of_word base bs = fold (λ n b. base * n + digit_of_word b) 0 bs
 
 -- decimal digits alone, with a value of at most 2 ^ 64 - 1
-pub record IsDecimal (n : ℕ) (bs : List ℕ) : Type 0 where
+pub record IsDecimalWord (n : ℕ) (bs : List ℕ) : Type 0 where
   pub some : 0 < length bs
   pub digits : list_all digit bs ≡ true
-  pub value : number_in 10 bs ≡ n
+  pub value : number_of_word 10 bs ≡ n
   pub fits : n < 2 ^ 64
 
 -- 0x and 1 to 16 hexadecimal digits
-pub record IsHexadecimal (n : ℕ) (bs : List ℕ) : Type 0 where
+pub record IsHexadecimalWord (n : ℕ) (bs : List ℕ) : Type 0 where
   pub tail : List ℕ
   pub begins : bs ≡ codes "0x" ++ tail
   pub some : 0 < length tail
   pub most : length tail ≤ 16
-  pub digits : list_all hex_digit tail ≡ true
-  pub value : number_in 16 tail ≡ n
+  pub digits : list_all hex_digit_of_word tail ≡ true
+  pub value : number_of_word 16 tail ≡ n
 
 abbrev pub IsNumber : List ℕ → ℕ → Type 0
-IsNumber word n = IsDecimal n word ⊎ IsHexadecimal n word
+IsNumber word n = IsDecimalWord n word ⊎ IsHexadecimalWord n word

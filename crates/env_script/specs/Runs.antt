@@ -59,8 +59,8 @@ after net st (n ∷ ns) = after net (moved net st n) ns
 abbrev pub begin_at : NetValue → List Bool → RunState
 begin_at net values = record { values = values; histories = replicate (length net.channels) [] }
 
-abbrev pub start_of : NetValue → RunState
-start_of net = begin_at net net.first
+abbrev pub run_start : NetValue → RunState
+run_start net = begin_at net net.first
 
 -- no move is enabled
 abbrev pub IsAtRest : NetValue → List OfferValue → RunState → Type 0

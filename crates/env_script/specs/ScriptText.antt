@@ -23,7 +23,7 @@ SaysBehind words Every = words ≡ codes "all" ∷ []
 SaysBehind words (Numbers ns) = AllZip IsNumber words ns
 
 -- the words of a line are a name with its colon, and what is said of the channel
-pub record Says (words : List (List ℕ)) (l : Line) : Type 0 where
+pub record LineSays (words : List (List ℕ)) (l : Line) : Type 0 where
   pub name : IsName l.name
   pub behind : List (List ℕ)
   pub spelled : words ≡ (l.name ++ codes ":") ∷ behind
@@ -80,7 +80,7 @@ is_some_line words = not (length words == 0)
 
 -- the lines of a text that have words say this of the channels
 pub record IsTold (channels : List Channel) (lines : List (List ℕ)) (ls : List Line) : Type 0 where
-  pub says : AllZip Says (filter is_some_line (map words_of lines)) ls
+  pub says : AllZip LineSays (filter is_some_line (map words_of lines)) ls
   pub good : IsGood channels ls
 
 -- what is said of the channel of the name
@@ -133,28 +133,28 @@ abbrev pub line_fault : List Channel → List Line → Line → Option ScriptFau
 line_fault channels before l = fault_at (channel_named channels l.name) (is_told before l.name)
     (values_told channels before) l.said
 
-pub data LineFault (channels : List Channel) (before : List Line) (words : List (List ℕ)) : ScriptFault → Type 0 where
-  bad_line : 0 < length words → ((l : Line) → ¬ Says words l) → LineFault channels before words BadLine
-  of_line : (l : Line) {fault : ScriptFault} → Says words l → line_fault channels before l ≡ Some fault →
-      LineFault channels before words fault
+pub data ScriptLineFault (channels : List Channel) (before : List Line) (words : List (List ℕ)) : ScriptFault → Type 0 where
+  bad_line : 0 < length words → ((l : Line) → ¬ LineSays words l) → ScriptLineFault channels before words BadLine
+  of_line : (l : Line) {fault : ScriptFault} → LineSays words l → line_fault channels before l ≡ Some fault →
+      ScriptLineFault channels before words fault
 
 -- the text is refused for this cause at this line, the first one with a fault
-pub record IsRefused (channels : List Channel) (text : List ℕ) (fault : ScriptFault) (line : ℕ) : Type 0 where
+pub record IsScriptRefused (channels : List Channel) (text : List ℕ) (fault : ScriptFault) (line : ℕ) : Type 0 where
   pub before : List (List ℕ)
   pub here : List ℕ
   pub behind : List (List ℕ)
   pub parts : lines_of text ≡ before ++ here ∷ behind
   pub lines : List Line
   pub told : IsTold channels before lines
-  pub fault_here : LineFault channels lines (words_of here) fault
+  pub fault_here : ScriptLineFault channels lines (words_of here) fault
   pub number : line ≡ length before + 1
 
 -- it is refused for no other cause, and at no other line
 abbrev pub IsOnlyRefusal : List Channel → List ℕ → ScriptFault → ℕ → Type 0
-IsOnlyRefusal channels text fault line = (f : ScriptFault) (n : ℕ) → IsRefused channels text f n →
+IsOnlyRefusal channels text fault line = (f : ScriptFault) (n : ℕ) → IsScriptRefused channels text f n →
     (f ≡ fault) × (n ≡ line)
 
 -- a fact of the cause and the line for which a text is refused; want of memory is no refusal
-abbrev pub OfRefusal : (ScriptFault → ℕ → Type 0) → ScriptError → Type 0
-OfRefusal P (Refused fault line) = P fault line
-OfRefusal P (NoMemory e) = Unit {0}
+abbrev pub OfScriptRefusal : (ScriptFault → ℕ → Type 0) → ScriptError → Type 0
+OfScriptRefusal P (Refused fault line) = P fault line
+OfScriptRefusal P (NoMemory e) = Unit {0}

@@ -6,7 +6,7 @@ ghost use Rattle.prs_core.specs.declared.wires.Wires.{Wires};
 ghost use Rattle.prs_core.specs.Moves.{high};
 ghost use Rattle.env_script.specs.Scripts.{is_over, IsScript, offer_at};
 ghost use Rattle.env_script.specs.Offers.{offered};
-ghost use Rattle.env_script.specs.Environment.{channels_of, in_reset, is_reset, rules_rest, raises_bit, raises_value, lowers, valid, receiver_moves, offer_moves, channels_move, env_enabled};
+ghost use Rattle.env_script.specs.Environment.{net_channels, in_reset, is_reset, rules_rest, raises_bit, raises_value, lowers, valid, receiver_moves, offer_moves, channels_move, env_enabled};
 ghost use Rattle.env_script.specs.Wired.{IsWired};
 
 use crate::script::{Count, Offer, Script};
@@ -161,7 +161,7 @@ fn channels_move(net: &Net, script: &Script, done: &[u64], state: &State, node: 
 /// node is high it does nothing but lower that node, where no rule is enabled; it never raises it. (The handshake is
 /// Martin's; the script is our profile.)
 pub fn env_enabled(net: &Net, script: &Script, done: &[u64], state: &State, node: u32) -> bool
-    requires script { IsScript (channels_of net.now) script.now }
+    requires script { IsScript (net_channels net.now) script.now }
     requires done { length done.now ≡ length net.now.channels }
     requires state { length state.now ≡ length net.now.first }
     requires node { node < length net.now.first }

@@ -1,7 +1,7 @@
 //! Why a script is refused.
 
 ghost use Rattle.std.specs.Prelude.{◌≡◌};
-ghost use Rattle.env_script.specs.Faults.{number_of};
+ghost use Rattle.env_script.specs.Faults.{script_fault_number};
 
 use std::alloc::{AllocError, AllocFailed};
 use thiserror::Error;
@@ -25,7 +25,7 @@ pub enum ScriptFault {
 impl ScriptFault {
     /// The number of the cause, from 50 to 54.
     pub fn number(&self) -> u8
-        ensures { result ≡ number_of self.now }
+        ensures { result ≡ script_fault_number self.now }
     {
         match self {
             ScriptFault::BadLine => 50,

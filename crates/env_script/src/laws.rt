@@ -5,7 +5,7 @@ ghost use Rattle.chp_base.specs.declared.channel.Channel.{Channel};
 ghost use Rattle.prs_core.specs.Nets.{NetValue, IsNet};
 ghost use Rattle.env_script.specs.declared.fault.ScriptFault.{ScriptFault};
 ghost use Rattle.env_script.specs.Scripts.{OfferValue};
-ghost use Rattle.env_script.specs.ScriptText.{IsScriptText, IsRefused};
+ghost use Rattle.env_script.specs.ScriptText.{IsScriptText, IsScriptRefused};
 ghost use Rattle.env_script.specs.Runs.{RunState, IsRun, IsAtRest, after};
 ghost use Rattle.env_script.specs.OneLength.{AllSafe, EndsAll};
 
@@ -20,11 +20,11 @@ pub fn one_script()
 /// Law: a text that is refused is no script, and is refused for one cause at one line.
 pub fn one_refusal()
     ensures none { (channels : List Channel) (text : List ℕ) (s : List OfferValue) (f : ScriptFault) (n : ℕ)
-        → IsRefused channels text f n
+        → IsScriptRefused channels text f n
         → ¬ IsScriptText channels text s }
     ensures only { (channels : List Channel) (text : List ℕ) (f g : ScriptFault) (n m : ℕ)
-        → IsRefused channels text f n
-        → IsRefused channels text g m
+        → IsScriptRefused channels text f n
+        → IsScriptRefused channels text g m
         → (f ≡ g) × (n ≡ m) }
 {}
 

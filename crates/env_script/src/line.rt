@@ -6,7 +6,7 @@ ghost use Rattle.chp_base.specs.Names.{IsName};
 ghost use Rattle.env_script.specs.declared.line.Said.{Said};
 ghost use Rattle.env_script.specs.declared.line.Line.{Line};
 ghost use Rattle.env_script.specs.Numbers.{IsNumber};
-ghost use Rattle.env_script.specs.ScriptText.{SaysBehind, Says};
+ghost use Rattle.env_script.specs.ScriptText.{SaysBehind, LineSays};
 
 use crate::number::number_of;
 use chp_base::{Name, name_of};
@@ -117,8 +117,8 @@ fn said_in(alloc: Global, words: &[&[u8]]) -> Result<Option<Said>, AllocError>
 
 /// What the words of a line say, or None where they aren't a name with its colon followed by numbers or `all`.
 pub fn line_in(alloc: Global, words: &[&[u8]]) -> Result<Option<Line>, AllocError>
-    ensures some { IfOk result (λ o. IfSome o (Says (map (λ word. word.now) words.now))) }
-    ensures none { IfOk result (λ o. IfNone o ((l : Line) → ¬ Says (map (λ word. word.now) words.now) l)) }
+    ensures some { IfOk result (λ o. IfSome o (LineSays (map (λ word. word.now) words.now))) }
+    ensures none { IfOk result (λ o. IfNone o ((l : Line) → ¬ LineSays (map (λ word. word.now) words.now) l)) }
 {
     let [first, behind @ ..] = words else {
         return Ok(None);

@@ -3,7 +3,7 @@
 ghost use Rattle.std.specs.Prelude.{◌≡◌, ◌≤◌, ◌^◌, ℕ, true, IfSome, IfNone};
 ghost use Rattle.std.specs.List.{list_all};
 ghost use Rattle.chp_base.specs.Names.{digit};
-ghost use Rattle.env_script.specs.Numbers.{IsNumber, hex_digit, digit_value, number_in};
+ghost use Rattle.env_script.specs.Numbers.{IsNumber, hex_digit_of_word, digit_of_word, number_of_word};
 
 const MOST_HEX_DIGITS: usize = 16;
 
@@ -14,7 +14,7 @@ fn is_digit(byte: u8) -> bool
 }
 
 fn is_hex_digit(byte: u8) -> bool
-    ensures { result ≡ hex_digit byte }
+    ensures { result ≡ hex_digit_of_word byte }
 {
     matches!(byte, b'0'..=b'9' | b'a'..=b'f' | b'A'..=b'F')
 }
@@ -26,14 +26,14 @@ fn are_digits(text: &[u8]) -> bool
 }
 
 fn are_hex_digits(text: &[u8]) -> bool
-    ensures { result ≡ list_all hex_digit text.now }
+    ensures { result ≡ list_all hex_digit_of_word text.now }
 {
     text.iter().all(|byte| is_hex_digit(*byte))
 }
 
 fn value_of_digit(byte: u8) -> u8
-    requires { hex_digit byte ≡ true }
-    ensures { result ≡ digit_value byte }
+    requires { hex_digit_of_word byte ≡ true }
+    ensures { result ≡ digit_of_word byte }
 {
     match byte {
         b'0'..=b'9' => byte - b'0',
@@ -45,9 +45,9 @@ fn value_of_digit(byte: u8) -> u8
 /// What the digits stand for, the highest first, or None where that is above 2^64 - 1.
 fn value_of(base: u64, digits: &[u8]) -> Option<u64>
     requires base { 1 ≤ base }
-    requires digits { list_all hex_digit digits.now ≡ true }
-    ensures some { IfSome result (λ n. n ≡ number_in base digits.now) }
-    ensures none { IfNone result (2 ^ 64 ≤ number_in base digits.now) }
+    requires digits { list_all hex_digit_of_word digits.now ≡ true }
+    ensures some { IfSome result (λ n. n ≡ number_of_word base digits.now) }
+    ensures none { IfNone result (2 ^ 64 ≤ number_of_word base digits.now) }
 {
     let mut value: u64 = 0;
     for digit in digits {

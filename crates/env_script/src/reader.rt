@@ -4,7 +4,7 @@ ghost use Rattle.std.specs.Prelude.{◌≡◌, ◌≢◌, ◌≤◌, All, AllPai
 ghost use Rattle.chp_base.specs.declared.channel.Channel.{Channel};
 ghost use Rattle.env_script.specs.Scripts.{IsScript};
 ghost use Rattle.env_script.specs.Offers.{offered};
-ghost use Rattle.env_script.specs.ScriptText.{offer_of, script_of, is_told, IsScriptText, IsOnlyScript, IsNoScript, IsRefused, IsOnlyRefusal, OfRefusal};
+ghost use Rattle.env_script.specs.ScriptText.{offer_of, script_of, is_told, IsScriptText, IsOnlyScript, IsNoScript, IsScriptRefused, IsOnlyRefusal, OfScriptRefusal};
 
 use crate::fault::ScriptError;
 use crate::script::{Count, Offer, Script};
@@ -69,9 +69,9 @@ pub fn read_script(alloc: Global, text: &[u8], channels: &[Channel]) -> Result<S
     ensures read { IfOk result (IsScriptText channels.now text.now) }
     ensures only { IfOk result (IsOnlyScript channels.now text.now) }
     ensures script { IfOk result (IsScript channels.now) }
-    ensures refused { IfErr result (OfRefusal (IsRefused channels.now text.now)) }
-    ensures first { IfErr result (OfRefusal (IsOnlyRefusal channels.now text.now)) }
-    ensures none { IfErr result (OfRefusal (λ fault line. IsNoScript channels.now text.now)) }
+    ensures refused { IfErr result (OfScriptRefusal (IsScriptRefused channels.now text.now)) }
+    ensures first { IfErr result (OfScriptRefusal (IsOnlyRefusal channels.now text.now)) }
+    ensures none { IfErr result (OfScriptRefusal (λ fault line. IsNoScript channels.now text.now)) }
 {
     let lines = lines_of(alloc, text)?;
     let mut offers = first_offers(alloc, channels)?;

@@ -4,7 +4,7 @@ use Rattle.std.specs.List.{list_any}
 use Rattle.prs_core.specs.Nets.{NetValue, IsNet}
 use Rattle.prs_core.specs.Moves.{high, rule_enabled}
 use Rattle.env_script.specs.Scripts.{OfferValue, IsScript}
-use Rattle.env_script.specs.Environment.{channels_of, env_enabled}
+use Rattle.env_script.specs.Environment.{net_channels, env_enabled}
 use Rattle.env_script.specs.Runs.{RunState, after}
 use Rattle.env_script.specs.declared.hazard.Hazard.{Hazard}
 use Rattle.env_script.specs.declared.hazard.Hazard.TheVariants.{BothWays, Unstable, Protocol}
@@ -40,7 +40,7 @@ has_move net script done values n =
 -- what is kept beside: the counts of completed values, the enabled moves, and room for two lists of all nodes
 pub record IsKeptBeside (s : StageValue) (counts listed : List ℕ) (room_one room_other : ℕ) : Type 0 where
   pub net : IsNet s.net
-  pub script : IsScript (channels_of s.net) s.script
+  pub script : IsScript (net_channels s.net) s.script
   pub values : length s.values ≡ length s.net.first
   pub counts_are : counts ≡ map (λ (h : List ℕ). length h) (now_of s).histories
   pub passed : All (λ (p : ℕ × ℕ). p.0 < length s.net.channels) s.passed

@@ -6,7 +6,7 @@ ghost use Rattle.prs_core.specs.declared.wires.Wires.{Wires};
 ghost use Rattle.prs_core.specs.Nets.{IsNet};
 ghost use Rattle.prs_core.specs.Moves.{high};
 ghost use Rattle.env_script.specs.Scripts.{IsScript};
-ghost use Rattle.env_script.specs.Environment.{channels_of, in_reset};
+ghost use Rattle.env_script.specs.Environment.{net_channels, in_reset};
 ghost use Rattle.env_script.specs.Wired.{IsWired};
 ghost use Rattle.env_script.specs.Runs.{completes};
 ghost use Rattle.event_sim.specs.Passing.{channel_acknowledged, completion};
@@ -17,7 +17,7 @@ use prs_core::{Net, State, Wires, enabled, rail_value};
 
 /// Whether the node has an enabled move, where so many values are completed on each channel.
 fn has_move(net: &Net, script: &Script, done: &[u64], state: &State, node: u32) -> bool
-    requires script { IsScript (channels_of net.now) script.now }
+    requires script { IsScript (net_channels net.now) script.now }
     requires done { length done.now ≡ length net.now.channels }
     requires state { length state.now ≡ length net.now.first }
     requires node { node < length net.now.first }
@@ -34,7 +34,7 @@ pub(crate) fn list_moves(
     state: &State,
     moves: &mut Vec<u32>,
 )
-    requires script { IsScript (channels_of net.now) script.now }
+    requires script { IsScript (net_channels net.now) script.now }
     requires done { length done.now ≡ length net.now.channels }
     requires state { length state.now ≡ length net.now.first }
     requires room { length net.now.first ≤ vec_capacity moves.old }

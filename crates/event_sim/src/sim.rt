@@ -3,7 +3,7 @@
 ghost use Rattle.std.specs.Prelude.{◌≡◌, ℕ, ◌+◌, ◌≤◌, ◌<◌, ◌++◌, List, [], ◌∷◌, length, take, true, false, IsSome, Some, None, IfOk, IfSome};
 ghost use Rattle.prs_core.specs.Moves.{high};
 ghost use Rattle.env_script.specs.Scripts.{IsScript};
-ghost use Rattle.env_script.specs.Environment.{channels_of};
+ghost use Rattle.env_script.specs.Environment.{net_channels};
 ghost use Rattle.env_script.specs.Runs.{IsRun, after};
 ghost use Rattle.env_script.specs.OneLength.{AllSafe, EndsAll};
 ghost use Rattle.event_sim.specs.declared.ran.End.TheVariants.{AtRest};
@@ -98,7 +98,7 @@ impl Sim {
         steps: u32,
         high: bool,
     ) -> Result<Sim, AllocError>
-        requires script { IsScript (channels_of net) script }
+        requires script { IsScript (net_channels net) script }
         requires steps { steps ≤ 1000000 }
         ensures { IfOk result (λ s. s ≡ record { net = net; script = script; steps = steps; high = high }) }
     {
@@ -110,7 +110,7 @@ impl Sim {
     /// The simulation of the net under the script, for so many moves at most. Where the net has a reset node, the nodes
     /// that have rules are low at power-up.
     pub fn new(alloc: Global, net: Net, script: Script, steps: u32) -> Result<Sim, AllocError>
-        requires script { IsScript (channels_of net) script }
+        requires script { IsScript (net_channels net) script }
         requires steps { steps ≤ 1000000 }
         ensures { IfOk result (λ s. s ≡ record { net = net; script = script; steps = steps; high = false }) }
     {
@@ -126,7 +126,7 @@ impl Sim {
         steps: u32,
         high: bool,
     ) -> Result<Sim, AllocError>
-        requires script { IsScript (channels_of net) script }
+        requires script { IsScript (net_channels net) script }
         requires steps { steps ≤ 1000000 }
         requires reset { IsSome net.reset }
         ensures { IfOk result (λ s. s ≡ record { net = net; script = script; steps = steps; high = high }) }

@@ -4,7 +4,7 @@ ghost use Rattle.std.specs.Prelude.{◌≡◌, ◌<◌, ◌≤◌, ◌+◌, ◌+
 ghost use Rattle.prs_core.specs.Nets.{IsNet};
 ghost use Rattle.prs_core.specs.Moves.{high};
 ghost use Rattle.env_script.specs.Scripts.{IsScript};
-ghost use Rattle.env_script.specs.Environment.{channels_of};
+ghost use Rattle.env_script.specs.Environment.{net_channels};
 ghost use Rattle.env_script.specs.Runs.{moved};
 ghost use Rattle.env_script.specs.Hazards.{first_hazard, hazard_of};
 ghost use Rattle.event_sim.specs.Passing.{completion, channel_histories};
@@ -83,7 +83,7 @@ impl Stage {
         state: State,
         room: u32,
     ) -> Result<Stage, AllocError>
-        requires script { IsScript (channels_of net) script }
+        requires script { IsScript (net_channels net) script }
         requires state { length state ≡ length net.first }
         ensures { IfOk result (λ s. s ≡ stage_with net script state [] room) }
     {

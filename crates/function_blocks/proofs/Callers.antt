@@ -11,7 +11,7 @@ use Rattle.width_check.specs.Typing.{var_width, ReadsFrom}
 use Rattle.function_blocks.specs.Expressions.{HasBits, read_rail, formula_rules}
 use Rattle.function_blocks.specs.Blocks.{bits_in_blocks}
 use Rattle.function_blocks.specs.BitsRead.{EachRead, bits_read}
-use Rattle.function_blocks.specs.Parts.{Part, fixed, read_bit, made, parts_of}
+use Rattle.function_blocks.specs.Parts.{BlockPart, fixed, read_bit, made, parts_of}
 use Rattle.function_blocks.specs.Listed.{part_rules, rules_listed}
 use Rattle.function_blocks.proofs.GateRest.{Only}
 use Rattle.function_blocks.proofs.Readings.{parts_read}
@@ -39,7 +39,7 @@ rails_have P bits e h r =
         (each_rail ps (λ q among. f q (Contains-append_right (p ∷ []) ps q among))))
 
 -- the rules are the same where the bits that are read are
-listed_same : (bits now : ℕ → List Pair) (request from : ℕ) (gs : List Part) → Only (λ x i. pair_of (bits x) i ≡ pair_of (now x) i) gs
+listed_same : (bits now : ℕ → List Pair) (request from : ℕ) (gs : List BlockPart) → Only (λ x i. pair_of (bits x) i ≡ pair_of (now x) i) gs
     → rules_listed bits request from gs ≡ rules_listed now request from gs
 listed_same bits now request from [] h = refl
 listed_same bits now request from (fixed v ∷ gs) h = ap (λ rs. part_rules bits request from (fixed v) ++ rs) (listed_same bits now request from gs h)

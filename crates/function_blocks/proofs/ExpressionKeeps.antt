@@ -8,8 +8,8 @@ use Rattle.prs_core.specs.Nets.{NodeRules}
 use Rattle.prs_core.specs.Pairs as nodes
 use Rattle.prs_core.specs.Moves.{guard_holds, rail_value_of}
 use Rattle.prs_core.specs.Parts as parts
-use Rattle.prs_core.specs.Parts.{Owned, Part, Wire, Moment, owned, owned_from, wire, turned, after, all_low, is_valid, may_move, IsFirst, IsMove, IsKept, Keeps, Reached}
-use Rattle.prs_core.specs.Keeping.{held}
+use Rattle.prs_core.specs.Parts.{Owned, Part, Wire, Moment, owned, owned_from, wire, turned, moment_after, all_low, is_valid, may_move, IsFirstState, IsMove, IsKept, Keeps, Reached}
+use Rattle.prs_core.specs.Keeping.{held_in_each}
 use Rattle.prs_core.specs.Turning.{turned_here, turned_apart, among_cases, none_among, among_mapped, mapped_among}
 use Rattle.prs_core.specs.Deciding.{left_of, right_of, both_of}
 use Rattle.width_check.specs.declared.typed.Var.{Var}
@@ -18,12 +18,12 @@ use Rattle.width_check.specs.Values.{width_of, value, IsWellFormed}
 use Rattle.width_check.specs.Typing.{var_width, ReadsFrom}
 use Rattle.handshake_expand.specs.Layout.{formula_size}
 use Rattle.function_blocks.specs.Expressions.{HasBits, formula_result, formula_rules}
-use Rattle.function_blocks.specs.Rails.{pair_of, side_of, same_bit, Pairs, low_pairs, pair_in, turned_pairs, Rails, Single, fires, value_on, neutral_on}
+use Rattle.function_blocks.specs.Rails.{levels_of, side_of, same_bit, Pairs, low_pairs, pair_in, turned_pairs, Rails, Single, one_rule_fires, value_on, neutral_on}
 use Rattle.function_blocks.specs.Parts.{gate_count}
 use Rattle.function_blocks.specs.Waves.{gate_rule, good, out_rail, full, empty, store_of, Waves}
 use Rattle.function_blocks.specs.Listed.{rail_place, node_of, Valued, Told, Listed}
 use Rattle.function_blocks.specs.BitsRead.{EachRead, bits_read}
-use Rattle.function_blocks.specs.ExpressionParts.{IsOutside, value_seen, rail_wire, variable_wire, variable_wires, expression_part, inner_bits, StandsApart, IsAtRest}
+use Rattle.function_blocks.specs.ExpressionParts.{IsOutside, value_seen, value_wire, variable_wire, variable_wires, expression_part, inner_bits, StandsApart, ExpressionRests}
 use Rattle.function_blocks.proofs.Tables.{not_true}
 use Rattle.function_blocks.proofs.Sizes.{result_length, rules_length}
 use Rattle.function_blocks.proofs.PartSizes.{count_doubled}
@@ -89,7 +89,7 @@ pairs_low v from n f = pairs_same v (λ k. false) from n f ∙ none from n
   where
     none : (from n : ℕ) → pairs_at (λ k. false) from n ≡ low_pairs n
     none from zero = refl
-    none from (suc n) = ap (λ (z : Pairs n). (pair_of false false, z)) (none (from + 2) n)
+    none from (suc n) = ap (λ (z : Pairs n). (levels_of false false, z)) (none (from + 2) n)
 
 low_side : (n k : ℕ) (one : Bool) → side_of (pair_in n (low_pairs n) k) one ≡ false
 low_side zero k true = refl
@@ -144,7 +144,7 @@ module _ (bits : ℕ → List nodes.Pair) (e : Formula) (request from : ℕ) (ap
   rail x i one = node_of (nodes.pair_of (bits x) i) one
 
   abbrev rule_fires : (ℕ → Bool) → ℕ → Bool → Bool
-  rule_fires v k one = fires (gate_rule e (now v) (v request) (at v) k one)
+  rule_fires v k one = one_rule_fires (gate_rule e (now v) (v request) (at v) k one)
 
   -- the rails that are read are other nodes
   among : (x i : ℕ) → reads_bit x i e ≡ true → Contains read (nodes.pair_of (bits x) i)
@@ -218,10 +218,10 @@ module _ (bits : ℕ → List nodes.Pair) (e : Formula) (request from : ℕ) (ap
   )
 
   rule_at : (v w : ℕ → Bool) (q : Bool) (u : Pairs n) → w request ≡ q → at w ≡ u → ((x i : ℕ) (one : Bool) → now v x i one ≡ now w x i one)
-      → (k : ℕ) (one : Bool) → rule_fires w k one ≡ fires (gate_rule e (now v) q u k one)
+      → (k : ℕ) (one : Bool) → rule_fires w k one ≡ one_rule_fires (gate_rule e (now v) q u k one)
   rule_at v w q u hq hu f k one =
-      ap (λ z. fires (gate_rule e (now w) z (at w) k one)) hq ∙ (ap (λ (z : Pairs n). fires (gate_rule e (now w) q z k one)) hu
-      ∙ ap fires (sym ((known.unread q (now v) (now w) u (λ x i one h. f x i one)).1 k one)))
+      ap (λ z. one_rule_fires (gate_rule e (now w) z (at w) k one)) hq ∙ (ap (λ (z : Pairs n). one_rule_fires (gate_rule e (now w) q z k one)) hu
+      ∙ ap one_rule_fires (sym ((known.unread q (now v) (now w) u (λ x i one h. f x i one)).1 k one)))
 
   -- an own move
   own_place : (k : ℕ) (one : Bool) → k < n → rail_place k one < formula_size e
@@ -354,10 +354,10 @@ module _ (bits : ℕ → List nodes.Pair) (e : Formula) (request from : ℕ) (ap
 
     bit_rule : v request ≡ false → (k : ℕ) (side : Bool) → rule_fires (turned v moving) k side ≡ rule_fires v k side
     bit_rule z k side =
-        ap (λ b. fires (gate_rule e (now (turned v moving)) b (at (turned v moving)) k side)) (bit_request ∙ z)
-        ∙ (ap (λ (u : Pairs n). fires (gate_rule e (now (turned v moving)) false u k side)) bit_at
-        ∙ (ap fires (sym ((known.asleep (now v) (now (turned v moving)) (at v)).1 k side))
-        ∙ ap (λ b. fires (gate_rule e (now v) b (at v) k side)) (sym z)))
+        ap (λ b. one_rule_fires (gate_rule e (now (turned v moving)) b (at (turned v moving)) k side)) (bit_request ∙ z)
+        ∙ (ap (λ (u : Pairs n). one_rule_fires (gate_rule e (now (turned v moving)) false u k side)) bit_at
+        ∙ (ap one_rule_fires (sym ((known.asleep (now v) (now (turned v moving)) (at v)).1 k side))
+        ∙ ap (λ b. one_rule_fires (gate_rule e (now v) b (at v) k side)) (sym z)))
 
   -- a neighbour's move
   pub data Beside (v : ℕ → Bool) (node : ℕ) : Type 0 where
@@ -405,9 +405,9 @@ module _ (bits : ℕ → List nodes.Pair) (e : Formula) (request from : ℕ) (ap
   -- no gate moves where a request may
   asks_quiet : (v : ℕ → Bool) → Holds v → may_ask v ≡ true → (k : ℕ) (one : Bool) → rule_fires v k one ≡ false
   asks_quiet v h may k one = cases (v request)
-      (λ z. ap (λ b. fires (gate_rule e (now v) b (at v) k one)) z ∙ known.quiet_full (now v) (at v) h.0 (good_at v true z h.1) (asks_full v z may) k one)
+      (λ z. ap (λ b. one_rule_fires (gate_rule e (now v) b (at v) k one)) z ∙ known.quiet_full (now v) (at v) h.0 (good_at v true z h.1) (asks_full v z may) k one)
       (λ z. let low = known.inner_empty (now v) (at v) (good_at v false z h.1) (asks_low v z may).0 in
-      ap (λ b. fires (gate_rule e (now v) b (at v) k one)) z ∙ (ap (λ (u : Pairs n). fires (gate_rule e (now v) false u k one)) low
+      ap (λ b. one_rule_fires (gate_rule e (now v) b (at v) k one)) z ∙ (ap (λ (u : Pairs n). one_rule_fires (gate_rule e (now v) false u k one)) low
       ∙ known.quiet_low (now v) k one))
 
   firm : (m : Moment) → Holds m.value → (o : Owned) → Contains part.own o → parts.fires m.value o ≡ true → (node : ℕ) → IsMove part m node → node ≢ o.node
@@ -482,7 +482,7 @@ module _ (bits : ℕ → List nodes.Pair) (e : Formula) (request from : ℕ) (ap
       (λ z. ap (λ c. if c then not (v request) else (v request && value_rail v i one)) z
       ∙ ap not (never_true (v request) (λ q. cc (
         known.rises (now v) (at v) k side h.0 (good_at v true q h.1)
-            (ap (λ c. fires (gate_rule e (now v) c (at v) k side)) (sym q) ∙ f) i one (sym before ∙ z),
+            (ap (λ c. one_rule_fires (gate_rule e (now v) c (at v) k side)) (sym q) ∙ f) i one (sym before ∙ z),
         turns,
         z,
       ))))
@@ -490,10 +490,10 @@ module _ (bits : ℕ → List nodes.Pair) (e : Formula) (request from : ℕ) (ap
       ∙ cases (v request)
       (λ q. let right = ap (λ k. k / 2 ^ i % 2 == 1) (value_is v)
       ∙ known.right vars (now v) u reads_from h.0 (known.own true (now v) (at v) k side h.0 (good_at v true q h.1)
-      (ap (λ c. fires (gate_rule e (now v) c (at v) k side)) (sym q) ∙ f)) i one (turns ∙ ap not z) in
+      (ap (λ c. one_rule_fires (gate_rule e (now v) c (at v) k side)) (sym q) ∙ f)) i one (turns ∙ ap not z) in
       ap (λ c. c && value_rail v i one) q ∙ (ap (same_bit one) right ∙ same_self one))
       (λ q. absurd (cc (
-        known.falls (now v) (at v) k side h.0 (good_at v false q h.1) (ap (λ c. fires (gate_rule e (now v) c (at v) k side)) (sym q) ∙ f) i one
+        known.falls (now v) (at v) k side h.0 (good_at v false q h.1) (ap (λ c. one_rule_fires (gate_rule e (now v) c (at v) k side)) (sym q) ∙ f) i one
             (turns ∙ ap not z),
         before,
         z,
@@ -506,8 +506,8 @@ module _ (bits : ℕ → List nodes.Pair) (e : Formula) (request from : ℕ) (ap
       let a = spot o among in
       let rw = rail_among request (value_seen bits e) 0 result w here in
       let z : 0 + rw.bit ≡ rw.bit = omega arith in
-      let same : rail_wire request (value_seen bits e) rw.bit (nodes.pair_of result rw.bit) rw.one ≡ w =
-      ap (λ k. rail_wire request (value_seen bits e) k (nodes.pair_of result rw.bit) rw.one) (sym z) ∙ rw.is in
+      let same : value_wire request (value_seen bits e) rw.bit (nodes.pair_of result rw.bit) rw.one ≡ w =
+      ap (λ k. value_wire request (value_seen bits e) k (nodes.pair_of result rw.bit) rw.one) (sym z) ∙ rw.is in
       subst (λ (w : Wire). may_move m w ≡ true) same
       (promised_at v h a.gate a.one a.below (sym (own_fires v o a) ∙ f) rw.bit rw.one rw.below (ap (λ (w : Wire). w.node) same ∙ (is ∙ a.node)))
 
@@ -542,22 +542,22 @@ module _ (bits : ℕ → List nodes.Pair) (e : Formula) (request from : ℕ) (ap
   ask_wire = wire request (λ m. all_low m.value (nodes.rails_of result) && list_all (is_valid m.value) read) (λ m. list_all (is_valid m.value) result)
 
   -- at rest: the request may move, or it is low and a bit that is read isn't valid
-  pub rests : (m : Moment) → Holds m.value → ((o : Owned) → Contains part.own o → parts.fires m.value o ≡ false) → IsAtRest bits e request from m
+  pub rests : (m : Moment) → Holds m.value → ((o : Owned) → Contains part.own o → parts.fires m.value o ≡ false) → ExpressionRests bits e request from m
   rests m h none = cases (v request) full_rests low_rests
     where
       v : ℕ → Bool
       v = m.value
 
-      quiet : (q : Bool) → m.value request ≡ q → (k : ℕ) (one : Bool) → fires (gate_rule e (now m.value) q (at m.value) k one) ≡ false
-      quiet q z k one = ap (λ b. fires (gate_rule e (now m.value) b (at m.value) k one)) (sym z) ∙ still m.value none k one
+      quiet : (q : Bool) → m.value request ≡ q → (k : ℕ) (one : Bool) → one_rule_fires (gate_rule e (now m.value) q (at m.value) k one) ≡ false
+      quiet q z k one = ap (λ b. one_rule_fires (gate_rule e (now m.value) b (at m.value) k one)) (sym z) ∙ still m.value none k one
 
-      full_rests : m.value request ≡ true → IsAtRest bits e request from m
+      full_rests : m.value request ≡ true → ExpressionRests bits e request from m
       full_rests z =
           let whole = rest_read e apart.formed (now m.value) (at m.value) (each_from _ e (λ x i k. h.2 z x i k)) (good_at m.value true z h.1) (quiet true z) in
           inl (ap (λ b. if b then list_all (is_valid m.value) result else (all_low m.value (nodes.rails_of result) && list_all (is_valid m.value) read)) z
           ∙ (valid_are m.value ∙ whole))
 
-      low_rests : m.value request ≡ false → IsAtRest bits e request from m
+      low_rests : m.value request ≡ false → ExpressionRests bits e request from m
       low_rests z =
           let none_high = known.rest_down (now m.value) (at m.value) (good_at m.value false z h.1) (quiet false z) in
           cases (list_all (is_valid m.value) read)
@@ -571,7 +571,7 @@ module _ (bits : ℕ → List nodes.Pair) (e : Formula) (request from : ℕ) (ap
   waits : (m : Moment) → Holds m.value → ((o : Owned) → Contains part.own o → parts.fires m.value o ≡ false) → Waits m
   waits m h none = by (rests m h none)
     where
-      by : IsAtRest bits e request from m → Waits m
+      by : ExpressionRests bits e request from m → Waits m
       by (inl may) = (ask_wire, (0, omega arith, refl), may)
       by (inr (z, q)) =
           let (p, there, bad) = none_all (is_valid m.value) read q in
@@ -587,7 +587,7 @@ module _ (bits : ℕ → List nodes.Pair) (e : Formula) (request from : ℕ) (ap
                 ∙ (ap (λ b. not b && not (m.value p.f)) z ∙ ap not lows.1),
           )
 
-  first : (v : ℕ → Bool) → IsFirst part v → Holds v
+  first : (v : ℕ → Bool) → IsFirstState part v → Holds v
   first v is = (
     λ x i. cases (reads_bit x i e)
         (λ k. ap (λ b. not (b && now v x i false)) (seen v x i true k ∙ bit_low x i true k))
@@ -615,7 +615,7 @@ module _ (bits : ℕ → List nodes.Pair) (e : Formula) (request from : ℕ) (ap
           (among_owned rules from j (omega (arith, sized, size, l)))))
 
   each_holds : (m : Moment) → Reached part m → Holds m.value
-  each_holds = held part (λ m. Holds m.value) first (λ m node h move. holds_move m node h move)
+  each_holds = held_in_each part (λ m. Holds m.value) first (λ m node h move. holds_move m node h move)
 
   pub keeps : Keeps part
   keeps m reached =
@@ -628,7 +628,7 @@ module _ (bits : ℕ → List nodes.Pair) (e : Formula) (request from : ℕ) (ap
         waits = λ none. inl (waits m h none);
       }
 
-  pub at_rest : (m : Moment) → Reached part m → ((o : Owned) → Contains part.own o → parts.fires m.value o ≡ false) → IsAtRest bits e request from m
+  pub at_rest : (m : Moment) → Reached part m → ((o : Owned) → Contains part.own o → parts.fires m.value o ≡ false) → ExpressionRests bits e request from m
   at_rest m reached none = rests m (each_holds m reached) none
 
   -- what the rails of the result say of the inner ones
@@ -703,6 +703,6 @@ module _ (bits : ℕ → List nodes.Pair) (e : Formula) (request from : ℕ) (ap
       (result_length e from w) (rules_length over bits (over_bits bits (var_bound e)) e request from w reads_over) (count_doubled e)
 
   pub expression_rests : (m : Moment) → Reached (expression_part bits e request from) m
-      → ((o : Owned) → Contains (owned_from from (formula_rules bits e request from)) o → parts.fires m.value o ≡ false) → IsAtRest bits e request from m
+      → ((o : Owned) → Contains (owned_from from (formula_rules bits e request from)) o → parts.fires m.value o ≡ false) → ExpressionRests bits e request from m
   expression_rests = at_rest bits e request from apart over reads_over (over_bits bits (var_bound e)) (expression_holds e w) (listed over e w reads_over)
       (result_length e from w) (rules_length over bits (over_bits bits (var_bound e)) e request from w reads_over) (count_doubled e)

@@ -10,9 +10,9 @@ use Rattle.width_check.specs.declared.typed.Var.{Var}
 use Rattle.width_check.specs.Processes.{Formula}
 use Rattle.width_check.specs.Values.{IsWellFormed}
 use Rattle.width_check.specs.Typing.{var_width, ReadsFrom}
-use Rattle.function_blocks.specs.Rails.{Pair, pair_of, side_of, cross, neutral, Pairs, pair_in, Rule, Rails}
-use Rattle.function_blocks.specs.Parts.{Input, Part, fixed, read_bit, made, gate_count, outs_of, parts_of}
-use Rattle.function_blocks.specs.Waves.{taken, holds, part_rule, rule_among, rails_at}
+use Rattle.function_blocks.specs.Rails.{RailLevels, levels_of, side_of, cross, levels_neutral, Pairs, pair_in, Rule, Rails}
+use Rattle.function_blocks.specs.Parts.{Input, BlockPart, fixed, read_bit, made, gate_count, outs_of, parts_of}
+use Rattle.function_blocks.specs.Waves.{inputs_taken, holds, part_rule, rule_among, input_rails}
 use Rattle.function_blocks.specs.Listed.{placed, part_rules, rules_listed, rail_place, node_of, Listed}
 use Rattle.function_blocks.proofs.Minterms.{value_at, up_told, down_told}
 use Rattle.function_blocks.proofs.GateLists.{ordered_one, ordered, is_lt}
@@ -44,7 +44,7 @@ both_high v n m = elim (v n) as (λ b. ((b && (v m && true)) || false) ≡ (b &&
   | false ↦ refl
 ]
 
-module _ (bits : ℕ → List nodes.Pair) (request base : ℕ) (v : ℕ → Bool) (r : Bool) (now : ℕ → Rails) (n : ℕ) (look : ℕ → Pair) (asked : v request ≡ r)
+module _ (bits : ℕ → List nodes.Pair) (request base : ℕ) (v : ℕ → Bool) (r : Bool) (now : ℕ → Rails) (n : ℕ) (look : ℕ → RailLevels) (asked : v request ≡ r)
     (gates : (k : ℕ) (one : Bool) → k < n → v (base + rail_place k one) ≡ side_of (look k) one) where
   -- the two guards
   abbrev Guards : NodeRules → Rule → Type 0
@@ -53,8 +53,8 @@ module _ (bits : ℕ → List nodes.Pair) (request base : ℕ) (v : ℕ → Bool
   abbrev Shows : ℕ → ℕ → Type 0
   Shows x i = (one : Bool) → v (node_of (nodes.pair_of (bits x) i) one) ≡ now x i one
 
-  pair_is : (p q : Pair) → p.t ≡ q.t → p.f ≡ q.f → p ≡ q
-  pair_is p q h k = ap (λ z. pair_of z p.f) h ∙ ap (λ z. pair_of q.t z) k
+  pair_is : (p q : RailLevels) → p.t ≡ q.t → p.f ≡ q.f → p ≡ q
+  pair_is p q h k = ap (λ z. levels_of z p.f) h ∙ ap (λ z. levels_of q.t z) k
 
   true_at : (k : ℕ) → k < n → v (base + 2 * k) ≡ (look k).t
   true_at k l = ap (λ z. v (base + z)) (sym (place_true k)) ∙ gates k true l
@@ -69,23 +69,23 @@ module _ (bits : ℕ → List nodes.Pair) (request base : ℕ) (v : ℕ → Bool
       here true = pair_is _ _ (false_at i.at l) (true_at i.at l)
       here false = pair_is _ _ (true_at i.at l) (false_at i.at l)
 
-  taken_told : (m : ℕ) → m ≤ n → (ins : List Input) → below m ins ≡ true → map (value_at v) (map (placed base) ins) ≡ taken look ins
+  taken_told : (m : ℕ) → m ≤ n → (ins : List Input) → below m ins ≡ true → map (value_at v) (map (placed base) ins) ≡ inputs_taken look ins
   taken_told m l [] h = refl
   taken_told m l (i ∷ ins) h =
-      ap (λ (p : Pair). p ∷ map (value_at v) (map (placed base) ins)) (input_told i (let k : i.at < m = is_lt _ _ (left_of _ _ h) in omega (arith, k, l)))
-      ∙ ap (λ (ps : List Pair). cross i.crossed (look i.at) ∷ ps) (taken_told m l ins (right_of (nat_lt i.at m) _ h))
+      ap (λ (p : RailLevels). p ∷ map (value_at v) (map (placed base) ins)) (input_told i (let k : i.at < m = is_lt _ _ (left_of _ _ h) in omega (arith, k, l)))
+      ∙ ap (λ (ps : List RailLevels). cross i.crossed (look i.at) ∷ ps) (taken_told m l ins (right_of (nat_lt i.at m) _ h))
 
   side_told : (i : Input) (one : Bool) → i.at < n → v (node_of (placed base i) one) ≡ side_of (cross i.crossed (look i.at)) one
-  side_told i true l = ap (λ (p : Pair). p.t) (input_told i l)
-  side_told i false l = ap (λ (p : Pair). p.f) (input_told i l)
+  side_told i true l = ap (λ (p : RailLevels). p.t) (input_told i l)
+  side_told i false l = ap (λ (p : RailLevels). p.f) (input_told i l)
 
   pub outs_told : (us : List Input) → below n us ≡ true → (i : ℕ) (one : Bool) → i < length us
-      → v (node_of (nodes.pair_of (map (placed base) us) i) one) ≡ rails_at us look i one
+      → v (node_of (nodes.pair_of (map (placed base) us) i) one) ≡ input_rails us look i one
   outs_told [] h i one l = absurd (omega (arith, l))
   outs_told (j ∷ us) h zero one l = side_told j one (is_lt _ _ (left_of _ _ h))
   outs_told (j ∷ us) h (suc i) one l = outs_told us (right_of (nat_lt j.at n) _ h) i one (omega (arith, l))
 
-  part_told : (g : Part) (p : Pair) (one : Bool) (m : ℕ) → m ≤ n → ordered_one m g ≡ true → Only Shows (g ∷ [])
+  part_told : (g : BlockPart) (p : RailLevels) (one : Bool) (m : ℕ) → m ≤ n → ordered_one m g ≡ true → Only Shows (g ∷ [])
       → Guards (get_or (part_rules bits request base g) (rail_place zero one) nodes.no_rules) (part_rule r look now g p one)
   part_told (fixed true) p true m l o s = (one_high v request ∙ asked, one_low v request ∙ ap not asked)
   part_told (fixed true) p false m l o s = (refl, refl)
@@ -101,14 +101,14 @@ module _ (bits : ℕ → List nodes.Pair) (request base : ℕ) (v : ℕ → Bool
   )
   part_told (made f i more) p true m l o s = (
     up_told v (map (placed base) (i ∷ more)) f ∙ ap (holds f) (taken_told m l (i ∷ more) o),
-    down_told v (map (placed base) (i ∷ more)) f ∙ ap (λ (ps : List Pair). list_all neutral ps) (taken_told m l (i ∷ more) o),
+    down_told v (map (placed base) (i ∷ more)) f ∙ ap (λ (ps : List RailLevels). list_all levels_neutral ps) (taken_told m l (i ∷ more) o),
   )
   part_told (made f i more) p false m l o s = (
     up_told v (map (placed base) (i ∷ more)) (λ row. not (f row)) ∙ ap (holds (λ row. not (f row))) (taken_told m l (i ∷ more) o),
-    down_told v (map (placed base) (i ∷ more)) (λ row. not (f row)) ∙ ap (λ (ps : List Pair). list_all neutral ps) (taken_told m l (i ∷ more) o),
+    down_told v (map (placed base) (i ∷ more)) (λ row. not (f row)) ∙ ap (λ (ps : List RailLevels). list_all levels_neutral ps) (taken_told m l (i ∷ more) o),
   )
 
-  first_place : (g : Part) (rs : List NodeRules) (one : Bool) → get_or (part_rules bits request base g ++ rs) (rail_place zero one) nodes.no_rules ≡ get_or
+  first_place : (g : BlockPart) (rs : List NodeRules) (one : Bool) → get_or (part_rules bits request base g ++ rs) (rail_place zero one) nodes.no_rules ≡ get_or
       (part_rules bits request base g) (rail_place zero one) nodes.no_rules
   first_place (fixed true) rs true = refl
   first_place (fixed true) rs false = refl
@@ -119,7 +119,7 @@ module _ (bits : ℕ → List nodes.Pair) (request base : ℕ) (v : ℕ → Bool
   first_place (made f i more) rs true = refl
   first_place (made f i more) rs false = refl
 
-  later_place : (g : Part) (rs : List NodeRules) (j : ℕ) → get_or (part_rules bits request base g ++ rs) (suc (suc j)) nodes.no_rules ≡ get_or rs j
+  later_place : (g : BlockPart) (rs : List NodeRules) (j : ℕ) → get_or (part_rules bits request base g ++ rs) (suc (suc j)) nodes.no_rules ≡ get_or rs j
       nodes.no_rules
   later_place (fixed true) rs j = refl
   later_place (fixed false) rs j = refl
@@ -129,17 +129,17 @@ module _ (bits : ℕ → List nodes.Pair) (request base : ℕ) (v : ℕ → Bool
   told_by : (a b : NodeRules) (c : Rule) → a ≡ b → Guards b c → Guards a c
   told_by a b c e t = (ap (λ (x : NodeRules). guard_holds v x.up) e ∙ t.0, ap (λ (x : NodeRules). guard_holds v x.down) e ∙ t.1)
 
-  only_first : (g : Part) (gs : List Part) → Only Shows (g ∷ gs) → Only Shows (g ∷ [])
+  only_first : (g : BlockPart) (gs : List BlockPart) → Only Shows (g ∷ gs) → Only Shows (g ∷ [])
   only_first (fixed b) gs s = tt
   only_first (read_bit x i) gs s = (s.0, tt)
   only_first (made f i more) gs s = tt
 
-  only_rest : (g : Part) (gs : List Part) → Only Shows (g ∷ gs) → Only Shows gs
+  only_rest : (g : BlockPart) (gs : List BlockPart) → Only Shows (g ∷ gs) → Only Shows gs
   only_rest (fixed b) gs s = s
   only_rest (read_bit x i) gs s = s.1
   only_rest (made f i more) gs s = s
 
-  gates_told : (gs : List Part) (m : ℕ) (u : Pairs m) (from : ℕ) → length gs ≡ m → from + m ≤ n → ordered from gs ≡ true → Only Shows gs → (k : ℕ) (one : Bool)
+  gates_told : (gs : List BlockPart) (m : ℕ) (u : Pairs m) (from : ℕ) → length gs ≡ m → from + m ≤ n → ordered from gs ≡ true → Only Shows gs → (k : ℕ) (one : Bool)
       → Guards (get_or (rules_listed bits request base gs) (rail_place k one) nodes.no_rules) (rule_among r look now gs m u k one)
   gates_told [] m u from e l o s k one = (refl, refl)
   gates_told (g ∷ gs) zero u from e l o s k one = absurd (omega (arith, e))
@@ -149,7 +149,7 @@ module _ (bits : ℕ → List nodes.Pair) (request base : ℕ) (v : ℕ → Bool
       told_by _ _ (rule_among r look now gs m u.1 k one) (later_place g (rules_listed bits request base gs) (rail_place k one))
       (gates_told gs m u.1 (suc from) (omega (arith, e)) (omega (arith, l)) (right_of (ordered_one from g) _ o) (only_rest g gs s) k one)
 
-value_now : (r : Bool) (look : ℕ → Pair) (now : ℕ → Rails) (gs : List Part) (n : ℕ) (u : Pairs n) → length gs ≡ n → (k : ℕ) (one : Bool) → k < n
+value_now : (r : Bool) (look : ℕ → RailLevels) (now : ℕ → Rails) (gs : List BlockPart) (n : ℕ) (u : Pairs n) → length gs ≡ n → (k : ℕ) (one : Bool) → k < n
     → (rule_among r look now gs n u k one).now ≡ side_of (pair_in n u k) one
 value_now r look now [] zero u e k one l = absurd (omega (arith, l))
 value_now r look now [] (suc n) u e k one l = absurd (omega (arith, e))

@@ -14,7 +14,7 @@ use Rattle.width_check.specs.Typing.{ReadsFrom, EachReadsFrom, AllReadFrom}
 use Rattle.handshake_expand.specs.Layout.{operator_size, formula_size}
 use Rattle.function_blocks.specs.Gates.{all_one, some_one, odd_ones, carries, alike, borrows, gate, bitwise, ripple, ripple_result, borrow_gates, conjunctions, all_of_bits, result_pairs, equality, operator_rules, last_gate, operator_result}
 use Rattle.function_blocks.specs.Expressions.{HasBits, constant_bit, constant_bits, read_rail, read_bits, formula_result, joined_result, chained_result, formula_rules, joined_rules, chained_rules}
-use Rattle.function_blocks.specs.Parts.{Input, input, turned_over, Part, fixed_parts, read_parts, inputs_from, bitwise_parts, result_inputs, ripple_parts, ripple_inputs, borrow_parts, conjunction_parts, all_parts, equality_parts, last_from, equal_input, less_input, operator_parts, operator_inputs, operator_gates, gate_count, outs_of, joined_outs, chained_outs, parts_of, joined_parts, chained_parts}
+use Rattle.function_blocks.specs.Parts.{Input, input, turned_over, BlockPart, fixed_parts, read_parts, inputs_from, bitwise_parts, result_inputs, ripple_parts, ripple_inputs, borrow_parts, conjunction_parts, all_parts, equality_parts, last_from, equal_input, less_input, operator_parts, operator_inputs, operator_gates, gate_count, outs_of, joined_outs, chained_outs, parts_of, joined_parts, chained_parts}
 use Rattle.function_blocks.specs.Listed.{placed, part_rules, rules_listed}
 use Rattle.function_blocks.proofs.PartSizes.{operator_counted, count_doubled, outs_length, each_output, some_width}
 
@@ -133,13 +133,13 @@ module _ (base : ℕ) where
         (each_output op left (from + gate_count f) h.0 ∙ is) h.3
 
 module _ (bits : ℕ → List nodes.Pair) (request base : ℕ) where
-  abbrev list : List Part → List NodeRules
+  abbrev list : List BlockPart → List NodeRules
   list gs = rules_listed bits request base gs
 
   abbrev at : Input → nodes.Pair
   at = placed base
 
-  append_list : (gs hs : List Part) → list (gs ++ hs) ≡ list gs ++ list hs
+  append_list : (gs hs : List BlockPart) → list (gs ++ hs) ≡ list gs ++ list hs
   append_list [] hs = refl
   append_list (g ∷ gs) hs = ap (λ (rs : List NodeRules). part_rules bits request base g ++ rs) (append_list gs hs)
       ∙ sym (append_assoc (part_rules bits request base g) (list gs) (list hs))
@@ -223,7 +223,7 @@ module _ (bits : ℕ → List nodes.Pair) (request base : ℕ) where
       (slice_list x (suc i) n (omega (arith, l)))
 
 module _ (vars : List Var) (bits : ℕ → List nodes.Pair) (has : HasBits vars bits) (request base : ℕ) where
-  abbrev rules : List Part → List NodeRules
+  abbrev rules : List BlockPart → List NodeRules
   rules gs = rules_listed bits request base gs
 
   mutual

@@ -5,13 +5,13 @@ use Rattle.std.specs.List.{list_any, list_all}
 use Rattle.prs_core.specs.Pairs as nodes
 use Rattle.prs_core.specs.Moves.{term_holds, guard_holds}
 use Rattle.function_blocks.specs.Gates.{table, minterm, gate_rail}
-use Rattle.function_blocks.specs.Rails.{Pair, pair_of, neutral}
+use Rattle.function_blocks.specs.Rails.{RailLevels, levels_of, levels_neutral}
 use Rattle.function_blocks.specs.Waves.{holds}
 use Rattle.function_blocks.proofs.Tables.{or_false}
 
 -- what two nodes say
-abbrev pub value_at : (ℕ → Bool) → nodes.Pair → Pair
-value_at v p = pair_of (v p.t) (v p.f)
+abbrev pub value_at : (ℕ → Bool) → nodes.Pair → RailLevels
+value_at v p = levels_of (v p.t) (v p.f)
 
 module _ (v : ℕ → Bool) where
   any_filter : (f : List Bool → Bool) (ps : List nodes.Pair) (ys : List (List Bool))
@@ -71,7 +71,7 @@ module _ (v : ℕ → Bool) where
   pub up_told : (ps : List nodes.Pair) (f : List Bool → Bool) → guard_holds v (gate_rail ps f).up ≡ holds f (map (value_at v) ps)
   up_told ps f = any_filter f ps (table (length ps)) ∙ any_met f ps
 
-  lows_told : (ps : List nodes.Pair) → term_holds v (nodes.lows (nodes.rails_of ps)) ≡ list_all neutral (map (value_at v) ps)
+  lows_told : (ps : List nodes.Pair) → term_holds v (nodes.lows (nodes.rails_of ps)) ≡ list_all levels_neutral (map (value_at v) ps)
   lows_told [] = refl
   lows_told (p ∷ ps) = both (not (v p.t)) (not (v p.f)) (lows_told ps)
     where
@@ -79,5 +79,5 @@ module _ (v : ℕ → Bool) where
       both true b e = ap (λ z. b && z) e
       both false b e = refl
 
-  pub down_told : (ps : List nodes.Pair) (f : List Bool → Bool) → guard_holds v (gate_rail ps f).down ≡ list_all neutral (map (value_at v) ps)
+  pub down_told : (ps : List nodes.Pair) (f : List Bool → Bool) → guard_holds v (gate_rail ps f).down ≡ list_all levels_neutral (map (value_at v) ps)
   down_told ps f = or_false (term_holds v (nodes.lows (nodes.rails_of ps))) ∙ lows_told ps

@@ -10,13 +10,13 @@ use Rattle.prs_core.specs.Parts as parts
 use Rattle.prs_core.specs.Parts.{Owned, owned, owned_from, Wire, wire, Moment, turned, all_low, is_valid}
 use Rattle.prs_core.specs.Turning.{turned_here, turned_apart, among_cases, none_among}
 use Rattle.prs_core.specs.Deciding.{left_of, right_of, both_of}
-use Rattle.function_blocks.specs.Rails.{pair_of, side_of, single, some, Pairs, low_pairs, pair_in, turned_pairs, Rule, fires, Rails, value_on, neutral_on}
+use Rattle.function_blocks.specs.Rails.{levels_of, side_of, single, some, Pairs, low_pairs, pair_in, turned_pairs, Rule, one_rule_fires, Rails, value_on, neutral_on}
 use Rattle.function_blocks.specs.Listed.{rail_place, node_of, Told}
-use Rattle.function_blocks.specs.ExpressionParts.{rail_wire, rail_wires, variable_wire, variable_wires}
+use Rattle.function_blocks.specs.ExpressionParts.{value_wire, value_wires, variable_wire, variable_wires}
 
 abbrev pub pairs_at : (v : ℕ → Bool) (from n : ℕ) → Pairs n
 pairs_at v from zero = tt
-pairs_at v from (suc n) = (pair_of (v from) (v (from + 1)), pairs_at v (from + 2) n)
+pairs_at v from (suc n) = (levels_of (v from) (v (from + 1)), pairs_at v (from + 2) n)
 
 pub place_below : (k n : ℕ) (one : Bool) → k < n → rail_place k one < 2 * n
 place_below zero n true l = omega arith
@@ -39,8 +39,8 @@ pairs_same v w from (suc n) f =
     let b : v (from + 1) ≡ w (from + 1) = f 1 (omega arith) in
     let c =
     pairs_same v w (from + 2) n (λ j l. let e : from + 2 + j ≡ from + (2 + j) = omega arith in ap v e ∙ (f (2 + j) (omega (arith, l)) ∙ ap w (sym e))) in
-    ap (λ z. (pair_of z (v (from + 1)), pairs_at v (from + 2) n)) a
-    ∙ (ap (λ z. (pair_of (w from) z, pairs_at v (from + 2) n)) b ∙ ap (λ (z : Pairs n). (pair_of (w from) (w (from + 1)), z)) c)
+    ap (λ z. (levels_of z (v (from + 1)), pairs_at v (from + 2) n)) a
+    ∙ (ap (λ z. (levels_of (w from) z, pairs_at v (from + 2) n)) b ∙ ap (λ (z : Pairs n). (levels_of (w from) (w (from + 1)), z)) c)
 
 pub pairs_turned : (v : ℕ → Bool) (from n k : ℕ) (one : Bool) → k < n
     → pairs_at (turned v (from + rail_place k one)) from n ≡ turned_pairs n (pairs_at v from n) k one
@@ -51,15 +51,15 @@ pairs_turned v from (suc n) zero true l =
     let a : turned v node from ≡ not (v from) = ap (turned v node) z ∙ (turned_here v node ∙ ap (λ k. not (v k)) (sym z)) in
     let b : turned v node (from + 1) ≡ v (from + 1) = turned_apart v node (from + 1) (λ e. omega (arith, e)) in
     let c = pairs_same (turned v node) v (from + 2) n (λ j l. turned_apart v node (from + 2 + j) (λ e. omega (arith, e))) in
-    ap (λ z. (pair_of z (turned v node (from + 1)), pairs_at (turned v node) (from + 2) n)) a
-    ∙ (ap (λ z. (pair_of (not (v from)) z, pairs_at (turned v node) (from + 2) n)) b ∙ ap (λ (z : Pairs n). (pair_of (not (v from)) (v (from + 1)), z)) c)
+    ap (λ z. (levels_of z (turned v node (from + 1)), pairs_at (turned v node) (from + 2) n)) a
+    ∙ (ap (λ z. (levels_of (not (v from)) z, pairs_at (turned v node) (from + 2) n)) b ∙ ap (λ (z : Pairs n). (levels_of (not (v from)) (v (from + 1)), z)) c)
 pairs_turned v from (suc n) zero false l =
     let node = from + 1 in
     let a : turned v node from ≡ v from = turned_apart v node from (λ e. omega (arith, e)) in
     let b : turned v node (from + 1) ≡ not (v (from + 1)) = turned_here v node in
     let c = pairs_same (turned v node) v (from + 2) n (λ j l. turned_apart v node (from + 2 + j) (λ e. omega (arith, e))) in
-    ap (λ z. (pair_of z (turned v node (from + 1)), pairs_at (turned v node) (from + 2) n)) a
-    ∙ (ap (λ z. (pair_of (v from) z, pairs_at (turned v node) (from + 2) n)) b ∙ ap (λ (z : Pairs n). (pair_of (v from) (not (v (from + 1))), z)) c)
+    ap (λ z. (levels_of z (turned v node (from + 1)), pairs_at (turned v node) (from + 2) n)) a
+    ∙ (ap (λ z. (levels_of (v from) z, pairs_at (turned v node) (from + 2) n)) b ∙ ap (λ (z : Pairs n). (levels_of (v from) (not (v (from + 1))), z)) c)
 pairs_turned v from (suc n) (suc k) one l =
     let node = from + suc (suc (rail_place k one)) in
     let other = from + 2 + rail_place k one in
@@ -68,8 +68,8 @@ pairs_turned v from (suc n) (suc k) one l =
     let b : turned v node (from + 1) ≡ v (from + 1) = turned_apart v node (from + 1) (λ e. omega (arith, e)) in
     let c : pairs_at (turned v node) (from + 2) n ≡ turned_pairs n (pairs_at v (from + 2) n) k one =
     ap (λ z. pairs_at (turned v z) (from + 2) n) z ∙ pairs_turned v (from + 2) n k one (omega (arith, l)) in
-    ap (λ z. (pair_of z (turned v node (from + 1)), pairs_at (turned v node) (from + 2) n)) a
-    ∙ (ap (λ z. (pair_of (v from) z, pairs_at (turned v node) (from + 2) n)) b ∙ ap (λ (z : Pairs n). (pair_of (v from) (v (from + 1)), z)) c)
+    ap (λ z. (levels_of z (turned v node (from + 1)), pairs_at (turned v node) (from + 2) n)) a
+    ∙ (ap (λ z. (levels_of (v from) z, pairs_at (turned v node) (from + 2) n)) b ∙ ap (λ (z : Pairs n). (levels_of (v from) (v (from + 1)), z)) c)
 
 -- an own node is a rail of a gate
 pub record Spot (rules : List NodeRules) (from n : ℕ) (o : Owned) : Type 0 where
@@ -128,7 +128,7 @@ spot_of rules from n o e among =
           ∙ ap (λ k. get_or rules k nodes.no_rules) (sym p.is);
     }
 
-pub fires_told : (v : ℕ → Bool) (node : ℕ) (rules : NodeRules) (r : Rule) → Told v node rules r → parts.fires v (owned node rules) ≡ fires r
+pub fires_told : (v : ℕ → Bool) (node : ℕ) (rules : NodeRules) (r : Rule) → Told v node rules r → parts.fires v (owned node rules) ≡ one_rule_fires r
 fires_told v node rules r t =
     ap (λ b. if b then guard_holds v rules.down else guard_holds v rules.up) t.now
     ∙ (ap (λ b. if r.now then b else guard_holds v rules.up) t.down ∙ ap (λ b. if r.now then r.down else b) t.up)
@@ -200,13 +200,13 @@ pub record RailWire (request : ℕ) (number : (ℕ → Bool) → ℕ) (from : �
   pub bit : ℕ
   pub one : Bool
   pub below : bit < length ps
-  pub is : rail_wire request number (from + bit) (nodes.pair_of ps bit) one ≡ w
+  pub is : value_wire request number (from + bit) (nodes.pair_of ps bit) one ≡ w
 
-pub rail_among : (request : ℕ) (number : (ℕ → Bool) → ℕ) (from : ℕ) (ps : List nodes.Pair) (w : Wire) → Contains (rail_wires request number from ps) w
+pub rail_among : (request : ℕ) (number : (ℕ → Bool) → ℕ) (from : ℕ) (ps : List nodes.Pair) (w : Wire) → Contains (value_wires request number from ps) w
     → RailWire request number from ps w
 rail_among request number from [] w among = absurd (none_among w among)
 rail_among request number from (p ∷ ps) w among =
-    first (among_cases (rail_wire request number from p true) (rail_wire request number from p false ∷ rail_wires request number (suc from) ps) w among)
+    first (among_cases (value_wire request number from p true) (value_wire request number from p false ∷ value_wires request number (suc from) ps) w among)
     (rail_among request number (suc from) ps w)
   where
     start : from ≡ from + 0
@@ -215,21 +215,21 @@ rail_among request number from (p ∷ ps) w among =
     next : (k : ℕ) → from + suc k ≡ suc from + k
     next k = omega arith
 
-    second : (rail_wire request number from p false ≡ w) ⊎ Contains (rail_wires request number (suc from) ps) w
-        → (Contains (rail_wires request number (suc from) ps) w → RailWire request number (suc from) ps w) → RailWire request number from (p ∷ ps) w
-    second (inl e) rest = record { bit = zero; one = false; below = omega arith; is = ap (λ k. rail_wire request number k p false) (sym start) ∙ e }
+    second : (value_wire request number from p false ≡ w) ⊎ Contains (value_wires request number (suc from) ps) w
+        → (Contains (value_wires request number (suc from) ps) w → RailWire request number (suc from) ps w) → RailWire request number from (p ∷ ps) w
+    second (inl e) rest = record { bit = zero; one = false; below = omega arith; is = ap (λ k. value_wire request number k p false) (sym start) ∙ e }
     second (inr here) rest = let m = rest here in record {
       bit = suc m.bit;
       one = m.one;
       below = let b = m.below in omega (arith, b);
       is =
-          ap (λ k. rail_wire request number k (nodes.pair_of ps m.bit) m.one) (next m.bit) ∙ m.is;
+          ap (λ k. value_wire request number k (nodes.pair_of ps m.bit) m.one) (next m.bit) ∙ m.is;
     }
 
-    first : (rail_wire request number from p true ≡ w) ⊎ Contains (rail_wire request number from p false ∷ rail_wires request number (suc from) ps) w
-        → (Contains (rail_wires request number (suc from) ps) w → RailWire request number (suc from) ps w) → RailWire request number from (p ∷ ps) w
-    first (inl e) rest = record { bit = zero; one = true; below = omega arith; is = ap (λ k. rail_wire request number k p true) (sym start) ∙ e }
-    first (inr here) rest = second (among_cases (rail_wire request number from p false) (rail_wires request number (suc from) ps) w here) rest
+    first : (value_wire request number from p true ≡ w) ⊎ Contains (value_wire request number from p false ∷ value_wires request number (suc from) ps) w
+        → (Contains (value_wires request number (suc from) ps) w → RailWire request number (suc from) ps w) → RailWire request number from (p ∷ ps) w
+    first (inl e) rest = record { bit = zero; one = true; below = omega arith; is = ap (λ k. value_wire request number k p true) (sym start) ∙ e }
+    first (inr here) rest = second (among_cases (value_wire request number from p false) (value_wires request number (suc from) ps) w here) rest
 
 pub record VariableWire (request : ℕ) (ps : List nodes.Pair) (w : Wire) : Type 0 where
   pub pair : nodes.Pair

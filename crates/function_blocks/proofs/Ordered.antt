@@ -9,7 +9,7 @@ use Rattle.width_check.specs.Processes.{Formula, constant, reading, joined, inve
 use Rattle.width_check.specs.Values.{width_of, IsWellFormed, AreWellFormed, AreOperations}
 use Rattle.prs_core.specs.Deciding.{left_of, right_of, both_of}
 use Rattle.function_blocks.specs.Gates.{all_one, some_one, odd_ones, carries, alike, borrows}
-use Rattle.function_blocks.specs.Parts.{Input, input, turned_over, Part, fixed_parts, read_parts, inputs_from, bitwise_parts, result_inputs, ripple_parts, ripple_inputs, borrow_parts, conjunction_parts, equality_parts, last_from, rest_of, equal_input, less_input, operator_parts, operator_inputs, operator_gates, gate_count, joined_gates, chained_gates, outs_of, joined_outs, chained_outs, parts_of, joined_parts, chained_parts}
+use Rattle.function_blocks.specs.Parts.{Input, input, turned_over, BlockPart, fixed_parts, read_parts, inputs_from, bitwise_parts, result_inputs, ripple_parts, ripple_inputs, borrow_parts, conjunction_parts, equality_parts, last_from, rest_of, equal_input, less_input, operator_parts, operator_inputs, operator_gates, gate_count, joined_gates, chained_gates, outs_of, joined_outs, chained_outs, parts_of, joined_parts, chained_parts}
 use Rattle.function_blocks.proofs.GateLists.{ordered_one, ordered}
 use Rattle.function_blocks.proofs.PartSizes.{bitwise_length, operator_length, each_output, outs_length, some_width, parts_length}
 
@@ -32,10 +32,10 @@ below_more : (n m : ℕ) (us : List Input) → n ≤ m → below n us ≡ true �
 below_more n m [] l h = refl
 below_more n m (a ∷ us) l h = both_of _ _ (lt_more a.at n m l (left_of _ _ h)) (below_more n m us l (right_of (nat_lt a.at n) _ h))
 
-ordered_at : (n m : ℕ) (gs : List Part) → n ≡ m → ordered n gs ≡ true → ordered m gs ≡ true
+ordered_at : (n m : ℕ) (gs : List BlockPart) → n ≡ m → ordered n gs ≡ true → ordered m gs ≡ true
 ordered_at n m gs e h = ap (λ k. ordered k gs) (sym e) ∙ h
 
-ordered_append : (from : ℕ) (gs hs : List Part) → ordered from gs ≡ true → ordered (from + length gs) hs ≡ true → ordered from (gs ++ hs) ≡ true
+ordered_append : (from : ℕ) (gs hs : List BlockPart) → ordered from gs ≡ true → ordered (from + length gs) hs ≡ true → ordered from (gs ++ hs) ≡ true
 ordered_append from [] hs h k = ordered_at (from + 0) from hs (omega arith) k
 ordered_append from (g ∷ gs) hs h k = both_of _ _ (left_of _ _ h)
     (ordered_append (suc from) gs hs (right_of (ordered_one from g) _ h) (ordered_at (from + suc (length gs)) (suc from + length gs) hs (omega arith) k))

@@ -9,7 +9,7 @@ use Rattle.width_check.specs.Values.{width_of, widths_of, one_if, operated, valu
 use Rattle.width_check.specs.Typing.{var_width, ReadsFrom, EachReadsFrom, AllReadFrom}
 use Rattle.function_blocks.specs.Gates.{all_one, some_one, odd_ones, carries, alike, borrows}
 use Rattle.function_blocks.specs.Rails.{Rails, same_bit}
-use Rattle.function_blocks.specs.Parts.{Input, input, turned_over, Part, fixed_parts, read_parts, inputs_from, bitwise_parts, result_inputs, ripple_parts, ripple_inputs, borrow_parts, conjunction_parts, equality_parts, last_from, equal_input, less_input, operator_parts, operator_inputs, operator_gates, gate_count, outs_of, joined_outs, chained_outs, parts_of, joined_parts, chained_parts}
+use Rattle.function_blocks.specs.Parts.{Input, input, turned_over, BlockPart, fixed_parts, read_parts, inputs_from, bitwise_parts, result_inputs, ripple_parts, ripple_inputs, borrow_parts, conjunction_parts, equality_parts, last_from, equal_input, less_input, operator_parts, operator_inputs, operator_gates, gate_count, outs_of, joined_outs, chained_outs, parts_of, joined_parts, chained_parts}
 use Rattle.function_blocks.specs.Waves.{store_of}
 use Rattle.function_blocks.proofs.Guards.{bit_in, bits_in}
 use Rattle.function_blocks.proofs.GateRest.{Agrees}
@@ -21,14 +21,14 @@ cons_is : (x y : Bool) (xs ys : List Bool) → x ≡ y → xs ≡ ys → ◌≡�
 cons_is x y xs ys p q = cc
 
 module _ (v : ℕ → Bool) (bits : ℕ → Rails) where
-  agrees_at : (n m : ℕ) (gs : List Part) → n ≡ m → Agrees v bits n gs → Agrees v bits m gs
+  agrees_at : (n m : ℕ) (gs : List BlockPart) → n ≡ m → Agrees v bits n gs → Agrees v bits m gs
   agrees_at n m gs e h = rw e at h
 
-  agrees_left : (from : ℕ) (gs hs : List Part) → Agrees v bits from (gs ++ hs) → Agrees v bits from gs
+  agrees_left : (from : ℕ) (gs hs : List BlockPart) → Agrees v bits from (gs ++ hs) → Agrees v bits from gs
   agrees_left from [] hs h = tt
   agrees_left from (g ∷ gs) hs h = (h.0, agrees_left (suc from) gs hs h.1)
 
-  agrees_right : (from n : ℕ) (gs hs : List Part) → length gs ≡ n → Agrees v bits from (gs ++ hs) → Agrees v bits (from + n) hs
+  agrees_right : (from n : ℕ) (gs hs : List BlockPart) → length gs ≡ n → Agrees v bits from (gs ++ hs) → Agrees v bits (from + n) hs
   agrees_right from n [] hs e h = agrees_at from (from + n) hs (omega (arith, e)) h
   agrees_right from zero (g ∷ gs) hs e h = absurd (omega (arith, e))
   agrees_right from (suc n) (g ∷ gs) hs e h = agrees_at (suc from + n) (from + suc n) hs (omega arith) (agrees_right (suc from) n gs hs (omega (arith, e)) h.1)

@@ -7,9 +7,9 @@ use Rattle.std.proofs.Math.Logic.{⊎_elim}
 use Rattle.std.proofs.lemmas.List.{get_or_append_left}
 use Rattle.prs_core.specs.Deciding.{implies, implies_at, left_of, right_of, both_of, at_5}
 use Rattle.width_check.specs.Values.{one_if}
-use Rattle.function_blocks.specs.Rails.{Pair, pair_of, side_of, cross, single, some, Pairs, pair_in, same_bit, Rails, Single}
-use Rattle.function_blocks.specs.Parts.{Input, Part, fixed, read_bit, made}
-use Rattle.function_blocks.specs.Waves.{taken, holds, wet, legal, fits, all_fit, rails_at}
+use Rattle.function_blocks.specs.Rails.{RailLevels, levels_of, side_of, cross, single, some, Pairs, pair_in, same_bit, Rails, Single}
+use Rattle.function_blocks.specs.Parts.{Input, BlockPart, fixed, read_bit, made}
+use Rattle.function_blocks.specs.Waves.{inputs_taken, holds, wet, legal, levels_fit, all_fit, input_rails}
 use Rattle.function_blocks.proofs.Tables.{or_true}
 use Rattle.function_blocks.proofs.Guards.{bit_in, bits_in, holds_some}
 use Rattle.function_blocks.proofs.GateLists.{singles, ordered_one, ordered, from_next, from_here, from_zero, is_lt}
@@ -17,11 +17,11 @@ use Rattle.function_blocks.proofs.GateRest.{means, Agrees, means_one}
 use Rattle.function_blocks.proofs.BitNumbers.{number_of, div_suc}
 
 -- the bits of the gates, one after the other
-abbrev results : (ℕ → Rails) → List Bool → List Part → List Bool
+abbrev results : (ℕ → Rails) → List Bool → List BlockPart → List Bool
 results bits done [] = done
 results bits done (g ∷ gs) = results bits (done ++ means (λ k. get_or done k false) bits g ∷ []) gs
 
-results_keep : (bits : ℕ → Rails) (done : List Bool) (gs : List Part) (k : ℕ) → k < length done → get_or (results bits done gs) k false ≡ get_or done k false
+results_keep : (bits : ℕ → Rails) (done : List Bool) (gs : List BlockPart) (k : ℕ) → k < length done → get_or (results bits done gs) k false ≡ get_or done k false
 results_keep bits done [] k l = refl
 results_keep bits done (g ∷ gs) k l =
     let x = means (λ k. get_or done k false) bits g in
@@ -38,12 +38,12 @@ bits_same v w m f (i ∷ ins) h =
     ap (λ b. same_bit (not i.crossed) b ∷ bits_in v ins) (f i.at (is_lt _ _ (left_of _ _ h)))
     ∙ ap (λ (bs : List Bool). bit_in w i ∷ bs) (bits_same v w m f ins (right_of (nat_lt i.at m) _ h))
 
-means_same : (v w : ℕ → Bool) (bits : ℕ → Rails) (m : ℕ) → ((k : ℕ) → k < m → v k ≡ w k) → (g : Part) → ordered_one m g ≡ true → means v bits g ≡ means w bits g
+means_same : (v w : ℕ → Bool) (bits : ℕ → Rails) (m : ℕ) → ((k : ℕ) → k < m → v k ≡ w k) → (g : BlockPart) → ordered_one m g ≡ true → means v bits g ≡ means w bits g
 means_same v w bits m f (fixed b) o = refl
 means_same v w bits m f (read_bit x i) o = refl
 means_same v w bits m f (made g i ins) o = ap g (bits_same v w m f (i ∷ ins) o)
 
-agrees_results : (bits : ℕ → Rails) (done : List Bool) (gs : List Part) (v : ℕ → Bool) → ((k : ℕ) → get_or (results bits done gs) k false ≡ v k)
+agrees_results : (bits : ℕ → Rails) (done : List Bool) (gs : List BlockPart) (v : ℕ → Bool) → ((k : ℕ) → get_or (results bits done gs) k false ≡ v k)
     → ordered (length done) gs ≡ true → Agrees v bits (length done) gs
 agrees_results bits done [] v e o = tt
 agrees_results bits done (g ∷ gs) v e o =
@@ -62,18 +62,18 @@ agrees_results bits done (g ∷ gs) v e o =
     ap_back : (P : ℕ → Type 0) {a b : ℕ} → a ≡ b → P a → P b
     ap_back P h x = subst P h x
 
-pub result_bits : (ℕ → Rails) → List Part → ℕ → Bool
+pub result_bits : (ℕ → Rails) → List BlockPart → ℕ → Bool
 result_bits bits gs k = get_or (results bits [] gs) k false
 
-pub agrees_with : (bits : ℕ → Rails) (gs : List Part) → ordered zero gs ≡ true → Agrees (result_bits bits gs) bits zero gs
+pub agrees_with : (bits : ℕ → Rails) (gs : List BlockPart) → ordered zero gs ≡ true → Agrees (result_bits bits gs) bits zero gs
 unfolding result_bits
 agrees_with bits gs o = agrees_results bits [] gs (λ k. get_or (results bits [] gs) k false) (λ k. refl) o
 
 -- what is right
-abbrev Right : (v : ℕ → Bool) → (look : ℕ → Pair) → ℕ → Type 0
+abbrev Right : (v : ℕ → Bool) → (look : ℕ → RailLevels) → ℕ → Type 0
 Right v look k = some (look k) ≡ true → (look k).t ≡ v k
 
-some_cross : (c : Bool) (p : Pair) → some (cross c p) ≡ true → some p ≡ true
+some_cross : (c : Bool) (p : RailLevels) → some (cross c p) ≡ true → some p ≡ true
 some_cross true p h = or_back p.f p.t h
   where
     or_back : (a b : Bool) → (a || b) ≡ true → (b || a) ≡ true
@@ -83,46 +83,46 @@ some_cross true p h = or_back p.f p.t h
     or_back false false h = h
 some_cross false p h = h
 
-right_bits : (v : ℕ → Bool) (look : ℕ → Pair) (m : ℕ) → ((k : ℕ) → k < m → Right v look k) → (ins : List Input)
-    → list_all (λ (j : Input). nat_lt j.at m) ins ≡ true → list_all some (taken look ins) ≡ true → bits_in (λ k. (look k).t) ins ≡ bits_in v ins
+right_bits : (v : ℕ → Bool) (look : ℕ → RailLevels) (m : ℕ) → ((k : ℕ) → k < m → Right v look k) → (ins : List Input)
+    → list_all (λ (j : Input). nat_lt j.at m) ins ≡ true → list_all some (inputs_taken look ins) ≡ true → bits_in (λ k. (look k).t) ins ≡ bits_in v ins
 right_bits v look m f [] o h = refl
 right_bits v look m f (i ∷ ins) o h =
     ap (λ b. same_bit (not i.crossed) b ∷ bits_in (λ k. (look k).t) ins) (f i.at (is_lt _ _ (left_of _ _ o)) (some_cross i.crossed (look i.at) (left_of _ _ h)))
     ∙ ap (λ (bs : List Bool). bit_in v i ∷ bs) (right_bits v look m f ins (right_of (nat_lt i.at m) _ o) (right_of (some (cross i.crossed (look i.at))) _ h))
 
-right_one : (v : ℕ → Bool) (look : ℕ → Pair) (bits : ℕ → Rails) (g : Part) (p : Pair) (m : ℕ) → ((k : ℕ) → single (look k) ≡ true) → Single bits
-    → ((k : ℕ) → k < m → Right v look k) → ordered_one m g ≡ true → fits true look bits g p ≡ true → some p ≡ true → p.t ≡ means v bits g
+right_one : (v : ℕ → Bool) (look : ℕ → RailLevels) (bits : ℕ → Rails) (g : BlockPart) (p : RailLevels) (m : ℕ) → ((k : ℕ) → single (look k) ≡ true) → Single bits
+    → ((k : ℕ) → k < m → Right v look k) → ordered_one m g ≡ true → levels_fit true look bits g p ≡ true → some p ≡ true → p.t ≡ means v bits g
 right_one v look bits (fixed b) p m s x f o h a = means_one look bits (fixed b) p s x h a
 right_one v look bits (read_bit y i) p m s x f o h a = means_one look bits (read_bit y i) p s x h a
 right_one v look bits (made g i ins) p m s x f o h a =
     means_one look bits (made g i ins) p s x h a
     ∙ ap g (right_bits v look m f (i ∷ ins) o (⊎_elim
-    (λ (q : holds g (taken look (i ∷ ins)) ≡ true). holds_some g (taken look (i ∷ ins)) q)
-    (λ (q : holds (λ bs. not (g bs)) (taken look (i ∷ ins)) ≡ true). holds_some (λ bs. not (g bs)) (taken look (i ∷ ins)) q)
-    (or_true _ _ (implies_at _ _ (at_5 (λ ut uf n t f. implies (legal true ut uf n (pair_of t f) && (t || f)) (ut || uf)) refl (holds g (taken look (i ∷ ins)))
-    (holds (λ bs. not (g bs)) (taken look (i ∷ ins))) (wet look (made g i ins)) p.t p.f) (both_of _ _ h a)))))
+    (λ (q : holds g (inputs_taken look (i ∷ ins)) ≡ true). holds_some g (inputs_taken look (i ∷ ins)) q)
+    (λ (q : holds (λ bs. not (g bs)) (inputs_taken look (i ∷ ins)) ≡ true). holds_some (λ bs. not (g bs)) (inputs_taken look (i ∷ ins)) q)
+    (or_true _ _ (implies_at _ _ (at_5 (λ ut uf n t f. implies (legal true ut uf n (levels_of t f) && (t || f)) (ut || uf)) refl (holds g (inputs_taken look (i ∷ ins)))
+    (holds (λ bs. not (g bs)) (inputs_taken look (i ∷ ins))) (wet look (made g i ins)) p.t p.f) (both_of _ _ h a)))))
 
-right_in : (v : ℕ → Bool) (look : ℕ → Pair) (bits : ℕ → Rails) → ((k : ℕ) → single (look k) ≡ true) → Single bits
-    → (gs : List Part) (n : ℕ) (u : Pairs n) (from : ℕ) → ((j : ℕ) → look (from + j) ≡ pair_in n u j) → ((k : ℕ) → k < from → Right v look k)
+right_in : (v : ℕ → Bool) (look : ℕ → RailLevels) (bits : ℕ → Rails) → ((k : ℕ) → single (look k) ≡ true) → Single bits
+    → (gs : List BlockPart) (n : ℕ) (u : Pairs n) (from : ℕ) → ((j : ℕ) → look (from + j) ≡ pair_in n u j) → ((k : ℕ) → k < from → Right v look k)
     → Agrees v bits from gs → ordered from gs ≡ true → all_fit true look bits gs n u ≡ true → (k : ℕ) → k < from + n → Right v look k
 right_in v look bits s x [] zero u from see f a o h k l = f k (omega (arith, l))
 right_in v look bits s x [] (suc n) u from see f a o h k l = absurd (cc h)
 right_in v look bits s x (g ∷ gs) zero u from see f a o h k l = absurd (cc h)
 right_in v look bits s x (g ∷ gs) (suc n) u from see f a o h k l =
     let here = from_here look from n u see in
-    let one : Right v look from = λ (q : some (look from) ≡ true). ap (λ (p : Pair). p.t) here
+    let one : Right v look from = λ (q : some (look from) ≡ true). ap (λ (p : RailLevels). p.t) here
     ∙ (right_one v look bits g u.0 from s x f (left_of _ _ o) (left_of _ _ h) (ap some (sym here) ∙ q) ∙ sym a.0) in
     right_in v look bits s x gs n u.1 (suc from) (from_next look from n u see)
     (λ j lt. ⊎_elim (λ (q : j ≡ from). subst (λ i. Right v look i) (sym q) one) (λ (q : j < from). f j q) (eq-or-lt_of_le (omega (arith, lt))))
-    a.1 (right_of (ordered_one from g) _ o) (right_of (fits true look bits g u.0) _ h) k (omega (arith, l))
+    a.1 (right_of (ordered_one from g) _ o) (right_of (levels_fit true look bits g u.0) _ h) k (omega (arith, l))
 
-pub right_all : (v : ℕ → Bool) (bits : ℕ → Rails) (gs : List Part) (n : ℕ) (u : Pairs n) → Single bits → Agrees v bits zero gs → ordered zero gs ≡ true
+pub right_all : (v : ℕ → Bool) (bits : ℕ → Rails) (gs : List BlockPart) (n : ℕ) (u : Pairs n) → Single bits → Agrees v bits zero gs → ordered zero gs ≡ true
     → all_fit true (pair_in n u) bits gs n u ≡ true → (k : ℕ) → k < n → some (pair_in n u k) ≡ true → (pair_in n u k).t ≡ v k
 right_all v bits gs n u x a o h k l = right_in v (pair_in n u) bits (singles true (pair_in n u) bits gs n u h) x gs n u zero (from_zero n u)
     (λ j lt. absurd (omega (arith, lt))) a o h k (omega (arith, l))
 
 -- a rail of the value that is high is that of the bit
-high_side : (c t f one : Bool) → not (t && f) ≡ true → side_of (cross c (pair_of t f)) one ≡ true → same_bit (not c) t ≡ one
+high_side : (c t f one : Bool) → not (t && f) ≡ true → side_of (cross c (levels_of t f)) one ≡ true → same_bit (not c) t ≡ one
 high_side true true f true s h = absurd (cc (s, h))
 high_side true true f false s h = refl
 high_side true false f true s h = refl
@@ -132,15 +132,15 @@ high_side false true f false s h = absurd (cc (s, h))
 high_side false false f true s h = absurd (cc h)
 high_side false false f false s h = refl
 
-side_some : (c t f one : Bool) → side_of (cross c (pair_of t f)) one ≡ true → some (pair_of t f) ≡ true
+side_some : (c t f one : Bool) → side_of (cross c (levels_of t f)) one ≡ true → some (levels_of t f) ≡ true
 side_some c true f one h = refl
 side_some true false f true h = h
 side_some true false f false h = absurd (cc h)
 side_some false false f true h = absurd (cc h)
 side_some false false f false h = h
 
-pub right_out : (v : ℕ → Bool) (look : ℕ → Pair) (m : ℕ) → ((k : ℕ) → single (look k) ≡ true) → ((k : ℕ) → k < m → some (look k) ≡ true → (look k).t ≡ v k)
-    → (us : List Input) → list_all (λ (j : Input). nat_lt j.at m) us ≡ true → (i : ℕ) (one : Bool) → rails_at us look i one ≡ true
+pub right_out : (v : ℕ → Bool) (look : ℕ → RailLevels) (m : ℕ) → ((k : ℕ) → single (look k) ≡ true) → ((k : ℕ) → k < m → some (look k) ≡ true → (look k).t ≡ v k)
+    → (us : List Input) → list_all (λ (j : Input). nat_lt j.at m) us ≡ true → (i : ℕ) (one : Bool) → input_rails us look i one ≡ true
     → get_or (bits_in v us) i false ≡ one
 right_out v look m s f [] o i one h = absurd (cc h)
 right_out v look m s f (j ∷ us) o zero one h =

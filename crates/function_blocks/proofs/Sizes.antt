@@ -12,7 +12,7 @@ use Rattle.width_check.specs.Typing.{ReadsFrom}
 use Rattle.handshake_expand.specs.Layout.{operator_size, formula_size}
 use Rattle.function_blocks.specs.Gates.{all_one, some_one, odd_ones, carries, alike, gate, bitwise, ripple, ripple_result, borrow_gates, borrows, conjunctions, all_of_bits, result_pairs, equality, operator_rules, operator_result}
 use Rattle.function_blocks.specs.Expressions.{HasBits, formula_result, formula_rules}
-use Rattle.function_blocks.specs.Parts.{Part, fixed, read_bit, made, outs_of, parts_of}
+use Rattle.function_blocks.specs.Parts.{BlockPart, fixed, read_bit, made, outs_of, parts_of}
 use Rattle.function_blocks.specs.Listed.{placed, rules_listed}
 use Rattle.function_blocks.proofs.PartSizes.{outs_length, parts_length, count_doubled}
 use Rattle.function_blocks.proofs.ListedHolds.{result_put, formula_list}
@@ -99,7 +99,7 @@ each_bit Ge xs from h = absurd (cc h)
 
 -- of an expression: two rules for each of its gates, and as many bits as outputs
 
-rules_doubled : (bits : ℕ → List Pair) (request from : ℕ) (gs : List Part) → length (rules_listed bits request from gs) ≡ 2 * length gs
+rules_doubled : (bits : ℕ → List Pair) (request from : ℕ) (gs : List BlockPart) → length (rules_listed bits request from gs) ≡ 2 * length gs
 rules_doubled bits request from [] = refl
 rules_doubled bits request from (fixed true ∷ gs) = let e = rules_doubled bits request from gs in omega (arith, e)
 rules_doubled bits request from (fixed false ∷ gs) = let e = rules_doubled bits request from gs in omega (arith, e)

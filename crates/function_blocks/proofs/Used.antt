@@ -9,7 +9,7 @@ use Rattle.width_check.specs.Processes.{Formula, constant, reading, joined, inve
 use Rattle.width_check.specs.Values.{width_of, IsWellFormed, AreWellFormed, AreOperations}
 use Rattle.prs_core.specs.Deciding.{left_of, right_of, both_of}
 use Rattle.function_blocks.specs.Gates.{all_one, some_one, odd_ones, carries, alike, borrows}
-use Rattle.function_blocks.specs.Parts.{Input, input, turned_over, Part, made, fixed_parts, read_parts, inputs_from, bitwise_parts, result_inputs, ripple_parts, ripple_inputs, borrow_parts, conjunction_parts, all_parts, equality_parts, last_from, equal_input, less_input, operator_parts, operator_inputs, operator_gates, gate_count, outs_of, joined_outs, chained_outs, parts_of, joined_parts, chained_parts}
+use Rattle.function_blocks.specs.Parts.{Input, input, turned_over, BlockPart, made, fixed_parts, read_parts, inputs_from, bitwise_parts, result_inputs, ripple_parts, ripple_inputs, borrow_parts, conjunction_parts, all_parts, equality_parts, last_from, equal_input, less_input, operator_parts, operator_inputs, operator_gates, gate_count, outs_of, joined_outs, chained_outs, parts_of, joined_parts, chained_parts}
 use Rattle.function_blocks.proofs.Tables.{or_left, or_right, or_true}
 use Rattle.function_blocks.proofs.GateLists.{names, wanted, used}
 use Rattle.function_blocks.proofs.PartSizes.{bitwise_length, fixed_length, read_length, operator_length, each_output, outs_length, parts_length}
@@ -18,28 +18,28 @@ use Rattle.function_blocks.proofs.Ordered.{eq_self}
 abbrev pub member : List Input → ℕ → Bool
 member us k = list_any (λ (i : Input). i.at == k) us
 
-used_at : (out : ℕ → Bool) (n m : ℕ) (gs : List Part) → n ≡ m → used out n gs ≡ true → used out m gs ≡ true
+used_at : (out : ℕ → Bool) (n m : ℕ) (gs : List BlockPart) → n ≡ m → used out n gs ≡ true → used out m gs ≡ true
 used_at out n m gs e h = ap (λ k. used out k gs) (sym e) ∙ h
 
-used_more : (p q : ℕ → Bool) → ((k : ℕ) → p k ≡ true → q k ≡ true) → (from : ℕ) (gs : List Part) → used p from gs ≡ true → used q from gs ≡ true
+used_more : (p q : ℕ → Bool) → ((k : ℕ) → p k ≡ true → q k ≡ true) → (from : ℕ) (gs : List BlockPart) → used p from gs ≡ true → used q from gs ≡ true
 used_more p q f from [] h = refl
 used_more p q f from (g ∷ gs) h =
     both_of _ _ (⊎_elim (λ (e : p from ≡ true). or_left (q from) (wanted gs from) (f from e))
     (λ (e : wanted gs from ≡ true). or_right (q from) (wanted gs from) e) (or_true _ _ (left_of _ _ h)))
     (used_more p q f (suc from) gs (right_of (p from || wanted gs from) _ h))
 
-wanted_left : (gs hs : List Part) (k : ℕ) → wanted gs k ≡ true → wanted (gs ++ hs) k ≡ true
+wanted_left : (gs hs : List BlockPart) (k : ℕ) → wanted gs k ≡ true → wanted (gs ++ hs) k ≡ true
 wanted_left [] hs k h = absurd (cc h)
 wanted_left (g ∷ gs) hs k h = ⊎_elim
     (λ (d : names g k ≡ true). or_left (names g k) (wanted (gs ++ hs) k) d)
     (λ (d : wanted gs k ≡ true). or_right (names g k) (wanted (gs ++ hs) k) (wanted_left gs hs k d))
     (or_true _ _ h)
 
-wanted_right : (gs hs : List Part) (k : ℕ) → wanted hs k ≡ true → wanted (gs ++ hs) k ≡ true
+wanted_right : (gs hs : List BlockPart) (k : ℕ) → wanted hs k ≡ true → wanted (gs ++ hs) k ≡ true
 wanted_right [] hs k h = h
 wanted_right (g ∷ gs) hs k h = or_right (names g k) (wanted (gs ++ hs) k) (wanted_right gs hs k h)
 
-used_append : (out : ℕ → Bool) (from : ℕ) (gs hs : List Part) → used (λ k. out k || wanted hs k) from gs ≡ true → used out (from + length gs) hs ≡ true
+used_append : (out : ℕ → Bool) (from : ℕ) (gs hs : List BlockPart) → used (λ k. out k || wanted hs k) from gs ≡ true → used out (from + length gs) hs ≡ true
     → used out from (gs ++ hs) ≡ true
 used_append out from [] hs h k = used_at out (from + 0) from hs (omega arith) k
 used_append out from (g ∷ gs) hs h k =
@@ -53,7 +53,7 @@ used_append out from (g ∷ gs) hs h k =
     swap false false true d f g h = f refl
     swap false false false d f g h = absurd (cc h)
 
-used_all : (out : ℕ → Bool) (from : ℕ) (gs : List Part) → ((j : ℕ) → j < length gs → out (from + j) ≡ true) → used out from gs ≡ true
+used_all : (out : ℕ → Bool) (from : ℕ) (gs : List BlockPart) → ((j : ℕ) → j < length gs → out (from + j) ≡ true) → used out from gs ≡ true
 used_all out from [] f = refl
 used_all out from (g ∷ gs) f =
     both_of _ _ (or_left (out from) (wanted gs from) (let e : from ≡ from + 0 = omega arith in ap out e ∙ f 0 (omega arith)))
@@ -191,7 +191,7 @@ operator_used Gt from us vs e = ap (λ i. used (member (i ∷ [])) from (borrow_
 operator_used Le from us vs e = ap (λ i. used (member (i ∷ [])) from (borrow_parts vs us [] from)) (less_same us vs from e) ∙ borrow_used vs us from (sym e)
 
 -- each bit of both numbers is an input of the operator's gates
-abbrev Names : List Input → List Input → List Part → Type 0
+abbrev Names : List Input → List Input → List BlockPart → Type 0
 Names us vs gs = (k : ℕ) → (member us k || member vs k) ≡ true → wanted gs k ≡ true
 
 cases : (a b c d x y : Bool) → (a ≡ true → (x || y) ≡ true) → (c ≡ true → (x || y) ≡ true) → ((b || d) ≡ true → (x || y) ≡ true) → ((a || b) || (c || d)) ≡ true

@@ -6,7 +6,7 @@ use Rattle.chp_base.specs.declared.span.Span.{Span}
 use Rattle.chp_syntax.specs.declared.tree.Op.TheVariants.{And, Xor, Add, Sub, Eq, Lt, Ge}
 use Rattle.width_check.specs.Processes.{Formula, constant, reading, joined, inverted, chained, compared, no_parts, and_part, no_operations, and_operation}
 use Rattle.width_check.specs.Values.{width_of, value}
-use Rattle.function_blocks.specs.Rails.{Pairs, low_pairs, turned_pairs, fires, Rails, value_on}
+use Rattle.function_blocks.specs.Rails.{Pairs, low_pairs, turned_pairs, one_rule_fires, Rails, value_on}
 use Rattle.function_blocks.specs.Parts.{gate_count}
 use Rattle.function_blocks.specs.Waves.{gate_rule, good, out_rail, full, empty}
 
@@ -15,7 +15,7 @@ abbrev rails_of : ℕ → Rails
 rails_of number i one = if number / 2 ^ i % 2 == 1 then one else not one
 
 abbrev step : (e : Formula) → (ℕ → Rails) → Bool → ℕ → Bool → Pairs (gate_count e) → Pairs (gate_count e)
-step e bits r k one u = if fires (gate_rule e bits r u k one) then turned_pairs (gate_count e) u k one else u
+step e bits r k one u = if one_rule_fires (gate_rule e bits r u k one) then turned_pairs (gate_count e) u k one else u
 
 -- each gate in turn, from one on
 abbrev pass : (e : Formula) → (ℕ → Rails) → Bool → (count k : ℕ) → Pairs (gate_count e) → Pairs (gate_count e)

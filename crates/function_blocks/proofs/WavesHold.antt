@@ -6,10 +6,10 @@ use Rattle.prs_core.specs.Deciding.{left_of, right_of, both_of}
 use Rattle.width_check.specs.Processes.{Formula}
 use Rattle.width_check.specs.Values.{width_of, IsWellFormed}
 use Rattle.width_check.specs.Typing.{var_width}
-use Rattle.function_blocks.specs.Rails.{fires, Pairs, low_pairs, pair_in, turned_pairs, Rails, value_on, neutral_on, Single}
-use Rattle.function_blocks.specs.Parts.{Input, Part, fixed, read_bit, made, gate_count, outs_of, parts_of}
+use Rattle.function_blocks.specs.Rails.{one_rule_fires, Pairs, low_pairs, pair_in, turned_pairs, Rails, value_on, neutral_on, Single}
+use Rattle.function_blocks.specs.Parts.{Input, BlockPart, fixed, read_bit, made, gate_count, outs_of, parts_of}
 use Rattle.function_blocks.specs.BitsRead.{EachRead}
-use Rattle.function_blocks.specs.Waves.{taken, all_fit, cold, gate_rule, good, out_rail, full, empty, Waves}
+use Rattle.function_blocks.specs.Waves.{inputs_taken, all_fit, cold, gate_rule, good, out_rail, full, empty, Waves}
 use Rattle.function_blocks.proofs.Guards.{arrived, bits_in}
 use Rattle.function_blocks.proofs.GateLists.{singles, there_in, own_all, grows_all, law_all, apart_all, firm_all, cold_stays, all_arrived, named_in, arrived_all, arrived_at, all_low, low_in, begins_in, idle_in, cold_low, ease_all, answered_all, quiet_in}
 use Rattle.function_blocks.proofs.GateRest.{Only, only_more, only_all, Alike, fit_same, rule_same, earlier, rest_all, agrees_all}
@@ -23,7 +23,7 @@ use Rattle.function_blocks.proofs.Right.{result_bits, agrees_with, right_all, ri
 use Rattle.function_blocks.proofs.ValueAgrees.{value_agrees}
 use Rattle.function_blocks.proofs.Outputs.{neutral_arrived, arrived_neutral, full_arrived, number_told, one_out, wide_out, rails_up}
 
-pub only_both : (P Q : ℕ → ℕ → Type 0) (gs : List Part) → Only P gs → Only Q gs → Only (λ x i. P x i × Q x i) gs
+pub only_both : (P Q : ℕ → ℕ → Type 0) (gs : List BlockPart) → Only P gs → Only Q gs → Only (λ x i. P x i × Q x i) gs
 only_both P Q [] h k = tt
 only_both P Q (fixed v ∷ gs) h k = only_both P Q gs h k
 only_both P Q (read_bit x i ∷ gs) h k = ((h.0, k.0), only_both P Q gs h.1 k.1)
@@ -33,26 +33,26 @@ module _ (e : Formula) (w : IsWellFormed e) where
   abbrev n : ℕ
   n = gate_count e
 
-  abbrev gs : List Part
+  abbrev gs : List BlockPart
   gs = parts_of e 0
 
   abbrev us : List Input
   us = outs_of e 0
 
-  full_at : (u : Pairs n) → full e u ≡ true → list_all (arrived true) (taken (pair_in n u) us) ≡ true
+  full_at : (u : Pairs n) → full e u ≡ true → list_all (arrived true) (inputs_taken (pair_in n u) us) ≡ true
   full_at u f = full_arrived (pair_in n u) us (ap (λ k. is_some (value_on k (out_rail e u))) (outs_length e 0 w) ∙ f)
 
-  empty_at : (u : Pairs n) → empty e u ≡ true → list_all (arrived false) (taken (pair_in n u) us) ≡ true
+  empty_at : (u : Pairs n) → empty e u ≡ true → list_all (arrived false) (inputs_taken (pair_in n u) us) ≡ true
   empty_at u f = neutral_arrived (pair_in n u) us (ap (λ k. neutral_on k (out_rail e u)) (outs_length e 0 w) ∙ f)
 
-  inner : (r : Bool) (bits : ℕ → Rails) (u : Pairs n) → good r bits e u ≡ true → list_all (arrived r) (taken (pair_in n u) us) ≡ true → all_arrived r n u ≡ true
+  inner : (r : Bool) (bits : ℕ → Rails) (u : Pairs n) → good r bits e u ≡ true → list_all (arrived r) (inputs_taken (pair_in n u) us) ≡ true → all_arrived r n u ≡ true
   inner r bits u h o = arrived_all r bits (member us) gs n u (left_of _ _ h) (parts_used e 0 w) (λ k m. named_in r (pair_in n u) k us m o)
 
-  outer : (r : Bool) (u : Pairs n) → all_arrived r n u ≡ true → list_all (arrived r) (taken (pair_in n u) us) ≡ true
+  outer : (r : Bool) (u : Pairs n) → all_arrived r n u ≡ true → list_all (arrived r) (inputs_taken (pair_in n u) us) ≡ true
   outer r u a =
       earlier r (pair_in n u) n (λ k l. arrived_at r n u k a l) us (let z : zero + n ≡ n = omega arith in ap (λ k. below k us) (sym z) ∙ outs_below e 0 w)
 
-  pub told : (bits : ℕ → Rails) (u : Pairs n) → good true bits e u ≡ true → list_all (arrived true) (taken (pair_in n u) us) ≡ true
+  pub told : (bits : ℕ → Rails) (u : Pairs n) → good true bits e u ≡ true → list_all (arrived true) (inputs_taken (pair_in n u) us) ≡ true
       → value_on (width_of e) (out_rail e u) ≡ Some (number_of (bits_in (λ k. (pair_in n u k).t) us))
   told bits u h o =
       ap (λ k. value_on k (out_rail e u)) (sym (outs_length e 0 w)) ∙ number_told (pair_in n u) (singles true (pair_in n u) bits gs n u (left_of _ _ h)) us o
@@ -74,7 +74,7 @@ module _ (e : Formula) (w : IsWellFormed e) where
 
   -- and only these are waited for
   pub rest_read : (bits : ℕ → Rails) (u : Pairs n) → EachRead (λ x i. (bits x i true || bits x i false) ≡ true) e → good true bits e u ≡ true
-      → ((k : ℕ) (one : Bool) → fires (gate_rule e bits true u k one) ≡ false) → full e u ≡ true
+      → ((k : ℕ) (one : Bool) → one_rule_fires (gate_rule e bits true u k one) ≡ false) → full e u ≡ true
   rest_read bits u y h m =
       let a = rest_all true bits gs n u (left_of _ _ h) (parts_ordered e 0 w) (parts_read _ e 0 y) m in
       ap is_some (told bits u h (outer true u a))

@@ -11,7 +11,7 @@ use Rattle.width_check.specs.Values.{width_of, IsWellFormed, AreWellFormed, AreO
 use Rattle.handshake_expand.specs.Layout.{formula_size}
 use Rattle.function_blocks.specs.Gates.{table, minterm, gate, gate_rail}
 use Rattle.function_blocks.specs.Expressions.{following, read_rail, formula_rules}
-use Rattle.function_blocks.specs.Parts.{Input, Part, fixed, read_bit, made, read_parts, operator_parts, operator_inputs, operator_gates, gate_count, outs_of, parts_of, joined_parts, chained_parts}
+use Rattle.function_blocks.specs.Parts.{Input, BlockPart, fixed, read_bit, made, read_parts, operator_parts, operator_inputs, operator_gates, gate_count, outs_of, parts_of, joined_parts, chained_parts}
 use Rattle.function_blocks.specs.Listed.{placed, part_rules, rules_listed}
 use Rattle.function_blocks.specs.Blocks.{bits_apart, bits_in_blocks, AreBelow, HasBit}
 use Rattle.function_blocks.specs.BitsRead.{EachRead, EachPart, EachOperation}
@@ -113,7 +113,7 @@ module _ (count : ℕ) where
       one_near (is_low request ∷ []) (single (is_low request) asked),
     )
 
-    pub listed_near : (gs : List Part) (from : ℕ) → from + length gs ≤ n → ordered from gs ≡ true → Only (λ x i. IsNear (pair_of (bits x) i)) gs
+    pub listed_near : (gs : List BlockPart) (from : ℕ) → from + length gs ≤ n → ordered from gs ≡ true → Only (λ x i. IsNear (pair_of (bits x) i)) gs
         → All Within (rules_listed bits request base gs)
     listed_near [] from l o r = All-nil Within
     listed_near (fixed true ∷ gs) from l o r = two (following request) no_rules (rules_listed bits request base gs) follows_near none_near

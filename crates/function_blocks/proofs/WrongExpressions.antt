@@ -7,7 +7,7 @@ use Rattle.std.proofs.lemmas.List.Folds.{Any-from_list_any}
 use Rattle.chp_base.specs.declared.span.Span.{Span}
 use Rattle.chp_syntax.specs.declared.tree.Op.TheVariants.{Add}
 use Rattle.prs_core.specs.Pairs.{Pair, pair_at}
-use Rattle.prs_core.specs.Parts.{Part, Owned, Wire, Moment, IsMove, Keeps, Reached, at_first, and_then, after, all_low, fires, may_move, owned_from}
+use Rattle.prs_core.specs.Parts.{Part, Owned, Wire, Moment, IsMove, Keeps, Reached, at_first, and_then, moment_after, all_low, fires, may_move, owned_from}
 use Rattle.prs_core.specs.Breaking.{can_move}
 use Rattle.width_check.specs.Processes.{Formula, reading, chained, no_operations, and_operation}
 use Rattle.function_blocks.specs.Gates.{gate, carries}
@@ -17,7 +17,7 @@ use Rattle.function_blocks.specs.ExpressionParts.{expression_part}
 -- after these moves the requests and the answers are low, and a node that was low at first is not
 abbrev left_high : Part → Moment → List ℕ → Bool
 left_high p m [] = all_low m.value p.ports && not (all_low m.value p.lows)
-left_high p m (node ∷ nodes) = can_move p m node && left_high p (after p m node) nodes
+left_high p m (node ∷ nodes) = can_move p m node && left_high p (moment_after p m node) nodes
 
 move_of : (p : Part) (m : Moment) (node : ℕ) → can_move p m node ≡ true → IsMove p m node
 move_of p m node can = either (or_cases _ _ can)
@@ -39,7 +39,7 @@ breaks p m [] reached high keeps =
     true≢false (sym ((keeps m reached).lows ports) ∙ not-true _ lows)
 breaks p m (node ∷ nodes) reached high keeps =
     let (can, rest) = and_parts _ _ high in
-    breaks p (after p m node) nodes (and_then m node reached (move_of p m node can)) rest keeps
+    breaks p (moment_after p m node) nodes (and_then m node reached (move_of p m node can)) rest keeps
 
 abbrev at : Span
 at = record { from = 0; to = 1 }

@@ -23,16 +23,16 @@ value_seen bits e v = value (numbers_on bits v) e
 
 -- A rail of the result is to rise under the request where it is that of the value's bit, and to fall without the
 -- request.
-abbrev pub rail_wire : (request : ℕ) → (number : (ℕ → Bool) → ℕ) → (bit : ℕ) → Pair → Bool → Wire
-rail_wire request number i p one =
+abbrev pub value_wire : (request : ℕ) → (number : (ℕ → Bool) → ℕ) → (bit : ℕ) → Pair → Bool → Wire
+value_wire request number i p one =
     wire (node_of p one)
     (λ m. m.value request && same_bit one (number m.value / 2 ^ i % 2 == 1))
     (λ m. not (m.value request))
 
-abbrev pub rail_wires : (request : ℕ) → (number : (ℕ → Bool) → ℕ) → (bit : ℕ) → List Pair → List Wire
-rail_wires request number i [] = []
-rail_wires request number i (p ∷ ps) =
-    rail_wire request number i p true ∷ rail_wire request number i p false ∷ rail_wires request number (suc i) ps
+abbrev pub value_wires : (request : ℕ) → (number : (ℕ → Bool) → ℕ) → (bit : ℕ) → List Pair → List Wire
+value_wires request number i [] = []
+value_wires request number i (p ∷ ps) =
+    value_wire request number i p true ∷ value_wire request number i p false ∷ value_wires request number (suc i) ps
 
 -- A rail of a bit that is read moves while the request is low, and rises only where the bit's other rail is low.
 abbrev pub variable_wire : (request : ℕ) → Pair → Bool → Wire
@@ -47,8 +47,8 @@ variable_wires request (p ∷ ps) =
 
 -- The request may rise where the rails of the result are low and each bit that is read is valid, and fall where each
 -- bit of the result is.
-abbrev pub request_wire : (request : ℕ) → (read result : List Pair) → Wire
-request_wire request read result =
+abbrev pub asking_wire : (request : ℕ) → (read result : List Pair) → Wire
+asking_wire request read result =
     wire request
     (λ m. all_low m.value (rails_of result) && list_all (is_valid m.value) read)
     (λ m. list_all (is_valid m.value) result)
@@ -59,8 +59,8 @@ expression_part bits e request from =
     let read = bits_read bits e in
     let own = owned_from from (formula_rules bits e request from) in record {
       own = own;
-      promises = rail_wires request (value_seen bits e) 0 result;
-      allows = request_wire request read result ∷ variable_wires request read;
+      promises = value_wires request (value_seen bits e) 0 result;
+      allows = asking_wire request read result ∷ variable_wires request read;
       lows = map (λ (o : Owned). o.node) own;
       bits = [];
       ports = request ∷ rails_of result;
@@ -91,9 +91,9 @@ pub record StandsApart (bits : ℕ → List Pair) (e : Formula) (request from : 
   pub distinct : AreDistinct (bits_read bits e)
 
 -- What it waits for at rest: for its request, or, while that is low, for a bit that is read and isn't valid.
-abbrev pub IsAtRest : (ℕ → List Pair) → Formula → (request from : ℕ) → Moment → Type 0
-IsAtRest bits e request from m =
-    (may_move m (request_wire request (bits_read bits e) (formula_result e from)) ≡ true)
+abbrev pub ExpressionRests : (ℕ → List Pair) → Formula → (request from : ℕ) → Moment → Type 0
+ExpressionRests bits e request from m =
+    (may_move m (asking_wire request (bits_read bits e) (formula_result e from)) ≡ true)
     ⊎ ((m.value request ≡ false) × (list_all (is_valid m.value) (bits_read bits e) ≡ false))
 
 -- in each moment that such a circuit reaches, whatever its neighbours do within the contract

@@ -12,7 +12,7 @@ use Rattle.width_check.specs.Reads.{reads}
 use Rattle.function_blocks.specs.Gates.{gate}
 use Rattle.function_blocks.specs.Expressions.{HasBits, constant_bit, read_rail, formula_result, formula_rules}
 use Rattle.function_blocks.specs.Rails.{side_of, Pairs, pair_in, Rule, Rails}
-use Rattle.function_blocks.specs.Parts.{Input, Part, fixed, read_bit, made, gate_count, outs_of, parts_of}
+use Rattle.function_blocks.specs.Parts.{Input, BlockPart, fixed, read_bit, made, gate_count, outs_of, parts_of}
 use Rattle.function_blocks.specs.Waves.{gate_rule, out_rail}
 
 -- an input's nodes
@@ -20,13 +20,13 @@ abbrev pub placed : (from : ℕ) → Input → nodes.Pair
 placed from i = if i.crossed then nodes.exchanged (nodes.pair_at (from + 2 * i.at)) else nodes.pair_at (from + 2 * i.at)
 
 -- the rules of the two nodes of a gate, where the variables have these bits
-abbrev pub part_rules : (ℕ → List nodes.Pair) → (request from : ℕ) → Part → List NodeRules
+abbrev pub part_rules : (ℕ → List nodes.Pair) → (request from : ℕ) → BlockPart → List NodeRules
 part_rules bits request from (fixed v) = constant_bit request v
 part_rules bits request from (read_bit x i) =
     read_rail request (nodes.pair_of (bits x) i).t ∷ read_rail request (nodes.pair_of (bits x) i).f ∷ []
 part_rules bits request from (made f i more) = gate (map (placed from) (i ∷ more)) f
 
-abbrev pub rules_listed : (ℕ → List nodes.Pair) → (request from : ℕ) → List Part → List NodeRules
+abbrev pub rules_listed : (ℕ → List nodes.Pair) → (request from : ℕ) → List BlockPart → List NodeRules
 rules_listed bits request from [] = []
 rules_listed bits request from (g ∷ gs) = part_rules bits request from g ++ rules_listed bits request from gs
 

@@ -19,16 +19,16 @@ turned_over i = record { at = i.at; crossed = not i.crossed }
 
 -- A bit of a number, a bit of a variable that is read, and a gate with a truth function. A gate has at least one input:
 -- else its fall would always be enabled.
-pub data Part : Type 0 where
-  fixed : Bool → Part
-  read_bit : (var bit : ℕ) → Part
-  made : (List Bool → Bool) → Input → List Input → Part
+pub data BlockPart : Type 0 where
+  fixed : Bool → BlockPart
+  read_bit : (var bit : ℕ) → BlockPart
+  made : (List Bool → Bool) → Input → List Input → BlockPart
 
-abbrev pub fixed_parts : (width value : ℕ) → List Part
+abbrev pub fixed_parts : (width value : ℕ) → List BlockPart
 fixed_parts zero v = []
 fixed_parts (suc n) v = fixed (v % 2 == 1) ∷ fixed_parts n (v / 2)
 
-abbrev pub read_parts : (var bit count : ℕ) → List Part
+abbrev pub read_parts : (var bit count : ℕ) → List BlockPart
 read_parts x i zero = []
 read_parts x i (suc n) = read_bit x i ∷ read_parts x (suc i) n
 
@@ -37,7 +37,7 @@ inputs_from zero from = []
 inputs_from (suc n) from = input from ∷ inputs_from n (suc from)
 
 -- gates bit by bit
-abbrev pub bitwise_parts : (List Bool → Bool) → List Input → List Input → List Part
+abbrev pub bitwise_parts : (List Bool → Bool) → List Input → List Input → List BlockPart
 bitwise_parts f [] vs = []
 bitwise_parts f (a ∷ us) [] = []
 bitwise_parts f (a ∷ us) (b ∷ vs) = made f a (b ∷ []) ∷ bitwise_parts f us vs
@@ -47,7 +47,7 @@ result_inputs [] from = []
 result_inputs (a ∷ us) from = input from ∷ result_inputs us (suc from)
 
 -- for each bit the bit of the result and, below the top bit, what is carried on
-abbrev pub ripple_parts : (List Bool → Bool) → List Input → List Input → (carried : List Input) → (from : ℕ) → List Part
+abbrev pub ripple_parts : (List Bool → Bool) → List Input → List Input → (carried : List Input) → (from : ℕ) → List BlockPart
 ripple_parts carry [] vs carried from = []
 ripple_parts carry (a ∷ us) [] carried from = []
 ripple_parts carry (a ∷ []) (b ∷ vs) carried from = made odd_ones a (b ∷ carried) ∷ []
@@ -60,22 +60,22 @@ ripple_inputs [] from = []
 ripple_inputs (a ∷ us) from = input from ∷ ripple_inputs us (suc (suc from))
 
 -- the borrow of each bit
-abbrev pub borrow_parts : List Input → List Input → (borrowed : List Input) → (from : ℕ) → List Part
+abbrev pub borrow_parts : List Input → List Input → (borrowed : List Input) → (from : ℕ) → List BlockPart
 borrow_parts [] vs borrowed from = []
 borrow_parts (a ∷ us) [] borrowed from = []
 borrow_parts (a ∷ us) (b ∷ vs) borrowed from =
     made borrows a (b ∷ borrowed) ∷ borrow_parts us vs (input from ∷ []) (suc from)
 
 -- the conjunction of a bit with the next one, of that with the one behind it, and so on
-abbrev pub conjunction_parts : Input → List Input → (from : ℕ) → List Part
+abbrev pub conjunction_parts : Input → List Input → (from : ℕ) → List BlockPart
 conjunction_parts p [] from = []
 conjunction_parts p (q ∷ qs) from = made all_one p (q ∷ []) ∷ conjunction_parts (input from) qs (suc from)
 
-abbrev pub all_parts : List Input → (from : ℕ) → List Part
+abbrev pub all_parts : List Input → (from : ℕ) → List BlockPart
 all_parts [] from = []
 all_parts (p ∷ ps) from = conjunction_parts p ps from
 
-abbrev pub equality_parts : List Input → List Input → (from : ℕ) → List Part
+abbrev pub equality_parts : List Input → List Input → (from : ℕ) → List BlockPart
 equality_parts us vs from = bitwise_parts alike us vs ++ all_parts (result_inputs us from) (from + length us)
 
 -- the last of so many gates from a number on, or this one where there are none
@@ -93,7 +93,7 @@ equal_input us from = last_from (input from) (from + length us) (rest_of us)
 abbrev pub less_input : List Input → (from : ℕ) → Input
 less_input us from = last_from (input from) (suc from) (rest_of us)
 
-abbrev pub operator_parts : Op → List Input → List Input → (from : ℕ) → List Part
+abbrev pub operator_parts : Op → List Input → List Input → (from : ℕ) → List BlockPart
 operator_parts And us vs from = bitwise_parts all_one us vs
 operator_parts Or us vs from = bitwise_parts some_one us vs
 operator_parts Xor us vs from = bitwise_parts odd_ones us vs
@@ -174,7 +174,7 @@ abbrev mutual
 
 -- its gates
 abbrev mutual
-  pub parts_of : Formula → (from : ℕ) → List Part
+  pub parts_of : Formula → (from : ℕ) → List BlockPart
   parts_of (constant width v) from = fixed_parts width v
   parts_of (reading var high low at) from = read_parts var low (high + 1 - low)
   parts_of (joined parts) from = joined_parts parts from
@@ -185,11 +185,11 @@ abbrev mutual
       parts_of e from ++ (parts_of f (from + gate_count e)
       ++ operator_parts op (outs_of e from) (outs_of f (from + gate_count e)) (from + gate_count e + gate_count f))
 
-  pub joined_parts : Formulas → (from : ℕ) → List Part
+  pub joined_parts : Formulas → (from : ℕ) → List BlockPart
   joined_parts no_parts from = []
   joined_parts (and_part e more) from = parts_of e from ++ joined_parts more (from + gate_count e)
 
-  pub chained_parts : (width : ℕ) → List Input → Operations → (from : ℕ) → List Part
+  pub chained_parts : (width : ℕ) → List Input → Operations → (from : ℕ) → List BlockPart
   chained_parts width left no_operations from = []
   chained_parts width left (and_operation op e more) from =
       parts_of e from ++ (operator_parts op left (outs_of e from) (from + gate_count e)

@@ -4,50 +4,50 @@ use Rattle.prs_core.specs.Moves.{bit_value, with_bit}
 use Rattle.width_check.specs.Values.{one_if}
 
 -- the two rails of a bit
-pub record Pair : Type 0 where
+pub record RailLevels : Type 0 where
   pub t : Bool
   pub f : Bool
 
-abbrev pub pair_of : (t f : Bool) → Pair
-pair_of t f = record { t = t; f = f }
+abbrev pub levels_of : (t f : Bool) → RailLevels
+levels_of t f = record { t = t; f = f }
 
 -- that for the bit 1 is the rail t
-abbrev pub side_of : Pair → (one : Bool) → Bool
+abbrev pub side_of : RailLevels → (one : Bool) → Bool
 side_of x true = x.t
 side_of x false = x.f
 
 -- the pair with this rail turned over
-abbrev pub turned_side : Pair → Bool → Pair
-turned_side x true = pair_of (not x.t) x.f
-turned_side x false = pair_of x.t (not x.f)
+abbrev pub turned_side : RailLevels → Bool → RailLevels
+turned_side x true = levels_of (not x.t) x.f
+turned_side x false = levels_of x.t (not x.f)
 
 -- the rails exchanged, or not
-abbrev pub cross : Bool → Pair → Pair
-cross true x = pair_of x.f x.t
+abbrev pub cross : Bool → RailLevels → RailLevels
+cross true x = levels_of x.f x.t
 cross false x = x
 
 -- not both are high, one at least is, none is
-abbrev pub single : Pair → Bool
+abbrev pub single : RailLevels → Bool
 single x = not (x.t && x.f)
 
-abbrev pub some : Pair → Bool
+abbrev pub some : RailLevels → Bool
 some x = x.t || x.f
 
-abbrev pub neutral : Pair → Bool
-neutral x = not x.t && not x.f
+abbrev pub levels_neutral : RailLevels → Bool
+levels_neutral x = not x.t && not x.f
 
 -- so many pairs
 abbrev pub Pairs : ℕ → Type 0
 Pairs zero = Unit {0}
-Pairs (suc n) = Pair × Pairs n
+Pairs (suc n) = RailLevels × Pairs n
 
 abbrev pub low_pairs : (n : ℕ) → Pairs n
 low_pairs zero = tt
-low_pairs (suc n) = (pair_of false false, low_pairs n)
+low_pairs (suc n) = (levels_of false false, low_pairs n)
 
 -- the pair of this number, low behind the last one
-abbrev pub pair_in : (n : ℕ) → Pairs n → ℕ → Pair
-pair_in zero u k = pair_of false false
+abbrev pub pair_in : (n : ℕ) → Pairs n → ℕ → RailLevels
+pair_in zero u k = levels_of false false
 pair_in (suc n) u zero = u.0
 pair_in (suc n) u (suc k) = pair_in n u.1 k
 
@@ -73,8 +73,8 @@ no_rule now = rule_of now false false
 abbrev pub turns : (now up down : Bool) → Bool
 turns now up down = if now then down else up
 
-abbrev pub fires : Rule → Bool
-fires r = turns r.now r.up r.down
+abbrev pub one_rule_fires : Rule → Bool
+one_rule_fires r = turns r.now r.up r.down
 
 abbrev pub is_apart : Rule → Bool
 is_apart r = not (r.up && r.down)

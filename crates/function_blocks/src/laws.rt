@@ -12,7 +12,7 @@ ghost use Rattle.handshake_expand.specs.Layout.{formula_size};
 ghost use Rattle.function_blocks.specs.Expressions.{HasBits, formula_result, formula_rules};
 ghost use Rattle.function_blocks.specs.Waves.{Waves};
 ghost use Rattle.function_blocks.specs.Listed.{Listed, node_of};
-ghost use Rattle.function_blocks.specs.ExpressionParts.{InEachMoment, StandsApart, IsAtRest, expression_part, inner_bits, value_seen};
+ghost use Rattle.function_blocks.specs.ExpressionParts.{InEachMoment, StandsApart, ExpressionRests, expression_part, inner_bits, value_seen};
 ghost use Rattle.prs_core.specs.Parts.{Keeps, Owned, all_low, fires, is_valid, owned_from};
 
 /// Law: the value of a well-formed expression has as many bits as the expression's width.
@@ -52,7 +52,7 @@ pub fn expressions_keep()
 pub fn expressions_wait()
     ensures { InEachMoment (λ bits e request from m.
         ((o : Owned) → Contains (owned_from from (formula_rules bits e request from)) o → fires m.value o ≡ false)
-        → IsAtRest bits e request from m) }
+        → ExpressionRests bits e request from m) }
 {}
 
 /// Law: where the request is high and all bits of the result are valid, all inner bits are valid.

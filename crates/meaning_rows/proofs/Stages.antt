@@ -13,8 +13,8 @@ use Rattle.width_check.specs.declared.typed.TStmt.{TStmt, Then, Beside, Select}
 use Rattle.width_check.specs.Processes.{Formula, reading, Process, skipping, sending, receiving, repeating, in_turn, side_by_side, Processes, no_members, and_member, Choices, no_choices, and_choice}
 use Rattle.width_check.specs.Sharing.{Deed, reads_var, writes_var, sends_on, receives_on, Occurrence, done_at, reads_of, occurrences, occurrences_of_each, Parallel, ParallelInside, ParallelInChoices, ParallelAcross, Clashes, MeetsSharing}
 use Rattle.width_check.specs.View.{process_of}
-use Rattle.meaning_rows.specs.Apart.{IsSequential, AreSequential, IsStage, stage_of, both, alongside_it, here}
-use Rattle.chp_meaning.specs.Remaining.{members_of, choices_of}
+use Rattle.meaning_rows.specs.Apart.{IsSequential, AreSequential, IsStage, stage_of, both, alongside_it, place_nowhere}
+use Rattle.chp_meaning.specs.Remaining.{statement_processes, choices_of}
 use Rattle.chp_meaning.proofs.Rows.{then_is, beside_is, select_is}
 
 pub sequential_meets : (p : Process) → IsSequential p → MeetsSharing p
@@ -32,10 +32,10 @@ choices_sequential no_choices a b each none = none
 choices_sequential (and_choice g p more) a b each inside = ⊎_elim (each.0 a b) (choices_sequential more a b each.1) inside
 
 pub two_in_turn : (v : Vec TStmt Global) (s t : TStmt) → v.items ≡ s ∷ t ∷ [] → process_of (Then v) ≡ both (process_of s) (process_of t)
-two_in_turn v s t is = then_is v ∙ ap (λ xs. in_turn (members_of xs)) is
+two_in_turn v s t is = then_is v ∙ ap (λ xs. in_turn (statement_processes xs)) is
 
 pub two_beside : (v : Vec TStmt Global) (s t : TStmt) → v.items ≡ s ∷ t ∷ [] → process_of (Beside v) ≡ alongside_it (process_of s) (process_of t)
-two_beside v s t is = beside_is v ∙ ap (λ xs. side_by_side (members_of xs)) is
+two_beside v s t is = beside_is v ∙ ap (λ xs. side_by_side (statement_processes xs)) is
 
 pub arms_sequential : (again : Bool) (v : Vec TArm Global) → AreSequential (choices_of v.items) → IsSequential (process_of (Select again v))
 arms_sequential again v each = subst (λ p. IsSequential p) (sym (select_is again v)) (λ a b. choices_sequential (choices_of v.items) a b each)
@@ -107,12 +107,12 @@ receive_stage _ _ clash = absurd clash
 abbrev pub AreStages : ℕ → Processes → Type 0
 AreStages n ms = AreTagged stage_of n ms
 
-pub stages_meet : (v : Vec TStmt Global) → AreStages 0 (members_of v.items) → MeetsSharing (process_of (Beside v))
+pub stages_meet : (v : Vec TStmt Global) → AreStages 0 (statement_processes v.items) → MeetsSharing (process_of (Beside v))
 stages_meet v stages = subst (λ p. MeetsSharing p) (sym (beside_is v))
-    (tagged_meets stage_of (members_of v.items) (record { var = var_stage; send = send_stage; receive = receive_stage }) stages)
+    (tagged_meets stage_of (statement_processes v.items) (record { var = var_stage; send = send_stage; receive = receive_stage }) stages)
 
-pub one_more_stage : (n : ℕ) (ss : List TStmt) (s : TStmt) → AreStages n (members_of ss) → IsSequential (process_of s) →
-    IsStage (n + length ss) (process_of s) → AreStages n (members_of (ss ++ s ∷ []))
+pub one_more_stage : (n : ℕ) (ss : List TStmt) (s : TStmt) → AreStages n (statement_processes ss) → IsSequential (process_of s) →
+    IsStage (n + length ss) (process_of s) → AreStages n (statement_processes (ss ++ s ∷ []))
 one_more_stage n [] s stages alone stage = (alone, subst (λ k. IsStage k (process_of s)) (omega arith) stage, tt)
 one_more_stage n (x ∷ ss) s stages alone stage =
     (stages.0, stages.1, one_more_stage (suc n) ss s stages.2 alone (subst (λ k. IsStage k (process_of s)) (omega arith) stage))
@@ -120,15 +120,15 @@ one_more_stage n (x ∷ ss) s stages alone stage =
 four : {X : Type 0} (P : X → Type 0) (a b c d : X) → P a → P b → P c → P d → All P (a ∷ b ∷ c ∷ d ∷ [])
 four P a b c d p q r s = All-cons P a (b ∷ c ∷ d ∷ []) p (All-cons P b (c ∷ d ∷ []) q (All-cons P c (d ∷ []) r (All-cons P d [] s (All-nil P))))
 
-pub copy_stage : (p : Process) (e : Formula) (from to : ℕ) → p ≡ repeating (both (receiving from here from here) (sending to here e)) →
-    e ≡ reading from 3 0 here → to ≡ from + 1 → IsStage from p
+pub copy_stage : (p : Process) (e : Formula) (from to : ℕ) → p ≡ repeating (both (receiving from place_nowhere from place_nowhere) (sending to place_nowhere e)) →
+    e ≡ reading from 3 0 place_nowhere → to ≡ from + 1 → IsStage from p
 copy_stage p e from to is reads next =
     let sent : to - 1 ≡ from = omega arith in
-    let same : p ≡ repeating (both (receiving from here from here) (sending to here (reading from 3 0 here))) =
-        is ∙ ap (λ f. repeating (both (receiving from here from here) (sending to here f))) reads in
-    let all : IsStage from (repeating (both (receiving from here from here) (sending to here (reading from 3 0 here)))) =
-        four (λ (o : Occurrence). stage_of o.deed ≡ from) (done_at (receives_on from) here) (done_at (writes_var from) here) (done_at (sends_on to) here)
-        (done_at (reads_var from) here) refl refl sent refl in
+    let same : p ≡ repeating (both (receiving from place_nowhere from place_nowhere) (sending to place_nowhere (reading from 3 0 place_nowhere))) =
+        is ∙ ap (λ f. repeating (both (receiving from place_nowhere from place_nowhere) (sending to place_nowhere f))) reads in
+    let all : IsStage from (repeating (both (receiving from place_nowhere from place_nowhere) (sending to place_nowhere (reading from 3 0 place_nowhere)))) =
+        four (λ (o : Occurrence). stage_of o.deed ≡ from) (done_at (receives_on from) place_nowhere) (done_at (writes_var from) place_nowhere) (done_at (sends_on to) place_nowhere)
+        (done_at (reads_var from) place_nowhere) refl refl sent refl in
     subst (λ q. IsStage from q) (sym same) all
 
 -- One receives and the other one sends
@@ -151,22 +151,22 @@ receive_end : (d e : Deed) → Clashes code.SharedReceive d e → end_of d ≡ e
 receive_end (receives_on x) (receives_on y) is = refl
 receive_end _ _ clash = absurd clash
 
-pub late_meets : (p q : Process) (e : Formula) → p ≡ alongside_it (both skipping (receiving 0 here 0 here)) q → q ≡ sending 0 here e → reads_of e ≡ [] →
+pub late_meets : (p q : Process) (e : Formula) → p ≡ alongside_it (both skipping (receiving 0 place_nowhere 0 place_nowhere)) q → q ≡ sending 0 place_nowhere e → reads_of e ≡ [] →
     MeetsSharing p
 late_meets p q e is sends reads =
     let P : Occurrence → Type 0 = λ o. end_of o.deed ≡ 0 in
     let Q : Occurrence → Type 0 = λ o. end_of o.deed ≡ 1 in
-    let receives : IsSequential (receiving 0 here 0 here) = λ a b none. none in
+    let receives : IsSequential (receiving 0 place_nowhere 0 place_nowhere) = λ a b none. none in
     let skips : IsSequential skipping = λ a b none. none in
-    let first : All P (done_at (receives_on 0) here ∷ done_at (writes_var 0) here ∷ []) =
-        All-cons P (done_at (receives_on 0) here) (done_at (writes_var 0) here ∷ []) refl (All-cons P (done_at (writes_var 0) here) [] refl (All-nil P)) in
-    let last : All Q (occurrences (sending 0 here e)) =
-        subst (λ (xs : List Occurrence). All Q (done_at (sends_on 0) here ∷ xs)) (sym reads) (All-cons Q (done_at (sends_on 0) here) [] refl (All-nil Q)) in
-    let same : p ≡ alongside_it (both skipping (receiving 0 here 0 here)) (sending 0 here e) =
-        is ∙ ap (alongside_it (both skipping (receiving 0 here 0 here))) sends in
+    let first : All P (done_at (receives_on 0) place_nowhere ∷ done_at (writes_var 0) place_nowhere ∷ []) =
+        All-cons P (done_at (receives_on 0) place_nowhere) (done_at (writes_var 0) place_nowhere ∷ []) refl (All-cons P (done_at (writes_var 0) place_nowhere) [] refl (All-nil P)) in
+    let last : All Q (occurrences (sending 0 place_nowhere e)) =
+        subst (λ (xs : List Occurrence). All Q (done_at (sends_on 0) place_nowhere ∷ xs)) (sym reads) (All-cons Q (done_at (sends_on 0) place_nowhere) [] refl (All-nil Q)) in
+    let same : p ≡ alongside_it (both skipping (receiving 0 place_nowhere 0 place_nowhere)) (sending 0 place_nowhere e) =
+        is ∙ ap (alongside_it (both skipping (receiving 0 place_nowhere 0 place_nowhere))) sends in
     subst (λ x. MeetsSharing x) (sym same) (tagged_meets end_of
-        (and_member (both skipping (receiving 0 here 0 here)) (and_member (sending 0 here e) no_members)) (record { var = var_end; send = send_end; receive =
-        receive_end }) (both_sequential skipping (receiving 0 here 0 here) skips receives, first, (λ a b none. none, last, tt)))
+        (and_member (both skipping (receiving 0 place_nowhere 0 place_nowhere)) (and_member (sending 0 place_nowhere e) no_members)) (record { var = var_end; send = send_end; receive =
+        receive_end }) (both_sequential skipping (receiving 0 place_nowhere 0 place_nowhere) skips receives, first, (λ a b none. none, last, tt)))
 
 pub if_ok_more : {A E : Type 0} (r : Result A E) (P Q : A → Type 0) → ((a : A) → P a → Q a) → IfOk r P → IfOk r Q
 if_ok_more (Ok a) P Q more p = more a p

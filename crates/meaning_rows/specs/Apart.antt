@@ -20,8 +20,8 @@ abbrev pub alongside_it : Process → Process → Process
 alongside_it p q = side_by_side (and_member p (and_member q no_members))
 
 -- the place of all that is made by hand
-abbrev pub here : Span
-here = record { from = 0; to = 1 }
+abbrev pub place_nowhere : Span
+place_nowhere = record { from = 0; to = 1 }
 
 -- stage n of a pipeline receives on channel n, has the variable n, and sends on channel n + 1
 abbrev pub stage_of : Deed → ℕ

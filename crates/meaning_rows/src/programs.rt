@@ -4,7 +4,7 @@ ghost use Rattle.std.specs.Prelude.{◌≡◌, ◌+◌, ◌<◌, ◌≤◌, ◌^
 ghost use Rattle.width_check.specs.Processes.{reading, sending, receiving, repeating};
 ghost use Rattle.width_check.specs.Sharing.{MeetsSharing, reads_of};
 ghost use Rattle.width_check.specs.View.{formula_of, process_of};
-ghost use Rattle.meaning_rows.specs.Apart.{IsSequential, AreSequential, IsStage, both, alongside_it, here};
+ghost use Rattle.meaning_rows.specs.Apart.{IsSequential, AreSequential, IsStage, both, alongside_it, place_nowhere};
 ghost use Rattle.chp_meaning.specs.Remaining.{choices_of};
 
 use crate::stop::Stop;
@@ -14,7 +14,7 @@ use std::alloc::{AllocError, Global};
 use width_check::{TArm, TExpr, TLink, TStmt, Var};
 
 fn at() -> Span
-    ensures { result ≡ here }
+    ensures { result ≡ place_nowhere }
 {
     Span { from: 0, to: 1 }
 }
@@ -31,7 +31,7 @@ pub fn var(alloc: Global, name: &[u8], width: u8, first: u64) -> Result<Var, Sto
 
 /// The bits from `high` down of a variable.
 pub fn read(var: u32, high: u8) -> TExpr
-    ensures { formula_of result ≡ reading var high 0 here }
+    ensures { formula_of result ≡ reading var high 0 place_nowhere }
 {
     TExpr::Read {
         var,
@@ -77,7 +77,7 @@ pub fn assign(var: u32, value: TExpr) -> TStmt
 }
 
 pub fn send(chan: u32, value: TExpr) -> TStmt
-    ensures made { process_of result ≡ sending chan here (formula_of value) }
+    ensures made { process_of result ≡ sending chan place_nowhere (formula_of value) }
     ensures sequential { IsSequential (process_of result) }
 {
     TStmt::Send {
@@ -88,7 +88,7 @@ pub fn send(chan: u32, value: TExpr) -> TStmt
 }
 
 pub fn receive(chan: u32, var: u32) -> TStmt
-    ensures made { process_of result ≡ receiving chan here var here }
+    ensures made { process_of result ≡ receiving chan place_nowhere var place_nowhere }
     ensures sequential { IsSequential (process_of result) }
 {
     TStmt::Receive {

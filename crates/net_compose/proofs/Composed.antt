@@ -18,7 +18,8 @@ use Rattle.handshake_expand.proofs.Ranges.{answer_within}
 use Rattle.handshake_expand.proofs.Rows.{var_found}
 use Rattle.cell_sequence.specs.Sequence.{q_child, q_latch, q_next, with_q, IsPorts}
 use Rattle.cell_variable.specs.Variables.{high_first}
-use Rattle.net_compose.specs.Translation.{rules_of, channels_rules, vars_rules, all_rules, composed, body_answer, vars_high, in_body, hidden_high, first_values, wires_from, translation}
+use Rattle.handshake_expand.specs.Sites.{in_body}
+use Rattle.net_compose.specs.Translation.{rules_of, channels_rules, vars_rules, all_rules, composed, body_answer, vars_high, hidden_high, first_values, wires_from, translation}
 use Rattle.net_compose.proofs.FlatBlocks.{blocks_below, length-vars_rules}
 use Rattle.net_compose.proofs.FlatWires.{length-channels_rules}
 use Rattle.net_compose.proofs.Raised.{with_raised}

@@ -24,7 +24,8 @@ use Rattle.net_compose.specs.Begins.{channel_firsts, var_firsts}
 use Rattle.net_compose.specs.EverySite.{every_site}
 use Rattle.net_compose.specs.RailLists.{rails_in, bits_in}
 use Rattle.net_compose.specs.SortedSites.{AreSorted}
-use Rattle.net_compose.specs.Translation.{in_body, send_site, receive_site, write_site, rail_rules, channel_rules, channels_rules, vars_rules}
+use Rattle.handshake_expand.specs.Sites.{in_body}
+use Rattle.net_compose.specs.Translation.{send_site, receive_site, write_site, rail_rules, channel_rules, channels_rules, vars_rules}
 use Rattle.net_compose.proofs.FlatBlocks.{blocks_below, length-variable_rules}
 use Rattle.net_compose.proofs.FlatWires.{wires_below}
 use Rattle.net_compose.proofs.ReadBack.{pairs_again}

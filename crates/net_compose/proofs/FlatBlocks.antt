@@ -17,8 +17,9 @@ use Rattle.cell_parallel.specs.Sizes.{tree_length}
 use Rattle.cell_variable.specs.Variables.{bit_at, bits_from, bit_rules, bits_rules, kept_rail, bit_written, written_leaves, variable_rules}
 use Rattle.circuit_places.specs.Lines.{Rails}
 use Rattle.circuit_places.specs.Circuit.{Rule, joint_count, tree_value, tree_answer, tree_rule}
-use Rattle.circuit_places.specs.Whole.{bit_rule, wrote_rule, merged, all_low}
-use Rattle.net_compose.specs.Translation.{block_bits, vars_rules, in_body, write_site}
+use Rattle.circuit_places.specs.Whole.{bit_rule, wrote_rule, merged, lows_only}
+use Rattle.handshake_expand.specs.Sites.{in_body}
+use Rattle.net_compose.specs.Translation.{block_bits, vars_rules, write_site}
 use Rattle.net_compose.proofs.FlatTrees.{joint_count_is, value_leaf, value_node, answer_value, Alike, tree_alike}
 use Rattle.net_compose.proofs.FlatRules.{one_high, high_and_low, or_up, or_down}
 use Rattle.net_compose.proofs.FlatSites.{at_site}
@@ -266,10 +267,10 @@ module _ (v : ℕ → Bool) where
         → Says (offset n (a_put i one)) (merged (w i one) values)
     put_says i true values h e = says (5 * i + 2) (merged (w i true) values) (or_of (map (at_site i true) sites)) (block_rule n from sites i 2 h (omega arith))
         (b.puts i true h)
-        (or_up v (map (at_site i true) sites) ∙ ap (list_any (λ z. z)) e) (or_down v (map (at_site i true) sites) ∙ ap all_low e)
+        (or_up v (map (at_site i true) sites) ∙ ap (list_any (λ z. z)) e) (or_down v (map (at_site i true) sites) ∙ ap lows_only e)
     put_says i false values h e = says (5 * i + 3) (merged (w i false) values) (or_of (map (at_site i false) sites))
         (block_rule n from sites i 3 h (omega arith)) (b.puts i false h)
-        (or_up v (map (at_site i false) sites) ∙ ap (list_any (λ z. z)) e) (or_down v (map (at_site i false) sites) ∙ ap all_low e)
+        (or_up v (map (at_site i false) sites) ∙ ap (list_any (λ z. z)) e) (or_down v (map (at_site i false) sites) ∙ ap lows_only e)
 
     pub mark_says : (i : ℕ) → i < n → Says (offset n (a_mark i)) (wrote_rule w x wrote i)
     mark_says i h = says (5 * i + 4) (wrote_rule w x wrote i) (bit_written (bit_at (from + 5 * i))) (block_rule n from sites i 4 h (omega arith)) (b.marks i h)

@@ -25,8 +25,9 @@ use Rattle.handshake_expand.specs.Layout.{block_size, var_from, wires_before, ch
 use Rattle.cell_sequence.specs.Sequence.{q_child, q_latch, q_next}
 use Rattle.chp_meaning.specs.Halves.{ReadsNoTarget}
 use Rattle.circuit_places.specs.Circuit.{joint_count, tree_rule, answer, GuardedSpot, child, latch, next, inner, Rule, no_rule, fires, is_apart, same_bit, guarded_rule, rule, site_rails, rails_turned, takers}
-use Rattle.circuit_places.specs.Whole.{Wires, line_ack, bit_rule, wrote_rule, bit_turned, wrote_turned, joint_turned, ack_turned, seen, is_sent, is_heard, rail_turned, Whole, Node, go_node, own_node, rail_node, ack_node, bit_node, wrote_node, joint_node, merged, all_low, rule_in, answers, offers, brings, number_rail, env_moves, enabled, moved, passed, value_on, neutral_on}
-use Rattle.net_compose.specs.Translation.{translation, all_rules, channels_rules, vars_rules, rules_of, in_body, write_site, bits_at, written_at, send_site, receive_site, rails_at, ack_at, wires_from, body_answer}
+use Rattle.circuit_places.specs.Whole.{Wires, line_ack, bit_rule, wrote_rule, bit_turned, wrote_turned, joint_turned, ack_turned, wires_seen, is_sent, is_heard, rail_turned, Whole, Node, go_node, own_node, rail_node, ack_node, bit_node, wrote_node, joint_node, merged, lows_only, rule_in, answers, offers, brings, number_rail, env_moves, enabled, cells_moved, cells_passed, value_on, neutral_on}
+use Rattle.handshake_expand.specs.Sites.{in_body}
+use Rattle.net_compose.specs.Translation.{translation, all_rules, channels_rules, vars_rules, rules_of, write_site, bits_at, written_at, send_site, receive_site, rails_at, ack_at, wires_from, body_answer}
 use Rattle.net_compose.proofs.FlatCells.{bits, place, IsFine, length-bits, place_lt, rail_place, turned_is, spot_of}
 use Rattle.net_compose.proofs.FlatRules.{Stands, one_high, one_low, high_and_low, or_up, or_down, length-rules, answer_is, rule_is}
 use Rattle.net_compose.proofs.FlatSites.{at_site, sites_are, takers_are}
@@ -212,28 +213,28 @@ module _ (P : TypedProgram) (given : Given P) where
     body_answer_is : high st.values (body_answer P) ≡ answer P.body x.root.inner
     body_answer_is = answer_is P (high st.values) P.body given.covered given.typed (body_from P) x.root.inner s.body
 
-    own_tells : (p : GuardedSpot P.body) → own_fine p → Tells (high st.values) (own_number p) (guarded_rule P.body (seen P x.wires) x.go x.root p)
+    own_tells : (p : GuardedSpot P.body) → own_fine p → Tells (high st.values) (own_number p) (guarded_rule P.body (wires_seen P x.wires) x.go x.root p)
     own_tells next f =
-        tells_from (high st.values) 1 (guarded_rule P.body (seen P x.wires) x.go x.root next) (q_next (root_latch P) (body_answer P)) refl s.done
+        tells_from (high st.values) 1 (guarded_rule P.body (wires_seen P x.wires) x.go x.root next) (q_next (root_latch P) (body_answer P)) refl s.done
         (high_and_low (high st.values) (root_latch P) (body_answer P) ∙ (ap (λ b. b && not (high st.values (body_answer P))) s.latch
         ∙ ap (λ b. x.root.latch && not b) body_answer_is))
         (one_low (high st.values) (root_latch P) ∙ ap not s.latch)
     own_tells child f =
-        tells_from (high st.values) (root_request P) (guarded_rule P.body (seen P x.wires) x.go x.root child) (q_child go_number (root_latch P))
+        tells_from (high st.values) (root_request P) (guarded_rule P.body (wires_seen P x.wires) x.go x.root child) (q_child go_number (root_latch P))
         (root_told (root_request P) 0 (omega arith)) s.child
         (high_and_low (high st.values) 0 (root_latch P) ∙ (ap (λ b. b && not (high st.values (root_latch P))) s.go ∙ ap (λ b. x.go && not b) s.latch))
         (one_high (high st.values) (root_latch P) ∙ s.latch)
     own_tells latch f =
-        tells_from (high st.values) (root_latch P) (guarded_rule P.body (seen P x.wires) x.go x.root latch) (q_latch go_number (body_answer P))
+        tells_from (high st.values) (root_latch P) (guarded_rule P.body (wires_seen P x.wires) x.go x.root latch) (q_latch go_number (body_answer P))
         (root_told (root_latch P) 1 refl) s.latch
         (one_high (high st.values) (body_answer P) ∙ body_answer_is)
         (one_low (high st.values) 0 ∙ ap not s.go)
     own_tells (inner p) f =
-        let t = rule_is P (high st.values) (seen P x.wires) s.ack written_told bits_told s.rail P.body given.covered given.typed (root_request P)
+        let t = rule_is P (high st.values) (wires_seen P x.wires) s.ack written_told bits_told s.rail P.body given.covered given.typed (root_request P)
         (body_from P) x.root.inner p f s.body in
-        let r = rule P.body (seen P x.wires) (high st.values (root_request P)) x.root.inner p in
-        let e : r ≡ rule P.body (seen P x.wires) x.root.child x.root.inner p = ap (λ b. rule P.body (seen P x.wires) b x.root.inner p) s.child in
-        tells_from (high st.values) (body_from P + place P P.body p) (rule P.body (seen P x.wires) x.root.child x.root.inner p)
+        let r = rule P.body (wires_seen P x.wires) (high st.values (root_request P)) x.root.inner p in
+        let e : r ≡ rule P.body (wires_seen P x.wires) x.root.child x.root.inner p = ap (λ b. rule P.body (wires_seen P x.wires) b x.root.inner p) s.child in
+        tells_from (high st.values) (body_from P + place P P.body p) (rule P.body (wires_seen P x.wires) x.root.child x.root.inner p)
         (get_or (rules_of P P.body (root_request P) (body_from P)) (place P P.body p) no_rules)
         (root_told (body_from P + place P P.body p) (suc (suc (place P P.body p))) (omega arith))
         (t.now ∙ ap (λ (z : Rule). z.now) e) (t.up ∙ ap (λ (z : Rule). z.up) e) (t.down ∙ ap (λ (z : Rule). z.down) e)
@@ -259,7 +260,7 @@ module _ (P : TypedProgram) (given : Given P) where
             (merged (x.wires.rail (of_channel k) i one) (site_rails P.body x.root.inner (of_channel k) i one)) (or_of (map (at_site i one) sites)) told
             (s.rail k i one hk hi)
             (or_up (high st.values) (map (at_site i one) sites) ∙ ap (list_any (λ b. b)) e)
-            (or_down (high st.values) (map (at_site i one) sites) ∙ ap all_low e)
+            (or_down (high st.values) (map (at_site i one) sites) ∙ ap lows_only e)
 
         by : (kind : Kind) → get_or (all_rules P) (channel_from P k + rail_place i one) no_rules ≡ rail_guards P kind k i one
             → Tells (high st.values) (channel_from P k + rail_place i one)
@@ -286,7 +287,7 @@ module _ (P : TypedProgram) (given : Given P) where
             tells_from (high st.values) (ack_at P k) (merged (x.wires.ack k) (takers P.body x.root.inner k)) (or_of (in_body P (receive_site k))) told
             (s.ack k hk)
             (or_up (high st.values) (in_body P (receive_site k)) ∙ ap (list_any (λ b. b)) e)
-            (or_down (high st.values) (in_body P (receive_site k)) ∙ ap all_low e)
+            (or_down (high st.values) (in_body P (receive_site k)) ∙ ap lows_only e)
 
         by : (kind : Kind) → get_or (all_rules P) (ack_at P k) no_rules ≡ ack_guards P kind k
             → Tells (high st.values) (ack_at P k) (if is_heard kind then merged (x.wires.ack k) (takers P.body x.root.inner k) else no_rule (x.wires.ack k))
@@ -642,7 +643,7 @@ module _ (P : TypedProgram) (given : Given P) where
 
   -- a Q-element's own node, or one inside of the body
   own_after : (st : RunState) (x : Whole P.body) (s : Shows st x) (p : GuardedSpot P.body) → own_fine p
-      → Shows (moved_flat (translation P) st (own_number p)) (moved P x (own_node p))
+      → Shows (moved_flat (translation P) st (own_number p)) (cells_moved P x (own_node p))
   own_after st x s next f =
       let lt : 1 < nodes_of P = omega (arith, root_is) in
       record {
@@ -724,7 +725,7 @@ module _ (P : TypedProgram) (given : Given P) where
         channels = s.channels;
       }
 
-  go_after_is : (st : RunState) (x : Whole P.body) → Shows st x → Shows (moved_flat (translation P) st 0) (moved P x go_node)
+  go_after_is : (st : RunState) (x : Whole P.body) → Shows st x → Shows (moved_flat (translation P) st 0) (cells_moved P x go_node)
   go_after_is st x s =
       let lt : 0 < nodes_of P = omega (arith, root_is) in
       record {
@@ -858,7 +859,7 @@ module _ (P : TypedProgram) (given : Given P) where
       by false e = refl
 
   rail_after : (st : RunState) (x : Whole P.body) → Shows st x → (k i : ℕ) (one : Bool) → k < length P.channels → i < channel_width P.channels k
-      → Shows (moved_flat (translation P) st (channel_from P k + rail_place i one)) (moved P x (rail_node (of_channel k) i one))
+      → Shows (moved_flat (translation P) st (channel_from P k + rail_place i one)) (cells_moved P x (rail_node (of_channel k) i one))
   rail_after st x s k i one hk hi =
       let b = rail_bounds P k i one hk hi in
       let lt : channel_from P k + rail_place i one < nodes_of P = omega (arith, b.1, root_is) in
@@ -891,7 +892,7 @@ module _ (P : TypedProgram) (given : Given P) where
           ∙ s.rail c j side hc hj
 
   ack_after : (st : RunState) (x : Whole P.body) → Shows st x → (k : ℕ) → k < length P.channels
-      → Shows (moved_flat (translation P) st (ack_at P k)) (moved P x (ack_node k))
+      → Shows (moved_flat (translation P) st (ack_at P k)) (cells_moved P x (ack_node k))
   ack_after st x s k hk =
       let b = ack_bounds P k hk in
       let lt : ack_at P k < nodes_of P = omega (arith, b.1, root_is) in
@@ -921,35 +922,35 @@ module _ (P : TypedProgram) (given : Given P) where
       value_here : rail_value_of (high st.values) (rails_of (rails_at P k)) ≡ value_on (channel_width P.channels k) (x.wires.rail (of_channel k))
       value_here = value_is (high st.values) (channel_width P.channels k) (channel_from P k) (x.wires.rail (of_channel k)) (λ i one lt. s.rail k i one hk lt)
 
-      values_here : (moved_flat (translation P) st (ack_at P k)).histories ≡ passed x.histories k
+      values_here : (moved_flat (translation P) st (ack_at P k)).histories ≡ cells_passed x.histories k
           (if not (x.wires.ack k) then value_on (channel_width P.channels k) (x.wires.rail (of_channel k)) else None)
       values_here =
           let e : 0 + k ≡ k = omega arith in
           values_some P (high st.values) 0 P.channels st.histories (ack_at P k) k (ap length s.histories ∙ s.channels) hk (ap (ack_at P) (sym e))
           (λ i low up ne z. ne (sym (ack_same P k i hk (omega (arith, up)) z) ∙ sym e))
-          ∙ (ap (λ h. passed h k (if not (high st.values (ack_at P k)) then rail_value_of (high st.values)
+          ∙ (ap (λ h. cells_passed h k (if not (high st.values (ack_at P k)) then rail_value_of (high st.values)
           (rails_of (rails_at P (0 + k))) else None)) s.histories
-          ∙ (ap (λ b. passed x.histories k (if not b then rail_value_of (high st.values) (rails_of (rails_at P (0 + k))) else None)) (s.ack k hk)
-          ∙ (ap (λ j. passed x.histories k (if not (x.wires.ack k) then rail_value_of (high st.values) (rails_of (rails_at P j)) else None)) e
-          ∙ ap (λ o. passed x.histories k (if not (x.wires.ack k) then o else None)) value_here)))
+          ∙ (ap (λ b. cells_passed x.histories k (if not b then rail_value_of (high st.values) (rails_of (rails_at P (0 + k))) else None)) (s.ack k hk)
+          ∙ (ap (λ j. cells_passed x.histories k (if not (x.wires.ack k) then rail_value_of (high st.values) (rails_of (rails_at P j)) else None)) e
+          ∙ ap (λ o. cells_passed x.histories k (if not (x.wires.ack k) then o else None)) value_here)))
 
-      by_ack : (a : Bool) → x.wires.ack k ≡ a → passed x.histories k (if not a then value_on (channel_width P.channels k)
-          (x.wires.rail (of_channel k)) else None) ≡ (if a then x.histories else passed x.histories k
+      by_ack : (a : Bool) → x.wires.ack k ≡ a → cells_passed x.histories k (if not a then value_on (channel_width P.channels k)
+          (x.wires.rail (of_channel k)) else None) ≡ (if a then x.histories else cells_passed x.histories k
           (value_on (channel_width P.channels k) (x.wires.rail (of_channel k))))
       by_ack true e = refl
       by_ack false e = refl
 
-      length-passed : (o : Option ℕ) → length (passed x.histories k o) ≡ length P.channels
+      length-passed : (o : Option ℕ) → length (cells_passed x.histories k o) ≡ length P.channels
       length-passed None = s.channels
       length-passed (Some y) = length-set x.histories k (history_at x.histories k ++ y ∷ []) ∙ s.channels
 
-      lengths : (a : Bool) → length (if a then x.histories else passed x.histories k
+      lengths : (a : Bool) → length (if a then x.histories else cells_passed x.histories k
           (value_on (channel_width P.channels k) (x.wires.rail (of_channel k)))) ≡ length P.channels
       lengths true = s.channels
       lengths false = length-passed (value_on (channel_width P.channels k) (x.wires.rail (of_channel k)))
 
   pub after_move : (st : RunState) (x : Whole P.body) → Shows st x → (n : Node P.body) → Fine n
-      → Shows (moved_flat (translation P) st (number_of n)) (moved P x n)
+      → Shows (moved_flat (translation P) st (number_of n)) (cells_moved P x n)
   after_move st x s go_node f = go_after_is st x s
   after_move st x s (own_node p) f = own_after st x s p f
   after_move st x s (rail_node (of_channel k) i one) f = rail_after st x s k i one f.0 f.1

@@ -25,8 +25,8 @@ use Rattle.cell_parallel.specs.Trees.{tree_rules}
 use Rattle.cell_parallel.specs.Sizes.{tree_length}
 use Rattle.chp_meaning.specs.Halves.{ReadsNoTarget, EachReadsNoTarget, ChoicesReadNoTarget}
 use Rattle.circuit_places.specs.Lines.{of_channel, of_var, Rails, Seen}
-use Rattle.circuit_places.specs.Circuit.{of_receive, heard, stored, taking, Pairs, side_of, gate_count, Cells, TurnCells, BranchCells, bit_at, joint_count, tree_value, tree_rule, branch_ends as cell_ends, answer, turn_answer, Spot, TurnSpot, BranchSpot, of_branch, joint, in_this, in_others, child, latch, next, inner, of_skip, done, gate, of_assign, of_send, in_members, of_loop, ask, in_body, in_last, in_member, in_later, Rule, rule_of, gate_rule, rule, turn_rule, branch_rule, GuardCells, ChoiceCells, GuardSpot, this_gate, other_gate, ChoiceSpot, this_choice, other_choice, of_core, of_guard, of_choice, of_round, guard_head, heads, guards_rule, choice_answers, choice_rule}
-use Rattle.circuit_places.specs.Whole.{all_low}
+use Rattle.circuit_places.specs.Circuit.{of_receive, heard, stored, taking, Pairs, side_of, gate_count, Cells, TurnCells, BranchCells, cell_bit, joint_count, tree_value, tree_rule, branches_answered as cell_ends, answer, turn_answer, Spot, TurnSpot, BranchSpot, of_branch, joint, in_this, in_others, child, latch, next, inner, of_skip, done, gate, of_assign, of_send, in_members, of_loop, ask, in_body, in_last, in_member, in_later, Rule, rule_of, gate_rule, rule, turn_rule, branch_rule, GuardCells, ChoiceCells, GuardSpot, this_gate, other_gate, ChoiceSpot, this_choice, other_choice, of_core, of_guard, of_choice, of_round, guard_head, heads, guards_rule, choice_answers, choice_rule}
+use Rattle.circuit_places.specs.Whole.{lows_only}
 use Rattle.net_compose.specs.Translation.{through_rules, rules_of, turn_rules, branches_rules, branch_ends, branches_end, bits_at, ack_at, written_at, guards_rules as net_guards, bodies_rules, guard_pairs, branch_answers, choosing_at, repeating_at}
 use Rattle.net_compose.proofs.Sizes.{has_bits, Counted, statement_length, latches_and_starts, guards_length}
 use Rattle.net_compose.proofs.FlatTrees.{joint_count_is, tree_bits, length-tree_bits, tree_bit, value_node, value_leaf, answer_value, Alike, tree_alike}
@@ -156,7 +156,7 @@ module _ (v : ℕ → Bool) where
   or_up [] = refl
   or_up (n ∷ ns) = any_high (n ∷ ns)
 
-  pub or_down : (ns : List ℕ) → guard_holds v (or_of ns).down ≡ all_low (map v ns)
+  pub or_down : (ns : List ℕ) → guard_holds v (or_of ns).down ≡ lows_only (map v ns)
   or_down [] = refl
   or_down (n ∷ ns) = or_false (term_holds v (lows (n ∷ ns))) ∙ ap (λ b. not (v n) && b) (lows_hold ns)
 
@@ -294,7 +294,7 @@ module _ (P : TypedProgram) where
     tree_at : (members : Processes) (c : EachReadsNoTarget members) (from : ℕ) (x : Cells (side_by_side members)) →
         Stands v from (bits P (side_by_side members) x)
         → (k : ℕ) → k < joint_count (member_count members)
-        → v (from + branches_size P members + k) ≡ bit_at (joint_count (member_count members)) x.tree k
+        → v (from + branches_size P members + k) ≡ cell_bit (joint_count (member_count members)) x.tree k
     tree_at members c from x s k less =
         (stands_tree members c from x s).at k (omega (arith, less, length-tree_bits (joint_count (member_count members)) x.tree))
         ∙ tree_bit (joint_count (member_count members)) x.tree k
@@ -314,11 +314,11 @@ module _ (P : TypedProgram) where
         k < joint_count (member_count members)
         → Stands v from (bits P (side_by_side members) x)
         → Told v (tree_rules (branch_ends P members from) (branches_end P members from)) (from + branches_size P members) k
-        (tree_rule (member_count members) (cell_ends members x.branches) (bit_at (joint_count (member_count members)) x.tree) k)
+        (tree_rule (member_count members) (cell_ends members x.branches) (cell_bit (joint_count (member_count members)) x.tree) k)
     joint_told members c from x k less s =
         let n = member_count members in
         let leaf = cell_ends members x.branches in
-        let node = bit_at (joint_count (member_count members)) x.tree in
+        let node = cell_bit (joint_count (member_count members)) x.tree in
         let same = leaves_alike (tree_value n leaf node) members c from 0 x.branches (stands_branches members from x s)
         (λ i lt. ap (tree_value n leaf node) (let e : 0 + i ≡ i = omega arith in e) ∙ value_leaf n leaf node i lt) in
         let told = tree_alike v (tree_value n leaf node) (branch_ends P members from) (range_with_len 0 n) (branches_end P members from) n same
@@ -346,7 +346,7 @@ module _ (P : TypedProgram) where
           ap v (let e : from + (branches_size P members + (member_count members - 1)) - 1 ≡ from + branches_size P members + (member_count members - 2) = omega
           (arith, some) in e)
           ∙ (tree_at members c from x s (n - 2) (omega (arith, some, joint_count_is (member_count members)))
-          ∙ sym (answer_value n (cell_ends members x.branches) (bit_at (joint_count (member_count members)) x.tree) some))
+          ∙ sym (answer_value n (cell_ends members x.branches) (cell_bit (joint_count (member_count members)) x.tree) some))
       answer_is (choosing false choices) c t from x s = stands_head v from x.answer _ s
       answer_is (choosing true choices) c t from x s = stands_head v from x.answer _ s
 
@@ -699,7 +699,7 @@ module _ (P : TypedProgram) where
             let here = branches_rules P members r from in
             let rest = tree_rules (branch_ends P members from) (branches_end P members from) in
             told_within v rest (rules_of P (side_by_side members) r from) (from + branches_size P members) k from (branches_size P members + k)
-            (tree_rule (member_count members) (cell_ends members x.branches) (bit_at (joint_count (member_count members)) x.tree) k)
+            (tree_rule (member_count members) (cell_ends members x.branches) (cell_bit (joint_count (member_count members)) x.tree) k)
             (ap (λ n. get_or (here ++ rest) (n + k) no_rules) (sym (length-branches_rules members c t.1 r from)) ∙ get_or-append-add here rest k no_rules)
             (omega arith)
             (joint_told members c from x k f s)

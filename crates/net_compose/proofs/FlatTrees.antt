@@ -10,7 +10,7 @@ use Rattle.prs_core.specs.Pairs.{no_rules}
 use Rattle.prs_core.specs.Moves.{guard_holds}
 use Rattle.cell_parallel.specs.Trees.{level_rules, next_level, levels_rules, tree_rules, tree_top}
 use Rattle.cell_parallel.specs.Sizes.{level_length, tree_length}
-use Rattle.circuit_places.specs.Circuit.{Bits, bit_at, turned_bits, low_bits as low_tree, joint_count, tree_value, tree_answer}
+use Rattle.circuit_places.specs.Circuit.{Bits, cell_bit, turned_bits, low_bits as low_tree, joint_count, tree_value, tree_answer}
 
 -- one node fewer than leaves
 pub joint_count_is : (n : ℕ) → joint_count n ≡ n - 1
@@ -25,7 +25,7 @@ pub length-tree_bits : (n : ℕ) (t : Bits n) → length (tree_bits n t) ≡ n
 length-tree_bits zero t = refl
 length-tree_bits (suc n) t = ap (λ k. suc k) (length-tree_bits n t.1)
 
-pub tree_bit : (n : ℕ) (t : Bits n) (k : ℕ) → get_or (tree_bits n t) k false ≡ bit_at n t k
+pub tree_bit : (n : ℕ) (t : Bits n) (k : ℕ) → get_or (tree_bits n t) k false ≡ cell_bit n t k
 tree_bit zero t k = refl
 tree_bit (suc n) t zero = refl
 tree_bit (suc n) t (suc k) = tree_bit n t.1 k

@@ -20,9 +20,10 @@ use Rattle.env_script.specs.Runs.{completes, with_value, with_values}
 use Rattle.width_check.specs.Processes.{TypedProgram}
 use Rattle.width_check.specs.Typing.{kind_at, channel_width}
 use Rattle.handshake_expand.specs.Layout.{wires_size, wires_before, channel_from}
-use Rattle.circuit_places.specs.Whole.{number_rail, value_on, neutral_on, passed}
+use Rattle.circuit_places.specs.Whole.{number_rail, value_on, neutral_on, cells_passed}
 use Rattle.circuit_places.specs.Circuit.{same_bit}
-use Rattle.net_compose.specs.Translation.{rails_at, ack_at, in_body, send_site, receive_site, rail_rules, channel_rules, channels_rules, wires_from}
+use Rattle.handshake_expand.specs.Sites.{in_body}
+use Rattle.net_compose.specs.Translation.{rails_at, ack_at, send_site, receive_site, rail_rules, channel_rules, channels_rules, wires_from}
 use Rattle.net_compose.proofs.FlatCells.{rail_place, rail_place_lt, rail_of}
 use Rattle.net_compose.proofs.FlatSites.{at_site}
 
@@ -477,17 +478,17 @@ module _ (P : TypedProgram) (v : ℕ → Bool) where
       ap (λ o. with_value o x ∷ with_values v n (wires_from P (suc k) cs) hs) z
       ∙ ap (λ l. x ∷ l) (values_none (suc k) cs hs n (omega (arith, e)) (λ j l u. h j (omega arith) (omega arith)))
 
-  passed_later : (x : List ℕ) (hs : List (List ℕ)) (j : ℕ) (o : Option ℕ) → x ∷ passed hs j o ≡ passed (x ∷ hs) (suc j) o
+  passed_later : (x : List ℕ) (hs : List (List ℕ)) (j : ℕ) (o : Option ℕ) → x ∷ cells_passed hs j o ≡ cells_passed (x ∷ hs) (suc j) o
   passed_later x hs j None = refl
   passed_later x hs j (Some y) = refl
 
-  passed_first : (x : List ℕ) (hs : List (List ℕ)) (o : Option ℕ) → with_value o x ∷ hs ≡ passed (x ∷ hs) 0 o
+  passed_first : (x : List ℕ) (hs : List (List ℕ)) (o : Option ℕ) → with_value o x ∷ hs ≡ cells_passed (x ∷ hs) 0 o
   passed_first x hs None = refl
   passed_first x hs (Some y) = refl
 
   pub values_some : (k : ℕ) (cs : List Channel) (hs : List (List ℕ)) (n j : ℕ) → length hs ≡ length cs → j < length cs → n ≡ ack_at P (k + j)
       → ((i : ℕ) → k ≤ i → i < k + length cs → i ≢ k + j → n ≢ ack_at P i)
-      → with_values v n (wires_from P k cs) hs ≡ passed hs j (if not (v n) then rail_value_of v (rails_of (rails_at P (k + j))) else None)
+      → with_values v n (wires_from P k cs) hs ≡ cells_passed hs j (if not (v n) then rail_value_of v (rails_of (rails_at P (k + j))) else None)
   values_some k [] hs n j e lt here far = absurd (omega arith)
   values_some k (c ∷ cs) [] n j e lt here far = absurd (omega (arith, e))
   values_some k (c ∷ cs) (x ∷ hs) n zero e lt here far =
@@ -510,7 +511,7 @@ module _ (P : TypedProgram) (v : ℕ → Bool) where
       (λ i l u ne. far i (omega arith) (omega arith) (λ y. ne (y ∙ s))) in
       ap (λ o. with_value o x ∷ with_values v n (wires_from P (suc k) cs) hs) z
       ∙ (ap (λ l. x ∷ l) rest
-      ∙ (ap (λ i. x ∷ passed hs j (if not (v n) then rail_value_of v (rails_of (rails_at P i)) else None)) (sym s)
+      ∙ (ap (λ i. x ∷ cells_passed hs j (if not (v n) then rail_value_of v (rails_of (rails_at P i)) else None)) (sym s)
       ∙ passed_later x hs j (if not (v n) then rail_value_of v (rails_of (rails_at P (k + suc j))) else None)))
 
 -- no channel is at fault where each passes

@@ -24,7 +24,7 @@ use Rattle.cell_variable.specs.Variables.{all_written, write_answer}
 use Rattle.function_blocks.specs.Expressions.{HasBits, read_bits, bits_between, formula_rules, formula_result}
 use Rattle.function_blocks.specs.Listed.{node_of, rail_place}
 use Rattle.function_blocks.proofs.Sizes.{rules_length, result_length}
-use Rattle.chp_meaning.specs.Halves.{hidden_of, hidden_vars, hidden_in_each, read_back, in_halves, halved_assign, halved, halved_each, halved_program, ReadsNoTarget, EachReadsNoTarget, hidden_in_choices, halved_choices, ChoicesReadNoTarget}
+use Rattle.chp_meaning.specs.Halves.{hidden_of, hidden_vars, hidden_in_each, read_through, in_halves, halved_assign, halved, halved_each, halved_program, ReadsNoTarget, EachReadsNoTarget, hidden_in_choices, halved_choices, ChoicesReadNoTarget}
 use Rattle.cell_select.specs.Selections.{select_rules, again_rules}
 use Rattle.net_compose.proofs.SameSelections.{PairsAlike, pairs_append, pairs_by_places, range_alike, SameChoosing, selects_alike, agains_alike}
 use Rattle.net_compose.specs.Translation.{bits_at, block_bits, written_at, ack_at, q_rules, rules_of, turn_rules, branches_rules, branch_ends, branches_end, guard_pairs, branch_answers, guards_rules, choosing_at, repeating_at, bodies_rules}
@@ -261,18 +261,18 @@ module _ (counted : Counted) (P : TypedProgram) where
 
       abbrev halves : List NodeRules
       halves = q_rules s (to + 3) to ++ (write_answer to (written_at Q n) ∷ (formula_rules (bits_at Q) e to (to + 3 + 1)
-          ++ (write_answer (to + 2) (written_at Q x) ∷ formula_rules (bits_at Q) (read_back n e at) (to + 2) (to + 3 + (1 + formula_size e) + 1))))
+          ++ (write_answer (to + 2) (written_at Q x) ∷ formula_rules (bits_at Q) (read_through n e at) (to + 2) (to + 3 + (1 + formula_size e) + 1))))
 
       halves_are : rules_of Q (in_halves n x at e) s to ≡ halves
       halves_are =
           let first = assigning n at e in
-          let later = assigning x at (read_back n e at) in
-          let there = write_answer (to + 2) (written_at Q x) ∷ formula_rules (bits_at Q) (read_back n e at) (to + 2) (to + 3 + (1 + formula_size e) + 1) in
+          let later = assigning x at (read_through n e at) in
+          let there = write_answer (to + 2) (written_at Q x) ∷ formula_rules (bits_at Q) (read_through n e at) (to + 2) (to + 3 + (1 + formula_size e) + 1) in
           let size : size_of Q first ≡ 1 + formula_size e = ap (λ (b : Bool). if b then through_size (var_width Q.vars n) e else 1 + formula_size e) plain.0 in
           let answer : answer_of Q first (to + 3) ≡ to + 3 = ap (λ (b : Bool). if b then second_answer Q n (to + 3) (formula_size e) else to + 3) plain.0 in
           ap (λ a. q_rules s a to ++ (rules_of Q first to (to + 3) ++ rules_of Q later (to + 2) (to + 3 + size_of Q first))) answer
           ∙ (ap (λ k. q_rules s (to + 3) to ++ (rules_of Q first to (to + 3) ++ rules_of Q later (to + 2) (to + 3 + k))) size
-          ∙ (ap (λ l. q_rules s (to + 3) to ++ (rules_of Q first to (to + 3) ++ l)) (plain_rules Q x at (read_back n e at) plain.1.0 (to + 2)
+          ∙ (ap (λ l. q_rules s (to + 3) to ++ (rules_of Q first to (to + 3) ++ l)) (plain_rules Q x at (read_through n e at) plain.1.0 (to + 2)
           (to + 3 + (1 + formula_size e)))
           ∙ ap (λ l. q_rules s (to + 3) to ++ (l ++ there)) (plain_rules Q n at e plain.0 to (to + 3))))
 
@@ -322,12 +322,12 @@ module _ (counted : Counted) (P : TypedProgram) where
             let stored_now = same_written v u width from block in_block (some x declared) ∙ ap u (sym written_there) in
             let back = subst (λ l. RulesAlike v u (read_bits (element + 2) (block_bits width from)) (read_bits (to + 2) l)) (sym read_there) reads_back in
             let last = answers_alike v u (element + 2) (written_at P x) (to + 2) (written_at Q x) (read_bits (element + 2) (block_bits width from))
-            (formula_rules (bits_at Q) (read_back n e at) (to + 2) (to + 3 + (1 + formula_size e) + 1)) (node 2 (omega arith)) (same_puts x declared) back in
+            (formula_rules (bits_at Q) (read_through n e at) (to + 2) (to + 3 + (1 + formula_size e) + 1)) (node 2 (omega arith)) (same_puts x declared) back in
             let value = expression_alike width e typed element (element + 3 + 1) to (to + 3 + 1) start
             (λ i l. ap v (let z : element + 3 + 1 + i ≡ element + (4 + i) = omega arith in z)
             ∙ (node (4 + i) (omega (arith, l)) ∙ ap u (let z : to + (4 + i) ≡ to + 3 + 1 + i = omega arith in z))) in
             let second = write_answer (element + 2) (written_at P x) ∷ read_bits (element + 2) (block_bits width from) in
-            let other = write_answer (to + 2) (written_at Q x) ∷ formula_rules (bits_at Q) (read_back n e at) (to + 2) (to + 3 + (1 + formula_size e) + 1) in
+            let other = write_answer (to + 2) (written_at Q x) ∷ formula_rules (bits_at Q) (read_through n e at) (to + 2) (to + 3 + (1 + formula_size e) + 1) in
             let here = formula_rules (bits_at P) e element (element + 3 + 1) in
             let there = formula_rules (bits_at Q) e to (to + 3 + 1) in
             let whole = rules_append v u (q_rules r (element + 3) element) (q_rules s (to + 3) to)
@@ -343,7 +343,7 @@ module _ (counted : Counted) (P : TypedProgram) where
             let size : size_of Q (assigning n at e) ≡ 1 + formula_size e = ap
             (λ (b : Bool). if b then through_size (var_width Q.vars n) e else 1 + formula_size e) plain.0 in
             let there : answer_of Q (in_halves n x at e) to ≡ to + 3 + size_of Q (assigning n at e) = ap
-            (λ (b : Bool). if b then second_answer Q x (to + 3 + size_of Q (assigning n at e)) (formula_size (read_back n e at)) else to + 3
+            (λ (b : Bool). if b then second_answer Q x (to + 3 + size_of Q (assigning n at e)) (formula_size (read_through n e at)) else to + 3
             + size_of Q (assigning n at e)) plain.1.0 in
             ap v (let z : second_answer P x from (formula_size e) ≡ element + (3 + (1 + formula_size e)) = omega arith in z)
             ∙ (node (3 + (1 + formula_size e)) (omega arith)

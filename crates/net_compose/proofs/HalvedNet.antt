@@ -15,7 +15,8 @@ use Rattle.cell_sequence.specs.Sequence.{q_child, q_latch, q_next}
 use Rattle.cell_variable.specs.Variables.{variable_rules}
 use Rattle.circuit_places.specs.Lines.{of_channel, of_var}
 use Rattle.chp_meaning.specs.Halves.{hidden_vars, halved, halved_program, ReadsNoTarget}
-use Rattle.net_compose.specs.Translation.{all_rules, channel_rules, channels_rules, vars_rules, rail_rules, rules_of, body_answer, in_body, send_site, receive_site, write_site}
+use Rattle.handshake_expand.specs.Sites.{in_body}
+use Rattle.net_compose.specs.Translation.{all_rules, channel_rules, channels_rules, vars_rules, rail_rules, rules_of, body_answer, send_site, receive_site, write_site}
 use Rattle.net_compose.proofs.Sizes.{Counted, all_length}
 use Rattle.net_compose.proofs.FlatTrees.{RulesAlike, rules_append}
 use Rattle.net_compose.proofs.FlatSites.{at_site, at_sites}

@@ -9,7 +9,7 @@ use Rattle.width_check.proofs.Bounds.{width_some}
 use Rattle.width_check.specs.Typing.{channel_width, var_width, IsProcess, AreProcesses, AreChoices}
 use Rattle.width_check.specs.Reads.{reads}
 use Rattle.handshake_expand.specs.Layout.{formula_size, block_size, through_size, size_of, turn_size, branches_size, guards_size, bodies_size}
-use Rattle.chp_meaning.specs.Halves.{hidden_of, hidden_vars, hidden_in_each, hidden_in_choices, read_back, halved_assign, halved, halved_each, halved_choices, ReadsNoTarget, EachReadsNoTarget, ChoicesReadNoTarget}
+use Rattle.chp_meaning.specs.Halves.{hidden_of, hidden_vars, hidden_in_each, hidden_in_choices, read_through, halved_assign, halved, halved_each, halved_choices, ReadsNoTarget, EachReadsNoTarget, ChoicesReadNoTarget}
 
 -- how many nodes the blocks of some variables have
 abbrev pub blocks : List Var → ℕ
@@ -31,8 +31,8 @@ assign_halved P Q n x at e false none wide some plain =
 assign_halved P Q n x at e true self wide some plain =
     let first : size_of Q (assigning n at e) ≡ 1 + formula_size e = ap (λ (b : Bool). if b then through_size
     (var_width Q.vars n) e else 1 + formula_size e) plain.0 in
-    let second : size_of Q (assigning x at (read_back n e at)) ≡ 1 + 2 * (width_of e - 1 + 1 - 0) = ap
-    (λ (b : Bool). if b then through_size (var_width Q.vars x) (read_back n e at) else 1 + formula_size (read_back n e at)) plain.1.0 in
+    let second : size_of Q (assigning x at (read_through n e at)) ≡ 1 + 2 * (width_of e - 1 + 1 - 0) = ap
+    (λ (b : Bool). if b then through_size (var_width Q.vars x) (read_through n e at) else 1 + formula_size (read_through n e at)) plain.1.0 in
     let same : block_size (width_of e) ≡ block_size (var_width P.vars x) = ap block_size wide in
     omega arith
 

@@ -21,7 +21,8 @@ use Rattle.function_blocks.specs.Expressions.{formula_result}
 use Rattle.chp_meaning.specs.Halves.{ReadsNoTarget}
 use Rattle.chp_meaning.specs.Halves.{hidden_of, hidden_vars, hidden_in_each, halved, halved_program, ReadsNoTarget, hidden_in_choices, halved_choices, ChoicesReadNoTarget}
 use Rattle.handshake_expand.specs.Answers.{guards_from, bodies_from, select_own, again_own}
-use Rattle.net_compose.specs.Translation.{translation, composed, all_rules, in_body, sites_in, sites_in_turn, sites_in_branches, hidden_high, vars_high, first_values, wires_from, rails_at, ack_at, sites_in_bodies}
+use Rattle.handshake_expand.specs.Sites.{in_body, sites_in, sites_in_turn, sites_in_branches, sites_in_bodies}
+use Rattle.net_compose.specs.Translation.{translation, composed, all_rules, hidden_high, vars_high, first_values, wires_from, rails_at, ack_at}
 use Rattle.net_compose.proofs.Sizes.{Counted, all_length}
 use Rattle.net_compose.proofs.FlatTrees.{rules_at}
 use Rattle.net_compose.proofs.FlatWires.{wires_below}

@@ -21,9 +21,10 @@ use Rattle.function_blocks.specs.Expressions.{read_bits, formula_rules, formula_
 use Rattle.function_blocks.specs.Listed.{rail_place}
 use Rattle.function_blocks.proofs.Sizes.{rules_length}
 use Rattle.circuit_places.specs.Lines.{Line, of_channel, of_var, line_width}
-use Rattle.chp_meaning.specs.Halves.{hidden_vars, read_back, in_halves, halved_assign, halved, halved_each, halved_program, ReadsNoTarget, EachReadsNoTarget, hidden_in_choices, halved_choices, ChoicesReadNoTarget}
+use Rattle.chp_meaning.specs.Halves.{hidden_vars, read_through, in_halves, halved_assign, halved, halved_each, halved_program, ReadsNoTarget, EachReadsNoTarget, hidden_in_choices, halved_choices, ChoicesReadNoTarget}
 use Rattle.net_compose.proofs.HalvedNumbers.{choices_count, guards_same}
-use Rattle.net_compose.specs.Translation.{bits_at, q_rules, sites_in, sites_in_turn, sites_in_branches, Sites, branch_ends, branches_end, block_bits, ack_at, rules_of, send_site, receive_site, write_site, assigned_rails, through_at, in_body, vars_rules, sites_in_bodies}
+use Rattle.handshake_expand.specs.Sites.{sites_in, sites_in_turn, sites_in_branches, Sites, in_body, sites_in_bodies}
+use Rattle.net_compose.specs.Translation.{bits_at, q_rules, branch_ends, branches_end, block_bits, ack_at, rules_of, send_site, receive_site, write_site, assigned_rails, through_at, vars_rules}
 use Rattle.net_compose.specs.Translation as net
 use Rattle.net_compose.proofs.Sizes.{Counted, block_length, has_bits}
 use Rattle.net_compose.proofs.FlatSites.{at_sites, at_append, mapped_append, line_site, pair_place}
@@ -124,11 +125,11 @@ module _ (counted : Counted) (P : TypedProgram) where
     halves_alike (of_var z) d h n x at e above is t plain r from to nodes =
         by (x == z) refl
         ∙ ap (λ (b : Bool). at_sites u i one ((if b then assigned_rails Q z e (to + 3) ∷ [] else [])
-        ++ (if x == z then assigned_rails Q z (read_back n e at) (to + 3 + size_of Q (assigning n at e)) ∷ [] else [])))
+        ++ (if x == z then assigned_rails Q z (read_through n e at) (to + 3 + size_of Q (assigning n at e)) ∷ [] else [])))
         (sym (ne_eqb n z (λ q. absurd (let g : ⊥ = omega (arith, q, above, d) in g))))
       where
         by : (b : Bool) → (x == z) ≡ b → at_sites v i one (if b then assigned_rails P z e from ∷ [] else []) ≡ at_sites u i one
-            (if b then assigned_rails Q z (read_back n e at) (to + 3 + size_of Q (assigning n at e)) ∷ [] else [])
+            (if b then assigned_rails Q z (read_through n e at) (to + 3 + size_of Q (assigning n at e)) ∷ [] else [])
         by false q = refl
         by true q =
             let same = eqb-true x z q in
@@ -152,8 +153,8 @@ module _ (counted : Counted) (P : TypedProgram) where
             ∙ (value
             ∙ ap u ((let g : to + (5 + formula_size e + rail_place i one) ≡ there + 1 + rail_place i one = omega (arith, size) in g)
             ∙ sym (pair_place (width_of e - 1 + 1 - 0) (there + 1) i one (omega (arith, count, h))))))
-            ∙ ap (λ (b : Bool). at_sites u i one ((if b then net.read_back (through_at (var_width Q.vars z) (formula_size (read_back n e at)) there) else
-            formula_result (read_back n e at) (there + 1)) ∷ [])) (sym (ap (λ m. reads m (read_back n e at)) (sym same) ∙ plain.1.0)))
+            ∙ ap (λ (b : Bool). at_sites u i one ((if b then net.read_back (through_at (var_width Q.vars z) (formula_size (read_through n e at)) there) else
+            formula_result (read_through n e at) (there + 1)) ∷ [])) (sym (ap (λ m. reads m (read_through n e at)) (sym same) ∙ plain.1.0)))
 
   -- the branches of a selection stand behind its own nodes and its guards
   pub in_branches : {A : Type 0} (v u : ℕ → A) (n : ℕ) (choices : Choices) (o from to : ℕ) (front : List NodeRules)

@@ -17,8 +17,9 @@ use Rattle.cell_sequence.specs.Sequence.{loop_request}
 use Rattle.cell_parallel.specs.Trees.{tree_rules}
 use Rattle.cell_variable.specs.Variables.{variable_rules}
 use Rattle.function_blocks.specs.Expressions.{formula_result}
-use Rattle.chp_meaning.specs.Halves.{hidden_of, hidden_vars, hidden_in_each, read_back, in_halves, halved_assign, halved, halved_each, halved_program, ReadsNoTarget, EachReadsNoTarget, hidden_in_choices, halved_choices, ChoicesReadNoTarget}
-use Rattle.net_compose.specs.Translation.{q_rules, branch_ends, branches_end, sites_in, sites_in_turn, sites_in_branches, write_site, assigned_rails, through_at, read_back as read_rails, in_body, vars_rules, sites_in_bodies}
+use Rattle.chp_meaning.specs.Halves.{hidden_of, hidden_vars, hidden_in_each, read_through, in_halves, halved_assign, halved, halved_each, halved_program, ReadsNoTarget, EachReadsNoTarget, hidden_in_choices, halved_choices, ChoicesReadNoTarget}
+use Rattle.handshake_expand.specs.Sites.{sites_in, sites_in_turn, sites_in_branches, in_body, sites_in_bodies}
+use Rattle.net_compose.specs.Translation.{q_rules, branch_ends, branches_end, write_site, assigned_rails, through_at, read_back as read_rails, vars_rules}
 use Rattle.net_compose.proofs.Sizes.{Counted}
 use Rattle.net_compose.proofs.FlatTrees.{RulesAlike, rules_append}
 use Rattle.net_compose.proofs.FlatSites.{at_site}
@@ -51,9 +52,9 @@ module _ (counted : Counted) (P : TypedProgram) where
   assign_apart x n y at e false declared above out to = other_target y x to (assigned_rails Q x e to) declared above
   assign_apart x n y at e true declared above out to =
       ap (λ (b : Bool). (if b then assigned_rails Q x e (to + 3) ∷ [] else [])
-      ++ (if y == x then assigned_rails Q x (read_back n e at) (to + 3 + size_of Q (assigning n at e)) ∷ [] else []))
+      ++ (if y == x then assigned_rails Q x (read_through n e at) (to + 3 + size_of Q (assigning n at e)) ∷ [] else []))
       (ne_eqb n x (λ q. out (omega (arith, q)) (omega (arith, q))))
-      ∙ other_target y x to (assigned_rails Q x (read_back n e at) (to + 3 + size_of Q (assigning n at e))) declared above
+      ∙ other_target y x to (assigned_rails Q x (read_through n e at) (to + 3 + size_of Q (assigning n at e))) declared above
 
   mutual
     pub not_written : (x n : ℕ) (p : Process) → IsProcess P.channels P.vars p → length P.vars ≤ x
@@ -105,13 +106,13 @@ module _ (counted : Counted) (P : TypedProgram) where
   own_site : (n x : ℕ) (at : Span) (e : Formula) → x < length P.vars → length P.vars ≤ n → ReadsNoTarget (in_halves n x at e) → (to : ℕ)
       → sites_in Q (write_site Q n) (in_halves n x at e) to ≡ formula_result e (to + 3 + 1) ∷ []
   own_site n x at e declared above plain to =
-      let later = if x == n then assigned_rails Q n (read_back n e at) (to + 3 + size_of Q (assigning n at e)) ∷ [] else [] in
+      let later = if x == n then assigned_rails Q n (read_through n e at) (to + 3 + size_of Q (assigning n at e)) ∷ [] else [] in
       ap (λ (b : Bool). (if b then assigned_rails Q n e (to + 3) ∷ [] else []) ++ later) (eq-eqb n n refl)
       ∙ (ap (λ (b : Bool). ((if b then read_rails (through_at (var_width Q.vars n) (formula_size e) (to + 3)) else formula_result e (to + 3 + 1)) ∷ [])
           ++ later)
       plain.0
       ∙ ap (λ l. (formula_result e (to + 3 + 1) ∷ []) ++ l)
-      (other_target x n to (assigned_rails Q n (read_back n e at) (to + 3 + size_of Q (assigning n at e))) declared above))
+      (other_target x n to (assigned_rails Q n (read_through n e at) (to + 3 + size_of Q (assigning n at e))) declared above))
 
   module _ (v u : ℕ → Bool) where
     -- in the whole program some hidden variables are written where they are within a statement

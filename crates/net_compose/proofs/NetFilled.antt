@@ -25,7 +25,8 @@ use Rattle.cell_channel.specs.Ends.{port_rules}
 use Rattle.cell_select.specs.Selections.{Choosing, Repeating, all_false, only_one_true, latches, starts, joined_answer, evaluation, leave_latch, select_rules, again_rules}
 use Rattle.function_blocks.specs.Gates.{table, minterm, gate_rail, gate, all_one, some_one, odd_ones, carries, borrows, alike, bitwise, ripple, borrow_gates, conjunctions, all_of_bits, equality, result_pairs, operator_rules, operator_result}
 use Rattle.function_blocks.specs.Expressions.{constant_bit, constant_bits, read_bits, bits_between, formula_result, formula_rules, joined_rules, chained_rules}
-use Rattle.net_compose.specs.Translation.{through_at, block_bits, bits_at, written_at, rails_at, q_rules, through_rules, guard_pairs, guards_rules, choosing_at, repeating_at, branch_ends, branches_end, rules_of, turn_rules, branches_rules, bodies_rules, send_site, receive_site, write_site, in_body, rail_rules, channel_rules, channels_rules, vars_rules, all_rules}
+use Rattle.handshake_expand.specs.Sites.{in_body}
+use Rattle.net_compose.specs.Translation.{through_at, block_bits, bits_at, written_at, rails_at, q_rules, through_rules, guard_pairs, guards_rules, choosing_at, repeating_at, branch_ends, branches_end, rules_of, turn_rules, branches_rules, bodies_rules, send_site, receive_site, write_site, rail_rules, channel_rules, channels_rules, vars_rules, all_rules}
 use Rattle.net_compose.proofs.Sizes.{root_and_body}
 
 abbrev pub is_filled : List Literal → Bool

@@ -18,7 +18,8 @@ use Rattle.handshake_expand.specs.Layout.{wires_size, wires_before, channel_from
 use Rattle.handshake_expand.specs.Answers.{bodies_from, select_own, again_own}
 use Rattle.handshake_expand.specs.Named.{node_names, wire_names}
 use Rattle.cell_variable.specs.Variables.{high_first}
-use Rattle.net_compose.specs.Translation.{rails_at, ack_at, in_body, sites_in, sites_in_turn, sites_in_branches, sites_in_bodies, hidden_high, send_site, rail_rules, channel_rules, channels_rules, vars_rules, vars_high, first_values, wires_from, all_rules, composed, translation}
+use Rattle.handshake_expand.specs.Sites.{in_body, sites_in, sites_in_turn, sites_in_branches, sites_in_bodies}
+use Rattle.net_compose.specs.Translation.{rails_at, ack_at, hidden_high, send_site, rail_rules, channel_rules, channels_rules, vars_rules, vars_high, first_values, wires_from, all_rules, composed, translation}
 use Rattle.net_compose.proofs.FlatCells.{rail_place, rail_place_lt}
 use Rattle.net_compose.proofs.FlatFirst.{member, raised_is, length-raised}
 use Rattle.net_compose.proofs.FlatWires.{wires_below}

@@ -22,7 +22,8 @@ use Rattle.cell_parallel.specs.Trees.{tree_rules}
 use Rattle.cell_variable.specs.Variables.{bits_from, bits_rules, written_leaves, variable_rules, all_written, write_answer}
 use Rattle.cell_select.specs.Selections.{Choosing, Repeating, all_false, only_one_true, latches, starts, select_rules, again_rules}
 use Rattle.function_blocks.specs.Expressions.{formula_result, formula_rules, read_bits}
-use Rattle.net_compose.specs.Translation.{through_at, block_bits, bits_at, written_at, rails_at, q_rules, through_rules, branch_answers, guards_rules, choosing_at, repeating_at, branch_ends, branches_end, rules_of, turn_rules, branches_rules, bodies_rules, sites_in, sites_in_turn, sites_in_branches, sites_in_bodies, send_site, receive_site, write_site, assigned_rails, in_body, rail_rules, channel_rules, channels_rules, vars_rules, all_rules, translation}
+use Rattle.handshake_expand.specs.Sites.{sites_in, sites_in_turn, sites_in_branches, sites_in_bodies, in_body}
+use Rattle.net_compose.specs.Translation.{through_at, block_bits, bits_at, written_at, rails_at, q_rules, through_rules, branch_answers, guards_rules, choosing_at, repeating_at, branch_ends, branches_end, rules_of, turn_rules, branches_rules, bodies_rules, send_site, receive_site, write_site, assigned_rails, rail_rules, channel_rules, channels_rules, vars_rules, all_rules, translation}
 use Rattle.net_compose.proofs.GuardCosts.{cost, cost-append, net_cost, formula_cheap, tree_cheap, or_cost, silent_cost, singles_cost, size_wide}
 use Rattle.net_compose.proofs.Sizes.{Counted, has_bits, block_length, pairs_length, pairs_of_guards, ends_length, root_and_body}
 use Rattle.circuit_places.proofs.LineNames.{self_number, same_number}

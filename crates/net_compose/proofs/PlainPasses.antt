@@ -22,9 +22,10 @@ use Rattle.net_compose.proofs.FlatFirst.{member, raised, raised_is, length-raise
 use Rattle.handshake_expand.specs.Layout.{wires_before, var_from, channel_from, nodes_of, size_of, body_from, root_request, root_latch}
 use Rattle.chp_meaning.specs.Halves.{IsPlain, ReadsNoTarget, EachReadsNoTarget, ChoicesReadNoTarget}
 use Rattle.circuit_places.specs.Circuit.{of_receive, heard, stored, taking, low, Spot, TurnSpot, BranchSpot, of_branch, joint, in_this, in_others, joint_count, child, latch, next, inner, of_skip, done, gate, of_assign, of_send, in_members, of_loop, ask, in_body, in_last, in_member, in_later, gate_count, stands, turn_stands, branch_stands, GuardSpot, this_gate, other_gate, ChoiceSpot, this_choice, other_choice, of_core, of_guard, of_choice, of_round, guard_stands, choice_stands}
-use Rattle.circuit_places.specs.Whole.{first_bits, Whole, Node, go_node, own_node, rail_node, ack_node, bit_node, wrote_node, joint_node, is_node, enabled, moved, first_of, neutral_on, Reaches, at_first, by_move}
-use Rattle.circuit_places.specs.Carried.{IsAtRest, IsCarried, CircuitsCarry}
-use Rattle.net_compose.specs.Translation.{translation, sites_in, sites_in_turn, sites_in_branches, hidden_high, vars_high, first_values, rails_at, ack_at, wires_from, sites_in_bodies}
+use Rattle.circuit_places.specs.Whole.{first_bits, Whole, Node, go_node, own_node, rail_node, ack_node, bit_node, wrote_node, joint_node, is_node, enabled, cells_moved, first_cells, neutral_on, Reaches, at_first, by_move}
+use Rattle.circuit_places.specs.Carried.{CellsRest, IsCarried, CircuitsCarry}
+use Rattle.handshake_expand.specs.Sites.{sites_in, sites_in_turn, sites_in_branches, sites_in_bodies}
+use Rattle.net_compose.specs.Translation.{translation, hidden_high, vars_high, first_values, rails_at, ack_at, wires_from}
 use Rattle.cell_variable.specs.Variables.{high_first}
 use Rattle.net_compose.proofs.Passing.{IsPassing, IsPassingRun, Passes}
 use Rattle.net_compose.proofs.FlatCells.{length-bits, low_bits, IsFine, IsFineTurn, IsFineBranch, rail_place, IsFineGuard, IsFineChoice}
@@ -182,22 +183,22 @@ module _ (P : TypedProgram) (given : Given P) where
       by false e = refl
 
   block_there : (y : ℕ) (b : Part) → y < length P.vars → IsPart (var_width P.vars y) b
-      → high (first_values P) (var_from P y + offset (var_width P.vars y) b) ≡ part_value P given (first_of P).wires y b
+      → high (first_values P) (var_from P y + offset (var_width P.vars y) b) ≡ part_value P given (first_cells P).wires y b
   block_there y b hy hb =
       let e = part_bounds P given y b hy hb in
       high_is (var_from P y + offset (var_width P.vars y) b) (omega (arith, e.1))
       ∙ by (member (var_from P y + offset (var_width P.vars y) b) (vars_high P 0 P.vars)) refl
     where
-      found : HighRail P 0 P.vars (var_from P y + offset (var_width P.vars y) b) → part_value P given (first_of P).wires y b ≡ true
+      found : HighRail P 0 P.vars (var_from P y + offset (var_width P.vars y) b) → part_value P given (first_cells P).wires y b ≡ true
       found r =
           let u = same_var P given r.var y (a_bit r.bit r.one) b r.some hy r.below hb (high_at P (var_from P y + offset (var_width P.vars y) b) r) in
           let below : r.bit < var_width P.vars y = subst (λ (n : ℕ). r.bit < var_width P.vars n) u r.below in
           let q = same_part P given y (a_bit r.bit r.one) b below hb (sym (ap (λ n. var_from P n + (5 * r.bit + side r.one)) u)
           ∙ high_at P (var_from P y + offset (var_width P.vars y) b) r) in
-          ap (part_value P given (first_of P).wires y) (sym q) ∙ (ap (λ n. first_bits P.vars n r.bit r.one) (sym u) ∙ r.high)
+          ap (part_value P given (first_cells P).wires y) (sym q) ∙ (ap (λ n. first_bits P.vars n r.bit r.one) (sym u) ∙ r.high)
 
       none : (b : Part) → member (var_from P y + offset (var_width P.vars y) b) (vars_high P 0 P.vars) ≡ false
-          → part_value P given (first_of P).wires y b ≡ false
+          → part_value P given (first_cells P).wires y b ≡ false
       none (a_put i one) e = refl
       none (a_mark i) e = refl
       none (a_joint k) e = refl
@@ -211,11 +212,11 @@ module _ (P : TypedProgram) (given : Given P) where
           ))
           low false h = refl
 
-      by : (z : Bool) → member (var_from P y + offset (var_width P.vars y) b) (vars_high P 0 P.vars) ≡ z → z ≡ part_value P given (first_of P).wires y b
+      by : (z : Bool) → member (var_from P y + offset (var_width P.vars y) b) (vars_high P 0 P.vars) ≡ z → z ≡ part_value P given (first_cells P).wires y b
       by true e = sym (found (high_member P 0 P.vars (var_from P y + offset (var_width P.vars y) b) e))
       by false e = sym (none b e)
 
-  starts : Shows P given (begin_at (translation P) (translation P).first) (first_of P)
+  starts : Shows P given (begin_at (translation P) (translation P).first) (first_cells P)
   starts = record {
     count = ap length first_is ∙ (length-raised (vars_high P 0 P.vars) (replicate (nodes_of P) false) ∙ length-replicated (nodes_of P));
     go = low_there 0 (omega arith) (inl (omega arith));
@@ -262,15 +263,15 @@ module _ (P : TypedProgram) (given : Given P) where
         (cases_lt n (nodes_of P))
 
     next_shows : (st : RunState) (moves : ℕ) (r : Reached st moves) (n : ℕ) (m : Moving st moves r n)
-        → Shows P given (moved_flat (translation P) st n) (moved P r.cells m.node)
-    next_shows st moves r n m = subst (λ i. Shows P given (moved_flat (translation P) st i) (moved P r.cells m.node)) m.is
+        → Shows P given (moved_flat (translation P) st n) (cells_moved P r.cells m.node)
+    next_shows st moves r n m = subst (λ i. Shows P given (moved_flat (translation P) st i) (cells_moved P r.cells m.node)) m.is
         (after_move P given st r.cells r.shows m.node m.fine)
 
     one_more : (st : RunState) (moves : ℕ) → Reached st moves → (n : ℕ) → move_enabled (translation P) script st n ≡ true
         → Reached (moved_flat (translation P) st n) (suc moves)
     one_more st moves r n on =
         let m = moving st moves r n on in
-        record { cells = moved P r.cells m.node; reaches = by_move m.node r.reaches m.may; shows = next_shows st moves r n m }
+        record { cells = cells_moved P r.cells m.node; reaches = by_move m.node r.reaches m.may; shows = next_shows st moves r n m }
 
     reach : (ns : List ℕ) (st : RunState) (moves : ℕ) → Reached st moves → IsRun (translation P) script st ns
         → Reached (after (translation P) st ns) (moves + length ns)
@@ -299,7 +300,7 @@ module _ (P : TypedProgram) (given : Given P) where
           let q = moving st moves r m there in
           let still = safe.stable q.node p.node (λ (e : q.node ≡ p.node). ne (sym q.is ∙ (ap (number_of P given) e ∙ p.is))) q.may p.may in
           ap (move_enabled (translation P) script (moved_flat (translation P) st n)) (sym q.is)
-          ∙ (enabled_is P given (moved_flat (translation P) st n) (moved P r.cells p.node) (next_shows st moves r n p) script q.node q.fine ∙ still)
+          ∙ (enabled_is P given (moved_flat (translation P) st n) (cells_moved P r.cells p.node) (next_shows st moves r n p) script q.node q.fine ∙ still)
 
       -- each channel keeps its phases
       module _ (st : RunState) (moves : ℕ) (r : Reached st moves) (n : ℕ) (on : move_enabled (translation P) script st n ≡ true) where
@@ -381,7 +382,7 @@ module _ (P : TypedProgram) (given : Given P) where
         safe_run ns (moved_flat (translation P) st n) (suc moves) (one_more st moves r n run.0) run.1,
       )
 
-      at_rest : (st : RunState) (moves : ℕ) (r : Reached st moves) → IsAtRestFlat (translation P) script st → IsAtRest P script r.cells
+      at_rest : (st : RunState) (moves : ℕ) (r : Reached st moves) → IsAtRestFlat (translation P) script st → CellsRest P script r.cells
       at_rest st moves r still n stands_there =
           let f = fine_node P given n stands_there in
           sym (enabled_is P given st r.cells r.shows script n f) ∙ still (number_of P given n)
@@ -401,7 +402,7 @@ module _ (P : TypedProgram) (given : Given P) where
 
       passing_run : (ns : List ℕ) → IsRun (translation P) script (begin_at (translation P) (translation P).first) ns → IsPassingRun (translation P) P script ns
       passing_run ns run =
-          let first : Reached (begin_at (translation P) (translation P).first) 0 = record { cells = first_of P; reaches = at_first; shows = starts } in
+          let first : Reached (begin_at (translation P) (translation P).first) 0 = record { cells = first_cells P; reaches = at_first; shows = starts } in
           let e : 0 + length ns ≡ length ns = omega arith in
           let last : Reached (after (translation P) (begin_at (translation P) (translation P).first) ns) (length ns) = subst
           (λ k. Reached (after (translation P) (begin_at (translation P) (translation P).first) ns) k) e

@@ -7,7 +7,7 @@ use Rattle.prs_core.specs.Nets.{NetValue, IsNet}
 use Rattle.reset_net.specs.Resets.{reset_of}
 use Rattle.env_script.specs.Scripts.{OfferValue, IsScript}
 use Rattle.env_script.specs.Runs.{RunState, history_at, begin_at, after, moves_since_reset}
-use Rattle.reset_runs.specs.Power.{with_low, IsBefore, IsBehind, EachFromPower}
+use Rattle.reset_runs.specs.Power.{with_low, IsBefore, AfterReset, EachFromPower}
 use Rattle.reset_runs.proofs.Driving.{with_default}
 use Rattle.width_check.specs.Processes.{TypedProgram}
 use Rattle.handshake_expand.specs.Layout.{done_node}
@@ -35,7 +35,7 @@ settled_low st c is =
 
 module _ (net : NetValue) (p : TypedProgram) (carries : Carries net p) (script : List OfferValue) (fits : IsScript p.channels script) (values : List Bool)
     (moves : List ℕ) where
-  carrying : IsBefore net script (begin_at (reset_of net) values) moves ⊎ IsBehind net script (begin_at (reset_of net) values) moves
+  carrying : IsBefore net script (begin_at (reset_of net) values) moves ⊎ AfterReset net script (begin_at (reset_of net) values) moves
       → IsCarrying (reset_of net) p script values (moves_since_reset (reset_of net).reset moves) moves
   carrying (inl b) = record {
     safe = b.safe;

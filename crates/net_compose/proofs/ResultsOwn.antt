@@ -4,7 +4,7 @@ use Rattle.std.proofs.lemmas.List.Elements.{All-nil, All-cons}
 use Rattle.prs_core.specs.Pairs.{Pair, pairs_from, exchanged, rails_of}
 use Rattle.chp_syntax.specs.declared.tree.Op.{Op}
 use Rattle.chp_syntax.specs.declared.tree.Op.TheVariants.{And, Or, Xor, Add, Sub, Eq, Ne, Lt, Le, Gt, Ge}
-use Rattle.width_check.specs.Processes.{Formula, constant, reading, joined, inverted, chained, compared, Formulas, no_parts, and_part, part_count, Operations, no_operations, and_operation}
+use Rattle.width_check.specs.Processes.{Formula, constant, reading, joined, inverted, chained, compared, Formulas, no_parts, and_part, formula_count, Operations, no_operations, and_operation}
 use Rattle.width_check.specs.Values.{width_of, widths_of, IsWellFormed, AreWellFormed, AreOperations}
 use Rattle.handshake_expand.specs.Layout.{operator_size, formula_size, parts_size, operations_size}
 use Rattle.function_blocks.specs.Expressions.{formula_result, joined_result, chained_result}
@@ -89,7 +89,7 @@ mutual
   some_bits (chained e more) h = some_bits e h.0
   some_bits (compared op e f) h = omega arith
 
-  some_in_parts : (parts : Formulas) → 1 ≤ part_count parts → AreWellFormed parts → 1 ≤ widths_of parts
+  some_in_parts : (parts : Formulas) → 1 ≤ formula_count parts → AreWellFormed parts → 1 ≤ widths_of parts
   some_in_parts no_parts some h = absurd (omega (arith, some))
   some_in_parts (and_part e more) some h = let one = some_bits e h.0 in omega (arith, one)
 

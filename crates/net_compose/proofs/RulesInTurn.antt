@@ -10,7 +10,8 @@ use Rattle.handshake_expand.specs.PartTree.{members_of, arms_of, own_before}
 use Rattle.handshake_expand.proofs.Rows.{member_at, no_more_members, arm_at, no_more_arms}
 use Rattle.handshake_expand.proofs.Turns.{some_behind, last_alone}
 use Rattle.function_blocks.specs.Expressions.{formula_rules, formula_result}
-use Rattle.net_compose.specs.Translation.{q_rules, bits_at, rules_of, turn_rules, branches_rules, bodies_rules, branch_ends, guard_pairs, branch_answers, guards_rules, Sites, sites_in, sites_in_turn, sites_in_branches, sites_in_bodies}
+use Rattle.handshake_expand.specs.Sites.{Sites, sites_in, sites_in_turn, sites_in_branches, sites_in_bodies}
+use Rattle.net_compose.specs.Translation.{q_rules, bits_at, rules_of, turn_rules, branches_rules, bodies_rules, branch_ends, guard_pairs, branch_answers, guards_rules}
 
 -- a member behind which others stand
 turn_rules_more : (p : TypedProgram) (s : Process) (more : Processes) (request from : ℕ) → 0 < member_count more

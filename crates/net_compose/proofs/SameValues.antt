@@ -21,7 +21,7 @@ use Rattle.function_blocks.proofs.GatesTold.{listed}
 use Rattle.circuit_places.proofs.Meets.{read_declared}
 use Rattle.circuit_places.specs.Lines.{Rails}
 use Rattle.circuit_places.specs.Circuit.{gate_count}
-use Rattle.circuit_places.specs.Whole.{all_low}
+use Rattle.circuit_places.specs.Whole.{lows_only}
 use Rattle.net_compose.specs.Translation.{block_bits, q_rules}
 use Rattle.net_compose.proofs.FlatTrees.{RulesAlike}
 use Rattle.net_compose.proofs.FlatCells.{Rail, rail_of, rail_place_lt}
@@ -77,7 +77,7 @@ module _ (v u : ℕ → Bool) where
   pub merges_alike : (ns ms : List ℕ) (rs ss : List NodeRules) → map v ns ≡ map u ms → RulesAlike v u rs ss → RulesAlike v u (or_of ns ∷ rs) (or_of ms ∷ ss)
   merges_alike ns ms rs ss e h = (
     or_up v ns ∙ (ap (list_any (λ b. b)) e ∙ sym (or_up u ms)),
-    or_down v ns ∙ (ap all_low e ∙ sym (or_down u ms)),
+    or_down v ns ∙ (ap lows_only e ∙ sym (or_down u ms)),
     h,
   )
 

@@ -14,7 +14,8 @@ use Rattle.function_blocks.specs.Expressions.{formula_result}
 use Rattle.function_blocks.proofs.Sizes.{result_length}
 use Rattle.net_compose.specs.EverySite.{SiteValue, sent, taken, written, every_site}
 use Rattle.net_compose.specs.SortedSites.{sent_on, taken_on, written_to, IsDeclaredSite}
-use Rattle.net_compose.specs.Translation.{read_back, through_at, assigned_rails, sites_in, sites_in_turn, sites_in_branches, sites_in_bodies, in_body}
+use Rattle.handshake_expand.specs.Sites.{sites_in, sites_in_turn, sites_in_branches, sites_in_bodies, in_body}
+use Rattle.net_compose.specs.Translation.{read_back, through_at, assigned_rails}
 use Rattle.net_compose.proofs.ResultsOwn.{LieIn, lie_from, result_own, rails_lie}
 use Rattle.net_compose.proofs.Sizes.{pairs_length}
 

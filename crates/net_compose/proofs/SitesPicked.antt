@@ -11,7 +11,8 @@ use Rattle.handshake_expand.specs.Layout.{size_of}
 use Rattle.handshake_expand.specs.Answers.{bodies_from, select_own, again_own}
 use Rattle.net_compose.specs.EverySite.{every_site}
 use Rattle.net_compose.specs.SortedSites.{sent_on, taken_on, written_to}
-use Rattle.net_compose.specs.Translation.{Sites, sites_in, sites_in_turn, sites_in_branches, sites_in_bodies, send_site, receive_site, write_site, assigned_rails}
+use Rattle.handshake_expand.specs.Sites.{Sites, sites_in, sites_in_turn, sites_in_branches, sites_in_bodies}
+use Rattle.net_compose.specs.Translation.{send_site, receive_site, write_site, assigned_rails}
 
 -- where they are written in another way, as f
 module _ {A B C : Type 0} (p : TypedProgram) (pick : B → List C) (f : A → C) (every : Sites B) (site : Sites A)

@@ -25,7 +25,8 @@ use Rattle.cell_channel.specs.Ends.{port_rules}
 use Rattle.cell_select.specs.Selections.{only_one_true, latches, starts, select_rules, again_rules}
 use Rattle.function_blocks.specs.Expressions.{HasBits, read_bits, formula_rules, formula_result}
 use Rattle.net_compose.specs.Sized.{IsOfSize}
-use Rattle.net_compose.specs.Translation.{rails_at, bits_at, block_bits, written_at, q_rules, Through, through_at, through_rules, guard_pairs, guards_rules, choosing_at, repeating_at, branch_ends, branches_end, rules_of, turn_rules, branches_rules, bodies_rules, rail_rules, channel_rules, channels_rules, vars_rules, all_rules, translation, in_body, send_site, write_site, body_answer, vars_high, hidden_high}
+use Rattle.handshake_expand.specs.Sites.{in_body}
+use Rattle.net_compose.specs.Translation.{rails_at, bits_at, block_bits, written_at, q_rules, Through, through_at, through_rules, guard_pairs, guards_rules, choosing_at, repeating_at, branch_ends, branches_end, rules_of, turn_rules, branches_rules, bodies_rules, rail_rules, channel_rules, channels_rules, vars_rules, all_rules, translation, send_site, write_site, body_answer, vars_high, hidden_high}
 
 -- what is known of expressions and of completion trees
 pub record Counted : Type 0 where

@@ -16,7 +16,7 @@ use Rattle.net_compose.specs.EverySite.{SiteValue, every_site}
 use Rattle.net_compose.specs.RailLists.{rails_in}
 use Rattle.net_compose.specs.SiteLists.{site_value, site_values}
 use Rattle.net_compose.specs.SortedSites.{rails_listed, nodes_listed, IsDeclaredSite, HasLists}
-use Rattle.net_compose.specs.Translation.{in_body}
+use Rattle.handshake_expand.specs.Sites.{in_body}
 use Rattle.net_compose.proofs.SitesOwn.{IsSite, all_own, site_of}
 
 -- lists to one of which an item is appended

@@ -9,7 +9,7 @@ use Rattle.prs_core.specs.Pairs as net
 use Rattle.prs_core.specs.Moves.{term_holds, guard_holds}
 use Rattle.cell_select.specs.Selections.{only_one_true, latches, started, starts, evaluation, joined_answer, turn_request, leave_latch, leave_answer}
 use Rattle.cell_select.specs.Selections as template
-use Rattle.circuit_places.specs.Heads.{Index, top, under, Bits, bit_of, some_bit, all_false, all_neutral, alone}
+use Rattle.circuit_places.specs.Heads.{Index, top, under, Bits, bit_of, some_bit, each_false, all_neutral, alone}
 use Rattle.circuit_places.specs.Cores.{Core, Turning, of_joined, of_ask, of_any, of_latch, of_start, of_answer, of_turn, of_leave, core_rule, turning_rule}
 use Rattle.function_blocks.specs.Rails.{Pairs, Rule}
 
@@ -73,7 +73,7 @@ module _ (v : ℕ → Bool) where
   none_is zero (k ∷ ks) x h = absurd h
   none_is (suc n) [] x h = absurd h
 
-  false_is : (n : ℕ) (hs : List net.Pair) (x : Pairs n) → HeadsAt n v hs x → term_holds v (template.all_false hs) ≡ all_false n x
+  false_is : (n : ℕ) (hs : List net.Pair) (x : Pairs n) → HeadsAt n v hs x → term_holds v (template.all_false hs) ≡ each_false n x
   false_is zero [] x h = refl
   false_is (suc n) (k ∷ hs) x h = ap (λ b. b && term_holds v (template.all_false hs)) h.1 ∙ ap (λ b. x.0.f && b) (false_is n hs x.1 h.2)
   false_is zero (k ∷ hs) x h = absurd h

@@ -4,7 +4,8 @@ use Rattle.prs_core.specs.Pairs.{pairs_from, rails_of}
 use Rattle.width_check.specs.Processes.{assigning, sending, receiving, TypedProgram}
 use Rattle.width_check.specs.Typing.{channel_width}
 use Rattle.function_blocks.specs.Expressions.{formula_result}
-use Rattle.net_compose.specs.Translation.{Sites, assigned_rails}
+use Rattle.handshake_expand.specs.Sites.{Sites}
+use Rattle.net_compose.specs.Translation.{assigned_rails}
 
 pub data SiteValue : Type 0 where
   -- rail t and rail f of each bit that is sent on a channel

@@ -7,7 +7,8 @@ use Rattle.width_check.specs.Processes.{TypedProgram}
 use Rattle.net_compose.specs.declared.sorted.Sorted.{Sorted}
 use Rattle.net_compose.specs.EverySite.{SiteValue, sent, taken, written}
 use Rattle.net_compose.specs.RailLists.{rails_in}
-use Rattle.net_compose.specs.Translation.{in_body, send_site, receive_site, write_site}
+use Rattle.handshake_expand.specs.Sites.{in_body}
+use Rattle.net_compose.specs.Translation.{send_site, receive_site, write_site}
 
 -- what a site contributes to a channel as a send and as a receive, and to a variable
 abbrev pub sent_on : ℕ → SiteValue → List (List ℕ)

@@ -11,6 +11,7 @@ use Rattle.width_check.specs.declared.typed.Var.{Var}
 use Rattle.width_check.specs.Processes.{Formula, Process, skipping, assigning, sending, receiving, in_turn, side_by_side, choosing, repeating, Processes, no_members, and_member, Choices, no_choices, and_choice, choice_count, TypedProgram}
 use Rattle.width_check.specs.Typing.{channel_width, var_width}
 use Rattle.width_check.specs.Reads.{reads}
+use Rattle.handshake_expand.specs.Sites.{Sites, in_body}
 use Rattle.handshake_expand.specs.Layout.{formula_size, block_size, size_of, channel_from, var_from, root_request, root_latch, body_from, nodes_of, go_node}
 use Rattle.handshake_expand.specs.Answers.{answer_of, guards_from, bodies_from, select_own, again_own}
 use Rattle.handshake_expand.specs.Named.{node_names}
@@ -160,36 +161,6 @@ abbrev mutual
   bodies_rules p (and_choice g s more) start from =
       rules_of p s start from ++ bodies_rules p more (start + 1) (from + size_of p s)
 
--- What the statements of a program contribute at their places, in text order; a statement that is made of others
--- contributes nothing of its own.
-abbrev pub Sites : Type 0 → Type 0
-Sites A = Process → (from : ℕ) → List A
-
-abbrev mutual
-  pub sites_in : {A : Type 0} → TypedProgram → Sites A → Process → (from : ℕ) → List A
-  sites_in p site (in_turn members) from = sites_in_turn p site members from
-  sites_in p site (side_by_side members) from = sites_in_branches p site members from
-  sites_in p site (choosing false choices) from = sites_in_bodies p site choices (bodies_from choices select_own from)
-  sites_in p site (choosing true choices) from = sites_in_bodies p site choices (bodies_from choices again_own from)
-  sites_in p site (repeating s) from = sites_in p site s (from + 2)
-  sites_in p site s from = site s from
-
-  pub sites_in_turn : {A : Type 0} → TypedProgram → Sites A → Processes → (from : ℕ) → List A
-  sites_in_turn p site no_members from = []
-  sites_in_turn p site (and_member s no_members) from = sites_in p site s from
-  sites_in_turn p site (and_member s (and_member t more)) from =
-      sites_in p site s (from + 3) ++ sites_in_turn p site (and_member t more) (from + 3 + size_of p s)
-
-  pub sites_in_branches : {A : Type 0} → TypedProgram → Sites A → Processes → (from : ℕ) → List A
-  sites_in_branches p site no_members from = []
-  sites_in_branches p site (and_member s more) from =
-      sites_in p site s (from + 3) ++ sites_in_branches p site more (from + 3 + size_of p s)
-
-  pub sites_in_bodies : {A : Type 0} → TypedProgram → Sites A → Choices → (from : ℕ) → List A
-  sites_in_bodies p site no_choices from = []
-  sites_in_bodies p site (and_choice g s more) from =
-      sites_in p site s from ++ sites_in_bodies p site more (from + size_of p s)
-
 -- the rails of a send on the channel
 abbrev pub send_site : ℕ → Sites (List Pair)
 send_site k (sending chan at e) from = if chan == k then formula_result e (from + 1) ∷ [] else []
@@ -215,9 +186,6 @@ write_site p x s from = []
 abbrev pub hidden_high : TypedProgram → Sites ℕ
 hidden_high p (assigning x at e) from = if reads x e then high_first (var_width p.vars x) 0 from else []
 hidden_high p s from = []
-
-abbrev pub in_body : {A : Type 0} → TypedProgram → Sites A → List A
-in_body p site = sites_in p site p.body (body_from p)
 
 -- The wires of a channel. The environment moves the rails of an `in` channel and the acknowledge of an `out` channel;
 -- all others merge what the sites do.

@@ -11,7 +11,8 @@ ghost use Rattle.handshake_expand.specs.PartTree.{members_of, arms_of};
 ghost use Rattle.net_compose.specs.Begins.{channel_firsts, var_firsts};
 ghost use Rattle.net_compose.specs.EverySite.{every_site};
 ghost use Rattle.net_compose.specs.SiteLists.{site_values};
-ghost use Rattle.net_compose.specs.Translation.{rules_of, branches_rules, bodies_rules, sites_in, in_body, hidden_high};
+ghost use Rattle.handshake_expand.specs.Sites.{sites_in, in_body};
+ghost use Rattle.net_compose.specs.Translation.{rules_of, branches_rules, bodies_rules, hidden_high};
 
 use crate::arms::{body_answers, guards_nodes, own_nodes};
 use crate::choice::emit_choice;

@@ -6,7 +6,8 @@ ghost use Rattle.width_check.specs.Typed.{program_of};
 ghost use Rattle.handshake_expand.specs.Layout.{go_node, done_node, nodes_of, root_request, root_latch};
 ghost use Rattle.cell_sequence.specs.Sequence.{q_child, q_latch, q_next};
 ghost use Rattle.net_compose.specs.Begins.{channel_firsts, var_firsts};
-ghost use Rattle.net_compose.specs.Translation.{body_answer, composed, hidden_high, in_body, translation, vars_high};
+ghost use Rattle.handshake_expand.specs.Sites.{in_body};
+ghost use Rattle.net_compose.specs.Translation.{body_answer, composed, hidden_high, translation, vars_high};
 
 use crate::body::emit_body;
 use crate::declared::{emit_channels, emit_vars};

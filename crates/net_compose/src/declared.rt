@@ -8,7 +8,8 @@ ghost use Rattle.width_check.specs.Typing.{channel_width, kind_at, var_width};
 ghost use Rattle.handshake_expand.specs.Layout.{channel_from, vars_from, var_from, nodes_of};
 ghost use Rattle.net_compose.specs.Begins.{channel_firsts, var_firsts};
 ghost use Rattle.net_compose.specs.SortedSites.{AreSorted};
-ghost use Rattle.net_compose.specs.Translation.{channel_rules, channels_rules, vars_rules, in_body, write_site};
+ghost use Rattle.handshake_expand.specs.Sites.{in_body};
+ghost use Rattle.net_compose.specs.Translation.{channel_rules, channels_rules, vars_rules, write_site};
 ghost use Rattle.cell_variable.specs.Variables.{variable_rules};
 
 use crate::merges::{emit_block, emit_rails};

@@ -6,7 +6,7 @@ ghost use Rattle.net_compose.specs.EverySite.{every_site};
 ghost use Rattle.net_compose.specs.SiteLists.{site_value, site_values};
 ghost use Rattle.net_compose.specs.SortedSites.{sent_on, taken_on, written_to, rails_listed, nodes_listed};
 ghost use Rattle.net_compose.specs.SortedSites.{IsDeclaredSite, HasLists, AreSorted};
-ghost use Rattle.net_compose.specs.Translation.{in_body};
+ghost use Rattle.handshake_expand.specs.Sites.{in_body};
 
 use crate::site::Site;
 use std::alloc::{AllocError, Global};

@@ -8,7 +8,7 @@ use Rattle.std.proofs.lemmas.List.Elements.{All-map}
 use Rattle.chp_base.specs.declared.channel.Channel.{Channel}
 use Rattle.prs_core.specs.declared.wires.Wires.{Wires}
 use Rattle.prs_core.specs.Nets.{NetValue, IsNet}
-use Rattle.env_script.specs.Environment.{channels_of}
+use Rattle.env_script.specs.Environment.{net_channels}
 use Rattle.env_script.specs.Scripts.{OfferValue, IsScript}
 use Rattle.env_script.proofs.Wires.{one_each}
 
@@ -21,10 +21,10 @@ pairs_mapped f R (x ∷ xs) each = λ i j d before within.
     let second = get_or-map f (x ∷ xs) j x d there in
     rw (first, second) (each i j x before there)
 
-pub script_distinct : (n : NetValue) → IsNet n → AllPairs (λ (a b : Channel). a.name ≢ b.name) (channels_of n)
+pub script_distinct : (n : NetValue) → IsNet n → AllPairs (λ (a b : Channel). a.name ≢ b.name) (net_channels n)
 script_distinct n net = pairs_mapped (λ (w : Wires). w.channel) (λ (a b : Channel). a.name ≢ b.name) n.channels net.channels_distinct
 
-pub script_wide : (n : NetValue) → IsNet n → All (λ (c : Channel). (1 ≤ c.width) × (c.width ≤ 64)) (channels_of n)
+pub script_wide : (n : NetValue) → IsNet n → All (λ (c : Channel). (1 ≤ c.width) × (c.width ≤ 64)) (net_channels n)
 script_wide n net = All-map (λ (c : Channel). (1 ≤ c.width) × (c.width ≤ 64)) (λ (w : Wires). w.channel) n.channels (λ k d within. let c =
     net.channels k d within in (c.some, c.most))
 
@@ -33,5 +33,5 @@ pub counted : (test : ℕ → Bool) (n : ℕ) → length (map test (range_with_l
 counted test n = length-map-range_with_len test 0 n
 
 -- one offer for each channel
-pub offered : (net : NetValue) (script : List OfferValue) → IsScript (channels_of net) script → length script ≡ length net.channels
+pub offered : (net : NetValue) (script : List OfferValue) → IsScript (net_channels net) script → length script ≡ length net.channels
 offered net script is = one_each net script is

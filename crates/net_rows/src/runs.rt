@@ -1,7 +1,7 @@
 //! Runs of small nets, move by move, where the least node moves first.
 
 ghost use Rattle.std.specs.Prelude.{◌≡◌, ◌<◌, ◌≤◌, length, IfOk, IfSome, OnOk};
-ghost use Rattle.env_script.specs.Environment.{channels_of};
+ghost use Rattle.env_script.specs.Environment.{net_channels};
 ghost use Rattle.env_script.specs.Scripts.{IsScript};
 
 use crate::bench::Bench;
@@ -19,7 +19,7 @@ pub const MOST_OF_SCRIPT: usize = 2_097_152;
 
 /// The channels of the net.
 fn channels_of(alloc: Global, net: &Net) -> Result<Vec<Channel>, AllocError>
-    ensures { IfOk result (λ v. v.items ≡ channels_of net.now) }
+    ensures { IfOk result (λ v. v.items ≡ net_channels net.now) }
 {
     let mut channels = Vec::new(alloc);
     for wires in net.channels() {
@@ -35,7 +35,7 @@ fn channels_of(alloc: Global, net: &Net) -> Result<Vec<Channel>, AllocError>
 /// The script that the text is, for the channels of the net.
 pub fn script_of(alloc: Global, net: &Net, text: &[u8]) -> Result<Script, ScriptError>
     requires { length text.now ≤ 2097152 }
-    ensures { IfOk result (λ script. IsScript (channels_of net.now) script) }
+    ensures { IfOk result (λ script. IsScript (net_channels net.now) script) }
 {
     let _net = net.first();
     let channels = channels_of(alloc, net)?;

@@ -1,6 +1,6 @@
 //! What a script says.
 
-ghost use Rattle.env_script.specs.Environment.{channels_of};
+ghost use Rattle.env_script.specs.Environment.{net_channels};
 ghost use Rattle.env_script.specs.Scripts.{IsScript};
 
 use crate::bench::Bench;
@@ -35,7 +35,7 @@ fn put_offer(page: &mut String, offer: &Offer) -> Result<(), AllocError> {
 /// What the script says of each channel of the net.
 #[tactic(auto, using(crate::proofs::ScriptChannels::offered))]
 fn put_offers(page: &mut String, net: &Net, script: &Script) -> Result<(), AllocError>
-    requires { IsScript (channels_of net.now) script.now }
+    requires { IsScript (net_channels net.now) script.now }
 {
     let Ok(channels) = u32::try_from(net.channels().len()) else {
         return page.push_str("too many channels\n");

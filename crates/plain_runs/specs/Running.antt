@@ -4,7 +4,7 @@ use Rattle.env_script.specs.declared.hazard.Hazard.{Hazard}
 use Rattle.env_script.specs.declared.hazard.Hazard.TheVariants.{BothWays, Unstable, Protocol}
 use Rattle.prs_core.specs.Nets.{NetValue}
 use Rattle.env_script.specs.Scripts.{OfferValue, IsScript}
-use Rattle.env_script.specs.Environment.{channels_of}
+use Rattle.env_script.specs.Environment.{net_channels}
 use Rattle.env_script.specs.Runs.{RunState}
 
 pub record RunValue : Type 0 where
@@ -17,7 +17,7 @@ running net script values histories =
     record { net = net; script = script; now = record { values = values; histories = histories } }
 
 pub record IsRunning (r : RunValue) : Type 0 where
-  pub script : IsScript (channels_of r.net) r.script
+  pub script : IsScript (net_channels r.net) r.script
   pub values : length r.now.values ≡ length r.net.first
   pub histories : length r.now.histories ≡ length r.net.channels
 

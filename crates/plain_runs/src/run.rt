@@ -5,10 +5,10 @@ ghost use Rattle.std.specs.List.{range_with_len};
 ghost use Rattle.prs_core.specs.declared.wires.Wires.{Wires};
 ghost use Rattle.prs_core.specs.Moves.{high, both_ways};
 ghost use Rattle.env_script.specs.Scripts.{IsScript};
-ghost use Rattle.env_script.specs.Environment.{channels_of, in_reset};
+ghost use Rattle.env_script.specs.Environment.{net_channels, in_reset};
 ghost use Rattle.env_script.specs.Wired.{IsWired};
 ghost use Rattle.plain_runs.specs.Running.{lost, worst};
-ghost use Rattle.env_script.specs.Runs.{completed, completes, with_value, with_values, start_of, move_enabled, moved, history_at};
+ghost use Rattle.env_script.specs.Runs.{completed, completes, with_value, with_values, run_start, move_enabled, moved, history_at};
 ghost use Rattle.env_script.specs.Hazards.{least_below, hazard_of};
 
 use env_script::{Hazard, Script, env_enabled, keeps_phases};
@@ -190,8 +190,8 @@ impl Run {
 
     /// The run that has made no move, from the net's first values.
     pub fn new(alloc: Global, net: Net, script: Script) -> Result<Run, AllocError>
-        requires { IsScript (channels_of net) script }
-        ensures { IfOk result (λ r. r ≡ record { net = net; script = script; now = start_of net }) }
+        requires { IsScript (net_channels net) script }
+        ensures { IfOk result (λ r. r ≡ record { net = net; script = script; now = run_start net }) }
     {
         let state = first_state(alloc, &net)?;
         let histories = no_histories(alloc, net.channels().len())?;

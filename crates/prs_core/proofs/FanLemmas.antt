@@ -49,8 +49,8 @@ pub noted_term : (r i : ℕ) (terms : List (List Literal)) (term : List Literal)
     IsNoted (λ n. guard_names n (take i terms)) r xs ys → IsNoted (λ n. term_names n term) r ys zs → IsNoted (λ n. guard_names n (take (i + 1) terms)) r xs zs
 noted_term r i terms term xs ys zs within is before now =
     noted_as (λ n. guard_names n (take i terms) || term_names n term) (λ n. guard_names n (take (i + 1) terms)) r xs zs
-        (λ n. list_any_more (term_names n) terms i term within ∙ ap (λ t. guard_names n (take i terms) || term_names n t) (sym is))
-        (noted_more (λ n. guard_names n (take i terms)) (λ n. term_names n term) r xs ys zs before now)
+    (λ n. list_any_more (term_names n) terms i term within ∙ ap (λ t. guard_names n (take i terms) || term_names n t) (sym is))
+    (noted_more (λ n. guard_names n (take i terms)) (λ n. term_names n term) r xs ys zs before now)
 
 -- one more reader
 
@@ -82,7 +82,7 @@ pub noted_reader : (net : NetValue) (m : ℕ) (xs ys : List (List ℕ)) → ((n 
     IsNoted (λ n. reads net n m) m xs ys → (n : ℕ) → n < length xs → get_or ys n [] ≡ readers_below net (m + 1) n
 noted_reader net m xs ys before noted n within =
     one_reader (reads net n m) m (readers_below net m n) (get_or ys n []) (readers_not_last net m n) (rw (← before n within) (noted.each n within))
-        ∙ sym (readers_more net m n)
+    ∙ sym (readers_more net m n)
 
 -- firing a node that a guard doesn't name
 
@@ -132,9 +132,9 @@ not_read net moved node within node_within apart = by_test (reads net moved node
     by_test : (b : Bool) → reads net moved node ≡ b → b ≡ false
     by_test true is =
         let at : get_or (range_with_len 0 (length net.first)) node node ≡ node = get_or-range_with_len 0 (length net.first) node node node_within
-            ∙ omega arith in
+        ∙ omega arith in
         absurd (apart (rw readers (contains_filter (reads net moved) (range_with_len 0 (length net.first)) node is node
-            (omega (arith, length-range_with_len 0 (length net.first))) at)))
+        (omega (arith, length-range_with_len 0 (length net.first))) at)))
     by_test false is = refl
 
 pub same_enabled : (net : NetValue) (state : List Bool) (moved node : ℕ) → moved < length net.first → node < length net.first → node ≢ moved →

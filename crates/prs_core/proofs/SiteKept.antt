@@ -5,7 +5,7 @@ use Rattle.std.proofs.lemmas.List.Elements.{All-from_recursion, All-cons, All-ma
 use Rattle.std.proofs.lemmas.Bool.{or_cases, not-true, not_from_false}
 use Rattle.std.proofs.Math.Logic.{⊎_elim}
 use Rattle.prs_core.specs.Moves.{guard_holds}
-use Rattle.prs_core.specs.Parts.{Part, Owned, owned, Wire, wire, Moment, IsFirst, Keeps, all_low, turned, after, fires, may_move}
+use Rattle.prs_core.specs.Parts.{Part, Owned, owned, Wire, wire, Moment, IsFirstState, Keeps, all_low, turned, moment_after, fires, may_move}
 use Rattle.prs_core.specs.Keeping.{OwnKeeps, EachKeeps, kept_by_each}
 use Rattle.prs_core.specs.Turning.{turned_here, turned_apart, low_apart, some_high, mapped_among}
 use Rattle.prs_core.specs.Deciding.{implies, implies_at, implies_both, left_of, right_of, at_2, at_4, at_6}
@@ -76,31 +76,31 @@ module _ (others : List ℕ) (request ack answer : ℕ) (apart : IsApart others 
   abbrev o : Bool
   o = all_low m.value others
 
-  answer_goes : fires m.value own ≡ true → Holds others request ack answer (after part m answer)
+  answer_goes : fires m.value own ≡ true → Holds others request ack answer (moment_after part m answer)
   answer_goes fire =
       same_legal _ _ _ _ _ _ _ _ (turned_apart m.value answer request apart.request_answer) (turned_apart m.value answer ack apart.ack_answer)
-          (turned_here m.value answer) (low_apart m.value answer others apart.others_answer)
+      (turned_here m.value answer) (low_apart m.value answer others apart.others_answer)
       (implies_both _ _ _ (at_4 (λ r a k o. implies (legal r a k o) (implies (answers r a k) (legal r a (not k) o))) refl r a k o) holds fire)
 
-  request_goes : lets_request r a k o ≡ true → Holds others request ack answer (after part m request)
+  request_goes : lets_request r a k o ≡ true → Holds others request ack answer (moment_after part m request)
   request_goes may =
       same_legal _ _ _ _ _ _ _ _ (turned_here m.value request) (turned_apart m.value request ack (λ e. apart.request_ack (sym e)))
-          (turned_apart m.value request answer (λ e. apart.request_answer (sym e))) (low_apart m.value request others apart.others_request)
+      (turned_apart m.value request answer (λ e. apart.request_answer (sym e))) (low_apart m.value request others apart.others_request)
       (implies_both _ _ _ (at_4 (λ r a k o. implies (legal r a k o) (implies (lets_request r a k o) (legal (not r) a k o))) refl r a k o) holds may)
 
-  ack_goes : lets_ack r a o ≡ true → Holds others request ack answer (after part m ack)
+  ack_goes : lets_ack r a o ≡ true → Holds others request ack answer (moment_after part m ack)
   ack_goes may =
       same_legal _ _ _ _ _ _ _ _ (turned_apart m.value ack request apart.request_ack) (turned_here m.value ack)
-          (turned_apart m.value ack answer (λ e. apart.ack_answer (sym e))) (low_apart m.value ack others apart.others_ack)
+      (turned_apart m.value ack answer (λ e. apart.ack_answer (sym e))) (low_apart m.value ack others apart.others_ack)
       (implies_both _ _ _ (at_4 (λ r a k o. implies (legal r a k o) (implies (lets_ack r a o) (legal r (not a) k o))) refl r a k o) holds may)
 
   -- whatever the others then are
-  other_goes : (n : ℕ) → n ≢ request → n ≢ ack → n ≢ answer → lets_other r a k o (m.value n) ≡ true → Holds others request ack answer (after part m n)
+  other_goes : (n : ℕ) → n ≢ request → n ≢ ack → n ≢ answer → lets_other r a k o (m.value n) ≡ true → Holds others request ack answer (moment_after part m n)
   other_goes n not_r not_a not_k may =
       same_legal _ _ _ _ _ _ _ _ (turned_apart m.value n request (λ e. not_r (sym e))) (turned_apart m.value n ack (λ e. not_a (sym e)))
-          (turned_apart m.value n answer (λ e. not_k (sym e))) refl
+      (turned_apart m.value n answer (λ e. not_k (sym e))) refl
       (implies_both _ _ _ (at_6 (λ r a k o x q. implies (legal r a k o) (implies (lets_other r a k o x) (legal r a k q))) refl r a k o (m.value n)
-          (all_low (turned m.value n) others)) holds may)
+      (all_low (turned m.value n) others)) holds may)
 
   answer_promised : fires m.value own ≡ true → (if k then not r && not a else r && a) ≡ true
   answer_promised fire = implies_both _ _ _ (at_4 (λ r a k o. implies (legal r a k o) (implies (answers r a k) (if k then not r && not a else r && a))) refl r a
@@ -109,15 +109,15 @@ module _ (others : List ℕ) (request ack answer : ℕ) (apart : IsApart others 
   under_request : fires m.value own ≡ true → lets_request r a k o ≡ true → fires (turned m.value request) own ≡ true
   under_request fire may =
       same_answers _ _ _ _ _ _ (turned_here m.value request) (turned_apart m.value request ack (λ e. apart.request_ack (sym e)))
-          (turned_apart m.value request answer (λ e. apart.request_answer (sym e)))
+      (turned_apart m.value request answer (λ e. apart.request_answer (sym e)))
       (implies_both _ _ _ (at_4 (λ r a k o. implies (answers r a k) (implies (lets_request r a k o) (answers (not r) a k))) refl r a k o) fire may)
 
   under_ack : fires m.value own ≡ true → lets_ack r a o ≡ true → fires (turned m.value ack) own ≡ true
   under_ack fire may =
       same_answers _ _ _ _ _ _ (turned_apart m.value ack request apart.request_ack) (turned_here m.value ack)
-          (turned_apart m.value ack answer (λ e. apart.ack_answer (sym e)))
+      (turned_apart m.value ack answer (λ e. apart.ack_answer (sym e)))
       (implies_both _ _ _ (implies_at _ _ (at_4 (λ r a k o. implies (legal r a k o) (implies (answers r a k) (implies (lets_ack r a o) (answers r (not a) k))))
-          refl r a k o) holds) fire may)
+      refl r a k o) holds) fire may)
 
   under_other : (n : ℕ) → n ≢ request → n ≢ ack → n ≢ answer → fires m.value own ≡ true → fires (turned m.value n) own ≡ true
   under_other n not_r not_a not_k fire = same_answers _ _ _ _ _ _ (turned_apart m.value n request (λ e. not_r (sym e)))
@@ -145,9 +145,9 @@ module _ (others : List ℕ) (request ack answer : ℕ) (apart : IsApart others 
         (λ _ ne. absurd (ne refl), tt);
     firm_outside =
         each_wire (λ (w : Wire). may_move m w ≡ true → w.node ≢ answer → fires (turned m.value w.node) own ≡ true) (λ may ne. under_request fire may)
-            (λ may ne. under_ack fire may)
+        (λ may ne. under_ack fire may)
         (λ i d within may ne. under_other (slice_index_or others i d) (apart.others_request i d within) (apart.others_ack i d within)
-            (apart.others_answer i d within) fire);
+        (apart.others_answer i d within) fire);
   }
 
   -- a request or the acknowledge may move, or a request of another site may fall
@@ -172,7 +172,7 @@ module _ (others : List ℕ) (request ack answer : ℕ) (apart : IsApart others 
   each = record {
     own = All-from_recursion (λ (o : Owned). fires m.value o ≡ true → OwnKeeps part (Holds others request ack answer) m o) part.own (own_keeps, tt);
     outside =
-        each_wire (λ (w : Wire). may_move m w ≡ true → Holds others request ack answer (after part m w.node)) request_goes ack_goes
+        each_wire (λ (w : Wire). may_move m w ≡ true → Holds others request ack answer (moment_after part m w.node)) request_goes ack_goes
         (λ i d within. other_goes (slice_index_or others i d) (apart.others_request i d within) (apart.others_ack i d within) (apart.others_answer i d within));
     apart = All-from_recursion (λ (o : Owned). (guard_holds m.value o.rules.up && guard_holds m.value o.rules.down) ≡ false) part.own
         (not-true _ (at_2 (λ r a. not (((r && (a && true)) || false) && ((not a && true) || false))) refl r a), tt);
@@ -181,7 +181,7 @@ module _ (others : List ℕ) (request ack answer : ℕ) (apart : IsApart others 
     waits = λ none. inl (waits (none zero own (omega arith)));
   }
 
-at_start : (others : List ℕ) (request ack answer : ℕ) (v : ℕ → Bool) → IsFirst (site_part others request ack answer) v →
+at_start : (others : List ℕ) (request ack answer : ℕ) (v : ℕ → Bool) → IsFirstState (site_part others request ack answer) v →
     Holds others request ack answer (record { value = v; noted = λ n. false })
 at_start others request ack answer v is =
     implies_at _ _ (at_4 (λ r a k o. implies (not k && true) (legal r a k o)) refl (v request) (v ack) (v answer) (all_low v others)) is.own
@@ -190,4 +190,4 @@ pub site_kept : (others : List ℕ) (request ack answer : ℕ) → AllPairs (λ 
     Keeps (site_part others request ack answer)
 site_kept others request ack answer distinct =
     kept_by_each (site_part others request ack answer) (Holds others request ack answer) (at_start others request ack answer)
-        (each others request ack answer (apart_from others request ack answer distinct))
+    (each others request ack answer (apart_from others request ack answer distinct))

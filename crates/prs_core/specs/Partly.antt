@@ -55,6 +55,6 @@ pub partly_others : (os : List Owned) (a b : RulesValue) → IsPartly os a b →
     IsAlone a b node
 partly_others os a b x node other =
     let apart : IsOther node x.written =
-        λ k d within. All-contains (λ (o : Owned). o.node ≢ node) os _ other
-        (x.among _ (All-contains_itself x.written k d within)) in
+    λ k d within. All-contains (λ (o : Owned). o.node ≢ node) os _ other
+    (x.among _ (All-contains_itself x.written k d within)) in
     subst (λ (r : RulesValue). IsAlone a r node) (sym x.made) (others_alone node x.written a apart)

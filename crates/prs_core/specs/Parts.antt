@@ -77,8 +77,8 @@ all_low v ns = list_all (λ n. not (v n)) ns
 abbrev pub turned : (ℕ → Bool) → ℕ → ℕ → Bool
 turned v node n = if n == node then not (v n) else v n
 
-abbrev pub after : Part → Moment → ℕ → Moment
-after p m node = record { value = turned m.value node; noted = p.notes m node }
+abbrev pub moment_after : Part → Moment → ℕ → Moment
+moment_after p m node = record { value = turned m.value node; noted = p.notes m node }
 
 -- a rule of the node may turn it over
 abbrev pub fires : (ℕ → Bool) → Owned → Bool
@@ -89,7 +89,7 @@ abbrev pub may_move : Moment → Wire → Bool
 may_move m w = if m.value w.node then w.falls m else w.rises m
 
 -- first values: of the wires of the neighbours, all are low
-pub record IsFirst (p : Part) (v : ℕ → Bool) : Type 0 where
+pub record IsFirstState (p : Part) (v : ℕ → Bool) : Type 0 where
   pub outside : all_low v (map (λ (w : Wire). w.node) p.allows) ≡ true
   pub own : all_low v p.lows ≡ true
   pub bits : list_all (is_valid v) p.bits ≡ true
@@ -112,8 +112,8 @@ IsMove p m node = IsOwnMove p m node ⊎ IsNeighbours p m node
 
 -- from first values on, by any moves in any order
 pub data Reached (p : Part) : Moment → Type 0 where
-  at_first : (v : ℕ → Bool) → IsFirst p v → Reached p (record { value = v; noted = λ n. false })
-  and_then : (m : Moment) (node : ℕ) → Reached p m → IsMove p m node → Reached p (after p m node)
+  at_first : (v : ℕ → Bool) → IsFirstState p v → Reached p (record { value = v; noted = λ n. false })
+  and_then : (m : Moment) (node : ℕ) → Reached p m → IsMove p m node → Reached p (moment_after p m node)
 
 -- what holds of each moment that is reached
 pub record IsKept (p : Part) (m : Moment) : Type 0 where

@@ -26,7 +26,7 @@ pub other_left : (node : ℕ) (os us : List Owned) → IsOther node (os ++ us) �
 other_left node [] us h = All-nil (λ (o : Owned). o.node ≢ node)
 other_left node (o ∷ os) us h =
     All-cons (λ (o : Owned). o.node ≢ node) o os (All-head (λ (o : Owned). o.node ≢ node) o (os ++ us) h)
-        (other_left node os us (All-tail (λ (o : Owned). o.node ≢ node) o (os ++ us) h))
+    (other_left node os us (All-tail (λ (o : Owned). o.node ≢ node) o (os ++ us) h))
 
 pub other_right : (node : ℕ) (os us : List Owned) → IsOther node (os ++ us) → IsOther node us
 other_right node [] us h = h
@@ -39,8 +39,11 @@ others_alone node (o ∷ os) r other =
     let next = with_rules o.node o.rules r in
     let apart = All-head (λ (o : Owned). o.node ≢ node) o os other in
     alone_on r next (with_owned os next) node
-    (record { up = get_or-set_other r.up o.node node o.rules.up [] (λ e. apart (sym e)); down =
-        get_or-set_other r.down o.node node o.rules.down [] (λ e. apart (sym e)) })
+    (record {
+      up = get_or-set_other r.up o.node node o.rules.up [] (λ e. apart (sym e));
+      down =
+          get_or-set_other r.down o.node node o.rules.down [] (λ e. apart (sym e));
+    })
     (others_alone node os next (All-tail (λ (o : Owned). o.node ≢ node) o os other))
 
 -- the node has its rules
@@ -49,14 +52,14 @@ pub record HasRules (r : RulesValue) (o : Owned) : Type 0 where
   pub down : slice_index_or r.down o.node [] ≡ o.rules.down
 
 -- each of these has its rules, where no two are one node
-pub has_rules : (os : List Owned) (r : RulesValue) (o : Owned) → AllPairs (λ (a b : Owned). a.node ≢ b.node) os →
+pub rules_there : (os : List Owned) (r : RulesValue) (o : Owned) → AllPairs (λ (a b : Owned). a.node ≢ b.node) os →
     Contains os o → o.node < length r.up → o.node < length r.down → HasRules (with_owned os r) o
-has_rules [] r o distinct among up down = absurd (none_among o among)
-has_rules (p ∷ ps) r o distinct among up down =
+rules_there [] r o distinct among up down = absurd (none_among o among)
+rules_there (p ∷ ps) r o distinct among up down =
     by (among_cases p ps o among) (λ there.
-        has_rules ps next o (λ i j d less within. distinct (suc i) (suc j) d (suc-le-suc less) (suc-le-suc within))
-        there (subst (λ n. o.node < n) (sym (length-set r.up p.node p.rules.up)) up)
-        (subst (λ n. o.node < n) (sym (length-set r.down p.node p.rules.down)) down))
+    rules_there ps next o (λ i j d less within. distinct (suc i) (suc j) d (suc-le-suc less) (suc-le-suc within))
+    there (subst (λ n. o.node < n) (sym (length-set r.up p.node p.rules.up)) up)
+    (subst (λ n. o.node < n) (sym (length-set r.down p.node p.rules.down)) down))
   where
     next : RulesValue
     next = with_rules p.node p.rules r
@@ -67,8 +70,11 @@ has_rules (p ∷ ps) r o distinct among up down =
     first : p.node < length r.up → p.node < length r.down → HasRules (with_owned ps next) p
     first above below =
         let alone = others_alone p.node ps next others in
-        record { up = alone.up ∙ get_or-set_same r.up p.node p.rules.up [] above; down =
-            alone.down ∙ get_or-set_same r.down p.node p.rules.down [] below }
+        record {
+          up = alone.up ∙ get_or-set_same r.up p.node p.rules.up [] above;
+          down =
+              alone.down ∙ get_or-set_same r.down p.node p.rules.down [] below;
+        }
 
     by : (p ≡ o) ⊎ Contains ps o → (Contains ps o → HasRules (with_owned ps next) o) → HasRules (with_owned ps next) o
     by (inl e) rest = subst (HasRules (with_owned ps next)) e
@@ -84,9 +90,9 @@ with_past o (p ∷ ps) r other =
     let apart = All-head (λ (x : Owned). x.node ≢ o.node) p ps other in
     ap (with_owned ps)
     (ap (λ u. record { up = u; down = slice_set (slice_set r.down o.node o.rules.down) p.node p.rules.down })
-        (set_comm r.up o.node p.node o.rules.up p.rules.up (λ e. apart (sym e)))
+    (set_comm r.up o.node p.node o.rules.up p.rules.up (λ e. apart (sym e)))
     ∙ ap (λ d. record { up = slice_set (slice_set r.up p.node p.rules.up) o.node o.rules.up; down = d })
-        (set_comm r.down o.node p.node o.rules.down p.rules.down (λ e. apart (sym e))))
+    (set_comm r.down o.node p.node o.rules.down p.rules.down (λ e. apart (sym e))))
     ∙ with_past o ps (with_rules p.node p.rules r) (All-tail (λ (x : Owned). x.node ≢ o.node) p ps other)
 
 pub with_exchanged : (os us : List Owned) (r : RulesValue) → ((o : Owned) → Contains os o → IsOther o.node us) →

@@ -15,9 +15,9 @@ use Rattle.prs_file.specs.Indexes.{place_in}
 use Rattle.prs_file.specs.Lines.{first_line}
 use Rattle.prs_file.specs.Spelling.{node_spelling, channel_spelling}
 use Rattle.prs_file.specs.NodesTold.{node_forms, nodes_told, IsNodes, IsNodesRead}
-use Rattle.prs_file.specs.WiresFound.{IsWired, some_unknown, wires_fault_of}
+use Rattle.prs_file.specs.WiresFound.{IsWiredAmong, some_unknown, wires_fault_of}
 use Rattle.prs_file.specs.ChannelsTold.{channel_names, channels_told, channel_fault_of, stands_late, IsChannelsRead}
-use Rattle.prs_file.specs.Reading.{Form, Says, IsChannelForm, last_of, last_place, ends_nodes, may_stand, may_end, form_fault, nodes_of, node_in, channel_in, wires_of, IsTaken, IsRefused}
+use Rattle.prs_file.specs.Reading.{Form, Says, IsChannelForm, last_of, last_place, ends_nodes, may_stand, may_end, form_fault, told_nodes, node_in, channel_in, wires_of, IsTaken, IsRefused}
 use Rattle.prs_file.specs.Reading.Form.{head, node, channel, rule}
 use Rattle.prs_file.proofs.Taking.{taken_more, refused_here, fault_here}
 use Rattle.prs_file.proofs.NodesRead.{number_is, last_push, told_length, fresh_apart, past_third}
@@ -39,9 +39,9 @@ no_channels (n ∷ names) [] = refl
 no_channels (n ∷ names) (v ∷ first) = no_channels names first
 
 pub nodes_are : (names : List (List ℕ)) (first : List Bool) (ws : List Wires) →
-    filter_map node_in (node_forms names first ++ channel_forms ws) ≡ nodes_of (node_forms names first)
+    filter_map node_in (node_forms names first ++ channel_forms ws) ≡ told_nodes (node_forms names first)
 nodes_are names first ws = filter_map-append node_in (node_forms names first) (channel_forms ws)
-    ∙ ap (λ xs. nodes_of (node_forms names first) ++ xs) (no_nodes ws) ∙ append-nil (nodes_of (node_forms names first))
+    ∙ ap (λ xs. told_nodes (node_forms names first) ++ xs) (no_nodes ws) ∙ append-nil (told_nodes (node_forms names first))
 
 pub channels_are : (names : List (List ℕ)) (first : List Bool) (ws : List Wires) →
     filter_map channel_in (node_forms names first ++ channel_forms ws) ≡ map (λ (w : Wires). w.channel) ws
@@ -60,7 +60,7 @@ named_so (w ∷ ws) name = ap (λ b. bytes_eq w.channel.name name || b) (named_s
     by_first false (Some k) = refl
 
 unknown_so : (names : List (List ℕ)) (first : List Bool) (wires : List (List ℕ)) → length first ≡ length names →
-    list_any (λ w. is_none (position (λ (n : List ℕ × Bool). bytes_eq n.0 w) (nodes_of (node_forms names first)))) wires ≡ some_unknown names wires
+    list_any (λ w. is_none (position (λ (n : List ℕ × Bool). bytes_eq n.0 w) (told_nodes (node_forms names first)))) wires ≡ some_unknown names wires
 unknown_so names first [] count = refl
 unknown_so names first (w ∷ wires) count = rw (number_is names first w count, unknown_so names first wires count) refl
 
@@ -74,7 +74,7 @@ by_parts nodes cs c =
 pub channel_fault_is : (version : ℕ) (names : List (List ℕ)) (first : List Bool) (ws : List Wires) (c : Channel) → length first ≡ length names →
     form_fault (channels_told version names first ws) (channel c) ≡ channel_fault_of names first ws c
 channel_fault_is version names first ws c count =
-    let nodes = nodes_of (node_forms names first) in
+    let nodes = told_nodes (node_forms names first) in
     let one : by_parts (filter_map node_in (node_forms names first ++ channel_forms ws)) (filter_map channel_in (node_forms names first ++ channel_forms ws)) c
         ≡ by_parts nodes (filter_map channel_in (node_forms names first ++ channel_forms ws)) c =
         ap (λ ns. by_parts ns (filter_map channel_in (node_forms names first ++ channel_forms ws)) c) (nodes_are names first ws) in
@@ -128,7 +128,7 @@ behind_channel before c long = (early, late, ends, rw (last_push before (channel
 
 pub channels_more : (version : ℕ) (names : List (List ℕ)) (first : List Bool) (ws : List Wires) (w : Wires) (text rest behind : List ℕ) →
     IsNodes version names first → IsChannelsRead version names first ws text rest → first_line rest ≡ channel_spelling w.channel →
-    rest ≡ first_line rest ++ behind → IsChannelForm w.channel → IsWired names first w → place_in (channel_names ws) w.channel.name ≡ None →
+    rest ≡ first_line rest ++ behind → IsChannelForm w.channel → IsWiredAmong names first w → place_in (channel_names ws) w.channel.name ≡ None →
     IsChannelsRead version names first (ws ++ w ∷ []) text behind
 channels_more version names first ws w text rest behind nodes read says whole form wired fresh =
     let before = channels_told version names first ws in
@@ -139,7 +139,7 @@ channels_more version names first ws w text rest behind nodes read says whole fo
     record {
       taken = subst (λ b. IsTaken text b behind) (sym e) (taken_more text before (channel w.channel) rest (first_line rest) behind read.taken whole says form
           (read.late (channel w.channel) refl) good);
-      wired = All-push (IsWired names first) ws w read.wired wired;
+      wired = All-push (IsWiredAmong names first) ws w read.wired wired;
       forms = All-push (λ (w : Wires). IsChannelForm w.channel) ws w read.forms form;
       distinct = rw (map_push (λ (w : Wires). w.channel.name) ws w) (all_pairs_push (λ (a b : List ℕ). a ≢ b) (channel_names ws) w.channel.name read.distinct
           (fresh_apart (channel_names ws) w.channel.name fresh));
@@ -155,7 +155,7 @@ pub channels_begin : (version : ℕ) (names : List (List ℕ)) (first : List Boo
     IsChannelsRead version names first ws text rest
 channels_begin version names first ws text rest none read over = subst (λ ws. IsChannelsRead version names first ws text rest) (sym none) (record {
   taken = subst (λ b. IsTaken text b rest) (sym e) read.taken;
-  wired = All-nil (IsWired names first);
+  wired = All-nil (IsWiredAmong names first);
   forms = All-nil (λ (w : Wires). IsChannelForm w.channel);
   distinct = λ i j d below within. absurd (omega arith);
   early = λ f says is. ap (λ b. may_stand b f) e ∙ early f says is;

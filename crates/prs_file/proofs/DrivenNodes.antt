@@ -17,7 +17,7 @@ use Rattle.prs_file.specs.Indexes.{place_in}
 use Rattle.prs_file.specs.NodesTold.{IsNodes}
 use Rattle.prs_file.specs.Reading.{outside_of}
 use Rattle.prs_file.specs.RulesTold.{is_driven}
-use Rattle.prs_file.specs.WiresFound.{AreFound, IsWired}
+use Rattle.prs_file.specs.WiresFound.{AreFound, IsWiredAmong}
 use Rattle.prs_file.proofs.Wirings.{place_found, numbers_within}
 
 abbrev Distinct : List (List ℕ) → Type 0
@@ -74,11 +74,11 @@ found_parts names (r ∷ rails) ack (m ∷ numbers) n found =
     let parts = found_parts names rails ack numbers n rest in
     (ap (λ o. o ∷ map (place_in names) rails) at ∙ ap (λ os. Some m ∷ os) parts.0, parts.1)
 
-pub wired_parts : (names : List (List ℕ)) (first : List Bool) (w : Wires) → IsWired names first w →
+pub wired_parts : (names : List (List ℕ)) (first : List Bool) (w : Wires) → IsWiredAmong names first w →
     AreFound names (rail_names w.channel.name w.channel.width) w.rails × (place_in names (ack_name w.channel.name) ≡ Some w.ack)
 wired_parts names first w wired = found_parts names (rail_names w.channel.name w.channel.width) (ack_name w.channel.name) w.rails w.ack wired.found
 
-pub outside_found : (names : List (List ℕ)) (first : List Bool) (w : Wires) → IsWired names first w →
+pub outside_found : (names : List (List ℕ)) (first : List Bool) (w : Wires) → IsWiredAmong names first w →
     AreFound names (outside_of w.channel) (wires_from_outside w.channel.kind w.rails w.ack)
 outside_found names first w wired = by_kind w.channel.kind refl
   where
@@ -109,7 +109,7 @@ driven_push reset cs c name =
 
 -- one channel more
 pub driven_more : (reset : Bool) (names : List (List ℕ)) (first : List Bool) (ws : List Wires) (w : Wires) (old new : List Bool) → Distinct names →
-    IsWired names first w → AreDriven reset (map (λ (w : Wires). w.channel) ws) names old → length new ≡ length old →
+    IsWiredAmong names first w → AreDriven reset (map (λ (w : Wires). w.channel) ws) names old → length new ≡ length old →
     ((n : ℕ) → get_or new n false ≡ (get_or old n false || list_any (λ k. k == n) (wires_from_outside w.channel.kind w.rails w.ack))) →
     AreDriven reset (map (λ (w : Wires). w.channel) (ws ++ w ∷ [])) names new
 driven_more reset names first ws w old new all wired driven same more = record {
@@ -122,7 +122,7 @@ driven_more reset names first ws w old new all wired driven same more = record {
       ∙ ap (λ cs. is_driven reset cs (get_or names n [])) (sym (map_push (λ (w : Wires). w.channel) ws w));
 }
 
-pub wires_within : (names : List (List ℕ)) (first : List Bool) (w : Wires) → IsWired names first w →
+pub wires_within : (names : List (List ℕ)) (first : List Bool) (w : Wires) → IsWiredAmong names first w →
     All (λ n. n < length names) w.rails × (w.ack < length names)
 wires_within names first w wired =
     let parts = wired_parts names first w wired in
@@ -217,6 +217,6 @@ pub written : (n : ℕ) (new old : List Bool) → length new ≡ length old → 
 written n new old same count =
     ap (λ xs. take n (new ++ xs)) (drop_all (length new) old (omega (arith, same))) ∙ ap (take n) (append-nil new) ∙ take_all n new (omega (arith, same, count))
 
-pub wired_item : (names : List (List ℕ)) (first : List Bool) (ws : List Wires) (i : ℕ) (w : Wires) → All (IsWired names first) ws → i < length ws →
-    w ≡ get_or ws i w → IsWired names first w
-wired_item names first ws i w all within is = subst (IsWired names first) (sym is) (All-get_or (IsWired names first) ws i w within all)
+pub wired_item : (names : List (List ℕ)) (first : List Bool) (ws : List Wires) (i : ℕ) (w : Wires) → All (IsWiredAmong names first) ws → i < length ws →
+    w ≡ get_or ws i w → IsWiredAmong names first w
+wired_item names first ws i w all within is = subst (IsWiredAmong names first) (sym is) (All-get_or (IsWiredAmong names first) ws i w within all)

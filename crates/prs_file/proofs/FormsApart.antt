@@ -17,7 +17,7 @@ use Rattle.prs_file.specs.Channels.{kind_by_letter, line_of, word_behind}
 use Rattle.prs_file.specs.Lines.{first_line, behind_line}
 use Rattle.prs_file.specs.Reading.{Form, IsForm, IsChannelForm, IsTermForm, Signed, form_spelling}
 use Rattle.prs_file.specs.Reading.Form.{head, node, channel, rule}
-use Rattle.prs_file.specs.RuleForms.{rule_line_of, IsRuleForm, is_high, word_in, behind_word}
+use Rattle.prs_file.specs.RuleForms.{rule_line_of, IsRuleForm, tells_high, word_in, behind_word}
 use Rattle.prs_file.specs.Spelling.{head_spelling, node_spelling, channel_spelling, kind_spelling, value_spelling, lead_spelling, end_spelling}
 use Rattle.prs_file.specs.Terms.{put_by, terms_of, term_leds, leds_by}
 use Rattle.prs_file.proofs.ChannelLines.{kind_is, behind_kind, word_is as word_of_channel}
@@ -91,7 +91,7 @@ same_body l k ms ks n m u v f g a b e =
     let sl = starts_space ms n u f in
     let sk = starts_space ks m v g in
     let both : body l ++ (32 ∷ sl.0) ≡ body k ++ (32 ∷ sk.0) = ap (λ t. body l ++ t) (sym sl.1) ∙ e ∙ ap (λ t. body k ++ t) sk.1 in (
-      sym (high_is l.high l.name (32 ∷ sl.0) a.first) ∙ ap is_high both ∙ high_is k.high k.name (32 ∷ sk.0) b.first,
+      sym (high_is l.high l.name (32 ∷ sl.0) a.first) ∙ ap tells_high both ∙ high_is k.high k.name (32 ∷ sk.0) b.first,
       sym (word_is l.high l.name sl.0 a) ∙ ap word_in both ∙ word_is k.high k.name sk.0 b,
       sl.1 ∙ sym (rest_is l.high l.name sl.0 a) ∙ ap behind_word both ∙ rest_is k.high k.name sk.0 b ∙ sym sk.1,
     )

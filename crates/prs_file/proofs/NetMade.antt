@@ -17,7 +17,7 @@ use Rattle.prs_file.specs.Reading.{Form, IsChannelForm, last_of, ends_nodes, out
 use Rattle.prs_file.specs.Reading.Form.{head, node}
 use Rattle.prs_file.specs.RulesTold.{is_driven}
 use Rattle.prs_file.specs.Tables.{reset_by, IsTable, IsWholeTable}
-use Rattle.prs_file.specs.WiresFound.{AreFound, IsWired}
+use Rattle.prs_file.specs.WiresFound.{AreFound, IsWiredAmong}
 use Rattle.prs_file.proofs.DrivenNodes.{wired_parts, outside_found}
 use Rattle.prs_file.proofs.Lookups.{rails_more}
 use Rattle.prs_file.proofs.TableLoop.{channels_of}
@@ -94,7 +94,7 @@ undriven_wires n names (w ∷ wires) (k ∷ numbers) found moved =
     (undriven_wires n names wires numbers rest (λ m within is. moved m within (or_right (bytes_eq (get_or names m []) w) _ is)))
 
 -- one channel
-channel_is : (n : NetValue) (w : Wires) → length n.first ≡ length n.names → IsWired n.names n.first w → IsChannelForm w.channel →
+channel_is : (n : NetValue) (w : Wires) → length n.first ≡ length n.names → IsWiredAmong n.names n.first w → IsChannelForm w.channel →
     ((k : ℕ) → k < length n.names → list_any (bytes_eq (get_or n.names k [])) (outside_of w.channel) ≡ true → IsUndriven n k) → IsChannel n w
 channel_is n w same wired form moved =
     let parts = wired_parts n.names n.first w wired in
@@ -114,16 +114,16 @@ channel_is n w same wired form moved =
       outside = undriven_wires n n.names (outside_of w.channel) (wires_from_outside w.channel.kind w.rails w.ack) (outside_found n.names n.first w wired) moved;
     }
 
-all_channels : (n : NetValue) (ws : List Wires) → length n.first ≡ length n.names → All (IsWired n.names n.first) ws →
+all_channels : (n : NetValue) (ws : List Wires) → length n.first ≡ length n.names → All (IsWiredAmong n.names n.first) ws →
     All (λ (w : Wires). IsChannelForm w.channel) ws →
     ((k : ℕ) → k < length n.names → list_any (λ (c : Channel). list_any (bytes_eq (get_or n.names k [])) (outside_of c)) (channels_of ws) ≡ true →
     IsUndriven n k) → All (IsChannel n) ws
 all_channels n [] same wired forms moved = All-nil (IsChannel n)
 all_channels n (w ∷ ws) same wired forms moved =
     All-cons (IsChannel n) w ws
-    (channel_is n w same (All-head (IsWired n.names n.first) w ws wired) (All-head (λ (w : Wires). IsChannelForm w.channel) w ws forms)
+    (channel_is n w same (All-head (IsWiredAmong n.names n.first) w ws wired) (All-head (λ (w : Wires). IsChannelForm w.channel) w ws forms)
         (λ k within is. moved k within (or_left (list_any (bytes_eq (get_or n.names k [])) (outside_of w.channel)) _ is)))
-    (all_channels n ws same (All-tail (IsWired n.names n.first) w ws wired) (All-tail (λ (w : Wires). IsChannelForm w.channel) w ws forms)
+    (all_channels n ws same (All-tail (IsWiredAmong n.names n.first) w ws wired) (All-tail (λ (w : Wires). IsChannelForm w.channel) w ws forms)
         (λ k within is. moved k within (or_right (list_any (bytes_eq (get_or n.names k [])) (outside_of w.channel)) _ is)))
 
 apart_channels : (ws : List Wires) → AllPairs (λ (a b : List ℕ). a ≢ b) (channel_names ws) → AllPairs (λ (a b : Wires). a.channel.name ≢ b.channel.name) ws

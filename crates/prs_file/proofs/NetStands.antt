@@ -22,7 +22,7 @@ use Rattle.prs_file.specs.Reading.Form.{head, node, channel, rule}
 use Rattle.prs_file.specs.Spelling.{version_of}
 use Rattle.prs_file.specs.Named.{guard_named}
 use Rattle.prs_file.specs.Tables.{guard_forms, node_rules}
-use Rattle.prs_file.specs.WiresFound.{AreFound, IsWired, numbers_of}
+use Rattle.prs_file.specs.WiresFound.{AreFound, IsWiredAmong, wire_numbers}
 use Rattle.prs_file.proofs.FormLines.{cut_at, line_of_form}
 use Rattle.prs_file.proofs.ChannelsRead.{channels_more}
 use Rattle.prs_file.proofs.FormsApart.{same_form, some_line}
@@ -183,7 +183,7 @@ found_map names (k ∷ numbers) all within =
     ap (λ o. o ∷ map (place_in names) (map (λ k. get_or names k []) numbers)) (place_at_name names k all (All-head (λ k. k < length names) k numbers within))
         ∙ ap (λ os. Some k ∷ os) (found_map names numbers all (All-tail (λ k. k < length names) k numbers within))
 
-pub wired_in : (n : NetValue) (w : Wires) → IsNet n → IsChannel n w → IsWired n.names n.first w
+pub wired_in : (n : NetValue) (w : Wires) → IsNet n → IsChannel n w → IsWiredAmong n.names n.first w
 wired_in n w net is =
     let c = w.channel in
     let within = subst (λ count. All (λ k. k < count) w.rails) (sym net.named) is.rails_within in
@@ -194,13 +194,13 @@ wired_in n w net is =
     let found = found_more n.names (rail_names c.name c.width) w.rails (ack_name c.name) w.ack rails ack in
     let low = All-push (λ k. get_or n.first k false ≡ false) w.rails w.ack is.rails_low is.ack_low in
     record { found = found; low = low; sound =
-        fault_none n.names n.first c (numbers_of w) (sym net.named) net.distinct found (list_any_none (λ k. get_or n.first k false) (numbers_of w) low) }
+        fault_none n.names n.first c (wire_numbers w) (sym net.named) net.distinct found (list_any_none (λ k. get_or n.first k false) (wire_numbers w) low) }
 
 abbrev pub channel_form : Wires → Form
 channel_form w = channel w.channel
 
 pub channels_walk : (version : ℕ) (names : List (List ℕ)) (first : List Bool) (pre suf : List Wires) (text rest : List ℕ) → IsNodes version names first →
-    IsChannelsRead version names first pre text (flat_map form_spelling (map channel_form suf) ++ rest) → All (IsWired names first) suf →
+    IsChannelsRead version names first pre text (flat_map form_spelling (map channel_form suf) ++ rest) → All (IsWiredAmong names first) suf →
     All (λ (w : Wires). IsChannelForm w.channel) suf → Distinct (channel_names (pre ++ suf)) → IsChannelsRead version names first (pre ++ suf) text rest
 channels_walk version names first pre [] text rest nodes read wired forms all =
     subst (λ ws. IsChannelsRead version names first ws text rest) (sym (append-nil pre)) read
@@ -212,10 +212,10 @@ channels_walk version names first pre (w ∷ suf) text rest nodes read wired for
         (append_assoc (form_spelling (channel w.channel)) (flat_map form_spelling (map channel_form suf)) rest) read in
     let apart = subst Distinct (map-append (λ (w : Wires). w.channel.name) pre (w ∷ suf)) all in
     let more = channels_more version names first pre w text (form_spelling (channel w.channel) ++ behind) behind nodes read' line.0 line.1 form
-        (All-head (IsWired names first) w suf wired) (fresh_name (channel_names pre) w.channel.name (channel_names suf) apart) in
+        (All-head (IsWiredAmong names first) w suf wired) (fresh_name (channel_names pre) w.channel.name (channel_names suf) apart) in
     let e : (pre ++ w ∷ []) ++ suf ≡ pre ++ (w ∷ suf) = append_assoc pre (w ∷ []) suf in
     subst (λ ws. IsChannelsRead version names first ws text rest) e
-    (channels_walk version names first (pre ++ w ∷ []) suf text rest nodes more (All-tail (IsWired names first) w suf wired)
+    (channels_walk version names first (pre ++ w ∷ []) suf text rest nodes more (All-tail (IsWiredAmong names first) w suf wired)
         (All-tail (λ (w : Wires). IsChannelForm w.channel) w suf forms) (subst (λ ws. Distinct (channel_names ws)) (sym e) all))
 
 pub apart_names : (ws : List Wires) → AllPairs (λ (a b : Wires). a.channel.name ≢ b.channel.name) ws → Distinct (channel_names ws)

@@ -22,11 +22,11 @@ use Rattle.prs_file.specs.Named.{signed_by, guard_named}
 use Rattle.prs_file.specs.NodesTold.{nodes_told, IsNodesRead}
 use Rattle.prs_file.specs.Reading.{Form, IsForm, IsRefused, IsChannelForm, Signed, form_spelling, outside_of, same_place, stands_above}
 use Rattle.prs_file.specs.Reading.Form.{node, channel, rule}
-use Rattle.prs_file.specs.RulesTold.{is_driven, is_rule, rule_place, rule_fault_of, most_literals, IsRulesRead}
+use Rattle.prs_file.specs.RulesTold.{is_driven, is_rule, rule_place, rule_fault_of, literals_allowed, IsRulesRead}
 use Rattle.prs_file.specs.Spelling.{version_of, node_spelling, channel_spelling, NetText}
-use Rattle.prs_file.specs.Tables.{guard_forms, node_rules, rule_forms, place_at, IsBehind}
+use Rattle.prs_file.specs.Tables.{guard_forms, node_rules, rule_forms, place_at, IsBeyond}
 use Rattle.prs_file.specs.Terms.{rule_unknown}
-use Rattle.prs_file.specs.WiresFound.{AreFound, IsWired}
+use Rattle.prs_file.specs.WiresFound.{AreFound, IsWiredAmong}
 use Rattle.prs_file.proofs.ChannelsRead.{channels_begin}
 use Rattle.prs_file.proofs.DrivenNodes.{outside_found}
 use Rattle.prs_file.proofs.NetsApart.{same_number, channel_lines, guard_line, rules_say, all_forms, lines_spell}
@@ -54,25 +54,25 @@ terms_known names (t ∷ g) all within =
     or_from _ _ (term_known names t all (All-head P t g within)) (terms_known names g all (All-tail P t g within))
 
 -- a place behind the last one is neither the same nor above
-not_same : (last : Option ℕ) (place : ℕ) → IsBehind last place → same_place last place ≡ false
+not_same : (last : Option ℕ) (place : ℕ) → IsBeyond last place → same_place last place ≡ false
 not_same None place behind = refl
 not_same (Some l) place behind = ne_eqb l place (λ e. absurd (omega (arith, e)))
 
-not_above : (last : Option ℕ) (place : ℕ) → IsBehind last place → stands_above last place ≡ false
+not_above : (last : Option ℕ) (place : ℕ) → IsBeyond last place → stands_above last place ≡ false
 not_above None place behind = refl
 not_above (Some l) place behind = le-ltb place l (omega arith)
 
 rule_good : (names : List (List ℕ)) (channels : List Channel) (reset : Bool) (last : Option ℕ) (count : ℕ) (g : GuardValue) (k : ℕ) (up : Bool) →
-    Distinct names → k < length names → IsBelow (length names) g → is_driven reset channels (get_or names k []) ≡ false → IsBehind last (place_at k up) →
-    count + guard_literals g ≤ most_literals reset → rule_fault_of names channels reset last count (guard_named names g) (get_or names k []) up ≡ None
+    Distinct names → k < length names → IsBelow (length names) g → is_driven reset channels (get_or names k []) ≡ false → IsBeyond last (place_at k up) →
+    count + guard_literals g ≤ literals_allowed reset → rule_fault_of names channels reset last count (guard_named names g) (get_or names k []) up ≡ None
 rule_good names channels reset last count g k up all within below free behind few =
     let at : place_in names (get_or names k []) ≡ Some k = place_at_name names k all within in
     let known : rule_unknown names (guard_named names g) (get_or names k []) ≡ false = or_from _ _ (ap (λ o. is_none o) at) (terms_known names g all below) in
     let place : rule_place names (get_or names k []) up ≡ place_at k up = ap (λ o. place_at (unwrap_or o 0) up) at in
     let same : same_place last (rule_place names (get_or names k []) up) ≡ false = ap (same_place last) place ∙ not_same last (place_at k up) behind in
     let above : stands_above last (rule_place names (get_or names k []) up) ≡ false = ap (stands_above last) place ∙ not_above last (place_at k up) behind in
-    let many : nat_lt (most_literals reset) (count + sum_by (λ (t : List Signed). length t) (guard_named names g)) ≡ false =
-        le-ltb (most_literals reset) (count + sum_by (λ (t : List Signed). length t) (guard_named names g)) (omega (arith, few, named_literals names g)) in
+    let many : nat_lt (literals_allowed reset) (count + sum_by (λ (t : List Signed). length t) (guard_named names g)) ≡ false =
+        le-ltb (literals_allowed reset) (count + sum_by (λ (t : List Signed). length t) (guard_named names g)) (omega (arith, few, named_literals names g)) in
     rw (known, free, same, above, many) refl
 
 -- a node that the environment moves has no rules
@@ -153,8 +153,8 @@ record At (version : ℕ) (names : List (List ℕ)) (first : List Bool) (channel
   last : Option ℕ
   count : ℕ
   read : IsRulesRead before version names first channels last count text rest
-  behind : IsBehind last place
-  few : count + room ≤ most_literals (version == 2)
+  behind : IsBeyond last place
+  few : count + room ≤ literals_allowed (version == 2)
 
 free_of : (b : Bool) → (b ≡ true → ⊥) → b ≡ false
 free_of true never = absurd (never refl)
@@ -293,7 +293,7 @@ sum_all gs count same =
     sym (sum_map (λ i. get_or gs i []) (range_with_len 0 count))
         ∙ ap (sum_by guard_literals) (sym (fill_by_all (λ i. get_or gs i []) gs count [] same (λ k within. refl)))
 
-most_same : (o : Option ℕ) → most_of_net o ≡ most_literals (version_of o == 2)
+most_same : (o : Option ℕ) → most_of_net o ≡ literals_allowed (version_of o == 2)
 most_same None = refl
 most_same (Some k) = refl
 
@@ -328,10 +328,10 @@ channels_say n (w ∷ ws) all =
     All-cons (λ (w : Wires). IsChannelForm w.channel) w ws (record { name = is.name; some = is.some; most = is.most })
         (channels_say n ws (All-tail (IsChannel n) w ws all))
 
-all_wired : (n : NetValue) → IsNet n → (ws : List Wires) → All (IsChannel n) ws → All (IsWired n.names n.first) ws
-all_wired n net [] all = All-nil (IsWired n.names n.first)
+all_wired : (n : NetValue) → IsNet n → (ws : List Wires) → All (IsChannel n) ws → All (IsWiredAmong n.names n.first) ws
+all_wired n net [] all = All-nil (IsWiredAmong n.names n.first)
 all_wired n net (w ∷ ws) all =
-    All-cons (IsWired n.names n.first) w ws (wired_in n w net (All-head (IsChannel n) w ws all)) (all_wired n net ws (All-tail (IsChannel n) w ws all))
+    All-cons (IsWiredAmong n.names n.first) w ws (wired_in n w net (All-head (IsChannel n) w ws all)) (all_wired n net ws (All-tail (IsChannel n) w ws all))
 
 pub never_refused : (n : NetValue) (text : List ℕ) (fault : NetFault) (line : ℕ) → IsNet n → NetText text n → IsRefused text fault line → ⊥
 never_refused n text fault line is spelled refused =
@@ -390,7 +390,7 @@ never_refused n text fault line is spelled refused =
         other_line rules (channel c) (rules_say n is) form
             (λ f in' same. absurd (cc (All-contains (λ f. is_rule f ≡ true) rules f all_are_rules in', ap is_rule same))) e
 
-    few : 0 + literals_from (rules_of n) 0 (length n.names) ≤ most_literals (version == 2)
+    few : 0 + literals_from (rules_of n) 0 (length n.names) ≤ literals_allowed (version == 2)
     few = omega (arith, sum_both (rules_of n) (range_with_len 0 (length n.names)), sum_all n.up (length n.names) (is.ups ∙ sym is.named),
         sum_all n.down (length n.names) (is.downs ∙ sym is.named), is.literals, most_same n.reset)
 

@@ -14,7 +14,7 @@ use Rattle.prs_core.specs.Nets.{GuardValue, RulesValue, NetValue, rules_of, rail
 use Rattle.prs_file.specs.ChannelsTold.{channels_told}
 use Rattle.prs_file.specs.Named.{signed_by, guard_named}
 use Rattle.prs_file.specs.NodesTold.{node_forms}
-use Rattle.prs_file.specs.Reading.{Form, IsForm, IsTermForm, Signed, form_spelling, node_in, channel_in, nodes_of}
+use Rattle.prs_file.specs.Reading.{Form, IsForm, IsTermForm, Signed, form_spelling, node_in, channel_in, told_nodes}
 use Rattle.prs_file.specs.Reading.Form.{head, node, channel, rule}
 use Rattle.prs_file.specs.Spelling.{version_of, spelling}
 use Rattle.prs_file.specs.Tables.{guard_forms, node_rules, rule_forms, net_forms, reset_by}
@@ -71,7 +71,7 @@ channels_in_rules names r =
         (λ k. filter_two channel_in names r k [] [] (no_channel names (get_or r.up k []) k true) (no_channel names (get_or r.down k []) k false))
 
 nodes_in_net : (version : ℕ) (names : List (List ℕ)) (first : List Bool) (ws : List Wires) (r : RulesValue) →
-    filter_map node_in (net_forms version names first ws r) ≡ nodes_of (node_forms names first)
+    filter_map node_in (net_forms version names first ws r) ≡ told_nodes (node_forms names first)
 nodes_in_net version names first ws r =
     filter_map-append node_in (channels_told version names first ws) (rule_forms names r)
         ∙ ap (λ t. filter_map node_in (channels_told version names first ws) ++ t) (nodes_in_rules names r)
@@ -85,13 +85,13 @@ channels_in_net version names first ws r =
         ∙ append-nil (filter_map channel_in (channels_told version names first ws)) ∙ channels_are names first ws
 
 pair_names : (names : List (List ℕ)) (first : List Bool) → length first ≡ length names →
-    map (λ (p : List ℕ × Bool). p.0) (nodes_of (node_forms names first)) ≡ names
+    map (λ (p : List ℕ × Bool). p.0) (told_nodes (node_forms names first)) ≡ names
 pair_names [] first same = refl
 pair_names (n ∷ names) [] same = absurd (omega arith)
 pair_names (n ∷ names) (v ∷ first) same = ap (λ xs. n ∷ xs) (pair_names names first (omega arith))
 
 pair_values : (names : List (List ℕ)) (first : List Bool) → length first ≡ length names →
-    map (λ (p : List ℕ × Bool). p.1) (nodes_of (node_forms names first)) ≡ first
+    map (λ (p : List ℕ × Bool). p.1) (told_nodes (node_forms names first)) ≡ first
 pair_values [] [] same = refl
 pair_values [] (v ∷ first) same = absurd (omega arith)
 pair_values (n ∷ names) [] same = absurd (omega arith)
@@ -408,7 +408,7 @@ one_spelled a b ia ib e = λ i. record { names = names i; first = first i; up = 
     forms : all_forms a ≡ all_forms b
     forms = same_forms (all_forms a) (all_forms b) (lines_say a ia) (lines_say b ib) (lines_spell a ia ∙ e ∙ sym (lines_spell b ib))
 
-    nodes : nodes_of (node_forms a.names a.first) ≡ nodes_of (node_forms b.names b.first)
+    nodes : told_nodes (node_forms a.names a.first) ≡ told_nodes (node_forms b.names b.first)
     nodes = sym (nodes_in_net (version_of a.reset) a.names a.first a.channels (rules_of a)) ∙ ap (filter_map node_in) forms
         ∙ nodes_in_net (version_of b.reset) b.names b.first b.channels (rules_of b)
 

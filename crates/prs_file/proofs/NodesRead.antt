@@ -15,7 +15,7 @@ use Rattle.prs_file.specs.Lines.{first_line}
 use Rattle.prs_file.specs.NodesTold.{node_forms, nodes_told, node_most, IsNodes, IsNodesRead, node_fault_of}
 use Rattle.prs_file.specs.Openings.{opening, text_behind}
 use Rattle.prs_file.specs.Spelling.{node_spelling}
-use Rattle.prs_file.specs.Reading.{Form, Says, last_of, ends_nodes, may_stand, may_end, form_fault, nodes_of, AllStand, IsRefused}
+use Rattle.prs_file.specs.Reading.{Form, Says, last_of, ends_nodes, may_stand, may_end, form_fault, told_nodes, AllStand, IsRefused}
 use Rattle.prs_file.specs.Reading.Form.{head, node, channel, rule}
 use Rattle.prs_file.proofs.Taking.{taken_more, refused_here, not_here, fault_here}
 
@@ -32,11 +32,11 @@ position_cases p x xs false is = rw is (by_order (cases_lt (position_or_len p xs
 
 -- the number of a node in the lines is its place among the names
 pub number_is : (names : List (List ℕ)) (first : List Bool) (name : List ℕ) → length first ≡ length names →
-    position (λ (n : List ℕ × Bool). bytes_eq n.0 name) (nodes_of (node_forms names first)) ≡ place_in names name
+    position (λ (n : List ℕ × Bool). bytes_eq n.0 name) (told_nodes (node_forms names first)) ≡ place_in names name
 number_is [] first name count = refl
 number_is (n ∷ names) [] name count = absurd (omega arith)
 number_is (n ∷ names) (v ∷ first) name count =
-    position_cases (λ (n : List ℕ × Bool). bytes_eq n.0 name) (n, v) (nodes_of (node_forms names first)) (bytes_eq n name) refl
+    position_cases (λ (n : List ℕ × Bool). bytes_eq n.0 name) (n, v) (told_nodes (node_forms names first)) (bytes_eq n name) refl
         ∙ ap (λ o. cond (bytes_eq n name) (Some 0) (option_map (λ k. suc k) o)) (number_is names first name (omega arith))
 
 pub forms_push : (names : List (List ℕ)) (first : List Bool) (n : List ℕ) (v : Bool) → length first ≡ length names →
@@ -56,7 +56,7 @@ count_forms [] first count = refl
 count_forms (n ∷ names) [] count = absurd (omega arith)
 count_forms (n ∷ names) (v ∷ first) count = omega (arith, count_forms names first (omega arith))
 
-pub count_nodes : (names : List (List ℕ)) (first : List Bool) → length first ≡ length names → length (nodes_of (node_forms names first)) ≡ length names
+pub count_nodes : (names : List (List ℕ)) (first : List Bool) → length first ≡ length names → length (told_nodes (node_forms names first)) ≡ length names
 count_nodes [] first count = refl
 count_nodes (n ∷ names) [] count = absurd (omega arith)
 count_nodes (n ∷ names) (v ∷ first) count = omega (arith, count_nodes names first (omega arith))

@@ -11,7 +11,7 @@ use Rattle.prs_file.specs.declared.forms.Lead.{Lead}
 use Rattle.prs_file.specs.declared.forms.Lead.TheVariants.{Rule, And, Or}
 use Rattle.prs_file.specs.declared.rule.Led.{Led}
 use Rattle.prs_file.specs.Spelling.{lead_spelling, sign_spelling, end_spelling}
-use Rattle.prs_file.specs.RuleForms.{led_spelling, leds_spelling, rule_line_of, Leads, IsRuleForm, is_high, unsigned, word_in, behind_word}
+use Rattle.prs_file.specs.RuleForms.{led_spelling, leds_spelling, rule_line_of, AllLed, IsRuleForm, tells_high, unsigned, word_in, behind_word}
 
 abbrev pub body : Led → List ℕ
 body l = sign_spelling l.high ++ l.name
@@ -60,7 +60,7 @@ unsigned_is true [] tail begins = absurd (cc begins)
 unsigned_is true (b ∷ bs) tail begins = rw (no_tilde b begins) refl
 unsigned_is false name tail begins = refl
 
-pub high_is : (high : Bool) (name tail : List ℕ) → begins_with_letter name ≡ true → is_high ((sign_spelling high ++ name) ++ tail) ≡ high
+pub high_is : (high : Bool) (name tail : List ℕ) → begins_with_letter name ≡ true → tells_high ((sign_spelling high ++ name) ++ tail) ≡ high
 high_is true [] tail begins = absurd (cc begins)
 high_is true (b ∷ bs) tail begins = rw (no_tilde b begins) refl
 high_is false name tail begins = refl
@@ -79,7 +79,7 @@ pub record Left (leds : List Led) (rest : List ℕ) (ls : List Led) (n : List �
 
 pub record IsRead (line : List ℕ) (leds : List Led) (rest : List ℕ) : Type 0 where
   pub told : line ≡ leds_spelling leds ++ rest
-  pub leads : Leads leds
+  pub leads : AllLed leds
   pub names : All (λ (l : Led). IsNodeName l.name) leds
   pub only : (ls : List Led) (n : List ℕ) (u : Bool) → IsRuleForm ls n → line ≡ rule_line_of ls n u → Left leds rest ls n u
 
@@ -87,19 +87,19 @@ pub same_led : (l k : Led) → l.lead ≡ k.lead → l.high ≡ k.high → l.nam
 same_led l k a b c = λ i. record { lead = a i; high = b i; name = c i }
 
 -- a literal at the front of a text is the one that the text was made of
-front_is : (text : List ℕ) (l k : Led) (more : List Led) (n : List ℕ) (u : Bool) → l.lead ≡ k.lead → l.high ≡ is_high text → l.name ≡ word_in text →
+front_is : (text : List ℕ) (l k : Led) (more : List Led) (n : List ℕ) (u : Bool) → l.lead ≡ k.lead → l.high ≡ tells_high text → l.name ≡ word_in text →
     IsNodeName k.name → All (λ (k : Led). k.lead ≢ Rule) more → text ≡ body k ++ rule_line_of more n u → (l ≡ k) × (behind_word text ≡ rule_line_of more n u)
 front_is text l k more n u lead high name is further e =
     let space = starts_space more n u further in
     let at : text ≡ (sign_spelling k.high ++ k.name) ++ (32 ∷ space.0) = e ∙ ap (λ xs. body k ++ xs) space.1 in (
-      same_led l k lead (high ∙ ap is_high at ∙ high_is k.high k.name (32 ∷ space.0) is.first) (name ∙ ap word_in at ∙ word_is k.high k.name space.0 is),
+      same_led l k lead (high ∙ ap tells_high at ∙ high_is k.high k.name (32 ∷ space.0) is.first) (name ∙ ap word_in at ∙ word_is k.high k.name space.0 is),
       ap behind_word at ∙ rest_is k.high k.name space.0 is ∙ sym space.1,
     )
 
 leds_push : (leds : List Led) (l : Led) → leds_spelling (leds ++ l ∷ []) ≡ leds_spelling leds ++ led_spelling l
 leds_push leds l = flat_map-append led_spelling leds (l ∷ []) ∙ ap (λ xs. leds_spelling leds ++ xs) (append-nil (led_spelling l))
 
-text_is : (text : List ℕ) → text ≡ sign_spelling (is_high text) ++ unsigned text
+text_is : (text : List ℕ) → text ≡ sign_spelling (tells_high text) ++ unsigned text
 text_is [] = refl
 text_is (b ∷ bs) = by_case (b == 126) refl
   where
@@ -107,26 +107,26 @@ text_is (b ∷ bs) = by_case (b == 126) refl
     by_case true is = ap (λ x. x ∷ bs) (eqb-true b 126 is)
     by_case false is = refl
 
-front_told : (text : List ℕ) (l : Led) → l.high ≡ is_high text → l.name ≡ word_in text → text ≡ body l ++ behind_word text
+front_told : (text : List ℕ) (l : Led) → l.high ≡ tells_high text → l.name ≡ word_in text → text ≡ body l ++ behind_word text
 front_told text l high name =
     text_is text
-    ∙ ap (λ xs. sign_spelling (is_high text) ++ xs) (sym (take-append-drop (position_or_len (λ b. b == 32) (unsigned text)) (unsigned text)))
-    ∙ sym (append_assoc (sign_spelling (is_high text)) (word_in text) (behind_word text))
+    ∙ ap (λ xs. sign_spelling (tells_high text) ++ xs) (sym (take-append-drop (position_or_len (λ b. b == 32) (unsigned text)) (unsigned text)))
+    ∙ sym (append_assoc (sign_spelling (tells_high text)) (word_in text) (behind_word text))
     ∙ ap (λ xs. xs ++ behind_word text) (ap (λ h. sign_spelling h ++ word_in text) (sym high) ∙ ap (λ w. sign_spelling l.high ++ w) (sym name))
 
 all_right : {X : Type 0} (P : X → Type 0) (xs ys : List X) → All P (xs ++ ys) → All P ys
 all_right P xs ys all = subst (All P) (drop_at xs ys (length xs) refl) (All-drop P (length xs) (xs ++ ys) all)
 
-further_of : (leds more : List Led) → Leads leds → Leads (leds ++ more) → All (λ (k : Led). k.lead ≢ Rule) more
+further_of : (leds more : List Led) → AllLed leds → AllLed (leds ++ more) → All (λ (k : Led). k.lead ≢ Rule) more
 further_of [] more some all = absurd some
 further_of (l ∷ leds) more some all = all_right (λ (k : Led). k.lead ≢ Rule) leds more all.1
 
-leads_push : (leds : List Led) (l : Led) → Leads leds → l.lead ≢ Rule → Leads (leds ++ l ∷ [])
+leads_push : (leds : List Led) (l : Led) → AllLed leds → l.lead ≢ Rule → AllLed (leds ++ l ∷ [])
 leads_push [] l some apart = absurd some
 leads_push (k ∷ leds) l some apart = (some.0, All-push (λ (k : Led). k.lead ≢ Rule) leds l some.1 apart)
 
 -- the first literal
-pub read_first : (line text rest : List ℕ) (l : Led) → line ≡ codes "rule " ++ text → l.lead ≡ Rule → l.high ≡ is_high text → l.name ≡ word_in text →
+pub read_first : (line text rest : List ℕ) (l : Led) → line ≡ codes "rule " ++ text → l.lead ≡ Rule → l.high ≡ tells_high text → l.name ≡ word_in text →
     IsNodeName l.name → rest ≡ behind_word text → IsRead line (l ∷ []) rest
 read_first line text rest l begins lead high name named behind = record {
   told =
@@ -185,7 +185,7 @@ next_of line leds rest behind next read sign apart ls n u form e = by_more left.
     by_more : (more : List Led) → ls ≡ leds ++ more → rest ≡ rule_line_of more n u → Next leds next behind ls n u
     by_more [] all over = absurd (sign_no_end next behind n u apart (sym sign ∙ over))
     by_more (k ∷ more) all over =
-        let further = further_of leds (k ∷ more) read.leads (subst Leads all form.leads) in
+        let further = further_of leds (k ∷ more) read.leads (subst AllLed all form.leads) in
         let names = all_right (λ (l : Led). IsNodeName l.name) leds (k ∷ more) (subst (All (λ (l : Led). IsNodeName l.name)) all form.names) in
         let same = same_sign next k.lead behind (body k ++ rule_line_of more n u) apart (All-head (λ (k : Led). k.lead ≢ Rule) k more further) (sym sign ∙ over
             ∙ more_is k more n u) in
@@ -201,7 +201,7 @@ next_of line leds rest behind next read sign apart ls n u form e = by_more left.
 
 -- a further literal
 pub read_more : (line : List ℕ) (leds : List Led) (rest behind after : List ℕ) (next : Lead) (l : Led) → IsRead line leds rest →
-    rest ≡ lead_spelling next ++ behind → next ≢ Rule → l.lead ≡ next → l.high ≡ is_high behind → l.name ≡ word_in behind → IsNodeName l.name →
+    rest ≡ lead_spelling next ++ behind → next ≢ Rule → l.lead ≡ next → l.high ≡ tells_high behind → l.name ≡ word_in behind → IsNodeName l.name →
     after ≡ behind_word behind → IsRead line (leds ++ l ∷ []) after
 read_more line leds rest behind after next l read sign apart lead high name named goes_on = record {
   told =
@@ -263,5 +263,5 @@ no_rule_end line leds rest read no_sign no_end ls n u form e = by_more left.more
     by_more : (more : List Led) → ls ≡ leds ++ more → rest ≡ rule_line_of more n u → ⊥
     by_more [] all over = no_end n u form.node over
     by_more (k ∷ more) all over =
-        let further = further_of leds (k ∷ more) read.leads (subst Leads all form.leads) in
+        let further = further_of leds (k ∷ more) read.leads (subst AllLed all form.leads) in
         no_sign k.lead (body k ++ rule_line_of more n u) (All-head (λ (k : Led). k.lead ≢ Rule) k more further) (over ∙ more_is k more n u)

@@ -10,7 +10,7 @@ use Rattle.prs_file.specs.declared.fault.NetFault.{NetFault}
 use Rattle.prs_file.specs.declared.fault.NetFault.TheVariants.{BadLine}
 use Rattle.prs_file.specs.Lines.{first_line}
 use Rattle.prs_file.specs.NodesTold.{node_forms}
-use Rattle.prs_file.specs.Reading.{Form, Says, IsForm, Signed, form_spelling, form_fault, last_of, last_place, may_stand, node_in, channel_in, nodes_of, channels_of, has_reset, literals_in, IsRefused}
+use Rattle.prs_file.specs.Reading.{Form, Says, IsForm, Signed, form_spelling, form_fault, last_of, last_place, may_stand, node_in, channel_in, told_nodes, told_channels, has_reset, literals_in, IsRefused}
 use Rattle.prs_file.specs.Reading.Form.{head, node, channel, rule}
 use Rattle.prs_file.specs.Reading.LineFault.{bad_line}
 use Rattle.prs_file.specs.Reading.RefusedBehind.{at_line}
@@ -72,7 +72,7 @@ rules_more before version names first channels place count text rest behind g na
           (fault_told before version names first channels place count text rest g name up same read ∙ good);
       long = long;
       nodes = nodes;
-      channels_told = filter_map-append channel_in before (f ∷ []) ∙ append-nil (channels_of before) ∙ read.channels_told;
+      channels_told = filter_map-append channel_in before (f ∷ []) ∙ append-nil (told_channels before) ∙ read.channels_told;
       reset = reset_push before f (omega (arith, read.long)) ∙ read.reset;
       last = rw (last_push before f) (ap (λ o. Some (2 * unwrap_or o 0 + (if up then 0 else 1)))
           (ap (λ ns. position (λ (n : List ℕ × Bool). bytes_eq n.0 name) ns) nodes ∙ number_is names first name same));
@@ -91,8 +91,8 @@ rules_more before version names first channels place count text rest behind g na
     past : (length (before ++ rule g name up ∷ []) == 2) ≡ false
     past = ne_eqb _ 2 (λ e. absurd (omega (arith, long)))
 
-    nodes : nodes_of (before ++ rule g name up ∷ []) ≡ nodes_of (node_forms names first)
-    nodes = filter_map-append node_in before (rule g name up ∷ []) ∙ append-nil (nodes_of before) ∙ read.nodes
+    nodes : told_nodes (before ++ rule g name up ∷ []) ≡ told_nodes (node_forms names first)
+    nodes = filter_map-append node_in before (rule g name up ∷ []) ∙ append-nil (told_nodes before) ∙ read.nodes
 
     early : (k : Form) → Says (first_line behind) k → is_rule k ≡ false → may_stand (before ++ rule g name up ∷ []) k ≡ false
     early (head v) says is = rw (last_push before (rule g name up)) refl

@@ -15,9 +15,9 @@ use Rattle.prs_file.specs.Named.{signed_by, guard_named}
 use Rattle.prs_file.specs.NodesTold.{IsNodes}
 use Rattle.prs_file.specs.Reading.{Form, IsForm, IsChannelForm, Signed, form_spelling}
 use Rattle.prs_file.specs.Reading.Form.{rule}
-use Rattle.prs_file.specs.RulesTold.{IsRulesRead, is_driven, rule_place, rule_fault_of, most_literals}
+use Rattle.prs_file.specs.RulesTold.{IsRulesRead, is_driven, rule_place, rule_fault_of, literals_allowed}
 use Rattle.prs_file.specs.Spelling.{channel_spelling}
-use Rattle.prs_file.specs.Tables.{rule_forms, net_forms, place_at, with_guard, IsBehind, IsTable}
+use Rattle.prs_file.specs.Tables.{rule_forms, net_forms, place_at, with_guard, IsBeyond, IsTable}
 use Rattle.prs_file.specs.Terms.{terms_of}
 use Rattle.prs_file.proofs.GuardsNamed.{filled}
 use Rattle.prs_file.proofs.RulesBegin.{rules_begin}
@@ -103,13 +103,13 @@ loop_more version names first ws last count line r now text rest behind leds nam
     free : is_driven (version == 2) (channels_of ws) (get_or names node []) ≡ false
     free = ap (is_driven (version == 2) (channels_of ws)) found.1 ∙ okay.free
 
-    behind_last : IsBehind last (place_at node up)
-    behind_last = subst (IsBehind last) places okay.behind
+    behind_last : IsBeyond last (place_at node up)
+    behind_last = subst (IsBeyond last) places okay.behind
 
     count_same : guard_literals g ≡ literals
     count_same = sym (named_literals names g) ∙ ap (sum_by (λ (t : List Signed). length t)) named ∙ count_terms leds ∙ sym is_count
 
-    few : count + guard_literals g ≤ most_literals (version == 2)
+    few : count + guard_literals g ≤ literals_allowed (version == 2)
     few = omega (arith, okay.few, sym (named_literals names g) ∙ ap (sum_by (λ (t : List Signed). length t)) named)
 
     some : 0 < length g

@@ -14,11 +14,11 @@ use Rattle.prs_core.specs.Nets.{GuardValue, RulesValue, IsBelow, IsFilled, guard
 use Rattle.prs_file.specs.Named.{guard_named}
 use Rattle.prs_file.specs.Reading.{Form}
 use Rattle.prs_file.specs.Reading.Form.{rule}
-use Rattle.prs_file.specs.RulesTold.{is_driven, most_literals}
-use Rattle.prs_file.specs.Tables.{guard_forms, node_rules, rule_forms, place_at, with_guard, IsBehind, IsTable}
+use Rattle.prs_file.specs.RulesTold.{is_driven, literals_allowed}
+use Rattle.prs_file.specs.Tables.{guard_forms, node_rules, rule_forms, place_at, with_guard, IsBeyond, IsTable}
 use Rattle.prs_file.proofs.Lookups.{range_more}
 
-pub behind_more : (last : Option ℕ) (p q : ℕ) → IsBehind last p → p ≤ q → IsBehind last q
+pub behind_more : (last : Option ℕ) (p q : ℕ) → IsBeyond last p → p ≤ q → IsBeyond last q
 behind_more None p q is more = tt
 behind_more (Some l) p q is more = omega arith
 
@@ -39,7 +39,7 @@ undriven_more reset channels names gs node g free none n within driven =
 
 pub table_more : (reset : Bool) (channels : List Channel) (names : List (List ℕ)) (last : Option ℕ) (count : ℕ) (r : RulesValue) (node : ℕ) (up : Bool)
     (g : GuardValue) → IsTable reset channels names last count r → node < length names → is_driven reset channels (get_or names node []) ≡ false →
-    IsBehind last (place_at node up) → IsBelow (length names) g → IsFilled g → count + guard_literals g ≤ most_literals reset →
+    IsBeyond last (place_at node up) → IsBelow (length names) g → IsFilled g → count + guard_literals g ≤ literals_allowed reset →
     IsTable reset channels names (Some (place_at node up)) (count + guard_literals g) (with_guard node up g r)
 table_more reset channels names last count r node true g table within free behind below filled few =
     let none = table.up_free node (behind_more last (2 * node + 0) (2 * node) behind (omega arith)) in
@@ -107,7 +107,7 @@ some_form names (t ∷ ts) node up some = refl
 
 -- at the node itself, and at each other
 node_more : (reset : Bool) (channels : List Channel) (names : List (List ℕ)) (last : Option ℕ) (count : ℕ) (r : RulesValue) (node : ℕ) (up : Bool)
-    (g : GuardValue) → IsTable reset channels names last count r → node < length names → IsBehind last (place_at node up) → 0 < length g →
+    (g : GuardValue) → IsTable reset channels names last count r → node < length names → IsBeyond last (place_at node up) → 0 < length g →
     node_rules names (with_guard node up g r) node ≡ node_rules names r node ++ rule (guard_named names g) (get_or names node []) up ∷ []
 node_more reset channels names last count r node true g table within behind some =
     let up = table.up_free node (behind_more last (2 * node + 0) (2 * node) behind (omega arith)) in
@@ -134,19 +134,19 @@ node_other names r node n true g apart = ap (λ u. guard_forms names u n true ++
 node_other names r node n false g apart =
     ap (λ d. guard_forms names (get_or r.up n []) n true ++ guard_forms names d n false) (get_or-set_other r.down node n g [] apart)
 
-past_node : (last : Option ℕ) (node i : ℕ) (up : Bool) → IsBehind last (place_at node up) → node + 1 ≤ i → IsBehind last (2 * i)
+past_node : (last : Option ℕ) (node i : ℕ) (up : Bool) → IsBeyond last (place_at node up) → node + 1 ≤ i → IsBeyond last (2 * i)
 past_node last node i true behind past = behind_more last (2 * node + 0) (2 * i) behind (omega arith)
 past_node last node i false behind past = behind_more last (2 * node + 1) (2 * i) behind (omega arith)
 
 none_past : (reset : Bool) (channels : List Channel) (names : List (List ℕ)) (last : Option ℕ) (count : ℕ) (r : RulesValue) (node i : ℕ) (up : Bool) →
-    IsTable reset channels names last count r → IsBehind last (place_at node up) → node + 1 ≤ i → node_rules names r i ≡ []
+    IsTable reset channels names last count r → IsBeyond last (place_at node up) → node + 1 ≤ i → node_rules names r i ≡ []
 none_past reset channels names last count r node i up table behind past =
     let here = past_node last node i up behind past in
     no_rules names r i (table.up_free i here) (table.down_free i (behind_more last (2 * i) (2 * i + 1) here (omega arith)))
 
 -- one line more
 pub forms_more : (reset : Bool) (channels : List Channel) (names : List (List ℕ)) (last : Option ℕ) (count : ℕ) (r : RulesValue) (node : ℕ) (up : Bool)
-    (g : GuardValue) → IsTable reset channels names last count r → node < length names → IsBehind last (place_at node up) → 0 < length g →
+    (g : GuardValue) → IsTable reset channels names last count r → node < length names → IsBeyond last (place_at node up) → 0 < length g →
     rule_forms names (with_guard node up g r) ≡ rule_forms names r ++ rule (guard_named names g) (get_or names node []) up ∷ []
 forms_more reset channels names last count r node up g table within behind some =
     let f = node_rules names r in

@@ -12,7 +12,7 @@ use Rattle.prs_file.specs.declared.rule.Led.{Led}
 use Rattle.prs_file.specs.Spelling.{lead_spelling, end_spelling}
 use Rattle.prs_file.specs.Reading.{Signed, IsForm, IsTermForm, form_spelling, signed_spelling}
 use Rattle.prs_file.specs.Reading.Form.{rule}
-use Rattle.prs_file.specs.RuleForms.{led_spelling, leds_spelling, rule_line_of, Leads, IsRuleForm}
+use Rattle.prs_file.specs.RuleForms.{led_spelling, leds_spelling, rule_line_of, AllLed, IsRuleForm}
 use Rattle.prs_file.specs.Terms.{signed_of, led_by, put_by, terms_of, term_leds, leds_by}
 use Rattle.prs_file.proofs.RuleLines.{body, led_is}
 
@@ -76,7 +76,7 @@ guard_told l (k ∷ ks) further =
 whole_line : (g name : List ℕ) (up : Bool) → (codes "rule " ++ g) ++ end_spelling name up ≡ concat (codes "rule " ∷ g ∷ end_spelling name up ∷ [])
 whole_line g name up = append_assoc (codes "rule ") g (end_spelling name up) ∙ ap (λ t. codes "rule " ++ (g ++ t)) (sym (append-nil (end_spelling name up)))
 
-pub line_is : (ls : List Led) (name : List ℕ) (up : Bool) → Leads ls → rule_line_of ls name up ≡ form_spelling (rule (terms_of ls) name up)
+pub line_is : (ls : List Led) (name : List ℕ) (up : Bool) → AllLed ls → rule_line_of ls name up ≡ form_spelling (rule (terms_of ls) name up)
 line_is [] name up some = absurd some
 line_is (l ∷ ls) name up leads =
     let front : leds_spelling (l ∷ ls) ≡ codes "rule " ++ guard_text (terms_of (l ∷ ls)) =
@@ -109,7 +109,7 @@ terms_form (l ∷ k ∷ ks) all =
     put_form k.lead (signed_of l) (terms_of (k ∷ ks)) (All-head (λ (l : Led). IsNodeName l.name) l (k ∷ ks) all)
         (terms_form (k ∷ ks) (All-tail (λ (l : Led). IsNodeName l.name) l (k ∷ ks) all))
 
-some_terms : (ls : List Led) → Leads ls → 0 < length (terms_of ls)
+some_terms : (ls : List Led) → AllLed ls → 0 < length (terms_of ls)
 some_terms [] some = absurd some
 some_terms (l ∷ ls) leads = rw (shape_of l ls).is (omega arith)
 
@@ -172,7 +172,7 @@ terms_named lead (t ∷ ts) all =
     All-append NamedLed (term_leds lead t) (leds_by Or ts) (term_named lead t (All-head IsTermForm t ts all).names)
         (terms_named Or ts (All-tail IsTermForm t ts all))
 
-leads_of : (t : List Signed) (ts : List (List Signed)) → 0 < length t → Leads (leds_by Rule (t ∷ ts))
+leads_of : (t : List Signed) (ts : List (List Signed)) → 0 < length t → AllLed (leds_by Rule (t ∷ ts))
 leads_of [] ts some = absurd (omega arith)
 leads_of (s ∷ ss) ts some = (refl, All-append Further (term_leds And ss) (leds_by Or ts) (term_further And ss and_no_rule) (terms_further ts))
 

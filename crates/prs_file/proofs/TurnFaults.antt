@@ -9,8 +9,8 @@ use Rattle.prs_file.specs.declared.rule.Led.{Led}
 use Rattle.prs_file.specs.DrivenTold.{AreDriven}
 use Rattle.prs_file.specs.Indexes.{place_in}
 use Rattle.prs_file.specs.Reading.{Signed, same_place, stands_above}
-use Rattle.prs_file.specs.RulesTold.{is_driven, rule_place, rule_fault_of, most_literals}
-use Rattle.prs_file.specs.Tables.{place_at, known_fault_of, IsBehind}
+use Rattle.prs_file.specs.RulesTold.{is_driven, rule_place, rule_fault_of, literals_allowed}
+use Rattle.prs_file.specs.Tables.{place_at, known_fault_of, IsBeyond}
 use Rattle.prs_file.specs.Terms.{terms_of, rule_unknown}
 use Rattle.prs_file.proofs.GuardsNamed.{is_lost}
 use Rattle.prs_file.proofs.TermCounts.{any_terms, count_terms}
@@ -46,10 +46,10 @@ known_is names channels reset driven last count ls name up node b are at known i
 -- a rule that is not refused
 pub record Fine (reset : Bool) (b : Bool) (last : Option ℕ) (count place literals : ℕ) : Type 0 where
   pub free : b ≡ false
-  pub behind : IsBehind last place
-  pub few : count + literals ≤ most_literals reset
+  pub behind : IsBeyond last place
+  pub few : count + literals ≤ literals_allowed reset
 
-behind_is : (last : Option ℕ) (place : ℕ) → same_place last place ≡ false → stands_above last place ≡ false → IsBehind last place
+behind_is : (last : Option ℕ) (place : ℕ) → same_place last place ≡ false → stands_above last place ≡ false → IsBeyond last place
 behind_is None place same above = tt
 behind_is (Some l) place same above = omega (arith, eqb-false l place same, ltb-false place l above)
 
@@ -58,7 +58,7 @@ pub fine : (names : List (List ℕ)) (channels : List Channel) (reset : Bool) (l
     Fine reset (is_driven reset channels name) last count (rule_place names name up) (sum_by (λ (t : List Signed). length t) g)
 fine names channels reset last count g name up none =
     by_cases (rule_unknown names g name) (is_driven reset channels name) refl (same_place last place) refl (stands_above last place) refl
-    (nat_lt (most_literals reset) (count + literals)) refl none
+    (nat_lt (literals_allowed reset) (count + literals)) refl none
   where
     place : ℕ
     place = rule_place names name up
@@ -67,7 +67,7 @@ fine names channels reset last count g name up none =
     literals = sum_by (λ (t : List Signed). length t) g
 
     by_cases : (unknown b : Bool) → is_driven reset channels name ≡ b → (same : Bool) → same_place last (rule_place names name up) ≡ same → (above : Bool) →
-        stands_above last (rule_place names name up) ≡ above → (many : Bool) → nat_lt (most_literals reset) (count + sum_by (λ (t : List Signed). length t) g) ≡
+        stands_above last (rule_place names name up) ≡ above → (many : Bool) → nat_lt (literals_allowed reset) (count + sum_by (λ (t : List Signed). length t) g) ≡
         many → cond unknown (Some UnknownNode) (cond b (Some DrivenWire)
         (cond same (Some DoubleRule) (cond above (Some OutOfOrder) (cond many (Some TooMany) None)))) ≡ None →
         Fine reset (is_driven reset channels name) last count (rule_place names name up) (sum_by (λ (t : List Signed). length t) g)

@@ -9,7 +9,7 @@ use Rattle.prs_file.specs.Lines.{first_line}
 use Rattle.prs_file.specs.NodesTold.{nodes_told}
 use Rattle.prs_file.specs.Reading.{Form, Says, IsChannelForm, IsTaken, last_of, last_place, may_stand, may_end}
 use Rattle.prs_file.specs.Reading.Form.{head, node, channel, rule}
-use Rattle.prs_file.specs.WiresFound.{IsWired, wires_fault_of}
+use Rattle.prs_file.specs.WiresFound.{IsWiredAmong, wires_fault_of}
 
 abbrev pub channel_names : List Wires → List (List ℕ)
 channel_names ws = map (λ (w : Wires). w.channel.name) ws
@@ -33,7 +33,7 @@ stands_late (rule g name up) = true
 pub record IsChannelsRead (version : ℕ) (names : List (List ℕ)) (first : List Bool) (ws : List Wires)
     (text rest : List ℕ) : Type 0 where
   pub taken : IsTaken text (channels_told version names first ws) rest
-  pub wired : All (IsWired names first) ws
+  pub wired : All (IsWiredAmong names first) ws
   pub forms : All (λ (w : Wires). IsChannelForm w.channel) ws
   pub distinct : AllPairs (λ (a b : List ℕ). a ≢ b) (channel_names ws)
   pub early : (f : Form) → Says (first_line rest) f → stands_late f ≡ false →

@@ -68,11 +68,11 @@ abbrev pub channel_in : Form → Option Channel
 channel_in (channel c) = Some c
 channel_in _ = None
 
-abbrev pub nodes_of : List Form → List (List ℕ × Bool)
-nodes_of before = filter_map node_in before
+abbrev pub told_nodes : List Form → List (List ℕ × Bool)
+told_nodes before = filter_map node_in before
 
-abbrev pub channels_of : List Form → List Channel
-channels_of before = filter_map channel_in before
+abbrev pub told_channels : List Form → List Channel
+told_channels before = filter_map channel_in before
 
 abbrev pub literals_in : Form → ℕ
 literals_in (rule g name up) = sum_by (λ (t : List Signed). length t) g
@@ -84,13 +84,13 @@ has_reset _ = false
 
 -- the number of the node of this name
 abbrev pub number_of_node : List Form → List ℕ → Option ℕ
-number_of_node before name = position (λ (n : List ℕ × Bool). bytes_eq n.0 name) (nodes_of before)
+number_of_node before name = position (λ (n : List ℕ × Bool). bytes_eq n.0 name) (told_nodes before)
 
 abbrev pub is_unknown : List Form → List ℕ → Bool
 is_unknown before name = is_none (number_of_node before name)
 
 abbrev pub is_high_first : List Form → List ℕ → Bool
-is_high_first before name = list_any (λ (n : List ℕ × Bool). bytes_eq n.0 name && n.1) (nodes_of before)
+is_high_first before name = list_any (λ (n : List ℕ × Bool). bytes_eq n.0 name && n.1) (told_nodes before)
 
 -- where a line may stand
 
@@ -138,7 +138,7 @@ may_end before = nat_lt 2 (length before) && ends_behind (has_reset before) (las
 
 abbrev pub double_name : List Form → Form → Bool
 double_name before (node name first) = not (is_unknown before name)
-double_name before (channel c) = list_any (λ (d : Channel). bytes_eq d.name c.name) (channels_of before)
+double_name before (channel c) = list_any (λ (d : Channel). bytes_eq d.name c.name) (told_channels before)
 double_name before _ = false
 
 abbrev pub wires_of : Channel → List (List ℕ)
@@ -166,7 +166,7 @@ outside_of c = wires_from_outside' c.kind c
 abbrev pub driven_wire : List Form → Form → Bool
 driven_wire before (rule g name up) =
     bytes_eq name (codes "go") || ((has_reset before && bytes_eq name (codes "reset"))
-        || list_any (λ (c : Channel). list_any (bytes_eq name) (outside_of c)) (channels_of before))
+        || list_any (λ (c : Channel). list_any (bytes_eq name) (outside_of c)) (told_channels before))
 driven_wire before _ = false
 
 -- the place of a rule in the order of rules: by its node, up before down
@@ -200,7 +200,7 @@ abbrev pub literal_limit : List Form → ℕ
 literal_limit before = if has_reset before then 8454144 else 4194304
 
 abbrev pub too_many : List Form → Form → Bool
-too_many before (node name first) = nat_lt (node_limit before) (length (nodes_of before) + 1)
+too_many before (node name first) = nat_lt (node_limit before) (length (told_nodes before) + 1)
 too_many before (rule g name up) =
     nat_lt (literal_limit before) (sum_by literals_in before + literals_in (rule g name up))
 too_many before _ = false

@@ -16,19 +16,19 @@ abbrev pub rule_line_of : List Led → List ℕ → Bool → List ℕ
 rule_line_of ls name up = leds_spelling ls ++ end_spelling name up
 
 -- the word of a rule leads to the first literal, a sign to each further one
-abbrev pub Leads : List Led → Type 0
-Leads [] = ⊥
-Leads (l ∷ ls) = (l.lead ≡ Rule) × All (λ (k : Led). k.lead ≢ Rule) ls
+abbrev pub AllLed : List Led → Type 0
+AllLed [] = ⊥
+AllLed (l ∷ ls) = (l.lead ≡ Rule) × All (λ (k : Led). k.lead ≢ Rule) ls
 
 pub record IsRuleForm (ls : List Led) (name : List ℕ) : Type 0 where
-  pub leads : Leads ls
+  pub leads : AllLed ls
   pub names : All (λ (l : Led). IsNodeName l.name) ls
   pub node : IsNodeName name
 
 -- a literal at the front of a text: its sign, its word up to a space, and what stands behind it
-abbrev pub is_high : List ℕ → Bool
-is_high [] = true
-is_high (b ∷ bs) = if b == 126 then false else true
+abbrev pub tells_high : List ℕ → Bool
+tells_high [] = true
+tells_high (b ∷ bs) = if b == 126 then false else true
 
 abbrev pub unsigned : List ℕ → List ℕ
 unsigned [] = []

@@ -5,7 +5,7 @@ use Rattle.chp_base.specs.declared.channel.Channel.{Channel}
 use Rattle.prs_file.specs.declared.fault.NetFault.{NetFault}
 use Rattle.prs_file.specs.declared.fault.NetFault.TheVariants.{UnknownNode, DoubleRule, DrivenWire, TooMany, OutOfOrder}
 use Rattle.prs_file.specs.Indexes.{place_in}
-use Rattle.prs_file.specs.Reading.{Form, Says, Signed, IsTaken, nodes_of, channels_of, has_reset, last_of, last_place, literals_in, may_stand, may_end, outside_of, same_place, stands_above}
+use Rattle.prs_file.specs.Reading.{Form, Says, Signed, IsTaken, told_nodes, told_channels, has_reset, last_of, last_place, literals_in, may_stand, may_end, outside_of, same_place, stands_above}
 use Rattle.prs_file.specs.Reading.Form.{head, node, channel, rule}
 use Rattle.prs_file.specs.Lines.{first_line}
 use Rattle.prs_file.specs.NodesTold.{node_forms}
@@ -20,8 +20,8 @@ is_driven reset channels name =
 abbrev pub rule_place : List (List ℕ) → List ℕ → Bool → ℕ
 rule_place names name up = 2 * unwrap_or (place_in names name) 0 + (if up then 0 else 1)
 
-abbrev pub most_literals : Bool → ℕ
-most_literals reset = if reset then 8454144 else 4194304
+abbrev pub literals_allowed : Bool → ℕ
+literals_allowed reset = if reset then 8454144 else 4194304
 
 -- behind a rule at the last place, and so many literals
 abbrev pub rule_fault_of : List (List ℕ) → List Channel → Bool → Option ℕ → ℕ → List (List Signed) → List ℕ → Bool →
@@ -31,7 +31,7 @@ rule_fault_of names channels reset last count g name up =
         (if is_driven reset channels name then Some DrivenWire else
         (if same_place last (rule_place names name up) then Some DoubleRule else
         (if stands_above last (rule_place names name up) then Some OutOfOrder else
-        (if nat_lt (most_literals reset) (count + sum_by (λ (t : List Signed). length t) g) then Some TooMany else
+        (if nat_lt (literals_allowed reset) (count + sum_by (λ (t : List Signed). length t) g) then Some TooMany else
         None))))
 
 abbrev pub order_fault_of : Option ℕ → ℕ → Option NetFault
@@ -49,8 +49,8 @@ pub record IsRulesRead (before : List Form) (version : ℕ) (names : List (List 
     (channels : List Channel) (place : Option ℕ) (count : ℕ) (text rest : List ℕ) : Type 0 where
   pub taken : IsTaken text before rest
   pub long : 2 < length before
-  pub nodes : nodes_of before ≡ nodes_of (node_forms names first)
-  pub channels_told : channels_of before ≡ channels
+  pub nodes : told_nodes before ≡ told_nodes (node_forms names first)
+  pub channels_told : told_channels before ≡ channels
   pub reset : has_reset before ≡ (version == 2)
   pub last : last_place before (last_of before) ≡ place
   pub literals : sum_by literals_in before ≡ count

@@ -10,7 +10,7 @@ use Rattle.prs_file.specs.ChannelsTold.{channels_told}
 use Rattle.prs_file.specs.Named.{guard_named}
 use Rattle.prs_file.specs.Reading.{Form, same_place, stands_above}
 use Rattle.prs_file.specs.Reading.Form.{rule}
-use Rattle.prs_file.specs.RulesTold.{is_driven, most_literals}
+use Rattle.prs_file.specs.RulesTold.{is_driven, literals_allowed}
 
 -- a guard without terms has no line
 abbrev pub guard_forms : List (List ℕ) → GuardValue → ℕ → Bool → List Form
@@ -38,9 +38,9 @@ with_guard node up g r = if up then record r { up = slice_set r.up node g } else
     slice_set r.down node g }
 
 -- a place behind the last one
-abbrev pub IsBehind : Option ℕ → ℕ → Type 0
-IsBehind None place = Unit {0}
-IsBehind (Some last) place = last < place
+abbrev pub IsBeyond : Option ℕ → ℕ → Type 0
+IsBeyond None place = Unit {0}
+IsBeyond (Some last) place = last < place
 
 -- why a rule over known nodes is refused
 abbrev pub known_fault_of : Bool → Bool → Option ℕ → ℕ → ℕ → ℕ → Option NetFault
@@ -48,7 +48,7 @@ known_fault_of reset driven last count place literals =
     if driven then Some DrivenWire else
         (if same_place last place then Some DoubleRule else
         (if stands_above last place then Some OutOfOrder else
-        (if nat_lt (most_literals reset) (count + literals) then Some TooMany else None)))
+        (if nat_lt (literals_allowed reset) (count + literals) then Some TooMany else None)))
 
 -- the guards up to a place, with so many literals
 pub record IsTable (reset : Bool) (channels : List Channel) (names : List (List ℕ)) (last : Option ℕ) (count : ℕ)
@@ -64,9 +64,9 @@ pub record IsTable (reset : Bool) (channels : List Channel) (names : List (List 
   pub down_undriven : (n : ℕ) → n < length names → is_driven reset channels (slice_index_or names n []) ≡ true →
       slice_index_or r.down n [] ≡ []
   pub literals : sum_by guard_literals r.up + sum_by guard_literals r.down ≡ count
-  pub few : count ≤ most_literals reset
-  pub up_free : (n : ℕ) → IsBehind last (2 * n) → slice_index_or r.up n [] ≡ []
-  pub down_free : (n : ℕ) → IsBehind last (2 * n + 1) → slice_index_or r.down n [] ≡ []
+  pub few : count ≤ literals_allowed reset
+  pub up_free : (n : ℕ) → IsBeyond last (2 * n) → slice_index_or r.up n [] ≡ []
+  pub down_free : (n : ℕ) → IsBeyond last (2 * n + 1) → slice_index_or r.down n [] ≡ []
 
 pub record IsWholeTable (reset : Bool) (channels : List Channel) (names : List (List ℕ)) (r : RulesValue) : Type 0 where
   pub last : Option ℕ

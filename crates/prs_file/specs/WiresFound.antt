@@ -7,7 +7,7 @@ use Rattle.prs_file.specs.declared.fault.NetFault.{NetFault}
 use Rattle.prs_file.specs.declared.fault.NetFault.TheVariants.{UnknownNode, BadFirst}
 use Rattle.prs_file.specs.Indexes.{place_in}
 use Rattle.prs_file.specs.NodesTold.{node_forms}
-use Rattle.prs_file.specs.Reading.{nodes_of, wires_of}
+use Rattle.prs_file.specs.Reading.{told_nodes, wires_of}
 
 -- each of these names is that of the node with the number at its place
 abbrev pub AreFound : List (List ℕ) → List (List ℕ) → List ℕ → Type 0
@@ -19,7 +19,7 @@ some_unknown names wires = list_any (λ w. is_none (place_in names w)) wires
 -- by its name, a node that is high at first
 abbrev pub is_high_named : List (List ℕ) → List Bool → List ℕ → Bool
 is_high_named names first name =
-    list_any (λ (n : List ℕ × Bool). bytes_eq n.0 name && n.1) (nodes_of (node_forms names first))
+    list_any (λ (n : List ℕ × Bool). bytes_eq n.0 name && n.1) (told_nodes (node_forms names first))
 
 -- why a channel has no wires: one of them is no node, or high at first
 abbrev pub wires_fault_of : List (List ℕ) → List Bool → Channel → Option NetFault
@@ -27,10 +27,10 @@ wires_fault_of names first c =
     if some_unknown names (wires_of c) then Some UnknownNode else
         (if list_any (is_high_named names first) (wires_of c) then Some BadFirst else None)
 
-abbrev pub numbers_of : Wires → List ℕ
-numbers_of w = w.rails ++ w.ack ∷ []
+abbrev pub wire_numbers : Wires → List ℕ
+wire_numbers w = w.rails ++ w.ack ∷ []
 
-pub record IsWired (names : List (List ℕ)) (first : List Bool) (w : Wires) : Type 0 where
-  pub found : AreFound names (wires_of w.channel) (numbers_of w)
-  pub low : All (λ n. slice_index_or first n false ≡ false) (numbers_of w)
+pub record IsWiredAmong (names : List (List ℕ)) (first : List Bool) (w : Wires) : Type 0 where
+  pub found : AreFound names (wires_of w.channel) (wire_numbers w)
+  pub low : All (λ n. slice_index_or first n false ≡ false) (wire_numbers w)
   pub sound : wires_fault_of names first w.channel ≡ None

@@ -6,7 +6,7 @@ ghost use Rattle.prs_core.specs.declared.wires.Wires.{Wires as WiresValue};
 ghost use Rattle.prs_core.specs.Nets.{wires_from_outside};
 ghost use Rattle.prs_file.specs.DrivenTold.{AreDriven, HasItsReset};
 ghost use Rattle.prs_file.specs.NodesTold.{IsNodes};
-ghost use Rattle.prs_file.specs.WiresFound.{IsWired};
+ghost use Rattle.prs_file.specs.WiresFound.{IsWiredAmong};
 
 use crate::nodes::Nodes;
 use chp_base::Kind;
@@ -68,7 +68,7 @@ pub fn driven_nodes(
 ) -> Result<Vec<bool>, AllocError>
     requires nodes { IsNodes nodes.now.version nodes.now.index nodes.now.first.items }
     requires reset { HasItsReset nodes.now.version nodes.now.index nodes.now.first.items }
-    requires wired { All (IsWired nodes.now.index nodes.now.first.items) channels.now }
+    requires wired { All (IsWiredAmong nodes.now.index nodes.now.first.items) channels.now }
     ensures { IfOk result (λ driven.
         AreDriven (nodes.now.version == 2) (map (λ (w : WiresValue). w.channel) channels.now) nodes.now.index
         driven.items) }

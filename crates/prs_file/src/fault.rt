@@ -1,7 +1,7 @@
 //! Why a rule file is refused.
 
 ghost use Rattle.std.specs.Prelude.{◌≡◌};
-ghost use Rattle.prs_file.specs.Faults.{number_of};
+ghost use Rattle.prs_file.specs.Faults.{net_fault_number};
 
 use std::alloc::{AllocError, AllocFailed};
 use thiserror::Error;
@@ -32,7 +32,7 @@ pub enum NetFault {
 impl NetFault {
     /// The number of the cause, from 40 to 48.
     pub fn number(&self) -> u8
-        ensures { result ≡ number_of self.now }
+        ensures { result ≡ net_fault_number self.now }
     {
         match self {
             NetFault::BadLine => 40,

@@ -5,7 +5,7 @@ ghost use Rattle.chp_base.specs.Names.{IsNodeName};
 ghost use Rattle.prs_file.specs.declared.forms.Lead.{Lead as LeadValue};
 ghost use Rattle.prs_file.specs.declared.rule.Led.{Led as LedValue};
 ghost use Rattle.prs_file.specs.Spelling.{end_spelling, lead_spelling, sign_spelling};
-ghost use Rattle.prs_file.specs.RuleForms.{IsRuleForm, rule_line_of, is_high, unsigned, word_in, behind_word};
+ghost use Rattle.prs_file.specs.RuleForms.{IsRuleForm, rule_line_of, tells_high, unsigned, word_in, behind_word};
 
 use crate::channel::word_len;
 use crate::forms::Lead;
@@ -58,7 +58,7 @@ pub struct Led {
 
 /// Whether the literal at the front wants its node high, and the text without the sign.
 fn sign_of(text: &[u8]) -> (bool, &[u8])
-    ensures sign { result.0 ≡ is_high text.now }
+    ensures sign { result.0 ≡ tells_high text.now }
     ensures text { result.1.now ≡ unsigned text.now }
 {
     match text {
@@ -70,7 +70,7 @@ fn sign_of(text: &[u8]) -> (bool, &[u8])
 /// The literal at the front of the text and what stands behind it, or None where its word is no node's name.
 fn led_form(alloc: Global, lead: Lead, text: &[u8]) -> Result<Option<(Led, &[u8])>, AllocError>
     ensures lead { IfOk result (λ o. IfSome o (λ form. form.0.lead ≡ lead)) }
-    ensures high { IfOk result (λ o. IfSome o (λ form. form.0.high ≡ is_high text.now)) }
+    ensures high { IfOk result (λ o. IfSome o (λ form. form.0.high ≡ tells_high text.now)) }
     ensures word { IfOk result (λ o. IfSome o (λ form. form.0.name ≡ word_in text.now)) }
     ensures name { IfOk result (λ o. IfSome o (λ form. IsNodeName form.0.name)) }
     ensures rest { IfOk result (λ o. IfSome o (λ form. form.1.now ≡ behind_word text.now)) }

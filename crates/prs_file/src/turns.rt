@@ -9,7 +9,7 @@ ghost use Rattle.prs_file.specs.Lines.{first_line};
 ghost use Rattle.prs_file.specs.Named.{guard_named};
 ghost use Rattle.prs_file.specs.Reading.{Signed, IsForm, form_spelling};
 ghost use Rattle.prs_file.specs.Reading.Form.{rule};
-ghost use Rattle.prs_file.specs.RulesTold.{order_fault_of, rule_fault_of, most_literals as literal_limit};
+ghost use Rattle.prs_file.specs.RulesTold.{order_fault_of, rule_fault_of, literals_allowed as literal_limit};
 ghost use Rattle.prs_file.specs.Tables.{place_at, known_fault_of};
 ghost use Rattle.prs_file.specs.Terms.{terms_of};
 

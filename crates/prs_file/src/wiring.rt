@@ -2,7 +2,7 @@
 
 ghost use Rattle.std.specs.Prelude.{◌≡◌, ◌≢◌, ◌<◌, ℕ, List, Bool, false, length, All, AllPairs, slice_index_or, IfOk, IfErr, Some};
 ghost use Rattle.std.specs.List.{list_any};
-ghost use Rattle.prs_file.specs.WiresFound.{IsWired, wires_fault_of};
+ghost use Rattle.prs_file.specs.WiresFound.{IsWiredAmong, wires_fault_of};
 
 use crate::fault::NetFault;
 use crate::lookup::{find_ack, find_rails};
@@ -27,7 +27,7 @@ pub fn wire(
     requires count { length nodes.now.first.items ≡ length nodes.now.index }
     requires distinct { AllPairs (λ (a b : List ℕ). a ≢ b) nodes.now.index }
     ensures channel { IfOk result (λ r. IfOk r (λ w. w.channel ≡ channel)) }
-    ensures wired { IfOk result (λ r. IfOk r (IsWired nodes.now.index nodes.now.first.items)) }
+    ensures wired { IfOk result (λ r. IfOk r (IsWiredAmong nodes.now.index nodes.now.first.items)) }
     ensures fault { IfOk result
         (λ r. IfErr r (λ fault. wires_fault_of nodes.now.index nodes.now.first.items channel ≡ Some fault)) }
 {

@@ -11,7 +11,7 @@ use Rattle.prs_core.specs.Moves.{high, fired, rule_enabled}
 use Rattle.reset_net.specs.Resets.{reset_of}
 use Rattle.env_script.specs.Scripts.{OfferValue}
 use Rattle.env_script.specs.Environment.{all_below, rules_rest, env_enabled}
-use Rattle.env_script.specs.Runs.{RunState, IsRun, IsAtRest, IsApart, IsPowered, IsSafeMove, begin_at, start_of, IsOnceEach, completed, move_enabled, moved, histories_after, until_reset}
+use Rattle.env_script.specs.Runs.{RunState, IsRun, IsAtRest, IsApart, IsPowered, IsSafeMove, begin_at, run_start, IsOnceEach, completed, move_enabled, moved, histories_after, until_reset}
 use Rattle.env_script.proofs.Commuting.{kept}
 use Rattle.reset_runs.specs.Power.{with_low}
 use Rattle.reset_runs.proofs.Driving.{same_state, driven, differs, strays, undriven_past, undriven_still, rule_high, both_high}
@@ -191,11 +191,11 @@ module _ (net : NetValue) (is : IsNet net) (script : List OfferValue) where
           let e : k ≡ length net.first = omega (arith, h.count) in
           ap (high st.values) e ∙ h.up ∙ sym (get_or_push net.first true false k (sym e))
 
-  pub at_start : (st : RunState) → IsHigh net st → rules_rest (reset_of net) (high st.values) ≡ true → st ≡ start_of (reset_of net)
+  pub at_start : (st : RunState) → IsHigh net st → rules_rest (reset_of net) (high st.values) ≡ true → st ≡ run_start (reset_of net)
   at_start st h rest = same_state st.values _ st.histories _ (all_first st h rest) h.nothing
 
   pub fallen : (st : RunState) → IsHigh net st → rules_rest (reset_of net) (high st.values) ≡ true →
-      moved (reset_of net) st (length net.first) ≡ with_low (start_of net)
+      moved (reset_of net) st (length net.first) ≡ with_low (run_start net)
   fallen st h rest =
       same_state (fired st.values (length net.first)) _ (histories_after (reset_of net) st (length net.first)) _
       (ap (λ b. set st.values (length net.first) (not b)) h.up ∙ ap (λ vs. set vs (length net.first) false) (all_first st h rest)

@@ -7,8 +7,8 @@ use Rattle.prs_core.specs.Moves.{high}
 use Rattle.reset_net.specs.Resets.{reset_of}
 use Rattle.env_script.specs.Scripts.{OfferValue}
 use Rattle.env_script.specs.Environment.{rules_rest}
-use Rattle.env_script.specs.Runs.{RunState, IsRun, IsSafeRun, IsAtRest, after, begin_at, start_of, moved, until_reset, moves_since_reset}
-use Rattle.reset_runs.specs.Power.{with_low, IsBefore, IsBehind, EachFromPower}
+use Rattle.env_script.specs.Runs.{RunState, IsRun, IsSafeRun, IsAtRest, after, begin_at, run_start, moved, until_reset, moves_since_reset}
+use Rattle.reset_runs.specs.Power.{with_low, IsBefore, AfterReset, EachFromPower}
 use Rattle.reset_runs.proofs.Driving.{strays}
 use Rattle.reset_runs.proofs.High.{IsHigh, high_at_first, goes_high, apart_high, stray_next, stray_safe, stray_not_fall, may_fall, fall_safe, at_start, fallen, once_each}
 use Rattle.reset_runs.proofs.Fallen.{count_after, run_low, after_low, safe_low, rest_low}
@@ -16,16 +16,16 @@ use Rattle.reset_runs.proofs.Fallen.{count_after, run_low, after_low, safe_low, 
 module _ (net : NetValue) (is : IsNet net) (plain : net.reset ≡ None) (script : List OfferValue) where
   -- reset falls first
   falls : (ns : List ℕ) (st : RunState) → IsHigh net st → rules_rest (reset_of net) (high st.values) ≡ true →
-      IsRun (reset_of net) script st (length net.first ∷ ns) → IsBehind net script st (length net.first ∷ ns)
+      IsRun (reset_of net) script st (length net.first ∷ ns) → AfterReset net script st (length net.first ∷ ns)
   falls ns st h rest run =
       let here : (length net.first == length net.first) ≡ true = eq-eqb (length net.first) (length net.first) refl in
       let none : until_reset (reset_of net).reset (length net.first ∷ ns) ≡ [] =
           cond-true (length net.first == length net.first) [] (length net.first ∷ until_reset (reset_of net).reset ns) here in
-      let down : moved (reset_of net) st (length net.first) ≡ with_low (start_of net) = fallen net is script st h rest in
-      let since : IsRun net script (start_of net) ns =
-          run_low net is plain script ns (start_of net) refl (subst (λ (s : RunState). IsRun (reset_of net) script s ns) down run.1) in
-      let ends : after (reset_of net) (moved (reset_of net) st (length net.first)) ns ≡ with_low (after net (start_of net) ns) =
-          ap (λ (s : RunState). after (reset_of net) s ns) down ∙ after_low net is plain script ns (start_of net) refl since in
+      let down : moved (reset_of net) st (length net.first) ≡ with_low (run_start net) = fallen net is script st h rest in
+      let since : IsRun net script (run_start net) ns =
+          run_low net is plain script ns (run_start net) refl (subst (λ (s : RunState). IsRun (reset_of net) script s ns) down run.1) in
+      let ends : after (reset_of net) (moved (reset_of net) st (length net.first)) ns ≡ with_low (after net (run_start net) ns) =
+          ap (λ (s : RunState). after (reset_of net) s ns) down ∙ after_low net is plain script ns (run_start net) refl since in
       record {
         since = ns;
         whole = ap (λ (xs : List ℕ). xs ++ length net.first ∷ ns) (sym none);
@@ -34,15 +34,15 @@ module _ (net : NetValue) (is : IsNet net) (plain : net.reset ≡ None) (script 
         counted = cond-true (length net.first == length net.first) (length ns) (moves_since_reset (reset_of net).reset ns) here;
         ends = ends;
         safe = λ safe. (apart_high net is script st h, fall_safe net is script st h rest,
-            subst (λ (s : RunState). IsSafeRun (reset_of net) script s ns) (sym down) (safe_low net is plain script ns (start_of net) refl since safe));
-        rests = λ rests. rest_low net is plain script (after net (start_of net) ns) (count_after net ns (start_of net))
+            subst (λ (s : RunState). IsSafeRun (reset_of net) script s ns) (sym down) (safe_low net is plain script ns (run_start net) refl since safe));
+        rests = λ rests. rest_low net is plain script (after net (run_start net) ns) (count_after net ns (run_start net))
             (subst (λ (s : RunState). IsAtRest (reset_of net) script s) ends rests);
       }
 
   -- another node moves first
   one_more : (n : ℕ) (ns : List ℕ) (st : RunState) → IsHigh net st → (n == length net.first) ≡ false → strays net (high st.values) n ≡ true →
-      IsBefore net script (moved (reset_of net) st n) ns ⊎ IsBehind net script (moved (reset_of net) st n) ns →
-      IsBefore net script st (n ∷ ns) ⊎ IsBehind net script st (n ∷ ns)
+      IsBefore net script (moved (reset_of net) st n) ns ⊎ AfterReset net script (moved (reset_of net) st n) ns →
+      IsBefore net script st (n ∷ ns) ⊎ AfterReset net script st (n ∷ ns)
   one_more n ns st h other on (inl b) = inl (record {
     whole = cond-false (n == length net.first) [] (n ∷ until_reset (reset_of net).reset ns) other ∙ ap (λ (xs : List ℕ). n ∷ xs) b.whole;
     safe = (apart_high net is script st h, stray_safe net is script st h n on, b.safe);
@@ -64,17 +64,17 @@ module _ (net : NetValue) (is : IsNet net) (plain : net.reset ≡ None) (script 
         rests = b.rests;
       })
 
-  course : (ns : List ℕ) (st : RunState) → IsHigh net st → IsRun (reset_of net) script st ns → IsBefore net script st ns ⊎ IsBehind net script st ns
+  course : (ns : List ℕ) (st : RunState) → IsHigh net st → IsRun (reset_of net) script st ns → IsBefore net script st ns ⊎ AfterReset net script st ns
   course [] st h run = inl (record { whole = refl; safe = apart_high net is script st h; nothing = h.nothing; counted = refl; goes =
       goes_high net is script st h })
   course (n ∷ ns) st h run = by_test (n == length net.first) refl (λ on. course ns (moved (reset_of net) st n) (stray_next net is script st h n on) run.1)
     where
       by_test : (b : Bool) → (n == length net.first) ≡ b →
-          (strays net (high st.values) n ≡ true → IsBefore net script (moved (reset_of net) st n) ns ⊎ IsBehind net script (moved (reset_of net) st n) ns) →
-          IsBefore net script st (n ∷ ns) ⊎ IsBehind net script st (n ∷ ns)
+          (strays net (high st.values) n ≡ true → IsBefore net script (moved (reset_of net) st n) ns ⊎ AfterReset net script (moved (reset_of net) st n) ns) →
+          IsBefore net script st (n ∷ ns) ⊎ AfterReset net script st (n ∷ ns)
       by_test true e later =
           let same : n ≡ length net.first = eqb-true n (length net.first) e in
-          inr (subst (λ (m : ℕ). IsBehind net script st (m ∷ ns)) (sym same)
+          inr (subst (λ (m : ℕ). AfterReset net script st (m ∷ ns)) (sym same)
           (falls ns st h (may_fall net is script st h n e run.0) (subst (λ (m : ℕ). IsRun (reset_of net) script st (m ∷ ns)) same run)))
       by_test false e later = let on = stray_not_fall net is script st h n e run.0 in one_more n ns st h e on (later on)
 

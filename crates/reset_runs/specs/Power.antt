@@ -3,7 +3,7 @@ use Rattle.std.specs.Prelude.{◌≡◌, ◌⊎◌, ℕ, Bool, false, List, [], 
 use Rattle.prs_core.specs.Nets.{NetValue}
 use Rattle.reset_net.specs.Resets.{reset_of}
 use Rattle.env_script.specs.Scripts.{OfferValue}
-use Rattle.env_script.specs.Runs.{RunState, IsRun, IsSafeRun, IsAtRest, IsPowered, IsOnceEach, after, begin_at, start_of, until_reset, moves_since_reset}
+use Rattle.env_script.specs.Runs.{RunState, IsRun, IsSafeRun, IsAtRest, IsPowered, IsOnceEach, after, begin_at, run_start, until_reset, moves_since_reset}
 
 -- a state of the net without its reset node, as one of the net with it: reset has fallen
 abbrev pub with_low : RunState → RunState
@@ -19,21 +19,21 @@ pub record IsBefore (net : NetValue) (script : List OfferValue) (st : RunState) 
 
 -- A run in which it has: it fell when all nodes had their first values, and the moves since then are a run of the net
 -- without it, with the same values and histories; where that one is safe, this one is.
-pub record IsBehind (net : NetValue) (script : List OfferValue) (st : RunState) (moves : List ℕ) : Type 0 where
+pub record AfterReset (net : NetValue) (script : List OfferValue) (st : RunState) (moves : List ℕ) : Type 0 where
   pub since : List ℕ
   pub whole : moves ≡ until_reset (reset_of net).reset moves ++ length net.first ∷ since
-  pub at_first : after (reset_of net) st (until_reset (reset_of net).reset moves) ≡ start_of (reset_of net)
-  pub run : IsRun net script (start_of net) since
+  pub at_first : after (reset_of net) st (until_reset (reset_of net).reset moves) ≡ run_start (reset_of net)
+  pub run : IsRun net script (run_start net) since
   pub counted : moves_since_reset (reset_of net).reset moves ≡ length since
-  pub ends : after (reset_of net) st moves ≡ with_low (after net (start_of net) since)
-  pub safe : IsSafeRun net script (start_of net) since → IsSafeRun (reset_of net) script st moves
+  pub ends : after (reset_of net) st moves ≡ with_low (after net (run_start net) since)
+  pub safe : IsSafeRun net script (run_start net) since → IsSafeRun (reset_of net) script st moves
   pub rests : IsAtRest (reset_of net) script (after (reset_of net) st moves) →
-      IsAtRest net script (after net (start_of net) since)
+      IsAtRest net script (after net (run_start net) since)
 
 -- and before reset falls no node moves twice
 pub record IsResetRun (net : NetValue) (script : List OfferValue) (st : RunState) (moves : List ℕ) : Type 0 where
   pub once : IsOnceEach (until_reset (reset_of net).reset moves)
-  pub course : IsBefore net script st moves ⊎ IsBehind net script st moves
+  pub course : IsBefore net script st moves ⊎ AfterReset net script st moves
 
 -- each run of the net with a reset node, from every power-up state and under every script
 abbrev pub EachFromPower : NetValue → Type 0

@@ -10,7 +10,7 @@ use Rattle.width_check.specs.declared.typed.TLink.{TLink}
 use Rattle.std.proofs.lemmas.Nat.{and_le_l, or_lt, xor_lt, mul-add-lt, pow-add}
 use Rattle.chp_syntax.specs.declared.tree.Op.{Op}
 use Rattle.chp_syntax.specs.declared.tree.Op.TheVariants.{And, Or, Xor, Add, Sub, Eq, Ne, Lt, Le, Gt, Ge}
-use Rattle.width_check.specs.Processes.{Formula, constant, reading, joined, inverted, chained, compared, Formulas, no_parts, and_part, Operations, no_operations, and_operation, part_count}
+use Rattle.width_check.specs.Processes.{Formula, constant, reading, joined, inverted, chained, compared, Formulas, no_parts, and_part, Operations, no_operations, and_operation, formula_count}
 use Rattle.width_check.specs.Values.{width_of, widths_of, value, joined_value, chained_value, operated, one_if, is_comparison, IsWellFormed, AreWellFormed, AreOperations}
 
 pub some_power : (k : ℕ) → 0 < 2 ^ k
@@ -81,7 +81,7 @@ mutual
   width_some (chained e more) formed = width_some e formed.0
   width_some (compared op e f) formed = omega arith
 
-  pub widths_some : (parts : Formulas) → 1 ≤ part_count parts → AreWellFormed parts → 1 ≤ widths_of parts
+  pub widths_some : (parts : Formulas) → 1 ≤ formula_count parts → AreWellFormed parts → 1 ≤ widths_of parts
   widths_some no_parts some formed = absurd (omega arith)
   widths_some (and_part e more) some formed = let here = width_some e formed.0 in omega arith
 

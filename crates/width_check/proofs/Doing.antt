@@ -21,7 +21,7 @@ use Rattle.width_check.specs.Processes as typed
 use Rattle.width_check.specs.Processes.{Formula, Process, Processes, Choices, in_turn, side_by_side, choosing}
 use Rattle.width_check.specs.Sound.{IsSound, is_var_in}
 use Rattle.width_check.specs.View.{formula_of, process_of}
-use Rattle.width_check.specs.Walk.{Met, met_both, met_use, met_in, met_of, met_of_each, met_of_arms, members_of, arms_of}
+use Rattle.width_check.specs.Walk.{Met, met_both, met_use, met_in, met_of, met_of_each, met_of_arms, statements_in, arms_in}
 use Rattle.width_check.proofs.Lists.{then_is, beside_is, select_is, members_more, members_end, arms_more, arms_end}
 use Rattle.width_check.proofs.Makings.{before_members, before_arms, members_all, arms_all, one_member, one_arm}
 use Rattle.width_check.proofs.Soundness.{sound_left, sound_right}
@@ -59,16 +59,16 @@ pub record AreMembersLeft (ds : List Decl) (members : Statements) : Type 0 where
   pub sound : IsSound ds (met_of_each ds members)
 
 pub then_left : (ds : List Decl) (s : Stmt) (v : Vec Stmt Global) (ss : List Stmt) → s ≡ Then v → ss ≡ v.items → IsShapedStatement (statement_of s) →
-    has_call (statement_of s) ≡ false → IsSound ds (met_of ds (statement_of s)) → AreMembersLeft ds (members_of ss)
+    has_call (statement_of s) ≡ false → IsSound ds (met_of ds (statement_of s)) → AreMembersLeft ds (statements_in ss)
 then_left ds s v ss is same shaped free sound =
-    let tree : statement_of s ≡ follows (members_of ss) = then_is s v is ∙ ap (λ (xs : List Stmt). follows (members_of xs)) (sym same) in
+    let tree : statement_of s ≡ follows (statements_in ss) = then_is s v is ∙ ap (λ (xs : List Stmt). follows (statements_in xs)) (sym same) in
     let shape = subst (λ (x : Statement). IsShapedStatement x) tree shaped in
     record { shaped = shape.1; free = sym (ap has_call tree) ∙ free; sound = subst (λ (x : Statement). IsSound ds (met_of ds x)) tree sound }
 
 pub beside_left : (ds : List Decl) (s : Stmt) (v : Vec Stmt Global) (ss : List Stmt) → s ≡ Beside v → ss ≡ v.items → IsShapedStatement (statement_of s) →
-    has_call (statement_of s) ≡ false → IsSound ds (met_of ds (statement_of s)) → AreMembersLeft ds (members_of ss)
+    has_call (statement_of s) ≡ false → IsSound ds (met_of ds (statement_of s)) → AreMembersLeft ds (statements_in ss)
 beside_left ds s v ss is same shaped free sound =
-    let tree : statement_of s ≡ besides (members_of ss) = beside_is s v is ∙ ap (λ (xs : List Stmt). besides (members_of xs)) (sym same) in
+    let tree : statement_of s ≡ besides (statements_in ss) = beside_is s v is ∙ ap (λ (xs : List Stmt). besides (statements_in xs)) (sym same) in
     let shape = subst (λ (x : Statement). IsShapedStatement x) tree shaped in
     record { shaped = shape.1; free = sym (ap has_call tree) ∙ free; sound = subst (λ (x : Statement). IsSound ds (met_of ds x)) tree sound }
 
@@ -77,51 +77,51 @@ pub record IsStatementReady (ds : List Decl) (s : Statement) : Type 0 where
   pub free : has_call s ≡ false
   pub sound : IsSound ds (met_of ds s)
 
-members_here : (ds : List Decl) (ss : List Stmt) (i : ℕ) (s : Stmt) → i < length ss → s ≡ get_or ss i s → AreMembersLeft ds (members_of (drop i ss)) →
-    AreMembersLeft ds (and_member (statement_of s) (members_of (drop (i + 1) ss)))
+members_here : (ds : List Decl) (ss : List Stmt) (i : ℕ) (s : Stmt) → i < length ss → s ≡ get_or ss i s → AreMembersLeft ds (statements_in (drop i ss)) →
+    AreMembersLeft ds (and_member (statement_of s) (statements_in (drop (i + 1) ss)))
 members_here ds ss i s within is left = subst (λ (us : Statements). AreMembersLeft ds us) (members_more ss i s within is) left
 
-pub member_ready : (ds : List Decl) (ss : List Stmt) (i : ℕ) (s : Stmt) → i < length ss → s ≡ get_or ss i s → AreMembersLeft ds (members_of (drop i ss)) →
+pub member_ready : (ds : List Decl) (ss : List Stmt) (i : ℕ) (s : Stmt) → i < length ss → s ≡ get_or ss i s → AreMembersLeft ds (statements_in (drop i ss)) →
     IsStatementReady ds (statement_of s)
 member_ready ds ss i s within is left =
     let here = members_here ds ss i s within is left in
-    let rest = members_of (drop (i + 1) ss) in
+    let rest = statements_in (drop (i + 1) ss) in
     let pieces = subst (λ (m : Met). IsSound ds m) (sym (each_pieces ds (statement_of s) rest)) here.sound in
     record { shaped = here.shaped.0; free = (either_false (has_call (statement_of s)) (some_has_call rest) here.free).0; sound =
         sound_left ds (met_of ds (statement_of s)) (met_of_each ds rest) pieces }
 
-pub members_next : (ds : List Decl) (ss : List Stmt) (i : ℕ) (s : Stmt) → i < length ss → s ≡ get_or ss i s → AreMembersLeft ds (members_of (drop i ss)) →
-    AreMembersLeft ds (members_of (drop (i + 1) ss))
+pub members_next : (ds : List Decl) (ss : List Stmt) (i : ℕ) (s : Stmt) → i < length ss → s ≡ get_or ss i s → AreMembersLeft ds (statements_in (drop i ss)) →
+    AreMembersLeft ds (statements_in (drop (i + 1) ss))
 members_next ds ss i s within is left =
     let here = members_here ds ss i s within is left in
-    let rest = members_of (drop (i + 1) ss) in
+    let rest = statements_in (drop (i + 1) ss) in
     let pieces = subst (λ (m : Met). IsSound ds m) (sym (each_pieces ds (statement_of s) rest)) here.sound in
     record { shaped = here.shaped.1; free = (either_false (has_call (statement_of s)) (some_has_call rest) here.free).1; sound =
         sound_right ds (met_of ds (statement_of s)) (met_of_each ds rest) pieces }
 
 pub member_made : (ds : List Decl) (ss : List Stmt) (i : ℕ) (s : Stmt) (made new : List TStmt) (t : TStmt) (total : Processes) → i < length ss →
     s ≡ get_or ss i s → process_of t ≡ process_form ds (statement_of s) → new ≡ made ++ t ∷ [] →
-    before_members made (processes_form ds (members_of (drop i ss))) ≡ total → before_members new (processes_form ds (members_of (drop (i + 1) ss))) ≡ total
+    before_members made (processes_form ds (statements_in (drop i ss))) ≡ total → before_members new (processes_form ds (statements_in (drop (i + 1) ss))) ≡ total
 member_made ds ss i s made new t total within is is_made pushed so_far =
-    let rest = processes_form ds (members_of (drop (i + 1) ss)) in
+    let rest = processes_form ds (statements_in (drop (i + 1) ss)) in
     let begun = ap (λ (us : Statements). before_members made (processes_form ds us)) (sym (members_more ss i s within is)) ∙ so_far in
     ap (λ (ts : List TStmt). before_members ts rest) pushed ∙ one_member made t rest
         ∙ ap (λ (p : Process). before_members made (typed.and_member p rest)) is_made ∙ begun
 
 pub then_made : (ds : List Decl) (s : Stmt) (v : Vec Stmt Global) (ss : List Stmt) (i : ℕ) (t : Vec TStmt Global) → s ≡ Then v → ss ≡ v.items → length ss ≤ i →
-    before_members t.items (processes_form ds (members_of (drop i ss))) ≡ processes_form ds (members_of ss) →
+    before_members t.items (processes_form ds (statements_in (drop i ss))) ≡ processes_form ds (statements_in ss) →
     process_of (made.Then t) ≡ process_form ds (statement_of s)
 then_made ds s v ss i t is same over so_far =
     let done = ap (λ (us : Statements). before_members t.items (processes_form ds us)) (sym (members_end ss i over)) ∙ so_far in
-    let tree : statement_of s ≡ follows (members_of ss) = then_is s v is ∙ ap (λ (xs : List Stmt). follows (members_of xs)) (sym same) in
+    let tree : statement_of s ≡ follows (statements_in ss) = then_is s v is ∙ ap (λ (xs : List Stmt). follows (statements_in xs)) (sym same) in
     rows.then_is (made.Then t) t refl ∙ ap in_turn (sym (members_all t.items) ∙ done) ∙ ap (process_form ds) (sym tree)
 
 pub beside_made : (ds : List Decl) (s : Stmt) (v : Vec Stmt Global) (ss : List Stmt) (i : ℕ) (t : Vec TStmt Global) → s ≡ Beside v → ss ≡ v.items →
-    length ss ≤ i → before_members t.items (processes_form ds (members_of (drop i ss))) ≡ processes_form ds (members_of ss) →
+    length ss ≤ i → before_members t.items (processes_form ds (statements_in (drop i ss))) ≡ processes_form ds (statements_in ss) →
     process_of (made.Beside t) ≡ process_form ds (statement_of s)
 beside_made ds s v ss i t is same over so_far =
     let done = ap (λ (us : Statements). before_members t.items (processes_form ds us)) (sym (members_end ss i over)) ∙ so_far in
-    let tree : statement_of s ≡ besides (members_of ss) = beside_is s v is ∙ ap (λ (xs : List Stmt). besides (members_of xs)) (sym same) in
+    let tree : statement_of s ≡ besides (statements_in ss) = beside_is s v is ∙ ap (λ (xs : List Stmt). besides (statements_in xs)) (sym same) in
     rows.beside_is (made.Beside t) t refl ∙ ap side_by_side (sym (members_all t.items) ∙ done) ∙ ap (process_form ds) (sym tree)
 
 -- arms
@@ -132,9 +132,9 @@ pub record AreArmsLeft (ds : List Decl) (arms : Arms) : Type 0 where
   pub sound : IsSound ds (met_of_arms ds arms)
 
 pub select_left : (ds : List Decl) (s : Stmt) (again : Bool) (v : Vec Arm Global) (xs : List Arm) → s ≡ Select again v → xs ≡ v.items →
-    IsShapedStatement (statement_of s) → has_call (statement_of s) ≡ false → IsSound ds (met_of ds (statement_of s)) → AreArmsLeft ds (arms_of xs)
+    IsShapedStatement (statement_of s) → has_call (statement_of s) ≡ false → IsSound ds (met_of ds (statement_of s)) → AreArmsLeft ds (arms_in xs)
 select_left ds s again v xs is same shaped free sound =
-    let tree : statement_of s ≡ selects again (arms_of xs) = select_is s again v is ∙ ap (λ (ys : List Arm). selects again (arms_of ys)) (sym same) in
+    let tree : statement_of s ≡ selects again (arms_in xs) = select_is s again v is ∙ ap (λ (ys : List Arm). selects again (arms_in ys)) (sym same) in
     let shape = subst (λ (x : Statement). IsShapedStatement x) tree shaped in
     record { shaped = shape.2; free = sym (ap has_call tree) ∙ free; sound = subst (λ (x : Statement). IsSound ds (met_of ds x)) tree sound }
 
@@ -143,14 +143,14 @@ pub record IsArmReady (ds : List Decl) (a : Arm) : Type 0 where
   pub guard_sound : IsSound ds (met_in ds 1 (expression_of a.guard))
   pub body : IsStatementReady ds (statement_of a.body)
 
-arms_here : (ds : List Decl) (xs : List Arm) (i : ℕ) (a : Arm) → i < length xs → a ≡ get_or xs i a → AreArmsLeft ds (arms_of (drop i xs)) →
-    AreArmsLeft ds (and_arm (expression_of a.guard) (statement_of a.body) (arms_of (drop (i + 1) xs)))
+arms_here : (ds : List Decl) (xs : List Arm) (i : ℕ) (a : Arm) → i < length xs → a ≡ get_or xs i a → AreArmsLeft ds (arms_in (drop i xs)) →
+    AreArmsLeft ds (and_arm (expression_of a.guard) (statement_of a.body) (arms_in (drop (i + 1) xs)))
 arms_here ds xs i a within is left = subst (λ (us : Arms). AreArmsLeft ds us) (arms_more xs i a within is) left
 
-pub arm_ready : (ds : List Decl) (xs : List Arm) (i : ℕ) (a : Arm) → i < length xs → a ≡ get_or xs i a → AreArmsLeft ds (arms_of (drop i xs)) → IsArmReady ds a
+pub arm_ready : (ds : List Decl) (xs : List Arm) (i : ℕ) (a : Arm) → i < length xs → a ≡ get_or xs i a → AreArmsLeft ds (arms_in (drop i xs)) → IsArmReady ds a
 arm_ready ds xs i a within is left =
     let here = arms_here ds xs i a within is left in
-    let rest = arms_of (drop (i + 1) xs) in
+    let rest = arms_in (drop (i + 1) xs) in
     let g = expression_of a.guard in
     let s = statement_of a.body in
     let pieces = subst (λ (m : Met). IsSound ds m) (sym (arm_pieces ds g s rest)) here.sound in
@@ -162,11 +162,11 @@ arm_ready ds xs i a within is left =
           sound_left ds (met_of ds s) (met_of_arms ds rest) others };
     }
 
-pub arms_next : (ds : List Decl) (xs : List Arm) (i : ℕ) (a : Arm) → i < length xs → a ≡ get_or xs i a → AreArmsLeft ds (arms_of (drop i xs)) →
-    AreArmsLeft ds (arms_of (drop (i + 1) xs))
+pub arms_next : (ds : List Decl) (xs : List Arm) (i : ℕ) (a : Arm) → i < length xs → a ≡ get_or xs i a → AreArmsLeft ds (arms_in (drop i xs)) →
+    AreArmsLeft ds (arms_in (drop (i + 1) xs))
 arms_next ds xs i a within is left =
     let here = arms_here ds xs i a within is left in
-    let rest = arms_of (drop (i + 1) xs) in
+    let rest = arms_in (drop (i + 1) xs) in
     let g = expression_of a.guard in
     let s = statement_of a.body in
     let pieces = subst (λ (m : Met). IsSound ds m) (sym (arm_pieces ds g s rest)) here.sound in
@@ -177,18 +177,18 @@ arms_next ds xs i a within is left =
 pub arm_made : (ds : List Decl) (xs : List Arm) (i : ℕ) (a : Arm) (made new : List TArm) (f : TExpr) (t : TStmt) (total : Choices) → i < length xs →
     a ≡ get_or xs i a → formula_of f ≡ formula_form ds 1 (expression_of a.guard) → process_of t ≡ process_form ds (statement_of a.body) →
     new ≡ made ++ (record { guard = f; body = t }) ∷ []
-    → before_arms made (choices_form ds (arms_of (drop i xs))) ≡ total → before_arms new (choices_form ds (arms_of (drop (i + 1) xs))) ≡ total
+    → before_arms made (choices_form ds (arms_in (drop i xs))) ≡ total → before_arms new (choices_form ds (arms_in (drop (i + 1) xs))) ≡ total
 arm_made ds xs i a made new f t total within is is_guard is_body pushed so_far =
-    let rest = choices_form ds (arms_of (drop (i + 1) xs)) in
+    let rest = choices_form ds (arms_in (drop (i + 1) xs)) in
     let begun = ap (λ (us : Arms). before_arms made (choices_form ds us)) (sym (arms_more xs i a within is)) ∙ so_far in
     ap (λ (ts : List TArm). before_arms ts rest) pushed ∙ one_arm made (record { guard = f; body = t }) rest
     ∙ ap (λ (g : Formula). before_arms made (typed.and_choice g (process_of t) rest)) is_guard
         ∙ ap (λ (p : Process). before_arms made (typed.and_choice (formula_form ds 1 (expression_of a.guard)) p rest)) is_body ∙ begun
 
 pub select_made : (ds : List Decl) (s : Stmt) (again : Bool) (v : Vec Arm Global) (xs : List Arm) (i : ℕ) (t : Vec TArm Global) → s ≡ Select again v →
-    xs ≡ v.items → length xs ≤ i → before_arms t.items (choices_form ds (arms_of (drop i xs))) ≡ choices_form ds (arms_of xs) →
+    xs ≡ v.items → length xs ≤ i → before_arms t.items (choices_form ds (arms_in (drop i xs))) ≡ choices_form ds (arms_in xs) →
     process_of (made.Select again t) ≡ process_form ds (statement_of s)
 select_made ds s again v xs i t is same over so_far =
     let done = ap (λ (us : Arms). before_arms t.items (choices_form ds us)) (sym (arms_end xs i over)) ∙ so_far in
-    let tree : statement_of s ≡ selects again (arms_of xs) = select_is s again v is ∙ ap (λ (ys : List Arm). selects again (arms_of ys)) (sym same) in
+    let tree : statement_of s ≡ selects again (arms_in xs) = select_is s again v is ∙ ap (λ (ys : List Arm). selects again (arms_in ys)) (sym same) in
     rows.select_is (made.Select again t) again t refl ∙ ap (choosing again) (sym (arms_all t.items) ∙ done) ∙ ap (process_form ds) (sym tree)

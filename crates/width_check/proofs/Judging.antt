@@ -14,7 +14,7 @@ use Rattle.width_check.specs.Places.{declared_width, compares, or_width, own_wid
 use Rattle.width_check.specs.Faults.{all_expressions, all_leaves, IsWideJoin, IsMisfit, IsMisfitLeaf, IsMisfitReceive, IsWideNumber, IsWideFirst, FaultAt, naming_faults, HasNone, IsFirstFault}
 use Rattle.width_check.specs.Refusing.{AreNone, IsFirstCause}
 use Rattle.width_check.specs.Sound.{AreRanged}
-use Rattle.width_check.specs.Walk.{is_earlier, earlier, earlier_of, first_of, first_double, met_of, capped, side_width, is_bad_part, is_unfit, is_misfit, exceeds, is_wide_number, is_out_of_range, is_wide_first, no_findings, noted}
+use Rattle.width_check.specs.Walk.{is_earlier, earlier, earlier_of, first_of, first_double, met_of, capped_width, side_width, is_bad_part, is_unfit, is_misfit, exceeds, is_wide_number, is_out_of_range, is_wide_first, no_findings, noted}
 use Rattle.width_check.proofs.Least.{IsLeast, Passes, least_same, least_more, least_in, no_later_chain, in_rest, front_or_rest, no_item}
 use Rattle.width_check.proofs.Reasons.{none_pass, undeclared_least, wrong_kind_least, direction_least, slice_least, widthless_least, target_least, range_least, in_flat_map, flat_map_in}
 use Rattle.width_check.proofs.Doubles.{double_least}
@@ -242,7 +242,7 @@ all_narrow p ranged fit l c =
 
 -- a number that is too great
 
-capped_narrow : (w : ℕ) → w ≤ 64 → capped w ≡ w
+capped_narrow : (w : ℕ) → w ≤ 64 → capped_width w ≡ w
 capped_narrow w most = grind arith
 
 abbrev WideOf : Expression → ℕ → Type 0

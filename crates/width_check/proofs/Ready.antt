@@ -21,7 +21,7 @@ use Rattle.width_check.specs.Processes.{Formula, Formulas, joined, Operations, c
 use Rattle.width_check.specs.Form.{formula_form, parts_form, operations_form}
 use Rattle.width_check.specs.Sound.{AreRanged, IsSound}
 use Rattle.width_check.specs.View.{formula_of}
-use Rattle.width_check.specs.Walk.{capped, side_width, lacking_parts, met_in, met_in_parts, met_in_links, parts_of, links_of}
+use Rattle.width_check.specs.Walk.{capped_width, side_width, lacking_parts, met_in, met_in_parts, met_in_links, join_parts, links_of}
 use Rattle.width_check.proofs.Lists.{join_is, chain_is, parts_more, parts_end, links_more, links_end}
 use Rattle.width_check.proofs.Makings.{before_parts, before_links, parts_all, links_all, one_part, one_link}
 use Rattle.width_check.proofs.Rows as rows
@@ -42,63 +42,63 @@ pub record ArePartsLeft (ds : List Decl) (parts : Expressions) : Type 0 where
   pub sound : IsSound ds (met_in_parts ds parts)
 
 pub join_left : (ds : List Decl) (w : ℕ) (e : Expr) (v : Vec Expr Global) (at : Span) (es : List Expr) → e ≡ Join v at → es ≡ v.items →
-    IsShapedExpression (expression_of e) → IsSound ds (met_in ds w (expression_of e)) → ArePartsLeft ds (parts_of es)
+    IsShapedExpression (expression_of e) → IsSound ds (met_in ds w (expression_of e)) → ArePartsLeft ds (join_parts es)
 join_left ds w e v at es is same shaped sound =
-    let tree : expression_of e ≡ join (parts_of es) at = join_is e v at is ∙ ap (λ (xs : List Expr). join (parts_of xs) at) (sym same) in
+    let tree : expression_of e ≡ join (join_parts es) at = join_is e v at is ∙ ap (λ (xs : List Expr). join (join_parts xs) at) (sym same) in
     let shape = subst (λ (x : Expression). IsShapedExpression x) tree shaped in
     let s = subst (λ (x : Expression). IsSound ds (met_in ds w x)) tree sound in
-    record { shaped = shape.1; full = λ t. s.widths (join (parts_of es) at) t (0, omega arith, refl); sound = sound_join ds w (parts_of es) at s }
+    record { shaped = shape.1; full = λ t. s.widths (join (join_parts es) at) t (0, omega arith, refl); sound = sound_join ds w (join_parts es) at s }
 
-parts_here : (ds : List Decl) (es : List Expr) (i : ℕ) (e : Expr) → i < length es → e ≡ get_or es i e → ArePartsLeft ds (parts_of (drop i es)) →
-    ArePartsLeft ds (and_part (expression_of e) (parts_of (drop (i + 1) es)))
+parts_here : (ds : List Decl) (es : List Expr) (i : ℕ) (e : Expr) → i < length es → e ≡ get_or es i e → ArePartsLeft ds (join_parts (drop i es)) →
+    ArePartsLeft ds (and_part (expression_of e) (join_parts (drop (i + 1) es)))
 parts_here ds es i e within is left = subst (λ (ps : Expressions). ArePartsLeft ds ps) (parts_more es i e within is) left
 
-pub parts_next : (ds : List Decl) (es : List Expr) (i : ℕ) (e : Expr) → i < length es → e ≡ get_or es i e → ArePartsLeft ds (parts_of (drop i es)) →
-    ArePartsLeft ds (parts_of (drop (i + 1) es))
+pub parts_next : (ds : List Decl) (es : List Expr) (i : ℕ) (e : Expr) → i < length es → e ≡ get_or es i e → ArePartsLeft ds (join_parts (drop i es)) →
+    ArePartsLeft ds (join_parts (drop (i + 1) es))
 parts_next ds es i e within is left =
     let here = parts_here ds es i e within is left in
-    record { shaped = here.shaped.1; full = parts_full ds (expression_of e) (parts_of (drop (i + 1) es)) here.full; sound =
-        sound_parts ds (expression_of e) (parts_of (drop (i + 1) es)) here.sound }
+    record { shaped = here.shaped.1; full = parts_full ds (expression_of e) (join_parts (drop (i + 1) es)) here.full; sound =
+        sound_parts ds (expression_of e) (join_parts (drop (i + 1) es)) here.sound }
 
-own_of : (o own : Option ℕ) (v w : ℕ) → own ≡ Some v → v ≤ 64 → o ≡ option_map capped own → w ≡ unwrap_or o 0 → w ≡ v
-own_of o own v w is most found wanted = let same : w ≡ capped v = wanted ∙ ap (λ (p : Option ℕ). unwrap_or p 0) (found ∙ ap (option_map capped) is) in
+own_of : (o own : Option ℕ) (v w : ℕ) → own ≡ Some v → v ≤ 64 → o ≡ option_map capped_width own → w ≡ unwrap_or o 0 → w ≡ v
+own_of o own v w is most found wanted = let same : w ≡ capped_width v = wanted ∙ ap (λ (p : Option ℕ). unwrap_or p 0) (found ∙ ap (option_map capped_width) is) in
     grind arith
 
 pub part_ready : (ds : List Decl) → AreRanged ds → (es : List Expr) (i : ℕ) (e : Expr) (o : Option ℕ) (w : ℕ) → i < length es → e ≡ get_or es i e →
-    ArePartsLeft ds (parts_of (drop i es)) → o ≡ option_map capped (own_width ds (expression_of e)) → w ≡ unwrap_or o 0 → IsReady ds w (expression_of e)
+    ArePartsLeft ds (join_parts (drop i es)) → o ≡ option_map capped_width (own_width ds (expression_of e)) → w ≡ unwrap_or o 0 → IsReady ds w (expression_of e)
 part_ready ds ranged es i e o w within is left found wanted =
     let here = parts_here ds es i e within is left in
-    let own = part_width ds ranged (expression_of e) (parts_of (drop (i + 1) es)) here.shaped.0 here.full here.sound in
+    let own = part_width ds ranged (expression_of e) (join_parts (drop (i + 1) es)) here.shaped.0 here.full here.sound in
     let same : w ≡ own.0 = own_of o (own_width ds (expression_of e)) own.0 w own.1.own own.1.most found wanted in
     let zero : unwrap_or (own_width ds (expression_of e)) 0 ≡ w = ap (λ (p : Option ℕ). unwrap_or p 0) own.1.own ∙ sym same in
     record {
       some = omega (arith, own.1.some, same);
       most = omega (arith, own.1.most, same);
       shaped = here.shaped.0;
-      sound = subst (λ (u : ℕ). IsSound ds (met_in ds u (expression_of e))) zero (sound_part ds (expression_of e) (parts_of (drop (i + 1) es)) here.sound);
+      sound = subst (λ (u : ℕ). IsSound ds (met_in ds u (expression_of e))) zero (sound_part ds (expression_of e) (join_parts (drop (i + 1) es)) here.sound);
     }
 
 pub part_made : (ds : List Decl) → AreRanged ds →
     (es : List Expr) (i : ℕ) (e : Expr) (o : Option ℕ) (w : ℕ) (made new : List TExpr) (t : TExpr) (total : Formulas) → i < length es → e ≡ get_or es i e →
-    ArePartsLeft ds (parts_of (drop i es)) → o ≡ option_map capped (own_width ds (expression_of e)) → w ≡ unwrap_or o 0
-    → formula_of t ≡ formula_form ds w (expression_of e) → new ≡ made ++ t ∷ [] → before_parts made (parts_form ds (parts_of (drop i es))) ≡ total →
-        before_parts new (parts_form ds (parts_of (drop (i + 1) es))) ≡ total
+    ArePartsLeft ds (join_parts (drop i es)) → o ≡ option_map capped_width (own_width ds (expression_of e)) → w ≡ unwrap_or o 0
+    → formula_of t ≡ formula_form ds w (expression_of e) → new ≡ made ++ t ∷ [] → before_parts made (parts_form ds (join_parts (drop i es))) ≡ total →
+        before_parts new (parts_form ds (join_parts (drop (i + 1) es))) ≡ total
 part_made ds ranged es i e o w made new t total within is left found wanted is_made pushed so_far =
     let here = parts_here ds es i e within is left in
-    let own = part_width ds ranged (expression_of e) (parts_of (drop (i + 1) es)) here.shaped.0 here.full here.sound in
+    let own = part_width ds ranged (expression_of e) (join_parts (drop (i + 1) es)) here.shaped.0 here.full here.sound in
     let same : w ≡ own.0 = own_of o (own_width ds (expression_of e)) own.0 w own.1.own own.1.most found wanted in
     let zero : unwrap_or (own_width ds (expression_of e)) 0 ≡ w = ap (λ (p : Option ℕ). unwrap_or p 0) own.1.own ∙ sym same in
-    let rest = parts_form ds (parts_of (drop (i + 1) es)) in
+    let rest = parts_form ds (join_parts (drop (i + 1) es)) in
     let begun = ap (λ (ps : Expressions). before_parts made (parts_form ds ps)) (sym (parts_more es i e within is)) ∙ so_far in
     ap (λ (ts : List TExpr). before_parts ts rest) pushed ∙ one_part made t rest
         ∙ ap (λ (f : Formula). before_parts made (typed.and_part f rest)) (is_made ∙ ap (λ (u : ℕ). formula_form ds u (expression_of e)) (sym zero)) ∙ begun
 
 pub join_made : (ds : List Decl) (w : ℕ) (e : Expr) (v : Vec Expr Global) (at : Span) (es : List Expr) (i : ℕ) (t : Vec TExpr Global) → e ≡ Join v at →
-    es ≡ v.items → length es ≤ i → before_parts t.items (parts_form ds (parts_of (drop i es))) ≡ parts_form ds (parts_of es) →
+    es ≡ v.items → length es ≤ i → before_parts t.items (parts_form ds (join_parts (drop i es))) ≡ parts_form ds (join_parts es) →
     formula_of (made.Join t) ≡ formula_form ds w (expression_of e)
 join_made ds w e v at es i t is same over so_far =
     let done = ap (λ (ps : Expressions). before_parts t.items (parts_form ds ps)) (sym (parts_end es i over)) ∙ so_far in
-    let tree : expression_of e ≡ join (parts_of es) at = join_is e v at is ∙ ap (λ (xs : List Expr). join (parts_of xs) at) (sym same) in
+    let tree : expression_of e ≡ join (join_parts es) at = join_is e v at is ∙ ap (λ (xs : List Expr). join (join_parts xs) at) (sym same) in
     rows.join_is t ∙ ap joined (sym (parts_all t.items) ∙ done) ∙ ap (formula_form ds w) (sym tree)
 
 -- a chain
@@ -205,7 +205,7 @@ pub record IsCompared (ds : List Decl) (first : Box Expr Global) (ls : List Link
 pub comparison_ready : (ds : List Decl) → AreRanged ds →
     (w : ℕ) (e : Expr) (first : Box Expr Global) (v : Vec Link Global) (at : Span) (l : Link) (o : Option ℕ) (u : ℕ) → e ≡ Chain first v at →
     compares (links_of v.items) ≡ true → l ≡ get_or v.items 0 l → IsShapedExpression (expression_of e) → IsSound ds (met_in ds w (expression_of e))
-    → o ≡ option_map capped (side_width ds (expression_of first.value) (links_of v.items)) → u ≡ unwrap_or o 0 → IsCompared ds first v.items l u
+    → o ≡ option_map capped_width (side_width ds (expression_of first.value) (links_of v.items)) → u ≡ unwrap_or o 0 → IsCompared ds first v.items l u
 comparison_ready ds ranged w e first v at l o u is so here shaped sound found wanted =
     let tree = chain_is e first v at is in
     let shape = subst (λ (x : Expression). IsShapedExpression x) tree shaped in

@@ -10,7 +10,7 @@ use Rattle.chp_syntax.specs.declared.tree.Decl.{Decl}
 use Rattle.chp_syntax.specs.declared.tree.Op.{Op}
 use Rattle.chp_syntax.specs.Trees.{Expression, chain, Expressions, no_parts, and_part, Links, and_link}
 use Rattle.width_check.specs.Places.{declaration, compares, or_width, own_width, own_widths, first_width}
-use Rattle.width_check.specs.Walk.{capped, side_width}
+use Rattle.width_check.specs.Walk.{capped_width, side_width}
 
 abbrev pub names : List Decl → List (List ℕ)
 names ds = map (λ (d : Decl). d.name.name) ds
@@ -51,48 +51,48 @@ not_found (d ∷ ds) name none = not_here d ds name (bytes_eq d.name.name name) 
 
 -- widths of more than 64 bits count as 65
 
-pub capped_most : (r n : ℕ) → r ≡ capped n → r ≤ 65
+pub capped_most : (r n : ℕ) → r ≡ capped_width n → r ≤ 65
 capped_most r n is = grind arith
 
-pub wide_already : (n m whole : ℕ) → 64 < n → n ≤ 65 → capped (n + m) ≡ whole → whole ≡ n
+pub wide_already : (n m whole : ℕ) → 64 < n → n ≤ 65 → capped_width (n + m) ≡ whole → whole ≡ n
 wide_already n m whole wide most is = grind arith
 
 -- one part more
 pub part_sum : (decls : List Decl) (e : Expression) (more : Expressions) (n r whole : ℕ) (o : Option ℕ) →
-    capped (n + own_widths decls (and_part e more)) ≡ whole → o ≡ option_map capped (own_width decls e) → r ≡ capped (n + unwrap_or o 0) →
-    capped (r + own_widths decls more) ≡ whole
+    capped_width (n + own_widths decls (and_part e more)) ≡ whole → o ≡ option_map capped_width (own_width decls e) → r ≡ capped_width (n + unwrap_or o 0) →
+    capped_width (r + own_widths decls more) ≡ whole
 part_sum decls e more n r whole o so_far is new = step (own_width decls e) so_far is
   where
-    step : (w : Option ℕ) → capped (n + (unwrap_or w 0 + own_widths decls more)) ≡ whole → o ≡ option_map capped w → capped (r + own_widths decls more) ≡ whole
+    step : (w : Option ℕ) → capped_width (n + (unwrap_or w 0 + own_widths decls more)) ≡ whole → o ≡ option_map capped_width w → capped_width (r + own_widths decls more) ≡ whole
     step None so is = rw (new, is) (grind arith)
     step (Some w) so is = rw (new, is) (grind arith)
 
 -- no part left
-pub part_none : (decls : List Decl) (n whole : ℕ) → capped (n + own_widths decls no_parts) ≡ whole → n ≤ 64 → n ≡ whole
+pub part_none : (decls : List Decl) (n whole : ℕ) → capped_width (n + own_widths decls no_parts) ≡ whole → n ≤ 64 → n ≡ whole
 part_none decls n whole so_far most = grind arith
 
 -- the first width among a member and some links
 pub link_first : (decls : List Decl) (op : Op) (e : Expression) (more : Links) (w : ℕ) (whole : Option ℕ) →
-    option_map capped (first_width decls (and_link op e more)) ≡ whole → Some w ≡ option_map capped (own_width decls e) → Some w ≡ whole
+    option_map capped_width (first_width decls (and_link op e more)) ≡ whole → Some w ≡ option_map capped_width (own_width decls e) → Some w ≡ whole
 link_first decls op e more w whole so_far is = step (own_width decls e) so_far is
   where
-    step : (o : Option ℕ) → option_map capped (or_width o (first_width decls more)) ≡ whole → Some w ≡ option_map capped o → Some w ≡ whole
+    step : (o : Option ℕ) → option_map capped_width (or_width o (first_width decls more)) ≡ whole → Some w ≡ option_map capped_width o → Some w ≡ whole
     step None so here = absurd (cc here)
     step (Some v) so here = here ∙ so
 
-pub left_first : (decls : List Decl) (e : Expression) (more : Links) (w : ℕ) → Some w ≡ option_map capped (own_width decls e) →
-    Some w ≡ option_map capped (side_width decls e more)
+pub left_first : (decls : List Decl) (e : Expression) (more : Links) (w : ℕ) → Some w ≡ option_map capped_width (own_width decls e) →
+    Some w ≡ option_map capped_width (side_width decls e more)
 left_first decls e more w is = step (own_width decls e) is
   where
-    step : (o : Option ℕ) → Some w ≡ option_map capped o → Some w ≡ option_map capped (or_width o (first_width decls more))
+    step : (o : Option ℕ) → Some w ≡ option_map capped_width o → Some w ≡ option_map capped_width (or_width o (first_width decls more))
     step None here = absurd (cc here)
     step (Some v) here = here
 
-pub left_none : (decls : List Decl) (e : Expression) (more : Links) → None ≡ option_map capped (own_width decls e) →
-    option_map capped (first_width decls more) ≡ option_map capped (side_width decls e more)
+pub left_none : (decls : List Decl) (e : Expression) (more : Links) → None ≡ option_map capped_width (own_width decls e) →
+    option_map capped_width (first_width decls more) ≡ option_map capped_width (side_width decls e more)
 left_none decls e more is = step (own_width decls e) is
   where
-    step : (o : Option ℕ) → None ≡ option_map capped o → option_map capped (first_width decls more) ≡ option_map capped (or_width o (first_width decls more))
+    step : (o : Option ℕ) → None ≡ option_map capped_width o → option_map capped_width (first_width decls more) ≡ option_map capped_width (or_width o (first_width decls more))
     step None here = refl
     step (Some v) here = absurd (cc here)
 

@@ -8,7 +8,7 @@ use Rattle.chp_base.specs.declared.span.Span.{Span}
 use Rattle.chp_syntax.specs.declared.tree.Decl.{Decl}
 use Rattle.chp_syntax.specs.declared.tree.Ident.{Ident}
 use Rattle.chp_syntax.specs.declared.tree.Op.{Op}
-use Rattle.chp_syntax.specs.Shape.{is_comparison, some_compares, link_count, part_count, IsShapedExpression, AreShapedParts, AreShapedLinks}
+use Rattle.chp_syntax.specs.Shape.{is_comparison, some_compares, link_count, expression_count, IsShapedExpression, AreShapedParts, AreShapedLinks}
 use Rattle.chp_syntax.specs.Trees.{Expression, number, whole, slice, bit, join, negation, chain, Expressions, no_parts, and_part, Links, no_links, and_link}
 use Rattle.width_check.specs.Processes as typed
 use Rattle.width_check.specs.Places.{declaration, declared_width, is_var, use_of, read, compares, or_width, own_width, own_widths, first_width, span_of, Expected, expect, leaves, leaves_of_links}
@@ -16,7 +16,7 @@ use Rattle.width_check.specs.Form.{vars_of, var_number, formula_form, parts_form
 use Rattle.width_check.specs.Typing.{var_width, IsOfWidth}
 use Rattle.width_check.specs.Values.{widths_of}
 use Rattle.width_check.specs.Sound.{AreRanged, is_var_in, IsSound}
-use Rattle.width_check.specs.Walk.{Met, met_both, met_chain, met_in, met_in_parts, met_in_links, capped, side_width, lacking_parts, is_unfit}
+use Rattle.width_check.specs.Walk.{Met, met_both, met_chain, met_in, met_in_parts, met_in_links, capped_width, side_width, lacking_parts, is_unfit}
 use Rattle.width_check.proofs.Least.{in_rest}
 use Rattle.width_check.proofs.Leaves.{declared_most, good_slice}
 use Rattle.width_check.proofs.Judging.{own_most, first_most}
@@ -200,7 +200,7 @@ mutual
       chain_own_some ds e more at v (compares more) refl (λ u h. own_some ds ranged (wanted_of ds w e more) e u shaped.2 (sound_first ds w e more at s) h)
           (λ u h. first_some ds ranged (wanted_of ds w e more) more u shaped.3 (sound_rest ds w e more at s) h) is
 
-  pub parts_some : (ds : List Decl) → AreRanged ds → (parts : Expressions) → 1 ≤ part_count parts → AreShapedParts parts →
+  pub parts_some : (ds : List Decl) → AreRanged ds → (parts : Expressions) → 1 ≤ expression_count parts → AreShapedParts parts →
       ((s : Span) → ¬ Contains (lacking_parts ds parts) s) → IsSound ds (met_in_parts ds parts) → 1 ≤ own_widths ds parts
   parts_some ds ranged no_parts some shaped full s = absurd (omega (arith, some))
   parts_some ds ranged (and_part e more) some shaped full s =
@@ -261,7 +261,7 @@ side_width_of ds ranged w e more at is shaped s = by_side (side_width ds e more)
 pub number_fits : (ds : List Decl) (w n : ℕ) (at : Span) → w ≤ 64 → IsSound ds (met_in ds w (number n at)) → n < 2 ^ w
 number_fits ds w n at most s =
     let h = s.numbers (expect (number n at) w) (0, omega arith, refl) in
-    let same : capped w ≡ w = grind arith in
+    let same : capped_width w ≡ w = grind arith in
     below (2 ^ w) n (rw same at h)
   where
     below : (k n : ℕ) → nat_le k n ≡ false → n < k
@@ -293,7 +293,7 @@ one_plain op e more h = by_test (is_comparison op) h
 pub record AreJoined (ds : List Decl) (parts : Expressions) : Type 0 where
   pub over : AreOver (vars_of ds) (parts_form ds parts)
   pub sum : widths_of (parts_form ds parts) ≡ own_widths ds parts
-  pub count : part_count parts ≡ typed.part_count (parts_form ds parts)
+  pub count : expression_count parts ≡ typed.formula_count (parts_form ds parts)
 
 reading_of : (ds : List Decl) (of : Ident) (high low w : ℕ) → is_var_in ds of.name ≡ Some true → low ≤ high → high < declared_width ds of.name → AreRanged ds →
     high + 1 - low ≡ w → IsOfWidth (vars_of ds) w (typed.reading (var_number ds of.name) high low of.at)

@@ -7,7 +7,7 @@ use Rattle.chp_syntax.specs.Trees.{Expression, join, Expressions, and_part}
 use Rattle.width_check.specs.declared.findings.Findings.{Findings}
 use Rattle.width_check.specs.Places.{own_width, own_widths, span_of}
 use Rattle.width_check.specs.Order.{IsNoLater}
-use Rattle.width_check.specs.Walk.{earlier, first_of, Met, met_in, met_join, met_in_parts, capped, lacking, lacking_parts, with_part, with_leaf, noted}
+use Rattle.width_check.specs.Walk.{earlier, first_of, Met, met_in, met_join, met_in_parts, capped_width, lacking, lacking_parts, with_part, with_leaf, noted}
 use Rattle.width_check.proofs.Least.{IsLeast, Passes, least_same, least_of, no_later_self}
 use Rattle.width_check.proofs.OneCause.{one_place}
 use Rattle.width_check.proofs.Walks.{noted_both, misfit_capped}
@@ -81,7 +81,7 @@ join_alone : (ds : List Decl) (f : Findings) (w : ℕ) (parts : Expressions) (at
     noted ds f (met_join w parts at) ≡ with_leaf (with_parts ds f parts) (own_widths ds parts) w at
 join_alone ds f w parts at = rw (append-nil (lacking_parts ds parts)) refl
 
-pub join_whole : (ds : List Decl) (f g : Findings) (n w : ℕ) (parts : Expressions) (at : Span) → n ≡ capped (own_widths ds parts) → g ≡ noted_parts ds f parts →
+pub join_whole : (ds : List Decl) (f g : Findings) (n w : ℕ) (parts : Expressions) (at : Span) → n ≡ capped_width (own_widths ds parts) → g ≡ noted_parts ds f parts →
     with_leaf g n w at ≡ noted ds f (met_in ds w (join parts at))
 join_whole ds f g n w parts at own is =
     ap (λ (x : Findings). with_leaf x n w at) is

@@ -13,7 +13,7 @@ use Rattle.chp_syntax.specs.declared.tree.Decl.{Decl}
 use Rattle.chp_syntax.specs.declared.tree.DeclKind.{DeclKind}
 use Rattle.chp_syntax.specs.declared.tree.DeclKind.TheVariants as declares
 use Rattle.chp_syntax.specs.Reading.{arm_count}
-use Rattle.chp_syntax.specs.Shape.{member_count, IsShapedStatement, AreShapedMembers, AreShapedArms, IsShapedDecl, IsShaped}
+use Rattle.chp_syntax.specs.Shape.{statement_count, IsShapedStatement, AreShapedMembers, AreShapedArms, IsShapedDecl, IsShaped}
 use Rattle.chp_syntax.specs.Trees.{Statement, skips, assigns, sends, receives, follows, besides, selects, repeats, calls, Statements, no_members, and_member, Arms, no_arms, and_arm, ProgramTree}
 use Rattle.width_check.specs.declared.typed.Var.{Var}
 use Rattle.width_check.specs.Processes as typed
@@ -22,7 +22,7 @@ use Rattle.width_check.specs.Faults.{naming_faults, HasNone, FaultAt, IsMisfitLe
 use Rattle.width_check.specs.Form.{channel_of, channels_of, vars_of, channel_number, formula_form, process_form, processes_form, choices_form}
 use Rattle.width_check.specs.Typing.{kind_at, channel_width, IsOfWidth, IsProcess, AreProcesses, AreChoices, IsDeclaredChannel, IsDeclaredVar, names_of, IsTyped}
 use Rattle.width_check.specs.Sound.{AreRanged, is_var_in, IsSound, kind_of}
-use Rattle.width_check.specs.Walk.{Met, met_both, met_in, met_of, met_of_each, met_of_arms, is_undeclared, has_wrong_kind, differs_in_kind, is_misdirected, is_against, is_bad_part, is_misfit, is_misfit_target, is_wide_number, is_out_of_range, is_wide_first, capped, differ}
+use Rattle.width_check.specs.Walk.{Met, met_both, met_in, met_of, met_of_each, met_of_arms, is_undeclared, has_wrong_kind, differs_in_kind, is_misdirected, is_against, is_bad_part, is_misfit, is_misfit_target, is_wide_number, is_out_of_range, is_wide_first, capped_width, differ}
 use Rattle.width_check.proofs.Least.{IsLeast, in_rest, front_or_rest}
 use Rattle.width_check.proofs.Scopes.{names}
 use Rattle.width_check.proofs.Reasons.{none_pass, undeclared_least, wrong_kind_least, direction_least, slice_least, target_least, range_least, lacks_is}
@@ -87,7 +87,7 @@ receives_in declares.Var chan free e = absurd (cc chan)
 equal_widths : (n m : ℕ) → not (n == m) ≡ false → n ≡ m
 equal_widths n m h = grind (arith, nat_tests)
 
-members_counted : (ds : List Decl) (members : Statements) → member_count members ≡ typed.member_count (processes_form ds members)
+members_counted : (ds : List Decl) (members : Statements) → statement_count members ≡ typed.member_count (processes_form ds members)
 members_counted ds no_members = refl
 members_counted ds (and_member s more) = ap suc (members_counted ds more)
 
@@ -226,7 +226,7 @@ each_channel (d ∷ ds) ranged shaped = by_kind (is_var d.kind) refl (each_chann
             ranged_some d (ranged d here); most = ranged_most d (ranged d here) }) rest)
 
 below_power : (d : Decl) → is_out_of_range d ≡ false → is_wide_first d ≡ false → d.first < 2 ^ d.width
-below_power d ranged h = let most = ranged_most d ranged in let same : capped d.width ≡ d.width = grind arith in below (2 ^ d.width) d.first (rw same at h)
+below_power d ranged h = let most = ranged_most d ranged in let same : capped_width d.width ≡ d.width = grind arith in below (2 ^ d.width) d.first (rw same at h)
   where
     below : (k n : ℕ) → nat_le k n ≡ false → n < k
     below k n h = grind (arith, nat_tests)

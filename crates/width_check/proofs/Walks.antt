@@ -11,7 +11,7 @@ use Rattle.chp_syntax.specs.declared.tree.Op.{Op}
 use Rattle.chp_syntax.specs.Trees.{Expression, number, whole, slice, bit, join, negation, chain, Links, no_links, and_link, Statement, assigns, sends, Statements, and_member, Arms, and_arm}
 use Rattle.width_check.specs.declared.findings.Findings.{Findings}
 use Rattle.width_check.specs.Places.{declaration, use_of, written, sent_on, read, compares, own_width, span_of, Expected, expect, leaves, leaves_of_parts, leaves_of_links, declared_width}
-use Rattle.width_check.specs.Walk.{earlier, first_of, with_part, with_leaf, Met, met_both, met_use, met_in, met_chain, met_in_links, met_of, met_of_each, met_of_arms, capped, side_width, exceeds, is_unfit, is_misfit, is_wide_number, noted, differs_in_kind, goes_against}
+use Rattle.width_check.specs.Walk.{earlier, first_of, with_part, with_leaf, Met, met_both, met_use, met_in, met_chain, met_in_links, met_of, met_of_each, met_of_arms, capped_width, side_width, exceeds, is_unfit, is_misfit, is_wide_number, noted, differs_in_kind, goes_against}
 use Rattle.width_check.proofs.Scopes.{own_of_comparison}
 
 pub first_of-append : {X : Type 0} (test : X → Bool) (at : X → Span) (o : Option Span) (xs ys : List X) →
@@ -24,14 +24,14 @@ noted_both decls f m n = simp (flat_map-append, first_of-append)
 
 -- what is wanted counts up to 65 bits
 
-pub unfit_capped : (o : Option ℕ) (v w : ℕ) → capped v ≡ capped w → is_unfit o v ≡ is_unfit o w
+pub unfit_capped : (o : Option ℕ) (v w : ℕ) → capped_width v ≡ capped_width w → is_unfit o v ≡ is_unfit o w
 unfit_capped None v w same = refl
 unfit_capped (Some n) v w same = grind (arith, nat_tests)
 
-pub misfit_capped : (n w : ℕ) → (nat_lt 64 (capped n) || not (capped n == w)) ≡ (nat_lt 64 n || not (n == w))
+pub misfit_capped : (n w : ℕ) → (nat_lt 64 (capped_width n) || not (capped_width n == w)) ≡ (nat_lt 64 n || not (n == w))
 misfit_capped n w = grind (arith, nat_tests)
 
-exceeds_capped : (e : Expression) (v w : ℕ) → capped v ≡ capped w → exceeds e v ≡ exceeds e w
+exceeds_capped : (e : Expression) (v w : ℕ) → capped_width v ≡ capped_width w → exceeds e v ≡ exceeds e w
 exceeds_capped (number n at) v w same = ap (λ (k : ℕ). nat_le (2 ^ k) n) same
 exceeds_capped (whole of) v w same = refl
 exceeds_capped (slice of high low at) v w same = refl
@@ -86,7 +86,7 @@ mutual
       ∙ links_same decls blind more (first_of test place_of o (leaves decls w e))
       ∙ sym (first_of-append test place_of o (leaves decls w e) (leaves_of_links decls w more))
 
-pub noted_wanted : (decls : List Decl) (f : Findings) (v w : ℕ) (e : Expression) → capped v ≡ capped w →
+pub noted_wanted : (decls : List Decl) (f : Findings) (v w : ℕ) (e : Expression) → capped_width v ≡ capped_width w →
     noted decls f (met_in decls v e) ≡ noted decls f (met_in decls w e)
 noted_wanted decls f v w e same =
     let misfits : IsBlind (is_misfit decls) v w = record { same = λ x. unfit_capped (own_width decls x) v w same } in
@@ -100,7 +100,7 @@ pub noted_link : (decls : List Decl) (f g total : Findings) (w : ℕ) (op : Op) 
 noted_link decls f g total w op e more so_far new =
     ap (λ (h : Findings). noted decls h (met_in_links decls w more)) new ∙ noted_both decls f (met_in decls w e) (met_in_links decls w more) ∙ so_far
 
-links_wanted : (decls : List Decl) (f : Findings) (v w : ℕ) (more : Links) → capped v ≡ capped w →
+links_wanted : (decls : List Decl) (f : Findings) (v w : ℕ) (more : Links) → capped_width v ≡ capped_width w →
     noted decls f (met_in_links decls v more) ≡ noted decls f (met_in_links decls w more)
 links_wanted decls f v w more same =
     let misfits : IsBlind (is_misfit decls) v w = record { same = λ x. unfit_capped (own_width decls x) v w same } in
@@ -118,8 +118,8 @@ chain_pieces decls w e more at true is = rw is refl
 chain_pieces decls w e more at false is = rw is refl
 
 -- a chain, of whose members widths are wanted that count as the same
-pub noted_chain : (ds : List Decl) (f g h : Findings) (w u v : ℕ) (e : Expression) (more : Links) (at : Span) → capped u ≡ capped (wanted_of ds w e more) →
-    capped v ≡ capped (wanted_of ds w e more) → g ≡ noted ds f (met_chain w e more at) → h ≡ noted ds g (met_in ds u e) →
+pub noted_chain : (ds : List Decl) (f g h : Findings) (w u v : ℕ) (e : Expression) (more : Links) (at : Span) → capped_width u ≡ capped_width (wanted_of ds w e more) →
+    capped_width v ≡ capped_width (wanted_of ds w e more) → g ≡ noted ds f (met_chain w e more at) → h ≡ noted ds g (met_in ds u e) →
     noted ds h (met_in_links ds v more) ≡ noted ds f (met_in ds w (chain e more at))
 noted_chain ds f g h w u v e more at same others node first =
     let m = wanted_of ds w e more in
@@ -192,18 +192,18 @@ read_written : (decls : List Decl) (f : Findings) (target : Ident) →
 read_written decls f target = rw (kind_same (declaration decls target.name), side_same (declaration decls target.name)) refl
 
 pub noted_assign : (decls : List Decl) (f g h : Findings) (target : Ident) (e : Expression) (w : ℕ) → g ≡ noted decls f (met_use (use_of target read)) →
-    w ≡ capped (declared_width decls target.name) → h ≡ noted decls g (met_in decls w e) → h ≡ noted decls f (met_of decls (assigns target e))
+    w ≡ capped_width (declared_width decls target.name) → h ≡ noted decls g (met_in decls w e) → h ≡ noted decls f (met_of decls (assigns target e))
 noted_assign decls f g h target e w first wanted second =
-    let same : capped w ≡ capped (declared_width decls target.name) = grind arith in
+    let same : capped_width w ≡ capped_width (declared_width decls target.name) = grind arith in
     second ∙ noted_wanted decls g w (declared_width decls target.name) e same
     ∙ ap (λ (x : Findings). noted decls x (met_in decls (declared_width decls target.name) e)) (first ∙ read_written decls f target)
     ∙ noted_both decls f (met_use (use_of target written)) (met_in decls (declared_width decls target.name) e)
     ∙ ap (λ (m : Met). noted decls f m) (assign_pieces decls target e)
 
 pub noted_send : (decls : List Decl) (f g h : Findings) (chan : Ident) (e : Expression) (w : ℕ) → g ≡ noted decls f (met_use (use_of chan sent_on)) →
-    w ≡ capped (declared_width decls chan.name) → h ≡ noted decls g (met_in decls w e) → h ≡ noted decls f (met_of decls (sends chan e))
+    w ≡ capped_width (declared_width decls chan.name) → h ≡ noted decls g (met_in decls w e) → h ≡ noted decls f (met_of decls (sends chan e))
 noted_send decls f g h chan e w first wanted second =
-    let same : capped w ≡ capped (declared_width decls chan.name) = grind arith in
+    let same : capped_width w ≡ capped_width (declared_width decls chan.name) = grind arith in
     second ∙ noted_wanted decls g w (declared_width decls chan.name) e same
     ∙ ap (λ (x : Findings). noted decls x (met_in decls (declared_width decls chan.name) e)) first
     ∙ noted_both decls f (met_use (use_of chan sent_on)) (met_in decls (declared_width decls chan.name) e)

@@ -8,7 +8,7 @@ use Rattle.width_check.specs.declared.typed.Var.{Var}
 use Rattle.width_check.specs.declared.typed.TExpr.{TExpr}
 use Rattle.width_check.specs.declared.typed.TLink.{TLink}
 use Rattle.width_check.specs.View.{formula_of}
-use Rattle.width_check.specs.Processes.{Formula, constant, reading, joined, inverted, chained, compared, Formulas, no_parts, and_part, Operations, no_operations, and_operation, part_count, operation_count}
+use Rattle.width_check.specs.Processes.{Formula, constant, reading, joined, inverted, chained, compared, Formulas, no_parts, and_part, Operations, no_operations, and_operation, formula_count, operation_count}
 use Rattle.width_check.specs.Typing.{kind_at, channel_width, var_width, EachReadsFrom, AllReadFrom, IsOfWidth}
 use Rattle.width_check.specs.Values.{width_of, widths_of, is_comparison, AreWellFormed, AreOperations}
 use Rattle.width_check.proofs.Bounds.{width_most, widths_some}
@@ -101,7 +101,7 @@ pub join_wide : (vars : List Var) (parts : Formulas) (e : Formula) (left : Formu
     64 < w + v → (u : ℕ) → ¬ IsOfWidth vars u (joined parts)
 join_wide vars parts e left w v so_far is wide u whole = absurd (omega (arith, so_far.sum, is.agrees, whole.formed.1))
 
-some_parts : (parts : Formulas) → 1 ≤ widths_of parts → 1 ≤ part_count parts
+some_parts : (parts : Formulas) → 1 ≤ widths_of parts → 1 ≤ formula_count parts
 some_parts no_parts some = absurd (omega arith)
 some_parts (and_part e more) some = omega arith
 

@@ -5,12 +5,12 @@ use Rattle.chp_syntax.specs.Trees.{Expression, Links}
 use Rattle.width_check.specs.declared.lead.Lead.{Lead}
 use Rattle.width_check.specs.declared.lead.Lead.TheVariants.{First, Later, Nothing}
 use Rattle.width_check.specs.Places.{compares, own_width, first_width}
-use Rattle.width_check.specs.Walk.{capped, side_width}
+use Rattle.width_check.specs.Walk.{capped_width, side_width}
 
 -- it is the width of the first member, or of a later one, or no member has any
 abbrev pub IsLead : List Decl → Expression → Links → Lead → Type 0
 IsLead decls e more First = is_none (own_width decls e) ≡ false
-IsLead decls e more (Later w) = (own_width decls e ≡ None) × (Some w ≡ option_map capped (first_width decls more))
+IsLead decls e more (Later w) = (own_width decls e ≡ None) × (Some w ≡ option_map capped_width (first_width decls more))
 IsLead decls e more Nothing = side_width decls e more ≡ None
 
 -- so where no width is wanted of the chain, or where it compares; else the one that is wanted is that of all members

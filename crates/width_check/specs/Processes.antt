@@ -48,9 +48,9 @@ pub record TypedProgram : Type 0 where
   pub vars : List Var
   pub body : Process
 
-abbrev pub part_count : Formulas → ℕ
-part_count no_parts = 0
-part_count (and_part e more) = suc (part_count more)
+abbrev pub formula_count : Formulas → ℕ
+formula_count no_parts = 0
+formula_count (and_part e more) = suc (formula_count more)
 
 abbrev pub operation_count : Operations → ℕ
 operation_count no_operations = 0

@@ -3,7 +3,7 @@ use Rattle.std.specs.Prelude.{◌≡◌, ℕ, ◌+◌, ◌-◌, ◌*◌, ◌/◌
 use Rattle.chp_syntax.specs.declared.tree.Op.{Op}
 use Rattle.chp_syntax.specs.declared.tree.Op.TheVariants.{And, Or, Xor, Add, Sub, Eq, Ne, Lt, Le, Gt, Ge}
 pub use Rattle.chp_syntax.specs.Shape.{is_comparison}
-use Rattle.width_check.specs.Processes.{Formula, constant, reading, joined, inverted, chained, compared, Formulas, no_parts, and_part, Operations, no_operations, and_operation, part_count, operation_count}
+use Rattle.width_check.specs.Processes.{Formula, constant, reading, joined, inverted, chained, compared, Formulas, no_parts, and_part, Operations, no_operations, and_operation, formula_count, operation_count}
 
 abbrev mutual
   pub width_of : Formula → ℕ
@@ -65,7 +65,7 @@ abbrev mutual
   pub IsWellFormed : Formula → Type 0
   IsWellFormed (constant width v) = (1 ≤ width) × (width ≤ 64) × (v < 2 ^ width)
   IsWellFormed (reading var high low at) = (low ≤ high) × (high ≤ 63)
-  IsWellFormed (joined parts) = (1 ≤ part_count parts) × (widths_of parts ≤ 64) × AreWellFormed parts
+  IsWellFormed (joined parts) = (1 ≤ formula_count parts) × (widths_of parts ≤ 64) × AreWellFormed parts
   IsWellFormed (inverted e) = IsWellFormed e
   IsWellFormed (chained e more) = IsWellFormed e × (1 ≤ operation_count more) × AreOperations (width_of e) more
   IsWellFormed (compared op e f) = (is_comparison op ≡ true) × (width_of f ≡ width_of e) × IsWellFormed e

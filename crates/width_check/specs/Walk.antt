@@ -17,17 +17,17 @@ use Rattle.width_check.specs.Places.{declaration, declared_width, is_var, Role, 
 use Rattle.width_check.specs.Faults.{wants_var}
 
 -- the plain trees of members in a row
-abbrev pub parts_of : List Expr → Expressions
-parts_of es = onto and_part (map expression_of es) no_parts
+abbrev pub join_parts : List Expr → Expressions
+join_parts es = onto and_part (map expression_of es) no_parts
 
 abbrev pub links_of : List Link → Links
 links_of ls = onto and_pair (map link_of ls) no_links
 
-abbrev pub members_of : List Stmt → Statements
-members_of ss = onto and_member (map statement_of ss) no_members
+abbrev pub statements_in : List Stmt → Statements
+statements_in ss = onto and_member (map statement_of ss) no_members
 
-abbrev pub arms_of : List Arm → Arms
-arms_of xs = onto and_guarded (map guarded_of xs) no_arms
+abbrev pub arms_in : List Arm → Arms
+arms_in xs = onto and_guarded (map guarded_of xs) no_arms
 
 -- the order of places as a test
 abbrev pub is_earlier : Span → Span → Bool
@@ -157,8 +157,8 @@ lacking decls (chain e more at) = if lacks_width decls e more then at ∷ [] els
 lacking decls _ = []
 
 -- a width of more than 64 bits counts as 65 of them
-abbrev pub capped : ℕ → ℕ
-capped w = min w 65
+abbrev pub capped_width : ℕ → ℕ
+capped_width w = min w 65
 
 abbrev pub is_unfit : Option ℕ → ℕ → Bool
 is_unfit None w = false
@@ -168,7 +168,7 @@ abbrev pub is_misfit : List Decl → Expected → Bool
 is_misfit decls leaf = is_unfit (own_width decls leaf.expression) leaf.width
 
 abbrev pub exceeds : Expression → ℕ → Bool
-exceeds (number n at) w = nat_le (2 ^ capped w) n
+exceeds (number n at) w = nat_le (2 ^ capped_width w) n
 exceeds _ w = false
 
 abbrev pub is_wide_number : Expected → Bool
@@ -212,7 +212,7 @@ abbrev pub is_out_of_range : Decl → Bool
 is_out_of_range d = nat_lt d.width 1 || nat_lt 64 d.width
 
 abbrev pub is_wide_first : Decl → Bool
-is_wide_first d = nat_le (2 ^ capped d.width) d.first
+is_wide_first d = nat_le (2 ^ capped_width d.width) d.first
 
 -- the first of a place and those at which one of some names, or one declared before, is declared again
 abbrev pub first_double : List (List ℕ) → Option Span → List Decl → Option Span

@@ -2,7 +2,7 @@
 
 ghost use Rattle.std.specs.Prelude.{◌≡◌};
 ghost use Rattle.std.specs.Bool.{Decides};
-ghost use Rattle.chp_syntax.specs.View.{program_of, statement_of};
+ghost use Rattle.chp_syntax.specs.View.{program_tree, statement_of};
 ghost use Rattle.width_check.specs.Calls.{has_call, IsCallFree};
 
 use chp_syntax::{Program, Stmt};
@@ -44,7 +44,7 @@ fn has_call(s: &Stmt) -> bool
 
 /// Whether a program has neither procedures nor calls, as `resolve` asks for.
 pub fn is_call_free(program: &Program) -> bool
-    ensures { Decides result (IsCallFree (program_of program.now)) }
+    ensures { Decides result (IsCallFree (program_tree program.now)) }
 {
     program.procs.is_empty() && !has_call(&program.body)
 }

@@ -52,7 +52,7 @@ pub fn earlier_if(wrong: bool, first: Option<Span>, place: Span) -> Option<Span>
 
 /// Whether a number has more bits than are wanted.
 pub fn is_wide(value: u64, wanted: u8) -> bool
-    ensures { result ≡ nat_le (2 ^ walk.capped wanted) value }
+    ensures { result ≡ nat_le (2 ^ walk.capped_width wanted) value }
 {
     if wanted < 64 {
         1 << wanted <= value
@@ -73,7 +73,7 @@ impl Findings {
     /// A number stands at this place, where a width is wanted.
     pub fn with_number(mut self, value: u64, wanted: u8, place: Span) -> Findings
         ensures { result ≡ record self { number =
-            (if nat_le (2 ^ walk.capped wanted) value then walk.earlier self.number place else self.number) } }
+            (if nat_le (2 ^ walk.capped_width wanted) value then walk.earlier self.number place else self.number) } }
     {
         self.number = earlier_if(is_wide(value, wanted), self.number, place);
         self

@@ -3,7 +3,7 @@
 ghost use Rattle.std.specs.Prelude.{◌≡◌, ◌≤◌, length, IfOk, IfErr};
 ghost use Rattle.chp_syntax.specs.Shape.{IsShaped};
 ghost use Rattle.chp_syntax.specs.Tokens.{IfRefused};
-ghost use Rattle.chp_syntax.specs.View.{program_of as tree_of};
+ghost use Rattle.chp_syntax.specs.View.{program_tree as tree_of};
 ghost use Rattle.width_check.specs.Calls.{IsCallFree};
 ghost use Rattle.width_check.specs.Faults.{naming_faults, HasNone, IsFirstFault};
 ghost use Rattle.width_check.specs.Form.{typed_form};

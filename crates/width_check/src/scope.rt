@@ -7,7 +7,7 @@ ghost use Rattle.width_check.specs.Form.{channel_number, var_number};
 ghost use Rattle.width_check.specs.Leading.{IsLead, IsLeadTo};
 ghost use Rattle.width_check.specs.Places as plain;
 ghost use Rattle.width_check.specs.Sound.{AreRanged, is_var_in, numbers_of};
-ghost use Rattle.width_check.specs.Walk.{capped, links_of, side_width};
+ghost use Rattle.width_check.specs.Walk.{capped_width, links_of, side_width};
 
 use crate::fitting::is_comparison;
 use crate::lead::Lead;
@@ -27,21 +27,21 @@ pub struct Scope<'a> {
 
 /// A number of bits, where more than 64 count as 65.
 pub fn capped(width: u64) -> u8
-    ensures { result ≡ capped width }
+    ensures { result ≡ capped_width width }
 {
     if width < 65 { width as u8 } else { 65 }
 }
 
 /// The number of bits of two numbers of bits together.
 pub fn sum(left: u8, right: u8) -> u8
-    ensures { result ≡ capped (left + right) }
+    ensures { result ≡ capped_width (left + right) }
 {
     capped(u64::from(left) + u64::from(right))
 }
 
 /// The number of bits from `low` to `high`.
 pub fn slice_width(high: u64, low: u64) -> u8
-    ensures { result ≡ capped (high + 1 - low) }
+    ensures { result ≡ capped_width (high + 1 - low) }
 {
     if high < low {
         0
@@ -147,7 +147,7 @@ impl<'a> Scope<'a> {
 
     /// The width that an expression has by itself.
     pub fn own_width(&self, e: &Expr) -> Option<u8>
-        ensures { result ≡ option_map capped (plain.own_width self.now.decls.now (expression_of e.now)) }
+        ensures { result ≡ option_map capped_width (plain.own_width self.now.decls.now (expression_of e.now)) }
     {
         match e {
             Expr::Number { .. } => None,
@@ -184,7 +184,7 @@ impl<'a> Scope<'a> {
 
     /// The width of the first of some links that has one.
     pub fn first_width(&self, links: &[Link]) -> Option<u8>
-        ensures { result ≡ option_map capped (plain.first_width self.now.decls.now (links_of links.now)) }
+        ensures { result ≡ option_map capped_width (plain.first_width self.now.decls.now (links_of links.now)) }
     {
         for link in links {
             if let Some(width) = self.own_width(&link.right) {
@@ -196,7 +196,7 @@ impl<'a> Scope<'a> {
 
     /// The width of the two sides of a comparison, which the first member of it gives that has one.
     pub fn side_width(&self, first: &Expr, links: &[Link]) -> Option<u8>
-        ensures { result ≡ option_map capped
+        ensures { result ≡ option_map capped_width
             (side_width self.now.decls.now (expression_of first.now) (links_of links.now)) }
     {
         match self.own_width(first) {

@@ -96,7 +96,7 @@ fn with_slice(
 
 /// `x`
 fn with_whole(scope: &Scope, findings: Findings, of: &Ident, own: u8, width: u8) -> Findings
-    requires { own ≡ walk.capped (plain.declared_width scope.now.decls.now of.now.name) }
+    requires { own ≡ walk.capped_width (plain.declared_width scope.now.decls.now of.now.name) }
     ensures { result ≡ walk.noted scope.now.decls.now findings
         (walk.met_in scope.now.decls.now width (tree.whole of.now)) }
 {
@@ -165,7 +165,7 @@ struct Surveyed {
 fn with_expression(scope: &Scope, findings: Findings, e: &Expr, wanted: Option<u8>) -> Surveyed
     ensures findings { result.findings ≡ walk.surveyed scope.now.decls.now findings wanted (expression_of e.now) }
     ensures own { wanted ≡ None → result.own ≡
-        option_map walk.capped (plain.own_width scope.now.decls.now (expression_of e.now)) }
+        option_map walk.capped_width (plain.own_width scope.now.decls.now (expression_of e.now)) }
 {
     match e {
         Expr::Number { value, at } => Surveyed {

@@ -1,7 +1,7 @@
 //! The limit on the arms of a selection.
 
 ghost use Rattle.std.specs.Prelude.{◌≡◌, ℕ, [], reverse, true, false, IfOk, IfSome, IfNone};
-ghost use Rattle.chp_syntax.specs.Seventeenth.{is_full, chosen, counted, is_seventeenth, is_narrow, IsSeventeenth};
+ghost use Rattle.chp_syntax.specs.Seventeenth.{is_full, bar_counted, counted, is_seventeenth, is_narrow, IsSeventeenth};
 
 use crate::token::{Mark, Token, TokenKind};
 use chp_base::Span;
@@ -43,7 +43,7 @@ fn count(choices: &mut Vec<u32>, kind: &TokenKind) -> Result<bool, AllocError>
 
 fn choose(choices: &mut Vec<u32>) -> Result<bool, AllocError>
     ensures seventeenth { IfOk result (λ b. b ≡ is_full (reverse choices.old.items)) }
-    ensures after { IfOk result (λ b. b ≡ false → reverse choices.new.items ≡ chosen (reverse choices.old.items)) }
+    ensures after { IfOk result (λ b. b ≡ false → reverse choices.new.items ≡ bar_counted (reverse choices.old.items)) }
 {
     let Some(count) = choices.pop() else {
         return Ok(false);

@@ -1,7 +1,7 @@
 //! Expressions.
 
 ghost use Rattle.std.specs.Prelude.{◌≡◌, ℕ, ◌≤◌, ◌<◌, List, length, drop, map, IfOk, IfErr, OnOk};
-ghost use Rattle.chp_syntax.specs.Parts.{Good, Bad, Stops, WhenFault, sees, primary_front};
+ghost use Rattle.chp_syntax.specs.Parts.{Good, Bad, StopsAt, WhenFault, sees, primary_front};
 ghost use Rattle.chp_syntax.specs.declared.parser.sight.PrimaryFront.TheVariants as primary;
 ghost use Rattle.chp_syntax.specs.Grammar.{Primary, Parts, Negated, Sum, Comparison, Conjunction, Exclusive, Disjunction};
 ghost use Rattle.chp_syntax.specs.View.{covered_of, parts_of, link_of, chained_to};
@@ -60,10 +60,10 @@ fn named(tokens: &[Token], at: &mut usize) -> Result<Covered, Stop>
     requires front { primary_front (sees (drop at.old tokens.now)) ≡ primary.Name }
     ensures within { at.new ≤ length tokens.now }
     ensures moved { OnOk result (at.old < at.new) }
-    ensures good { IfOk result (λ c. Good Primary (Stops 10) (drop at.old tokens.now) (drop at.new tokens.now)
+    ensures good { IfOk result (λ c. Good Primary (StopsAt 10) (drop at.old tokens.now) (drop at.new tokens.now)
         (covered_of c)) }
     ensures bad { IfErr result (λ e.
-        WhenFault e (Bad Primary (Stops 10) (drop at.old tokens.now) (drop at.new tokens.now))) }
+        WhenFault e (Bad Primary (StopsAt 10) (drop at.old tokens.now) (drop at.new tokens.now))) }
 {
     let of = take_name(tokens, at)?;
     if !mark_at(tokens, *at, Mark::OpenSquare) {
@@ -108,10 +108,10 @@ fn primary(alloc: Global, tokens: &[Token], at: &mut usize) -> Result<Covered, S
     requires { at.old ≤ length tokens.now }
     ensures within { at.new ≤ length tokens.now }
     ensures moved { OnOk result (at.old < at.new) }
-    ensures good { IfOk result (λ c. Good Primary (Stops 10) (drop at.old tokens.now) (drop at.new tokens.now)
+    ensures good { IfOk result (λ c. Good Primary (StopsAt 10) (drop at.old tokens.now) (drop at.new tokens.now)
         (covered_of c)) }
     ensures bad { IfErr result (λ e.
-        WhenFault e (Bad Primary (Stops 10) (drop at.old tokens.now) (drop at.new tokens.now))) }
+        WhenFault e (Bad Primary (StopsAt 10) (drop at.old tokens.now) (drop at.new tokens.now))) }
 {
     match primary_at(tokens, *at) {
         PrimaryFront::Number => {
@@ -157,10 +157,10 @@ fn parts(alloc: Global, tokens: &[Token], at: &mut usize) -> Result<Vec<Expr>, S
     requires { at.old ≤ length tokens.now }
     ensures within { at.new ≤ length tokens.now }
     ensures moved { OnOk result (at.old < at.new) }
-    ensures good { IfOk result (λ c. Good Parts (Stops 4) (drop at.old tokens.now) (drop at.new tokens.now)
+    ensures good { IfOk result (λ c. Good Parts (StopsAt 4) (drop at.old tokens.now) (drop at.new tokens.now)
         (parts_of c)) }
     ensures bad { IfErr result (λ e.
-        WhenFault e (Bad Parts (Stops 4) (drop at.old tokens.now) (drop at.new tokens.now))) }
+        WhenFault e (Bad Parts (StopsAt 4) (drop at.old tokens.now) (drop at.new tokens.now))) }
 {
     let first = disjunction(alloc, tokens, at)?;
     let mut members: Vec<Expr> = Vec::new(alloc);
@@ -179,10 +179,10 @@ fn negated(alloc: Global, tokens: &[Token], at: &mut usize) -> Result<Covered, S
     requires { at.old ≤ length tokens.now }
     ensures within { at.new ≤ length tokens.now }
     ensures moved { OnOk result (at.old < at.new) }
-    ensures good { IfOk result (λ c. Good Negated (Stops 10) (drop at.old tokens.now) (drop at.new tokens.now)
+    ensures good { IfOk result (λ c. Good Negated (StopsAt 10) (drop at.old tokens.now) (drop at.new tokens.now)
         (covered_of c)) }
     ensures bad { IfErr result (λ e.
-        WhenFault e (Bad Negated (Stops 10) (drop at.old tokens.now) (drop at.new tokens.now))) }
+        WhenFault e (Bad Negated (StopsAt 10) (drop at.old tokens.now) (drop at.new tokens.now))) }
 {
     if !mark_at(tokens, *at, Mark::Tilde) {
         return primary(alloc, tokens, at);
@@ -206,10 +206,10 @@ fn comparison(alloc: Global, tokens: &[Token], at: &mut usize) -> Result<Covered
     requires { at.old ≤ length tokens.now }
     ensures within { at.new ≤ length tokens.now }
     ensures moved { OnOk result (at.old < at.new) }
-    ensures good { IfOk result (λ c. Good Comparison (Stops 8) (drop at.old tokens.now) (drop at.new tokens.now)
+    ensures good { IfOk result (λ c. Good Comparison (StopsAt 8) (drop at.old tokens.now) (drop at.new tokens.now)
         (covered_of c)) }
     ensures bad { IfErr result (λ e.
-        WhenFault e (Bad Comparison (Stops 8) (drop at.old tokens.now) (drop at.new tokens.now))) }
+        WhenFault e (Bad Comparison (StopsAt 8) (drop at.old tokens.now) (drop at.new tokens.now))) }
 {
     let first = sum(alloc, tokens, at)?;
     let Some(op) = comparison_at(tokens, *at) else {
@@ -232,10 +232,10 @@ fn sum(alloc: Global, tokens: &[Token], at: &mut usize) -> Result<Covered, Stop>
     requires { at.old ≤ length tokens.now }
     ensures within { at.new ≤ length tokens.now }
     ensures moved { OnOk result (at.old < at.new) }
-    ensures good { IfOk result (λ c. Good Sum (Stops 9) (drop at.old tokens.now) (drop at.new tokens.now)
+    ensures good { IfOk result (λ c. Good Sum (StopsAt 9) (drop at.old tokens.now) (drop at.new tokens.now)
         (covered_of c)) }
     ensures bad { IfErr result (λ e.
-        WhenFault e (Bad Sum (Stops 9) (drop at.old tokens.now) (drop at.new tokens.now))) }
+        WhenFault e (Bad Sum (StopsAt 9) (drop at.old tokens.now) (drop at.new tokens.now))) }
 {
     let first = negated(alloc, tokens, at)?;
     let mut last = first.at;
@@ -258,10 +258,10 @@ fn conjunction(alloc: Global, tokens: &[Token], at: &mut usize) -> Result<Covere
     requires { at.old ≤ length tokens.now }
     ensures within { at.new ≤ length tokens.now }
     ensures moved { OnOk result (at.old < at.new) }
-    ensures good { IfOk result (λ c. Good Conjunction (Stops 7) (drop at.old tokens.now) (drop at.new tokens.now)
+    ensures good { IfOk result (λ c. Good Conjunction (StopsAt 7) (drop at.old tokens.now) (drop at.new tokens.now)
         (covered_of c)) }
     ensures bad { IfErr result (λ e.
-        WhenFault e (Bad Conjunction (Stops 7) (drop at.old tokens.now) (drop at.new tokens.now))) }
+        WhenFault e (Bad Conjunction (StopsAt 7) (drop at.old tokens.now) (drop at.new tokens.now))) }
 {
     let first = comparison(alloc, tokens, at)?;
     let mut last = first.at;
@@ -284,10 +284,10 @@ fn exclusive(alloc: Global, tokens: &[Token], at: &mut usize) -> Result<Covered,
     requires { at.old ≤ length tokens.now }
     ensures within { at.new ≤ length tokens.now }
     ensures moved { OnOk result (at.old < at.new) }
-    ensures good { IfOk result (λ c. Good Exclusive (Stops 6) (drop at.old tokens.now) (drop at.new tokens.now)
+    ensures good { IfOk result (λ c. Good Exclusive (StopsAt 6) (drop at.old tokens.now) (drop at.new tokens.now)
         (covered_of c)) }
     ensures bad { IfErr result (λ e.
-        WhenFault e (Bad Exclusive (Stops 6) (drop at.old tokens.now) (drop at.new tokens.now))) }
+        WhenFault e (Bad Exclusive (StopsAt 6) (drop at.old tokens.now) (drop at.new tokens.now))) }
 {
     let first = conjunction(alloc, tokens, at)?;
     let mut last = first.at;
@@ -310,10 +310,10 @@ pub fn disjunction(alloc: Global, tokens: &[Token], at: &mut usize) -> Result<Co
     requires { at.old ≤ length tokens.now }
     ensures within { at.new ≤ length tokens.now }
     ensures moved { OnOk result (at.old < at.new) }
-    ensures good { IfOk result (λ c. Good Disjunction (Stops 5) (drop at.old tokens.now) (drop at.new tokens.now)
+    ensures good { IfOk result (λ c. Good Disjunction (StopsAt 5) (drop at.old tokens.now) (drop at.new tokens.now)
         (covered_of c)) }
     ensures bad { IfErr result (λ e.
-        WhenFault e (Bad Disjunction (Stops 5) (drop at.old tokens.now) (drop at.new tokens.now))) }
+        WhenFault e (Bad Disjunction (StopsAt 5) (drop at.old tokens.now) (drop at.new tokens.now))) }
 {
     let first = exclusive(alloc, tokens, at)?;
     let mut last = first.at;

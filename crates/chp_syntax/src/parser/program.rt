@@ -5,7 +5,7 @@ ghost use Rattle.std.specs.Bool.{OnTrue, OnFalse};
 ghost use Rattle.chp_syntax.specs.declared.parser.sight.DeclFront.TheVariants as decl;
 ghost use Rattle.chp_syntax.specs.Parts.{Good, Bad, Anything, Nothing, Undeclared, WhenFault, sees, decl_front};
 ghost use Rattle.chp_syntax.specs.Grammar.{Declaration, Declarations, Programs, valued, defined};
-ghost use Rattle.chp_syntax.specs.View.{item_of, declared_of, with_item, procedure_of, program_of};
+ghost use Rattle.chp_syntax.specs.View.{item_of, declared_of, with_item, procedure_of, program_tree};
 
 use super::sight::{
     DeclFront, Stop, decl_at, mark_at, take_mark, take_name, take_number, take_word,
@@ -191,7 +191,7 @@ pub fn program(alloc: Global, tokens: &[Token], at: &mut usize) -> Result<Progra
     ensures within { at.new ≤ length tokens.now }
     ensures whole { OnOk result (at.new ≡ length tokens.now) }
     ensures good { IfOk result (λ d. Good Programs Nothing (drop at.old tokens.now) (drop at.new tokens.now)
-        (program_of d)) }
+        (program_tree d)) }
     ensures bad { IfErr result (λ e.
         WhenFault e (Bad Programs Nothing (drop at.old tokens.now) (drop at.new tokens.now))) }
 {

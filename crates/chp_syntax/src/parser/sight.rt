@@ -1,8 +1,8 @@
 //! What stands at a place of the tokens, and the reading of single tokens.
 
 ghost use Rattle.std.specs.Prelude.{◌≡◌, ℕ, ◌≤◌, ◌<◌, ◌+◌, List, length, drop, IfOk, IfErr, OnOk, IsTrue, ◌↔◌, Some, None};
-ghost use Rattle.chp_syntax.specs.Parts.{sees, here, IsKind, reads, name_of, number_of, WhenFault, primary_front, atom_front, action_front, decl_front, acts, begins_par, Good, Bad, Exactly, AName, ANumber, Anything};
-ghost use Rattle.chp_syntax.specs.Grammar.{or_of, xor_of, and_of, sum_of, comparison_of, name};
+ghost use Rattle.chp_syntax.specs.Parts.{sees, here, IsKind, kind_read, name_of, numeral_value, WhenFault, primary_front, atom_front, action_front, decl_front, acts, begins_par, Good, Bad, Exactly, AName, ANumber, Anything};
+ghost use Rattle.chp_syntax.specs.Grammar.{or_operator, xor_of, and_of, sum_of, comparison_of, name};
 ghost use Rattle.chp_syntax.specs.declared.token.TokenKind.TheVariants.{Sign, Word};
 
 use crate::token::{Key, Mark, Token, TokenKind};
@@ -136,7 +136,7 @@ pub fn word_at(tokens: &[Token], at: usize, key: Key) -> bool
 }
 
 fn front_or(tokens: &[Token]) -> Option<Op>
-    ensures { result ≡ reads or_of (sees tokens.now) }
+    ensures { result ≡ kind_read or_operator (sees tokens.now) }
 {
     match tokens {
         [] => None,
@@ -154,13 +154,13 @@ fn front_or(tokens: &[Token]) -> Option<Op>
 
 pub fn or_at(tokens: &[Token], at: usize) -> Option<Op>
     requires { at ≤ length tokens.now }
-    ensures { result ≡ reads or_of (sees (drop at tokens.now)) }
+    ensures { result ≡ kind_read or_operator (sees (drop at tokens.now)) }
 {
     front_or(behind(tokens, at))
 }
 
 fn front_xor(tokens: &[Token]) -> Option<Op>
-    ensures { result ≡ reads xor_of (sees tokens.now) }
+    ensures { result ≡ kind_read xor_of (sees tokens.now) }
 {
     match tokens {
         [] => None,
@@ -178,13 +178,13 @@ fn front_xor(tokens: &[Token]) -> Option<Op>
 
 pub fn xor_at(tokens: &[Token], at: usize) -> Option<Op>
     requires { at ≤ length tokens.now }
-    ensures { result ≡ reads xor_of (sees (drop at tokens.now)) }
+    ensures { result ≡ kind_read xor_of (sees (drop at tokens.now)) }
 {
     front_xor(behind(tokens, at))
 }
 
 fn front_and(tokens: &[Token]) -> Option<Op>
-    ensures { result ≡ reads and_of (sees tokens.now) }
+    ensures { result ≡ kind_read and_of (sees tokens.now) }
 {
     match tokens {
         [] => None,
@@ -202,13 +202,13 @@ fn front_and(tokens: &[Token]) -> Option<Op>
 
 pub fn and_at(tokens: &[Token], at: usize) -> Option<Op>
     requires { at ≤ length tokens.now }
-    ensures { result ≡ reads and_of (sees (drop at tokens.now)) }
+    ensures { result ≡ kind_read and_of (sees (drop at tokens.now)) }
 {
     front_and(behind(tokens, at))
 }
 
 fn front_sum(tokens: &[Token]) -> Option<Op>
-    ensures { result ≡ reads sum_of (sees tokens.now) }
+    ensures { result ≡ kind_read sum_of (sees tokens.now) }
 {
     match tokens {
         [] => None,
@@ -227,13 +227,13 @@ fn front_sum(tokens: &[Token]) -> Option<Op>
 
 pub fn sum_at(tokens: &[Token], at: usize) -> Option<Op>
     requires { at ≤ length tokens.now }
-    ensures { result ≡ reads sum_of (sees (drop at tokens.now)) }
+    ensures { result ≡ kind_read sum_of (sees (drop at tokens.now)) }
 {
     front_sum(behind(tokens, at))
 }
 
 fn front_comparison(tokens: &[Token]) -> Option<Op>
-    ensures { result ≡ reads comparison_of (sees tokens.now) }
+    ensures { result ≡ kind_read comparison_of (sees tokens.now) }
 {
     match tokens {
         [] => None,
@@ -256,13 +256,13 @@ fn front_comparison(tokens: &[Token]) -> Option<Op>
 
 pub fn comparison_at(tokens: &[Token], at: usize) -> Option<Op>
     requires { at ≤ length tokens.now }
-    ensures { result ≡ reads comparison_of (sees (drop at tokens.now)) }
+    ensures { result ≡ kind_read comparison_of (sees (drop at tokens.now)) }
 {
     front_comparison(behind(tokens, at))
 }
 
 fn front_number(tokens: &[Token]) -> Option<u64>
-    ensures { result ≡ reads number_of (sees tokens.now) }
+    ensures { result ≡ kind_read numeral_value (sees tokens.now) }
 {
     match tokens {
         [] => None,
@@ -277,7 +277,7 @@ fn front_number(tokens: &[Token]) -> Option<u64>
 
 pub fn number_at(tokens: &[Token], at: usize) -> Option<u64>
     requires { at ≤ length tokens.now }
-    ensures { result ≡ reads number_of (sees (drop at tokens.now)) }
+    ensures { result ≡ kind_read numeral_value (sees (drop at tokens.now)) }
 {
     front_number(behind(tokens, at))
 }
@@ -409,7 +409,7 @@ pub fn span_at(tokens: &[Token], at: usize) -> Span
 
 fn front_name(tokens: &[Token]) -> Result<Ident, Stop>
     ensures there { IfOk result (λ i. sees tokens.now ≡ Some (name i.name i.at)) }
-    ensures missing { IfErr result (λ e. WhenFault e (reads name_of (sees tokens.now) ≡ None)) }
+    ensures missing { IfErr result (λ e. WhenFault e (kind_read name_of (sees tokens.now) ≡ None)) }
 {
     match tokens {
         [] => Err(Stop::Fault),

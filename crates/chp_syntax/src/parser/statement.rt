@@ -2,7 +2,7 @@
 
 ghost use Rattle.std.specs.Prelude.{◌≡◌, ℕ, ◌≤◌, ◌<◌, List, length, drop, IfOk, IfErr, OnOk};
 ghost use Rattle.chp_syntax.specs.declared.parser.sight.AtomFront.TheVariants as atom;
-ghost use Rattle.chp_syntax.specs.Parts.{Good, Bad, Stops, WhenFault, Inside, sees, atom_front};
+ghost use Rattle.chp_syntax.specs.Parts.{Good, Bad, StopsAt, WhenFault, Inside, sees, atom_front};
 ghost use Rattle.chp_syntax.specs.Grammar.{Atom, Both, Seq, Par, Branch, Choices};
 ghost use Rattle.chp_syntax.specs.View.{statement_of, guarded_of, armed_of};
 
@@ -21,10 +21,10 @@ fn action(alloc: Global, tokens: &[Token], at: &mut usize) -> Result<Stmt, Stop>
     requires front { atom_front (sees (drop at.old tokens.now)) ≡ atom.Name }
     ensures within { at.new ≤ length tokens.now }
     ensures moved { OnOk result (at.old < at.new) }
-    ensures good { IfOk result (λ s. Good Atom (Stops 5) (drop at.old tokens.now) (drop at.new tokens.now)
+    ensures good { IfOk result (λ s. Good Atom (StopsAt 5) (drop at.old tokens.now) (drop at.new tokens.now)
         (statement_of s)) }
     ensures bad { IfErr result (λ e.
-        WhenFault e (Bad Atom (Stops 5) (drop at.old tokens.now) (drop at.new tokens.now))) }
+        WhenFault e (Bad Atom (StopsAt 5) (drop at.old tokens.now) (drop at.new tokens.now))) }
 {
     let name = take_name(tokens, at)?;
     match action_at(tokens, *at) {
@@ -59,10 +59,10 @@ pub fn atom(alloc: Global, tokens: &[Token], at: &mut usize) -> Result<Stmt, Sto
     requires { at.old ≤ length tokens.now }
     ensures within { at.new ≤ length tokens.now }
     ensures moved { OnOk result (at.old < at.new) }
-    ensures good { IfOk result (λ s. Good Atom (Stops 5) (drop at.old tokens.now) (drop at.new tokens.now)
+    ensures good { IfOk result (λ s. Good Atom (StopsAt 5) (drop at.old tokens.now) (drop at.new tokens.now)
         (statement_of s)) }
     ensures bad { IfErr result (λ e.
-        WhenFault e (Bad Atom (Stops 5) (drop at.old tokens.now) (drop at.new tokens.now))) }
+        WhenFault e (Bad Atom (StopsAt 5) (drop at.old tokens.now) (drop at.new tokens.now))) }
 {
     match atom_at(tokens, *at) {
         AtomFront::Skip => {
@@ -104,10 +104,10 @@ fn inside(alloc: Global, tokens: &[Token], at: &mut usize) -> Result<Stmt, Stop>
     requires { at.old ≤ length tokens.now }
     ensures within { at.new ≤ length tokens.now }
     ensures moved { OnOk result (at.old < at.new) }
-    ensures good { IfOk result (λ s. Good Inside (Stops 1) (drop at.old tokens.now) (drop at.new tokens.now)
+    ensures good { IfOk result (λ s. Good Inside (StopsAt 1) (drop at.old tokens.now) (drop at.new tokens.now)
         (statement_of s)) }
     ensures bad { IfErr result (λ e.
-        WhenFault e (Bad Inside (Stops 1) (drop at.old tokens.now) (drop at.new tokens.now))) }
+        WhenFault e (Bad Inside (StopsAt 1) (drop at.old tokens.now) (drop at.new tokens.now))) }
 {
     if begins_statement(tokens, *at) {
         let body = par(alloc, tokens, at)?;
@@ -124,10 +124,10 @@ fn branch(alloc: Global, tokens: &[Token], at: &mut usize) -> Result<Arm, Stop>
     requires { at.old ≤ length tokens.now }
     ensures within { at.new ≤ length tokens.now }
     ensures moved { OnOk result (at.old < at.new) }
-    ensures good { IfOk result (λ s. Good Branch (Stops 2) (drop at.old tokens.now) (drop at.new tokens.now)
+    ensures good { IfOk result (λ s. Good Branch (StopsAt 2) (drop at.old tokens.now) (drop at.new tokens.now)
         (guarded_of s)) }
     ensures bad { IfErr result (λ e.
-        WhenFault e (Bad Branch (Stops 2) (drop at.old tokens.now) (drop at.new tokens.now))) }
+        WhenFault e (Bad Branch (StopsAt 2) (drop at.old tokens.now) (drop at.new tokens.now))) }
 {
     let guard = disjunction(alloc, tokens, at)?;
     take_mark(tokens, at, Mark::Arrow)?;
@@ -144,10 +144,10 @@ fn choices(alloc: Global, tokens: &[Token], at: &mut usize) -> Result<Vec<Arm>, 
     requires { at.old ≤ length tokens.now }
     ensures within { at.new ≤ length tokens.now }
     ensures moved { OnOk result (at.old < at.new) }
-    ensures good { IfOk result (λ s. Good Choices (Stops 1) (drop at.old tokens.now) (drop at.new tokens.now)
+    ensures good { IfOk result (λ s. Good Choices (StopsAt 1) (drop at.old tokens.now) (drop at.new tokens.now)
         (armed_of s)) }
     ensures bad { IfErr result (λ e.
-        WhenFault e (Bad Choices (Stops 1) (drop at.old tokens.now) (drop at.new tokens.now))) }
+        WhenFault e (Bad Choices (StopsAt 1) (drop at.old tokens.now) (drop at.new tokens.now))) }
 {
     let first = branch(alloc, tokens, at)?;
     let mut arms: Vec<Arm> = Vec::new(alloc);
@@ -166,10 +166,10 @@ fn both(alloc: Global, tokens: &[Token], at: &mut usize) -> Result<Stmt, Stop>
     requires { at.old ≤ length tokens.now }
     ensures within { at.new ≤ length tokens.now }
     ensures moved { OnOk result (at.old < at.new) }
-    ensures good { IfOk result (λ s. Good Both (Stops 4) (drop at.old tokens.now) (drop at.new tokens.now)
+    ensures good { IfOk result (λ s. Good Both (StopsAt 4) (drop at.old tokens.now) (drop at.new tokens.now)
         (statement_of s)) }
     ensures bad { IfErr result (λ e.
-        WhenFault e (Bad Both (Stops 4) (drop at.old tokens.now) (drop at.new tokens.now))) }
+        WhenFault e (Bad Both (StopsAt 4) (drop at.old tokens.now) (drop at.new tokens.now))) }
 {
     let first = atom(alloc, tokens, at)?;
     if !mark_at(tokens, *at, Mark::Comma) {
@@ -191,10 +191,10 @@ fn seq(alloc: Global, tokens: &[Token], at: &mut usize) -> Result<Stmt, Stop>
     requires { at.old ≤ length tokens.now }
     ensures within { at.new ≤ length tokens.now }
     ensures moved { OnOk result (at.old < at.new) }
-    ensures good { IfOk result (λ s. Good Seq (Stops 3) (drop at.old tokens.now) (drop at.new tokens.now)
+    ensures good { IfOk result (λ s. Good Seq (StopsAt 3) (drop at.old tokens.now) (drop at.new tokens.now)
         (statement_of s)) }
     ensures bad { IfErr result (λ e.
-        WhenFault e (Bad Seq (Stops 3) (drop at.old tokens.now) (drop at.new tokens.now))) }
+        WhenFault e (Bad Seq (StopsAt 3) (drop at.old tokens.now) (drop at.new tokens.now))) }
 {
     let first = both(alloc, tokens, at)?;
     if !mark_at(tokens, *at, Mark::Semicolon) {
@@ -216,10 +216,10 @@ pub fn par(alloc: Global, tokens: &[Token], at: &mut usize) -> Result<Stmt, Stop
     requires { at.old ≤ length tokens.now }
     ensures within { at.new ≤ length tokens.now }
     ensures moved { OnOk result (at.old < at.new) }
-    ensures good { IfOk result (λ s. Good Par (Stops 2) (drop at.old tokens.now) (drop at.new tokens.now)
+    ensures good { IfOk result (λ s. Good Par (StopsAt 2) (drop at.old tokens.now) (drop at.new tokens.now)
         (statement_of s)) }
     ensures bad { IfErr result (λ e.
-        WhenFault e (Bad Par (Stops 2) (drop at.old tokens.now) (drop at.new tokens.now))) }
+        WhenFault e (Bad Par (StopsAt 2) (drop at.old tokens.now) (drop at.new tokens.now))) }
 {
     let first = seq(alloc, tokens, at)?;
     if !mark_at(tokens, *at, Mark::BarBar) {

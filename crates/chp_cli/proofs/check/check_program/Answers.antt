@@ -1,5 +1,5 @@
 use Rattle.std.proofs.Common.{◌∙◌, ap}
-use Rattle.chp_syntax.specs.View.{program_of}
+use Rattle.chp_syntax.specs.View.{program_tree}
 use Rattle.handshake_expand.specs.Layout.{node_count}
 use Rattle.width_check.specs.Typed.{program_of as typed_of}
 use Rattle.chp_cli.specs.declared.answer.Ending.TheVariants.{Done}
@@ -11,7 +11,7 @@ use Rattle.chp_cli.proofs.check.check_program.Goals as goal
 
 pub returns-in-Err-clause-stopped : goal.returns-in-Err-clause-stopped
 returns-in-Err-clause-stopped c =
-    let program = program_of c.args.program.now in
+    let program = program_tree c.args.program.now in
     halts_in (FromChecks program (Never program)) (ChecksProgram program) (λ answer is. checks_go is) c.in-Err.stop c.in-Err.ensures.stopped
 
 pub returns-in-Ok-accepted_text-clause-answered : goal.returns-in-Ok-accepted_text-clause-answered

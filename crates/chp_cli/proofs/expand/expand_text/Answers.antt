@@ -1,4 +1,4 @@
-use Rattle.chp_syntax.specs.View.{program_of}
+use Rattle.chp_syntax.specs.View.{program_tree}
 use Rattle.chp_cli.specs.Expanding.{ExpandsProgram}
 use Rattle.chp_cli.specs.Steps.{FromProgram, Never}
 use Rattle.chp_cli.proofs.Stopping.{halts_in, program_answers, program_goes, program_stops}
@@ -6,11 +6,11 @@ use Rattle.chp_cli.proofs.expand.expand_text.Goals as goal
 
 pub returns-in-Ok-clause-answered : goal.returns-in-Ok-clause-answered
 returns-in-Ok-clause-answered c =
-    program_answers c.args.text.now (program_of c.in-Ok.program) ExpandsProgram c.in-Ok.ensures.read c.expand_program.result c.expand_program.ensures.answered
+    program_answers c.args.text.now (program_tree c.in-Ok.program) ExpandsProgram c.in-Ok.ensures.read c.expand_program.result c.expand_program.ensures.answered
 
 pub returns-in-Ok-clause-stopped : goal.returns-in-Ok-clause-stopped
 returns-in-Ok-clause-stopped c =
-    program_stops c.args.text.now (program_of c.in-Ok.program) ExpandsProgram c.in-Ok.ensures.read c.expand_program.result c.expand_program.ensures.stopped
+    program_stops c.args.text.now (program_tree c.in-Ok.program) ExpandsProgram c.in-Ok.ensures.read c.expand_program.result c.expand_program.ensures.stopped
 
 pub returns-in-Err-clause-stopped : goal.returns-in-Err-clause-stopped
 returns-in-Err-clause-stopped c =

@@ -1,5 +1,5 @@
 use Rattle.std.proofs.Common.{refl}
-use Rattle.chp_syntax.specs.View.{program_of}
+use Rattle.chp_syntax.specs.View.{program_tree}
 use Rattle.width_check.specs.Typed.{program_of as typed_of}
 use Rattle.chp_cli.specs.Steps.{has_calls, faulty}
 use Rattle.chp_cli.proofs.Faulty.{named_fault, shared_fault}
@@ -13,11 +13,11 @@ returns-in-Err-Refused-clause-stopped c =
     let free = c.if-not-is_call_free.ensures.0 refl in
     let other = rw c.in-Err-Refused.field-0-is at c.in-Err-Refused.ensures.other in
     let place = rw c.in-Err-Refused.field-0-is at c.in-Err-Refused.ensures.place in
-    faulty free (rw c.in-Err-Refused.fault-is (named_fault (program_of c.args.program.now) _ other place))
+    faulty free (rw c.in-Err-Refused.fault-is (named_fault (program_tree c.args.program.now) _ other place))
 
 pub returns-in-Err-Refused-share-clause-stopped : goal.returns-in-Err-Refused-share-clause-stopped
 returns-in-Err-Refused-share-clause-stopped c =
     let free = c.if-not-is_call_free.ensures.0 refl in
     let place = rw c.in-Err-Refused-share.field-0-is at c.in-Err-Refused-share.ensures.place in
-    faulty free (rw c.in-Err-Refused-share.fault-is (shared_fault (program_of c.args.program.now) (typed_of c.in-Ok.typed) _ c.in-Ok.ensures.form
+    faulty free (rw c.in-Err-Refused-share.fault-is (shared_fault (program_tree c.args.program.now) (typed_of c.in-Ok.typed) _ c.in-Ok.ensures.form
         c.in-Ok.ensures.accepted place))

@@ -1,5 +1,5 @@
 use Rattle.std.proofs.Common.{List, map, ap, arith}
-use Rattle.chp_syntax.specs.View.{procedure_of, program_of}
+use Rattle.chp_syntax.specs.View.{procedure_of, program_tree}
 use Rattle.chp_syntax.specs.declared.tree.Proc.{Proc}
 use Rattle.chp_cli.proofs.FewDeclarations.{few_declarations}
 use Rattle.chp_cli.specs.Steps.{no_program}
@@ -14,5 +14,5 @@ returns-in-Err-Refused-clause-stopped c =
 
 pub returns-in-Ok-clause-few : goal.returns-in-Ok-clause-few
 returns-in-Ok-clause-few c = λ none.
-    let few = few_declarations c.args.text.now (program_of c.in-Ok.program) c.in-Ok.ensures.reads (ap (λ (ps : List Proc). map procedure_of ps) none) in
+    let few = few_declarations c.args.text.now (program_tree c.in-Ok.program) c.in-Ok.ensures.reads (ap (λ (ps : List Proc). map procedure_of ps) none) in
     omega (arith, few, c.requires)

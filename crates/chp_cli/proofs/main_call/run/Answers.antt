@@ -1,7 +1,7 @@
 use Rattle.std.proofs.Common.{◌≡◌, [], Some, None, rules, take, sym, append-nil}
 use Rattle.chp_cli.specs.Commands.{asked, asked_by}
 use Rattle.chp_cli.specs.Ends.{formless, whole, cut_off, no_memory}
-use Rattle.chp_cli.specs.Replies.{written}
+use Rattle.chp_cli.specs.Replies.{told_answer}
 use Rattle.chp_cli.proofs.Ending.{answers_of, front_of, stopped_ends}
 use Rattle.chp_cli.proofs.main_call.run.Goals as goal
 
@@ -23,7 +23,7 @@ returns-in-Ok-write_all-clause-ended g c =
     let named : asked_by c.args.words.now ≡ Some (asked c.in-Ok-Some.command) = search rules in
     let output = c.in-Ok.output in (
       output.text.items,
-      whole output.end output.text.items (answers_of _ _ (asked c.in-Ok-Some.command) (written output) named c.in-Ok.ensures.answered),
+      whole output.end output.text.items (answers_of _ _ (asked c.in-Ok-Some.command) (told_answer output) named c.in-Ok.ensures.answered),
       rw c.deref.ensures.value at c.in-Ok-write_all.ensures.whole,
     )
 
@@ -35,7 +35,7 @@ returns-clause-ended g c =
     let front = front_of (K.tells c.args.out.now) (K.written c.args.out.now) (K.written c.write_all.new.sink) output.text.items
         (rw c.deref.ensures.value at c.in-Err-write_all.ensures.prefix) in (
       take front.0 output.text.items,
-      cut_off output.end output.text.items front.0 (answers_of _ _ (asked c.in-Ok-Some.command) (written output) named c.in-Ok.ensures.answered)
+      cut_off output.end output.text.items front.0 (answers_of _ _ (asked c.in-Ok-Some.command) (told_answer output) named c.in-Ok.ensures.answered)
           c.in-Err-write_all.ensures.failed,
       front.1,
     )

@@ -1,5 +1,5 @@
 use Rattle.std.proofs.Common.{◌≡◌, drop}
-use Rattle.chp_meaning.specs.Remaining.{each_begun, members_of}
+use Rattle.chp_meaning.specs.Remaining.{each_begun, statement_processes}
 use Rattle.chp_meaning.proofs.Rows.{front}
 use Rattle.chp_meaning.proofs.left.+opened.Given as goal
 
@@ -7,4 +7,4 @@ abbrev pub decreases-opened : goal.decreases-opened
 decreases-opened l = goal.size-opened l
 
 abbrev pub invariant-loop-part : goal.invariant-loop-part
-invariant-loop-part l = front l.lefts.items (each_begun (members_of (drop l.part-index l.part-items))) ≡ each_begun (members_of l.part-items)
+invariant-loop-part l = front l.lefts.items (each_begun (statement_processes (drop l.part-index l.part-items))) ≡ each_begun (statement_processes l.part-items)

@@ -8,7 +8,7 @@ use Rattle.chp_syntax.specs.Tokens.{Tokens, BadToken, IfRefused}
 use Rattle.chp_syntax.specs.Refusals.{RefusedTokens, RefusedText, bad_token, bad_tokens}
 use Rattle.chp_syntax.specs.Trees.{ProgramTree}
 use Rattle.chp_syntax.specs.Reading.{Reads}
-use Rattle.chp_syntax.specs.View.{program_of}
+use Rattle.chp_syntax.specs.View.{program_tree}
 use Rattle.chp_syntax.proofs.Shapes.{read_shaped}
 use Rattle.chp_syntax.proofs.RefusedLemmas.{refused_none}
 use Rattle.chp_syntax.proofs.parser.parse.Goals as goal
@@ -52,7 +52,7 @@ returns-clause-refused c =
 pub returns-in-Ok-parse_list-clause-shaped : goal.returns-in-Ok-parse_list-clause-shaped
 returns-in-Ok-parse_list-clause-shaped c =
     let ensured = c.in-Ok-parse_list.ensures in
-    read_shaped c.args.text.now (program_of c.in-Ok-parse_list.program)
+    read_shaped c.args.text.now (program_tree c.in-Ok-parse_list.program)
     (record {
       tokens = c.in-Ok.tokens.items;
       cut = c.in-Ok.ensures.read;

@@ -1,8 +1,8 @@
 use Rattle.std.proofs.Common.{ℕ, drop, sym, ap, ◌∙◌, subst}
 use Rattle.chp_base.specs.declared.span.Span.{Span}
 use Rattle.chp_base.specs.declared.fault.FaultCode.TheVariants as code
-use Rattle.chp_syntax.specs.Refusals.{spot, RefusedTokens, IsPlain, a_probe, an_arbiter, too_deep, no_program, too_many_arms}
-use Rattle.chp_syntax.specs.View.{program_of}
+use Rattle.chp_syntax.specs.Refusals.{spot, RefusedTokens, IsSpoken, a_probe, an_arbiter, too_deep, no_program, too_many_arms}
+use Rattle.chp_syntax.specs.View.{program_tree}
 use Rattle.chp_syntax.proofs.FewArms.{few_in_program}
 use Rattle.chp_syntax.proofs.parser.parse_list.Goals as goal
 
@@ -14,12 +14,12 @@ returns-in-Some-arbiter-clause-place c = rw c.refusal-in-Some-arbiter.ensures (a
 
 pub returns-in-Some-too_deep-clause-place : goal.returns-in-Some-too_deep-clause-place
 returns-in-Some-too_deep-clause-place c =
-    let plain : IsPlain c.args.tokens.now = record { probes = c.in_default.ensures.none; arbiters = c.in_default-arbiter.ensures.none } in
+    let plain : IsSpoken c.args.tokens.now = record { probes = c.in_default.ensures.none; arbiters = c.in_default-arbiter.ensures.none } in
     rw c.refusal-in-Some-too_deep.ensures (too_deep plain c.in-Some-too_deep.ensures.some)
 
 pub returns-in-Err-Syntax-clause-place : goal.returns-in-Err-Syntax-clause-place
 returns-in-Err-Syntax-clause-place c =
-    let plain : IsPlain c.args.tokens.now = record { probes = c.in_default.ensures.none; arbiters = c.in_default-arbiter.ensures.none } in
+    let plain : IsSpoken c.args.tokens.now = record { probes = c.in_default.ensures.none; arbiters = c.in_default-arbiter.ensures.none } in
     let fault = rw c.in-Err-Syntax.field-0-is at c.in-Err-Syntax.ensures.fault in
     let ts = c.args.tokens.now in
     let end = c.args.end in
@@ -29,8 +29,8 @@ returns-in-Err-Syntax-clause-place c =
 
 pub returns-in-Some-arms-clause-place : goal.returns-in-Some-arms-clause-place
 returns-in-Some-arms-clause-place c =
-    let plain : IsPlain c.args.tokens.now = record { probes = c.in_default.ensures.none; arbiters = c.in_default-arbiter.ensures.none } in
-    rw c.refusal-in-Some-arms.ensures (too_many_arms (program_of c.in-Ok.program) plain c.in_default-too_deep.ensures.none c.in-Ok.ensures.reads
+    let plain : IsSpoken c.args.tokens.now = record { probes = c.in_default.ensures.none; arbiters = c.in_default-arbiter.ensures.none } in
+    rw c.refusal-in-Some-arms.ensures (too_many_arms (program_tree c.in-Ok.program) plain c.in_default-too_deep.ensures.none c.in-Ok.ensures.reads
     (rw c.in-Some-arms.is at c.in-Ok-seventeenth_arm.ensures.some))
 
 pub returns-clause-few_in_procs : goal.returns-clause-few_in_procs

@@ -1,5 +1,5 @@
 use Rattle.std.proofs.Common.{◌^◌, ◌<◌, ◌≤◌, ◌-◌, ℕ, length, take, drop, Option, Some, None, IfNone, sym, arith}
-use Rattle.env_script.specs.Numbers.{number_in}
+use Rattle.env_script.specs.Numbers.{number_of_word}
 use Rattle.env_script.proofs.Numerals.{hex_digits, hex_fits}
 use Rattle.env_script.proofs.number.number_of.Goals as goal
 
@@ -14,5 +14,5 @@ pub returns-else-not-are_hex_digits-clause-none : goal.returns-else-not-are_hex_
 returns-else-not-are_hex_digits-clause-none c =
     let text = c.args.word.now in
     let tail = take (length text - 2) (drop 2 text) in
-    let fits : number_in 16 tail < 2 ^ 64 = hex_fits tail (sym c.if-not-are_hex_digits.ensures) c.if-tail-gt-MOST_HEX_DIGITS.false in
-    never_none c.value_of.result (2 ^ 64 ≤ number_in 16 tail) _ (λ le. absurd (omega arith)) c.value_of.ensures.none
+    let fits : number_of_word 16 tail < 2 ^ 64 = hex_fits tail (sym c.if-not-are_hex_digits.ensures) c.if-tail-gt-MOST_HEX_DIGITS.false in
+    never_none c.value_of.result (2 ^ 64 ≤ number_of_word 16 tail) _ (λ le. absurd (omega arith)) c.value_of.ensures.none

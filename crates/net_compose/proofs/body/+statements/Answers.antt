@@ -14,7 +14,8 @@ use Rattle.handshake_expand.proofs.Rows.{then_is, beside_is, select_is, members_
 use Rattle.handshake_expand.proofs.Turns.{this_typed, size_here, size_last}
 use Rattle.net_compose.specs.EverySite.{every_site}
 use Rattle.net_compose.specs.SiteLists.{site_values}
-use Rattle.net_compose.specs.Translation.{branch_ends, branch_answers, rules_of, sites_in, sites_in_turn, sites_in_branches, sites_in_bodies, hidden_high}
+use Rattle.handshake_expand.specs.Sites.{sites_in, sites_in_turn, sites_in_branches, sites_in_bodies}
+use Rattle.net_compose.specs.Translation.{branch_ends, branch_answers, rules_of, hidden_high}
 use Rattle.net_compose.proofs.BodyWritten.{raised_more, raised_done, turn_step, turn_end, branch_step, branches_done, parallel_wrote, ends_before, body_step, bodies_done, repeated_wrote, answer_inside, on_ok, given, choosing_left}
 use Rattle.net_compose.proofs.FlatRules.{length-branch_ends}
 use Rattle.net_compose.proofs.Raised.{with_raised}

@@ -8,7 +8,8 @@ use Rattle.handshake_expand.specs.Answers.{bodies_from}
 use Rattle.handshake_expand.specs.PartTree.{members_of, arms_of, own_before}
 use Rattle.net_compose.specs.EverySite.{every_site}
 use Rattle.net_compose.specs.SiteLists.{site_values}
-use Rattle.net_compose.specs.Translation.{rules_of, turn_rules, branches_rules, bodies_rules, branch_ends, sites_in_turn, sites_in_branches, sites_in_bodies, hidden_high}
+use Rattle.handshake_expand.specs.Sites.{sites_in_turn, sites_in_branches, sites_in_bodies}
+use Rattle.net_compose.specs.Translation.{rules_of, turn_rules, branches_rules, bodies_rules, branch_ends, hidden_high}
 use Rattle.net_compose.proofs.Raised.{with_raised}
 use Rattle.net_compose.proofs.body.+statements.Given as goal
 

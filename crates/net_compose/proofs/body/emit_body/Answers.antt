@@ -6,7 +6,8 @@ use Rattle.width_check.specs.View.{process_of}
 use Rattle.handshake_expand.specs.Layout.{size_of, root_request, body_from}
 use Rattle.net_compose.specs.EverySite.{every_site}
 use Rattle.net_compose.specs.SiteLists.{site_values}
-use Rattle.net_compose.specs.Translation.{rules_of, sites_in, hidden_high}
+use Rattle.handshake_expand.specs.Sites.{sites_in}
+use Rattle.net_compose.specs.Translation.{rules_of, hidden_high}
 use Rattle.net_compose.proofs.Raised.{with_raised}
 use Rattle.net_compose.proofs.body.emit_body.Goals as goal
 

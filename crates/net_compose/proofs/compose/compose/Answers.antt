@@ -1,7 +1,8 @@
 use Rattle.std.proofs.Common.{◌∙◌, length, ap, subst, arith}
 use Rattle.prs_core.specs.Nets.{IsRules}
 use Rattle.width_check.specs.Typed.{program_of}
-use Rattle.net_compose.specs.Translation.{in_body, hidden_high}
+use Rattle.handshake_expand.specs.Sites.{in_body}
+use Rattle.net_compose.specs.Translation.{hidden_high}
 use Rattle.net_compose.proofs.Raised.{with_raised}
 use Rattle.net_compose.proofs.Composed.{all_values, net_made, net_fine, written_over}
 use Rattle.net_compose.proofs.compose.compose.Goals as goal

@@ -26,4 +26,4 @@ returns-clause-fan c =
     let net = c.args.net.now in
     let whole : c.loop-reader.reader ≡ length net.first = omega (arith, ap length c.first-nodes.ensures.first) in
     fill_by_all (readers_below net (length net.first)) c.loop-reader.readers.items (length net.first) [] c.loop-reader.invariant.count
-        (λ k h. rw (← whole) (c.loop-reader.invariant.each k h))
+    (λ k h. rw (← whole) (c.loop-reader.invariant.each k h))

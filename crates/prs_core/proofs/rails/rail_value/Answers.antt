@@ -12,14 +12,14 @@ loop-bit-init c = record {
 pub returns-then-is_one-is_high-clause-value : goal.returns-then-is_one-is_high-clause-value
 returns-then-is_one-is_high-clause-value c =
     sym (pair_refused (high c.args.state.now) (c.loop-bit.bit - 1) c.args.rails.now _ _ (omega arith) c.is_high-is_one.ensures c.is_high.ensures
-        c.if-is_one-is_high.true)
+    c.if-is_one-is_high.true)
 
 pub loop-bit-preserved : goal.loop-bit-preserved
 loop-bit-preserved c =
     let most : c.loop-bit.bit ≤ 64 = omega arith in
     let bit_is : (c.loop-bit.bit - 1) + 1 ≡ c.loop-bit.bit = omega arith in
     let rest : rail_value_of (high c.args.state.now) (drop (2 * ((c.loop-bit.bit - 1) + 1)) c.args.rails.now) ≡ Some c.loop-bit.value =
-        rw bit_is c.loop-bit.invariant.value in
+    rw bit_is c.loop-bit.invariant.value in
     rw c.from.ensures (record {
       value = pair_taken (high c.args.state.now) (c.loop-bit.bit - 1) c.args.rails.now _ _ c.loop-bit.value (omega arith) c.is_high-is_one.ensures
           c.is_high.ensures c.if-is_one-is_high.false rest;

@@ -1,13 +1,13 @@
 use Rattle.std.proofs.Common.{◌≡◌, drop}
 use Rattle.width_check.specs.Calls.{some_has_call, arm_has_call}
-use Rattle.width_check.specs.Walk.{members_of, arms_of}
+use Rattle.width_check.specs.Walk.{statements_in, arms_in}
 use Rattle.width_check.proofs.call_free.+has_call.Given as goal
 
 abbrev pub invariant-loop-part : goal.invariant-loop-part
-invariant-loop-part l = some_has_call (members_of (drop l.part-index l.part-items)) ≡ some_has_call (members_of l.part-items)
+invariant-loop-part l = some_has_call (statements_in (drop l.part-index l.part-items)) ≡ some_has_call (statements_in l.part-items)
 
 abbrev pub invariant-loop-branch : goal.invariant-loop-branch
-invariant-loop-branch l = some_has_call (members_of (drop l.branch-index l.branch-items)) ≡ some_has_call (members_of l.branch-items)
+invariant-loop-branch l = some_has_call (statements_in (drop l.branch-index l.branch-items)) ≡ some_has_call (statements_in l.branch-items)
 
 abbrev pub invariant-loop-arm : goal.invariant-loop-arm
-invariant-loop-arm l = arm_has_call (arms_of (drop l.arm-index l.arm-items)) ≡ arm_has_call (arms_of l.arm-items)
+invariant-loop-arm l = arm_has_call (arms_in (drop l.arm-index l.arm-items)) ≡ arm_has_call (arms_in l.arm-items)

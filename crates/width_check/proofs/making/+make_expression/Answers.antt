@@ -6,7 +6,7 @@ use Rattle.chp_syntax.specs.View.{expression_of}
 use Rattle.width_check.specs.Places.{declared_width, use_of, read}
 use Rattle.width_check.specs.Form.{formula_form}
 use Rattle.width_check.specs.View.{formula_of}
-use Rattle.width_check.specs.Walk.{parts_of}
+use Rattle.width_check.specs.Walk.{join_parts}
 use Rattle.width_check.proofs.Leaves.{good_slice, declared_most}
 use Rattle.width_check.proofs.Soundness.{number_fits, bit_within, sound_inner}
 use Rattle.width_check.proofs.Ready.{ArePartsLeft, part_ready, part_made, parts_next, join_left, join_made, first_ready, links_left, links_next, link_ready, link_made, chain_made, comparison_ready, comparison_made}
@@ -79,7 +79,7 @@ make_expression-requires t c =
 
 pub loop-part-preserved : goal.loop-part-preserved
 loop-part-preserved t c =
-    let here : ArePartsLeft c.args.scope.now.decls.now (parts_of (drop c.loop-part.part-index c.deref-part-items.result.now)) =
+    let here : ArePartsLeft c.args.scope.now.decls.now (join_parts (drop c.loop-part.part-index c.deref-part-items.result.now)) =
         (record { shaped = c.loop-part.invariant.shaped; full = c.loop-part.invariant.full; sound = c.loop-part.invariant.sound }) in
     let left = parts_next c.args.scope.now.decls.now c.deref-part-items.result.now c.loop-part.part-index c.part-item.result c.loop-part-test.true
         c.part-item.is here in

@@ -4,17 +4,17 @@ use Rattle.chp_base.specs.declared.span.Span.{Span}
 use Rattle.chp_syntax.specs.Shape.{AreShapedParts, AreShapedLinks}
 use Rattle.width_check.specs.Form.{parts_form, operations_form}
 use Rattle.width_check.specs.Sound.{IsSound}
-use Rattle.width_check.specs.Walk.{lacking_parts, met_in_parts, met_in_links, parts_of, links_of}
+use Rattle.width_check.specs.Walk.{lacking_parts, met_in_parts, met_in_links, join_parts, links_of}
 use Rattle.width_check.proofs.Makings.{before_parts, before_links}
 use Rattle.width_check.proofs.making.+make_expression.Given as goal
 
 abbrev pub invariant-loop-part : goal.invariant-loop-part
 invariant-loop-part l = record {
-  made : before_parts l.made.items (parts_form l.scope.decls.now (parts_of (drop l.part-index l.part-items))) ≡
-      parts_form l.scope.decls.now (parts_of l.part-items);
-  shaped : AreShapedParts (parts_of (drop l.part-index l.part-items));
-  full : (s : Span) → ¬ Contains (lacking_parts l.scope.decls.now (parts_of (drop l.part-index l.part-items))) s;
-  sound : IsSound l.scope.decls.now (met_in_parts l.scope.decls.now (parts_of (drop l.part-index l.part-items)));
+  made : before_parts l.made.items (parts_form l.scope.decls.now (join_parts (drop l.part-index l.part-items))) ≡
+      parts_form l.scope.decls.now (join_parts l.part-items);
+  shaped : AreShapedParts (join_parts (drop l.part-index l.part-items));
+  full : (s : Span) → ¬ Contains (lacking_parts l.scope.decls.now (join_parts (drop l.part-index l.part-items))) s;
+  sound : IsSound l.scope.decls.now (met_in_parts l.scope.decls.now (join_parts (drop l.part-index l.part-items)));
 }
 
 abbrev pub invariant-loop-link : goal.invariant-loop-link

@@ -3,35 +3,35 @@ use Rattle.chp_syntax.specs.Shape.{AreShapedMembers, AreShapedArms}
 use Rattle.width_check.specs.Calls.{some_has_call, arm_has_call}
 use Rattle.width_check.specs.Form.{processes_form, choices_form}
 use Rattle.width_check.specs.Sound.{IsSound}
-use Rattle.width_check.specs.Walk.{met_of_each, met_of_arms, members_of, arms_of}
+use Rattle.width_check.specs.Walk.{met_of_each, met_of_arms, statements_in, arms_in}
 use Rattle.width_check.proofs.Makings.{before_members, before_arms}
 use Rattle.width_check.proofs.making.+make_statement.Given as goal
 
 abbrev pub invariant-loop-part : goal.invariant-loop-part
 invariant-loop-part l = record {
-  made : before_members l.made.items (processes_form l.scope.decls.now (members_of (drop l.part-index l.part-items))) ≡
-      processes_form l.scope.decls.now (members_of l.part-items);
-  shaped : AreShapedMembers (members_of (drop l.part-index l.part-items));
-  free : some_has_call (members_of (drop l.part-index l.part-items)) ≡ false;
-  sound : IsSound l.scope.decls.now (met_of_each l.scope.decls.now (members_of (drop l.part-index l.part-items)));
+  made : before_members l.made.items (processes_form l.scope.decls.now (statements_in (drop l.part-index l.part-items))) ≡
+      processes_form l.scope.decls.now (statements_in l.part-items);
+  shaped : AreShapedMembers (statements_in (drop l.part-index l.part-items));
+  free : some_has_call (statements_in (drop l.part-index l.part-items)) ≡ false;
+  sound : IsSound l.scope.decls.now (met_of_each l.scope.decls.now (statements_in (drop l.part-index l.part-items)));
 }
 
 abbrev pub invariant-loop-branch : goal.invariant-loop-branch
 invariant-loop-branch l = record {
-  made : before_members l.made.items (processes_form l.scope.decls.now (members_of (drop l.branch-index l.branch-items))) ≡
-      processes_form l.scope.decls.now (members_of l.branch-items);
-  shaped : AreShapedMembers (members_of (drop l.branch-index l.branch-items));
-  free : some_has_call (members_of (drop l.branch-index l.branch-items)) ≡ false;
-  sound : IsSound l.scope.decls.now (met_of_each l.scope.decls.now (members_of (drop l.branch-index l.branch-items)));
+  made : before_members l.made.items (processes_form l.scope.decls.now (statements_in (drop l.branch-index l.branch-items))) ≡
+      processes_form l.scope.decls.now (statements_in l.branch-items);
+  shaped : AreShapedMembers (statements_in (drop l.branch-index l.branch-items));
+  free : some_has_call (statements_in (drop l.branch-index l.branch-items)) ≡ false;
+  sound : IsSound l.scope.decls.now (met_of_each l.scope.decls.now (statements_in (drop l.branch-index l.branch-items)));
 }
 
 abbrev pub invariant-loop-arm : goal.invariant-loop-arm
 invariant-loop-arm l = record {
-  made : before_arms l.made.items (choices_form l.scope.decls.now (arms_of (drop l.arm-index l.arm-items))) ≡
-      choices_form l.scope.decls.now (arms_of l.arm-items);
-  shaped : AreShapedArms (arms_of (drop l.arm-index l.arm-items));
-  free : arm_has_call (arms_of (drop l.arm-index l.arm-items)) ≡ false;
-  sound : IsSound l.scope.decls.now (met_of_arms l.scope.decls.now (arms_of (drop l.arm-index l.arm-items)));
+  made : before_arms l.made.items (choices_form l.scope.decls.now (arms_in (drop l.arm-index l.arm-items))) ≡
+      choices_form l.scope.decls.now (arms_in l.arm-items);
+  shaped : AreShapedArms (arms_in (drop l.arm-index l.arm-items));
+  free : arm_has_call (arms_in (drop l.arm-index l.arm-items)) ≡ false;
+  sound : IsSound l.scope.decls.now (met_of_arms l.scope.decls.now (arms_in (drop l.arm-index l.arm-items)));
 }
 
 abbrev pub decreases-make_statement : goal.decreases-make_statement

@@ -1,5 +1,5 @@
 use Rattle.std.proofs.Common.{refl, ◌∙◌}
-use Rattle.width_check.specs.Walk.{parts_of}
+use Rattle.width_check.specs.Walk.{join_parts}
 use Rattle.width_check.proofs.OwnWidths.{part_summed, sum_done, join_own}
 use Rattle.width_check.proofs.Scopes.{capped_most}
 use Rattle.width_check.proofs.Strolls.{part_step, part_done, link_step, link_done, chain_own}
@@ -9,7 +9,7 @@ use Rattle.width_check.proofs.survey.+with_expression.Goals as goal
 pub loop-part-preserved : goal.loop-part-preserved
 loop-part-preserved t c =
     let own = c.with_expression-surveyed.ensures.own refl in
-    let total = noted_parts c.args.scope.now.decls.now c.args.findings (parts_of c.deref-part-items.result.now) in
+    let total = noted_parts c.args.scope.now.decls.now c.args.findings (join_parts c.deref-part-items.result.now) in
     record {
       found = part_step c.args.scope.now.decls.now _ c.loop-part.part-index _ _ _ _ total _ _ c.loop-part-test.true c.part-item.is c.loop-part.invariant.found
           own c.span.ensures c.with_expression-surveyed.ensures.findings c.with_part-findings.ensures;

@@ -1,15 +1,15 @@
 use Rattle.std.proofs.Common.{◌≡◌, ◌+◌, ◌≤◌, drop}
 use Rattle.width_check.specs.Places.{own_widths}
-use Rattle.width_check.specs.Walk.{noted, capped, met_in_links, parts_of, links_of}
+use Rattle.width_check.specs.Walk.{noted, capped_width, met_in_links, join_parts, links_of}
 use Rattle.width_check.proofs.Swapping.{noted_parts}
 use Rattle.width_check.proofs.survey.+with_expression.Given as goal
 
 abbrev pub invariant-loop-part : goal.invariant-loop-part
 invariant-loop-part l = record {
-  found : noted_parts l.scope.decls.now l.findings (parts_of (drop l.part-index l.part-items)) ≡ noted_parts l.scope.decls.now l.fn.findings
-      (parts_of l.part-items);
-  own : capped (l.own + own_widths l.scope.decls.now (parts_of (drop l.part-index l.part-items))) ≡
-      capped (own_widths l.scope.decls.now (parts_of l.part-items));
+  found : noted_parts l.scope.decls.now l.findings (join_parts (drop l.part-index l.part-items)) ≡ noted_parts l.scope.decls.now l.fn.findings
+      (join_parts l.part-items);
+  own : capped_width (l.own + own_widths l.scope.decls.now (join_parts (drop l.part-index l.part-items))) ≡
+      capped_width (own_widths l.scope.decls.now (join_parts l.part-items));
   most : l.own ≤ 65;
 }
 

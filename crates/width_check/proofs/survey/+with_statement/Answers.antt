@@ -1,6 +1,6 @@
 use Rattle.std.proofs.Common.{ap, ◌∙◌}
 use Rattle.chp_syntax.specs.View.{expression_of}
-use Rattle.width_check.specs.Walk.{capped}
+use Rattle.width_check.specs.Walk.{capped_width}
 use Rattle.width_check.proofs.Walks.{noted_assign, noted_send}
 use Rattle.width_check.proofs.Strolls.{member_step, then_done, beside_done, arm_step, arms_done}
 use Rattle.width_check.proofs.survey.+with_statement.Goals as goal
@@ -22,12 +22,12 @@ loop-arm-preserved t c =
 pub returns-in-Assign : goal.returns-in-Assign
 returns-in-Assign t c =
     rw c.in-Assign.is (noted_assign _ _ _ _ c.in-Assign.target (expression_of c.in-Assign.value) _ c.with_var-findings.ensures (c.capped.ensures
-        ∙ ap capped c.width.ensures) c.with_expression.ensures.findings)
+        ∙ ap capped_width c.width.ensures) c.with_expression.ensures.findings)
 
 pub returns-in-Send : goal.returns-in-Send
 returns-in-Send t c =
     rw c.in-Send.is (noted_send _ _ _ _ c.in-Send.chan (expression_of c.in-Send.value) _ c.with_sender-findings.ensures (c.capped-in-Send.ensures
-        ∙ ap capped c.width-in-Send.ensures) c.with_expression-in-Send.ensures.findings)
+        ∙ ap capped_width c.width-in-Send.ensures) c.with_expression-in-Send.ensures.findings)
 
 pub returns-after-loop-part : goal.returns-after-loop-part
 returns-after-loop-part t c =

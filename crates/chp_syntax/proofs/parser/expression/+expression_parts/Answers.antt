@@ -5,7 +5,7 @@ use Rattle.chp_syntax.specs.declared.token.TokenKind.TheVariants.{Sign}
 use Rattle.chp_syntax.specs.declared.token.Mark.TheVariants as mark
 use Rattle.chp_syntax.specs.declared.tree.Link.{Link}
 use Rattle.chp_syntax.specs.Trees.{Expression, no_parts, and_part}
-use Rattle.chp_syntax.specs.Grammar.{or_of, xor_of, and_of, sum_of, comparison_of}
+use Rattle.chp_syntax.specs.Grammar.{or_operator, xor_of, and_of, sum_of, comparison_of}
 use Rattle.chp_syntax.specs.View.{covered_of, expression_of, link_of, parts_of, onto}
 use Rattle.chp_syntax.proofs.Steps.{by_part, part_bad, good_done, exactly_good, operator_good, exit, not_so, fault_by}
 use Rattle.chp_syntax.proofs.Group.{group_bad_first, members_first, members_more, members_bad, members_end}
@@ -124,7 +124,7 @@ disjunction-loop-op-init t c =
 pub disjunction-returns-in_err-next-clause-bad : goal.disjunction-returns-in_err-next-clause-bad
 disjunction-returns-in_err-next-clause-bad t c =
     exit c.from_residual-in_err-next.result c.in_err-next.field-0.0 c.from_residual-in_err-next.ensures.1
-    (chained_bad disjunction_level c.loop-op.invariant.read (operator_good or_of c.args.tokens.now c.loop-op.at c.in-Some.op (sym c.in-Some.ensures)))
+    (chained_bad disjunction_level c.loop-op.invariant.read (operator_good or_operator c.args.tokens.now c.loop-op.at c.in-Some.op (sym c.in-Some.ensures)))
     c.in_err-next.ensures.bad
 
 pub disjunction-loop-op-preserved : goal.disjunction-loop-op-preserved
@@ -133,7 +133,7 @@ disjunction-loop-op-preserved t c =
       within = c.in_ok-next.ensures.within;
       moved = omega (arith, c.loop-op.invariant.moved, c.in_ok-next.ensures.moved);
       read = rw (c.in_ok-push.ensures.items, map-append link_of c.loop-op.links.items)
-          (chained_more disjunction_level c.loop-op.invariant.read (operator_good or_of c.args.tokens.now c.loop-op.at c.in-Some.op (sym c.in-Some.ensures))
+          (chained_more disjunction_level c.loop-op.invariant.read (operator_good or_operator c.args.tokens.now c.loop-op.at c.in-Some.op (sym c.in-Some.ensures))
           c.in_ok-next.ensures.good);
     }
 

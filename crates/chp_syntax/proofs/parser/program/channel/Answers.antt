@@ -1,5 +1,5 @@
 use Rattle.std.proofs.Common.{drop}
-use Rattle.chp_syntax.specs.Grammar.{channel_of}
+use Rattle.chp_syntax.specs.Grammar.{kind_of_channel}
 use Rattle.chp_syntax.proofs.Steps.{by_part, part_bad, good_done, operator_good, exit}
 use Rattle.chp_syntax.proofs.Programs.{channel_start, channel_seen, channel_1, channel_2, channel_3, channel_4, semicolon_seam, decl_of}
 use Rattle.chp_syntax.proofs.parser.program.channel.Goals as goal
@@ -8,14 +8,14 @@ pub returns-in_err-name-clause-bad : goal.returns-in_err-name-clause-bad
 returns-in_err-name-clause-bad c =
     let k = c.args.kind in
     let s1 = by_part channel_1 (channel_start k (drop c.args.at.now c.args.tokens.now) c.requires.front)
-    (operator_good channel_of c.args.tokens.now c.args.at.now k (channel_seen k _ c.requires.front)) in
+    (operator_good kind_of_channel c.args.tokens.now c.args.at.now k (channel_seen k _ c.requires.front)) in
     exit c.from_residual.result c.in_err-name.field-0.0 c.from_residual.ensures.1 (part_bad (channel_2 k) s1) c.in_err-name.ensures.bad
 
 pub returns-in_err-take_mark-clause-bad : goal.returns-in_err-take_mark-clause-bad
 returns-in_err-take_mark-clause-bad c =
     let k = c.args.kind in
     let s1 = by_part channel_1 (channel_start k (drop c.args.at.now c.args.tokens.now) c.requires.front)
-    (operator_good channel_of c.args.tokens.now c.args.at.now k (channel_seen k _ c.requires.front)) in
+    (operator_good kind_of_channel c.args.tokens.now c.args.at.now k (channel_seen k _ c.requires.front)) in
     let i = c.in_ok-name.name in
     let s2 = by_part (channel_2 k) s1 c.in_ok-name.ensures.good in
     exit c.from_residual-in_err-take_mark.result c.in_err-take_mark.field-0.0 c.from_residual-in_err-take_mark.ensures.1 (part_bad (channel_3 k i) s2)
@@ -25,7 +25,7 @@ pub returns-in_err-width-clause-bad : goal.returns-in_err-width-clause-bad
 returns-in_err-width-clause-bad c =
     let k = c.args.kind in
     let s1 = by_part channel_1 (channel_start k (drop c.args.at.now c.args.tokens.now) c.requires.front)
-    (operator_good channel_of c.args.tokens.now c.args.at.now k (channel_seen k _ c.requires.front)) in
+    (operator_good kind_of_channel c.args.tokens.now c.args.at.now k (channel_seen k _ c.requires.front)) in
     let i = c.in_ok-name.name in
     let s2 = by_part (channel_2 k) s1 c.in_ok-name.ensures.good in
     let s3 = by_part (channel_3 k i) s2 c.in_ok-take_mark.ensures.good in
@@ -36,7 +36,7 @@ pub returns-in_err-take_mark-2-clause-bad : goal.returns-in_err-take_mark-2-clau
 returns-in_err-take_mark-2-clause-bad c =
     let k = c.args.kind in
     let s1 = by_part channel_1 (channel_start k (drop c.args.at.now c.args.tokens.now) c.requires.front)
-    (operator_good channel_of c.args.tokens.now c.args.at.now k (channel_seen k _ c.requires.front)) in
+    (operator_good kind_of_channel c.args.tokens.now c.args.at.now k (channel_seen k _ c.requires.front)) in
     let i = c.in_ok-name.name in
     let s2 = by_part (channel_2 k) s1 c.in_ok-name.ensures.good in
     let s3 = by_part (channel_3 k i) s2 c.in_ok-take_mark.ensures.good in
@@ -49,7 +49,7 @@ pub returns-clause-good : goal.returns-clause-good
 returns-clause-good c =
     let k = c.args.kind in
     let s1 = by_part channel_1 (channel_start k (drop c.args.at.now c.args.tokens.now) c.requires.front)
-    (operator_good channel_of c.args.tokens.now c.args.at.now k (channel_seen k _ c.requires.front)) in
+    (operator_good kind_of_channel c.args.tokens.now c.args.at.now k (channel_seen k _ c.requires.front)) in
     let i = c.in_ok-name.name in
     let s2 = by_part (channel_2 k) s1 c.in_ok-name.ensures.good in
     let s3 = by_part (channel_3 k i) s2 c.in_ok-take_mark.ensures.good in
