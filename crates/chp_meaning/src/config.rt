@@ -148,4 +148,11 @@ impl Config {
     {
         &self.histories[chan as usize]
     }
+
+    /// The values that have passed on each channel, in the order in which the program declares them.
+    pub fn histories(&self) -> &[Vec<u64>]
+        ensures { items_of result.now ≡ histories_of self.now }
+    {
+        &self.histories
+    }
 }

@@ -112,8 +112,10 @@ fn receiver_moves(state: &State, wires: &Wires, more: bool, node: u32) -> bool
     rail_value(state, wires.rails.nodes()).is_some() && more
 }
 
-/// Whether the environment may move the node for this offer, of which so many values are completed.
-fn offer_moves(state: &State, wires: &Wires, offer: &Offer, done: u64, node: u32) -> bool
+/// Whether the environment may move the node as a wire of one channel, for the offer on it, of which so many values are
+/// completed. This is the part of one channel in `env_enabled`, outside of reset: the node is a rail or the acknowledge
+/// of the channel, or the answer is no.
+pub fn offer_moves(state: &State, wires: &Wires, offer: &Offer, done: u64, node: u32) -> bool
     requires wired { IsWired (length state.now) wires.now }
     requires node { node < length state.now }
     ensures { result ≡ offer_moves (high state.now) wires.now (offered offer.now) done node }

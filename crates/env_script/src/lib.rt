@@ -13,9 +13,9 @@ mod script;
 mod step;
 mod words;
 
-pub use environment::env_enabled;
+pub use environment::{env_enabled, offer_moves};
 pub use fault::{ScriptError, ScriptFault};
 pub use hazard::Hazard;
-pub use phases::keeps_phases;
+pub use phases::{keeps_phases, phases_keep};
 pub use reader::read_script;
 pub use script::{Count, Offer, Script};

@@ -56,7 +56,9 @@ fn ack_keeps(state: &State, wires: &Wires) -> bool
     }
 }
 
-fn phases_keep(state: &State, wires: &Wires, node: u32) -> bool
+/// Whether a change of the node in this state keeps the phases of one channel: the part of one channel in
+/// `keeps_phases`. A node that is no wire of the channel keeps them.
+pub fn phases_keep(state: &State, wires: &Wires, node: u32) -> bool
     requires { IsWired (length state.now) wires.now }
     ensures { result ≡ phases_keep (high state.now) wires.now node }
 {
