@@ -1,8 +1,5 @@
--- Which programs are accepted, and their typed form. Those with procedures or calls have no typed form yet, so none of them
--- is accepted.
-use Rattle.std.specs.Prelude.{◌≡◌}
+-- Which programs are accepted. Those with procedures or calls have no typed form yet, so none of them is accepted.
 use Rattle.chp_syntax.specs.Trees.{ProgramTree}
-use Rattle.width_check.specs.Processes.{TypedProgram}
 use Rattle.width_check.specs.Calls.{IsCallFree}
 use Rattle.width_check.specs.Faults.{naming_faults, HasNone}
 use Rattle.width_check.specs.Form.{typed_form}
@@ -13,6 +10,3 @@ pub record IsAccepted (p : ProgramTree) : Type 0 where
   pub call_free : IsCallFree p
   pub named : HasNone p naming_faults
   pub sharing : MeetsSharing (typed_form p).body
-
-abbrev pub IsTypedForm : ProgramTree → TypedProgram → Type 0
-IsTypedForm p typed = typed ≡ typed_form p

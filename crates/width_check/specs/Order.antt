@@ -6,9 +6,6 @@ use Rattle.chp_base.specs.declared.span.Span.{Span}
 abbrev pub IsNoLater : Span → Span → Type 0
 IsNoLater s t = (s.from < t.from) ⊎ ((s.from ≡ t.from) × (t.to ≤ s.to))
 
-abbrev pub IsEarlier : Span → Span → Type 0
-IsEarlier s t = (s.from < t.from) ⊎ ((s.from ≡ t.from) × (t.to < s.to))
-
 -- the first of the places at which something is
 pub record IsFirst (P : Span → Type 0) (s : Span) : Type 0 where
   pub there : P s
