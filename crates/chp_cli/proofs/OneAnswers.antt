@@ -18,7 +18,7 @@ use Rattle.chp_cli.specs.declared.answer.Ending.TheVariants.{Done}
 use Rattle.chp_cli.specs.declared.status.Status.TheVariants.{RefusedText, BadFile}
 use Rattle.chp_cli.specs.Answers.{Given, Answer, writes, refuses, OneAnswer}
 use Rattle.chp_cli.specs.Checking.{AcceptedReport, ChecksProgram}
-use Rattle.chp_cli.specs.Commands.{Asked, compiles, migrates, checks, expands, IsAnswer}
+use Rattle.chp_cli.specs.Commands.{Asked, compiles, migrates, checks, expands, grows, IsAnswer}
 use Rattle.chp_cli.specs.Compiling.{CompilesNet, CompilesProgram, compiled}
 use Rattle.chp_cli.specs.Expanding.{ExpandsProgram, TreeReport}
 use Rattle.chp_cli.specs.Lines.{refused_line, bad_net_line}
@@ -144,3 +144,4 @@ module _ (cause : (text : List ℕ) (k j : FaultCode) (s t : Span) → IsRefused
       (λ text. program_once text ExpandsProgram
       (λ program. checked program (FromNodes (typed_form program) TreeReport) (nodes_once (typed_form program) TreeReport (λ a b is are. is ∙ sym are)))
       (cause text) (place text))
+  command_once (grows growth) given told = λ a b is are. is ∙ sym are

@@ -34,7 +34,7 @@ one_more : (n : ℕ) → 1 + n ≡ suc n
 one_more n = omega arith
 
 -- a text without `=` stands before the first one
-all_before : (text : Text) → has_byte 61 text ≡ false → before_first (λ x. x == 61) text ≡ text
+pub all_before : (text : Text) → has_byte 61 text ≡ false → before_first (λ x. x == 61) text ≡ text
 all_before [] none = refl
 all_before (x ∷ xs) none = go (x == 61) refl none (all_before xs)
   where

@@ -1,5 +1,5 @@
 -- The words of a command, what they ask for, and the list of all commands.
-use Rattle.std.specs.Prelude.{◌==◌, ◌&&◌, ◌||◌, Bool, true, false, not, List, [], ◌∷◌, Option, Some, None, codes, option_map}
+use Rattle.std.specs.Prelude.{◌&&◌, ◌||◌, Bool, true, false, not, List, [], ◌∷◌, Option, Some, None, codes, option_map}
 use Rattle.std.specs.Prelude.{if◌then◌else◌, option_and_then}
 use Rattle.std.specs.Str.{bytes_eq}
 use Rattle.std.specs.declared.alloc.Global.{Global}
@@ -8,14 +8,18 @@ use Rattle.chp_cli.specs.Answers.{Given, Answer}
 use Rattle.chp_cli.specs.Checking.{Checks}
 use Rattle.chp_cli.specs.Compiling.{Compiles}
 use Rattle.chp_cli.specs.Expanding.{Expands}
+use Rattle.chp_cli.specs.GrowWords.{IsGrowable, growth_of, plain_growth}
+use Rattle.chp_cli.specs.Growing.{Grows}
 use Rattle.chp_cli.specs.Migrating.{Migrates}
 use Rattle.chp_cli.specs.Forms.{texts_of}
+pub use Rattle.chp_cli.specs.Words.{is_flag, is_set}
 use Rattle.clap.specs.Words.{App, Rule, Text, first_of, matches_of, new_app, new_rule, takes, with_rule}
 use Rattle.clap.specs.Simple.{on_top}
 use Rattle.clap.specs.declared.builder.ArgAction.TheVariants.{Set, SetTrue}
 use Rattle.chp_cli.specs.declared.command.Command.{Command}
-use Rattle.chp_cli.specs.declared.command.Command.TheVariants.{Compile, Migrate, Check, Expand}
+use Rattle.chp_cli.specs.declared.command.Command.TheVariants.{Compile, Migrate, Check, Expand, Grow}
 use Rattle.chp_cli.specs.declared.command.Verb.{Verb}
+use Rattle.chp_cli.specs.declared.grow_words.Growth.{Growth}
 use Rattle.chp_cli.specs.declared.command.Verb.TheVariants as verb
 
 -- ---- the form of a command with one file
@@ -43,11 +47,6 @@ reset_rule = record (new_rule (codes "reset")) { long = Some (codes "reset"); ac
 abbrev pub compile_form : Text → App
 compile_form name = with_rule (file_form name) reset_rule
 
--- the text that `clap` keeps for a flag says that it was given
-abbrev pub is_set : Option Text → Bool
-is_set None = false
-is_set (Some text) = bytes_eq text (codes "true")
-
 -- ---- the commands
 
 -- the command that a word names
@@ -56,20 +55,32 @@ verb_of word = if bytes_eq word (codes "compile") then Some verb.Compile
     else if bytes_eq word (codes "migrate") then Some verb.Migrate
     else if bytes_eq word (codes "check") then Some verb.Check
     else if bytes_eq word (codes "expand") then Some verb.Expand
+    else if bytes_eq word (codes "grow") then Some verb.Grow
     else None
 
--- a command and its file, as its bytes; `compile` with or without a reset node
+-- a command and its file, as its bytes; `compile` with or without a reset node; `grow` with its numbers
 pub data Asked : Type 0 where
   compiles : Text → (reset : Bool) → Asked
   migrates : Text → Asked
   checks : Text → Asked
   expands : Text → Asked
+  grows : Growth → Asked
 
 abbrev pub asked : Command → Asked
 asked (Compile file reset) = compiles file.now reset
 asked (Migrate net) = migrates net.now
 asked (Check file) = checks file.now
 asked (Expand file) = expands file.now
+asked (Grow growth) = grows growth
+
+-- the numbers of a command are within their bounds
+abbrev pub IsWithinBounds : Asked → Type 0
+IsWithinBounds (grows growth) = IsGrowable growth
+IsWithinBounds _ = Unit {0}
+
+-- a summary isn't served yet
+abbrev pub grow_asked : Growth → Option Asked
+grow_asked growth = if growth.sum then None else Some (grows growth)
 
 abbrev pub compile_with : (file reset : Option Text) → Option Asked
 compile_with file reset = option_map (λ name. compiles name (is_set reset)) file
@@ -87,6 +98,7 @@ command_with verb.Compile word rest = compile_of word rest
 command_with verb.Migrate word rest = option_map migrates (file_of word rest)
 command_with verb.Check word rest = option_map checks (file_of word rest)
 command_with verb.Expand word rest = option_map expands (file_of word rest)
+command_with verb.Grow word rest = option_and_then grow_asked (growth_of word rest)
 
 -- what the words ask for, where they are a command's name and words that its form takes
 abbrev pub command_of : List Text → Option Asked
@@ -94,11 +106,6 @@ command_of [] = None
 command_of (word ∷ rest) = option_and_then (λ v. command_with v word rest) (verb_of word)
 
 -- ---- the same in plain words
-
--- a word that `clap` takes for a flag: a hyphen (45) with something behind it
-abbrev pub is_flag : Text → Bool
-is_flag (first ∷ second ∷ rest) = first == 45
-is_flag _ = false
 
 -- one word that is no flag, with or without `--` behind it, or one word of any kind behind `--`
 abbrev pub plain_file : List Text → Option Text
@@ -130,6 +137,7 @@ plain_with verb.Compile rest = plain_compile rest
 plain_with verb.Migrate rest = option_map migrates (plain_file rest)
 plain_with verb.Check rest = option_map checks (plain_file rest)
 plain_with verb.Expand rest = option_map expands (plain_file rest)
+plain_with verb.Grow rest = option_and_then grow_asked (plain_growth rest)
 
 abbrev pub plain_command : List Text → Option Asked
 plain_command [] = None
@@ -147,6 +155,7 @@ IsAnswer (compiles file reset) given = Compiles reset given file
 IsAnswer (migrates net) given = Migrates given net
 IsAnswer (checks file) given = Checks given file
 IsAnswer (expands file) given = Expands given file
+IsAnswer (grows growth) given = Grows growth
 
 -- the names of its files
 abbrev pub files_of : Asked → List Text
@@ -154,3 +163,4 @@ files_of (compiles file reset) = file ∷ []
 files_of (migrates net) = net ∷ []
 files_of (checks file) = file ∷ []
 files_of (expands file) = file ∷ []
+files_of (grows growth) = []

@@ -7,6 +7,10 @@ pub mod Migrating
 pub mod Checking
 pub mod Expanding
 pub mod Forms
+pub mod Words
+pub mod Numbers
+pub mod GrowWords
+pub mod Growing
 pub mod Commands
 pub mod Replies
 pub mod Ends

@@ -1,10 +1,13 @@
 //! The words of a command.
 
-ghost use Rattle.std.specs.Prelude.{◌≡◌, IfOk, IfSome, Some, is_some, option_map, true};
+ghost use Rattle.std.specs.Prelude.{◌≡◌, IfOk, IfSome, Some, is_some, option_and_then, option_map, true};
 ghost use Rattle.clap.specs.Words.{app_of, found_of, matches_of, rows_of, takes};
-ghost use Rattle.chp_cli.specs.Commands.{asked, command_of, compile_form, compile_of, file_form, file_of, is_set, plain_command, plain_compile, plain_file, verb_of};
+ghost use Rattle.chp_cli.specs.Commands.{IsWithinBounds, asked, command_of, compile_form, compile_of, file_form, file_of, grow_asked, plain_command, plain_compile, plain_file, verb_of};
 ghost use Rattle.chp_cli.specs.Forms.{is_form, texts_of};
+ghost use Rattle.chp_cli.specs.GrowWords.{growth_of, plain_growth};
+ghost use Rattle.chp_cli.specs.Words.{is_set};
 
+use crate::grow_words::{Growth, growth_of};
 use clap::error::ErrorKind;
 use clap::{Arg, ArgAction, ArgMatches};
 use std::alloc::{AllocError, Global};
@@ -21,6 +24,8 @@ pub enum Command<'a> {
     Check { file: &'a str },
     /// `expand FILE`: write the tree of parts of the program text in this file.
     Expand { file: &'a str },
+    /// `grow SEED STAGES`: write the text of the program that is made of these numbers.
+    Grow(Growth),
 }
 
 /// The first word of a command.
@@ -30,6 +35,7 @@ enum Verb {
     Migrate,
     Check,
     Expand,
+    Grow,
 }
 
 /// The command that the words ask for, or `None` where they aren't a command's form. The words are those behind the
@@ -46,6 +52,7 @@ pub fn command_in<'a>(alloc: Global, words: &'a [String]) -> Result<Option<Comma
         option_map asked found ≡ command_of (texts_of words.now)) }
     ensures plain { IfOk result (λ found.
         option_map asked found ≡ plain_command (texts_of words.now)) }
+    ensures bounds { IfOk result (λ found. IfSome found (λ command. IsWithinBounds (asked command))) }
 {
     let [first, rest @ ..] = words else {
         return Ok(None);
@@ -59,6 +66,7 @@ pub fn command_in<'a>(alloc: Global, words: &'a [String]) -> Result<Option<Comma
         Verb::Migrate => Ok(file_in(alloc, word, rest)?.map(|net| Command::Migrate { net })),
         Verb::Check => Ok(file_in(alloc, word, rest)?.map(|file| Command::Check { file })),
         Verb::Expand => Ok(file_in(alloc, word, rest)?.map(|file| Command::Expand { file })),
+        Verb::Grow => grow_in(alloc, word, rest),
     }
 }
 
@@ -71,7 +79,26 @@ fn verb_in(word: &str) -> Option<Verb>
         "migrate" => Some(Verb::Migrate),
         "check" => Some(Verb::Check),
         "expand" => Some(Verb::Expand),
+        "grow" => Some(Verb::Grow),
         _ => None,
+    }
+}
+
+/// What the words behind `grow` ask for, where they are its form. A summary isn't served yet.
+fn grow_in<'a>(
+    alloc: Global,
+    name: &'a str,
+    words: &'a [String],
+) -> Result<Option<Command<'a>>, AllocError>
+    ensures form { IfOk result (λ found. option_map asked found
+        ≡ option_and_then grow_asked (growth_of name.entry.now (texts_of words.entry.now))) }
+    ensures plain { IfOk result (λ found. option_map asked found
+        ≡ option_and_then grow_asked (plain_growth (texts_of words.entry.now))) }
+    ensures bounds { IfOk result (λ found. IfSome found (λ command. IsWithinBounds (asked command))) }
+{
+    match growth_of(alloc, name, words)? {
+        Some(growth) if !growth.sum => Ok(Some(Command::Grow(growth))),
+        _ => Ok(None),
     }
 }
 
@@ -104,7 +131,7 @@ fn compile_in<'a>(
 }
 
 /// Whether the text that `clap` keeps for a flag says that it was given.
-fn is_set(text: Option<&str>) -> bool
+pub fn is_set(text: Option<&str>) -> bool
     ensures { result ≡ is_set (option_map (λ t. t.now) text.entry) }
 {
     match text {
@@ -147,7 +174,7 @@ fn file_form<'a>(alloc: Global, name: &'a str) -> Result<clap::Command<'a>, Allo
 
 /// What the words give each argument of the form, or `None` where the form doesn't take them, for whatever cause. It
 /// serves every form without commands below it.
-fn matches_in<'a>(
+pub fn matches_in<'a>(
     form: clap::Command<'a>,
     words: &'a [String],
 ) -> Result<Option<ArgMatches<'a>>, AllocError>

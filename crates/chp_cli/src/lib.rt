@@ -7,9 +7,12 @@ mod command;
 mod compile;
 mod expand;
 mod files;
+mod grow;
+mod grow_words;
 pub mod laws;
 mod main_call;
 mod migrate;
+mod number;
 mod say;
 mod status;
 

@@ -3,7 +3,7 @@
 ghost use Rattle.std.specs.Prelude.{◌≡◌, ◌≢◌, ◌≤◌, ◌++◌, ℕ, List, None, Some, true, false, IfOk, IfErr, ◌⊎◌};
 ghost use Rattle.chp_edge.specs.Faults.{Rose, IsReadFault};
 ghost use Rattle.chp_cli.specs.Answers.{Answer, given_by, status_of};
-ghost use Rattle.chp_cli.specs.Commands.{IsAnswer, asked, asked_by, files_of};
+ghost use Rattle.chp_cli.specs.Commands.{IsAnswer, IsWithinBounds, asked, asked_by, files_of};
 ghost use Rattle.chp_cli.specs.Ends.{AnswersTo, Ends, IsFile};
 ghost use Rattle.chp_cli.specs.Replies.{Stops, end_line, end_status, told_answer};
 ghost use Rattle.chp_cli.specs.Statuses.{is_whole};
@@ -13,6 +13,7 @@ use crate::check::check;
 use crate::command::{Command, command_in};
 use crate::compile::compile;
 use crate::expand::expand;
+use crate::grow::grow;
 use crate::laws::one_answer;
 use crate::migrate::migrate;
 use crate::say::tell;
@@ -26,6 +27,7 @@ fn answer<'a, S: Shelf>(
     shelf: &mut S,
     command: &Command<'a>,
 ) -> Result<Output, Stop<'a>>
+    requires { IsWithinBounds (asked command.now) }
     ensures answered { IfOk result (λ output.
         IsAnswer (asked command.now) (given_by (S.tells shelf.old) (S.holds shelf.old)) (told_answer output)) }
     ensures stopped { IfErr result (Stops
@@ -40,6 +42,7 @@ fn answer<'a, S: Shelf>(
         Command::Migrate { net } => migrate(alloc, shelf, net),
         Command::Check { file } => check(alloc, shelf, file),
         Command::Expand { file } => expand(alloc, shelf, file),
+        Command::Grow(growth) => grow(alloc, growth),
     }
 }
 

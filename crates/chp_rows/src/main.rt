@@ -13,7 +13,9 @@ use bench::Bench;
 use cases::obey;
 use std::{fs, io};
 
-const TOPICS: [&str; 6] = ["texts", "compile", "check", "expand", "migrate", "edge"];
+const TOPICS: [&str; 7] = [
+    "texts", "compile", "check", "expand", "grow", "migrate", "edge",
+];
 
 fn main(rt: HostRuntime) -> io::Result<()> {
     let mut page = String::new(rt.alloc());

@@ -1,3 +1,7 @@
+use Rattle.std.proofs.Common.{[]}
+use Rattle.chp_cli.specs.Answers.{given_by}
+use Rattle.chp_cli.specs.Growing.{Grows}
+use Rattle.chp_cli.proofs.Stopping.{halts_stops}
 use Rattle.chp_cli.proofs.main_call.answer.Goals as goal
 
 pub returns-in-Compile-clause-answered : goal.returns-in-Compile-clause-answered
@@ -23,3 +27,15 @@ returns-in-Expand-clause-answered g c = rw c.in-Expand.is c.expand.ensures.answe
 
 pub returns-in-Expand-clause-stopped : goal.returns-in-Expand-clause-stopped
 returns-in-Expand-clause-stopped g c = rw c.in-Expand.is c.expand.ensures.stopped
+
+pub grow-requires : goal.grow-requires
+grow-requires c = rw c.in-Grow.is at c.requires
+
+pub returns-in-Grow-clause-answered : goal.returns-in-Grow-clause-answered
+returns-in-Grow-clause-answered g c = rw c.in-Grow.is c.grow.ensures.answered
+
+pub returns-in-Grow-clause-stopped : goal.returns-in-Grow-clause-stopped
+returns-in-Grow-clause-stopped g c =
+    let S = g.S.Shelf in
+    let given = given_by (S.tells c.args.shelf.now) (S.holds c.args.shelf.now) in
+    rw c.in-Grow.is (halts_stops (Grows c.in-Grow.field-0.now) c.grow.result [] given _ _ c.grow.ensures.stopped)

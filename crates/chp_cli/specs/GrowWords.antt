@@ -1,0 +1,60 @@
+-- The words of `grow`: a seed, a number of stages, and the flag `--sum`.
+use Rattle.std.specs.Prelude.{ℕ, ◌-◌, ◌^◌, ◌≤◌, Bool, true, false, List, [], ◌∷◌, Option, Some, None, codes, option_map, if◌then◌else◌}
+use Rattle.std.specs.Prelude.{option_and_then}
+use Rattle.clap.specs.Words.{App, Rule, Text, first_of, matches_of, new_app, new_rule, takes, with_rule}
+use Rattle.clap.specs.Simple.{on_top}
+use Rattle.clap.specs.declared.builder.ArgAction.TheVariants.{Set, SetTrue}
+use Rattle.chp_cli.specs.declared.grow_words.Growth.{Growth}
+use Rattle.chp_cli.specs.Numbers.{number_within}
+use Rattle.chp_cli.specs.Words.{is_set, asks, without_first}
+
+-- the two arguments: positionals that have to be there, and are given once
+abbrev pub seed_rule : Rule
+seed_rule = record (new_rule (codes "SEED")) { required = true; action = Some Set }
+
+abbrev pub stages_rule : Rule
+stages_rule = record (new_rule (codes "STAGES")) { required = true; action = Some Set }
+
+abbrev pub sum_rule : Rule
+sum_rule = record (new_rule (codes "sum")) { long = Some (codes "sum"); action = Some SetTrue }
+
+-- the form: both of them and the flag, and no flag for help
+abbrev pub grow_form : Text → App
+grow_form name = with_rule (with_rule (with_rule
+    (on_top (λ s. record s { no_binary_name = true; disable_help_flag = true }) (new_app name))
+    seed_rule) stages_rule) sum_rule
+
+-- a seed of 64 bits, and 1 to 400 stages
+abbrev pub growth_in : (seed stages : Text) → (sum : Bool) → Option Growth
+growth_in seed stages sum = option_and_then
+    (λ s. option_map (λ n. record { seed = s; stages = n; sum = sum }) (number_within 1 400 stages))
+    (number_within 0 (2 ^ 64 - 1) seed)
+
+-- there are 1 to 400 stages
+pub record IsGrowable (growth : Growth) : Type 0 where
+  pub some : 1 ≤ growth.stages
+  pub most : growth.stages ≤ 400
+
+abbrev pub growth_with : (seed stages sum : Option Text) → Option Growth
+growth_with (Some seed) (Some stages) sum = growth_in seed stages (is_set sum)
+growth_with _ _ sum = None
+
+-- what the words behind `grow` ask for, where its form takes them
+abbrev pub growth_of : Text → List Text → Option Growth
+growth_of name words = if takes (grow_form name) words
+    then growth_with (first_of (codes "SEED") (matches_of (grow_form name) words))
+        (first_of (codes "STAGES") (matches_of (grow_form name) words))
+        (first_of (codes "sum") (matches_of (grow_form name) words))
+    else None
+
+-- ---- the same in plain words
+
+abbrev pub two_numbers : List Text → (sum : Bool) → Option Growth
+two_numbers (seed ∷ stages ∷ []) sum = growth_in seed stages sum
+two_numbers _ sum = None
+
+-- two numbers, with `--` once at most at any place, and `--sum` once at most at any place before that
+abbrev pub plain_growth : List Text → Option Growth
+plain_growth words = if asks (codes "--sum") words
+    then two_numbers (without_first (codes "--") (without_first (codes "--sum") words)) true
+    else two_numbers (without_first (codes "--") words) false

@@ -1,0 +1,94 @@
+//! The words of `grow`.
+
+ghost use Rattle.std.specs.Prelude.{◌≡◌, codes, IfOk, IfSome};
+ghost use Rattle.clap.specs.Matches.{first_value, found_of};
+ghost use Rattle.clap.specs.Words.{app_of};
+ghost use Rattle.chp_cli.specs.Forms.{texts_of};
+ghost use Rattle.chp_cli.specs.GrowWords.{IsGrowable, grow_form, growth_in, growth_of, growth_with, plain_growth};
+
+use crate::command::{is_set, matches_in};
+use crate::number::number_within;
+use clap::{Arg, ArgAction, ArgMatches};
+use std::alloc::{AllocError, Global};
+
+/// The most stages of a program that is made of a number.
+const MOST_STAGES: u64 = 400;
+
+/// What `grow` is asked for.
+#[derive(Clone, Copy, Debug, PartialEq, Eq)]
+pub struct Growth {
+    pub seed: u64,
+    /// The number of stages, from 1 to 400.
+    pub stages: u32,
+    /// Whether its summary is wanted in place of its text.
+    pub sum: bool,
+}
+
+/// What the words behind `grow` ask for, where they are its form.
+pub fn growth_of<'a>(
+    alloc: Global,
+    name: &'a str,
+    words: &'a [String],
+) -> Result<Option<Growth>, AllocError>
+    ensures form { IfOk result (λ found. found ≡ growth_of name.entry.now (texts_of words.entry.now)) }
+    ensures plain { IfOk result (λ found. found ≡ plain_growth (texts_of words.entry.now)) }
+    ensures bounds { IfOk result (λ found. IfSome found IsGrowable) }
+{
+    let form = grow_form(alloc, name)?;
+    match matches_in(form, words) {
+        Ok(Some(matches)) => Ok(growth_with(&matches)),
+        Ok(None) => Ok(None),
+        Err(error) => Err(error),
+    }
+}
+
+/// What the matches of the form give.
+fn growth_with(matches: &ArgMatches) -> Option<Growth>
+    ensures value { result ≡ growth_with (first_value (found_of matches.now) (codes "SEED"))
+        (first_value (found_of matches.now) (codes "STAGES")) (first_value (found_of matches.now) (codes "sum")) }
+    ensures bounds { IfSome result IsGrowable }
+{
+    match (matches.get_str("SEED"), matches.get_str("STAGES")) {
+        (Some(seed), Some(stages)) => growth_in(seed, stages, is_set(matches.get_str("sum"))),
+        _ => None,
+    }
+}
+
+/// What is asked for by the words of both numbers.
+fn growth_in(seed: &str, stages: &str, sum: bool) -> Option<Growth>
+    ensures value { result ≡ growth_in seed.now stages.now sum }
+    ensures bounds { IfSome result IsGrowable }
+{
+    match (
+        number_within(seed, 0, u64::MAX),
+        number_within(stages, 1, MOST_STAGES),
+    ) {
+        (Some(seed), Some(stages)) => Some(Growth {
+            seed,
+            stages: stages as u32,
+            sum,
+        }),
+        _ => None,
+    }
+}
+
+/// The form of `grow` under this name: two positionals, the flag `--sum`, and no flag for help.
+fn grow_form<'a>(alloc: Global, name: &'a str) -> Result<clap::Command<'a>, AllocError>
+    ensures { IfOk result (λ form. app_of form ≡ grow_form name.entry.now) }
+{
+    let seed = Arg::new(alloc, "SEED")
+        .required(true)
+        .action(ArgAction::Set);
+    let stages = Arg::new(alloc, "STAGES")
+        .required(true)
+        .action(ArgAction::Set);
+    let sum = Arg::new(alloc, "sum")
+        .long("sum")
+        .action(ArgAction::SetTrue);
+    clap::Command::new(alloc, name)
+        .no_binary_name(true)
+        .disable_help_flag(true)
+        .arg(seed)?
+        .arg(stages)?
+        .arg(sum)
+}
