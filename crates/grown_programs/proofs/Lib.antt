@@ -1,0 +1,9 @@
+pub mod Decimals
+pub mod Cuts
+pub mod Plans
+pub mod Lines
+pub mod Texts
+pub mod Lookups
+pub mod Naming
+pub mod Sharing
+pub mod Counting
