@@ -89,16 +89,28 @@ with_seed h word = record (settled rules h) { pending = Some (codes "SEED", word
 abbrev with_stages : Held → Text → Held
 with_stages h word = record (settled rules h) { pending = Some (codes "STAGES", word ∷ []) }
 
+abbrev held_one : Text → Held
+held_one a = with_seed nothing_held a
+
+abbrev held_flag : Held
+held_flag = reacted rules flag [] nothing_held
+
+abbrev held_flag_one : Text → Held
+held_flag_one a = with_seed held_flag a
+
+abbrev held_one_flag : Text → Held
+held_one_flag a = reacted rules flag [] (held_one a)
+
 abbrev held : Met → Held
 held none = nothing_held
-held (one a) = with_seed nothing_held a
-held (both a b) = with_stages (held (one a)) b
-held flag_none = reacted rules flag [] nothing_held
-held (flag_one a) = with_seed (held flag_none) a
-held (flag_both a b) = with_stages (held (flag_one a)) b
-held (one_flag a) = reacted rules flag [] (held (one a))
-held (one_flag_one a b) = with_stages (held (one_flag a)) b
-held (both_flag a b) = reacted rules flag [] (held (both a b))
+held (one a) = held_one a
+held (both a b) = with_stages (held_one a) b
+held flag_none = held_flag
+held (flag_one a) = held_flag_one a
+held (flag_both a b) = with_stages (held_flag_one a) b
+held (one_flag a) = held_one_flag a
+held (one_flag_one a b) = with_stages (held_one_flag a) b
+held (both_flag a b) = reacted rules flag [] (with_stages (held_one a) b)
 
 abbrev place : Met → ℕ
 place none = 1
@@ -379,32 +391,32 @@ plainly sum before words = cond (asks flag_word words)
 
 -- a word that is no number spoils all
 no_seed : (a b : Text) (sum : Bool) → is_numeral a ≡ false → growth_in a b sum ≡ None
-no_seed a b sum no = rw no refl
+no_seed a b sum bad = rw bad refl
 
 no_stages : (a b : Text) (sum : Bool) → is_numeral b ≡ false → growth_in a b sum ≡ None
-no_stages a b sum no = go (number_within 0 (2 ^ 64 - 1) a)
+no_stages a b sum bad = go (number_within 0 (2 ^ 64 - 1) a)
   where
     go : (s : Option ℕ) → option_and_then (λ n. option_map (λ m. growth n m sum) (number_within 1 400 b)) s ≡ None
     go None = refl
-    go (Some n) = rw no refl
+    go (Some n) = rw bad refl
 
 spoilt : (words : List Text) (sum : Bool) → list_all is_numeral words ≡ false → two_numbers words sum ≡ None
-spoilt [] sum no = cc
-spoilt (a ∷ []) sum no = refl
-spoilt (a ∷ b ∷ []) sum no = go (is_numeral a) (is_numeral b) refl refl no
+spoilt [] sum bad = cc
+spoilt (a ∷ []) sum bad = refl
+spoilt (a ∷ b ∷ []) sum bad = go (is_numeral a) (is_numeral b) refl refl bad
   where
     go : (s t : Bool) → is_numeral a ≡ s → is_numeral b ≡ t → (s && (t && true)) ≡ false → two_numbers (a ∷ b ∷ []) sum ≡ None
     go false t p q e = no_seed a b sum p
     go true false p q e = no_stages a b sum q
     go true true p q e = cc
-spoilt (a ∷ b ∷ c ∷ rest) sum no = refl
+spoilt (a ∷ b ∷ c ∷ rest) sum bad = refl
 
 spoilt_first : (word : Text) (rest : List Text) → is_numeral word ≡ false → list_all is_numeral (word ∷ rest) ≡ false
-spoilt_first word rest no = rw no refl
+spoilt_first word rest bad = rw bad refl
 
 spoilt_behind : (before words : List Text) → list_all is_numeral words ≡ false → list_all is_numeral (before ++ words) ≡ false
-spoilt_behind [] words no = no
-spoilt_behind (a ∷ before) words no = go (is_numeral a) (spoilt_behind before words no)
+spoilt_behind [] words bad = bad
+spoilt_behind (a ∷ before) words bad = go (is_numeral a) (spoilt_behind before words bad)
   where
     go : (b : Bool) → list_all is_numeral (before ++ words) ≡ false → (b && list_all is_numeral (before ++ words)) ≡ false
     go true e = e
@@ -428,21 +440,22 @@ flag_no_numeral (x ∷ y ∷ rest) is =
 -- the flag that stands among words before `--` isn't taken away with it
 sum_left : (words : List Text) → asks flag_word words ≡ true → list_all is_numeral (without_first dashes words) ≡ false
 sum_left [] is = cc
-sum_left (word ∷ rest) is = go (sort_of word) is (sum_left rest)
+sum_left (word ∷ rest) is = go word (sort_of word) is (sum_left rest)
   where
-    go : {word : Text} → Sort word → asks flag_word (word ∷ rest) ≡ true → (asks flag_word rest ≡ true → list_all is_numeral (without_first dashes rest) ≡ false)
+    go : (word : Text) → Sort word → asks flag_word (word ∷ rest) ≡ true
+        → (asks flag_word rest ≡ true → list_all is_numeral (without_first dashes rest) ≡ false)
         → list_all is_numeral (without_first dashes (word ∷ rest)) ≡ false
-    go a_tail is next = cc
-    go a_sum is next = refl
-    go (a_flag f t r) is next = rw t (spoilt_first _ _ (flag_no_numeral _ f))
-    go (a_plain f t r) is next = rw t (spoilt_behind (_ ∷ []) _ (next (rw (t, r) at is)))
+    go word a_tail is next = cc
+    go word a_sum is next = refl
+    go word (a_flag f t r) is next = rw t (spoilt_first word (without_first dashes rest) (flag_no_numeral word f))
+    go word (a_plain f t r) is next = rw t (spoilt_behind (word ∷ []) (without_first dashes rest) (next (rw (t, r) at is)))
 
 after_flag : (before words : List Text) → plainly true before words ≡ two_numbers (before ++ without_first dashes words) true
 after_flag before words = go (asks flag_word words) refl
   where
     go : (b : Bool) → asks flag_word words ≡ b → cond b None (two_numbers (before ++ without_first dashes words) true)
         ≡ two_numbers (before ++ without_first dashes words) true
-    go true e = sym (spoilt _ true (spoilt_behind before _ (sum_left words e)))
+    go true e = sym (spoilt (before ++ without_first dashes words) true (spoilt_behind before (without_first dashes words) (sum_left words e)))
     go false e = refl
 
 -- behind `--`
@@ -458,21 +471,49 @@ tail_plainly (one_flag a) (word ∷ rest) = tail_plainly (one_flag_one a word) r
 tail_plainly (one_flag_one a b) (word ∷ rest) = refl
 tail_plainly (both_flag a b) (word ∷ rest) = refl
 
+-- a word before the others
+module _ (sum : Bool) (before : List Text) (word : Text) (rest : List Text) (t : bytes_eq word dashes ≡ false) (r : bytes_eq word flag_word ≡ false) where
+  abbrev shown : Bool → List Text → List Text → Option Growth
+  shown asked with_it without_it = cond asked (cond sum None (two_numbers (before ++ with_it) true)) (two_numbers (before ++ without_it) sum)
+
+  asks_more : asks flag_word (word ∷ rest) ≡ asks flag_word rest
+  asks_more = rw (t, r) refl
+
+  flag_stays : without_first flag_word (word ∷ rest) ≡ word ∷ without_first flag_word rest
+  flag_stays = rw r refl
+
+  tail_stays : (words : List Text) → without_first dashes (word ∷ words) ≡ word ∷ without_first dashes words
+  tail_stays words = rw t refl
+
+  both_stay : without_first dashes (without_first flag_word (word ∷ rest)) ≡ word ∷ without_first dashes (without_first flag_word rest)
+  both_stay = ap (without_first dashes) flag_stays ∙ tail_stays (without_first flag_word rest)
+
+  plainly_more : plainly sum before (word ∷ rest)
+      ≡ cond (asks flag_word rest) (cond sum None (two_numbers (before ++ word ∷ without_first dashes (without_first flag_word rest)) true))
+          (two_numbers (before ++ word ∷ without_first dashes rest) sum)
+  plainly_more =
+      ap (λ asked. shown asked (without_first dashes (without_first flag_word (word ∷ rest))) (without_first dashes (word ∷ rest))) asks_more
+      ∙ (ap (λ words. shown (asks flag_word rest) words (without_first dashes (word ∷ rest))) both_stay
+      ∙ ap (λ words. shown (asks flag_word rest) (word ∷ without_first dashes (without_first flag_word rest)) words) (tail_stays rest))
+
 -- with a flag other than `--sum`, and with three positionals, nothing is asked for
 flag_plainly : (sum : Bool) (before : List Text) (word : Text) (rest : List Text) → is_flag word ≡ true → bytes_eq word dashes ≡ false →
     bytes_eq word flag_word ≡ false
     → plainly sum before (word ∷ rest) ≡ None
-flag_plainly sum before word rest f t r = rw (t, r, t, t) (go (asks flag_word rest) sum)
+flag_plainly sum before word rest f t r = plainly_more sum before word rest t r ∙ go (asks flag_word rest) sum
   where
+    spoils : (words : List Text) (s : Bool) → two_numbers (before ++ word ∷ words) s ≡ None
+    spoils words s = spoilt (before ++ word ∷ words) s (spoilt_behind before (word ∷ words) (spoilt_first word words (flag_no_numeral word f)))
+
     go : (b s : Bool) → cond b (cond s None (two_numbers (before ++ word ∷ without_first dashes (without_first flag_word rest)) true))
-        (two_numbers (before ++ word ∷ without_first dashes rest) sum) ≡ None
+        (two_numbers (before ++ word ∷ without_first dashes rest) s) ≡ None
     go true true = refl
-    go true false = spoilt _ true (spoilt_behind before _ (spoilt_first word _ (flag_no_numeral word f)))
-    go false s = spoilt _ sum (spoilt_behind before _ (spoilt_first word _ (flag_no_numeral word f)))
+    go true false = spoils (without_first dashes (without_first flag_word rest)) true
+    go false s = spoils (without_first dashes rest) s
 
 third_plainly : (sum : Bool) (a b word : Text) (rest : List Text) → bytes_eq word dashes ≡ false → bytes_eq word flag_word ≡ false
     → plainly sum (a ∷ b ∷ []) (word ∷ rest) ≡ None
-third_plainly sum a b word rest t r = rw (t, r, t, t) (go (asks flag_word rest) sum)
+third_plainly sum a b word rest t r = plainly_more sum (a ∷ b ∷ []) word rest t r ∙ go (asks flag_word rest) sum
   where
     go : (x s : Bool) → cond {A = Option Growth} x (cond s None None) None ≡ None
     go true true = refl
@@ -482,7 +523,20 @@ third_plainly sum a b word rest t r = rw (t, r, t, t) (go (asks flag_word rest) 
 -- a positional more
 more_plainly : (sum : Bool) (before : List Text) (word : Text) (rest : List Text) → bytes_eq word dashes ≡ false → bytes_eq word flag_word ≡ false
     → plainly sum (before ++ word ∷ []) rest ≡ plainly sum before (word ∷ rest)
-more_plainly sum before word rest t r = rw (t, r, t, t) (simp append_assoc)
+more_plainly sum before word rest t r =
+    ap (λ words. cond (asks flag_word rest) (cond sum None (two_numbers words true)) (two_numbers ((before ++ word ∷ []) ++ without_first dashes rest) sum))
+        (append_assoc before (word ∷ []) (without_first dashes (without_first flag_word rest)))
+    ∙ (ap (λ words. cond (asks flag_word rest) (cond sum None (two_numbers (before ++ word ∷ without_first dashes (without_first flag_word rest)) true))
+            (two_numbers words sum)) (append_assoc before (word ∷ []) (without_first dashes rest))
+    ∙ sym (plainly_more sum before word rest t r))
+
+read_flag : (met : Met) (word : Text) (rest : List Text) → is_flag word ≡ true → bytes_eq word dashes ≡ false → bytes_eq word flag_word ≡ false
+    → read met false (word ∷ rest) ≡ None
+read_flag met word rest f t r = rw (t, r, f) refl
+
+read_plain : (met : Met) (word : Text) (rest : List Text) → is_flag word ≡ false → bytes_eq word dashes ≡ false → bytes_eq word flag_word ≡ false
+    → read met false (word ∷ rest) ≡ with_file met word (λ now. read now false rest)
+read_plain met word rest f t r = rw (t, r, f) refl
 
 read_plainly : (met : Met) (words : List Text) → read met false words ≡ plainly (flagged met) (files met) words
 read_plainly met [] = rw append-nil refl
@@ -500,16 +554,16 @@ read_plainly met (word ∷ rest) = turn met word (sort_of word) (λ now. read_pl
     turn (one_flag a) word a_sum next = refl
     turn (one_flag_one a b) word a_sum next = refl
     turn (both_flag a b) word a_sum next = refl
-    turn met word (a_flag f t r) next = rw (t, r, f) (sym (flag_plainly (flagged met) (files met) word rest f t r))
-    turn none word (a_plain f t r) next = rw (t, r, f) (next (one word) ∙ more_plainly false [] word rest t r)
-    turn (one a) word (a_plain f t r) next = rw (t, r, f) (next (both a word) ∙ more_plainly false (a ∷ []) word rest t r)
-    turn (both a b) word (a_plain f t r) next = rw (t, r, f) (sym (third_plainly false a b word rest t r))
-    turn flag_none word (a_plain f t r) next = rw (t, r, f) (next (flag_one word) ∙ more_plainly true [] word rest t r)
-    turn (flag_one a) word (a_plain f t r) next = rw (t, r, f) (next (flag_both a word) ∙ more_plainly true (a ∷ []) word rest t r)
-    turn (flag_both a b) word (a_plain f t r) next = rw (t, r, f) (sym (third_plainly true a b word rest t r))
-    turn (one_flag a) word (a_plain f t r) next = rw (t, r, f) (next (one_flag_one a word) ∙ more_plainly true (a ∷ []) word rest t r)
-    turn (one_flag_one a b) word (a_plain f t r) next = rw (t, r, f) (sym (third_plainly true a b word rest t r))
-    turn (both_flag a b) word (a_plain f t r) next = rw (t, r, f) (sym (third_plainly true a b word rest t r))
+    turn met word (a_flag f t r) next = read_flag met word rest f t r ∙ sym (flag_plainly (flagged met) (files met) word rest f t r)
+    turn none word (a_plain f t r) next = read_plain none word rest f t r ∙ (next (one word) ∙ more_plainly false [] word rest t r)
+    turn (one a) word (a_plain f t r) next = read_plain (one a) word rest f t r ∙ (next (both a word) ∙ more_plainly false (a ∷ []) word rest t r)
+    turn (both a b) word (a_plain f t r) next = read_plain (both a b) word rest f t r ∙ (sym (third_plainly false a b word rest t r))
+    turn flag_none word (a_plain f t r) next = read_plain flag_none word rest f t r ∙ (next (flag_one word) ∙ more_plainly true [] word rest t r)
+    turn (flag_one a) word (a_plain f t r) next = read_plain (flag_one a) word rest f t r ∙ (next (flag_both a word) ∙ more_plainly true (a ∷ []) word rest t r)
+    turn (flag_both a b) word (a_plain f t r) next = read_plain (flag_both a b) word rest f t r ∙ (sym (third_plainly true a b word rest t r))
+    turn (one_flag a) word (a_plain f t r) next = read_plain (one_flag a) word rest f t r ∙ (next (one_flag_one a word) ∙ more_plainly true (a ∷ []) word rest t r)
+    turn (one_flag_one a b) word (a_plain f t r) next = read_plain (one_flag_one a b) word rest f t r ∙ (sym (third_plainly true a b word rest t r))
+    turn (both_flag a b) word (a_plain f t r) next = read_plain (both_flag a b) word rest f t r ∙ (sym (third_plainly true a b word rest t r))
 
 growth_outcome : (name : Text) (words : List Text) → growth_of name words ≡ outcome name (at none false) words
 growth_outcome name words = rw (takes_is name words) refl

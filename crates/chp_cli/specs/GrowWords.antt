@@ -8,21 +8,21 @@ use Rattle.chp_cli.specs.declared.grow_words.Growth.{Growth}
 use Rattle.chp_cli.specs.Numbers.{number_within}
 use Rattle.chp_cli.specs.Words.{is_set, asks, without_first}
 
--- the two arguments: positionals that have to be there, and are given once
-abbrev pub seed_rule : Rule
-seed_rule = record (new_rule (codes "SEED")) { required = true; action = Some Set }
-
-abbrev pub stages_rule : Rule
-stages_rule = record (new_rule (codes "STAGES")) { required = true; action = Some Set }
+-- a positional that has to be there, and is given once
+abbrev pub number_rule : Text → Rule
+number_rule id = record (new_rule id) { required = true; action = Some Set }
 
 abbrev pub sum_rule : Rule
 sum_rule = record (new_rule (codes "sum")) { long = Some (codes "sum"); action = Some SetTrue }
 
--- the form: both of them and the flag, and no flag for help
+-- a form that takes nothing, not even a flag for help
+abbrev pub bare_form : Text → App
+bare_form name = on_top (λ s. record s { no_binary_name = true; disable_help_flag = true }) (new_app name)
+
+-- the form: both numbers and the flag
 abbrev pub grow_form : Text → App
-grow_form name = with_rule (with_rule (with_rule
-    (on_top (λ s. record s { no_binary_name = true; disable_help_flag = true }) (new_app name))
-    seed_rule) stages_rule) sum_rule
+grow_form name =
+    with_rule (with_rule (with_rule (bare_form name) (number_rule (codes "SEED"))) (number_rule (codes "STAGES"))) sum_rule
 
 -- a seed of 64 bits, and 1 to 400 stages
 abbrev pub growth_in : (seed stages : Text) → (sum : Bool) → Option Growth

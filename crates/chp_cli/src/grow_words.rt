@@ -1,10 +1,10 @@
 //! The words of `grow`.
 
-ghost use Rattle.std.specs.Prelude.{◌≡◌, codes, IfOk, IfSome};
+ghost use Rattle.std.specs.Prelude.{◌≡◌, codes, false, IfOk, IfSome};
 ghost use Rattle.clap.specs.Matches.{first_value, found_of};
-ghost use Rattle.clap.specs.Words.{app_of};
+ghost use Rattle.clap.specs.Words.{app_of, rule_of};
 ghost use Rattle.chp_cli.specs.Forms.{texts_of};
-ghost use Rattle.chp_cli.specs.GrowWords.{IsGrowable, grow_form, growth_in, growth_of, growth_with, plain_growth};
+ghost use Rattle.chp_cli.specs.GrowWords.{IsGrowable, bare_form, grow_form, number_rule, growth_in, growth_of, growth_with, plain_growth};
 
 use crate::command::{is_set, matches_in};
 use crate::number::number_within;
@@ -76,19 +76,28 @@ fn growth_in(seed: &str, stages: &str, sum: bool) -> Option<Growth>
 fn grow_form<'a>(alloc: Global, name: &'a str) -> Result<clap::Command<'a>, AllocError>
     ensures { IfOk result (λ form. app_of form ≡ grow_form name.entry.now) }
 {
-    let seed = Arg::new(alloc, "SEED")
-        .required(true)
-        .action(ArgAction::Set);
-    let stages = Arg::new(alloc, "STAGES")
-        .required(true)
-        .action(ArgAction::Set);
     let sum = Arg::new(alloc, "sum")
         .long("sum")
         .action(ArgAction::SetTrue);
+    let bare = bare_form(alloc, name);
+    let with_seed = bare.arg(number_arg(alloc, "SEED"))?;
+    let with_both = with_seed.arg(number_arg(alloc, "STAGES"))?;
+    with_both.arg(sum)
+}
+
+/// A positional that has to be there, and is given once.
+fn number_arg<'a>(alloc: Global, id: &'a str) -> Arg<'a>
+    ensures rule { rule_of result ≡ number_rule id.entry.now }
+    ensures local { result.global ≡ false }
+{
+    Arg::new(alloc, id).required(true).action(ArgAction::Set)
+}
+
+/// A form that takes nothing, not even a flag for help.
+fn bare_form<'a>(alloc: Global, name: &'a str) -> clap::Command<'a>
+    ensures { app_of result ≡ bare_form name.entry.now }
+{
     clap::Command::new(alloc, name)
         .no_binary_name(true)
         .disable_help_flag(true)
-        .arg(seed)?
-        .arg(stages)?
-        .arg(sum)
 }

@@ -116,22 +116,22 @@ no_pair b c none m same =
     cc (one, pairs_told m, none)
 
 no_part_first : (b : ℕ) (text : List ℕ) → word_part b ≡ false → prefix_len word_part (b ∷ text) ≤ 0
-no_part_first b text no = rw no (omega arith)
+no_part_first b text lacks = rw lacks (omega arith)
 
 pub rest_sign : {P : List Token → Type 0} {depth at : ℕ} (m : Mark) (b c : ℕ) {text : List ℕ} → b ∷ [] ≡ sign_text m → word_part b ≡ false →
     is_pair b c ≡ false → depth ≤ 256
     → Rest (λ ts. P (token_of (Sign m) at 1 ∷ ts)) (opened depth (Sign m)) (at + 1) (c ∷ text) → Rest P depth at (b ∷ c ∷ text)
-rest_sign m b c {text} spelled no none few r =
+rest_sign m b c {text} spelled lacks none few r =
     rest_token (Sign m) (b ∷ []) (c ∷ text)
-    (sign_token m 1 (b ∷ c ∷ text) (no_part_first b (c ∷ text) no)
+    (sign_token m 1 (b ∷ c ∷ text) (no_part_first b (c ∷ text) lacks)
         (short_longest (b ∷ c ∷ text) m b c (omega arith) refl refl (no_pair b c none) spelled) (ap length spelled)) few r
 
 pub rest_pair : {P : List Token → Type 0} {depth at : ℕ} (m : Mark) (b c : ℕ) {text : List ℕ} → b ∷ c ∷ [] ≡ sign_text m → word_part b ≡ false →
     depth ≤ 256
     → Rest (λ ts. P (token_of (Sign m) at 2 ∷ ts)) (opened depth (Sign m)) (at + 2) text → Rest P depth at (b ∷ c ∷ text)
-rest_pair m b c {text} spelled no few r =
+rest_pair m b c {text} spelled lacks few r =
     rest_token (Sign m) (b ∷ c ∷ []) text
-    (sign_token m 2 (b ∷ c ∷ text) (no_part_first b (c ∷ text) no)
+    (sign_token m 2 (b ∷ c ∷ text) (no_part_first b (c ∷ text) lacks)
         (long_longest (b ∷ c ∷ text) m b c (omega arith) refl refl spelled) (ap length spelled)) few r
 
 -- ---- the whole text

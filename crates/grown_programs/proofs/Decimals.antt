@@ -80,11 +80,11 @@ first_digit d ds all = go (digit d) all
 
 channel_free : (ds : List ℕ) → 0 < length ds → list_all digit ds ≡ true → is_keyword (99 ∷ ds) ≡ false
 channel_free [] some all = absurd (omega arith)
-channel_free (d ∷ ds) some all = let no = no_letter d (first_digit d ds all) in rw (no.0, no.1) refl
+channel_free (d ∷ ds) some all = let free = no_letter d (first_digit d ds all) in rw (free.0, free.1) refl
 
 variable_free : (ds : List ℕ) → 0 < length ds → list_all digit ds ≡ true → is_keyword (118 ∷ ds) ≡ false
 variable_free [] some all = absurd (omega arith)
-variable_free (d ∷ ds) some all = let no = no_letter d (first_digit d ds all) in rw (no.0, no.1) refl
+variable_free (d ∷ ds) some all = let free = no_letter d (first_digit d ds all) in rw free.1 refl
 
 pub short_decimal : (n : ℕ) → n ≤ 400 → length (decimal n) ≤ 3
 short_decimal n few = length-decimal-le 3 n (omega arith) (omega arith) (omega arith)

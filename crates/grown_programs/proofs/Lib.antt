@@ -4,6 +4,3 @@ pub mod Plans
 pub mod Lines
 pub mod Texts
 pub mod Lookups
-pub mod Naming
-pub mod Sharing
-pub mod Counting

@@ -53,6 +53,8 @@ sum_here : {i k : ℕ} {s t u : Span} {left : List Token → Type 0} (ts : List 
     SendsHere i left (name (variable_at i) s ∷ sign mark.Plus t ∷ numeral k u ∷ ts)
 sum_here ts few here = record {
   rest = ts;
+  expression = _;
+  at = _;
   derives = the_disjunction (the_exclusive (the_conjunction (not_compared (the_sum (plain a_name) (one_more_sum refl (plain a_number) no_more_sum)))
           no_more_conjunction) no_more_exclusive) no_more_disjunction;
   is = a_sum few;
@@ -63,6 +65,8 @@ difference_here : {i k : ℕ} {s t u : Span} {left : List Token → Type 0} (ts 
     SendsHere i left (name (variable_at i) s ∷ sign mark.Minus t ∷ numeral k u ∷ ts)
 difference_here ts few here = record {
   rest = ts;
+  expression = _;
+  at = _;
   derives = the_disjunction (the_exclusive (the_conjunction (not_compared (the_sum (plain a_name) (one_more_sum refl (plain a_number) no_more_sum)))
           no_more_conjunction) no_more_exclusive) no_more_disjunction;
   is = a_difference few;
@@ -73,6 +77,8 @@ exclusive_here : {i k : ℕ} {s t u : Span} {left : List Token → Type 0} (ts :
     SendsHere i left (name (variable_at i) s ∷ sign mark.Caret t ∷ numeral k u ∷ ts)
 exclusive_here ts few here = record {
   rest = ts;
+  expression = _;
+  at = _;
   derives = the_disjunction (the_exclusive (the_conjunction (not_compared (the_sum (plain a_name) no_more_sum)) no_more_conjunction)
       (one_more_exclusive refl (the_conjunction (not_compared (the_sum (plain a_number) no_more_sum)) no_more_conjunction) no_more_exclusive))
       no_more_disjunction;
@@ -84,6 +90,8 @@ complement_here : {i : ℕ} {s t : Span} {left : List Token → Type 0} (ts : Li
     SendsHere i left (sign mark.Tilde t ∷ name (variable_at i) s ∷ ts)
 complement_here ts here = record {
   rest = ts;
+  expression = _;
+  at = _;
   derives = the_disjunction (the_exclusive (the_conjunction (not_compared (the_sum (negated a_name) no_more_sum)) no_more_conjunction) no_more_exclusive)
       no_more_disjunction;
   is = a_complement;
@@ -112,12 +120,15 @@ pub data SendsText (i : ℕ) : List ℕ → Type 0 where
 pub sends_text : (w i : ℕ) → SendsText i (stage_sends w i)
 sends_text w i = go (w % 4 == 0) (w % 4 == 1) (w % 4 == 2)
   where
-    go : (a b c : Bool) → SendsText i (cond a ((codes "v" ++ decimal i) ++ codes " + " ++ decimal (w / 4 % 256))
-        (cond b ((codes "v" ++ decimal i) ++ codes " ^ " ++ decimal (w / 4 % 256))
-        (cond c ((codes "v" ++ decimal i) ++ codes " - " ++ decimal (w / 4 % 256)) (codes "~" ++ (codes "v" ++ decimal i)))))
-    go true b c = plus_text (w / 4 % 256) (constant_small w)
-    go false true c = caret_text (w / 4 % 256) (constant_small w)
-    go false false true = minus_text (w / 4 % 256) (constant_small w)
+    behind : (b k : ℕ) → SendsText i (variable_at i ++ 32 ∷ b ∷ 32 ∷ decimal k) → SendsText i ((variable_at i ++ 32 ∷ b ∷ 32 ∷ []) ++ decimal k)
+    behind b k is = subst (SendsText i) (sym (append_assoc (variable_at i) (32 ∷ b ∷ 32 ∷ []) (decimal k))) is
+
+    go : (a b c : Bool) → SendsText i (cond a (((codes "v" ++ decimal i) ++ codes " + ") ++ decimal (w / 4 % 256))
+        (cond b (((codes "v" ++ decimal i) ++ codes " ^ ") ++ decimal (w / 4 % 256))
+        (cond c (((codes "v" ++ decimal i) ++ codes " - ") ++ decimal (w / 4 % 256)) (codes "~" ++ (codes "v" ++ decimal i)))))
+    go true b c = behind 43 (w / 4 % 256) (plus_text (w / 4 % 256) (constant_small w))
+    go false true c = behind 94 (w / 4 % 256) (caret_text (w / 4 % 256) (constant_small w))
+    go false false true = behind 45 (w / 4 % 256) (minus_text (w / 4 % 256) (constant_small w))
     go false false false = tilde_text
 
 -- an operator between the variable and the constant
@@ -144,14 +155,16 @@ module _ {left : List Token → Type 0} {depth : ℕ} (i k : ℕ) (text : List �
       (rest_blank 32 refl (rest_sign mark.Caret 94 32 refl refl refl shallow (rest_blank 32 refl (rest_number k text small ends shallow
       (rest_as (λ ts here. exclusive_here ts small here) (next _)))))))
 
+module _ {left : List Token → Type 0} {depth : ℕ} (i : ℕ) (text : List ℕ) (few : i ≤ 400) (ends : begins_with_part text ≡ false)
+    (shallow : depth ≤ 256) (next : (at : ℕ) → Rest left depth at text) where
+  pub rest_tilde : {at : ℕ} → Rest (SendsHere i left) depth at (126 ∷ (variable_at i ++ text))
+  rest_tilde = rest_sign mark.Tilde 126 118 refl refl refl shallow
+      (rest_name 118 i text few refl (variable_name i few) ends shallow (rest_as (λ ts here. complement_here ts here) (next _)))
+
 -- the sign and what is sent
 module _ {P left : List Token → Type 0} {depth : ℕ} (i : ℕ) (text : List ℕ) (few : i ≤ 400) (ends : begins_with_part text ≡ false)
     (shallow : depth ≤ 256) (next : (at : ℕ) → Rest left depth at text) (is : (ts : List Token) (b : Span) → SendsHere i left ts → P (sign mark.Bang b ∷ ts))
     where
-  rest_tilde : {at : ℕ} → Rest (SendsHere i left) depth at (126 ∷ (variable_at i ++ text))
-  rest_tilde = rest_sign mark.Tilde 126 118 refl refl refl shallow
-      (rest_name 118 i text few refl (variable_name i few) ends shallow (rest_as (λ ts here. complement_here ts here) (next _)))
-
   rest_form : {at : ℕ} (bs : List ℕ) → SendsText i bs → Rest P depth at (33 ∷ (bs ++ text))
   rest_form bs (plus_text k small) = rest_sign mark.Bang 33 118 refl refl refl shallow
       (rest_as (λ ts here. is ts _ here) (rest_plus i k text few small ends shallow next))
@@ -159,7 +172,7 @@ module _ {P left : List Token → Type 0} {depth : ℕ} (i : ℕ) (text : List �
       (rest_as (λ ts here. is ts _ here) (rest_minus i k text few small ends shallow next))
   rest_form bs (caret_text k small) = rest_sign mark.Bang 33 118 refl refl refl shallow
       (rest_as (λ ts here. is ts _ here) (rest_caret i k text few small ends shallow next))
-  rest_form bs tilde_text = rest_sign mark.Bang 33 126 refl refl refl shallow (rest_as (λ ts here. is ts _ here) rest_tilde)
+  rest_form bs tilde_text = rest_sign mark.Bang 33 126 refl refl refl shallow (rest_as (λ ts here. is ts _ here) (rest_tilde i text few ends shallow next))
 
   pub rest_sends : {at : ℕ} (w : ℕ) → Rest P depth at (33 ∷ (stage_sends w i ++ text))
   rest_sends w = rest_form (stage_sends w i) (sends_text w i)
@@ -189,6 +202,7 @@ stage_here ts here =
     let sent = subst (λ rest. Disjunction ts rest (cover here.expression here.at)) closed.is here.derives in
     record {
       rest = closed.rest;
+      statement = _;
       derives = the_seq (the_both (a_loop (the_par (the_seq (the_both a_receive no_more_both)
               (one_more_seq (the_both (a_send sent) no_more_both) no_more_seq)) no_more_par)) no_more_both) no_more_seq;
       is = a_stage here.is;
@@ -263,14 +277,14 @@ later_text seed i more late =
     stage_text (word_at seed (i - 1)) i more ∙ ap (λ begins. begins ++ loop) (later_begins i late)
 
 rest_stages : (seed count from : ℕ) {at : ℕ} → 2 ≤ from → from + count ≤ 401
-    → Rest (StagesHere from count) 0 at (flat_map (line_at seed) (range_with_len from count) ++ codes "end\n" ++ [])
+    → Rest (StagesHere from count) 0 at (flat_map (line_at seed) (range_with_len from count) ++ (codes "end\n" ++ []))
 rest_stages seed zero from late few = rest_end
 rest_stages seed (suc count) from late few =
     let behind = flat_map (line_at seed) (range_with_len (from + 1) count) in
-    rest_of_text (append_assoc (line_at seed from) behind (codes "end\n" ++ []) ∙ later_text seed from (behind ++ codes "end\n" ++ []) late)
+    rest_of_text (append_assoc (line_at seed from) behind (codes "end\n" ++ []) ∙ later_text seed from (behind ++ (codes "end\n" ++ [])) late)
     (rest_pair mark.BarBar 124 124 refl refl (omega arith) (rest_blank 32 refl
     (rest_as (λ ts here. more_here ts _ here)
-    (rest_loop (word_at seed (from - 1)) from (behind ++ codes "end\n" ++ []) (omega arith)
+    (rest_loop (word_at seed (from - 1)) from (behind ++ (codes "end\n" ++ [])) (omega arith)
         (λ to. rest_stages seed count (from + 1) (omega arith) (omega arith))))))
 
 -- tokens that are the body of a program, up to its end
@@ -290,15 +304,15 @@ body_here ts here =
     }
 
 pub rest_body : (seed stages : ℕ) {at : ℕ} → 1 ≤ stages → stages ≤ 400
-    → Rest (BodyHere stages) 0 at (generated_stages seed stages ++ codes "end\n" ++ [])
+    → Rest (BodyHere stages) 0 at ((generated_stages seed stages ++ (codes "end\n" ++ [])))
 rest_body seed stages some few =
     let behind = flat_map (line_at seed) (range_with_len 2 (stages - 1)) in
     let count : stages ≡ suc (stages - 1) = omega (arith, some) in
     let split : generated_stages seed stages ≡ line_at seed 1 ++ behind = ap (λ n. flat_map (line_at seed) (range_with_len 1 n)) count in
-    rest_of_text (ap (λ t. t ++ codes "end\n" ++ []) split ∙ append_assoc (line_at seed 1) behind (codes "end\n" ++ [])
-        ∙ stage_text (word_at seed 0) 1 (behind ++ codes "end\n" ++ []))
+    rest_of_text (ap (λ t. t ++ (codes "end\n" ++ [])) split ∙ append_assoc (line_at seed 1) behind (codes "end\n" ++ [])
+        ∙ stage_text (word_at seed 0) 1 (behind ++ (codes "end\n" ++ [])))
     (rest_as (λ ts here. body_here ts here)
-    (rest_loop (word_at seed 0) 1 (behind ++ codes "end\n" ++ []) (omega arith) (λ to. rest_stages seed (stages - 1) 2 (omega arith) (omega arith))))
+    (rest_loop (word_at seed 0) 1 (behind ++ (codes "end\n" ++ [])) (omega arith) (λ to. rest_stages seed (stages - 1) 2 (omega arith) (omega arith))))
 
 -- ---- the declarations
 
@@ -386,9 +400,9 @@ module _ {stages : ℕ} {ws : List Wanted} (n : ℕ) (more : List ℕ) (few : n 
 -- ---- all of them
 
 rest_begin : (seed stages : ℕ) {at : ℕ} → 1 ≤ stages → stages ≤ 400
-    → Rest (ProgramHere stages []) 0 at (codes "begin\n" ++ generated_stages seed stages ++ codes "end\n" ++ [])
+    → Rest (ProgramHere stages []) 0 at (codes "begin\n" ++ (generated_stages seed stages ++ (codes "end\n" ++ [])))
 rest_begin seed stages some few =
-    rest_word (Word key.Begin) (codes "begin") (10 ∷ (generated_stages seed stages ++ codes "end\n" ++ [])) (omega arith) refl refl refl (omega arith)
+    rest_word (Word key.Begin) (codes "begin") (10 ∷ ((generated_stages seed stages ++ (codes "end\n" ++ [])))) (omega arith) refl refl refl (omega arith)
     (rest_blank 10 refl (rest_as (λ ts here. begin_here ts _ here) (rest_body seed stages some few)))
 
 rest_variables : {stages : ℕ} (count from : ℕ) {at : ℕ} (more : List ℕ) → from + count ≤ 401 → ((to : ℕ) → Rest (ProgramHere stages []) 0 to more)
@@ -410,15 +424,15 @@ rest_channels (suc count) from more few next =
 
 -- the text, line after line
 abbrev pub text_behind : (seed stages : ℕ) → List ℕ
-text_behind seed stages = codes "begin\n" ++ generated_stages seed stages ++ codes "end\n" ++ []
+text_behind seed stages = codes "begin\n" ++ (generated_stages seed stages ++ (codes "end\n" ++ []))
 
 pub whole_text : (seed stages : ℕ) → generated_text seed stages
-    ≡ byte_line (codes "in c") 0 ++ flat_map (byte_line (codes "chan c")) (range_with_len 1 (stages - 1)) ++ byte_line (codes "out c") stages
-        ++ generated_variables stages ++ text_behind seed stages
+    ≡ byte_line (codes "in c") 0 ++ (flat_map (byte_line (codes "chan c")) (range_with_len 1 (stages - 1)) ++ (byte_line (codes "out c") stages
+        ++ (generated_variables stages ++ text_behind seed stages)))
 whole_text seed stages =
     let inner = flat_map (byte_line (codes "chan c")) (range_with_len 1 (stages - 1)) in
     let behind = generated_variables stages ++ text_behind seed stages in
-    append_assoc (byte_line (codes "in c") 0) (inner ++ byte_line (codes "out c") stages ++ []) behind
+    append_assoc (byte_line (codes "in c") 0) (inner ++ (byte_line (codes "out c") stages ++ [])) behind
     ∙ ap (λ t. byte_line (codes "in c") 0 ++ t) (append_assoc inner (byte_line (codes "out c") stages ++ []) behind
     ∙ ap (λ t. inner ++ t) (append_assoc (byte_line (codes "out c") stages) [] behind))
 
@@ -427,7 +441,7 @@ rest_program seed stages some few =
     let last = generated_variables stages ++ text_behind seed stages in
     let inner = flat_map (byte_line (codes "chan c")) (range_with_len 1 (stages - 1)) in
     rest_of_text (whole_text seed stages)
-    (rest_in 0 (inner ++ byte_line (codes "out c") stages ++ last) (omega arith)
+    (rest_in 0 (inner ++ (byte_line (codes "out c") stages ++ last)) (omega arith)
     (λ to. rest_channels (stages - 1) 1 (byte_line (codes "out c") stages ++ last) (omega arith)
     (λ at. rest_out stages last few
     (λ place. rest_variables stages 1 (text_behind seed stages) (omega arith) (λ from. rest_begin seed stages some few)))))

@@ -89,11 +89,12 @@ Among (v ∷ vs) w = (v ≡ w) ⊎ Among vs w
 
 inner_has : (from count : ℕ) (more : List Wanted) (j : ℕ) → from ≤ j → j < from + count → Among (inner_channels from count more) (wanted Chan 99 j)
 inner_has from zero more j low high = absurd (omega arith)
-inner_has from (suc count) more j low high = go (cases_lt from j)
+inner_has from (suc count) more j low high = go (cases_lt from j) (λ less. inner_has (from + 1) count more j (omega arith) (omega arith))
   where
-    go : (from < j) ⊎ (j ≤ from) → Among (inner_channels from (suc count) more) (wanted Chan 99 j)
-    go (inl less) = inr (inner_has (from + 1) count more j (omega arith) (omega arith))
-    go (inr le) = let same : from ≡ j = omega arith in inl (ap (wanted Chan 99) same)
+    go : (from < j) ⊎ (j ≤ from) → (from < j → Among (inner_channels (from + 1) count more) (wanted Chan 99 j))
+        → Among (inner_channels from (suc count) more) (wanted Chan 99 j)
+    go (inl less) next = inr (next less)
+    go (inr le) next = let same : from ≡ j = omega arith in inl (ap (wanted Chan 99) same)
 
 inner_skip : (from count : ℕ) (more : List Wanted) (w : Wanted) → Among more w → Among (inner_channels from count more) w
 inner_skip from zero more w is = is
@@ -101,11 +102,12 @@ inner_skip from (suc count) more w is = inr (inner_skip (from + 1) count more w 
 
 variables_have : (from count i : ℕ) → from ≤ i → i < from + count → Among (stage_variables from count) (wanted Var 118 i)
 variables_have from zero i low high = absurd (omega arith)
-variables_have from (suc count) i low high = go (cases_lt from i)
+variables_have from (suc count) i low high = go (cases_lt from i) (λ less. variables_have (from + 1) count i (omega arith) (omega arith))
   where
-    go : (from < i) ⊎ (i ≤ from) → Among (stage_variables from (suc count)) (wanted Var 118 i)
-    go (inl less) = inr (variables_have (from + 1) count i (omega arith) (omega arith))
-    go (inr le) = let same : from ≡ i = omega arith in inl (ap (wanted Var 118) same)
+    go : (from < i) ⊎ (i ≤ from) → (from < i → Among (stage_variables (from + 1) count) (wanted Var 118 i))
+        → Among (stage_variables from (suc count)) (wanted Var 118 i)
+    go (inl less) next = inr (next less)
+    go (inr le) next = let same : from ≡ i = omega arith in inl (ap (wanted Var 118) same)
 
 -- a channel that is declared
 pub record IsChannelOf (n j : ℕ) : Type 0 where
@@ -206,21 +208,21 @@ any_channel p d Var cs any = any
 
 this_channel : (name : List ℕ) (d : Decl) (kind : DeclKind) (cs : List Channel) → is_var kind ≡ false → bytes_eq d.name.name name ≡ true
     → list_any (λ (c : Channel). bytes_eq c.name name) (with_channel d kind cs) ≡ true
-this_channel name d In cs no is = rw is refl
-this_channel name d Out cs no is = rw is refl
-this_channel name d Chan cs no is = rw is refl
-this_channel name d Var cs no is = cc (no)
+this_channel name d In cs lacks is = rw is refl
+this_channel name d Out cs lacks is = rw is refl
+this_channel name d Chan cs lacks is = rw is refl
+this_channel name d Var cs lacks is = cc (lacks)
 
 channel_there : (ws : List Wanted) (ds : List Decl) (w : Wanted) → AreWanted ws ds → is_var w.kind ≡ false → Among ws w
     → list_any (λ (c : Channel). bytes_eq c.name (name_wanted w)) (channels_of ds) ≡ true
-channel_there [] ds w are no among = absurd among
-channel_there (v ∷ vs) [] w are no among = absurd are
-channel_there (v ∷ vs) (d ∷ ds) w are no (inl same) =
+channel_there [] ds w are lacks among = absurd among
+channel_there (v ∷ vs) [] w are lacks among = absurd are
+channel_there (v ∷ vs) (d ∷ ds) w are lacks (inl same) =
     let named : d.name.name ≡ name_wanted w = are.0.name ∙ ap name_wanted same in
     let kind : d.kind ≡ w.kind = are.0.kind ∙ ap (λ (x : Wanted). x.kind) same in
-    this_channel (name_wanted w) d d.kind (channels_of ds) (ap is_var kind ∙ no) (same_bytes d.name.name (name_wanted w) named)
-channel_there (v ∷ vs) (d ∷ ds) w are no (inr more) =
-    any_channel (λ (c : Channel). bytes_eq c.name (name_wanted w)) d d.kind (channels_of ds) (channel_there vs ds w are.1 no more)
+    this_channel (name_wanted w) d d.kind (channels_of ds) (ap is_var kind ∙ lacks) (same_bytes d.name.name (name_wanted w) named)
+channel_there (v ∷ vs) (d ∷ ds) w are lacks (inr more) =
+    any_channel (λ (c : Channel). bytes_eq c.name (name_wanted w)) d d.kind (channels_of ds) (channel_there vs ds w are.1 lacks more)
 
 any_var : (p : V.Var → Bool) (d : Decl) (kind : DeclKind) (vs : List V.Var) → list_any p vs ≡ true → list_any p (with_var d kind vs) ≡ true
 any_var p d Var vs any = any_more (p (record { name = d.name.name; width = d.width; first = d.first })) any
@@ -230,21 +232,21 @@ any_var p d Chan vs any = any
 
 this_var : (name : List ℕ) (d : Decl) (kind : DeclKind) (vs : List V.Var) → kind ≡ Var → bytes_eq d.name.name name ≡ true
     → list_any (λ (v : V.Var). bytes_eq v.name name) (with_var d kind vs) ≡ true
-this_var name d Var vs no is = rw is refl
-this_var name d In vs no is = absurd (cc (no))
-this_var name d Out vs no is = absurd (cc (no))
-this_var name d Chan vs no is = absurd (cc (no))
+this_var name d Var vs var is = rw is refl
+this_var name d In vs var is = absurd (cc (var))
+this_var name d Out vs var is = absurd (cc (var))
+this_var name d Chan vs var is = absurd (cc (var))
 
 variable_there : (ws : List Wanted) (ds : List Decl) (w : Wanted) → AreWanted ws ds → w.kind ≡ Var → Among ws w
     → list_any (λ (v : V.Var). bytes_eq v.name (name_wanted w)) (vars_of ds) ≡ true
-variable_there [] ds w are no among = absurd among
-variable_there (v ∷ vs) [] w are no among = absurd are
-variable_there (v ∷ vs) (d ∷ ds) w are no (inl same) =
+variable_there [] ds w are var among = absurd among
+variable_there (v ∷ vs) [] w are var among = absurd are
+variable_there (v ∷ vs) (d ∷ ds) w are var (inl same) =
     let named : d.name.name ≡ name_wanted w = are.0.name ∙ ap name_wanted same in
     let kind : d.kind ≡ w.kind = are.0.kind ∙ ap (λ (x : Wanted). x.kind) same in
-    this_var (name_wanted w) d d.kind (vars_of ds) (kind ∙ no) (same_bytes d.name.name (name_wanted w) named)
-variable_there (v ∷ vs) (d ∷ ds) w are no (inr more) =
-    any_var (λ (x : V.Var). bytes_eq x.name (name_wanted w)) d d.kind (vars_of ds) (variable_there vs ds w are.1 no more)
+    this_var (name_wanted w) d d.kind (vars_of ds) (kind ∙ var) (same_bytes d.name.name (name_wanted w) named)
+variable_there (v ∷ vs) (d ∷ ds) w are var (inr more) =
+    any_var (λ (x : V.Var). bytes_eq x.name (name_wanted w)) d d.kind (vars_of ds) (variable_there vs ds w are.1 var more)
 
 -- ---- the declarations of a program of n stages
 

@@ -19,7 +19,7 @@ pub record Wanted : Type 0 where
   pub number : ℕ
 
 abbrev pub wanted : DeclKind → (letter number : ℕ) → Wanted
-wanted kind letter number = record { kind = kind; letter = letter; number = number }
+wanted kind letter n = record { kind = kind; letter = letter; number = n }
 
 abbrev pub name_wanted : Wanted → List ℕ
 name_wanted w = numbered w.letter w.number

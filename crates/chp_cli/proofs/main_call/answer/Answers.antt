@@ -29,7 +29,7 @@ pub returns-in-Expand-clause-stopped : goal.returns-in-Expand-clause-stopped
 returns-in-Expand-clause-stopped g c = rw c.in-Expand.is c.expand.ensures.stopped
 
 pub grow-requires : goal.grow-requires
-grow-requires c = rw c.in-Grow.is at c.requires
+grow-requires g c = rw c.in-Grow.is at c.requires
 
 pub returns-in-Grow-clause-answered : goal.returns-in-Grow-clause-answered
 returns-in-Grow-clause-answered g c = rw c.in-Grow.is c.grow.ensures.answered
@@ -38,4 +38,4 @@ pub returns-in-Grow-clause-stopped : goal.returns-in-Grow-clause-stopped
 returns-in-Grow-clause-stopped g c =
     let S = g.S.Shelf in
     let given = given_by (S.tells c.args.shelf.now) (S.holds c.args.shelf.now) in
-    rw c.in-Grow.is (halts_stops (Grows c.in-Grow.field-0.now) c.grow.result [] given _ _ c.grow.ensures.stopped)
+    rw c.in-Grow.is (halts_stops (Grows c.in-Grow.growth) c.grow.result [] given _ _ c.grow.ensures.stopped)
