@@ -4,3 +4,6 @@ pub mod Plans
 pub mod Lines
 pub mod Texts
 pub mod Lookups
+pub mod Naming
+pub mod Sharing
+pub mod Counting
