@@ -289,8 +289,8 @@ module _ (name : Text) where
   abbrev outcome : Walk → List Text → Option Growth
   outcome w words = cond (walk_passes (shape name) [] w words && ends_well (fold (walked rules []) w words).held)
       (growth_with (first_of (codes "SEED") (finished rules (fold (walked rules []) w words).held))
-          (first_of (codes "STAGES") (finished rules (fold (walked rules []) w words).held))
-          (first_of (codes "sum") (finished rules (fold (walked rules []) w words).held)))
+      (first_of (codes "STAGES") (finished rules (fold (walked rules []) w words).held))
+      (first_of (codes "sum") (finished rules (fold (walked rules []) w words).held)))
       None
 
   stops : (w : Walk) (word : Text) (rest : List Text) → turn_passes (shape name) [] w word ≡ false → outcome w (word ∷ rest) ≡ None
@@ -352,25 +352,25 @@ module _ (name : Text) where
       turn (one a) word rest u (a_plain f t r) next =
           let p = plain_word word f in
           rw (t, r, f) (goes_on (at (one a) false) (at (both a word) false) word rest (rw (p.ends, p.long, p.short) refl) (plain_one a word p)
-              ∙ next (both a word))
+          ∙ next (both a word))
       turn (both a b) word rest u (a_plain f t r) next =
           let p = plain_word word f in
           rw (t, r, f) (stops (at (both a b) false) word rest (rw (p.ends, p.long, p.short) refl))
       turn flag_none word rest u (a_plain f t r) next =
           let p = plain_word word f in
           rw (t, r, f) (goes_on (at flag_none false) (at (flag_one word) false) word rest (rw (p.ends, p.long, p.short) refl) (plain_flag word p)
-              ∙ next (flag_one word))
+          ∙ next (flag_one word))
       turn (flag_one a) word rest u (a_plain f t r) next =
           let p = plain_word word f in
           rw (t, r, f) (goes_on (at (flag_one a) false) (at (flag_both a word) false) word rest (rw (p.ends, p.long, p.short) refl) (plain_flag_one a word p)
-              ∙ next (flag_both a word))
+          ∙ next (flag_both a word))
       turn (flag_both a b) word rest u (a_plain f t r) next =
           let p = plain_word word f in
           rw (t, r, f) (stops (at (flag_both a b) false) word rest (rw (p.ends, p.long, p.short) refl))
       turn (one_flag a) word rest u (a_plain f t r) next =
           let p = plain_word word f in
           rw (t, r, f) (goes_on (at (one_flag a) false) (at (one_flag_one a word) false) word rest (rw (p.ends, p.long, p.short) refl) (plain_one_flag a word p)
-              ∙ next (one_flag_one a word))
+          ∙ next (one_flag_one a word))
       turn (one_flag_one a b) word rest u (a_plain f t r) next =
           let p = plain_word word f in
           rw (t, r, f) (stops (at (one_flag_one a b) false) word rest (rw (p.ends, p.long, p.short) refl))
@@ -490,7 +490,7 @@ module _ (sum : Bool) (before : List Text) (word : Text) (rest : List Text) (t :
 
   plainly_more : plainly sum before (word ∷ rest)
       ≡ cond (asks flag_word rest) (cond sum None (two_numbers (before ++ word ∷ without_first dashes (without_first flag_word rest)) true))
-          (two_numbers (before ++ word ∷ without_first dashes rest) sum)
+      (two_numbers (before ++ word ∷ without_first dashes rest) sum)
   plainly_more =
       ap (λ asked. shown asked (without_first dashes (without_first flag_word (word ∷ rest))) (without_first dashes (word ∷ rest))) asks_more
       ∙ (ap (λ words. shown (asks flag_word rest) words (without_first dashes (word ∷ rest))) both_stay
@@ -525,9 +525,9 @@ more_plainly : (sum : Bool) (before : List Text) (word : Text) (rest : List Text
     → plainly sum (before ++ word ∷ []) rest ≡ plainly sum before (word ∷ rest)
 more_plainly sum before word rest t r =
     ap (λ words. cond (asks flag_word rest) (cond sum None (two_numbers words true)) (two_numbers ((before ++ word ∷ []) ++ without_first dashes rest) sum))
-        (append_assoc before (word ∷ []) (without_first dashes (without_first flag_word rest)))
+    (append_assoc before (word ∷ []) (without_first dashes (without_first flag_word rest)))
     ∙ (ap (λ words. cond (asks flag_word rest) (cond sum None (two_numbers (before ++ word ∷ without_first dashes (without_first flag_word rest)) true))
-            (two_numbers words sum)) (append_assoc before (word ∷ []) (without_first dashes rest))
+    (two_numbers words sum)) (append_assoc before (word ∷ []) (without_first dashes rest))
     ∙ sym (plainly_more sum before word rest t r))
 
 read_flag : (met : Met) (word : Text) (rest : List Text) → is_flag word ≡ true → bytes_eq word dashes ≡ false → bytes_eq word flag_word ≡ false

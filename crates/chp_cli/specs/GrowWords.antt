@@ -43,8 +43,8 @@ growth_with _ _ sum = None
 abbrev pub growth_of : Text → List Text → Option Growth
 growth_of name words = if takes (grow_form name) words
     then growth_with (first_of (codes "SEED") (matches_of (grow_form name) words))
-        (first_of (codes "STAGES") (matches_of (grow_form name) words))
-        (first_of (codes "sum") (matches_of (grow_form name) words))
+    (first_of (codes "STAGES") (matches_of (grow_form name) words))
+    (first_of (codes "sum") (matches_of (grow_form name) words))
     else None
 
 -- ---- the same in plain words

@@ -78,50 +78,50 @@ widths (w ∷ ws) [] c are = absurd are
 widths (w ∷ ws) (d ∷ ds) c are = any_width d d.kind (channels_of ds) c are.0.width (λ k. widths ws ds k are.1)
 
 module _ (n : ℕ) (some : 1 ≤ n) (few : n ≤ 400) (ds : List Decl) (are : AreWanted (all_wanted n) ds) (p : TypedProgram) (channels : p.channels ≡ channels_of ds)
-    where
-  narrow : (c : ℕ) → channel_width p.channels c ≤ 8
-  narrow c = subst (λ cs. channel_width cs c ≤ 8) (sym channels) (widths (all_wanted n) ds c are)
+  where
+    narrow : (c : ℕ) → channel_width p.channels c ≤ 8
+    narrow c = subst (λ cs. channel_width cs c ≤ 8) (sym channels) (widths (all_wanted n) ds c are)
 
-  stage_size : (i : ℕ) (t : Statement) → 1 ≤ i → i ≤ n → IsStage i t → size_of p (process_form ds t) ≤ 86
-  stage_size i t low high (a_stage (a_sum small)) =
-      let sent = channel_wide n some few ds are i high in
-      let own = variable_wide n some few ds are i low high in
-      omega (arith, sent, own, narrow (channel_number ds (channel_at (i - 1))))
-  stage_size i t low high (a_stage (a_difference small)) =
-      let sent = channel_wide n some few ds are i high in
-      let own = variable_wide n some few ds are i low high in
-      omega (arith, sent, own, narrow (channel_number ds (channel_at (i - 1))))
-  stage_size i t low high (a_stage (an_exclusive_or small)) =
-      let sent = channel_wide n some few ds are i high in
-      let own = variable_wide n some few ds are i low high in
-      omega (arith, sent, own, narrow (channel_number ds (channel_at (i - 1))))
-  stage_size i t low high (a_stage a_complement) =
-      let sent = channel_wide n some few ds are i high in
-      let own = variable_wide n some few ds are i low high in
-      omega (arith, sent, own, narrow (channel_number ds (channel_at (i - 1))))
+    stage_size : (i : ℕ) (t : Statement) → 1 ≤ i → i ≤ n → IsStage i t → size_of p (process_form ds t) ≤ 86
+    stage_size i t low high (a_stage (a_sum small)) =
+        let sent = channel_wide n some few ds are i high in
+        let own = variable_wide n some few ds are i low high in
+        omega (arith, sent, own, narrow (channel_number ds (channel_at (i - 1))))
+    stage_size i t low high (a_stage (a_difference small)) =
+        let sent = channel_wide n some few ds are i high in
+        let own = variable_wide n some few ds are i low high in
+        omega (arith, sent, own, narrow (channel_number ds (channel_at (i - 1))))
+    stage_size i t low high (a_stage (an_exclusive_or small)) =
+        let sent = channel_wide n some few ds are i high in
+        let own = variable_wide n some few ds are i low high in
+        omega (arith, sent, own, narrow (channel_number ds (channel_at (i - 1))))
+    stage_size i t low high (a_stage a_complement) =
+        let sent = channel_wide n some few ds are i high in
+        let own = variable_wide n some few ds are i low high in
+        omega (arith, sent, own, narrow (channel_number ds (channel_at (i - 1))))
 
-  stages_size : (from count : ℕ) (us : Statements) → 1 ≤ from → from + count ≤ n + 1 → AreStages from count us →
-      branches_size p (processes_form ds us) ≤ 89 * count
-  stages_size from zero us low high no_stage = omega arith
-  stages_size from (suc count) us low high (one_more_stage {t = t} {us = more} is others) =
-      let here = stage_size from t low (omega arith) is in
-      let behind = stages_size (from + 1) count more (omega arith) (omega arith) others in
-      omega (arith, here, behind)
+    stages_size : (from count : ℕ) (us : Statements) → 1 ≤ from → from + count ≤ n + 1 → AreStages from count us →
+        branches_size p (processes_form ds us) ≤ 89 * count
+    stages_size from zero us low high no_stage = omega arith
+    stages_size from (suc count) us low high (one_more_stage {t = t} {us = more} is others) =
+        let here = stage_size from t low (omega arith) is in
+        let behind = stages_size (from + 1) count more (omega arith) (omega arith) others in
+        omega (arith, here, behind)
 
-  stages_count : (from count : ℕ) (us : Statements) → AreStages from count us → member_count (processes_form ds us) ≡ count
-  stages_count from zero us no_stage = refl
-  stages_count from (suc count) us (one_more_stage {t = t} {us = more} is others) = let behind = stages_count (from + 1) count more others in omega (arith, behind)
+    stages_count : (from count : ℕ) (us : Statements) → AreStages from count us → member_count (processes_form ds us) ≡ count
+    stages_count from zero us no_stage = refl
+    stages_count from (suc count) us (one_more_stage {t = t} {us = more} is others) = let behind = stages_count (from + 1) count more others in omega (arith, behind)
 
-  body_size : (body : Statement) → IsBody n body → size_of p (process_form ds body) ≤ 90 * n - 1
-  body_size body b = subst (λ t. size_of p (process_form ds t) ≤ 90 * n - 1) (sym b.is) (go b.others (n - 1) (omega arith) b.are_others)
-    where
-      go : (us : Statements) (count : ℕ) → 1 + count ≡ n → AreStages 2 count us → size_of p (process_form ds (parallel_of b.first us)) ≤ 90 * n - 1
-      go no_members count all others = let here = stage_size 1 b.first (omega arith) some b.is_first in omega (arith, here)
-      go (and_member u us) count all others =
-          let stages : AreStages 1 (suc count) (and_member b.first (and_member u us)) = one_more_stage b.is_first others in
-          let size = stages_size 1 (suc count) (and_member b.first (and_member u us)) (omega arith) (omega arith) stages in
-          let members = stages_count 1 (suc count) (and_member b.first (and_member u us)) stages in
-          omega (arith, size, members)
+    body_size : (body : Statement) → IsBody n body → size_of p (process_form ds body) ≤ 90 * n - 1
+    body_size body b = subst (λ t. size_of p (process_form ds t) ≤ 90 * n - 1) (sym b.is) (go b.others (n - 1) (omega arith) b.are_others)
+      where
+        go : (us : Statements) (count : ℕ) → 1 + count ≡ n → AreStages 2 count us → size_of p (process_form ds (parallel_of b.first us)) ≤ 90 * n - 1
+        go no_members count all others = let here = stage_size 1 b.first (omega arith) some b.is_first in omega (arith, here)
+        go (and_member u us) count all others =
+            let stages : AreStages 1 (suc count) (and_member b.first (and_member u us)) = one_more_stage b.is_first others in
+            let size = stages_size 1 (suc count) (and_member b.first (and_member u us)) (omega arith) (omega arith) stages in
+            let members = stages_count 1 (suc count) (and_member b.first (and_member u us)) stages in
+            omega (arith, size, members)
 
 pub few_nodes : (n : ℕ) (program : ProgramTree) → 1 ≤ n → n ≤ 400 → AreWanted (all_wanted n) program.decls → IsBody n program.body
     → node_count (typed_form program) ≤ 20 + 154 * n

@@ -124,7 +124,7 @@ pub rest_sign : {P : List Token → Type 0} {depth at : ℕ} (m : Mark) (b c : �
 rest_sign m b c {text} spelled lacks none few r =
     rest_token (Sign m) (b ∷ []) (c ∷ text)
     (sign_token m 1 (b ∷ c ∷ text) (no_part_first b (c ∷ text) lacks)
-        (short_longest (b ∷ c ∷ text) m b c (omega arith) refl refl (no_pair b c none) spelled) (ap length spelled)) few r
+    (short_longest (b ∷ c ∷ text) m b c (omega arith) refl refl (no_pair b c none) spelled) (ap length spelled)) few r
 
 pub rest_pair : {P : List Token → Type 0} {depth at : ℕ} (m : Mark) (b c : ℕ) {text : List ℕ} → b ∷ c ∷ [] ≡ sign_text m → word_part b ≡ false →
     depth ≤ 256
@@ -132,7 +132,7 @@ pub rest_pair : {P : List Token → Type 0} {depth at : ℕ} (m : Mark) (b c : �
 rest_pair m b c {text} spelled lacks few r =
     rest_token (Sign m) (b ∷ c ∷ []) text
     (sign_token m 2 (b ∷ c ∷ text) (no_part_first b (c ∷ text) lacks)
-        (long_longest (b ∷ c ∷ text) m b c (omega arith) refl refl spelled) (ap length spelled)) few r
+    (long_longest (b ∷ c ∷ text) m b c (omega arith) refl refl spelled) (ap length spelled)) few r
 
 -- ---- the whole text
 

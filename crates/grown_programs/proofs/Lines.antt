@@ -56,7 +56,7 @@ sum_here ts few here = record {
   expression = _;
   at = _;
   derives = the_disjunction (the_exclusive (the_conjunction (not_compared (the_sum (plain a_name) (one_more_sum refl (plain a_number) no_more_sum)))
-          no_more_conjunction) no_more_exclusive) no_more_disjunction;
+      no_more_conjunction) no_more_exclusive) no_more_disjunction;
   is = a_sum few;
   left_here = here;
 }
@@ -68,7 +68,7 @@ difference_here ts few here = record {
   expression = _;
   at = _;
   derives = the_disjunction (the_exclusive (the_conjunction (not_compared (the_sum (plain a_name) (one_more_sum refl (plain a_number) no_more_sum)))
-          no_more_conjunction) no_more_exclusive) no_more_disjunction;
+      no_more_conjunction) no_more_exclusive) no_more_disjunction;
   is = a_difference few;
   left_here = here;
 }
@@ -164,18 +164,18 @@ module _ {left : List Token → Type 0} {depth : ℕ} (i : ℕ) (text : List ℕ
 -- the sign and what is sent
 module _ {P left : List Token → Type 0} {depth : ℕ} (i : ℕ) (text : List ℕ) (few : i ≤ 400) (ends : begins_with_part text ≡ false)
     (shallow : depth ≤ 256) (next : (at : ℕ) → Rest left depth at text) (is : (ts : List Token) (b : Span) → SendsHere i left ts → P (sign mark.Bang b ∷ ts))
-    where
-  rest_form : {at : ℕ} (bs : List ℕ) → SendsText i bs → Rest P depth at (33 ∷ (bs ++ text))
-  rest_form bs (plus_text k small) = rest_sign mark.Bang 33 118 refl refl refl shallow
-      (rest_as (λ ts here. is ts _ here) (rest_plus i k text few small ends shallow next))
-  rest_form bs (minus_text k small) = rest_sign mark.Bang 33 118 refl refl refl shallow
-      (rest_as (λ ts here. is ts _ here) (rest_minus i k text few small ends shallow next))
-  rest_form bs (caret_text k small) = rest_sign mark.Bang 33 118 refl refl refl shallow
-      (rest_as (λ ts here. is ts _ here) (rest_caret i k text few small ends shallow next))
-  rest_form bs tilde_text = rest_sign mark.Bang 33 126 refl refl refl shallow (rest_as (λ ts here. is ts _ here) (rest_tilde i text few ends shallow next))
+  where
+    rest_form : {at : ℕ} (bs : List ℕ) → SendsText i bs → Rest P depth at (33 ∷ (bs ++ text))
+    rest_form bs (plus_text k small) = rest_sign mark.Bang 33 118 refl refl refl shallow
+        (rest_as (λ ts here. is ts _ here) (rest_plus i k text few small ends shallow next))
+    rest_form bs (minus_text k small) = rest_sign mark.Bang 33 118 refl refl refl shallow
+        (rest_as (λ ts here. is ts _ here) (rest_minus i k text few small ends shallow next))
+    rest_form bs (caret_text k small) = rest_sign mark.Bang 33 118 refl refl refl shallow
+        (rest_as (λ ts here. is ts _ here) (rest_caret i k text few small ends shallow next))
+    rest_form bs tilde_text = rest_sign mark.Bang 33 126 refl refl refl shallow (rest_as (λ ts here. is ts _ here) (rest_tilde i text few ends shallow next))
 
-  pub rest_sends : {at : ℕ} (w : ℕ) → Rest P depth at (33 ∷ (stage_sends w i ++ text))
-  rest_sends w = rest_form (stage_sends w i) (sends_text w i)
+    pub rest_sends : {at : ℕ} (w : ℕ) → Rest P depth at (33 ∷ (stage_sends w i ++ text))
+    rest_sends w = rest_form (stage_sends w i) (sends_text w i)
 
 -- ---- a stage
 
@@ -196,7 +196,7 @@ pub record Closes (left : List Token → Type 0) (ts : List Token) : Type 0 wher
 
 stage_here : {i : ℕ} {s o a q v l c b : Span} {left : List Token → Type 0} (ts : List Token) → SendsHere i (Closes left) ts
     → StageHere i left (sign mark.Star s ∷ sign mark.OpenSquare o ∷ name (channel_at (i - 1)) a ∷ sign mark.Question q ∷ name (variable_at i) v
-        ∷ sign mark.Semicolon l ∷ name (channel_at i) c ∷ sign mark.Bang b ∷ ts)
+    ∷ sign mark.Semicolon l ∷ name (channel_at i) c ∷ sign mark.Bang b ∷ ts)
 stage_here ts here =
     let closed = here.left_here in
     let sent = subst (λ rest. Disjunction ts rest (cover here.expression here.at)) closed.is here.derives in
@@ -204,7 +204,7 @@ stage_here ts here =
       rest = closed.rest;
       statement = _;
       derives = the_seq (the_both (a_loop (the_par (the_seq (the_both a_receive no_more_both)
-              (one_more_seq (the_both (a_send sent) no_more_both) no_more_seq)) no_more_par)) no_more_both) no_more_seq;
+          (one_more_seq (the_both (a_send sent) no_more_both) no_more_seq)) no_more_par)) no_more_both) no_more_seq;
       is = a_stage here.is;
       left_here = closed.left_here;
     }
@@ -228,14 +228,14 @@ rest_loop {left} w i more few next =
     rest_sign mark.Star 42 91 refl refl refl (omega arith)
     (rest_sign mark.OpenSquare 91 99 refl refl refl (omega arith)
     (rest_name 99 (i - 1) (63 ∷ (variable_at i ++ 59 ∷ 32 ∷ (channel_at i ++ 33 ∷ (stage_sends w i ++ 93 ∷ 10 ∷ more)))) (omega arith) refl
-        (channel_name (i - 1) (omega arith)) refl (omega arith)
+    (channel_name (i - 1) (omega arith)) refl (omega arith)
     (rest_sign mark.Question 63 118 refl refl refl (omega arith)
     (rest_name 118 i (59 ∷ 32 ∷ (channel_at i ++ 33 ∷ (stage_sends w i ++ 93 ∷ 10 ∷ more))) few refl (variable_name i few) refl (omega arith)
     (rest_sign mark.Semicolon 59 32 refl refl refl (omega arith)
     (rest_blank 32 refl
     (rest_name 99 i (33 ∷ (stage_sends w i ++ 93 ∷ 10 ∷ more)) few refl (channel_name i few) refl (omega arith)
     (rest_sends {left = Closes left} i (93 ∷ 10 ∷ more) few refl (omega arith) (λ to. rest_close more next)
-        (λ ts b here. stage_here ts here) w))))))))
+    (λ ts b here. stage_here ts here) w))))))))
 
 -- ---- the body
 
@@ -285,7 +285,7 @@ rest_stages seed (suc count) from late few =
     (rest_pair mark.BarBar 124 124 refl refl (omega arith) (rest_blank 32 refl
     (rest_as (λ ts here. more_here ts _ here)
     (rest_loop (word_at seed (from - 1)) from (behind ++ (codes "end\n" ++ [])) (omega arith)
-        (λ to. rest_stages seed count (from + 1) (omega arith) (omega arith))))))
+    (λ to. rest_stages seed count (from + 1) (omega arith) (omega arith))))))
 
 -- tokens that are the body of a program, up to its end
 pub record BodyHere (stages : ℕ) (ts : List Token) : Type 0 where
@@ -310,7 +310,7 @@ rest_body seed stages some few =
     let count : stages ≡ suc (stages - 1) = omega (arith, some) in
     let split : generated_stages seed stages ≡ line_at seed 1 ++ behind = ap (λ n. flat_map (line_at seed) (range_with_len 1 n)) count in
     rest_of_text (ap (λ t. t ++ (codes "end\n" ++ [])) split ∙ append_assoc (line_at seed 1) behind (codes "end\n" ++ [])
-        ∙ stage_text (word_at seed 0) 1 (behind ++ (codes "end\n" ++ [])))
+    ∙ stage_text (word_at seed 0) 1 (behind ++ (codes "end\n" ++ [])))
     (rest_as (λ ts here. body_here ts here)
     (rest_loop (word_at seed 0) 1 (behind ++ (codes "end\n" ++ [])) (omega arith) (λ to. rest_stages seed (stages - 1) 2 (omega arith) (omega arith))))
 
@@ -339,7 +339,7 @@ begin_here ts b here = record {
 
 declared_here : {stages : ℕ} {ws : List Wanted} (kind : DeclKind) (letter number : ℕ) (t : Token) (s c p e : Span) (ts : List Token)
     → Declaration (t ∷ name (numbered letter number) s ∷ sign mark.Colon c ∷ numeral 8 p ∷ sign mark.Semicolon e ∷ ts) ts
-        (valued (unset kind (named (numbered letter number) s) 8 p))
+    (valued (unset kind (named (numbered letter number) s) 8 p))
     → ProgramHere stages ws ts
     → ProgramHere stages (wanted kind letter number ∷ ws) (t ∷ name (numbered letter number) s ∷ sign mark.Colon c ∷ numeral 8 p ∷ sign mark.Semicolon e ∷ ts)
 declared_here kind letter number t s c p e ts derives here = record {
@@ -428,7 +428,7 @@ text_behind seed stages = codes "begin\n" ++ (generated_stages seed stages ++ (c
 
 pub whole_text : (seed stages : ℕ) → generated_text seed stages
     ≡ byte_line (codes "in c") 0 ++ (flat_map (byte_line (codes "chan c")) (range_with_len 1 (stages - 1)) ++ (byte_line (codes "out c") stages
-        ++ (generated_variables stages ++ text_behind seed stages)))
+    ++ (generated_variables stages ++ text_behind seed stages)))
 whole_text seed stages =
     let inner = flat_map (byte_line (codes "chan c")) (range_with_len 1 (stages - 1)) in
     let behind = generated_variables stages ++ text_behind seed stages in

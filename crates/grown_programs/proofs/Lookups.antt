@@ -286,9 +286,9 @@ module _ (n : ℕ) (some : 1 ≤ n) (few : n ≤ 400) (ds : List Decl) (are : Ar
   pub one_variable : (i j : ℕ) → 1 ≤ i → i ≤ n → 1 ≤ j → j ≤ n → var_number ds (variable_at i) ≡ var_number ds (variable_at j) → i ≡ j
   one_variable i j low within least also same =
       let x = first_passes (λ (v : V.Var). bytes_eq v.name (variable_at i)) (vars_of ds)
-          (variable_there (all_wanted n) ds (wanted Var 118 i) are refl (variable_among n i low within)) in
+      (variable_there (all_wanted n) ds (wanted Var 118 i) are refl (variable_among n i low within)) in
       let y = first_passes (λ (v : V.Var). bytes_eq v.name (variable_at j)) (vars_of ds)
-          (variable_there (all_wanted n) ds (wanted Var 118 j) are refl (variable_among n j least also)) in
+      (variable_there (all_wanted n) ds (wanted Var 118 j) are refl (variable_among n j least also)) in
       let there : slice_get (vars_of ds) (var_number ds (variable_at i)) ≡ slice_get (vars_of ds) (var_number ds (variable_at j)) =
       ap (slice_get (vars_of ds)) same in
       let once : x.0 ≡ y.0 = cc (x.1, y.1, there) in

@@ -43,10 +43,13 @@ rising_variables from zero low less = tt
 rising_variables from (suc count) low less = (omega arith, rising_variables (from + 1) count (118 * 1000 + from + 1) (omega arith))
 
 all_rising : (n : ℕ) → 1 ≤ n → n ≤ 400 → Rising 0 (all_wanted n)
-all_rising n some few = (omega arith, rising_inner 1 (n - 1) (wanted Out 99 n ∷ stage_variables 1 n) (99 * 1000 + 0 + 1) (omega arith) (
+all_rising n some few = (
   omega arith,
-  rising_variables 1 n (99 * 1000 + n + 1) (omega arith),
-))
+  rising_inner 1 (n - 1) (wanted Out 99 n ∷ stage_variables 1 n) (99 * 1000 + 0 + 1) (omega arith) (
+    omega arith,
+    rising_variables 1 n (99 * 1000 + n + 1) (omega arith),
+  ),
+)
 
 rising_get : (low : ℕ) (ws : List Wanted) (k : ℕ) (w : Wanted) → Rising low ws → slice_get ws k ≡ Some w → low ≤ rank w
 rising_get low [] k w rises is = absurd (cc (is))
@@ -90,7 +93,7 @@ stages_uses : (n from count : ℕ) (us : Statements) → 1 ≤ from → from + c
 stages_uses n from zero us low high no_stage = tt
 stages_uses n from (suc count) us low high (one_more_stage {t = t} {us = more} is others) =
     each_append (IsOurUse n) (uses_in t) (uses_in_each more) (stage_uses n from t low (omega arith) is)
-        (stages_uses n (from + 1) count more (omega arith) (omega arith) others)
+    (stages_uses n (from + 1) count more (omega arith) (omega arith) others)
 
 body_uses : (n : ℕ) (body : Statement) → 1 ≤ n → IsBody n body → Each (IsOurUse n) (uses_in body)
 body_uses n body some b = subst (λ t. Each (IsOurUse n) (uses_in t)) (sym b.is) (go b.others b.are_others)
@@ -99,7 +102,7 @@ body_uses n body some b = subst (λ t. Each (IsOurUse n) (uses_in t)) (sym b.is)
     go no_members others = stage_uses n 1 b.first (omega arith) some b.is_first
     go (and_member u us) others =
         each_append (IsOurUse n) (uses_in b.first) (uses_in_each (and_member u us)) (stage_uses n 1 b.first (omega arith) some b.is_first)
-            (stages_uses n 2 (n - 1) (and_member u us) (omega arith) (omega arith) others)
+        (stages_uses n 2 (n - 1) (and_member u us) (omega arith) (omega arith) others)
 
 -- expressions
 data IsOurSent (n : ℕ) (ds : List Decl) : Expected → Type 0 where
@@ -113,7 +116,7 @@ stages_sent : (n : ℕ) (ds : List Decl) (from count : ℕ) (us : Statements) �
 stages_sent n ds from zero us low high no_stage = tt
 stages_sent n ds from (suc count) us low high (one_more_stage {t = t} {us = more} is others) =
     each_append (IsOurSent n ds) (expressions_in ds t) (expressions_in_each ds more) (stage_sent n ds from t low (omega arith) is)
-        (stages_sent n ds (from + 1) count more (omega arith) (omega arith) others)
+    (stages_sent n ds (from + 1) count more (omega arith) (omega arith) others)
 
 body_sent : (n : ℕ) (ds : List Decl) (body : Statement) → 1 ≤ n → IsBody n body → Each (IsOurSent n ds) (expressions_in ds body)
 body_sent n ds body some b = subst (λ t. Each (IsOurSent n ds) (expressions_in ds t)) (sym b.is) (go b.others b.are_others)
@@ -122,8 +125,8 @@ body_sent n ds body some b = subst (λ t. Each (IsOurSent n ds) (expressions_in 
     go no_members others = stage_sent n ds 1 b.first (omega arith) some b.is_first
     go (and_member u us) others =
         each_append (IsOurSent n ds) (expressions_in ds b.first) (expressions_in_each ds (and_member u us))
-            (stage_sent n ds 1 b.first (omega arith) some b.is_first)
-            (stages_sent n ds 2 (n - 1) (and_member u us) (omega arith) (omega arith) others)
+        (stage_sent n ds 1 b.first (omega arith) some b.is_first)
+        (stages_sent n ds 2 (n - 1) (and_member u us) (omega arith) (omega arith) others)
 
 -- receives
 data IsOurReception (n : ℕ) : Reception → Type 0 where
@@ -140,7 +143,7 @@ stages_receptions : (n from count : ℕ) (us : Statements) → 1 ≤ from → fr
 stages_receptions n from zero us low high no_stage = tt
 stages_receptions n from (suc count) us low high (one_more_stage {t = t} {us = more} is others) =
     each_append (IsOurReception n) (receptions_in t) (receptions_in_each more) (stage_receptions n from t low (omega arith) is)
-        (stages_receptions n (from + 1) count more (omega arith) (omega arith) others)
+    (stages_receptions n (from + 1) count more (omega arith) (omega arith) others)
 
 body_receptions : (n : ℕ) (body : Statement) → 1 ≤ n → IsBody n body → Each (IsOurReception n) (receptions_in body)
 body_receptions n body some b = subst (λ t. Each (IsOurReception n) (receptions_in t)) (sym b.is) (go b.others b.are_others)
@@ -149,8 +152,8 @@ body_receptions n body some b = subst (λ t. Each (IsOurReception n) (receptions
     go no_members others = stage_receptions n 1 b.first (omega arith) some b.is_first
     go (and_member u us) others =
         each_append (IsOurReception n) (receptions_in b.first) (receptions_in_each (and_member u us))
-            (stage_receptions n 1 b.first (omega arith) some b.is_first)
-            (stages_receptions n 2 (n - 1) (and_member u us) (omega arith) (omega arith) others)
+        (stage_receptions n 1 b.first (omega arith) some b.is_first)
+        (stages_receptions n 2 (n - 1) (and_member u us) (omega arith) (omega arith) others)
 
 -- ---- no part of an expression is at fault
 
@@ -220,7 +223,7 @@ module _ (n : ℕ) (some : 1 ≤ n) (few : n ≤ 400) (ds : List Decl) (are : Ar
   sent_fits x (our_sent {i} low high a_complement) =
       (name_fits ds i _ _ (variable_wide n some few ds are i low high) (channel_wide n some few ds are i high), tt)
 
--- ---- names are declared, and used as what they are
+  -- ---- names are declared, and used as what they are
 
   use_declared : (u : Use) → IsOurUse n u → declaration ds u.name ≡ None → ⊥
   use_declared u (our_send {j} low high) none = let d = channel_declared n some few ds are j high in cc (d.1, none)
@@ -280,7 +283,7 @@ module _ (n : ℕ) (some : 1 ≤ n) (few : n ≤ 400) (ds : List Decl) (are : Ar
   reception_fits r (our_reception {i} low high) misfit =
       misfit (variable_wide n some few ds are i low high ∙ sym (channel_wide n some few ds are (i - 1) (omega arith)))
 
--- ---- no cause holds
+  -- ---- no cause holds
 
   module _ (p : ProgramTree) (decls : p.decls ≡ ds) (b : IsBody n p.body) where
     no_double : (s : Span) → IsDouble p s → ⊥
@@ -338,7 +341,7 @@ module _ (n : ℕ) (some : 1 ≤ n) (few : n ≤ 400) (ds : List Decl) (are : Ar
     all_fitting : Each (IsFitting ds) (all_leaves p)
     all_fitting = subst (λ xs. Each (IsFitting ds) (flat_map (λ (e : Expected). leaves xs e.width e.expression) (expressions_in xs p.body))) (sym decls)
         (each_flat_map (IsOurSent n ds) (IsFitting ds) (λ (e : Expected). leaves ds e.width e.expression) (expressions_in ds p.body) (body_sent n ds p.body some b)
-            sent_fits)
+        sent_fits)
 
     fitting : (x : Expected) → Contains (all_leaves p) x → IsFitting ds x
     fitting x among = each_contains (IsFitting ds) (all_leaves p) x all_fitting among
@@ -347,8 +350,8 @@ module _ (n : ℕ) (some : 1 ≤ n) (few : n ≤ 400) (ds : List Decl) (are : Ar
     no_misfit s (inl bad) = (fitting bad.leaf bad.among).own (subst (λ xs. IsMisfit xs bad.leaf) decls bad.misfit)
     no_misfit s (inr bad) =
         reception_fits bad.receive
-            (each_contains (IsOurReception n) (receptions_in p.body) bad.receive (body_receptions n p.body some b) bad.among)
-            (subst (λ xs. declared_width xs bad.receive.target.name ≢ declared_width xs bad.receive.chan.name) decls bad.misfit)
+        (each_contains (IsOurReception n) (receptions_in p.body) bad.receive (body_receptions n p.body some b) bad.among)
+        (subst (λ xs. declared_width xs bad.receive.target.name ≢ declared_width xs bad.receive.chan.name) decls bad.misfit)
 
     no_wide : (s : Span) → IsWideNumber p s ⊎ IsWideFirst p s → ⊥
     no_wide s (inl bad) = (fitting (expect (tree.number bad.value s) bad.width) bad.among).value s bad.value refl bad.wide

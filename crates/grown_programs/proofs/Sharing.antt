@@ -61,8 +61,8 @@ module _ (n : ℕ) (ds : List Decl) where
       let own = occurrences (process_form ds t) in
       let behind = occurrences_of_each (processes_form ds more) in
       each_append (λ (o : Occurrence). IsOwnFrom n ds from o.deed) own behind
-          (each_from from from (omega arith) (omega arith) own (stage_own ds from t is))
-          (later from (from + 1) (omega arith) behind (stages_own (from + 1) count more (omega arith) others))
+      (each_from from from (omega arith) (omega arith) own (stage_own ds from t is))
+      (later from (from + 1) (omega arith) behind (stages_own (from + 1) count more (omega arith) others))
 
   -- nothing in a stage is parallel
   none_parallel : ⊥ ⊎ (⊥ ⊎ ⊥) → ⊥

@@ -12,8 +12,13 @@ declared_size : (front : List ℕ) (n : ℕ) (more : List ℕ) → length front 
 declared_size front n more short few =
     let size = ap length (declared_text front n more) in
     let digits = short_decimal n few in
-    omega (arith, size, digits, length-append front (decimal n ++ 32 ∷ 58 ∷ 32 ∷ 56 ∷ 59 ∷ 10 ∷ more),
-        length-append (decimal n) (32 ∷ 58 ∷ 32 ∷ 56 ∷ 59 ∷ 10 ∷ more))
+    omega (
+      arith,
+      size,
+      digits,
+      length-append front (decimal n ++ 32 ∷ 58 ∷ 32 ∷ 56 ∷ 59 ∷ 10 ∷ more),
+      length-append (decimal n) (32 ∷ 58 ∷ 32 ∷ 56 ∷ 59 ∷ 10 ∷ more),
+    )
 
 sent_size : (i : ℕ) (bs : List ℕ) → i ≤ 400 → SendsText i bs → length bs ≤ 10
 sent_size i bs few (plus_text k small) =
@@ -46,8 +51,19 @@ stage_size w i more few =
     let size = ap length (stage_text w i more) in
     let own = short_decimal i few in
     let before = short_decimal (i - 1) (omega arith) in
-    omega (arith, size, own, before, begins_size i, sent_size i sent few (sends_text w i), length-append (stage_begins i) (loop_text sent i more),
-        length-append (decimal (i - 1)) (63 ∷ c), length-append (decimal i) (59 ∷ 32 ∷ b), length-append (decimal i) (33 ∷ (sent ++ a)), length-append sent a)
+    omega (
+      arith,
+      size,
+      own,
+      before,
+      begins_size i,
+      sent_size i sent few (sends_text w i),
+      length-append (stage_begins i) (loop_text sent i more),
+      length-append (decimal (i - 1)) (63 ∷ c),
+      length-append (decimal i) (59 ∷ 32 ∷ b),
+      length-append (decimal i) (33 ∷ (sent ++ a)),
+      length-append sent a,
+    )
 
 lines_size : (line : ℕ → List ℕ) (count from : ℕ) (more : List ℕ) → ((i : ℕ) (behind : List ℕ) → i ≤ 400 → length (line i ++ behind) ≤ 33 + length behind) →
     from + count ≤ 401
@@ -67,9 +83,9 @@ short_text seed stages some few =
     let size = ap length (whole_text seed stages) in
     let first = declared_size (codes "in c") 0 (inner ++ out) (omega arith) (omega arith) in
     let channels = lines_size (byte_line (codes "chan c")) (stages - 1) 1 out (λ i behind less. declared_size (codes "chan c") i behind (omega arith) less)
-        (omega arith) in
+    (omega arith) in
     let leads = declared_size (codes "out c") stages last (omega arith) few in
     let variables = lines_size (byte_line (codes "var v")) stages 1 (text_behind seed stages)
-        (λ i behind less. declared_size (codes "var v") i behind (omega arith) less) (omega arith) in
+    (λ i behind less. declared_size (codes "var v") i behind (omega arith) less) (omega arith) in
     let body = lines_size (line_at seed) stages 1 (codes "end\n" ++ []) (λ i behind less. stage_size (word_at seed (i - 1)) i behind less) (omega arith) in
     omega (arith, size, first, channels, leads, variables, body)

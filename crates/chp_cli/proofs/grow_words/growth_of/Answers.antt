@@ -31,7 +31,7 @@ returns-in-Ok-Some c =
     let given : c.growth_with.result ≡ growth_of name (texts_of words) =
     c.growth_with.ensures.value
     ∙ taken_growth _ _ (texts_of words) (rows_of found) _ _ _ c.in_ok-form.ensures taken is (first_value-rows found (codes "SEED"))
-        (first_value-rows found (codes "STAGES")) (first_value-rows found (codes "sum")) in
+    (first_value-rows found (codes "STAGES")) (first_value-rows found (codes "sum")) in
     record { form = given; plain = given ∙ growth_is name words; bounds = c.growth_with.ensures.bounds }
 
 pub returns-in-Ok-None-clause-plain : goal.returns-in-Ok-None-clause-plain
