@@ -62,7 +62,8 @@ wanted_cost n some =
 
 -- ---- the body
 
-any_width : (d : Decl) (kind : DeclKind) (cs : List Channel) (c : ℕ) → d.width ≡ 8 → ((k : ℕ) → channel_width cs k ≤ 8) → channel_width (with_channel d kind cs) c ≤ 8
+any_width : (d : Decl) (kind : DeclKind) (cs : List Channel) (c : ℕ) → d.width ≡ 8 → ((k : ℕ) → channel_width cs k ≤ 8)
+    → channel_width (with_channel d kind cs) c ≤ 8
 any_width d In cs zero wide next = omega (arith, wide)
 any_width d In cs (suc c) wide next = next c
 any_width d Out cs zero wide next = omega (arith, wide)
@@ -110,7 +111,9 @@ module _ (n : ℕ) (some : 1 ≤ n) (few : n ≤ 400) (ds : List Decl) (are : Ar
 
     stages_count : (from count : ℕ) (us : Statements) → AreStages from count us → member_count (processes_form ds us) ≡ count
     stages_count from zero us no_stage = refl
-    stages_count from (suc count) us (one_more_stage {t = t} {us = more} is others) = let behind = stages_count (from + 1) count more others in omega (arith, behind)
+    stages_count from (suc count) us (one_more_stage {t = t} {us = more} is others) =
+        let behind = stages_count (from + 1) count more others in
+        omega (arith, behind)
 
     body_size : (body : Statement) → IsBody n body → size_of p (process_form ds body) ≤ 90 * n - 1
     body_size body b = subst (λ t. size_of p (process_form ds t) ≤ 90 * n - 1) (sym b.is) (go b.others (n - 1) (omega arith) b.are_others)

@@ -249,7 +249,8 @@ pub record StagesHere (from count : ℕ) (ts : List Token) : Type 0 where
 end_here : {from : ℕ} (e : Span) → StagesHere from 0 (word key.End e ∷ [])
 end_here e = record { others = no_members; end = e; derives = no_more_par; are = no_stage }
 
-more_here : {from count : ℕ} (ts : List Token) (p : Span) → StageHere from (StagesHere (from + 1) count) ts → StagesHere from (suc count) (sign mark.BarBar p ∷ ts)
+more_here : {from count : ℕ} (ts : List Token) (p : Span) → StageHere from (StagesHere (from + 1) count) ts
+    → StagesHere from (suc count) (sign mark.BarBar p ∷ ts)
 more_here ts p here =
     let behind = here.left_here in record {
       others = and_member here.statement behind.others;

@@ -274,8 +274,10 @@ module _ (n : ℕ) (some : 1 ≤ n) (few : n ≤ 400) (ds : List Decl) (are : Ar
   one_channel i j within also same =
       let a = channel_among n i some within in
       let b = channel_among n j some also in
-      let x = first_passes (λ (c : Channel). bytes_eq c.name (channel_at i)) (channels_of ds) (channel_there (all_wanted n) ds (wanted a.kind 99 i) are a.no_var a.among) in
-      let y = first_passes (λ (c : Channel). bytes_eq c.name (channel_at j)) (channels_of ds) (channel_there (all_wanted n) ds (wanted b.kind 99 j) are b.no_var b.among) in
+      let x = first_passes (λ (c : Channel). bytes_eq c.name (channel_at i)) (channels_of ds)
+      (channel_there (all_wanted n) ds (wanted a.kind 99 i) are a.no_var a.among) in
+      let y = first_passes (λ (c : Channel). bytes_eq c.name (channel_at j)) (channels_of ds)
+      (channel_there (all_wanted n) ds (wanted b.kind 99 j) are b.no_var b.among) in
       let there : slice_get (channels_of ds) (channel_number ds (channel_at i)) ≡ slice_get (channels_of ds) (channel_number ds (channel_at j)) =
       ap (slice_get (channels_of ds)) same in
       let once : x.0 ≡ y.0 = cc (x.1, y.1, there) in

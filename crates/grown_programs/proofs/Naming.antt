@@ -340,7 +340,8 @@ module _ (n : ℕ) (some : 1 ≤ n) (few : n ≤ 400) (ds : List Decl) (are : Ar
 
     all_fitting : Each (IsFitting ds) (all_leaves p)
     all_fitting = subst (λ xs. Each (IsFitting ds) (flat_map (λ (e : Expected). leaves xs e.width e.expression) (expressions_in xs p.body))) (sym decls)
-        (each_flat_map (IsOurSent n ds) (IsFitting ds) (λ (e : Expected). leaves ds e.width e.expression) (expressions_in ds p.body) (body_sent n ds p.body some b)
+        (each_flat_map (IsOurSent n ds) (IsFitting ds) (λ (e : Expected). leaves ds e.width e.expression) (expressions_in ds p.body)
+        (body_sent n ds p.body some b)
         sent_fits)
 
     fitting : (x : Expected) → Contains (all_leaves p) x → IsFitting ds x

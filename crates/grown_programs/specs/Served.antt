@@ -6,7 +6,8 @@ use Rattle.handshake_expand.specs.Layout.{node_count}
 use Rattle.width_check.specs.Accepted.{IsAccepted}
 use Rattle.width_check.specs.Form.{typed_form}
 
--- the text is within the limit of program texts, and reads as an accepted program whose circuit has at most so many nodes
+-- the text is within the limit of program texts, and reads as an accepted program with a circuit of at most so many
+-- nodes
 pub record IsServed (text : List ℕ) (most : ℕ) : Type 0 where
   pub program : ProgramTree
   pub short : length text ≤ 262144

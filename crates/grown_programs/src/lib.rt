@@ -1,5 +1,5 @@
-//! That programs made of a number are served: each of their texts reads as a program that is accepted, and whose circuit
-//! isn't too large.
+//! That programs made of a number are served: each of their texts reads as a program that is accepted, and that has a
+//! circuit which isn't too large.
 #![tactic(auto)]
 
 ghost use Rattle.std.specs.Prelude.{ℕ, ◌+◌, ◌*◌, ◌≤◌};
