@@ -63,7 +63,8 @@ impl Refusal<'_> {
         match self {
             Refusal::Text(_) => Status::RefusedText,
             Refusal::TooLong { .. } | Refusal::TooManyNodes(_) => Status::TooLarge,
-            Refusal::BadNet { .. } | Refusal::BadScript { .. } | Refusal::NoReset => Status::BadFile,
+            Refusal::BadNet { .. } | Refusal::BadScript { .. } | Refusal::NoReset =>
+                Status::BadFile,
             Refusal::NoOrder(_) => Status::NoOrder,
             Refusal::NotBuilt => Status::NotBuilt,
         }
