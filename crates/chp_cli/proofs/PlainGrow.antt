@@ -1,5 +1,5 @@
 -- What the form of `grow` comes to in plain words: two numbers, and a flag beside them.
-use Rattle.std.proofs.Common.{◌≡◌, ◌∙◌, ◌&&◌, ◌||◌, ◌==◌, ◌++◌, ℕ, suc, ◌+◌, arith, take, Bool, cond, true, false, refl, sym, ap, subst, List, [], ◌∷◌, length, Option, Some, None, is_some, codes, option_map, option_and_then, ◌^◌, ◌-◌, eqb-true, append-nil, append_assoc}
+use Rattle.std.proofs.Common.{◌≡◌, ◌∙◌, ◌&&◌, ◌||◌, ◌==◌, ◌++◌, ℕ, suc, ◌+◌, arith, take, Bool, cond, true, false, refl, sym, ap, subst, List, [], ◌∷◌, length, Option, Some, None, is_some, codes, option_and_then, if◌then◌else◌, eqb-true, append-nil, append_assoc}
 use Rattle.std.specs.Prelude.{fold, nat_lt, nat_le}
 use Rattle.std.specs.Str.{IsUtf8, bytes_eq}
 use Rattle.std.specs.List.{list_all, before_first, position_or_len}
@@ -14,8 +14,8 @@ use Rattle.clap.specs.Simple.{Shape, built, entered, filled, with_index}
 use Rattle.clap.specs.Takes.{default_passes, entered_passes, is_valid, settle_passes, flag_word_passes, flags_pass, level_passes, long_passes, takes, turn_passes, walk_passes}
 use Rattle.chp_cli.specs.declared.grow_words.Growth.{Growth}
 use Rattle.chp_cli.specs.Forms.{texts_of}
-use Rattle.chp_cli.specs.GrowWords.{grow_form, growth_in, growth_of, growth_with, plain_growth, sum_rule, two_numbers}
-use Rattle.chp_cli.specs.Numbers.{is_numeral, number_within}
+use Rattle.chp_cli.specs.GrowWords.{most_of_stages, grow_form, growth_in, growth_of, growth_with, plain_growth, sum_rule, two_numbers}
+use Rattle.chp_cli.specs.SimulateWords.{is_decimal, most_of_seed, number_up_to}
 use Rattle.chp_cli.specs.Words.{asks, is_flag, without_first}
 use Rattle.chp_cli.proofs.Plain.{IsPlain, plain_word, first_char, behind_hyphen, dashes}
 use Rattle.chp_cli.proofs.PlainCompile.{all_before}
@@ -390,46 +390,46 @@ plainly sum before words = cond (asks flag_word words)
     (two_numbers (before ++ without_first dashes words) sum)
 
 -- a word that is no number spoils all
-no_seed : (a b : Text) (sum : Bool) → is_numeral a ≡ false → growth_in a b sum ≡ None
+no_seed : (a b : Text) (sum : Bool) → is_decimal a ≡ false → growth_in a b sum ≡ None
 no_seed a b sum bad = rw bad refl
 
-no_stages : (a b : Text) (sum : Bool) → is_numeral b ≡ false → growth_in a b sum ≡ None
-no_stages a b sum bad = go (number_within 0 (2 ^ 64 - 1) a)
+no_stages : (a b : Text) (sum : Bool) → is_decimal b ≡ false → growth_in a b sum ≡ None
+no_stages a b sum bad = go (number_up_to most_of_seed a)
   where
-    go : (s : Option ℕ) → option_and_then (λ n. option_map (λ m. growth n m sum) (number_within 1 400 b)) s ≡ None
+    go : (s : Option ℕ) → option_and_then (λ n. option_and_then (λ m. if nat_le 1 m then Some (growth n m sum) else None) (number_up_to most_of_stages b)) s ≡ None
     go None = refl
     go (Some n) = rw bad refl
 
-spoilt : (words : List Text) (sum : Bool) → list_all is_numeral words ≡ false → two_numbers words sum ≡ None
+spoilt : (words : List Text) (sum : Bool) → list_all is_decimal words ≡ false → two_numbers words sum ≡ None
 spoilt [] sum bad = cc
 spoilt (a ∷ []) sum bad = refl
-spoilt (a ∷ b ∷ []) sum bad = go (is_numeral a) (is_numeral b) refl refl bad
+spoilt (a ∷ b ∷ []) sum bad = go (is_decimal a) (is_decimal b) refl refl bad
   where
-    go : (s t : Bool) → is_numeral a ≡ s → is_numeral b ≡ t → (s && (t && true)) ≡ false → two_numbers (a ∷ b ∷ []) sum ≡ None
+    go : (s t : Bool) → is_decimal a ≡ s → is_decimal b ≡ t → (s && (t && true)) ≡ false → two_numbers (a ∷ b ∷ []) sum ≡ None
     go false t p q e = no_seed a b sum p
     go true false p q e = no_stages a b sum q
     go true true p q e = cc
 spoilt (a ∷ b ∷ c ∷ rest) sum bad = refl
 
-spoilt_first : (word : Text) (rest : List Text) → is_numeral word ≡ false → list_all is_numeral (word ∷ rest) ≡ false
+spoilt_first : (word : Text) (rest : List Text) → is_decimal word ≡ false → list_all is_decimal (word ∷ rest) ≡ false
 spoilt_first word rest bad = rw bad refl
 
-spoilt_behind : (before words : List Text) → list_all is_numeral words ≡ false → list_all is_numeral (before ++ words) ≡ false
+spoilt_behind : (before words : List Text) → list_all is_decimal words ≡ false → list_all is_decimal (before ++ words) ≡ false
 spoilt_behind [] words bad = bad
-spoilt_behind (a ∷ before) words bad = go (is_numeral a) (spoilt_behind before words bad)
+spoilt_behind (a ∷ before) words bad = go (is_decimal a) (spoilt_behind before words bad)
   where
-    go : (b : Bool) → list_all is_numeral (before ++ words) ≡ false → (b && list_all is_numeral (before ++ words)) ≡ false
+    go : (b : Bool) → list_all is_decimal (before ++ words) ≡ false → (b && list_all is_decimal (before ++ words)) ≡ false
     go true e = e
     go false e = refl
 
-flag_no_numeral : (word : Text) → is_flag word ≡ true → is_numeral word ≡ false
+flag_no_numeral : (word : Text) → is_flag word ≡ true → is_decimal word ≡ false
 flag_no_numeral [] is = cc
 flag_no_numeral (x ∷ []) is = cc
 flag_no_numeral (x ∷ y ∷ rest) is =
     let first : x ≡ 45 = eqb-true x 45 is in
-    subst (λ b. is_numeral (b ∷ y ∷ rest) ≡ false) (sym first) (hyphen_no_numeral (y ∷ rest))
+    subst (λ b. is_decimal (b ∷ y ∷ rest) ≡ false) (sym first) (hyphen_no_numeral (y ∷ rest))
   where
-    hyphen_no_numeral : (rest : Text) → is_numeral (45 ∷ rest) ≡ false
+    hyphen_no_numeral : (rest : Text) → is_decimal (45 ∷ rest) ≡ false
     hyphen_no_numeral rest = go (nat_lt 0 (length (45 ∷ rest))) (nat_le (length (45 ∷ rest)) 20)
       where
         go : (a b : Bool) → (a && (b && false)) ≡ false
@@ -438,13 +438,13 @@ flag_no_numeral (x ∷ y ∷ rest) is =
         go false b = refl
 
 -- the flag that stands among words before `--` isn't taken away with it
-sum_left : (words : List Text) → asks flag_word words ≡ true → list_all is_numeral (without_first dashes words) ≡ false
+sum_left : (words : List Text) → asks flag_word words ≡ true → list_all is_decimal (without_first dashes words) ≡ false
 sum_left [] is = cc
 sum_left (word ∷ rest) is = go word (sort_of word) is (sum_left rest)
   where
     go : (word : Text) → Sort word → asks flag_word (word ∷ rest) ≡ true
-        → (asks flag_word rest ≡ true → list_all is_numeral (without_first dashes rest) ≡ false)
-        → list_all is_numeral (without_first dashes (word ∷ rest)) ≡ false
+        → (asks flag_word rest ≡ true → list_all is_decimal (without_first dashes rest) ≡ false)
+        → list_all is_decimal (without_first dashes (word ∷ rest)) ≡ false
     go word a_tail is next = cc
     go word a_sum is next = refl
     go word (a_flag f t r) is next = rw t (spoilt_first word (without_first dashes rest) (flag_no_numeral word f))

@@ -1,39 +1,34 @@
 -- The words of `grow`: a seed, a number of stages, and the flag `--sum`.
-use Rattle.std.specs.Prelude.{ℕ, ◌-◌, ◌^◌, ◌≤◌, Bool, true, false, List, [], ◌∷◌, Option, Some, None, codes, option_map, if◌then◌else◌}
+use Rattle.std.specs.Prelude.{ℕ, ◌≤◌, nat_le, Bool, true, false, List, [], ◌∷◌, Option, Some, None, codes, if◌then◌else◌}
 use Rattle.std.specs.Prelude.{option_and_then}
-use Rattle.clap.specs.Words.{App, Rule, Text, first_of, matches_of, new_app, new_rule, takes, with_rule}
-use Rattle.clap.specs.Simple.{on_top}
-use Rattle.clap.specs.declared.builder.ArgAction.TheVariants.{Set, SetTrue}
+use Rattle.clap.specs.Words.{App, Rule, Text, first_of, matches_of, new_rule, takes, with_rule}
+use Rattle.clap.specs.declared.builder.ArgAction.TheVariants.{SetTrue}
 use Rattle.chp_cli.specs.declared.grow_words.Growth.{Growth}
-use Rattle.chp_cli.specs.Numbers.{number_within}
+use Rattle.chp_cli.specs.SimulateWords.{bare_form, most_of_seed, number_up_to, word_rule}
 use Rattle.chp_cli.specs.Words.{is_set, asks, without_first}
-
--- a positional that has to be there, and is given once
-abbrev pub number_rule : Text → Rule
-number_rule id = record (new_rule id) { required = true; action = Some Set }
 
 abbrev pub sum_rule : Rule
 sum_rule = record (new_rule (codes "sum")) { long = Some (codes "sum"); action = Some SetTrue }
 
--- a form that takes nothing, not even a flag for help
-abbrev pub bare_form : Text → App
-bare_form name = on_top (λ s. record s { no_binary_name = true; disable_help_flag = true }) (new_app name)
-
 -- the form: both numbers and the flag
 abbrev pub grow_form : Text → App
 grow_form name =
-    with_rule (with_rule (with_rule (bare_form name) (number_rule (codes "SEED"))) (number_rule (codes "STAGES"))) sum_rule
+    with_rule (with_rule (with_rule (bare_form name) (word_rule (codes "SEED"))) (word_rule (codes "STAGES"))) sum_rule
+
+-- the most stages
+abbrev pub most_of_stages : ℕ
+most_of_stages = 400
 
 -- a seed of 64 bits, and 1 to 400 stages
 abbrev pub growth_in : (seed stages : Text) → (sum : Bool) → Option Growth
-growth_in seed stages sum = option_and_then
-    (λ s. option_map (λ n. record { seed = s; stages = n; sum = sum }) (number_within 1 400 stages))
-    (number_within 0 (2 ^ 64 - 1) seed)
+growth_in seed stages sum = option_and_then (λ s. option_and_then
+    (λ n. if nat_le 1 n then Some (record { seed = s; stages = n; sum = sum }) else None)
+    (number_up_to most_of_stages stages)) (number_up_to most_of_seed seed)
 
 -- there are 1 to 400 stages
 pub record IsGrowable (growth : Growth) : Type 0 where
   pub some : 1 ≤ growth.stages
-  pub most : growth.stages ≤ 400
+  pub most : growth.stages ≤ most_of_stages
 
 abbrev pub growth_with : (seed stages sum : Option Text) → Option Growth
 growth_with (Some seed) (Some stages) sum = growth_in seed stages (is_set sum)

@@ -2,12 +2,15 @@
 
 ghost use Rattle.std.specs.Prelude.{◌≡◌, IfOk, IfSome, Some, is_some, option_and_then, option_map, true};
 ghost use Rattle.clap.specs.Words.{app_of, found_of, matches_of, rows_of, takes};
-ghost use Rattle.chp_cli.specs.Commands.{IsWithinBounds, asked, command_of, compile_form, compile_of, file_form, file_of, grow_asked, plain_command, plain_compile, plain_file, verb_of};
+ghost use Rattle.chp_cli.specs.Commands.{IsWithinBounds, asked, command_of, compile_form, compile_of, file_form, file_of, grow_asked, plain_command, plain_compile, plain_file, simulates, verb_of};
+ghost use Rattle.chp_cli.specs.SimulateWords.{simulate_of};
 ghost use Rattle.chp_cli.specs.Forms.{is_form, texts_of};
 ghost use Rattle.chp_cli.specs.GrowWords.{growth_of, plain_growth};
 ghost use Rattle.chp_cli.specs.Words.{is_set};
 
 use crate::grow_words::{Growth, growth_of};
+use crate::run_words::simulation_in;
+use crate::simulation::Simulation;
 use clap::error::ErrorKind;
 use clap::{Arg, ArgAction, ArgMatches};
 use std::alloc::{AllocError, Global};
@@ -24,6 +27,8 @@ pub enum Command<'a> {
     Check { file: &'a str },
     /// `expand FILE`: write the tree of parts of the program text in this file.
     Expand { file: &'a str },
+    /// `simulate PRS SCRIPT`: make one run of a net under a script, and write its report.
+    Simulate(Simulation<'a>),
     /// `grow SEED STAGES`: write the text of the program that is made of these numbers.
     Grow(Growth),
 }
@@ -35,6 +40,7 @@ enum Verb {
     Migrate,
     Check,
     Expand,
+    Simulate,
     Grow,
 }
 
@@ -42,9 +48,10 @@ enum Verb {
 /// program's name.
 ///
 /// The first word names the command. The words behind it are read by `clap`, by the form of that command: one file and,
-/// for `compile`, the flag `--reset`, which may stand once, before the file or behind it. The file is one word, which
-/// may be empty or `-`. Any other word that begins with a hyphen and has more is taken for a flag and refused, a call
-/// for help too, but behind `--` any word may stand; `--` may also end the words.
+/// for `compile`, the flag `--reset`, which may stand once, before the file or behind it; or for `simulate` two files and
+/// options with a value each. A file is one word, which may be empty or `-`. Any other word that begins with a hyphen and
+/// has more is taken for a flag and refused, a call for help too, but behind `--` any word may stand; `--` may also end the
+/// words.
 ///
 /// `Err` stands for want of memory, and it is left open when that comes.
 pub fn command_in<'a>(alloc: Global, words: &'a [String]) -> Result<Option<Command<'a>>, AllocError>
@@ -52,7 +59,7 @@ pub fn command_in<'a>(alloc: Global, words: &'a [String]) -> Result<Option<Comma
         option_map asked found ≡ command_of (texts_of words.now)) }
     ensures plain { IfOk result (λ found.
         option_map asked found ≡ plain_command (texts_of words.now)) }
-    ensures bounds { IfOk result (λ found. IfSome found (λ command. IsWithinBounds (asked command))) }
+    ensures bounds { IfOk result (λ found. IfSome found IsWithinBounds) }
 {
     let [first, rest @ ..] = words else {
         return Ok(None);
@@ -66,6 +73,7 @@ pub fn command_in<'a>(alloc: Global, words: &'a [String]) -> Result<Option<Comma
         Verb::Migrate => Ok(file_in(alloc, word, rest)?.map(|net| Command::Migrate { net })),
         Verb::Check => Ok(file_in(alloc, word, rest)?.map(|file| Command::Check { file })),
         Verb::Expand => Ok(file_in(alloc, word, rest)?.map(|file| Command::Expand { file })),
+        Verb::Simulate => simulate_in(alloc, word, rest),
         Verb::Grow => grow_in(alloc, word, rest),
     }
 }
@@ -79,6 +87,7 @@ fn verb_in(word: &str) -> Option<Verb>
         "migrate" => Some(Verb::Migrate),
         "check" => Some(Verb::Check),
         "expand" => Some(Verb::Expand),
+        "simulate" => Some(Verb::Simulate),
         "grow" => Some(Verb::Grow),
         _ => None,
     }
@@ -94,7 +103,7 @@ fn grow_in<'a>(
         ≡ option_and_then grow_asked (growth_of name.entry.now (texts_of words.entry.now))) }
     ensures plain { IfOk result (λ found. option_map asked found
         ≡ option_and_then grow_asked (plain_growth (texts_of words.entry.now))) }
-    ensures bounds { IfOk result (λ found. IfSome found (λ command. IsWithinBounds (asked command))) }
+    ensures bounds { IfOk result (λ found. IfSome found IsWithinBounds) }
 {
     match growth_of(alloc, name, words)? {
         Some(growth) if !growth.sum => Ok(Some(Command::Grow(growth))),
@@ -127,6 +136,22 @@ fn compile_in<'a>(
         },
         Ok(None) => Ok(None),
         Err(error) => Err(error),
+    }
+}
+
+/// What the words behind `simulate` ask for, where they are its form.
+fn simulate_in<'a>(
+    alloc: Global,
+    name: &'a str,
+    words: &'a [String],
+) -> Result<Option<Command<'a>>, AllocError>
+    ensures form { IfOk result (λ found. option_map asked found
+        ≡ option_map simulates (simulate_of name.entry.now (texts_of words.entry.now))) }
+    ensures bounds { IfOk result (λ found. IfSome found IsWithinBounds) }
+{
+    match simulation_in(alloc, name, words)? {
+        Some(run) => Ok(Some(Command::Simulate(run))),
+        None => Ok(None),
     }
 }
 
@@ -174,7 +199,7 @@ fn file_form<'a>(alloc: Global, name: &'a str) -> Result<clap::Command<'a>, Allo
 
 /// What the words give each argument of the form, or `None` where the form doesn't take them, for whatever cause. It
 /// serves every form without commands below it.
-pub fn matches_in<'a>(
+pub(crate) fn matches_in<'a>(
     form: clap::Command<'a>,
     words: &'a [String],
 ) -> Result<Option<ArgMatches<'a>>, AllocError>

@@ -1,18 +1,18 @@
 //! The words of `grow`.
 
-ghost use Rattle.std.specs.Prelude.{◌≡◌, codes, false, IfOk, IfSome};
+ghost use Rattle.std.specs.Prelude.{◌≡◌, codes, IfOk, IfSome};
 ghost use Rattle.clap.specs.Matches.{first_value, found_of};
-ghost use Rattle.clap.specs.Words.{app_of, rule_of};
+ghost use Rattle.clap.specs.Words.{app_of};
 ghost use Rattle.chp_cli.specs.Forms.{texts_of};
-ghost use Rattle.chp_cli.specs.GrowWords.{IsGrowable, bare_form, grow_form, number_rule, growth_in, growth_of, growth_with, plain_growth};
+ghost use Rattle.chp_cli.specs.GrowWords.{IsGrowable, grow_form, growth_in, growth_of, growth_with, plain_growth};
 
 use crate::command::{is_set, matches_in};
-use crate::number::number_within;
+use crate::run_words::{bare_form, number_up_to, word_arg};
 use clap::{Arg, ArgAction, ArgMatches};
 use std::alloc::{AllocError, Global};
 
 /// The most stages of a program that is made of a number.
-const MOST_STAGES: u64 = 400;
+const MOST_OF_STAGES: u64 = 400;
 
 /// What `grow` is asked for.
 #[derive(Clone, Copy, Debug, PartialEq, Eq)]
@@ -59,17 +59,16 @@ fn growth_in(seed: &str, stages: &str, sum: bool) -> Option<Growth>
     ensures value { result ≡ growth_in seed.now stages.now sum }
     ensures bounds { IfSome result IsGrowable }
 {
-    match (
-        number_within(seed, 0, u64::MAX),
-        number_within(stages, 1, MOST_STAGES),
-    ) {
-        (Some(seed), Some(stages)) => Some(Growth {
-            seed,
-            stages: stages as u32,
-            sum,
-        }),
-        _ => None,
+    let seed = number_up_to(seed, u64::MAX)?;
+    let stages = number_up_to(stages, MOST_OF_STAGES)?;
+    if stages == 0 {
+        return None;
     }
+    Some(Growth {
+        seed,
+        stages: stages as u32,
+        sum,
+    })
 }
 
 /// The form of `grow` under this name: two positionals, the flag `--sum`, and no flag for help.
@@ -80,24 +79,7 @@ fn grow_form<'a>(alloc: Global, name: &'a str) -> Result<clap::Command<'a>, Allo
         .long("sum")
         .action(ArgAction::SetTrue);
     let bare = bare_form(alloc, name);
-    let with_seed = bare.arg(number_arg(alloc, "SEED"))?;
-    let with_both = with_seed.arg(number_arg(alloc, "STAGES"))?;
+    let with_seed = bare.arg(word_arg(alloc, "SEED"))?;
+    let with_both = with_seed.arg(word_arg(alloc, "STAGES"))?;
     with_both.arg(sum)
-}
-
-/// A positional that has to be there, and is given once.
-fn number_arg<'a>(alloc: Global, id: &'a str) -> Arg<'a>
-    ensures rule { rule_of result ≡ number_rule id.entry.now }
-    ensures local { result.global ≡ false }
-{
-    Arg::new(alloc, id).required(true).action(ArgAction::Set)
-}
-
-/// A form that takes nothing, not even a flag for help.
-fn bare_form<'a>(alloc: Global, name: &'a str) -> clap::Command<'a>
-    ensures { app_of result ≡ bare_form name.entry.now }
-{
-    clap::Command::new(alloc, name)
-        .no_binary_name(true)
-        .disable_help_flag(true)
 }

@@ -5,6 +5,7 @@
 mod bench;
 mod cases;
 mod edge;
+mod pickers;
 mod printer;
 mod reading;
 mod run;
@@ -13,8 +14,8 @@ use bench::Bench;
 use cases::obey;
 use std::{fs, io};
 
-const TOPICS: [&str; 7] = [
-    "texts", "compile", "check", "expand", "grow", "migrate", "edge",
+const TOPICS: [&str; 8] = [
+    "texts", "compile", "check", "expand", "grow", "migrate", "simulate", "edge",
 ];
 
 fn main(rt: HostRuntime) -> io::Result<()> {
