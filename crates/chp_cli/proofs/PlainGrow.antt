@@ -338,7 +338,8 @@ module _ (name : Text) where
       turn met word rest u a_tail next = goes_on (at met false) (at met true) dashes rest (tail_turn name met) (walked_tail met) ∙ trailing met rest
       turn none word rest u a_sum next = goes_on (at none false) (at flag_none false) flag_word rest refl sum_none ∙ next flag_none
       turn (one a) word rest u a_sum next = goes_on (at (one a) false) (at (one_flag a) false) flag_word rest refl (sum_one a) ∙ next (one_flag a)
-      turn (both a b) word rest u a_sum next = goes_on (at (both a b) false) (at (both_flag a b) false) flag_word rest refl (sum_both a b) ∙ next (both_flag a b)
+      turn (both a b) word rest u a_sum next = goes_on (at (both a b) false) (at (both_flag a b) false) flag_word rest refl (sum_both a b)
+          ∙ next (both_flag a b)
       turn flag_none word rest u a_sum next = stops (at flag_none false) flag_word rest refl
       turn (flag_one a) word rest u a_sum next = stops (at (flag_one a) false) flag_word rest refl
       turn (flag_both a b) word rest u a_sum next = stops (at (flag_both a b) false) flag_word rest refl
@@ -561,7 +562,8 @@ read_plainly met (word ∷ rest) = turn met word (sort_of word) (λ now. read_pl
     turn flag_none word (a_plain f t r) next = read_plain flag_none word rest f t r ∙ (next (flag_one word) ∙ more_plainly true [] word rest t r)
     turn (flag_one a) word (a_plain f t r) next = read_plain (flag_one a) word rest f t r ∙ (next (flag_both a word) ∙ more_plainly true (a ∷ []) word rest t r)
     turn (flag_both a b) word (a_plain f t r) next = read_plain (flag_both a b) word rest f t r ∙ (sym (third_plainly true a b word rest t r))
-    turn (one_flag a) word (a_plain f t r) next = read_plain (one_flag a) word rest f t r ∙ (next (one_flag_one a word) ∙ more_plainly true (a ∷ []) word rest t r)
+    turn (one_flag a) word (a_plain f t r) next = read_plain (one_flag a) word rest f t r
+        ∙ (next (one_flag_one a word) ∙ more_plainly true (a ∷ []) word rest t r)
     turn (one_flag_one a b) word (a_plain f t r) next = read_plain (one_flag_one a b) word rest f t r ∙ (sym (third_plainly true a b word rest t r))
     turn (both_flag a b) word (a_plain f t r) next = read_plain (both_flag a b) word rest f t r ∙ (sym (third_plainly true a b word rest t r))
 
