@@ -55,7 +55,7 @@ pub enabled_at : (net : NetValue) (script : List OfferValue) (st : RunState) (p 
     move_enabled net script st (move_at net script st p) ≡ true
 enabled_at net script st p within = filter_passes (move_enabled net script st) (range_with_len 0 (length net.first)) p 0 within
 
-range_below : (n : ℕ) → All (λ k. k < n) (range_with_len 0 n)
+pub range_below : (n : ℕ) → All (λ k. k < n) (range_with_len 0 n)
 range_below n = λ i d within. let e = get_or-range_with_len 0 n i d (omega (arith, length-range_with_len 0 n)) in omega (arith, length-range_with_len 0 n)
 
 pub enabled_below : (net : NetValue) (script : List OfferValue) (st : RunState) → All (λ k. k < length net.first) (enabled_moves net script st)

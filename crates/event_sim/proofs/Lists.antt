@@ -35,7 +35,7 @@ range_more n = sym (map-id (range_with_len 0 (n + 1))) ∙ map-range_with_len_mo
 pub passes_more : (p : ℕ → Bool) (n : ℕ) → filter p (range_with_len 0 (n + 1)) ≡ filter p (range_with_len 0 n) ++ cond (p n) (n ∷ []) []
 passes_more p n = ap (filter p) (range_more n) ∙ filter-append p (range_with_len 0 n) (n ∷ [])
 
-passes_suc : (p : ℕ → Bool) (n : ℕ) → filter p (range_with_len 0 (suc n)) ≡ filter p (range_with_len 0 n) ++ cond (p n) (n ∷ []) []
+pub passes_suc : (p : ℕ → Bool) (n : ℕ) → filter p (range_with_len 0 (suc n)) ≡ filter p (range_with_len 0 n) ++ cond (p n) (n ∷ []) []
 passes_suc p n =
     let same : suc n ≡ n + 1 = omega arith in
     ap (λ k. filter p (range_with_len 0 k)) same ∙ passes_more p n

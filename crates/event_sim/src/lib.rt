@@ -3,10 +3,14 @@
 
 mod ages;
 mod hazards;
+mod homes;
+mod indexed;
 mod laws;
+mod listing;
 mod lowest;
 mod moves;
 mod newest;
+mod node_set;
 mod oldest;
 mod picker;
 mod power;
