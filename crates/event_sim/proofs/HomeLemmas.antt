@@ -3,17 +3,21 @@ use Rattle.std.proofs.Common.{◌≡◌, ◌≢◌, ℕ, zero, suc, ◌+◌, ◌
 use Rattle.std.specs.Prelude.{◌⊎◌, not, ◌&&◌, ◌||◌, ◌==◌, All, position, codes, decimal, Option, Some, None, IfSome}
 use Rattle.std.specs.List.{list_any, list_all, flat_map, range_with_len, position_or_len}
 use Rattle.std.proofs.lemmas.Bool.{eqb-true, or_cases, and_parts, and_left, or_from, cases_eq, cases_lt, lt-ltb, le-ltb, both_ways, not_from_true, not_from_false, or_parts, or_left, and_from}
-use Rattle.std.proofs.lemmas.List.{append_assoc, length-map}
+use Rattle.std.proofs.lemmas.List.{append_assoc, length-map, get_or_default}
 use Rattle.std.proofs.lemmas.List.Elements.{All-append, All-cons, All-nil, All-tail, All-head}
 use Rattle.std.proofs.lemmas.List.Sums.{prefix_len_is}
 use Rattle.prs_core.specs.declared.wires.Wires.{Wires}
 use Rattle.prs_core.specs.Nets.{NetValue, IsNet, IsChannel, name_at, rail_names, true_rail, false_rail, ack_name, first_at}
+use Rattle.prs_core.specs.Moves.{rail_value_of}
 use Rattle.chp_base.specs.Names.{word_part, IsName}
 use Rattle.env_script.specs.Scripts.{OfferValue, offer_at}
-use Rattle.env_script.specs.Environment.{offer_moves, channels_move}
-use Rattle.env_script.specs.Phases.{rails_keep, phases_keep}
+use Rattle.env_script.specs.Environment.{in_reset, offer_moves, channels_move}
+use Rattle.env_script.specs.Phases.{rails_keep, phases_keep, phase_fault}
+use Rattle.env_script.specs.Runs.{completes}
+use Rattle.event_sim.specs.Passing.{completion}
 use Rattle.event_sim.specs.Locality.{is_wire, IsHome}
 use Rattle.event_sim.proofs.Near.{not_offered}
+use Rattle.event_sim.proofs.Passed.{none_unknown, completion_is, paired}
 
 -- the name goes on with a dot behind that of the channel
 pub record IsOf (channel name : List ℕ) : Type 0 where
@@ -229,3 +233,52 @@ offered_there net script done v n c w home is at here =
     let there = channels_one v (offer_at script) done n 0 net.channels c w (home_within net n c home is at)
         (λ k d less apart. not_offered v (get_or net.channels k d) _ _ n (not_other net n c k d home is at less apart)) in
     ap (λ (x : Wires). offer_moves v x (offer_at script c) (done c) n) here ∙ rw start at there
+
+-- what a move completes, and whose phases it breaks
+
+when_off : {A : Type 0} (b : Bool) (x y : A) → b ≡ false → cond b x y ≡ y
+when_off true x y off = absurd (cc off)
+when_off false x y off = refl
+
+same_there : (ws : List Wires) (c : ℕ) (w d : Wires) → c < length ws → w ≡ get_or ws c w → get_or ws c d ≡ w
+same_there ws c w d within here = get_or_default ws c d w within ∙ sym here
+
+pub completes_nothing : (net : NetValue) (v : ℕ → Bool) (n : ℕ) → IsHome net n None → None ≡ completion net v n
+completes_nothing net v n is = sym (none_unknown net v n (sym (unfound net n None (λ (w : Wires). n == w.ack) is (λ w apart. no_ack n w apart) refl)))
+
+pub completes_there : (net : NetValue) (v : ℕ → Bool) (n c : ℕ) (w : Wires) (o : Option ℕ) → IsHome net n (Some c) → in_reset net.reset v ≡ false →
+    w ≡ get_or net.channels c w → o ≡ completes v w n → paired c o ≡ completion net v n
+completes_there net v n c w o is off here told = by_ack (n == w.ack) refl
+  where
+    within : c < length net.channels
+    within = home_within net n c (Some c) is refl
+
+    by_ack : (b : Bool) → (n == w.ack) ≡ b → paired c o ≡ completion net v n
+    by_ack true e =
+        completion_is net v n c w o off (sym (found_there net n c w (Some c) (λ (x : Wires). n == x.ack) is (λ x apart. no_ack n x apart) refl within
+            (ap (λ (x : Wires). n == x.ack) (same_there net.channels c w w within here) ∙ e))) here told
+    by_ack false e =
+        ap (paired c) (told ∙ ap (λ b. cond (b && not (v n)) (rail_value_of v w.rails) None) e)
+            ∙ sym (none_unknown net v n (sym (unfound_there net n c w (Some c) (λ (x : Wires). n == x.ack) is (λ x apart. no_ack n x apart) refl
+            (λ d. ap (λ (x : Wires). n == x.ack) (same_there net.channels c w d within here) ∙ e))))
+
+pub breaks_nothing : (net : NetValue) (v : ℕ → Bool) (n : ℕ) → IsHome net n None → in_reset net.reset v ≡ false → None ≡ phase_fault net v n
+breaks_nothing net v n is off =
+    sym (when_off (in_reset net.reset v) None (position (λ w. not (phases_keep v w n)) net.channels) off
+        ∙ unfound net n None (λ w. not (phases_keep v w n)) is (λ w apart. no_fault v n w apart) refl)
+
+pub keeps_there : (net : NetValue) (v : ℕ → Bool) (n c : ℕ) (w : Wires) → IsHome net n (Some c) → in_reset net.reset v ≡ false →
+    w ≡ get_or net.channels c w → phases_keep v w n ≡ true → None ≡ phase_fault net v n
+keeps_there net v n c w is off here keeps =
+    let within = home_within net n c (Some c) is refl in
+    sym (when_off (in_reset net.reset v) None (position (λ x. not (phases_keep v x n)) net.channels) off
+        ∙ unfound_there net n c w (Some c) (λ x. not (phases_keep v x n)) is (λ x apart. no_fault v n x apart) refl
+        (λ d. ap (λ (x : Wires). not (phases_keep v x n)) (same_there net.channels c w d within here) ∙ not_from_true _ keeps))
+
+pub breaks_there : (net : NetValue) (v : ℕ → Bool) (n c : ℕ) (w : Wires) → IsHome net n (Some c) → in_reset net.reset v ≡ false →
+    w ≡ get_or net.channels c w → phases_keep v w n ≡ false → Some c ≡ phase_fault net v n
+breaks_there net v n c w is off here breaks =
+    let within = home_within net n c (Some c) is refl in
+    sym (when_off (in_reset net.reset v) None (position (λ x. not (phases_keep v x n)) net.channels) off
+        ∙ found_there net n c w (Some c) (λ x. not (phases_keep v x n)) is (λ x apart. no_fault v n x apart) refl within
+        (ap (λ (x : Wires). not (phases_keep v x n)) (same_there net.channels c w w within here) ∙ not_from_false _ breaks))
