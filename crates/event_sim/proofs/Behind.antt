@@ -278,13 +278,21 @@ unruled true free b on none = absurd (cc none)
 unruled false free true on none = refl
 unruled false free false on none = absurd (cc on)
 
+-- what the environment may do while no reset is on
+abbrev free_at : IndexedValue → List ℕ → List Bool → ℕ → Bool
+free_at x done values m = raises_go (high values) m || channels_move (high values) (offer_at x.script) (slice_index done) 0 x.net.channels m
+
 ready_off : (x : IndexedValue) (done : List ℕ) (values : List Bool) (m : ℕ) → in_reset x.net.reset (high values) ≡ false →
     has_move x.net x.script done values m ≡ is_ready x done values m
-ready_off x done values m off = same_off _ _ _ _ _ off
+ready_off x done values m off =
+    same_off (rule_enabled x.net (high values) m) (is_reset x.net.reset m) (rules_rest x.net (high values)) (free_at x done values m)
+        (in_reset x.net.reset (high values)) off
 
 ready_on : (x : IndexedValue) (done : List ℕ) (values : List Bool) (m : ℕ) → in_reset x.net.reset (high values) ≡ true →
     (is_reset x.net.reset m && rules_rest x.net (high values)) ≡ false → has_move x.net x.script done values m ≡ is_ready x done values m
-ready_on x done values m on none = same_on _ _ _ _ _ on none
+ready_on x done values m on none =
+    same_on (rule_enabled x.net (high values) m) (is_reset x.net.reset m) (rules_rest x.net (high values)) (free_at x done values m)
+        (in_reset x.net.reset (high values)) on none
 
 -- before the move of another node than the reset node
 ready_before : (x : IndexedValue) (was : List ℕ) (before : List Bool) (n m : ℕ) → n < length x.net.first → is_reset x.net.reset n ≡ false →
@@ -294,7 +302,8 @@ ready_before x was before n m within other enabled = by_reset (in_reset x.net.re
     by_reset : (b : Bool) → in_reset x.net.reset (high before) ≡ b → has_move x.net x.script was before m ≡ is_ready x was before m
     by_reset false off = ready_off x was before m off
     by_reset true on =
-        ready_on x was before m on (and_right _ _ (goes x.net (high before) n within (ruled (rule_enabled x.net (high before) n) _ _ _ _ on other enabled)))
+        ready_on x was before m on (and_right _ _ (goes x.net (high before) n within (ruled (rule_enabled x.net (high before) n) (is_reset x.net.reset n)
+        (rules_rest x.net (high before)) (free_at x was before n) (in_reset x.net.reset (high before)) on other enabled)))
 
 -- behind it, of a node that could move before
 ready_behind : (x : IndexedValue) (was done : List ℕ) (before : List Bool) (n m : ℕ) → IsNet x.net → is_reset x.net.reset n ≡ false →
@@ -304,7 +313,7 @@ ready_behind x was done before n m is other could = by_reset (in_reset x.net.res
     not_reset : in_reset x.net.reset (high (fired before n)) ≡ true → (b : Bool) → is_reset x.net.reset m ≡ b → b ≡ false
     not_reset on false e = refl
     not_reset on true e =
-        absurd (both_ways _ (unruled (rule_enabled x.net (high before) m) _ _ (sym (reset_kept x.net.reset before n other) ∙ on)
+        absurd (both_ways _ (unruled (rule_enabled x.net (high before) m) (free_at x was before m) (in_reset x.net.reset (high before)) (sym (reset_kept x.net.reset before n other) ∙ on)
             (no_rule x.net (high before) m (reset_node x.net m is e))) could)
 
     by_reset : (b : Bool) → in_reset x.net.reset (high (fired before n)) ≡ b →
@@ -421,20 +430,17 @@ behind_reset x n was done before values old new is reset move passing = record {
     v : ℕ → Bool
     v = high before
 
-    free : ℕ → Bool
-    free m = raises_go v m || channels_move v (offer_at x.script) (slice_index was) 0 x.net.channels m
-
-    unfree : free n ≡ false
+    unfree : free_at x was before n ≡ false
     unfree = or_from _ _ (and_left _ _ (ne_eqb n 0 (λ e. both_ways (first_at x.net n) (ap (first_at x.net) e ∙ is.go_low) node.high)))
         (channels_none v (offer_at x.script) (slice_index was) n 0 x.net.channels
         (λ k d less. not_offered v (get_or x.net.channels k d) _ _ n (no_wire x.net n (get_or x.net.channels k d) node.high (is.channels k d less))))
 
-    held : (rule b i rest : Bool) → rule ≡ false → (rule || cond b (i && rest) (free n)) ≡ true → (b ≡ true) × (rest ≡ true)
+    held : (rule b i rest : Bool) → rule ≡ false → (rule || cond b (i && rest) (free_at x was before n)) ≡ true → (b ≡ true) × (rest ≡ true)
     held true b i rest none enabled = absurd (cc none)
     held false true true true none enabled = (refl, refl)
     held false true true false none enabled = absurd (cc enabled)
     held false true false rest none enabled = absurd (cc enabled)
-    held false false i rest none enabled = absurd (both_ways (free n) unfree enabled)
+    held false false i rest none enabled = absurd (both_ways (free_at x was before n) unfree enabled)
 
     resting : (in_reset x.net.reset v ≡ true) × (rules_rest x.net v ≡ true)
     resting = held (rule_enabled x.net v n) (in_reset x.net.reset v) (is_reset x.net.reset n) (rules_rest x.net v) (no_rule x.net v n node) move.enabled
@@ -456,7 +462,8 @@ behind_reset x n was done before values old new is reset move passing = record {
         (not (m == n) && (has_move x.net x.script was before m && not (has_move x.net x.script done values m))) ≡ false
     none m less (inl e) = and_left _ _ (not_from_true _ (eq-eqb m n e))
     none m less (inr apart) =
-        and_right _ _ (and_left _ _ (unmoved (rule_enabled x.net v m) _ _ _ _
+        and_right _ _ (and_left _ _ (unmoved (rule_enabled x.net v m) (in_reset x.net.reset v) (is_reset x.net.reset m)
+            (rules_rest x.net v) (free_at x was before m)
             (not-true _ (all_at (length x.net.first) m (λ k. not (rule_enabled x.net v k)) resting.1 less)) resting.0 (other_reset m apart)))
 
 -- the reset node's own move
@@ -491,7 +498,7 @@ reset_waits x done values marks on some passing = record {
     going : rules_rest x.net (high values) ≡ false
     going =
         goes x.net (high values) one.0 (omega (arith, one.1, passing.count_is))
-            (ruled_there _ _ (in_reset x.net.reset (high values)) on (sym (passing.each one.0 (omega (arith, one.1, passing.count_is))) ∙ one.2))
+            (ruled_there (rule_enabled x.net (high values) one.0) (free_at x done values one.0) (in_reset x.net.reset (high values)) on (sym (passing.each one.0 (omega (arith, one.1, passing.count_is))) ∙ one.2))
 
 pub reset_falls : (x : IndexedValue) (done : List ℕ) (values marks : List Bool) (r : ℕ) → x.net.reset ≡ Some r → r < length x.net.first →
     high values r ≡ true → members marks ≡ [] → IsPassing (length x.net.first) (is_ready x done values) marks →
@@ -511,7 +518,7 @@ reset_falls x done values marks r is within up empty passing = record {
     unruled_there rule free b none = (or_parts rule (not b && free) none).0
 
     still : (n : ℕ) → n < length x.net.first → rule_enabled x.net (high values) n ≡ false
-    still n less = unruled_there _ _ (in_reset x.net.reset (high values)) (sym (passing.each n less) ∙ out n less)
+    still n less = unruled_there (rule_enabled x.net (high values) n) (free_at x done values n) (in_reset x.net.reset (high values)) (sym (passing.each n less) ∙ out n less)
 
     resting : rules_rest x.net (high values) ≡ true
     resting = every (length x.net.first) (λ n. not (rule_enabled x.net (high values) n)) (λ n less. not_from_false _ (still n less))
@@ -524,7 +531,8 @@ reset_falls x done values marks r is within up empty passing = record {
     told false false i rest f none on rests = absurd (cc on)
 
     moves : (n : ℕ) → n < length x.net.first → is_reset x.net.reset n ≡ has_move x.net x.script done values n
-    moves n less = told (rule_enabled x.net (high values) n) (in_reset x.net.reset (high values)) (is_reset x.net.reset n) _ _ (still n less) on resting
+    moves n less = told (rule_enabled x.net (high values) n) (in_reset x.net.reset (high values)) (is_reset x.net.reset n) (rules_rest x.net (high values))
+        (free_at x done values n) (still n less) on resting
 
     by_place : (n : ℕ) → n < length x.net.first → (n ≡ r) ⊎ (n ≡ r → ⊥) → is_member (set marks r true) n ≡ has_move x.net x.script done values n
     by_place n less (inl e) =
@@ -532,3 +540,6 @@ reset_falls x done values marks r is within up empty passing = record {
             ∙ sym (ap (λ o. is_reset o n) is ∙ eq-eqb n r e) ∙ moves n less
     by_place n less (inr apart) =
         get_or-set_other marks r n true false apart ∙ out n less ∙ sym (ap (λ o. is_reset o n) is ∙ ne_eqb n r apart) ∙ moves n less
+
+pub reset_within : (net : NetValue) (r : ℕ) → IsNet net → net.reset ≡ Some r → r < length net.first
+reset_within net r is at = let node = reset_node net r is (ap (λ o. is_reset o r) at ∙ eq-eqb r r refl) in omega (arith, node.last)

@@ -1,6 +1,6 @@
 //! The set of the nodes that have a move, kept from move to move.
 
-ghost use Rattle.std.specs.Prelude.{◌≡◌, ℕ, ◌<◌, List, Bool, All, length};
+ghost use Rattle.std.specs.Prelude.{◌≡◌, ℕ, ◌<◌, not, ◌&&◌, if◌then◌else◌, List, Bool, All, length};
 ghost use Rattle.event_sim.specs.Locality.{has_move, is_ready, lesser, IsPassing, IsRetested, IsRetestedNear, IsMove, IsListedBehind, IsRelisted};
 
 use crate::indexed::IndexedNet;
@@ -14,6 +14,17 @@ fn lesser(lost: Option<u32>, node: u32) -> Option<u32>
     match lost {
         None => Some(node),
         Some(other) => Some(if other < node { other } else { node }),
+    }
+}
+
+/// The least node that is lost, where this one was in the set and is now or isn't.
+fn least_lost(lost: Option<u32>, node: u32, was: bool, is: bool) -> Option<u32>
+    ensures { result ≡ (if was && not is then lesser lost node else lost) }
+{
+    if was && !is {
+        lesser(lost, node)
+    } else {
+        lost
     }
 }
 
@@ -34,11 +45,10 @@ fn retest(
 {
     let mut lost = before;
     for node in nodes {
+        let was = moves.contains(*node);
         let ready = indexed.is_ready(done, state, *node);
-        if moves.contains(*node) && !ready {
-            lost = lesser(lost, *node);
-        }
         moves.set(*node, ready);
+        lost = least_lost(lost, *node, was, ready);
     }
     lost
 }
