@@ -21,7 +21,7 @@ use Rattle.event_sim.proofs.HomeLemmas.{channels_none}
 
 -- the least number that passes, and another
 
-least_absent : (count : ℕ) (p : ℕ → Bool) → least_below count p ≡ None → (k : ℕ) → k < count → p k ≡ false
+pub least_absent : (count : ℕ) (p : ℕ → Bool) → least_below count p ≡ None → (k : ℕ) → k < count → p k ≡ false
 least_absent zero p none k within = absurd (omega arith)
 least_absent (suc n) p none k within = by_first (least_below n p) (p n) refl (λ is less. least_absent n p is k less) none
   where

@@ -1,12 +1,14 @@
 -- How a simulation begins, what each pick is from, and what is known at its end.
 use Rattle.std.proofs.Common.{◌≡◌, ℕ, ◌<◌, ◌≤◌, Bool, true, false, List, [], ◌∷◌, ◌++◌, length, get_or, drop, replicate, refl, sym, ap, subst, ◌∙◌, arith}
 use Rattle.std.specs.Prelude.{◌==◌, All, AllPairs, Option, Some, None}
+use Rattle.std.specs.List.{range_with_len}
 use Rattle.std.proofs.lemmas.List.{append-nil}
+use Rattle.std.proofs.lemmas.List.Elements.{filter_passes}
 use Rattle.prs_core.specs.Nets.{NetValue, IsNet}
 use Rattle.prs_core.specs.Moves.{high}
 use Rattle.env_script.specs.declared.hazard.Hazard.{Hazard}
 use Rattle.env_script.specs.declared.hazard.Hazard.TheVariants.{BothWays as Torn, Unstable as Lost, Protocol as Broken}
-use Rattle.env_script.specs.Runs.{RunState, IsRun, after}
+use Rattle.env_script.specs.Runs.{RunState, IsRun, after, move_enabled}
 use Rattle.env_script.specs.Hazards.{first_hazard}
 use Rattle.env_script.specs.OneLength.{AllSafe, EndsAll}
 use Rattle.env_script.proofs.Fronts.{ends_all}
@@ -93,6 +95,13 @@ picked_within s picks stage last xs p d is listed within =
   where
     whole : xs ≡ enabled_moves s.net s.script (after s.net (start_at s) (follow s.net s.script (start_at s) picks))
     whole = listed ∙ moves_are s picks stage last is
+
+-- and its move is enabled
+pub picked_enabled : (stage : StageValue) (xs : List ℕ) (p d : ℕ) → xs ≡ moves_now stage → p < length xs →
+    move_enabled stage.net stage.script (now_of stage) (get_or xs p d) ≡ true
+picked_enabled stage xs p d listed within =
+    subst (λ (ys : List ℕ). All (λ n. move_enabled stage.net stage.script (now_of stage) n ≡ true) ys) (sym listed)
+        (filter_passes (move_enabled stage.net stage.script (now_of stage)) (range_with_len 0 (length stage.net.first))) p d within
 
 -- what is known at the end
 pub record IsFinished (s : SimValue) (before now : List ℕ) (count : ℕ) (stage : StageValue) (end : End) : Type 0 where

@@ -7,7 +7,7 @@ use Rattle.event_sim.specs.Ends.{end_with}
 use Rattle.event_sim.specs.Simulating.{SimValue, IsEndIn}
 use Rattle.event_sim.specs.Stages.{moves_now}
 use Rattle.event_sim.proofs.Underway.{step}
-use Rattle.event_sim.proofs.Finishing.{begun, choice_list, picked_within, finish}
+use Rattle.event_sim.proofs.Finishing.{begun, choice_list, picked_within, picked_enabled, finish}
 use Rattle.event_sim.proofs.sim.Sim.run.Goals as goal
 
 -- within a list the default plays no part
@@ -60,6 +60,11 @@ make-hazard-requires-clause-node g c =
     let i = c.loop-made.invariant in
     picked_within c.args.self i.picked.picks c.loop-made.stage c.loop-made.hazard c.moves-in-None-2.result.now c.choose-place.result 0 i.picked.underway
         c.moves-in-None-2.ensures (omega (arith, c.choose-place.ensures.within, ap length c.moves-in-None.ensures, ap length c.moves-in-None-2.ensures))
+
+pub make-hazard-requires-clause-enabled : goal.make-hazard-requires-clause-enabled
+make-hazard-requires-clause-enabled g c =
+    picked_enabled c.loop-made.stage c.moves-in-None-2.result.now c.choose-place.result 0 c.moves-in-None-2.ensures
+        (omega (arith, c.choose-place.ensures.within, ap length c.moves-in-None.ensures, ap length c.moves-in-None-2.ensures))
 
 pub loop-made-preserved : goal.loop-made-preserved
 loop-made-preserved g c =
