@@ -3,7 +3,9 @@ use Rattle.std.proofs.Common.{◌≡◌, ◌≢◌, ℕ, zero, suc, ◌+◌, ◌
 use Rattle.std.specs.Prelude.{◌⊎◌, ◌&&◌, All, AllPairs}
 use Rattle.std.specs.List.{range_with_len, insert, remove}
 use Rattle.std.proofs.lemmas.Bool.{lt-ltb, le-ltb, ltb-true, and_parts, cases_eq, cases_order, cases_lt, both_ways}
-use Rattle.std.proofs.lemmas.List.{append-nil, append_assoc, length-append, length-set, length_push, get_or-set_same, get_or-set_other, get_or_append_left, get_or-append_right, get_or_at, get_or_default, take_at, drop_at}
+use Rattle.std.proofs.lemmas.List.{append-nil, append_assoc, length-append, length-set, length_push, get_or-set_same, get_or-set_other, get_or_append_left, get_or-append_right, get_or_at, get_or_default, take_at, drop_at, take_more, take_all, drop_all, drop-drop, length-drop, length-take-le}
+use mathlib.Core.Bool.{beq}
+use borrow.Rule.Slice.PartMut.{put_mid, mid_of}
 use Rattle.std.proofs.lemmas.List.Elements.{filter_agree, filter_passes, All-filter}
 use Rattle.event_sim.specs.Locality.{is_member, members}
 use Rattle.event_sim.proofs.Lists.{passes_suc}
@@ -196,3 +198,52 @@ not_found marks nodes n i are isnt within here =
 
 pub rises_as : (marks : List Bool) (nodes : List ℕ) → nodes ≡ members marks → (i j : ℕ) → i ≤ j → j < length nodes → get_or nodes i 0 ≤ get_or nodes j 0
 rises_as marks nodes are = subst (λ (xs : List ℕ). (i j : ℕ) → i ≤ j → j < length xs → get_or xs i 0 ≤ get_or xs j 0) (sym are) (rises marks)
+
+-- what turning the front of a part leaves, where the list begins one slot behind then
+pub pulled_out : (xs part : List ℕ) (from place k n : ℕ) → k ≡ place + 1 → from + place < length xs → n ≡ length xs →
+    part ≡ drop place (mid_of from k xs) ++ take place (mid_of from k xs) →
+    drop (from + 1) (take n (put_mid from k xs part ++ drop (length (put_mid from k xs part)) xs)) ≡ remove (drop from xs) place
+pulled_out xs part from place k n is within all turned =
+    let whole : length (put_mid from k xs part) ≡ length xs = omega (arith, ap length made, length-append (take from xs) (x ∷ kept),
+        length-take-le from xs (omega arith), length-append (take place rest) (drop k rest), length-take-le place rest (omega (arith, left)),
+        length-drop k rest, left) in
+    ap (drop (from + 1)) (ap (λ (ys : List ℕ). take n (put_mid from k xs part ++ ys)) (drop_all (length (put_mid from k xs part)) xs (omega (arith, whole)))
+        ∙ ap (take n) (append-nil (put_mid from k xs part)) ∙ take_all n (put_mid from k xs part) (omega (arith, whole)) ∙ made)
+        ∙ sym (drop-drop 1 from (take from xs ++ x ∷ kept)) ∙ ap (drop 1) (drop_at (take from xs) (x ∷ kept) from (length-take-le from xs (omega arith)))
+        ∙ ap (λ (i : ℕ). take place rest ++ drop i rest) (is ∙ next)
+  where
+    rest : List ℕ
+    rest = drop from xs
+
+    left : length rest ≡ length xs - from
+    left = length-drop from xs
+
+    next : place + 1 ≡ suc place
+    next = omega arith
+
+    x : ℕ
+    x = get_or rest place 0
+
+    kept : List ℕ
+    kept = take place rest ++ drop k rest
+
+    mid : mid_of from k xs ≡ take place rest ++ x ∷ []
+    mid = ap (λ i. take i rest) is ∙ take_more rest place 0 (omega (arith, left))
+
+    first : part ≡ x ∷ take place rest
+    first = turned ∙ ap (λ (ys : List ℕ). drop place ys ++ take place ys) mid
+        ∙ ap (λ (ys : List ℕ). ys ++ take place (take place rest ++ x ∷ [])) (drop_at (take place rest) (x ∷ []) place (length-take-le place rest (omega (arith, left))))
+        ∙ ap (λ (ys : List ℕ). x ∷ ys) (take_at (take place rest) (x ∷ []) place (length-take-le place rest (omega (arith, left))))
+
+    made : put_mid from k xs part ≡ take from xs ++ x ∷ kept
+    made = ap (λ (ys : List ℕ). take from xs ++ (ys ++ drop k rest)) first
+
+-- a set with a member has a list that isn't empty
+pub not_none : (marks : List Bool) (n : ℕ) → n < length marks → is_member marks n ≡ true → 0 < length (members marks)
+not_none marks n within is =
+    omega (arith, ap length (with_node marks n within is), length-append (front_of marks n) (n ∷ back_of marks n))
+
+pub was_member : (was is : Bool) → beq was is ≡ false → is ≡ false → was ≡ true
+was_member true is differ off = refl
+was_member false true differ off = absurd (cc off)
+was_member false false differ off = absurd (cc differ)

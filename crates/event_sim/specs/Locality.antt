@@ -1,5 +1,5 @@
 -- Which nodes a move may concern, and what is kept beside a net so as to find them.
-use Rattle.std.specs.Prelude.{◌≡◌, ℕ, ◌<◌, nat_lt, ◌⊎◌, Bool, true, false, not, ◌&&◌, ◌||◌, ◌==◌, if◌then◌else◌, List, length, map, filter, slice_index, slice_index_or, slice_set, Option, Some, None, IfSome}
+use Rattle.std.specs.Prelude.{◌≡◌, ℕ, ◌+◌, ◌<◌, ◌≤◌, nat_lt, ◌⊎◌, Bool, true, false, not, ◌&&◌, ◌||◌, ◌==◌, if◌then◌else◌, List, length, drop, filter, slice_index, slice_index_or, slice_set, Option, Some, None, IfSome}
 use Rattle.std.specs.List.{list_any, range_with_len}
 use Rattle.prs_core.specs.declared.wires.Wires.{Wires}
 use Rattle.prs_core.specs.Nets.{NetValue, IsNet}
@@ -70,9 +70,11 @@ is_member marks n = slice_index_or marks n false
 abbrev pub members : List Bool → List ℕ
 members marks = filter (is_member marks) (range_with_len 0 (length marks))
 
-pub record IsNodeSet (marks : List Bool) (nodes : List ℕ) (room : ℕ) : Type 0 where
-  pub nodes_are : nodes ≡ members marks
-  pub room_left : length marks < room
+-- the list stands in the slots from this one on, and there is one slot more than nodes
+pub record IsNodeSet (marks : List Bool) (slots : List ℕ) (from : ℕ) : Type 0 where
+  pub list_is : drop from slots ≡ members marks
+  pub from_in : from ≤ length slots
+  pub slots_are : length slots ≡ length marks + 1
 
 abbrev pub is_among : List ℕ → ℕ → Bool
 is_among nodes n = list_any (λ m. m == n) nodes

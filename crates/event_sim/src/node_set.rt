@@ -1,28 +1,30 @@
 //! Sets of nodes.
 
-ghost use Rattle.std.specs.Prelude.{◌≡◌, ℕ, ◌<◌, ◌+◌, ◌^◌, List, Bool, true, false, length, replicate, slice_set, vec_len, vec_capacity, IfOk};
-ghost use Rattle.std.specs.List.{insert};
+ghost use Rattle.std.specs.Prelude.{◌≡◌, ◌<◌, ◌≤◌, ◌+◌, ◌-◌, ◌^◌, List, Bool, true, false, length, drop, replicate, slice_set, vec_len, IfOk};
+ghost use Rattle.std.specs.List.{insert, remove};
 ghost use Rattle.event_sim.specs.Locality.{is_member, members};
 
 use std::alloc::{AllocError, Global};
 use std::marker::Model;
 
-/// Some of the nodes below a number, with their list in ascending order. It is seen as a mark for each node.
+/// Some of the nodes below a number, with their list in ascending order. It is seen as a mark for each node. The list
+/// stands at the end of its slots, so that a change near its front, as where the least node is picked, moves little.
 #[derive(Debug, Drop)]
 pub(crate) struct NodeSet {
     marks: Vec<bool>,
-    nodes: Vec<u32>,
+    slots: Vec<u32>,
+    from: usize,
 }
 
 impl Model for NodeSet {
-    ghost use Rattle.std.specs.Prelude.{List, Bool, vec_capacity};
+    ghost use Rattle.std.specs.Prelude.{List, Bool};
     ghost use Rattle.event_sim.specs.Locality.{IsNodeSet};
 
     ghost Value = { List Bool };
 
     ghost view = { λ s. s.marks.items };
 
-    ghost invariant = { λ s. IsNodeSet s.marks.items s.nodes.items (vec_capacity s.nodes) };
+    ghost invariant = { λ s. IsNodeSet s.marks.items s.slots.items s.from };
 }
 
 fn no_marks(alloc: Global, count: usize) -> Result<Vec<bool>, AllocError>
@@ -35,39 +37,67 @@ fn no_marks(alloc: Global, count: usize) -> Result<Vec<bool>, AllocError>
     Ok(marks)
 }
 
-/// Inserts the node into a list in which there is room.
-fn insert_at(nodes: &mut Vec<u32>, place: usize, node: u32)
-    requires place { place < vec_len nodes.old + 1 }
-    requires room { vec_len nodes.old < vec_capacity nodes.old }
-    ensures nodes { nodes.new.items ≡ insert nodes.old.items place node }
-    ensures room { vec_capacity nodes.new ≡ vec_capacity nodes.old }
+fn no_slots(alloc: Global, count: usize) -> Result<Vec<u32>, AllocError>
+    ensures { IfOk result (λ v. v.items ≡ replicate count 0) }
 {
-    let _inserted = nodes.insert(place, node);
+    let mut slots = Vec::with_capacity(alloc, count)?;
+    for _slot in 0..count {
+        slots.push(0)?;
+    }
+    Ok(slots)
+}
+
+/// The list that begins at this slot.
+fn list_from(slots: &[u32], from: usize) -> &[u32]
+    requires { from ≤ length slots.now }
+    ensures { result.now ≡ drop from slots.now }
+{
+    &slots[from..]
+}
+
+/// Inserts the node at a place of the list that begins at this slot, and begins one slot before it then.
+fn insert_at(slots: &mut Vec<u32>, from: usize, place: usize, node: u32)
+    requires room { 0 < from }
+    requires place { from + place ≤ vec_len slots.old }
+    ensures list { drop (from - 1) slots.new.items ≡ insert (drop from slots.old.items) place node }
+    ensures count { vec_len slots.new ≡ vec_len slots.old }
+{
+    slots[from - 1] = node;
+    slots[from - 1..from + place].rotate_left(1);
+}
+
+/// Removes the node at a place of the list that begins at this slot, and begins one slot behind it then.
+fn remove_at(slots: &mut Vec<u32>, from: usize, place: usize)
+    requires place { from + place < vec_len slots.old }
+    ensures list { drop (from + 1) slots.new.items ≡ remove (drop from slots.old.items) place }
+    ensures count { vec_len slots.new ≡ vec_len slots.old }
+{
+    slots[from..from + place + 1].rotate_left(place);
 }
 
 /// Puts the node into the list of a set in which it isn't.
-fn put_in(nodes: &mut Vec<u32>, node: u32)
-    requires room { vec_len nodes.old < vec_capacity nodes.old }
-    ensures nodes { (marks : List Bool) → nodes.old.items ≡ members marks → node < length marks →
-        is_member marks node ≡ false → nodes.new.items ≡ members (slice_set marks node true) }
-    ensures room { vec_capacity nodes.new ≡ vec_capacity nodes.old }
+fn put_in(slots: &mut Vec<u32>, from: usize, node: u32)
+    requires room { 0 < from }
+    requires from { from ≤ vec_len slots.old }
+    ensures list { (marks : List Bool) → drop from slots.old.items ≡ members marks → node < length marks →
+        is_member marks node ≡ false → drop (from - 1) slots.new.items ≡ members (slice_set marks node true) }
+    ensures count { vec_len slots.new ≡ vec_len slots.old }
 {
-    match nodes.binary_search(&node) {
+    match list_from(slots, from).binary_search(&node) {
         Ok(_) => {}
-        Err(place) => insert_at(nodes, place, node),
+        Err(place) => insert_at(slots, from, place, node),
     }
 }
 
 /// Takes the node out of the list of a set in which it is.
-fn take_out(nodes: &mut Vec<u32>, node: u32)
-    ensures nodes { (marks : List Bool) → nodes.old.items ≡ members marks → node < length marks →
-        is_member marks node ≡ true → nodes.new.items ≡ members (slice_set marks node false) }
-    ensures room { vec_capacity nodes.new ≡ vec_capacity nodes.old }
+fn take_out(slots: &mut Vec<u32>, from: usize, node: u32)
+    requires from { from ≤ vec_len slots.old }
+    ensures list { (marks : List Bool) → drop from slots.old.items ≡ members marks → node < length marks →
+        is_member marks node ≡ true → drop (from + 1) slots.new.items ≡ members (slice_set marks node false) }
+    ensures count { vec_len slots.new ≡ vec_len slots.old }
 {
-    match nodes.binary_search(&node) {
-        Ok(place) => {
-            nodes.remove(place);
-        }
+    match list_from(slots, from).binary_search(&node) {
+        Ok(place) => remove_at(slots, from, place),
         Err(_) => {}
     }
 }
@@ -79,15 +109,16 @@ impl NodeSet {
         ensures { IfOk result (λ s. s ≡ replicate count false) }
     {
         let marks = no_marks(alloc, count)?;
-        let nodes = Vec::with_capacity(alloc, count + 1)?;
-        Ok(NodeSet { marks, nodes })
+        let from = count + 1;
+        let slots = no_slots(alloc, from)?;
+        Ok(NodeSet { marks, slots, from })
     }
 
     /// The nodes, in ascending order.
     pub(crate) fn nodes(&self) -> &[u32]
         ensures { result.now ≡ members self.now }
     {
-        &self.nodes
+        list_from(&self.slots, self.from)
     }
 
     /// Whether the node is in the set.
@@ -109,9 +140,11 @@ impl NodeSet {
         }
         self.marks[place] = member;
         if member {
-            put_in(&mut self.nodes, node);
+            put_in(&mut self.slots, self.from, node);
+            self.from -= 1;
         } else {
-            take_out(&mut self.nodes, node);
+            take_out(&mut self.slots, self.from, node);
+            self.from += 1;
         }
     }
 }
