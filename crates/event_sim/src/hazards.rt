@@ -8,7 +8,7 @@ ghost use Rattle.event_sim.specs.Stages.{worst_cause};
 
 use crate::indexed::IndexedNet;
 use env_script::Hazard;
-use prs_core::{Net, State, holds, pulled_both_ways};
+use prs_core::{Net, State, enabled, holds, pulled_both_ways};
 
 /// The least node that is pulled both ways.
 pub(crate) fn first_pulled(net: &Net, state: &State) -> Option<u32>
@@ -21,13 +21,14 @@ pub(crate) fn first_pulled(net: &Net, state: &State) -> Option<u32>
     }
 }
 
+/// Whether the node is pulled both ways. Most nodes have no enabled rule, and then the other guard needs no look.
 fn is_pulled(net: &Net, state: &State, node: u32) -> bool
     requires state { length state.now ≡ length net.now.first }
     requires node { node < length net.now.first }
     ensures { result ≡ both_ways net.now (high state.now) node }
 {
     let _net = net.first();
-    holds(net.up(node), state) && holds(net.down(node), state)
+    enabled(net, state, node) && holds(net.up(node), state) && holds(net.down(node), state)
 }
 
 /// The first of these nodes that is pulled both ways.
