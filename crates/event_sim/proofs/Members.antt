@@ -1,13 +1,16 @@
 -- The list of a set of nodes, where a node is put into the set or taken out of it.
 use Rattle.std.proofs.Common.{◌≡◌, ◌≢◌, ℕ, zero, suc, ◌+◌, ◌-◌, ◌<◌, ◌≤◌, Bool, true, false, cond, ltb, List, [], ◌∷◌, ◌++◌, length, get_or, set, take, drop, filter, refl, sym, ap, subst, ◌∙◌, inl, inr, arith}
-use Rattle.std.specs.Prelude.{◌⊎◌, ◌&&◌, All, AllPairs}
+use Rattle.std.specs.Prelude.{◌⊎◌, ◌&&◌, All, AllPairs, Result, Ok, Err}
 use Rattle.std.specs.List.{range_with_len, insert, remove}
 use Rattle.std.proofs.lemmas.Bool.{lt-ltb, le-ltb, ltb-true, and_parts, cases_eq, cases_order, cases_lt, both_ways}
-use Rattle.std.proofs.lemmas.List.{append-nil, append_assoc, length-append, length-set, length_push, get_or-set_same, get_or-set_other, get_or_append_left, get_or-append_right, get_or_at, get_or_default, take_at, drop_at, take_more, take_all, drop_all, drop-drop, length-drop, length-take-le}
+use Rattle.std.proofs.lemmas.List.{append-nil, append_assoc, length-append, length-set, length_push, get_or-set_same, get_or-set_other, get_or_append_left, get_or-append_right, get_or_at, get_or_default, take_at, drop_at, take_more, take_all, drop_all, drop-drop, length-drop, length-take-le, get_or-take}
+use Rattle.std.specs.List.Sorted.{IsBinarySearchResult}
+use Rattle.std.specs.Ordering.{nat_cmp}
+use Rattle.std.proofs.lemmas.List.Sorted.{searched}
 use mathlib.Core.Bool.{beq}
 use borrow.Rule.Slice.PartMut.{put_mid, mid_of}
 use Rattle.std.proofs.lemmas.List.Elements.{filter_agree, filter_passes, All-filter}
-use Rattle.event_sim.specs.Locality.{is_member, members}
+use Rattle.event_sim.specs.Locality.{is_member, members, IsPlace}
 use Rattle.event_sim.proofs.Lists.{passes_suc}
 use Rattle.event_sim.proofs.Following.{ascending, range_below}
 
@@ -247,3 +250,39 @@ pub was_member : (was is : Bool) → beq was is ≡ false → is ≡ false → w
 was_member true is differ off = refl
 was_member false true differ off = absurd (cc off)
 was_member false false differ off = absurd (cc differ)
+
+-- what a search of a whole list of members tells
+pub placed : (marks : List Bool) (list : List ℕ) (n : ℕ) (r : Result ℕ ℕ) → list ≡ members marks → IsBinarySearchResult (λ y. nat_cmp y n) list r → IsPlace list n r
+placed marks list n r are told = searched list n r told (rises_as marks list are)
+
+-- and one of its front, where the last node of the front isn't below
+pub placed_near : (marks : List Bool) (list front : List ℕ) (n k : ℕ) (r : Result ℕ ℕ) → list ≡ members marks → front ≡ take (k + 1) list → k + 1 < length list →
+    n ≤ get_or list k 0 → IsBinarySearchResult (λ y. nat_cmp y n) front r → IsPlace list n r
+placed_near marks list front n k r are is within above told = by_result r (searched front n r told order)
+  where
+    count : length front ≡ k + 1
+    count = ap length is ∙ length-take-le (k + 1) list (omega arith)
+
+    at : (i : ℕ) → i < k + 1 → get_or front i 0 ≡ get_or list i 0
+    at i less = ap (λ (xs : List ℕ). get_or xs i 0) is ∙ get_or-take (k + 1) list i 0 less
+
+    order : (i j : ℕ) → i ≤ j → j < length front → get_or front i 0 ≤ get_or front j 0
+    order i j less bound =
+        let up = rises_as marks list are i j less (omega (arith, count)) in
+        omega (arith, at i (omega (arith, count)), at j (omega (arith, count)))
+
+    later : (j : ℕ) → k < j → j < length list → n < get_or list j 0
+    later j less bound =
+        let up : get_or list k 0 < get_or list j 0 = subst (λ (xs : List ℕ). j < length xs → get_or xs k 0 < get_or xs j 0) (sym are)
+            (λ b. ascending (is_member marks) 0 (length marks) k j 0 less b) bound in
+        omega arith
+
+    by_result : (r : Result ℕ ℕ) → IsPlace front n r → IsPlace list n r
+    by_result (Ok i) found = (omega (arith, found.0, count), sym (at i (omega (arith, found.0, count))) ∙ found.1)
+    by_result (Err i) found =
+        (omega (arith, found.0, count), λ j less. let under = found.1 j less in omega (arith, at j (omega (arith, found.0, count))),
+            λ j less bound. by_place j less bound (cases_lt k j))
+      where
+        by_place : (j : ℕ) → i ≤ j → j < length list → (k < j) ⊎ (j ≤ k) → n < get_or list j 0
+        by_place j less bound (inl past) = later j past bound
+        by_place j less bound (inr here) = let over = found.2 j less (omega (arith, count)) in omega (arith, at j (omega arith))

@@ -1,5 +1,5 @@
 -- Which nodes a move may concern, and what is kept beside a net so as to find them.
-use Rattle.std.specs.Prelude.{◌≡◌, ℕ, ◌+◌, ◌<◌, ◌≤◌, nat_lt, ◌⊎◌, Bool, true, false, not, ◌&&◌, ◌||◌, ◌==◌, if◌then◌else◌, List, length, drop, filter, slice_index, slice_index_or, slice_set, Option, Some, None, IfSome}
+use Rattle.std.specs.Prelude.{◌≡◌, ℕ, ◌+◌, ◌<◌, ◌≤◌, nat_lt, ◌⊎◌, Bool, true, false, not, ◌&&◌, ◌||◌, ◌==◌, if◌then◌else◌, List, length, drop, filter, slice_index, slice_index_or, slice_set, Option, Some, None, IfSome, Result, MatchResult}
 use Rattle.std.specs.List.{list_any, range_with_len}
 use Rattle.prs_core.specs.declared.wires.Wires.{Wires}
 use Rattle.prs_core.specs.Nets.{NetValue, IsNet}
@@ -69,6 +69,13 @@ is_member marks n = slice_index_or marks n false
 -- in ascending order
 abbrev pub members : List Bool → List ℕ
 members marks = filter (is_member marks) (range_with_len 0 (length marks))
+
+-- the node stands at this place of the list, or would stand there
+abbrev pub IsPlace : List ℕ → ℕ → Result ℕ ℕ → Type 0
+IsPlace list n r = MatchResult r
+    (λ i. (i < length list) × (slice_index_or list i 0 ≡ n))
+    (λ i. (i ≤ length list) × ((k : ℕ) → k < i → slice_index_or list k 0 < n)
+    × ((k : ℕ) → i ≤ k → k < length list → n < slice_index_or list k 0))
 
 -- the list stands in the slots from this one on, and there is one slot more than nodes
 pub record IsNodeSet (marks : List Bool) (slots : List ℕ) (from : ℕ) : Type 0 where

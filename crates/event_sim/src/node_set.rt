@@ -2,10 +2,14 @@
 
 ghost use Rattle.std.specs.Prelude.{◌≡◌, ◌<◌, ◌≤◌, ◌+◌, ◌-◌, ◌^◌, List, Bool, true, false, length, drop, replicate, slice_set, vec_len, IfOk};
 ghost use Rattle.std.specs.List.{insert, remove};
-ghost use Rattle.event_sim.specs.Locality.{is_member, members};
+ghost use Rattle.std.specs.List.Sorted.{IsSearchInRange};
+ghost use Rattle.event_sim.specs.Locality.{is_member, members, IsPlace};
 
 use std::alloc::{AllocError, Global};
 use std::marker::Model;
+
+/// How many nodes count as near the front of a list.
+const NEAR: usize = 16;
 
 /// Some of the nodes below a number, with their list in ascending order. It is seen as a mark for each node. The list
 /// stands at the end of its slots, so that a change near its front, as where the least node is picked, moves little.
@@ -55,6 +59,18 @@ fn list_from(slots: &[u32], from: usize) -> &[u32]
     &slots[from..]
 }
 
+/// The place of the node in the list of a set, or the place where it would stand. Where the least node is picked, it is
+/// mostly near the front.
+fn place_in(list: &[u32], node: u32) -> Result<usize, usize>
+    ensures within { IsSearchInRange result (length list.now) }
+    ensures place { (marks : List Bool) → list.now ≡ members marks → IsPlace list.now node result }
+{
+    if list.len() > NEAR && node <= list[NEAR - 1] {
+        return list[..NEAR].binary_search(&node);
+    }
+    list.binary_search(&node)
+}
+
 /// Inserts the node at a place of the list that begins at this slot, and begins one slot before it then.
 fn insert_at(slots: &mut Vec<u32>, from: usize, place: usize, node: u32)
     requires room { 0 < from }
@@ -83,7 +99,7 @@ fn put_in(slots: &mut Vec<u32>, from: usize, node: u32)
         is_member marks node ≡ false → drop (from - 1) slots.new.items ≡ members (slice_set marks node true) }
     ensures count { vec_len slots.new ≡ vec_len slots.old }
 {
-    match list_from(slots, from).binary_search(&node) {
+    match place_in(list_from(slots, from), node) {
         Ok(_) => {}
         Err(place) => insert_at(slots, from, place, node),
     }
@@ -96,7 +112,7 @@ fn take_out(slots: &mut Vec<u32>, from: usize, node: u32)
         is_member marks node ≡ true → drop (from + 1) slots.new.items ≡ members (slice_set marks node false) }
     ensures count { vec_len slots.new ≡ vec_len slots.old }
 {
-    match list_from(slots, from).binary_search(&node) {
+    match place_in(list_from(slots, from), node) {
         Ok(place) => remove_at(slots, from, place),
         Err(_) => {}
     }
