@@ -13,7 +13,7 @@ use Rattle.prs_core.specs.Fans.{reads, readers_below}
 use Rattle.env_script.specs.Scripts.{OfferValue, nothing, offer_at}
 use Rattle.env_script.specs.Environment.{all_below, in_reset, is_reset, rules_rest, raises_go, channels_move, env_enabled}
 use Rattle.env_script.specs.Hazards.{least_below, or_else}
-use Rattle.event_sim.specs.Locality.{IndexedValue, is_wire, is_ready, has_move, is_member, members, is_among, lesser, IsShared, IsPassing, IsRetested, IsRetestedNear, IsNear, IsMove, lost_by, IsListedBehind, IsRelisted}
+use Rattle.event_sim.specs.Locality.{IndexedValue, is_wire, is_ready, has_move, is_member, members, is_among, lesser, IsShared, IsPassing, IsRetested, IsRetestedNear, IsNear, IsCountedMove, lost_by, IsListedBehind, IsRelisted}
 use Rattle.event_sim.proofs.Lists.{least_some, least_none, least_agrees, among_is}
 use Rattle.event_sim.proofs.Following.{range_below}
 use Rattle.event_sim.proofs.Near.{ready_near, reset_kept, not_offered}
@@ -198,7 +198,8 @@ near_wires x n c w readers are shared here = record {
   wires = λ m k d apart less is. by_case m k d apart less (shared.only k d less is);
 }
   where
-    parts : (m : ℕ) → is_among (readers ++ w.rails ++ w.ack ∷ []) m ≡ false → (is_among readers m ≡ false) × (is_among w.rails m ≡ false) × ((w.ack == m) ≡ false)
+    parts : (m : ℕ) → is_among (readers ++ w.rails ++ w.ack ∷ []) m ≡ false → (is_among readers m ≡ false) × (is_among w.rails m ≡ false)
+        × ((w.ack == m) ≡ false)
     parts m apart =
         let one = or_parts _ _ (sym (list_any-append (λ k. k == m) (readers ++ w.rails) (w.ack ∷ [])) ∙ apart) in
         let two = or_parts _ _ (sym (list_any-append (λ k. k == m) readers w.rails) ∙ one.0) in
@@ -313,7 +314,8 @@ ready_behind x was done before n m is other could = by_reset (in_reset x.net.res
     not_reset : in_reset x.net.reset (high (fired before n)) ≡ true → (b : Bool) → is_reset x.net.reset m ≡ b → b ≡ false
     not_reset on false e = refl
     not_reset on true e =
-        absurd (both_ways _ (unruled (rule_enabled x.net (high before) m) (free_at x was before m) (in_reset x.net.reset (high before)) (sym (reset_kept x.net.reset before n other) ∙ on)
+        absurd (both_ways _ (unruled (rule_enabled x.net (high before) m) (free_at x was before m) (in_reset x.net.reset (high before))
+            (sym (reset_kept x.net.reset before n other) ∙ on)
             (no_rule x.net (high before) m (reset_node x.net m is e))) could)
 
     by_reset : (b : Bool) → in_reset x.net.reset (high (fired before n)) ≡ b →
@@ -326,7 +328,7 @@ none_first count = sym (least_none count (λ k. false) (λ k less. refl))
 
 -- behind a move of another node than the reset node
 pub behind_near : (x : IndexedValue) (n : ℕ) (was done : List ℕ) (before values old new : List Bool) (lost : Option ℕ) → IsNet x.net → n < length x.net.first →
-    is_reset x.net.reset n ≡ false → IsMove x n was done before values old → IsRetestedNear x done values n old new lost →
+    is_reset x.net.reset n ≡ false → IsCountedMove x n was done before values old → IsRetestedNear x done values n old new lost →
     IsListedBehind x n was done before values new lost
 behind_near x n was done before values old new lost is within other move tested =
     subst (λ (vs : List Bool). IsRetestedNear x done vs n old new lost → IsListedBehind x n was done before vs new lost) (sym move.values_are) listed tested
@@ -417,7 +419,7 @@ no_wire net n w up is = or_from _ _ (ne_eqb n w.ack (λ e. both_ways (first_at n
 
 -- behind the move of the reset node nothing is lost, since nothing else could move
 pub behind_reset : (x : IndexedValue) (n : ℕ) (was done : List ℕ) (before values old new : List Bool) → IsNet x.net → is_reset x.net.reset n ≡ true →
-    IsMove x n was done before values old → IsPassing (length x.net.first) (is_ready x done values) new →
+    IsCountedMove x n was done before values old → IsPassing (length x.net.first) (is_ready x done values) new →
     IsListedBehind x n was done before values new None
 behind_reset x n was done before values old new is reset move passing = record {
   set_is = passing;
@@ -498,7 +500,8 @@ reset_waits x done values marks on some passing = record {
     going : rules_rest x.net (high values) ≡ false
     going =
         goes x.net (high values) one.0 (omega (arith, one.1, passing.count_is))
-            (ruled_there (rule_enabled x.net (high values) one.0) (free_at x done values one.0) (in_reset x.net.reset (high values)) on (sym (passing.each one.0 (omega (arith, one.1, passing.count_is))) ∙ one.2))
+            (ruled_there (rule_enabled x.net (high values) one.0) (free_at x done values one.0) (in_reset x.net.reset (high values)) on
+                (sym (passing.each one.0 (omega (arith, one.1, passing.count_is))) ∙ one.2))
 
 pub reset_falls : (x : IndexedValue) (done : List ℕ) (values marks : List Bool) (r : ℕ) → x.net.reset ≡ Some r → r < length x.net.first →
     high values r ≡ true → members marks ≡ [] → IsPassing (length x.net.first) (is_ready x done values) marks →
@@ -518,7 +521,8 @@ reset_falls x done values marks r is within up empty passing = record {
     unruled_there rule free b none = (or_parts rule (not b && free) none).0
 
     still : (n : ℕ) → n < length x.net.first → rule_enabled x.net (high values) n ≡ false
-    still n less = unruled_there (rule_enabled x.net (high values) n) (free_at x done values n) (in_reset x.net.reset (high values)) (sym (passing.each n less) ∙ out n less)
+    still n less = unruled_there (rule_enabled x.net (high values) n) (free_at x done values n) (in_reset x.net.reset (high values)) (sym (passing.each n less)
+        ∙ out n less)
 
     resting : rules_rest x.net (high values) ≡ true
     resting = every (length x.net.first) (λ n. not (rule_enabled x.net (high values) n)) (λ n less. not_from_false _ (still n less))

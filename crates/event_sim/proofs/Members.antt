@@ -10,7 +10,7 @@ use Rattle.std.proofs.lemmas.List.Sorted.{searched}
 use mathlib.Core.Bool.{beq}
 use borrow.Rule.Slice.PartMut.{put_mid, mid_of}
 use Rattle.std.proofs.lemmas.List.Elements.{filter_agree, filter_passes, All-filter}
-use Rattle.event_sim.specs.Locality.{is_member, members, IsPlace}
+use Rattle.event_sim.specs.Locality.{is_member, members, IsListPlace}
 use Rattle.event_sim.proofs.Lists.{passes_suc}
 use Rattle.event_sim.proofs.Following.{ascending, range_below}
 
@@ -30,7 +30,8 @@ none_below p (suc n) none =
 abbrev behind : (ℕ → Bool) → ℕ → ℕ → List ℕ
 behind p n count = filter (λ k. ltb n k && p k) (range_with_len 0 count)
 
-split : (p : ℕ → Bool) (n count : ℕ) → n < count → filter p (range_with_len 0 count) ≡ filter p (range_with_len 0 n) ++ (cond (p n) (n ∷ []) [] ++ behind p n count)
+split : (p : ℕ → Bool) (n count : ℕ) → n < count → filter p (range_with_len 0 count) ≡ filter p (range_with_len 0 n)
+    ++ (cond (p n) (n ∷ []) [] ++ behind p n count)
 split p n zero within = absurd (omega arith)
 split p n (suc m) within = by_place (cases_eq n m) (λ less. split p n m less)
   where
@@ -235,7 +236,8 @@ pulled_out xs part from place k n is within all turned =
 
     first : part ≡ x ∷ take place rest
     first = turned ∙ ap (λ (ys : List ℕ). drop place ys ++ take place ys) mid
-        ∙ ap (λ (ys : List ℕ). ys ++ take place (take place rest ++ x ∷ [])) (drop_at (take place rest) (x ∷ []) place (length-take-le place rest (omega (arith, left))))
+        ∙ ap (λ (ys : List ℕ). ys ++ take place (take place rest ++ x ∷ []))
+            (drop_at (take place rest) (x ∷ []) place (length-take-le place rest (omega (arith, left))))
         ∙ ap (λ (ys : List ℕ). x ∷ ys) (take_at (take place rest) (x ∷ []) place (length-take-le place rest (omega (arith, left))))
 
     made : put_mid from k xs part ≡ take from xs ++ x ∷ kept
@@ -252,12 +254,14 @@ was_member false true differ off = absurd (cc off)
 was_member false false differ off = absurd (cc differ)
 
 -- what a search of a whole list of members tells
-pub placed : (marks : List Bool) (list : List ℕ) (n : ℕ) (r : Result ℕ ℕ) → list ≡ members marks → IsBinarySearchResult (λ y. nat_cmp y n) list r → IsPlace list n r
+pub placed : (marks : List Bool) (list : List ℕ) (n : ℕ) (r : Result ℕ ℕ) → list ≡ members marks → IsBinarySearchResult (λ y. nat_cmp y n) list r →
+    IsListPlace list n r
 placed marks list n r are told = searched list n r told (rises_as marks list are)
 
 -- and one of its front, where the last node of the front isn't below
-pub placed_near : (marks : List Bool) (list front : List ℕ) (n k : ℕ) (r : Result ℕ ℕ) → list ≡ members marks → front ≡ take (k + 1) list → k + 1 < length list →
-    n ≤ get_or list k 0 → IsBinarySearchResult (λ y. nat_cmp y n) front r → IsPlace list n r
+pub placed_near : (marks : List Bool) (list front : List ℕ) (n k : ℕ) (r : Result ℕ ℕ) → list ≡ members marks → front ≡ take (k + 1) list →
+    k + 1 < length list →
+    n ≤ get_or list k 0 → IsBinarySearchResult (λ y. nat_cmp y n) front r → IsListPlace list n r
 placed_near marks list front n k r are is within above told = by_result r (searched front n r told order)
   where
     count : length front ≡ k + 1
@@ -277,7 +281,7 @@ placed_near marks list front n k r are is within above told = by_result r (searc
             (λ b. ascending (is_member marks) 0 (length marks) k j 0 less b) bound in
         omega arith
 
-    by_result : (r : Result ℕ ℕ) → IsPlace front n r → IsPlace list n r
+    by_result : (r : Result ℕ ℕ) → IsListPlace front n r → IsListPlace list n r
     by_result (Ok i) found = (omega (arith, found.0, count), sym (at i (omega (arith, found.0, count))) ∙ found.1)
     by_result (Err i) found =
         (omega (arith, found.0, count), λ j less. let under = found.1 j less in omega (arith, at j (omega (arith, found.0, count))),

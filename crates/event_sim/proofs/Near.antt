@@ -31,7 +31,8 @@ raises_among v value m (t ∷ f ∷ rest) apart =
 pub not_offered : (v : ℕ → Bool) (w : Wires) (offer : OfferValue) (done m : ℕ) → is_wire w m ≡ false → offer_moves v w offer done m ≡ false
 not_offered v w (gives values) done m apart = by_ack (slice_get values done) (v w.ack) (or_parts (m == w.ack) (list_any (λ rail. m == rail) w.rails) apart).1
   where
-    by_ack : (next : Option ℕ) (b : Bool) → list_any (λ rail. m == rail) w.rails ≡ false → (if b then lowers v w.rails m else raises_next v next w.rails m) ≡ false
+    by_ack : (next : Option ℕ) (b : Bool) → list_any (λ rail. m == rail) w.rails ≡ false →
+        (if b then lowers v w.rails m else raises_next v next w.rails m) ≡ false
     by_ack next true none = no_right (v m) _ none
       where
         no_right : (a b : Bool) → b ≡ false → (a && b) ≡ false
@@ -44,7 +45,8 @@ not_offered v w nothing done m apart = refl
 
 -- the test for a channel looks at its wires, at the node, and at the count of the channel
 
-raises_agree : (v u : ℕ → Bool) (value m : ℕ) (rails : List ℕ) → ((r : ℕ) → list_any (λ rail. r == rail) rails ≡ true → u r ≡ v r) → raises_value u value rails m ≡ raises_value v value rails m
+raises_agree : (v u : ℕ → Bool) (value m : ℕ) (rails : List ℕ) → ((r : ℕ) → list_any (λ rail. r == rail) rails ≡ true → u r ≡ v r) →
+    raises_value u value rails m ≡ raises_value v value rails m
 raises_agree v u value m [] agree = refl
 raises_agree v u value m (t ∷ []) agree = refl
 raises_agree v u value m (t ∷ f ∷ rest) agree =
@@ -52,7 +54,8 @@ raises_agree v u value m (t ∷ f ∷ rest) agree =
     let same_f : u f ≡ v f = agree f (or_right (f == t) _ (or_left _ _ (eq-eqb f f refl))) in
     rw (same_t, same_f, raises_agree v u (value / 2) m rest (λ r among. agree r (or_right (r == t) _ (or_right (r == f) _ among)))) refl
 
-value_agree : (v u : ℕ → Bool) (rails : List ℕ) → ((r : ℕ) → list_any (λ rail. r == rail) rails ≡ true → u r ≡ v r) → rail_value_of u rails ≡ rail_value_of v rails
+value_agree : (v u : ℕ → Bool) (rails : List ℕ) → ((r : ℕ) → list_any (λ rail. r == rail) rails ≡ true → u r ≡ v r) →
+    rail_value_of u rails ≡ rail_value_of v rails
 value_agree v u [] agree = refl
 value_agree v u (t ∷ []) agree = refl
 value_agree v u (t ∷ f ∷ rest) agree =
@@ -66,20 +69,24 @@ neutral_agree v u (t ∷ rest) agree =
     let same_t : u t ≡ v t = agree t (or_left _ _ (eq-eqb t t refl)) in
     rw (same_t, neutral_agree v u rest (λ r among. agree r (or_right (r == t) _ among))) refl
 
-offer_agree : (v u : ℕ → Bool) (w : Wires) (offer : OfferValue) (done m : ℕ) → u m ≡ v m → ((r : ℕ) → is_wire w r ≡ true → u r ≡ v r) → offer_moves u w offer done m ≡ offer_moves v w offer done m
+offer_agree : (v u : ℕ → Bool) (w : Wires) (offer : OfferValue) (done m : ℕ) → u m ≡ v m → ((r : ℕ) → is_wire w r ≡ true → u r ≡ v r) →
+    offer_moves u w offer done m ≡ offer_moves v w offer done m
 offer_agree v u w (gives values) done m own agree =
     rw (agree w.ack (or_left _ _ (eq-eqb w.ack w.ack refl))) (by_ack (slice_get values done) (v w.ack))
   where
-    by_ack : (next : Option ℕ) (b : Bool) → (if b then lowers u w.rails m else raises_next u next w.rails m) ≡ (if b then lowers v w.rails m else raises_next v next w.rails m)
+    by_ack : (next : Option ℕ) (b : Bool) → (if b then lowers u w.rails m else raises_next u next w.rails m) ≡
+        (if b then lowers v w.rails m else raises_next v next w.rails m)
     by_ack next true = ap (λ (b : Bool). b && list_any (λ rail. m == rail) w.rails) own
     by_ack None false = refl
     by_ack (Some value) false = raises_agree v u value m w.rails (λ r among. agree r (or_right (r == w.ack) _ among))
 offer_agree v u w (takes count) done m own agree =
-    rw (agree w.ack (or_left _ _ (eq-eqb w.ack w.ack refl)), value_agree v u w.rails (λ r among. agree r (or_right (r == w.ack) _ among)), neutral_agree v u w.rails (λ r among. agree r (or_right (r == w.ack) _ among))) refl
+    rw (agree w.ack (or_left _ _ (eq-eqb w.ack w.ack refl)), value_agree v u w.rails (λ r among. agree r (or_right (r == w.ack) _ among)),
+        neutral_agree v u w.rails (λ r among. agree r (or_right (r == w.ack) _ among))) refl
 offer_agree v u w nothing done m own agree = refl
 
 -- the count of a channel whose acknowledge isn't the node stays
-count_kept : (v : ℕ → Bool) (n c : ℕ) (ws : List Wires) (hs : List (List ℕ)) (k : ℕ) (w : Wires) → k < length ws → length hs ≡ length ws → (n == (get_or ws k w).ack) ≡ false → history_at (with_values v n ws hs) k ≡ history_at hs k
+count_kept : (v : ℕ → Bool) (n c : ℕ) (ws : List Wires) (hs : List (List ℕ)) (k : ℕ) (w : Wires) → k < length ws → length hs ≡ length ws →
+    (n == (get_or ws k w).ack) ≡ false → history_at (with_values v n ws hs) k ≡ history_at hs k
 count_kept v n c [] hs k w within same apart = absurd (omega arith)
 count_kept v n c (x ∷ ws) [] k w within same apart = absurd (omega arith)
 count_kept v n c (x ∷ ws) (h ∷ hs) zero w within same apart = rw apart refl
@@ -189,7 +196,8 @@ ready_near x was done before n m other apart unread shares counts =
         (λ i d less is. let same : 0 + i ≡ i = omega arith in rw same (shares i d less is))
         (λ i d less ack. let same : 0 + i ≡ i = omega arith in rw same (counts i d less ack)))))
 
-pub reset_kept : (reset : Option ℕ) (before : List Bool) (n : ℕ) → is_reset reset n ≡ false → in_reset reset (high (fired before n)) ≡ in_reset reset (high before)
+pub reset_kept : (reset : Option ℕ) (before : List Bool) (n : ℕ) → is_reset reset n ≡ false →
+    in_reset reset (high (fired before n)) ≡ in_reset reset (high before)
 reset_kept reset before n other = reset_near reset (high before) (high (fired before n)) n (fired_agree before n) other
 
 -- the law

@@ -14,7 +14,7 @@ use Rattle.env_script.specs.Runs.{RunState, moved, move_enabled, completed, hist
 use Rattle.env_script.specs.Hazards.{least_below, or_else, takes_away, first_hazard, hazard_of}
 use Rattle.env_script.specs.declared.hazard.Hazard.TheVariants.{BothWays, Unstable, Protocol}
 use Rattle.event_sim.specs.Following.{enabled_moves}
-use Rattle.event_sim.specs.Locality.{IndexedValue, has_move, is_member, members, IsPassing, IsMove, lost_by}
+use Rattle.event_sim.specs.Locality.{IndexedValue, has_move, is_member, members, IsPassing, IsCountedMove, lost_by}
 use Rattle.event_sim.specs.Stages.{worst_cause}
 use Rattle.event_sim.proofs.Lists.{least_agrees, first_is_least}
 use Rattle.event_sim.proofs.Behind.{least_absent}
@@ -55,7 +55,8 @@ passing_same net script st done marks counted passing = record {
 }
 
 -- the list of the set is that of the definition
-pub listed_same : (net : NetValue) (script : List OfferValue) (st : RunState) (marks : List Bool) → IsPassing (length net.first) (move_enabled net script st) marks →
+pub listed_same : (net : NetValue) (script : List OfferValue) (st : RunState) (marks : List Bool) →
+    IsPassing (length net.first) (move_enabled net script st) marks →
     members marks ≡ enabled_moves net script st
 listed_same net script st marks passing =
     ap (λ count. filter (is_member marks) (range_with_len 0 count)) passing.count_is
@@ -65,7 +66,7 @@ listed_same net script st marks passing =
 pub move_is : (x : IndexedValue) (st : RunState) (n : ℕ) (was done : List ℕ) (old : List Bool) → was ≡ map (λ (h : List ℕ). length h) st.histories →
     done ≡ map (λ (h : List ℕ). length h) (histories_after x.net st n) → length st.histories ≡ length x.net.channels → length st.values ≡ length x.net.first →
     IsPassing (length x.net.first) (move_enabled x.net x.script st) old → move_enabled x.net x.script st n ≡ true →
-    IsMove x n was done st.values (fired st.values n) old
+    IsCountedMove x n was done st.values (fired st.values n) old
 move_is x st n was done old counted counted_then whole count passing enabled = record {
   set_is = record {
     count_is = passing.count_is;
@@ -95,7 +96,8 @@ worst_is None None None = refl
 
 -- the hazard by its three tests
 pub hazard_is : (net : NetValue) (script : List OfferValue) (st : RunState) (n : ℕ) (pulled lost broken : Option ℕ) →
-    pulled ≡ least_below (length net.first) (both_ways net (high (moved net st n).values)) → lost ≡ least_below (length net.first) (takes_away net script st n) →
+    pulled ≡ least_below (length net.first) (both_ways net (high (moved net st n).values)) →
+        lost ≡ least_below (length net.first) (takes_away net script st n) →
     broken ≡ phase_fault net (high st.values) n → worst_cause pulled lost broken ≡ hazard_of net script st n
 hazard_is net script st n pulled lost broken torn taken keeps = rw (torn, taken, keeps) (worst_is _ _ _)
 
@@ -106,7 +108,8 @@ first_is net st (Some k) torn = ap (option_map BothWays) torn
 
 -- only readers of the node can come to be pulled both ways
 pub pulled_is : (net : NetValue) (before : List Bool) (n : ℕ) → None ≡ least_below (length net.first) (both_ways net (high before)) →
-    find (both_ways net (high (fired before n))) (readers_below net (length net.first) n) ≡ least_below (length net.first) (both_ways net (high (fired before n)))
+    find (both_ways net (high (fired before n))) (readers_below net (length net.first) n) ≡
+        least_below (length net.first) (both_ways net (high (fired before n)))
 pulled_is net before n none =
     first_is_least (reads net n) (both_ways net (high (fired before n))) (length net.first)
         ∙ least_agrees (length net.first) _ _ (λ k less. by_reading k less (reads net n k) refl)

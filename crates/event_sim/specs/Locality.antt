@@ -43,7 +43,7 @@ pub record IndexedValue : Type 0 where
   pub script : List OfferValue
 
 -- its index: for each node its readers, and its channel
-pub record IsIndexed (x : IndexedValue) (fan : List (List ℕ)) (homes : List (Option ℕ)) : Type 0 where
+pub record IsNetIndex (x : IndexedValue) (fan : List (List ℕ)) (homes : List (Option ℕ)) : Type 0 where
   pub net : IsNet x.net
   pub script : IsScript (net_channels x.net) x.script
   pub fan_is : fan ≡ fan_value x.net
@@ -71,8 +71,8 @@ abbrev pub members : List Bool → List ℕ
 members marks = filter (is_member marks) (range_with_len 0 (length marks))
 
 -- the node stands at this place of the list, or would stand there
-abbrev pub IsPlace : List ℕ → ℕ → Result ℕ ℕ → Type 0
-IsPlace list n r = MatchResult r
+abbrev pub IsListPlace : List ℕ → ℕ → Result ℕ ℕ → Type 0
+IsListPlace list n r = MatchResult r
     (λ i. (i < length list) × (slice_index_or list i 0 ≡ n))
     (λ i. (i ≤ length list) × ((k : ℕ) → k < i → slice_index_or list k 0 < n)
     × ((k : ℕ) → i ≤ k → k < length list → n < slice_index_or list k 0))
@@ -91,8 +91,8 @@ pub record IsPassing (count : ℕ) (passes : ℕ → Bool) (marks : List Bool) :
   pub count_is : length marks ≡ count
   pub each : (n : ℕ) → n < count → is_member marks n ≡ passes n
 
--- These nodes were tested again. The least one that is lost was the least of those that f tells, and is now the least of
--- these and of the nodes that were in the set and don't pass any more.
+-- These nodes were tested again. The least one that is lost was the least of those that f tells, and is now the least
+-- of these and of the nodes that were in the set and don't pass any more.
 pub record IsRetested (passes : ℕ → Bool) (nodes : List ℕ) (old new : List Bool) (before now : Option ℕ) : Type 0 where
   pub count_is : length new ≡ length old
   pub each : (n : ℕ) → n < length old →
@@ -121,7 +121,7 @@ pub record IsRetestedNear (x : IndexedValue) (done : List ℕ) (values : List Bo
   pub retested : IsRetested (is_ready x done values) nodes (slice_set old n (is_ready x done values n)) new None lost
 
 -- a move of the node from values, counts and a set of moves to values and counts
-pub record IsMove (x : IndexedValue) (n : ℕ) (was done : List ℕ) (before values old : List Bool) : Type 0 where
+pub record IsCountedMove (x : IndexedValue) (n : ℕ) (was done : List ℕ) (before values old : List Bool) : Type 0 where
   pub set_is : IsPassing (length x.net.first) (has_move x.net x.script was before) old
   pub enabled : has_move x.net x.script was before n ≡ true
   pub count_is : length before ≡ length x.net.first

@@ -28,13 +28,13 @@ pub(crate) struct IndexedNet {
 }
 
 impl Model for IndexedNet {
-    ghost use Rattle.event_sim.specs.Locality.{IndexedValue, IsIndexed};
+    ghost use Rattle.event_sim.specs.Locality.{IndexedValue, IsNetIndex};
 
     ghost Value = { IndexedValue };
 
     ghost view = { λ x. record { net = x.net; script = x.script } };
 
-    ghost invariant = { λ x. IsIndexed (record { net = x.net; script = x.script }) x.fan x.homes.items };
+    ghost invariant = { λ x. IsNetIndex (record { net = x.net; script = x.script }) x.fan x.homes.items };
 }
 
 /// Whether the environment has no part in the channel of this offer.

@@ -1,7 +1,7 @@
 //! The set of the nodes that have a move, kept from move to move.
 
 ghost use Rattle.std.specs.Prelude.{◌≡◌, ℕ, ◌<◌, not, ◌&&◌, if◌then◌else◌, List, Bool, All, length};
-ghost use Rattle.event_sim.specs.Locality.{has_move, is_ready, lesser, IsPassing, IsRetested, IsRetestedNear, IsMove, IsListedBehind, IsRelisted};
+ghost use Rattle.event_sim.specs.Locality.{has_move, is_ready, lesser, IsPassing, IsRetested, IsRetestedNear, IsCountedMove, IsListedBehind, IsRelisted};
 
 use crate::indexed::IndexedNet;
 use crate::moves::is_reset;
@@ -99,7 +99,8 @@ pub(crate) fn add_reset(indexed: &IndexedNet, state: &State, moves: &mut NodeSet
     requires moves { length moves.old ≡ length indexed.now.net.first }
     ensures { (done : List ℕ)
         → IsPassing (length indexed.now.net.first) (is_ready indexed.now done state.now) moves.old
-        → IsPassing (length indexed.now.net.first) (has_move indexed.now.net indexed.now.script done state.now) moves.new }
+        → IsPassing (length indexed.now.net.first) (has_move indexed.now.net indexed.now.script done state.now)
+            moves.new }
 {
     match indexed.net().reset() {
         None => {}
@@ -126,7 +127,7 @@ fn retest_behind(
     requires node { node < length indexed.now.net.first }
     ensures count { length moves.new ≡ length moves.old }
     ensures listed { (was : List ℕ) (before : List Bool)
-        → IsMove indexed.now node was done.now before state.now moves.old
+        → IsCountedMove indexed.now node was done.now before state.now moves.old
         → IsListedBehind indexed.now node was done.now before state.now moves.new result }
 {
     if is_reset(indexed.net(), node) {
@@ -149,7 +150,7 @@ pub(crate) fn relist(
     requires moves { length moves.old ≡ length indexed.now.net.first }
     requires node { node < length indexed.now.net.first }
     ensures { (was : List ℕ) (before : List Bool)
-        → IsMove indexed.now node was done.now before state.now moves.old
+        → IsCountedMove indexed.now node was done.now before state.now moves.old
         → IsRelisted indexed.now node was done.now before state.now moves.new result }
 {
     let lost = retest_behind(indexed, done, state, node, moves);

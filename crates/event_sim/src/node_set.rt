@@ -3,7 +3,7 @@
 ghost use Rattle.std.specs.Prelude.{◌≡◌, ◌<◌, ◌≤◌, ◌+◌, ◌-◌, ◌^◌, List, Bool, true, false, length, drop, replicate, slice_set, vec_len, IfOk};
 ghost use Rattle.std.specs.List.{insert, remove};
 ghost use Rattle.std.specs.List.Sorted.{IsSearchInRange};
-ghost use Rattle.event_sim.specs.Locality.{is_member, members, IsPlace};
+ghost use Rattle.event_sim.specs.Locality.{is_member, members, IsListPlace};
 
 use std::alloc::{AllocError, Global};
 use std::marker::Model;
@@ -63,7 +63,7 @@ fn list_from(slots: &[u32], from: usize) -> &[u32]
 /// mostly near the front.
 fn place_in(list: &[u32], node: u32) -> Result<usize, usize>
     ensures within { IsSearchInRange result (length list.now) }
-    ensures place { (marks : List Bool) → list.now ≡ members marks → IsPlace list.now node result }
+    ensures place { (marks : List Bool) → list.now ≡ members marks → IsListPlace list.now node result }
 {
     if list.len() > NEAR && node <= list[NEAR - 1] {
         return list[..NEAR].binary_search(&node);

@@ -47,7 +47,8 @@ returns-in-Some c =
     record {
       nodes = readers ++ w.rails ++ w.ack ∷ [];
       near = near_wires x n k w readers c.readers.ensures c.in-Some.ensures here;
-      retested = retested_more ready (readers ++ w.rails) (w.ack ∷ []) (set c.args.moves.now n (ready n)) c.retest-lost-in-Some.new.moves c.retest.new.moves None
+      retested = retested_more ready (readers ++ w.rails) (w.ack ∷ []) (set c.args.moves.now n (ready n)) c.retest-lost-in-Some.new.moves c.retest.new.moves
+          None
           c.retest-lost-in-Some.result c.retest.result
           (retested_more ready readers w.rails (set c.args.moves.now n (ready n)) c.retest-lost.new.moves c.retest-lost-in-Some.new.moves None
           c.retest-lost.result c.retest-lost-in-Some.result first second) c.retest.ensures;

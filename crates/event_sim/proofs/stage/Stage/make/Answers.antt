@@ -6,7 +6,7 @@ use Rattle.prs_core.specs.Moves.{high, both_ways, fired}
 use Rattle.env_script.specs.Runs.{RunState, moved, move_enabled, histories_after}
 use Rattle.env_script.specs.Hazards.{least_below}
 use Rattle.event_sim.specs.Passing.{channel_histories, values_through}
-use Rattle.event_sim.specs.Locality.{IsMove, IsRelisted}
+use Rattle.event_sim.specs.Locality.{IsCountedMove, IsRelisted}
 use Rattle.event_sim.specs.Stages.{StageValue, now_of}
 use Rattle.event_sim.proofs.Passed.{completion_within}
 use Rattle.event_sim.proofs.Histories.{counts_themselves, counts_whole, passed_within, histories_more}
@@ -46,10 +46,11 @@ invariant_of-self c =
     let enabled : move_enabled x.net x.script st n ≡ true =
         subst (λ (v : StageValue). move_enabled v.net v.script (now_of v) n ≡ true) (sym c.self.view_is) c.requires.enabled in
     let move = move_is x st n s.done.items c.deref.result.now s.moves c.self.invariant.counts_are
-        (c.deref.ensures.value ∙ counts ∙ ap (map (λ (h : List ℕ). length h)) later) (length-map-range_with_len (λ k. values_through k s.passed.items) 0 channels)
+        (c.deref.ensures.value ∙ counts ∙ ap (map (λ (h : List ℕ). length h)) later)
+            (length-map-range_with_len (λ k. values_through k s.passed.items) 0 channels)
         c.self.invariant.values c.self.invariant.moves_are enabled in
     let relisted = c.relist-lost.ensures s.done.items s.state
-        (subst (λ (vs : List Bool). IsMove x n s.done.items c.deref.result.now s.state vs s.moves) (sym c.fire.ensures) move) in
+        (subst (λ (vs : List Bool). IsCountedMove x n s.done.items c.deref.result.now s.state vs s.moves) (sym c.fire.ensures) move) in
     let now : RunState = record { values = c.fire.new.state; histories = channel_histories channels c.note.new.passed.items } in
     record {
       net = c.self.invariant.net;
@@ -91,7 +92,7 @@ returns-clause-hazard c =
     let move = move_is x st n s.done.items c.deref.result.now s.moves c.self.invariant.counts_are counted_then
         (length-map-range_with_len (λ k. values_through k s.passed.items) 0 channels) c.self.invariant.values c.self.invariant.moves_are enabled in
     let relisted = c.relist-lost.ensures s.done.items s.state
-        (subst (λ (vs : List Bool). IsMove x n s.done.items c.deref.result.now s.state vs s.moves) (sym c.fire.ensures) move) in
+        (subst (λ (vs : List Bool). IsCountedMove x n s.done.items c.deref.result.now s.state vs s.moves) (sym c.fire.ensures) move) in
     let there : IsRelisted x n s.done.items c.deref.result.now s.state (fired s.state n) c.relist-lost.new.moves c.relist-lost.result =
         subst (λ (vs : List Bool). IsRelisted x n s.done.items c.deref.result.now s.state vs c.relist-lost.new.moves c.relist-lost.result)
         c.fire.ensures relisted in
