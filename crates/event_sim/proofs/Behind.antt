@@ -53,7 +53,7 @@ least_with count n f within = by_first (least_below count f) refl
     by_first : (o : Option ℕ) → least_below count f ≡ o → lesser o n ≡ least_below count (λ k. f k || (k == n))
     by_first None is =
         sym (least_some count n (λ k. f k || (k == n)) within (or_right _ _ (eq-eqb n n refl))
-            (λ j less. or_from _ _ (least_absent count f is j (omega arith)) (ne_eqb j n (omega arith))))
+        (λ j less. or_from _ _ (least_absent count f is j (omega arith)) (ne_eqb j n (omega arith))))
     by_first (Some k) is = by_order (cases_lt k n)
       where
         found : (k < count) × (f k ≡ true) × ((j : ℕ) → j < k → f j ≡ false)
@@ -62,12 +62,12 @@ least_with count n f within = by_first (least_below count f) refl
         by_order : (k < n) ⊎ (n ≤ k) → (if nat_lt k n then Some k else Some n) ≡ least_below count (λ j. f j || (j == n))
         by_order (inl less) =
             ap (λ b. cond b (Some k) (Some n)) (lt-ltb k n less)
-                ∙ sym (least_some count k (λ j. f j || (j == n)) found.0 (or_left _ _ found.1)
-                (λ j before. or_from _ _ (found.2 j before) (ne_eqb j n (omega arith))))
+            ∙ sym (least_some count k (λ j. f j || (j == n)) found.0 (or_left _ _ found.1)
+            (λ j before. or_from _ _ (found.2 j before) (ne_eqb j n (omega arith))))
         by_order (inr past) =
             ap (λ b. cond b (Some k) (Some n)) (le-ltb k n past)
-                ∙ sym (least_some count n (λ j. f j || (j == n)) within (or_right _ _ (eq-eqb n n refl))
-                (λ j before. or_from _ _ (found.2 j (omega arith)) (ne_eqb j n (omega arith))))
+            ∙ sym (least_some count n (λ j. f j || (j == n)) within (or_right _ _ (eq-eqb n n refl))
+            (λ j before. or_from _ _ (found.2 j (omega arith)) (ne_eqb j n (omega arith))))
 
 -- nodes that are tested again, one after the other
 
@@ -132,7 +132,7 @@ retested_one passes n old new before now ready within is made told = record {
     by_place : (m : ℕ) → (m ≡ n) ⊎ (m ≡ n → ⊥) → is_member (set old n ready) m ≡ (if (n == m) || false then passes m else is_member old m)
     by_place m (inl same) =
         ap (λ k. is_member (set old n ready) k) same ∙ get_or-set_same old n ready false within ∙ is
-            ∙ sym (ap (λ b. cond (b || false) (passes m) (is_member old m)) (eq-eqb n m (sym same)) ∙ ap passes same)
+        ∙ sym (ap (λ b. cond (b || false) (passes m) (is_member old m)) (eq-eqb n m (sym same)) ∙ ap passes same)
     by_place m (inr apart) =
         get_or-set_other old n m ready false apart ∙ sym (ap (λ b. cond (b || false) (passes m) (is_member old m)) (ne_eqb n m (λ e. apart (sym e))))
 
@@ -143,8 +143,8 @@ retested_one passes n old new before now ready within is made told = record {
         by_same : (k ≡ n) ⊎ (k ≡ n → ⊥) → (b && (k == n)) ≡ (((n == k) || false) && (is_member old k && not (passes k)))
         by_same (inl same) =
             ap (λ t. b && t) (eq-eqb k n same) ∙ and_true b ∙ sym gone ∙ ap (λ t. is_member old n && not t) is
-                ∙ ap (λ j. is_member old j && not (passes j)) (sym same)
-                ∙ sym (ap (λ t. (t || false) && (is_member old k && not (passes k))) (eq-eqb n k (sym same)))
+            ∙ ap (λ j. is_member old j && not (passes j)) (sym same)
+            ∙ sym (ap (λ t. (t || false) && (is_member old k && not (passes k))) (eq-eqb n k (sym same)))
           where
             and_true : (a : Bool) → (a && true) ≡ a
             and_true true = refl
@@ -157,10 +157,10 @@ retested_one passes n old new before now ready within is made told = record {
         && (is_member old k && not (passes k))))
     by_gone f e true gone =
         ap (λ b. cond b (lesser before n) before) gone ∙ ap (λ o. lesser o n) e ∙ least_with (length old) n f within
-            ∙ least_agrees (length old) _ _ (λ k less. tested f k true gone)
+        ∙ least_agrees (length old) _ _ (λ k less. tested f k true gone)
     by_gone f e false gone =
         ap (λ b. cond b (lesser before n) before) gone ∙ e
-            ∙ least_agrees (length old) _ _ (λ k less. or_nothing (f k) ∙ tested f k false gone)
+        ∙ least_agrees (length old) _ _ (λ k less. or_nothing (f k) ∙ tested f k false gone)
       where
         or_nothing : (b : Bool) → b ≡ (b || false)
         or_nothing true = refl
@@ -213,7 +213,7 @@ near_wires x n c w readers are shared here = record {
     by_case m k d apart less (inl none) = inl none
     by_case m k d apart less (inr e) =
         let at : get_or x.net.channels k d ≡ w =
-            get_or_default x.net.channels k d w less ∙ ap (λ j. get_or x.net.channels j w) (sym (same_of k e)) ∙ sym here in
+        get_or_default x.net.channels k d w less ∙ ap (λ j. get_or x.net.channels j w) (sym (same_of k e)) ∙ sym here in
         let all = parts m apart in
         inr (ap (λ (v : Wires). is_wire v m) at ∙ or_from _ _ (ne_eqb m w.ack (λ same. eqb-false w.ack m all.2 (sym same))) (turned m w.rails all.1))
 
@@ -287,13 +287,13 @@ ready_off : (x : IndexedValue) (done : List ℕ) (values : List Bool) (m : ℕ) 
     has_move x.net x.script done values m ≡ is_ready x done values m
 ready_off x done values m off =
     same_off (rule_enabled x.net (high values) m) (is_reset x.net.reset m) (rules_rest x.net (high values)) (free_at x done values m)
-        (in_reset x.net.reset (high values)) off
+    (in_reset x.net.reset (high values)) off
 
 ready_on : (x : IndexedValue) (done : List ℕ) (values : List Bool) (m : ℕ) → in_reset x.net.reset (high values) ≡ true →
     (is_reset x.net.reset m && rules_rest x.net (high values)) ≡ false → has_move x.net x.script done values m ≡ is_ready x done values m
 ready_on x done values m on none =
     same_on (rule_enabled x.net (high values) m) (is_reset x.net.reset m) (rules_rest x.net (high values)) (free_at x done values m)
-        (in_reset x.net.reset (high values)) on none
+    (in_reset x.net.reset (high values)) on none
 
 -- before the move of another node than the reset node
 ready_before : (x : IndexedValue) (was : List ℕ) (before : List Bool) (n m : ℕ) → n < length x.net.first → is_reset x.net.reset n ≡ false →
@@ -315,8 +315,8 @@ ready_behind x was done before n m is other could = by_reset (in_reset x.net.res
     not_reset on false e = refl
     not_reset on true e =
         absurd (both_ways _ (unruled (rule_enabled x.net (high before) m) (free_at x was before m) (in_reset x.net.reset (high before))
-            (sym (reset_kept x.net.reset before n other) ∙ on)
-            (no_rule x.net (high before) m (reset_node x.net m is e))) could)
+        (sym (reset_kept x.net.reset before n other) ∙ on)
+        (no_rule x.net (high before) m (reset_node x.net m is e))) could)
 
     by_reset : (b : Bool) → in_reset x.net.reset (high (fired before n)) ≡ b →
         has_move x.net x.script done (fired before n) m ≡ is_ready x done (fired before n) m
@@ -364,7 +364,7 @@ behind_near x n was done before values old new lost is within other move tested 
         same : (m : ℕ) → m < length x.net.first → m ≢ n → is_among tested.nodes m ≡ false → Q m ≡ P m
         same m less apart out =
             ready_near x was done before n m other apart (tested.near.readers m less out) (λ c d less is. tested.near.wires m c d out less is) move.counts_are
-                ∙ sym (ready_before x was before n m within other move.enabled)
+            ∙ sym (ready_before x was before n m within other move.enabled)
 
         based : (m : ℕ) → m < length x.net.first → m ≢ n → is_member (set old n (Q n)) m ≡ P m
         based m less apart = get_or-set_other old n m (Q n) false apart ∙ move.set_is.each m less
@@ -389,18 +389,18 @@ behind_near x n was done before values old new lost is within other move tested 
             (false || (is_among tested.nodes m && (is_member (set old n (Q n)) m && not (Q m)))) ≡ (not (m == n) && (P m && not (H m)))
         taken m less b in_them (inl e) =
             and_right _ _ (ap (λ k. is_member (set old n (Q n)) k && not (Q k)) e
-                ∙ ap (λ t. t && not (Q n)) (get_or-set_same old n (Q n) false (omega (arith, move.set_is.count_is))) ∙ never (Q n))
-                ∙ sym (and_left _ _ (not_from_true _ (eq-eqb m n e)))
+            ∙ ap (λ t. t && not (Q n)) (get_or-set_same old n (Q n) false (omega (arith, move.set_is.count_is))) ∙ never (Q n))
+            ∙ sym (and_left _ _ (not_from_true _ (eq-eqb m n e)))
           where
             never : (t : Bool) → (t && not t) ≡ false
             never true = refl
             never false = refl
         taken m less true in_them (inr apart) =
             ap (λ t. t && (is_member (set old n (Q n)) m && not (Q m))) in_them ∙ ap (λ t. t && not (Q m)) (based m less apart) ∙ still m less (P m) refl
-                ∙ sym (ap (λ t. not t && (P m && not (H m))) (ne_eqb m n apart))
+            ∙ sym (ap (λ t. not t && (P m && not (H m))) (ne_eqb m n apart))
         taken m less false out (inr apart) =
             ap (λ t. t && (is_member (set old n (Q n)) m && not (Q m))) out ∙ sym (and_right _ _ (sym (still m less (P m) refl)
-                ∙ ap (λ t. P m && not t) (same m less apart out) ∙ never (P m)))
+            ∙ ap (λ t. P m && not t) (same m less apart out) ∙ never (P m)))
           where
             never : (t : Bool) → (t && not t) ≡ false
             never true = refl
@@ -415,7 +415,7 @@ no_wire net n w up is = or_from _ _ (ne_eqb n w.ack (λ e. both_ways (first_at n
     no_rail [] low = refl
     no_rail (r ∷ rails) low =
         or_from _ _ (ne_eqb n r (λ e. both_ways (first_at net n) (ap (first_at net) e ∙ low 0 0 (omega arith)) up))
-            (no_rail rails (λ k d less. low (suc k) d (omega arith)))
+        (no_rail rails (λ k d less. low (suc k) d (omega arith)))
 
 -- behind the move of the reset node nothing is lost, since nothing else could move
 pub behind_reset : (x : IndexedValue) (n : ℕ) (was done : List ℕ) (before values old new : List Bool) → IsNet x.net → is_reset x.net.reset n ≡ true →
@@ -465,8 +465,8 @@ behind_reset x n was done before values old new is reset move passing = record {
     none m less (inl e) = and_left _ _ (not_from_true _ (eq-eqb m n e))
     none m less (inr apart) =
         and_right _ _ (and_left _ _ (unmoved (rule_enabled x.net v m) (in_reset x.net.reset v) (is_reset x.net.reset m)
-            (rules_rest x.net v) (free_at x was before m)
-            (not-true _ (all_at (length x.net.first) m (λ k. not (rule_enabled x.net v k)) resting.1 less)) resting.0 (other_reset m apart)))
+        (rules_rest x.net v) (free_at x was before m)
+        (not-true _ (all_at (length x.net.first) m (λ k. not (rule_enabled x.net v k)) resting.1 less)) resting.0 (other_reset m apart)))
 
 -- the reset node's own move
 
@@ -478,9 +478,11 @@ reset_low x done values marks off passing = record {
 }
 
 not_empty : (marks : List Bool) → 0 < length (members marks) → (k : ℕ) × (k < length marks) × (is_member marks k ≡ true)
-not_empty marks some =
-    (get_or (members marks) 0 0, All-filter (is_member marks) (λ k. k < length marks) (range_with_len 0 (length marks)) (range_below (length marks)) 0 0 some,
-        filter_passes (is_member marks) (range_with_len 0 (length marks)) 0 0 some)
+not_empty marks some = (
+  get_or (members marks) 0 0,
+  All-filter (is_member marks) (λ k. k < length marks) (range_with_len 0 (length marks)) (range_below (length marks)) 0 0 some,
+  filter_passes (is_member marks) (range_with_len 0 (length marks)) 0 0 some,
+)
 
 pub reset_waits : (x : IndexedValue) (done : List ℕ) (values marks : List Bool) → in_reset x.net.reset (high values) ≡ true → 0 < length (members marks) →
     IsPassing (length x.net.first) (is_ready x done values) marks → IsPassing (length x.net.first) (has_move x.net x.script done values) marks
@@ -500,8 +502,8 @@ reset_waits x done values marks on some passing = record {
     going : rules_rest x.net (high values) ≡ false
     going =
         goes x.net (high values) one.0 (omega (arith, one.1, passing.count_is))
-            (ruled_there (rule_enabled x.net (high values) one.0) (free_at x done values one.0) (in_reset x.net.reset (high values)) on
-                (sym (passing.each one.0 (omega (arith, one.1, passing.count_is))) ∙ one.2))
+        (ruled_there (rule_enabled x.net (high values) one.0) (free_at x done values one.0) (in_reset x.net.reset (high values)) on
+        (sym (passing.each one.0 (omega (arith, one.1, passing.count_is))) ∙ one.2))
 
 pub reset_falls : (x : IndexedValue) (done : List ℕ) (values marks : List Bool) (r : ℕ) → x.net.reset ≡ Some r → r < length x.net.first →
     high values r ≡ true → members marks ≡ [] → IsPassing (length x.net.first) (is_ready x done values) marks →
@@ -541,7 +543,7 @@ reset_falls x done values marks r is within up empty passing = record {
     by_place : (n : ℕ) → n < length x.net.first → (n ≡ r) ⊎ (n ≡ r → ⊥) → is_member (set marks r true) n ≡ has_move x.net x.script done values n
     by_place n less (inl e) =
         ap (λ k. is_member (set marks r true) k) e ∙ get_or-set_same marks r true false (omega (arith, passing.count_is))
-            ∙ sym (ap (λ o. is_reset o n) is ∙ eq-eqb n r e) ∙ moves n less
+        ∙ sym (ap (λ o. is_reset o n) is ∙ eq-eqb n r e) ∙ moves n less
     by_place n less (inr apart) =
         get_or-set_other marks r n true false apart ∙ out n less ∙ sym (ap (λ o. is_reset o n) is ∙ ne_eqb n r apart) ∙ moves n less
 

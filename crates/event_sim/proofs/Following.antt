@@ -48,7 +48,7 @@ passed_more net st [] n = append_nil (option_to_list (completion net (high st.va
     append_nil (x ∷ xs) = ap (λ (ys : List (ℕ × ℕ)). x ∷ ys) (append_nil xs)
 passed_more net st (m ∷ ns) n =
     ap (λ (ys : List (ℕ × ℕ)). option_to_list (completion net (high st.values) m) ++ ys) (passed_more net (moved net st m) ns n)
-        ∙ sym (append_assoc (option_to_list (completion net (high st.values) m)) (passed_in net (moved net st m) ns) _)
+    ∙ sym (append_assoc (option_to_list (completion net (high st.values) m)) (passed_in net (moved net st m) ns) _)
 
 -- what stands in the list is enabled
 pub enabled_at : (net : NetValue) (script : List OfferValue) (st : RunState) (p : ℕ) → p < length (enabled_moves net script st) →

@@ -41,14 +41,14 @@ rails_of channel [] = All-nil (IsOf channel)
 rails_of channel (bit ∷ bits) =
     let rest : List (List ℕ) = flat_map (λ b. true_rail channel b ∷ false_rail channel b ∷ []) bits in
     All-cons (IsOf channel) (true_rail channel bit) (false_rail channel bit ∷ rest) (of_rail channel bit)
-        (All-cons (IsOf channel) (false_rail channel bit) rest (of_other channel bit) (rails_of channel bits))
+    (All-cons (IsOf channel) (false_rail channel bit) rest (of_other channel bit) (rails_of channel bits))
 
 among_of : (net : NetValue) (channel : List ℕ) (n : ℕ) (rails : List ℕ) → All (IsOf channel) (map (name_at net) rails) →
     list_any (λ rail. n == rail) rails ≡ true → IsOf channel (name_at net n)
 among_of net channel n [] all among = absurd (cc among)
 among_of net channel n (r ∷ rails) all among =
     by_case (or_cases (n == r) (list_any (λ rail. n == rail) rails) among)
-        (λ later. among_of net channel n rails (All-tail (IsOf channel) (name_at net r) (map (name_at net) rails) all) later)
+    (λ later. among_of net channel n rails (All-tail (IsOf channel) (name_at net r) (map (name_at net) rails) all) later)
   where
     by_case : ((n == r) ≡ true) ⊎ (list_any (λ rail. n == rail) rails ≡ true) → (list_any (λ rail. n == rail) rails ≡ true → IsOf channel (name_at net n)) →
         IsOf channel (name_at net n)
@@ -60,10 +60,10 @@ wire_of : (net : NetValue) (w : Wires) (n : ℕ) → IsChannel net w → is_wire
 wire_of net w n is wire = by_case (or_cases (n == w.ack) (list_any (λ rail. n == rail) w.rails) wire)
   where
     by_case : ((n == w.ack) ≡ true) ⊎ (list_any (λ rail. n == rail) w.rails ≡ true) → IsOf w.channel.name (name_at net n)
-    by_case (inl ack) = record { rest = codes "a"; is = ap (name_at net) (eqb-true n w.ack ack) ∙ is.ack; }
+    by_case (inl ack) = record { rest = codes "a"; is = ap (name_at net) (eqb-true n w.ack ack) ∙ is.ack }
     by_case (inr rail) =
         among_of net w.channel.name n w.rails (subst (λ (names : List (List ℕ)). All (IsOf w.channel.name) names) (sym is.rails)
-            (rails_of w.channel.name (range_with_len 0 w.channel.width))) rail
+        (rails_of w.channel.name (range_with_len 0 w.channel.width))) rail
 
 -- a name without a dot is what stands before the first one
 same_front : (xs ys rest more : List ℕ) → list_all word_part xs ≡ true → list_all word_part ys ≡ true → xs ++ 46 ∷ rest ≡ ys ++ 46 ∷ more → xs ≡ ys
@@ -77,7 +77,7 @@ same_front (x ∷ xs) [] rest more one two same =
 same_front (x ∷ xs) (y ∷ ys) rest more one two same =
     let first : x ≡ y = ap (λ (zs : List ℕ). get_or zs 0 0) same in
     let others : xs ≡ ys = same_front xs ys rest more (and_parts (word_part x) (list_all word_part xs) one).1
-        (and_parts (word_part y) (list_all word_part ys) two).1 (ap tail same) in
+    (and_parts (word_part y) (list_all word_part ys) two).1 (ap tail same) in
     ap (λ k. k ∷ xs) first ∙ ap (λ (zs : List ℕ). y ∷ zs) others
   where
     tail : List ℕ → List ℕ
@@ -94,7 +94,7 @@ wire_apart net is i j n d less within one two =
     let of_v : IsOf v.channel.name (name_at net n) = wire_of net v n is_v one in
     let of_w : IsOf w.channel.name (name_at net n) = wire_of net w n is_w two in
     is.channels_distinct i j d less within
-        (same_front v.channel.name w.channel.name of_v.rest of_w.rest is_v.name.parts is_w.name.parts (sym of_v.is ∙ of_w.is))
+    (same_front v.channel.name w.channel.name of_v.rest of_w.rest is_v.name.parts is_w.name.parts (sym of_v.is ∙ of_w.is))
 
 -- a node is a wire of one channel at most
 pub one_home : (net : NetValue) → IsNet net → (i j n : ℕ) (d : Wires) → i < length net.channels → j < length net.channels →
@@ -136,15 +136,15 @@ pub position_none : (p : Wires → Bool) (ws : List Wires) → ((k : ℕ) (d : W
 position_none p [] none = refl
 position_none p (w ∷ ws) none =
     let past : position_or_len p (w ∷ ws) ≡ length (w ∷ ws) = prefix_len_is (λ x. not (p x)) (w ∷ ws) (length (w ∷ ws)) w (omega arith)
-        (λ k less. not_from_false (p (get_or (w ∷ ws) k w)) (none k w less)) (λ less. absurd (omega arith)) in
+    (λ k less. not_from_false (p (get_or (w ∷ ws) k w)) (none k w less)) (λ less. absurd (omega arith)) in
     ap (λ k. cond (ltb k (length (w ∷ ws))) (Some k) None) past
-        ∙ ap (λ t. cond t (Some (length (w ∷ ws))) None) (le-ltb (length (w ∷ ws)) (length (w ∷ ws)) (omega arith))
+    ∙ ap (λ t. cond t (Some (length (w ∷ ws))) None) (le-ltb (length (w ∷ ws)) (length (w ∷ ws)) (omega arith))
 
 pub position_some : (p : Wires → Bool) (ws : List Wires) (c : ℕ) (d : Wires) → c < length ws → p (get_or ws c d) ≡ true →
     ((k : ℕ) → k < c → p (get_or ws k d) ≡ false) → position p ws ≡ Some c
 position_some p ws c d within passes before =
     let at : position_or_len p ws ≡ c = prefix_len_is (λ x. not (p x)) ws c d (omega arith) (λ k less. not_from_false (p (get_or ws k d)) (before k less))
-        (λ less. not_from_true (p (get_or ws c d)) passes) in
+    (λ less. not_from_true (p (get_or ws c d)) passes) in
     ap (λ k. cond (ltb k (length ws)) (Some k) None) at ∙ ap (λ t. cond t (Some c) None) (lt-ltb c (length ws) within)
 
 -- a test that fails at channels of which the node is no wire is settled by its own channel
@@ -197,7 +197,7 @@ channels_none v script done n c [] none = refl
 channels_none v script done n c (w ∷ ws) none =
     let start : c + 0 ≡ c = omega arith in
     or_from _ _ (rw start at (none 0 w (omega arith))) (channels_none v script done n (suc c) ws (λ k d less. let same : suc c + k ≡ c + suc k = omega arith in
-        rw same (none (suc k) d (omega arith))))
+    rw same (none (suc k) d (omega arith))))
 
 channels_one : (v : ℕ → Bool) (script : ℕ → OfferValue) (done : ℕ → ℕ) (n c : ℕ) (ws : List Wires) (j : ℕ) (e : Wires) → j < length ws →
     ((k : ℕ) (d : Wires) → k < length ws → k ≢ j → offer_moves v (get_or ws k d) (script (c + k)) (done (c + k)) n ≡ false) →
@@ -206,7 +206,7 @@ channels_one v script done n c [] j e within none = absurd (omega arith)
 channels_one v script done n c (w ∷ ws) zero e within none =
     let start : c + 0 ≡ c = omega arith in
     let rest = channels_none v script done n (suc c) ws (λ k d less. let same : suc c + k ≡ c + suc k = omega arith in
-        rw same (none (suc k) d (omega arith) (omega arith))) in
+    rw same (none (suc k) d (omega arith) (omega arith))) in
     rw start (sym (or_none _ _ rest))
   where
     or_none : (x y : Bool) → y ≡ false → (x || y) ≡ x
@@ -216,7 +216,7 @@ channels_one v script done n c (w ∷ ws) (suc j) e within none =
     let start : c + 0 ≡ c = omega arith in
     let first : offer_moves v w (script c) (done c) n ≡ false = rw start at (none 0 w (omega arith) (omega arith)) in
     let rest = channels_one v script done n (suc c) ws j e (omega arith) (λ k d less apart. let same : suc c + k ≡ c + suc k = omega arith in
-        rw same (none (suc k) d (omega arith) (omega arith))) in
+    rw same (none (suc k) d (omega arith) (omega arith))) in
     let same : suc c + j ≡ c + suc j = omega arith in
     rw (← same) (rest ∙ sym (ap (λ b. b || channels_move v script done (suc c) ws n) first))
 
@@ -231,7 +231,7 @@ pub offered_there : (net : NetValue) (script : List OfferValue) (done : ℕ → 
 offered_there net script done v n c w home is at here =
     let start : 0 + c ≡ c = omega arith in
     let there = channels_one v (offer_at script) done n 0 net.channels c w (home_within net n c home is at)
-        (λ k d less apart. not_offered v (get_or net.channels k d) _ _ n (not_other net n c k d home is at less apart)) in
+    (λ k d less apart. not_offered v (get_or net.channels k d) _ _ n (not_other net n c k d home is at less apart)) in
     ap (λ (x : Wires). offer_moves v x (offer_at script c) (done c) n) here ∙ rw start at there
 
 -- what a move completes, and whose phases it breaks
@@ -256,29 +256,29 @@ completes_there net v n c w o is off here told = by_ack (n == w.ack) refl
     by_ack : (b : Bool) → (n == w.ack) ≡ b → paired c o ≡ completion net v n
     by_ack true e =
         completion_is net v n c w o off (sym (found_there net n c w (Some c) (λ (x : Wires). n == x.ack) is (λ x apart. no_ack n x apart) refl within
-            (ap (λ (x : Wires). n == x.ack) (same_there net.channels c w w within here) ∙ e))) here told
+        (ap (λ (x : Wires). n == x.ack) (same_there net.channels c w w within here) ∙ e))) here told
     by_ack false e =
         ap (paired c) (told ∙ ap (λ b. cond (b && not (v n)) (rail_value_of v w.rails) None) e)
-            ∙ sym (none_unknown net v n (sym (unfound_there net n c w (Some c) (λ (x : Wires). n == x.ack) is (λ x apart. no_ack n x apart) refl
-            (λ d. ap (λ (x : Wires). n == x.ack) (same_there net.channels c w d within here) ∙ e))))
+        ∙ sym (none_unknown net v n (sym (unfound_there net n c w (Some c) (λ (x : Wires). n == x.ack) is (λ x apart. no_ack n x apart) refl
+        (λ d. ap (λ (x : Wires). n == x.ack) (same_there net.channels c w d within here) ∙ e))))
 
 pub breaks_nothing : (net : NetValue) (v : ℕ → Bool) (n : ℕ) → IsHome net n None → in_reset net.reset v ≡ false → None ≡ phase_fault net v n
 breaks_nothing net v n is off =
     sym (when_off (in_reset net.reset v) None (position (λ w. not (phases_keep v w n)) net.channels) off
-        ∙ unfound net n None (λ w. not (phases_keep v w n)) is (λ w apart. no_fault v n w apart) refl)
+    ∙ unfound net n None (λ w. not (phases_keep v w n)) is (λ w apart. no_fault v n w apart) refl)
 
 pub keeps_there : (net : NetValue) (v : ℕ → Bool) (n c : ℕ) (w : Wires) → IsHome net n (Some c) → in_reset net.reset v ≡ false →
     w ≡ get_or net.channels c w → phases_keep v w n ≡ true → None ≡ phase_fault net v n
 keeps_there net v n c w is off here keeps =
     let within = home_within net n c (Some c) is refl in
     sym (when_off (in_reset net.reset v) None (position (λ x. not (phases_keep v x n)) net.channels) off
-        ∙ unfound_there net n c w (Some c) (λ x. not (phases_keep v x n)) is (λ x apart. no_fault v n x apart) refl
-        (λ d. ap (λ (x : Wires). not (phases_keep v x n)) (same_there net.channels c w d within here) ∙ not_from_true _ keeps))
+    ∙ unfound_there net n c w (Some c) (λ x. not (phases_keep v x n)) is (λ x apart. no_fault v n x apart) refl
+    (λ d. ap (λ (x : Wires). not (phases_keep v x n)) (same_there net.channels c w d within here) ∙ not_from_true _ keeps))
 
 pub breaks_there : (net : NetValue) (v : ℕ → Bool) (n c : ℕ) (w : Wires) → IsHome net n (Some c) → in_reset net.reset v ≡ false →
     w ≡ get_or net.channels c w → phases_keep v w n ≡ false → Some c ≡ phase_fault net v n
 breaks_there net v n c w is off here breaks =
     let within = home_within net n c (Some c) is refl in
     sym (when_off (in_reset net.reset v) None (position (λ x. not (phases_keep v x n)) net.channels) off
-        ∙ found_there net n c w (Some c) (λ x. not (phases_keep v x n)) is (λ x apart. no_fault v n x apart) refl within
-        (ap (λ (x : Wires). not (phases_keep v x n)) (same_there net.channels c w w within here) ∙ not_from_false _ breaks))
+    ∙ found_there net n c w (Some c) (λ x. not (phases_keep v x n)) is (λ x apart. no_fault v n x apart) refl within
+    (ap (λ (x : Wires). not (phases_keep v x n)) (same_there net.channels c w w within here) ∙ not_from_false _ breaks))

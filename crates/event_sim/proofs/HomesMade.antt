@@ -45,10 +45,10 @@ one_more net is k w old mid new below within here ack counted settled made = rec
             (get_or old n None)
         by_ack (inl e) =
             ap (λ j. get_or (set mid w.ack (Some k)) j None) e ∙ get_or-set_same mid w.ack (Some k) None (omega (arith, counted, below.count))
-                ∙ sym (ap (λ b. cond (b || list_any (λ rail. n == rail) w.rails) (Some k) (get_or old n None)) (eq-eqb n w.ack e))
+            ∙ sym (ap (λ b. cond (b || list_any (λ rail. n == rail) w.rails) (Some k) (get_or old n None)) (eq-eqb n w.ack e))
         by_ack (inr apart) =
             get_or-set_other mid w.ack n (Some k) None apart ∙ settled n (omega (arith, below.count))
-                ∙ sym (ap (λ b. cond (b || list_any (λ rail. n == rail) w.rails) (Some k) (get_or old n None)) (ne_eqb n w.ack apart))
+            ∙ sym (ap (λ b. cond (b || list_any (λ rail. n == rail) w.rails) (Some k) (get_or old n None)) (ne_eqb n w.ack apart))
 
     in_range : (b : Bool) (o : Option ℕ) → IfSome o (λ c. c < k) → IfSome (cond b (Some k) o) (λ c. c < k + 1)
     in_range true o less = omega arith

@@ -18,13 +18,13 @@ pub agree_below : (p q : ℕ → Bool) (n : ℕ) → ((k : ℕ) → k < n → p 
 agree_below p q zero agree = refl
 agree_below p q (suc n) agree =
     passes_suc p n ∙ ap (λ (xs : List ℕ). xs ++ cond (p n) (n ∷ []) []) (agree_below p q n (λ k less. agree k (omega arith)))
-        ∙ ap (λ b. filter q (range_with_len 0 n) ++ cond b (n ∷ []) []) (agree n (omega arith)) ∙ sym (passes_suc q n)
+    ∙ ap (λ b. filter q (range_with_len 0 n) ++ cond b (n ∷ []) []) (agree n (omega arith)) ∙ sym (passes_suc q n)
 
 pub none_below : (p : ℕ → Bool) (n : ℕ) → ((k : ℕ) → k < n → p k ≡ false) → filter p (range_with_len 0 n) ≡ []
 none_below p zero none = refl
 none_below p (suc n) none =
     passes_suc p n ∙ ap (λ (xs : List ℕ). xs ++ cond (p n) (n ∷ []) []) (none_below p n (λ k less. none k (omega arith)))
-        ∙ ap (λ b. cond b (n ∷ []) []) (none n (omega arith))
+    ∙ ap (λ b. cond b (n ∷ []) []) (none n (omega arith))
 
 -- the nodes of a list that stand behind a node
 abbrev behind : (ℕ → Bool) → ℕ → ℕ → List ℕ
@@ -39,19 +39,19 @@ split p n (suc m) within = by_place (cases_eq n m) (λ less. split p n m less)
         filter p (range_with_len 0 (suc m)) ≡ filter p (range_with_len 0 n) ++ (cond (p n) (n ∷ []) [] ++ behind p n (suc m))
     by_place (inl same) rest =
         passes_suc p m ∙ ap (λ k. filter p (range_with_len 0 k) ++ cond (p k) (k ∷ []) []) (sym same)
-            ∙ ap (λ (xs : List ℕ). filter p (range_with_len 0 n) ++ xs) (sym (append-nil (cond (p n) (n ∷ []) [])
-            ∙ refl) ∙ ap (λ (xs : List ℕ). cond (p n) (n ∷ []) [] ++ xs) (sym nothing))
+        ∙ ap (λ (xs : List ℕ). filter p (range_with_len 0 n) ++ xs) (sym (append-nil (cond (p n) (n ∷ []) [])
+        ∙ refl) ∙ ap (λ (xs : List ℕ). cond (p n) (n ∷ []) [] ++ xs) (sym nothing))
       where
         nothing : behind p n (suc m) ≡ []
         nothing = none_below (λ k. ltb n k && p k) (suc m) (λ k less. ap (λ b. b && p k) (le-ltb n k (omega arith)))
     by_place (inr apart) rest =
         let less : n < m = omega arith in
         let more : behind p n (suc m) ≡ behind p n m ++ cond (p m) (m ∷ []) [] =
-            passes_suc (λ k. ltb n k && p k) m ∙ ap (λ b. behind p n m ++ cond (b && p m) (m ∷ []) []) (lt-ltb n m less) in
+        passes_suc (λ k. ltb n k && p k) m ∙ ap (λ b. behind p n m ++ cond (b && p m) (m ∷ []) []) (lt-ltb n m less) in
         passes_suc p m ∙ ap (λ (xs : List ℕ). xs ++ cond (p m) (m ∷ []) []) (rest less)
-            ∙ append_assoc (filter p (range_with_len 0 n)) (cond (p n) (n ∷ []) [] ++ behind p n m) (cond (p m) (m ∷ []) [])
-            ∙ ap (λ (xs : List ℕ). filter p (range_with_len 0 n) ++ xs)
-            (append_assoc (cond (p n) (n ∷ []) []) (behind p n m) (cond (p m) (m ∷ []) []) ∙ ap (λ (xs : List ℕ). cond (p n) (n ∷ []) [] ++ xs) (sym more))
+        ∙ append_assoc (filter p (range_with_len 0 n)) (cond (p n) (n ∷ []) [] ++ behind p n m) (cond (p m) (m ∷ []) [])
+        ∙ ap (λ (xs : List ℕ). filter p (range_with_len 0 n) ++ xs)
+        (append_assoc (cond (p n) (n ∷ []) []) (behind p n m) (cond (p m) (m ∷ []) []) ∙ ap (λ (xs : List ℕ). cond (p n) (n ∷ []) [] ++ xs) (sym more))
 
 front_below : (p : ℕ → Bool) (n : ℕ) → All (λ k. k < n) (filter p (range_with_len 0 n))
 front_below p n = All-filter p (λ k. k < n) (range_with_len 0 n) (range_below n)
@@ -81,7 +81,7 @@ front_same marks n b =
 back_same : (marks : List Bool) (n : ℕ) (b : Bool) → back_of (set marks n b) n ≡ back_of marks n
 back_same marks n b =
     ap (λ count. behind (is_member (set marks n b)) n count) (length-set marks n b)
-        ∙ filter_agree (λ k. ltb n k && is_member (set marks n b) k) (λ k. ltb n k && is_member marks k) each (range_with_len 0 (length marks))
+    ∙ filter_agree (λ k. ltb n k && is_member (set marks n b) k) (λ k. ltb n k && is_member marks k) each (range_with_len 0 (length marks))
   where
     each : (k : ℕ) → (ltb n k && is_member (set marks n b) k) ≡ (ltb n k && is_member marks k)
     each k = by_order (ltb n k) refl
@@ -93,14 +93,14 @@ back_same marks n b =
 set_in : (marks : List Bool) (n : ℕ) → n < length marks → members (set marks n true) ≡ front_of marks n ++ n ∷ back_of marks n
 set_in marks n within =
     with_node (set marks n true) n (omega (arith, length-set marks n true)) (get_or-set_same marks n true false within)
-        ∙ ap (λ (xs : List ℕ). xs ++ n ∷ back_of (set marks n true) n) (front_same marks n true)
-        ∙ ap (λ (xs : List ℕ). front_of marks n ++ n ∷ xs) (back_same marks n true)
+    ∙ ap (λ (xs : List ℕ). xs ++ n ∷ back_of (set marks n true) n) (front_same marks n true)
+    ∙ ap (λ (xs : List ℕ). front_of marks n ++ n ∷ xs) (back_same marks n true)
 
 set_out : (marks : List Bool) (n : ℕ) → n < length marks → members (set marks n false) ≡ front_of marks n ++ back_of marks n
 set_out marks n within =
     without_node (set marks n false) n (omega (arith, length-set marks n false)) (get_or-set_same marks n false false within)
-        ∙ ap (λ (xs : List ℕ). xs ++ back_of (set marks n false) n) (front_same marks n false)
-        ∙ ap (λ (xs : List ℕ). front_of marks n ++ xs) (back_same marks n false)
+    ∙ ap (λ (xs : List ℕ). xs ++ back_of (set marks n false) n) (front_same marks n false)
+    ∙ ap (λ (xs : List ℕ). front_of marks n ++ xs) (back_same marks n false)
 
 -- the place in the list
 
@@ -146,8 +146,8 @@ insert_there xs ys n i at =
 remove_there : (xs ys : List ℕ) (n i : ℕ) → i ≡ length xs → remove (xs ++ n ∷ ys) i ≡ xs ++ ys
 remove_there xs ys n i at =
     ap (λ (zs : List ℕ). zs ++ drop (suc i) (xs ++ n ∷ ys)) (take_at xs (n ∷ ys) i (sym at))
-        ∙ ap (λ (zs : List ℕ). xs ++ zs) (ap (drop (suc i)) (sym (append_assoc xs (n ∷ []) ys)) ∙ drop_at (xs ++ n ∷ []) ys (suc i)
-        (omega (arith, length_push xs n)))
+    ∙ ap (λ (zs : List ℕ). xs ++ zs) (ap (drop (suc i)) (sym (append_assoc xs (n ∷ []) ys)) ∙ drop_at (xs ++ n ∷ []) ys (suc i)
+    (omega (arith, length_push xs n)))
 
 -- a list of members is ascending
 pub rises : (marks : List Bool) (i j : ℕ) → i ≤ j → j < length (members marks) → get_or (members marks) i 0 ≤ get_or (members marks) j 0
@@ -163,9 +163,9 @@ pub put_there : (marks : List Bool) (nodes : List ℕ) (n i : ℕ) → nodes ≡
 put_there marks nodes n i are within isnt bound less more =
     let parts : nodes ≡ front_of marks n ++ back_of marks n = are ∙ without_node marks n within isnt in
     let at : i ≡ length (front_of marks n) = place_between (front_of marks n) (back_of marks n) n i (front_below (is_member marks) n)
-        (back_above (is_member marks) n (length marks)) (omega (arith, ap length parts))
-        (subst (λ (xs : List ℕ). (k : ℕ) → k < i → get_or xs k 0 < n) parts less)
-        (subst (λ (xs : List ℕ). (k : ℕ) → i ≤ k → k < length xs → n < get_or xs k 0) parts more) in
+    (back_above (is_member marks) n (length marks)) (omega (arith, ap length parts))
+    (subst (λ (xs : List ℕ). (k : ℕ) → k < i → get_or xs k 0 < n) parts less)
+    (subst (λ (xs : List ℕ). (k : ℕ) → i ≤ k → k < length xs → n < get_or xs k 0) parts more) in
     ap (λ (xs : List ℕ). insert xs i n) parts ∙ insert_there (front_of marks n) (back_of marks n) n i at ∙ sym (set_in marks n within)
 
 -- and removed where it is found
@@ -174,7 +174,7 @@ pub take_there : (marks : List Bool) (nodes : List ℕ) (n i : ℕ) → nodes �
 take_there marks nodes n i are within is bound here =
     let parts : nodes ≡ front_of marks n ++ n ∷ back_of marks n = are ∙ with_node marks n within is in
     let at : i ≡ length (front_of marks n) = place_at (front_of marks n) (back_of marks n) n i (front_below (is_member marks) n)
-        (back_above (is_member marks) n (length marks)) (omega (arith, ap length parts)) (ap (λ (xs : List ℕ). get_or xs i 0) (sym parts) ∙ here) in
+    (back_above (is_member marks) n (length marks)) (omega (arith, ap length parts)) (ap (λ (xs : List ℕ). get_or xs i 0) (sym parts) ∙ here) in
     ap (λ (xs : List ℕ). remove xs i) parts ∙ remove_there (front_of marks n) (back_of marks n) n i at ∙ sym (set_out marks n within)
 
 -- a member stands in the list at some place, so the list is not that of another search
@@ -208,13 +208,20 @@ pub pulled_out : (xs part : List ℕ) (from place k n : ℕ) → k ≡ place + 1
     part ≡ drop place (mid_of from k xs) ++ take place (mid_of from k xs) →
     drop (from + 1) (take n (put_mid from k xs part ++ drop (length (put_mid from k xs part)) xs)) ≡ remove (drop from xs) place
 pulled_out xs part from place k n is within all turned =
-    let whole : length (put_mid from k xs part) ≡ length xs = omega (arith, ap length made, length-append (take from xs) (x ∷ kept),
-        length-take-le from xs (omega arith), length-append (take place rest) (drop k rest), length-take-le place rest (omega (arith, left)),
-        length-drop k rest, left) in
+    let whole : length (put_mid from k xs part) ≡ length xs = omega (
+      arith,
+      ap length made,
+      length-append (take from xs) (x ∷ kept),
+      length-take-le from xs (omega arith),
+      length-append (take place rest) (drop k rest),
+      length-take-le place rest (omega (arith, left)),
+      length-drop k rest,
+      left,
+    ) in
     ap (drop (from + 1)) (ap (λ (ys : List ℕ). take n (put_mid from k xs part ++ ys)) (drop_all (length (put_mid from k xs part)) xs (omega (arith, whole)))
-        ∙ ap (take n) (append-nil (put_mid from k xs part)) ∙ take_all n (put_mid from k xs part) (omega (arith, whole)) ∙ made)
-        ∙ sym (drop-drop 1 from (take from xs ++ x ∷ kept)) ∙ ap (drop 1) (drop_at (take from xs) (x ∷ kept) from (length-take-le from xs (omega arith)))
-        ∙ ap (λ (i : ℕ). take place rest ++ drop i rest) (is ∙ next)
+    ∙ ap (take n) (append-nil (put_mid from k xs part)) ∙ take_all n (put_mid from k xs part) (omega (arith, whole)) ∙ made)
+    ∙ sym (drop-drop 1 from (take from xs ++ x ∷ kept)) ∙ ap (drop 1) (drop_at (take from xs) (x ∷ kept) from (length-take-le from xs (omega arith)))
+    ∙ ap (λ (i : ℕ). take place rest ++ drop i rest) (is ∙ next)
   where
     rest : List ℕ
     rest = drop from xs
@@ -237,7 +244,7 @@ pulled_out xs part from place k n is within all turned =
     first : part ≡ x ∷ take place rest
     first = turned ∙ ap (λ (ys : List ℕ). drop place ys ++ take place ys) mid
         ∙ ap (λ (ys : List ℕ). ys ++ take place (take place rest ++ x ∷ []))
-            (drop_at (take place rest) (x ∷ []) place (length-take-le place rest (omega (arith, left))))
+        (drop_at (take place rest) (x ∷ []) place (length-take-le place rest (omega (arith, left))))
         ∙ ap (λ (ys : List ℕ). x ∷ ys) (take_at (take place rest) (x ∷ []) place (length-take-le place rest (omega (arith, left))))
 
     made : put_mid from k xs part ≡ take from xs ++ x ∷ kept
@@ -278,14 +285,16 @@ placed_near marks list front n k r are is within above told = by_result r (searc
     later : (j : ℕ) → k < j → j < length list → n < get_or list j 0
     later j less bound =
         let up : get_or list k 0 < get_or list j 0 = subst (λ (xs : List ℕ). j < length xs → get_or xs k 0 < get_or xs j 0) (sym are)
-            (λ b. ascending (is_member marks) 0 (length marks) k j 0 less b) bound in
+        (λ b. ascending (is_member marks) 0 (length marks) k j 0 less b) bound in
         omega arith
 
     by_result : (r : Result ℕ ℕ) → IsListPlace front n r → IsListPlace list n r
     by_result (Ok i) found = (omega (arith, found.0, count), sym (at i (omega (arith, found.0, count))) ∙ found.1)
-    by_result (Err i) found =
-        (omega (arith, found.0, count), λ j less. let under = found.1 j less in omega (arith, at j (omega (arith, found.0, count))),
-            λ j less bound. by_place j less bound (cases_lt k j))
+    by_result (Err i) found = (
+      omega (arith, found.0, count),
+      λ j less. let under = found.1 j less in omega (arith, at j (omega (arith, found.0, count))),
+      λ j less bound. by_place j less bound (cases_lt k j),
+    )
       where
         by_place : (j : ℕ) → i ≤ j → j < length list → (k < j) ⊎ (j ≤ k) → n < get_or list j 0
         by_place j less bound (inl past) = later j past bound

@@ -80,8 +80,11 @@ offer_agree v u w (gives values) done m own agree =
     by_ack None false = refl
     by_ack (Some value) false = raises_agree v u value m w.rails (λ r among. agree r (or_right (r == w.ack) _ among))
 offer_agree v u w (takes count) done m own agree =
-    rw (agree w.ack (or_left _ _ (eq-eqb w.ack w.ack refl)), value_agree v u w.rails (λ r among. agree r (or_right (r == w.ack) _ among)),
-        neutral_agree v u w.rails (λ r among. agree r (or_right (r == w.ack) _ among))) refl
+    rw (
+      agree w.ack (or_left _ _ (eq-eqb w.ack w.ack refl)),
+      value_agree v u w.rails (λ r among. agree r (or_right (r == w.ack) _ among)),
+      neutral_agree v u w.rails (λ r among. agree r (or_right (r == w.ack) _ among)),
+    ) refl
 offer_agree v u w nothing done m own agree = refl
 
 -- the count of a channel whose acknowledge isn't the node stays
@@ -117,9 +120,9 @@ channels_near v u n m script done later apart agree c (w ∷ ws) shares counts =
     let share : is_wire w n ≡ true → (script c ≡ nothing) ⊎ (is_wire w m ≡ false) = rw start at (shares 0 w (omega arith)) in
     let count : (n == w.ack) ≡ false → later c ≡ done c = rw start at (counts 0 w (omega arith)) in
     either_same _ _ _ _ (here (is_wire w n) refl share count)
-        (channels_near v u n m script done later apart agree (suc c) ws
-        (λ i d less is. let same : suc c + i ≡ c + suc i = omega arith in rw same (shares (suc i) d (omega arith) is))
-        (λ i d less ack. let same : suc c + i ≡ c + suc i = omega arith in rw same (counts (suc i) d (omega arith) ack)))
+    (channels_near v u n m script done later apart agree (suc c) ws
+    (λ i d less is. let same : suc c + i ≡ c + suc i = omega arith in rw same (shares (suc i) d (omega arith) is))
+    (λ i d less ack. let same : suc c + i ≡ c + suc i = omega arith in rw same (counts (suc i) d (omega arith) ack)))
   where
     apart_wire : (r : ℕ) → is_wire w n ≡ false → is_wire w r ≡ true → r ≢ n
     apart_wire r off is same = clash (is_wire w n) off (ap (is_wire w) (sym same) ∙ is)
@@ -133,7 +136,7 @@ channels_near v u n m script done later apart agree c (w ∷ ws) shares counts =
     here true is share count = alone (share is)
     here false is share count =
         ap (λ (k : ℕ). offer_moves u w (script c) k m) (count (or_parts (n == w.ack) (list_any (λ rail. n == rail) w.rails) is).0)
-            ∙ offer_agree v u w (script c) (done c) m (agree m apart) (λ r among. agree r (apart_wire r is among))
+        ∙ offer_agree v u w (script c) (done c) m (agree m apart) (λ r among. agree r (apart_wire r is among))
 
 go_near : (v u : ℕ → Bool) (n m : ℕ) → m ≢ n → ((r : ℕ) → r ≢ n → u r ≡ v r) → raises_go u m ≡ raises_go v m
 go_near v u n m apart agree = by_zero (m == 0) refl
@@ -190,11 +193,11 @@ pub ready_near : (x : IndexedValue) (was done : List ℕ) (before : List Bool) (
 ready_near x was done before n m other apart unread shares counts =
     let agree : (r : ℕ) → r ≢ n → high (fired before n) r ≡ high before r = fired_agree before n in
     either_same _ _ _ _ (rule_near x.net before n m apart unread)
-        (both_same _ _ _ _ (ap not (reset_near x.net.reset (high before) (high (fired before n)) n agree other))
-        (either_same _ _ _ _ (go_near (high before) (high (fired before n)) n m apart agree)
-        (channels_near (high before) (high (fired before n)) n m (offer_at x.script) (slice_index was) (slice_index done) apart agree 0 x.net.channels
-        (λ i d less is. let same : 0 + i ≡ i = omega arith in rw same (shares i d less is))
-        (λ i d less ack. let same : 0 + i ≡ i = omega arith in rw same (counts i d less ack)))))
+    (both_same _ _ _ _ (ap not (reset_near x.net.reset (high before) (high (fired before n)) n agree other))
+    (either_same _ _ _ _ (go_near (high before) (high (fired before n)) n m apart agree)
+    (channels_near (high before) (high (fired before n)) n m (offer_at x.script) (slice_index was) (slice_index done) apart agree 0 x.net.channels
+    (λ i d less is. let same : 0 + i ≡ i = omega arith in rw same (shares i d less is))
+    (λ i d less ack. let same : 0 + i ≡ i = omega arith in rw same (counts i d less ack)))))
 
 pub reset_kept : (reset : Option ℕ) (before : List Bool) (n : ℕ) → is_reset reset n ≡ false →
     in_reset reset (high (fired before n)) ≡ in_reset reset (high before)
@@ -230,10 +233,10 @@ pub near : OnlyReaders → (net : NetValue) (script : List OfferValue) (st : Run
     move_enabled net script (moved net st n) m ≡ move_enabled net script st m
 near only net script st n m off other whole n_in m_in apart unread shares =
     either_same _ _ _ _ (only net st.values n m n_in m_in apart unread)
-        (when_off (in_reset net.reset u) _ _ (reset_near net.reset v u n agree other ∙ off)
-        ∙ either_same _ _ _ _ (go_near v u n m apart agree)
-        (channels_near v u n m (offer_at script) (completed st.histories) (completed (histories_after net st n)) apart agree 0 net.channels
-        (λ i d less is. inr (unshared n m net.channels shares i d less is)) counts) ∙ sym (when_off (in_reset net.reset v) _ _ off))
+    (when_off (in_reset net.reset u) _ _ (reset_near net.reset v u n agree other ∙ off)
+    ∙ either_same _ _ _ _ (go_near v u n m apart agree)
+    (channels_near v u n m (offer_at script) (completed st.histories) (completed (histories_after net st n)) apart agree 0 net.channels
+    (λ i d less is. inr (unshared n m net.channels shares i d less is)) counts) ∙ sym (when_off (in_reset net.reset v) _ _ off))
   where
     v : ℕ → Bool
     v = high st.values

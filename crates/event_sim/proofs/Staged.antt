@@ -31,7 +31,7 @@ env_agrees : (net : NetValue) (script : List OfferValue) (d e : ℕ → ℕ) (v 
     env_enabled net script d v n ≡ env_enabled net script e v n
 env_agrees net script d e v n agree =
     ap (λ b. if in_reset net.reset v then is_reset net.reset n && rules_rest net v else raises_go v n || b)
-        (channels_agree v (offer_at script) d e agree 0 net.channels n)
+    (channels_agree v (offer_at script) d e agree 0 net.channels n)
 
 counts_are : (hs : List (List ℕ)) (k : ℕ) → slice_index (map (λ (h : List ℕ). length h) hs) k ≡ completed hs k
 counts_are [] zero = refl
@@ -43,7 +43,7 @@ enabled_same : (net : NetValue) (script : List OfferValue) (values : List Bool) 
     done ≡ map (λ (h : List ℕ). length h) hs → has_move net script done values n ≡ move_enabled net script (record { values = values; histories = hs }) n
 enabled_same net script values hs done n counted =
     ap (λ b. rule_enabled net (high values) n || b)
-        (env_agrees net script (slice_index done) (completed hs) (high values) n (λ k. ap (λ (xs : List ℕ). slice_index xs k) counted ∙ counts_are hs k))
+    (env_agrees net script (slice_index done) (completed hs) (high values) n (λ k. ap (λ (xs : List ℕ). slice_index xs k) counted ∙ counts_are hs k))
 
 -- the set of the moves by the counts of completed values
 pub passing_same : (net : NetValue) (script : List OfferValue) (st : RunState) (done : List ℕ) (marks : List Bool) →
@@ -60,7 +60,7 @@ pub listed_same : (net : NetValue) (script : List OfferValue) (st : RunState) (m
     members marks ≡ enabled_moves net script st
 listed_same net script st marks passing =
     ap (λ count. filter (is_member marks) (range_with_len 0 count)) passing.count_is
-        ∙ agree_below (is_member marks) (move_enabled net script st) (length net.first) passing.each
+    ∙ agree_below (is_member marks) (move_enabled net script st) (length net.first) passing.each
 
 -- an enabled move, by the counts
 pub move_is : (x : IndexedValue) (st : RunState) (n : ℕ) (was done : List ℕ) (old : List Bool) → was ≡ map (λ (h : List ℕ). length h) st.histories →
@@ -84,8 +84,10 @@ pub lost_is : (x : IndexedValue) (st : RunState) (n : ℕ) (was done : List ℕ)
     done ≡ map (λ (h : List ℕ). length h) (histories_after x.net st n) →
     lost_by x n was done st.values (fired st.values n) ≡ least_below (length x.net.first) (takes_away x.net x.script st n)
 lost_is x st n was done counted counted_then = least_agrees (length x.net.first) _ _ (λ m less.
-    rw (enabled_same x.net x.script st.values st.histories was m counted,
-    enabled_same x.net x.script (fired st.values n) (histories_after x.net st n) done m counted_then) refl)
+    rw (
+      enabled_same x.net x.script st.values st.histories was m counted,
+      enabled_same x.net x.script (fired st.values n) (histories_after x.net st n) done m counted_then,
+    ) refl)
 
 worst_is : (pulled lost broken : Option ℕ) →
     worst_cause pulled lost broken ≡ or_else (option_map BothWays pulled) (or_else (option_map Unstable lost) (option_map Protocol broken))
@@ -97,7 +99,7 @@ worst_is None None None = refl
 -- the hazard by its three tests
 pub hazard_is : (net : NetValue) (script : List OfferValue) (st : RunState) (n : ℕ) (pulled lost broken : Option ℕ) →
     pulled ≡ least_below (length net.first) (both_ways net (high (moved net st n).values)) →
-        lost ≡ least_below (length net.first) (takes_away net script st n) →
+    lost ≡ least_below (length net.first) (takes_away net script st n) →
     broken ≡ phase_fault net (high st.values) n → worst_cause pulled lost broken ≡ hazard_of net script st n
 hazard_is net script st n pulled lost broken torn taken keeps = rw (torn, taken, keeps) (worst_is _ _ _)
 
@@ -109,14 +111,14 @@ first_is net st (Some k) torn = ap (option_map BothWays) torn
 -- only readers of the node can come to be pulled both ways
 pub pulled_is : (net : NetValue) (before : List Bool) (n : ℕ) → None ≡ least_below (length net.first) (both_ways net (high before)) →
     find (both_ways net (high (fired before n))) (readers_below net (length net.first) n) ≡
-        least_below (length net.first) (both_ways net (high (fired before n)))
+    least_below (length net.first) (both_ways net (high (fired before n)))
 pulled_is net before n none =
     first_is_least (reads net n) (both_ways net (high (fired before n))) (length net.first)
-        ∙ least_agrees (length net.first) _ _ (λ k less. by_reading k less (reads net n k) refl)
+    ∙ least_agrees (length net.first) _ _ (λ k less. by_reading k less (reads net n k) refl)
   where
     by_reading : (k : ℕ) → k < length net.first → (b : Bool) → reads net n k ≡ b →
         (reads net n k && both_ways net (high (fired before n)) k) ≡ both_ways net (high (fired before n)) k
     by_reading k less true e = ap (λ t. t && both_ways net (high (fired before n)) k) e
     by_reading k less false e =
         ap (λ t. t && both_ways net (high (fired before n)) k) e
-            ∙ sym (pulled_near net before n k e ∙ least_absent (length net.first) (both_ways net (high before)) (sym none) k less)
+        ∙ sym (pulled_near net before n k e ∙ least_absent (length net.first) (both_ways net (high before)) (sym none) k less)

@@ -31,7 +31,7 @@ pub fn passed_are_histories()
         → IsNet net
         → c < length net.channels
         → values_through c (passed_in net (begin_at net values) ns) ≡
-            history_at (after net (begin_at net values) ns).histories c }
+        history_at (after net (begin_at net values) ns).histories c }
 {}
 
 /// Law: a move's node is one of the net's.

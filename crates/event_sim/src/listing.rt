@@ -21,11 +21,7 @@ fn lesser(lost: Option<u32>, node: u32) -> Option<u32>
 fn least_lost(lost: Option<u32>, node: u32, was: bool, is: bool) -> Option<u32>
     ensures { result ≡ (if was && not is then lesser lost node else lost) }
 {
-    if was && !is {
-        lesser(lost, node)
-    } else {
-        lost
-    }
+    if was && !is { lesser(lost, node) } else { lost }
 }
 
 /// Tests these nodes again. The least of those that were lost before and that are lost now.
@@ -100,7 +96,7 @@ pub(crate) fn add_reset(indexed: &IndexedNet, state: &State, moves: &mut NodeSet
     ensures { (done : List ℕ)
         → IsPassing (length indexed.now.net.first) (is_ready indexed.now done state.now) moves.old
         → IsPassing (length indexed.now.net.first) (has_move indexed.now.net indexed.now.script done state.now)
-            moves.new }
+        moves.new }
 {
     match indexed.net().reset() {
         None => {}

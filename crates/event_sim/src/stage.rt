@@ -140,7 +140,13 @@ impl Stage {
         let completed = self.indexed.completion(&self.state, node);
         note(&mut self.done, &mut self.passed, completed);
         fire(&mut self.state, node);
-        let lost = relist(&self.indexed, &self.done, &self.state, node, &mut self.moves);
+        let lost = relist(
+            &self.indexed,
+            &self.done,
+            &self.state,
+            node,
+            &mut self.moves,
+        );
         self.pulled = pulled_behind(&self.indexed, &self.state, node, self.pulled);
         worst_cause(self.pulled, lost, broken)
     }
@@ -148,8 +154,14 @@ impl Stage {
     /// The run, which has ended so after so many moves.
     pub(crate) fn ran(self, end: End, moves: u32) -> Ran
         requires { IsEndIn self.net end }
-        ensures { result ≡ record { net = self.net; end = end; moves = moves; done_high = high self.values 1; passed =
-            self.passed } }
+        ensures { result ≡ record {
+          net = self.net;
+          end = end;
+          moves = moves;
+          done_high = high self.values 1;
+          passed =
+              self.passed;
+        } }
     {
         let done_high = self.state.is_high(1);
         Ran::new(self.indexed.into_net(), end, moves, done_high, self.passed)

@@ -9,13 +9,13 @@ use Rattle.event_sim.proofs.homes.homes_of.Goals as goal
 pub overflow_cast-chan : goal.overflow_cast-chan
 overflow_cast-chan c =
     let within : c.loop-chan.chan < length c.args.net.now.channels =
-        omega (arith, c.loop-chan-test.true, ap length c.channels-channels.ensures.channels) in
+    omega (arith, c.loop-chan-test.true, ap length c.channels-channels.ensures.channels) in
     omega (arith, channel_fits c.args.net.now c.channels-channels.ensures.net c.loop-chan.chan within)
 
 pub overflow_cast-chan-in-loop-chan : goal.overflow_cast-chan-in-loop-chan
 overflow_cast-chan-in-loop-chan c =
     let within : c.loop-chan.chan < length c.args.net.now.channels =
-        omega (arith, c.loop-chan-test.true, ap length c.channels-channels.ensures.channels) in
+    omega (arith, c.loop-chan-test.true, ap length c.channels-channels.ensures.channels) in
     omega (arith, channel_fits c.args.net.now c.channels-channels.ensures.net c.loop-chan.chan within)
 
 pub loop-chan-preserved : goal.loop-chan-preserved
@@ -30,14 +30,14 @@ loop-chan-preserved c =
     let here : w ≡ get_or net.channels k w = c.index-channels-chan.is ∙ ap (λ (ws : List Wires). get_or ws k w) all in
     let wired = wired_read net c.channels-channels.ensures.net (length net.first) refl net.channels refl k w within here in
     let settled : (n : ℕ) → n < length old.items → get_or mid.items n None ≡ cond (list_any (λ m. n == m) w.rails) (Some k) (get_or old.items n None) =
-        λ n less. rw (← c.nodes.ensures) (c.settle.ensures.each n (omega (arith, old.ok.0))) in
+    λ n less. rw (← c.nodes.ensures) (c.settle.ensures.each n (omega (arith, old.ok.0))) in
     let below : AreHomesBelow net k old.items = record {
       count = c.loop-chan.invariant.count;
       within = c.loop-chan.invariant.within;
       only = c.loop-chan.invariant.only;
     } in
     let more = one_more net c.channels-channels.ensures.net k w old.items mid.items _ below within here wired.ack
-        (omega (arith, c.settle.ensures.count, old.ok.0, mid.ok.0)) settled refl in
+    (omega (arith, c.settle.ensures.count, old.ok.0, mid.ok.0)) settled refl in
     record {
       count = more.count;
       within = more.within;

@@ -18,8 +18,8 @@ returns-then-is_empty c = λ done passing.
     let none : (length c.nodes.result.now == 0) ≡ true = sym c.is_empty.ensures ∙ c.if-is_empty.true in
     let empty : members c.args.moves.now ≡ [] = sym c.nodes.ensures ∙ nil_from_length c.nodes.result.now (eqb-true _ 0 none) in
     subst (λ (marks : List Bool). IsPassing (length x.net.first) (has_move x.net x.script done c.args.state.now) marks) (sym c.set.ensures)
-        (reset_falls x done c.args.state.now c.args.moves.now r at (reset_within x.net r c.net.ensures.is_net at) (sym c.is_high.ensures ∙ c.if-is_high.true)
-        empty passing)
+    (reset_falls x done c.args.state.now c.args.moves.now r at (reset_within x.net r c.net.ensures.is_net at) (sym c.is_high.ensures ∙ c.if-is_high.true)
+    empty passing)
 
 pub returns-else-is_high : goal.returns-else-is_high
 returns-else-is_high c = λ done passing.

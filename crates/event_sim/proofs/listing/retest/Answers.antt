@@ -16,7 +16,7 @@ loop-node-preserved c =
     let new = c.set.new.self in
     let within : m < length mid = omega (arith, c.requires.nodes i 0 c.loop-node-test.true, c.loop-node.invariant.count_is, c.requires.moves) in
     let one = retested_one ready m mid new c.loop-node.lost c.least_lost-lost.result c.is_ready-ready.result within c.is_ready-ready.ensures c.set.ensures
-        (c.least_lost-lost.ensures ∙ ap (λ (b : Bool). cond (b && not c.is_ready-ready.result) (lesser c.loop-node.lost m) c.loop-node.lost)
-        c.contains-was.ensures) in
+    (c.least_lost-lost.ensures ∙ ap (λ (b : Bool). cond (b && not c.is_ready-ready.result) (lesser c.loop-node.lost m) c.loop-node.lost)
+    c.contains-was.ensures) in
     subst (λ (ys : List ℕ). IsRetested ready ys old new c.args.before c.least_lost-lost.result) (sym (take_more xs i 0 c.loop-node-test.true))
-        (retested_more ready (take i xs) (m ∷ []) old mid new c.args.before c.loop-node.lost c.least_lost-lost.result c.loop-node.invariant one)
+    (retested_more ready (take i xs) (m ∷ []) old mid new c.args.before c.loop-node.lost c.least_lost-lost.result c.loop-node.invariant one)

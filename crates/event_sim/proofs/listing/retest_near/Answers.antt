@@ -14,7 +14,7 @@ pub retest-lost-requires-clause-nodes : goal.retest-lost-requires-clause-nodes
 retest-lost-requires-clause-nodes c =
     let net = c.args.indexed.now.net in
     subst (λ (xs : List ℕ). All (λ n. n < length net.first) xs) (sym c.readers.ensures)
-        (All-filter (reads net c.args.node) (λ n. n < length net.first) (range_with_len 0 (length net.first)) (range_below (length net.first)))
+    (All-filter (reads net c.args.node) (λ n. n < length net.first) (range_with_len 0 (length net.first)) (range_below (length net.first)))
 
 pub returns-in-None : goal.returns-in-None
 returns-in-None c =
@@ -39,11 +39,11 @@ returns-in-Some c =
     let all : c.channels.result.now ≡ x.net.channels = c.channels.ensures.channels ∙ ap (λ (net : NetValue). net.channels) c.net.ensures.net in
     let here : w ≡ get_or x.net.channels k w = c.index-channels-chan.is ∙ ap (λ (ws : List Wires). get_or ws k w) all in
     let first : IsRetested ready readers (set c.args.moves.now n (ready n)) c.retest-lost.new.moves None c.retest-lost.result =
-        subst (λ (old : List Bool). IsRetested ready readers old c.retest-lost.new.moves None c.retest-lost.result)
-        (c.set.ensures ∙ ap (λ (b : Bool). set c.args.moves.now n b) c.is_ready-ready.ensures) c.retest-lost.ensures in
+    subst (λ (old : List Bool). IsRetested ready readers old c.retest-lost.new.moves None c.retest-lost.result)
+    (c.set.ensures ∙ ap (λ (b : Bool). set c.args.moves.now n b) c.is_ready-ready.ensures) c.retest-lost.ensures in
     let second : IsRetested ready w.rails c.retest-lost.new.moves c.retest-lost-in-Some.new.moves c.retest-lost.result c.retest-lost-in-Some.result =
-        subst (λ (xs : List ℕ). IsRetested ready xs c.retest-lost.new.moves c.retest-lost-in-Some.new.moves c.retest-lost.result c.retest-lost-in-Some.result)
-        c.nodes.ensures c.retest-lost-in-Some.ensures in
+    subst (λ (xs : List ℕ). IsRetested ready xs c.retest-lost.new.moves c.retest-lost-in-Some.new.moves c.retest-lost.result c.retest-lost-in-Some.result)
+    c.nodes.ensures c.retest-lost-in-Some.ensures in
     record {
       nodes = readers ++ w.rails ++ w.ack ∷ [];
       near = near_wires x n k w readers c.readers.ensures c.in-Some.ensures here;

@@ -8,4 +8,4 @@ returns-clause-place c = λ marks are. placed marks c.args.list.now c.args.node 
 pub returns-then-node-list-clause-place : goal.returns-then-node-list-clause-place
 returns-then-node-list-clause-place c = λ marks are.
     placed_near marks c.args.list.now _ c.args.node 15 c.binary_search.result are refl c.if-list-gt-NEAR.true c.if-node-list.true
-        c.binary_search.ensures.position
+    c.binary_search.ensures.position

@@ -14,4 +14,4 @@ returns-in-Err-clause-list c = λ marks are within isnt.
     let same : c.list_from.result.now ≡ drop c.args.from c.args.slots.now.items = c.list_from.ensures ∙ ap (drop c.args.from) c.deref.ensures.value in
     let found = c.in-Err.ensures.place marks (same ∙ are) in
     c.insert_at.ensures.list ∙ ap (λ (xs : List ℕ). insert xs c.in-Err.place c.args.node) (sym same)
-        ∙ put_there marks c.list_from.result.now c.args.node c.in-Err.place (same ∙ are) within isnt found.0 found.1 found.2
+    ∙ put_there marks c.list_from.result.now c.args.node c.in-Err.place (same ∙ are) within isnt found.0 found.1 found.2

@@ -8,6 +8,6 @@ returns-clause-list c =
     let from = c.args.from in
     let place = c.args.place in
     rw c.deref_mut.ensures.value
-        (pulled_out xs c.rotate_left.new.self from place (from + place + 1 - from) c.args.slots.now.len (omega arith)
-        (omega (arith, c.requires.place, c.args.slots.now.ok.0)) (omega (arith, c.args.slots.now.ok.0))
-        (rw c.deref_mut.ensures.value at c.rotate_left.ensures.after))
+    (pulled_out xs c.rotate_left.new.self from place (from + place + 1 - from) c.args.slots.now.len (omega arith)
+    (omega (arith, c.requires.place, c.args.slots.now.ok.0)) (omega (arith, c.args.slots.now.ok.0))
+    (rw c.deref_mut.ensures.value at c.rotate_left.ensures.after))

@@ -8,7 +8,7 @@ returns-in-Ok-clause-list c = λ marks are within is.
     let same : c.list_from.result.now ≡ drop c.args.from c.args.slots.now.items = c.list_from.ensures ∙ ap (drop c.args.from) c.deref.ensures.value in
     let found = c.in-Ok.ensures.place marks (same ∙ are) in
     c.remove_at.ensures.list ∙ ap (λ (xs : List ℕ). remove xs c.in-Ok.place) (sym same)
-        ∙ take_there marks c.list_from.result.now c.args.node c.in-Ok.place (same ∙ are) within is found.0 found.1
+    ∙ take_there marks c.list_from.result.now c.args.node c.in-Ok.place (same ∙ are) within is found.0 found.1
 
 pub returns-in-Err-clause-list : goal.returns-in-Err-clause-list
 returns-in-Err-clause-list c = λ marks are within is.

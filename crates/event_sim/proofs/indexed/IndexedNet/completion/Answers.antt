@@ -14,7 +14,7 @@ completes-requires-clause-wired c =
     let all : c.channels.result.now ≡ net.channels = c.channels.ensures.channels ∙ ap (λ (x : IndexedValue). x.net.channels) c.self.view_is in
     let within = home_within net c.args.node c.in-Some.chan (Some c.in-Some.chan) c.in-Some.ensures.home refl in
     wired_read net c.in-Some.ensures.net (length c.args.state.now) c.requires.state net.channels refl c.in-Some.chan c.index-channels-chan.result within
-        (c.index-channels-chan.is ∙ ap (λ (ws : List Wires). get_or ws c.in-Some.chan c.index-channels-chan.result) all)
+    (c.index-channels-chan.is ∙ ap (λ (ws : List Wires). get_or ws c.in-Some.chan c.index-channels-chan.result) all)
 
 pub returns-in-None-clause-completion : goal.returns-in-None-clause-completion
 returns-in-None-clause-completion c = completes_nothing c.args.self.now.net (high c.args.state.now) c.args.node c.in-None.ensures.home
@@ -25,7 +25,7 @@ returns-in-None-completes-clause-completion c =
     let off : in_reset net.reset (high c.args.state.now) ≡ false = rw (← c.self.view_is) (sym c.in_reset.ensures.reset ∙ c.if-in_reset.false) in
     let all : c.channels.result.now ≡ net.channels = c.channels.ensures.channels ∙ ap (λ (x : IndexedValue). x.net.channels) c.self.view_is in
     completes_there net (high c.args.state.now) c.args.node c.in-Some.chan c.index-channels-chan.result None c.in-Some.ensures.home off
-        (c.index-channels-chan.is ∙ ap (λ (ws : List Wires). get_or ws c.in-Some.chan c.index-channels-chan.result) all) c.in-None-completes.ensures
+    (c.index-channels-chan.is ∙ ap (λ (ws : List Wires). get_or ws c.in-Some.chan c.index-channels-chan.result) all) c.in-None-completes.ensures
 
 pub returns-in-Some-completes-clause-completion : goal.returns-in-Some-completes-clause-completion
 returns-in-Some-completes-clause-completion c =
@@ -33,5 +33,5 @@ returns-in-Some-completes-clause-completion c =
     let off : in_reset net.reset (high c.args.state.now) ≡ false = rw (← c.self.view_is) (sym c.in_reset.ensures.reset ∙ c.if-in_reset.false) in
     let all : c.channels.result.now ≡ net.channels = c.channels.ensures.channels ∙ ap (λ (x : IndexedValue). x.net.channels) c.self.view_is in
     completes_there net (high c.args.state.now) c.args.node c.in-Some.chan c.index-channels-chan.result (Some c.in-Some-completes.value)
-        c.in-Some.ensures.home off (c.index-channels-chan.is ∙ ap (λ (ws : List Wires). get_or ws c.in-Some.chan c.index-channels-chan.result) all)
-        c.in-Some-completes.ensures
+    c.in-Some.ensures.home off (c.index-channels-chan.is ∙ ap (λ (ws : List Wires). get_or ws c.in-Some.chan c.index-channels-chan.result) all)
+    c.in-Some-completes.ensures

@@ -21,12 +21,12 @@ offer_moves-requires-clause-wired c =
     let all : c.channels.result.now ≡ net.channels = c.channels.ensures.channels ∙ ap (λ (x : IndexedValue). x.net.channels) c.self.view_is in
     let within = home_within net c.args.node c.in-Some.chan (Some c.in-Some.chan) c.in-Some.ensures.home refl in
     wired_read net c.in-Some.ensures.net (length c.args.state.now) c.requires.state net.channels refl c.in-Some.chan c.index-channels-chan.result within
-        (c.index-channels-chan.is ∙ ap (λ (ws : List Wires). get_or ws c.in-Some.chan c.index-channels-chan.result) all)
+    (c.index-channels-chan.is ∙ ap (λ (ws : List Wires). get_or ws c.in-Some.chan c.index-channels-chan.result) all)
 
 pub returns-in-None : goal.returns-in-None
 returns-in-None c =
     sym (offered_nowhere c.args.self.now.net c.args.self.now.script (slice_index c.args.done.now) (high c.args.state.now) c.args.node None
-        c.in-None.ensures.home refl)
+    c.in-None.ensures.home refl)
 
 pub returns-in-Some : goal.returns-in-Some
 returns-in-Some c =
@@ -38,4 +38,4 @@ returns-in-Some c =
     let here : w ≡ get_or s.net.channels k w = c.index-channels-chan.is ∙ ap (λ (ws : List Wires). get_or ws k w) all in
     let offer = c.offer-offer.ensures ∙ ap (λ (x : IndexedValue). offer_at x.script k) c.self.view_is in
     c.offer_moves.ensures ∙ ap (λ (o : OfferValue). offer_moves (high c.args.state.now) w o (slice_index c.args.done.now k) n) offer
-        ∙ offered_there s.net s.script (slice_index c.args.done.now) (high c.args.state.now) n k w (Some k) c.in-Some.ensures.home refl here
+    ∙ offered_there s.net s.script (slice_index c.args.done.now) (high c.args.state.now) n k w (Some k) c.in-Some.ensures.home refl here

@@ -16,5 +16,5 @@ returns c =
     let net = c.self.inside.net in
     let whole = ap (λ (x : IndexedValue). length x.net.first) c.self.view_is in
     rw (← c.self.view_is) (c.readers.ensures ∙ ap (λ (fan : List (List ℕ)). get_or fan c.args.node []) c.self.invariant.fan_is
-        ∙ get_or-map-range_with_len (readers_below net (length net.first)) 0 (length net.first) c.args.node c.args.node [] (omega (arith, whole, c.requires))
-        (omega arith))
+    ∙ get_or-map-range_with_len (readers_below net (length net.first)) 0 (length net.first) c.args.node c.args.node [] (omega (arith, whole, c.requires))
+    (omega arith))

@@ -8,14 +8,24 @@ use Rattle.event_sim.proofs.node_set.NodeSet.set.Goals as goal
 pub put_in-requires-clause-room : goal.put_in-requires-clause-room
 put_in-requires-clause-room c =
     let s = c.self.inside in
-    omega (arith, passes_few (is_member s.marks.items) (length s.marks.items), ap length c.self.invariant.list_is, length-drop s.from s.slots.items,
-        c.self.invariant.slots_are)
+    omega (
+      arith,
+      passes_few (is_member s.marks.items) (length s.marks.items),
+      ap length c.self.invariant.list_is,
+      length-drop s.from s.slots.items,
+      c.self.invariant.slots_are,
+    )
 
 pub overflow_sub-self : goal.overflow_sub-self
 overflow_sub-self c =
     let s = c.self.inside in
-    omega (arith, passes_few (is_member s.marks.items) (length s.marks.items), ap length c.self.invariant.list_is, length-drop s.from s.slots.items,
-        c.self.invariant.slots_are)
+    omega (
+      arith,
+      passes_few (is_member s.marks.items) (length s.marks.items),
+      ap length c.self.invariant.list_is,
+      length-drop s.from s.slots.items,
+      c.self.invariant.slots_are,
+    )
 
 pub invariant_of-self-else-member : goal.invariant_of-self-else-member
 invariant_of-self-else-member c =
@@ -23,8 +33,8 @@ invariant_of-self-else-member c =
     let n = c.args.node in
     let within : n < length s.marks.items = omega (arith, c.requires, ap length c.self.view_is) in
     let member : is_member s.marks.items n ≡ true =
-        sym (get_or_read s.marks.items n c.index.result.now within c.index.ensures false)
-        ∙ was_member c.index.result.now c.args.member c.if-index-member.false c.if-member.false in
+    sym (get_or_read s.marks.items n c.index.result.now within c.index.ensures false)
+    ∙ was_member c.index.result.now c.args.member c.if-index-member.false c.if-member.false in
     let count : length c.take_out.new.slots.items ≡ length s.slots.items = omega (arith, c.take_out.ensures.count, s.slots.ok.0, c.take_out.new.slots.ok.0) in
     record {
       list_is = c.take_out.ensures.list s.marks.items c.self.invariant.list_is within member

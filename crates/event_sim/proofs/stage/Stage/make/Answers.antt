@@ -21,13 +21,13 @@ pub note-requires-clause-chan : goal.note-requires-clause-chan
 note-requires-clause-chan c =
     let s = c.self.inside in
     completion_within s.indexed.net (high s.state) c.args.node c.completion-completed.result (length s.done.items) c.completion-completed.ensures.completion
-        (counts_whole (length s.indexed.net.channels) s.passed.items s.done.items c.self.invariant.counts_are)
+    (counts_whole (length s.indexed.net.channels) s.passed.items s.done.items c.self.invariant.counts_are)
 
 pub relist-lost-requires-clause-done : goal.relist-lost-requires-clause-done
 relist-lost-requires-clause-done c =
     let s = c.self.inside in
     ap length c.deref.ensures.value ∙ counts_whole (length s.done.items) c.note.new.passed.items c.note.new.done.items c.note.ensures.counts
-        ∙ counts_whole (length s.indexed.net.channels) s.passed.items s.done.items c.self.invariant.counts_are
+    ∙ counts_whole (length s.indexed.net.channels) s.passed.items s.done.items c.self.invariant.counts_are
 
 pub invariant_of-self : goal.invariant_of-self
 invariant_of-self c =
@@ -37,20 +37,20 @@ invariant_of-self c =
     let channels = length x.net.channels in
     let whole : length s.done.items ≡ channels = counts_whole channels s.passed.items s.done.items c.self.invariant.counts_are in
     let counts : c.note.new.done.items ≡ map (λ (h : List ℕ). length h) (channel_histories channels c.note.new.passed.items) =
-        rw whole at c.note.ensures.counts in
+    rw whole at c.note.ensures.counts in
     let st : RunState = record { values = s.state; histories = channel_histories channels s.passed.items } in
     let later : channel_histories channels c.note.new.passed.items ≡ histories_after x.net st n =
-        ap (channel_histories channels) (c.note.ensures.passed
-        ∙ ap (λ (o : Option (ℕ × ℕ)). s.passed.items ++ option_to_list o) c.completion-completed.ensures.completion)
-        ∙ histories_more x.net c.completion-completed.ensures.net s.state s.passed.items n in
+    ap (channel_histories channels) (c.note.ensures.passed
+    ∙ ap (λ (o : Option (ℕ × ℕ)). s.passed.items ++ option_to_list o) c.completion-completed.ensures.completion)
+    ∙ histories_more x.net c.completion-completed.ensures.net s.state s.passed.items n in
     let enabled : move_enabled x.net x.script st n ≡ true =
-        subst (λ (v : StageValue). move_enabled v.net v.script (now_of v) n ≡ true) (sym c.self.view_is) c.requires.enabled in
+    subst (λ (v : StageValue). move_enabled v.net v.script (now_of v) n ≡ true) (sym c.self.view_is) c.requires.enabled in
     let move = move_is x st n s.done.items c.deref.result.now s.moves c.self.invariant.counts_are
-        (c.deref.ensures.value ∙ counts ∙ ap (map (λ (h : List ℕ). length h)) later)
-            (length-map-range_with_len (λ k. values_through k s.passed.items) 0 channels)
-        c.self.invariant.values c.self.invariant.moves_are enabled in
+    (c.deref.ensures.value ∙ counts ∙ ap (map (λ (h : List ℕ). length h)) later)
+    (length-map-range_with_len (λ k. values_through k s.passed.items) 0 channels)
+    c.self.invariant.values c.self.invariant.moves_are enabled in
     let relisted = c.relist-lost.ensures s.done.items s.state
-        (subst (λ (vs : List Bool). IsCountedMove x n s.done.items c.deref.result.now s.state vs s.moves) (sym c.fire.ensures) move) in
+    (subst (λ (vs : List Bool). IsCountedMove x n s.done.items c.deref.result.now s.state vs s.moves) (sym c.fire.ensures) move) in
     let now : RunState = record { values = c.fire.new.state; histories = channel_histories channels c.note.new.passed.items } in
     record {
       net = c.self.invariant.net;
@@ -69,7 +69,7 @@ returns-clause-moved c =
     let s = c.self.inside in
     let histories = histories_more s.indexed.net c.completion-completed.ensures.net s.state s.passed.items c.args.node in
     rw (← c.self.view_is, c.fire.ensures, c.note.ensures.passed, c.completion-completed.ensures.completion)
-        (ap (λ (hs : List (List ℕ)). record { values = fired s.state c.args.node; histories = hs }) histories)
+    (ap (λ (hs : List (List ℕ)). record { values = fired s.state c.args.node; histories = hs }) histories)
 
 pub returns-clause-hazard : goal.returns-clause-hazard
 returns-clause-hazard c =
@@ -79,26 +79,26 @@ returns-clause-hazard c =
     let channels = length x.net.channels in
     let whole : length s.done.items ≡ channels = counts_whole channels s.passed.items s.done.items c.self.invariant.counts_are in
     let counts : c.note.new.done.items ≡ map (λ (h : List ℕ). length h) (channel_histories channels c.note.new.passed.items) =
-        rw whole at c.note.ensures.counts in
+    rw whole at c.note.ensures.counts in
     let st : RunState = record { values = s.state; histories = channel_histories channels s.passed.items } in
     let later : channel_histories channels c.note.new.passed.items ≡ histories_after x.net st n =
-        ap (channel_histories channels) (c.note.ensures.passed
-        ∙ ap (λ (o : Option (ℕ × ℕ)). s.passed.items ++ option_to_list o) c.completion-completed.ensures.completion)
-        ∙ histories_more x.net c.completion-completed.ensures.net s.state s.passed.items n in
+    ap (channel_histories channels) (c.note.ensures.passed
+    ∙ ap (λ (o : Option (ℕ × ℕ)). s.passed.items ++ option_to_list o) c.completion-completed.ensures.completion)
+    ∙ histories_more x.net c.completion-completed.ensures.net s.state s.passed.items n in
     let enabled : move_enabled x.net x.script st n ≡ true =
-        subst (λ (v : StageValue). move_enabled v.net v.script (now_of v) n ≡ true) (sym c.self.view_is) c.requires.enabled in
+    subst (λ (v : StageValue). move_enabled v.net v.script (now_of v) n ≡ true) (sym c.self.view_is) c.requires.enabled in
     let counted_then : c.deref.result.now ≡ map (λ (h : List ℕ). length h) (histories_after x.net st n) =
-        c.deref.ensures.value ∙ counts ∙ ap (map (λ (h : List ℕ). length h)) later in
+    c.deref.ensures.value ∙ counts ∙ ap (map (λ (h : List ℕ). length h)) later in
     let move = move_is x st n s.done.items c.deref.result.now s.moves c.self.invariant.counts_are counted_then
-        (length-map-range_with_len (λ k. values_through k s.passed.items) 0 channels) c.self.invariant.values c.self.invariant.moves_are enabled in
+    (length-map-range_with_len (λ k. values_through k s.passed.items) 0 channels) c.self.invariant.values c.self.invariant.moves_are enabled in
     let relisted = c.relist-lost.ensures s.done.items s.state
-        (subst (λ (vs : List Bool). IsCountedMove x n s.done.items c.deref.result.now s.state vs s.moves) (sym c.fire.ensures) move) in
+    (subst (λ (vs : List Bool). IsCountedMove x n s.done.items c.deref.result.now s.state vs s.moves) (sym c.fire.ensures) move) in
     let there : IsRelisted x n s.done.items c.deref.result.now s.state (fired s.state n) c.relist-lost.new.moves c.relist-lost.result =
-        subst (λ (vs : List Bool). IsRelisted x n s.done.items c.deref.result.now s.state vs c.relist-lost.new.moves c.relist-lost.result)
-        c.fire.ensures relisted in
+    subst (λ (vs : List Bool). IsRelisted x n s.done.items c.deref.result.now s.state vs c.relist-lost.new.moves c.relist-lost.result)
+    c.fire.ensures relisted in
     let pulled : c.pulled_behind-self-inside.result ≡ least_below (length x.net.first) (both_ways x.net (high (fired s.state n))) =
-        c.pulled_behind-self-inside.ensures s.state c.fire.ensures c.self.invariant.pulled_is
-        ∙ ap (λ (vs : List Bool). least_below (length x.net.first) (both_ways x.net (high vs))) c.fire.ensures in
+    c.pulled_behind-self-inside.ensures s.state c.fire.ensures c.self.invariant.pulled_is
+    ∙ ap (λ (vs : List Bool). least_below (length x.net.first) (both_ways x.net (high vs))) c.fire.ensures in
     rw (← c.self.view_is) (c.worst_cause.ensures ∙ hazard_is x.net x.script st n c.pulled_behind-self-inside.result c.relist-lost.result
-        c.broken_phases-broken.result pulled
-        (there.lost_is ∙ lost_is x st n s.done.items c.deref.result.now c.self.invariant.counts_are counted_then) c.broken_phases-broken.ensures)
+    c.broken_phases-broken.result pulled
+    (there.lost_is ∙ lost_is x st n s.done.items c.deref.result.now c.self.invariant.counts_are counted_then) c.broken_phases-broken.ensures)

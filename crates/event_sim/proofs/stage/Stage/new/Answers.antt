@@ -19,15 +19,15 @@ invariant_of-result c =
     let done = c.in_ok-done.done.items in
     let made : x ≡ record { net = net; script = c.args.script } = c.in_ok-indexed.ensures in
     let none : done ≡ replicate (length net.channels) 0 =
-        c.in_ok-done.ensures ∙ ap (λ (ws : List Wires). replicate (length ws) 0) c.channels.ensures.channels in
+    c.in_ok-done.ensures ∙ ap (λ (ws : List Wires). replicate (length ws) 0) c.channels.ensures.channels in
     let counted : done ≡ map (λ (h : List ℕ). length h) (channel_histories (length x.net.channels) []) =
-        no_counts_are (length x.net.channels) done (none ∙ ap (λ (y : IndexedValue). replicate (length y.net.channels) 0) (sym made)) in
+    no_counts_are (length x.net.channels) done (none ∙ ap (λ (y : IndexedValue). replicate (length y.net.channels) 0) (sym made)) in
     let st : RunState = record { values = c.args.state; histories = channel_histories (length x.net.channels) [] } in
     let passing = passing_same x.net x.script st c.deref.result.now c.add_reset.new.moves (c.deref.ensures.value ∙ counted)
-        (c.add_reset.ensures c.deref.result.now c.list_ready.ensures) in
+    (c.add_reset.ensures c.deref.result.now c.list_ready.ensures) in
     let room = vec_capacity c.in_ok-passed.passed - length c.in_ok-passed.passed.items in
     subst (λ (passed : List (ℕ × ℕ)). IsKeptBeside (stage_with x.net x.script c.args.state passed room) done c.add_reset.new.moves c.first_pulled-pulled.result)
-        (sym c.in_ok-passed.ensures.items) (record {
+    (sym c.in_ok-passed.ensures.items) (record {
       net = rw made c.first-nodes.ensures.net;
       script = rw made c.requires.script;
       values = rw made c.requires.state;
