@@ -1,8 +1,8 @@
 -- The set of the nodes that have a move, behind a move.
-use Rattle.std.proofs.Common.{◌≡◌, ◌≢◌, ℕ, zero, suc, ◌+◌, ◌<◌, ◌≤◌, Bool, true, false, cond, List, [], ◌∷◌, ◌++◌, length, get_or, set, filter, refl, sym, ap, subst, ◌∙◌, inl, inr, arith}
+use Rattle.std.proofs.Common.{◌≡◌, ◌≢◌, ℕ, zero, suc, ◌<◌, ◌≤◌, Bool, true, false, cond, List, [], ◌∷◌, ◌++◌, length, get_or, set, refl, sym, ap, subst, ◌∙◌, inl, inr, arith}
 use Rattle.std.specs.Prelude.{◌⊎◌, not, ◌&&◌, ◌||◌, ◌==◌, nat_lt, if◌then◌else◌, All, slice_index, Option, Some, None}
 use Rattle.std.specs.List.{list_any, range_with_len}
-use Rattle.std.proofs.lemmas.Bool.{eqb-true, eqb-false, eq-eqb, ne_eqb, or_cases, or_parts, or_from, or_left, or_right, and_parts, and_from, and_left, and_right, cases_eq, cases_lt, cases_order, lt-ltb, le-ltb, both_ways, not-true, not_from_true, not_from_false}
+use Rattle.std.proofs.lemmas.Bool.{eqb-true, eqb-false, eq-eqb, ne_eqb, or_parts, or_from, or_left, or_right, and_parts, and_from, and_left, and_right, cases_eq, cases_lt, lt-ltb, le-ltb, both_ways, not-true, not_from_true, not_from_false}
 use Rattle.std.proofs.lemmas.List.{length-set, get_or-set_same, get_or-set_other, get_or_default}
 use Rattle.std.proofs.lemmas.List.Folds.{list_any-append}
 use Rattle.std.proofs.lemmas.List.Elements.{filter_passes, All-filter}
@@ -10,10 +10,10 @@ use Rattle.prs_core.specs.declared.wires.Wires.{Wires}
 use Rattle.prs_core.specs.Nets.{NetValue, IsNet, IsChannel, IsReset, IsResetNode, first_at, up_of, down_of}
 use Rattle.prs_core.specs.Moves.{high, fired, guard_holds, rule_enabled}
 use Rattle.prs_core.specs.Fans.{reads, readers_below}
-use Rattle.env_script.specs.Scripts.{OfferValue, nothing, offer_at}
-use Rattle.env_script.specs.Environment.{all_below, in_reset, is_reset, rules_rest, raises_go, channels_move, env_enabled}
+use Rattle.env_script.specs.Scripts.{nothing, offer_at}
+use Rattle.env_script.specs.Environment.{all_below, in_reset, is_reset, rules_rest, raises_go, channels_move}
 use Rattle.env_script.specs.Hazards.{least_below, or_else}
-use Rattle.event_sim.specs.Locality.{IndexedValue, is_wire, is_ready, has_move, is_member, members, is_among, lesser, IsShared, IsPassing, IsRetested, IsRetestedNear, IsNear, IsCountedMove, lost_by, IsListedBehind, IsRelisted}
+use Rattle.event_sim.specs.Locality.{IndexedValue, is_wire, is_ready, has_move, is_member, members, is_among, lesser, IsShared, IsPassing, IsRetested, IsRetestedNear, IsNear, IsCountedMove, IsListedBehind}
 use Rattle.event_sim.proofs.Lists.{least_some, least_none, least_agrees, among_is}
 use Rattle.event_sim.proofs.Following.{range_below}
 use Rattle.event_sim.proofs.Near.{ready_near, reset_kept, not_offered}

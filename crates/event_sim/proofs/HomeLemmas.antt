@@ -2,14 +2,14 @@
 use Rattle.std.proofs.Common.{◌≡◌, ◌≢◌, ℕ, zero, suc, ◌+◌, ◌<◌, ◌≤◌, Bool, true, false, cond, ltb, List, [], ◌∷◌, ◌++◌, length, get_or, map, refl, sym, ap, subst, ◌∙◌, inl, inr, arith}
 use Rattle.std.specs.Prelude.{◌⊎◌, not, ◌&&◌, ◌||◌, ◌==◌, All, position, codes, decimal, Option, Some, None, IfSome}
 use Rattle.std.specs.List.{list_any, list_all, flat_map, range_with_len, position_or_len}
-use Rattle.std.proofs.lemmas.Bool.{eqb-true, or_cases, and_parts, and_left, or_from, cases_eq, cases_lt, lt-ltb, le-ltb, both_ways, not_from_true, not_from_false, or_parts, or_left, and_from}
-use Rattle.std.proofs.lemmas.List.{append_assoc, length-map, get_or_default}
-use Rattle.std.proofs.lemmas.List.Elements.{All-append, All-cons, All-nil, All-tail, All-head}
+use Rattle.std.proofs.lemmas.Bool.{eqb-true, or_cases, and_parts, or_from, cases_eq, cases_lt, lt-ltb, le-ltb, both_ways, not_from_true, not_from_false, or_parts, or_left, and_from}
+use Rattle.std.proofs.lemmas.List.{append_assoc, get_or_default}
+use Rattle.std.proofs.lemmas.List.Elements.{All-cons, All-nil, All-tail, All-head}
 use Rattle.std.proofs.lemmas.List.Sums.{prefix_len_is}
 use Rattle.prs_core.specs.declared.wires.Wires.{Wires}
-use Rattle.prs_core.specs.Nets.{NetValue, IsNet, IsChannel, name_at, rail_names, true_rail, false_rail, ack_name, first_at}
+use Rattle.prs_core.specs.Nets.{NetValue, IsNet, IsChannel, name_at, true_rail, false_rail}
 use Rattle.prs_core.specs.Moves.{rail_value_of}
-use Rattle.chp_base.specs.Names.{word_part, IsName}
+use Rattle.chp_base.specs.Names.{word_part}
 use Rattle.env_script.specs.Scripts.{OfferValue, offer_at}
 use Rattle.env_script.specs.Environment.{in_reset, offer_moves, channels_move}
 use Rattle.env_script.specs.Phases.{rails_keep, phases_keep, phase_fault}

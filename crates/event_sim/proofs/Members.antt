@@ -1,9 +1,9 @@
 -- The list of a set of nodes, where a node is put into the set or taken out of it.
-use Rattle.std.proofs.Common.{◌≡◌, ◌≢◌, ℕ, zero, suc, ◌+◌, ◌-◌, ◌<◌, ◌≤◌, Bool, true, false, cond, ltb, List, [], ◌∷◌, ◌++◌, length, get_or, set, take, drop, filter, refl, sym, ap, subst, ◌∙◌, inl, inr, arith}
-use Rattle.std.specs.Prelude.{◌⊎◌, ◌&&◌, All, AllPairs, Result, Ok, Err}
+use Rattle.std.proofs.Common.{◌≡◌, ℕ, zero, suc, ◌+◌, ◌-◌, ◌<◌, ◌≤◌, Bool, true, false, cond, ltb, List, [], ◌∷◌, ◌++◌, length, get_or, set, take, drop, filter, refl, sym, ap, subst, ◌∙◌, inl, inr, arith}
+use Rattle.std.specs.Prelude.{◌⊎◌, ◌&&◌, All, Result, Ok, Err}
 use Rattle.std.specs.List.{range_with_len, insert, remove}
 use Rattle.std.proofs.lemmas.Bool.{lt-ltb, le-ltb, ltb-true, and_parts, cases_eq, cases_order, cases_lt, both_ways}
-use Rattle.std.proofs.lemmas.List.{append-nil, append_assoc, length-append, length-set, length_push, get_or-set_same, get_or-set_other, get_or_append_left, get_or-append_right, get_or_at, get_or_default, take_at, drop_at, take_more, take_all, drop_all, drop-drop, length-drop, length-take-le, get_or-take}
+use Rattle.std.proofs.lemmas.List.{append-nil, append_assoc, length-append, length-set, length_push, get_or-set_same, get_or-set_other, get_or_append_left, get_or-append_right, get_or_at, take_at, drop_at, take_more, take_all, drop_all, drop-drop, length-drop, length-take-le, get_or-take}
 use Rattle.std.specs.List.Sorted.{IsBinarySearchResult}
 use Rattle.std.specs.Ordering.{nat_cmp}
 use Rattle.std.proofs.lemmas.List.Sorted.{searched}

@@ -1,17 +1,17 @@
 -- A move concerns its own node, the readers of it, and the wires of the channels that it belongs to.
-use Rattle.std.proofs.Common.{◌≡◌, ◌≢◌, ℕ, zero, suc, ◌+◌, ◌/◌, ◌<◌, ◌≤◌, Bool, true, false, cond, List, [], ◌∷◌, ◌++◌, length, get_or, refl, sym, ap, subst, ◌∙◌, inl, inr, arith}
-use Rattle.std.specs.Prelude.{◌⊎◌, not, ◌&&◌, ◌||◌, ◌==◌, if◌then◌else◌, slice_get, slice_index, slice_index_or, Option, Some, None, is_some, Contains}
+use Rattle.std.proofs.Common.{◌≡◌, ◌≢◌, ℕ, zero, suc, ◌+◌, ◌/◌, ◌<◌, Bool, true, false, cond, List, [], ◌∷◌, length, get_or, refl, sym, ap, ◌∙◌, inl, inr, arith}
+use Rattle.std.specs.Prelude.{◌⊎◌, not, ◌&&◌, ◌||◌, ◌==◌, if◌then◌else◌, slice_get, slice_index, slice_index_or, Option, Some, None, Contains}
 use Rattle.std.specs.List.{list_any}
-use Rattle.std.proofs.lemmas.Bool.{eqb-true, eqb-false, ne_eqb, eq-eqb, or_cases, or_parts, or_from, or_left, or_right, and_parts, and_left, both_ways as clash}
+use Rattle.std.proofs.lemmas.Bool.{eqb-true, eqb-false, eq-eqb, or_parts, or_from, or_left, or_right, and_left, both_ways as clash}
 use Rattle.std.proofs.lemmas.List.{get_or-set_other}
 use Rattle.prs_core.specs.declared.rule.Literal.{Literal}
 use Rattle.prs_core.specs.declared.wires.Wires.{Wires}
 use Rattle.prs_core.specs.Nets.{GuardValue, NetValue, up_of, down_of}
-use Rattle.prs_core.specs.Moves.{high, fired, literal_holds, term_holds, guard_holds, rule_enabled, both_ways, rail_value_of, neutral, bit_value, with_bit}
+use Rattle.prs_core.specs.Moves.{high, fired, literal_holds, term_holds, guard_holds, rule_enabled, both_ways, rail_value_of, neutral}
 use Rattle.prs_core.specs.Fans.{term_names, guard_names, reads, fan_value}
-use Rattle.env_script.specs.Scripts.{OfferValue, gives, takes, nothing, offer_at, is_over}
-use Rattle.env_script.specs.Environment.{in_reset, is_reset, rules_rest, is_odd, raises_bit, raises_value, raises_next, lowers, valid, offer_moves, channels_move, raises_go}
-use Rattle.env_script.specs.Runs.{RunState, move_enabled, moved, completed, history_at, histories_after, with_values, with_value, completes}
+use Rattle.env_script.specs.Scripts.{OfferValue, gives, takes, nothing, offer_at}
+use Rattle.env_script.specs.Environment.{in_reset, is_reset, is_odd, raises_bit, raises_value, raises_next, lowers, offer_moves, channels_move, raises_go}
+use Rattle.env_script.specs.Runs.{RunState, move_enabled, moved, completed, history_at, histories_after, with_values}
 use Rattle.event_sim.specs.Locality.{is_wire, share_channel, IndexedValue, is_ready}
 
 -- a node that the environment may move for a channel is a wire of it

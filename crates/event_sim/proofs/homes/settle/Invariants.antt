@@ -1,4 +1,4 @@
-use Rattle.std.proofs.Common.{◌≡◌, ◌<◌, ℕ, take, length, get_or, vec_len}
+use Rattle.std.proofs.Common.{◌≡◌, ◌<◌, ℕ, take, get_or, vec_len}
 use Rattle.std.specs.Prelude.{Some, None, ◌==◌, if◌then◌else◌}
 use Rattle.std.specs.List.{list_any}
 use Rattle.event_sim.proofs.homes.settle.Given as goal

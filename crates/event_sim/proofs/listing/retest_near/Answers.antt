@@ -1,5 +1,5 @@
-use Rattle.std.proofs.Common.{◌≡◌, ◌<◌, ◌∙◌, ◌++◌, ◌∷◌, [], refl, sym, ap, subst, set, get_or, length, Bool, ℕ, List, arith}
-use Rattle.std.specs.Prelude.{All, Some, None}
+use Rattle.std.proofs.Common.{◌≡◌, ◌<◌, ◌∙◌, ◌++◌, ◌∷◌, [], sym, ap, subst, set, get_or, length, Bool, ℕ, List}
+use Rattle.std.specs.Prelude.{All, None}
 use Rattle.std.specs.List.{range_with_len}
 use Rattle.std.proofs.lemmas.List.Elements.{All-filter}
 use Rattle.prs_core.specs.declared.wires.Wires.{Wires}

@@ -1,4 +1,4 @@
-use Rattle.std.proofs.Common.{take, ap, refl, arith}
+use Rattle.std.proofs.Common.{refl}
 use Rattle.event_sim.proofs.Members.{placed, placed_near}
 use Rattle.event_sim.proofs.node_set.place_in.Goals as goal
 

@@ -1,4 +1,4 @@
-use Rattle.std.proofs.Common.{length, ◌+◌, ◌-◌, arith}
+use Rattle.std.proofs.Common.{◌+◌, ◌-◌, arith}
 use Rattle.event_sim.proofs.Members.{pulled_out}
 use Rattle.event_sim.proofs.node_set.remove_at.Goals as goal
 

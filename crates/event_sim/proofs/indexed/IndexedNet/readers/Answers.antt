@@ -1,6 +1,5 @@
-use Rattle.std.proofs.Common.{◌≡◌, ◌∙◌, ap, length, get_or, [], ℕ, List, arith}
+use Rattle.std.proofs.Common.{◌∙◌, ap, length, get_or, [], ℕ, List, arith}
 use Rattle.std.proofs.lemmas.List.FromFn.{get_or-map-range_with_len, length-map-range_with_len}
-use Rattle.prs_core.specs.Nets.{NetValue}
 use Rattle.prs_core.specs.Fans.{readers_below}
 use Rattle.event_sim.specs.Locality.{IndexedValue}
 use Rattle.event_sim.proofs.indexed.IndexedNet.readers.Goals as goal

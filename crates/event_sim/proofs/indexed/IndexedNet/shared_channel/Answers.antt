@@ -1,4 +1,4 @@
-use Rattle.std.proofs.Common.{◌∙◌, refl, ap, length, arith}
+use Rattle.std.proofs.Common.{refl, ap, length, arith}
 use Rattle.std.specs.Prelude.{Some}
 use Rattle.env_script.proofs.Wires.{one_each}
 use Rattle.event_sim.specs.Locality.{IndexedValue}

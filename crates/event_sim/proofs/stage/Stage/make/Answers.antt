@@ -1,9 +1,9 @@
-use Rattle.std.proofs.Common.{◌≡◌, ◌∙◌, ◌++◌, refl, sym, ap, subst, length, arith, true, Bool, List, ℕ, map}
+use Rattle.std.proofs.Common.{◌≡◌, ◌∙◌, ◌++◌, refl, sym, ap, subst, length, true, Bool, List, ℕ, map}
 use Rattle.std.specs.Prelude.{Option, option_to_list}
 use Rattle.std.proofs.lemmas.List.{length-set}
 use Rattle.std.proofs.lemmas.List.FromFn.{length-map-range_with_len}
 use Rattle.prs_core.specs.Moves.{high, both_ways, fired}
-use Rattle.env_script.specs.Runs.{RunState, moved, move_enabled, histories_after}
+use Rattle.env_script.specs.Runs.{RunState, move_enabled, histories_after}
 use Rattle.env_script.specs.Hazards.{least_below}
 use Rattle.event_sim.specs.Passing.{channel_histories, values_through}
 use Rattle.event_sim.specs.Locality.{IsCountedMove, IsRelisted}

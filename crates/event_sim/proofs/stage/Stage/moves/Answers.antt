@@ -1,5 +1,4 @@
 use Rattle.std.proofs.Common.{◌∙◌}
-use Rattle.event_sim.specs.Stages.{now_of}
 use Rattle.event_sim.proofs.Staged.{listed_same}
 use Rattle.event_sim.proofs.stage.Stage.moves.Goals as goal
 

@@ -1,7 +1,6 @@
-use Rattle.std.proofs.Common.{◌≡◌, ◌<◌, ◌-◌, ◌∙◌, vec_capacity, sym, ap, subst, length, ℕ, Bool, List, [], map, replicate}
+use Rattle.std.proofs.Common.{◌≡◌, ◌<◌, ◌-◌, ◌∙◌, vec_capacity, sym, ap, subst, length, ℕ, List, [], map, replicate}
 use Rattle.std.proofs.lemmas.List.Elements.{All-nil}
 use Rattle.prs_core.specs.declared.wires.Wires.{Wires}
-use Rattle.prs_core.specs.Nets.{NetValue}
 use Rattle.prs_core.specs.Moves.{high, both_ways}
 use Rattle.env_script.specs.Hazards.{least_below}
 use Rattle.env_script.specs.Runs.{RunState}
