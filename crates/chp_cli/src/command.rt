@@ -2,9 +2,11 @@
 
 ghost use Rattle.std.specs.Prelude.{◌≡◌, IfOk, IfSome, Some, is_some, option_map, true};
 ghost use Rattle.clap.specs.Words.{app_of, found_of, matches_of, rows_of, takes};
-ghost use Rattle.chp_cli.specs.Commands.{asked, command_of, compile_form, compile_of, file_form, file_of, is_set, plain_command, plain_compile, plain_file, verb_of};
+ghost use Rattle.chp_cli.specs.Commands.{HasFewSteps, asked, command_of, compile_form, compile_of, file_form, file_of, is_set, plain_command, plain_compile, plain_file, verb_of};
 ghost use Rattle.chp_cli.specs.Forms.{is_form, texts_of};
 
+use crate::run_words::simulation_in;
+use crate::simulation::Simulation;
 use clap::error::ErrorKind;
 use clap::{Arg, ArgAction, ArgMatches};
 use std::alloc::{AllocError, Global};
@@ -21,6 +23,8 @@ pub enum Command<'a> {
     Check { file: &'a str },
     /// `expand FILE`: write the tree of parts of the program text in this file.
     Expand { file: &'a str },
+    /// `simulate PRS SCRIPT`: make one run of a net under a script, and write its report.
+    Simulate(Simulation<'a>),
 }
 
 /// The first word of a command.
@@ -30,15 +34,17 @@ enum Verb {
     Migrate,
     Check,
     Expand,
+    Simulate,
 }
 
 /// The command that the words ask for, or `None` where they aren't a command's form. The words are those behind the
 /// program's name.
 ///
 /// The first word names the command. The words behind it are read by `clap`, by the form of that command: one file and,
-/// for `compile`, the flag `--reset`, which may stand once, before the file or behind it. The file is one word, which
-/// may be empty or `-`. Any other word that begins with a hyphen and has more is taken for a flag and refused, a call
-/// for help too, but behind `--` any word may stand; `--` may also end the words.
+/// for `compile`, the flag `--reset`, which may stand once, before the file or behind it; or for `simulate` two files and
+/// options with a value each, as told there. The file is one word, which may
+/// be empty or `-`. Any other word that begins with a hyphen and has more is taken for a flag and refused, a call for help
+/// too, but behind `--` any word may stand; `--` may also end the words.
 ///
 /// `Err` stands for want of memory, and it is left open when that comes.
 pub fn command_in<'a>(alloc: Global, words: &'a [String]) -> Result<Option<Command<'a>>, AllocError>
@@ -46,6 +52,7 @@ pub fn command_in<'a>(alloc: Global, words: &'a [String]) -> Result<Option<Comma
         option_map asked found ≡ command_of (texts_of words.now)) }
     ensures plain { IfOk result (λ found.
         option_map asked found ≡ plain_command (texts_of words.now)) }
+    ensures few { IfOk result (λ found. IfSome found HasFewSteps) }
 {
     let [first, rest @ ..] = words else {
         return Ok(None);
@@ -59,6 +66,7 @@ pub fn command_in<'a>(alloc: Global, words: &'a [String]) -> Result<Option<Comma
         Verb::Migrate => Ok(file_in(alloc, word, rest)?.map(|net| Command::Migrate { net })),
         Verb::Check => Ok(file_in(alloc, word, rest)?.map(|file| Command::Check { file })),
         Verb::Expand => Ok(file_in(alloc, word, rest)?.map(|file| Command::Expand { file })),
+        Verb::Simulate => Ok(simulation_in(alloc, word, rest)?.map(Command::Simulate)),
     }
 }
 
@@ -71,6 +79,7 @@ fn verb_in(word: &str) -> Option<Verb>
         "migrate" => Some(Verb::Migrate),
         "check" => Some(Verb::Check),
         "expand" => Some(Verb::Expand),
+        "simulate" => Some(Verb::Simulate),
         _ => None,
     }
 }
@@ -147,7 +156,7 @@ fn file_form<'a>(alloc: Global, name: &'a str) -> Result<clap::Command<'a>, Allo
 
 /// What the words give each argument of the form, or `None` where the form doesn't take them, for whatever cause. It
 /// serves every form without commands below it.
-fn matches_in<'a>(
+pub(crate) fn matches_in<'a>(
     form: clap::Command<'a>,
     words: &'a [String],
 ) -> Result<Option<ArgMatches<'a>>, AllocError>

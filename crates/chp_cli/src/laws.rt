@@ -7,10 +7,12 @@ ghost use Rattle.chp_cli.specs.Answers.{Answer, Given, OneAnswer, status_of, wri
 ghost use Rattle.chp_cli.specs.Compiling.{Compiles, IsFileCompiled, IsToCompile};
 ghost use Rattle.chp_cli.specs.Migrating.{Migrates, IsToMigrate};
 ghost use Rattle.chp_cli.specs.Commands.{Asked, IsAnswer};
+ghost use Rattle.chp_cli.specs.Orders.{Played};
 
-/// Law: to the same files, where the shelf tells them, a command has at most one answer.
+/// Law: to the same files, where the shelf tells them, and by the same orders a command has at most one answer.
 pub fn one_answer()
-    ensures { (command : Asked) (given : Given) → given.tells ≡ true → OneAnswer (IsAnswer command given) }
+    ensures { (command : Asked) (given : Given) (played : Played) → given.tells ≡ true →
+        OneAnswer (IsAnswer command given played) }
 {
     chp_syntax::laws::one_fault();
     prs_file::one_refusal();
