@@ -9,6 +9,8 @@ use Rattle.chp_cli.specs.Checking.{Checks}
 use Rattle.chp_cli.specs.Compiling.{Compiles}
 use Rattle.chp_cli.specs.Expanding.{Expands}
 use Rattle.chp_cli.specs.Migrating.{Migrates}
+use Rattle.chp_cli.specs.RoundsReporting.{Runs}
+use Rattle.chp_cli.specs.RoundsWords.{AskedRounds, rounds_of}
 use Rattle.chp_cli.specs.Orders.{OrderState, Played, place_named}
 use Rattle.chp_cli.specs.Simulating.{AskedRun, Simulates}
 use Rattle.chp_cli.specs.SimulateWords.{most_of_steps, simulate_of}
@@ -17,7 +19,8 @@ use Rattle.clap.specs.Words.{App, Rule, Text, first_of, matches_of, new_app, new
 use Rattle.clap.specs.Simple.{on_top}
 use Rattle.clap.specs.declared.builder.ArgAction.TheVariants.{Set, SetTrue}
 use Rattle.chp_cli.specs.declared.command.Command.{Command}
-use Rattle.chp_cli.specs.declared.command.Command.TheVariants.{Compile, Migrate, Check, Expand, Simulate}
+use Rattle.chp_cli.specs.declared.command.Command.TheVariants.{Compile, Migrate, Check, Expand, Simulate, Run}
+use Rattle.chp_cli.specs.declared.rounds_words.Rounds.{Rounds}
 use Rattle.chp_cli.specs.declared.simulation.Simulation.{Simulation}
 use Rattle.chp_cli.specs.declared.command.Verb.{Verb}
 use Rattle.chp_cli.specs.declared.command.Verb.TheVariants as verb
@@ -61,6 +64,7 @@ verb_of word = if bytes_eq word (codes "compile") then Some verb.Compile
     else if bytes_eq word (codes "check") then Some verb.Check
     else if bytes_eq word (codes "expand") then Some verb.Expand
     else if bytes_eq word (codes "simulate") then Some verb.Simulate
+    else if bytes_eq word (codes "run") then Some verb.Run
     else None
 
 -- a command and its file, as its bytes; `compile` with or without a reset node
@@ -70,6 +74,7 @@ pub data Asked : Type 0 where
   checks : Text → Asked
   expands : Text → Asked
   simulates : AskedRun → Asked
+  runs : AskedRounds → Asked
 
 -- a simulation, with its names as their bytes
 abbrev pub run_asked : Simulation → AskedRun
@@ -82,12 +87,17 @@ run_asked run = record {
   power = run.power;
 }
 
+-- rounds that are asked for, with the names as their bytes
+abbrev pub rounds_asked : Rounds → AskedRounds
+rounds_asked r = record { file = r.file.now; script = r.script.now; rounds = r.rounds }
+
 abbrev pub asked : Command → Asked
 asked (Compile file reset) = compiles file.now reset
 asked (Migrate net) = migrates net.now
 asked (Check file) = checks file.now
 asked (Expand file) = expands file.now
 asked (Simulate run) = simulates (run_asked run)
+asked (Run r) = runs (rounds_asked r)
 
 abbrev pub compile_with : (file reset : Option Text) → Option Asked
 compile_with file reset = option_map (λ name. compiles name (is_set reset)) file
@@ -106,6 +116,7 @@ command_with verb.Migrate word rest = option_map migrates (file_of word rest)
 command_with verb.Check word rest = option_map checks (file_of word rest)
 command_with verb.Expand word rest = option_map expands (file_of word rest)
 command_with verb.Simulate word rest = option_map simulates (simulate_of word rest)
+command_with verb.Run word rest = option_map runs (rounds_of word rest)
 
 -- what the words ask for, where they are a command's name and words that its form takes
 abbrev pub command_of : List Text → Option Asked
@@ -144,13 +155,14 @@ plain_compile words = if asks_reset words
     then option_map (λ file. compiles file true) (plain_file (without_reset words))
     else option_map (λ file. compiles file false) (plain_file words)
 
--- the words of `simulate` are told by its form alone
+-- the words of `simulate` and of `run` are told by their forms alone
 abbrev pub plain_with : Verb → Text → List Text → Option Asked
 plain_with verb.Compile word rest = plain_compile rest
 plain_with verb.Migrate word rest = option_map migrates (plain_file rest)
 plain_with verb.Check word rest = option_map checks (plain_file rest)
 plain_with verb.Expand word rest = option_map expands (plain_file rest)
 plain_with verb.Simulate word rest = option_map simulates (simulate_of word rest)
+plain_with verb.Run word rest = option_map runs (rounds_of word rest)
 
 abbrev pub plain_command : List Text → Option Asked
 plain_command [] = None
@@ -174,6 +186,7 @@ IsAnswer (migrates net) given played = Migrates given net
 IsAnswer (checks file) given played = Checks given file
 IsAnswer (expands file) given played = Expands given file
 IsAnswer (simulates run) given played = Simulates run given played
+IsAnswer (runs r) given played = Runs r given
 
 -- the names of its files
 abbrev pub files_of : Asked → List Text
@@ -182,6 +195,7 @@ files_of (migrates net) = net ∷ []
 files_of (checks file) = file ∷ []
 files_of (expands file) = file ∷ []
 files_of (simulates run) = run.net ∷ run.script ∷ []
+files_of (runs r) = r.file ∷ r.script ∷ []
 
 -- the place of the order that it asks for
 abbrev pub order_of : Asked → List OrderState → Option ℕ

@@ -44,9 +44,9 @@ bare_form name = on_top (λ s. record s { no_binary_name = true; disable_help_fl
 abbrev pub simulate_form : Text → App
 simulate_form name =
     with_rule (with_rule (with_rule (with_rule (with_rule (with_rule (bare_form name)
-        (word_rule (codes "PRS"))) (word_rule (codes "SCRIPT")))
-        (option_rule (codes "order"))) (option_rule (codes "seed")))
-        (option_rule (codes "steps"))) (option_rule (codes "power"))
+    (word_rule (codes "PRS"))) (word_rule (codes "SCRIPT")))
+    (option_rule (codes "order"))) (option_rule (codes "seed")))
+    (option_rule (codes "steps"))) (option_rule (codes "power"))
 
 -- ---- what is asked for
 

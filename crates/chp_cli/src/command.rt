@@ -5,6 +5,7 @@ ghost use Rattle.clap.specs.Words.{app_of, found_of, matches_of, rows_of, takes}
 ghost use Rattle.chp_cli.specs.Commands.{HasFewSteps, asked, command_of, compile_form, compile_of, file_form, file_of, is_set, plain_command, plain_compile, plain_file, verb_of};
 ghost use Rattle.chp_cli.specs.Forms.{is_form, texts_of};
 
+use crate::rounds_words::{Rounds, rounds_in};
 use crate::run_words::simulation_in;
 use crate::simulation::Simulation;
 use clap::error::ErrorKind;
@@ -25,6 +26,8 @@ pub enum Command<'a> {
     Expand { file: &'a str },
     /// `simulate PRS SCRIPT`: make one run of a net under a script, and write its report.
     Simulate(Simulation<'a>),
+    /// `run FILE SCRIPT`: report rounds of the program text in this file under this script.
+    Run(Rounds<'a>),
 }
 
 /// The first word of a command.
@@ -35,6 +38,7 @@ enum Verb {
     Check,
     Expand,
     Simulate,
+    Run,
 }
 
 /// The command that the words ask for, or `None` where they aren't a command's form. The words are those behind the
@@ -67,6 +71,7 @@ pub fn command_in<'a>(alloc: Global, words: &'a [String]) -> Result<Option<Comma
         Verb::Check => Ok(file_in(alloc, word, rest)?.map(|file| Command::Check { file })),
         Verb::Expand => Ok(file_in(alloc, word, rest)?.map(|file| Command::Expand { file })),
         Verb::Simulate => Ok(simulation_in(alloc, word, rest)?.map(Command::Simulate)),
+        Verb::Run => Ok(rounds_in(alloc, word, rest)?.map(Command::Run)),
     }
 }
 
@@ -80,6 +85,7 @@ fn verb_in(word: &str) -> Option<Verb>
         "check" => Some(Verb::Check),
         "expand" => Some(Verb::Expand),
         "simulate" => Some(Verb::Simulate),
+        "run" => Some(Verb::Run),
         _ => None,
     }
 }

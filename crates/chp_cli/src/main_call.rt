@@ -17,6 +17,7 @@ use crate::expand::expand;
 use crate::laws::one_answer;
 use crate::migrate::migrate;
 use crate::players::Players;
+use crate::rounds::rounds;
 use crate::say::tell;
 use crate::simulate::simulate;
 use crate::status::Status;
@@ -43,7 +44,7 @@ fn answer<'a, S: Shelf>(
         (files_of (asked command.now)) (given_by (S.tells shelf.old) (S.holds shelf.old)) (S.faults shelf.old)
         (S.faults shelf.new)) }
     ensures orders { let before = map (λ order. order_state (name order) (log order) (seeded order))
-            players.old.orders.items in
+        players.old.orders.items in
         KeepsOrders (order_of (asked command.now) before) (played_by before
         (map (λ order. order_state (name order) (log order) (seeded order)) players.new.orders.items)) }
     ensures same { S.tells shelf.new ≡ S.tells shelf.old }
@@ -56,6 +57,7 @@ fn answer<'a, S: Shelf>(
         Command::Check { file } => check(alloc, shelf, file),
         Command::Expand { file } => expand(alloc, shelf, file),
         Command::Simulate(run) => simulate(alloc, shelf, players, run),
+        Command::Run(asked) => rounds(alloc, shelf, asked),
     }
 }
 
@@ -69,13 +71,13 @@ fn run<'a, S: Shelf, K: Sink>(
 ) -> End<'a>
     ensures ended { (appended : List ℕ)
         × Ends (asked_by words.now) (given_by (S.tells shelf.old) (S.holds shelf.old)) (played_by
-            (map (λ order. order_state (name order) (log order) (seeded order)) players.old.orders.items)
-            (map (λ order. order_state (name order) (log order) (seeded order)) players.new.orders.items))
-            (S.faults shelf.old) (S.faults shelf.new) (K.faults out.old) (K.faults out.new) (end_status result) appended
-            (end_line result)
+        (map (λ order. order_state (name order) (log order) (seeded order)) players.old.orders.items)
+        (map (λ order. order_state (name order) (log order) (seeded order)) players.new.orders.items))
+        (S.faults shelf.old) (S.faults shelf.new) (K.faults out.old) (K.faults out.new) (end_status result) appended
+        (end_line result)
         × (K.tells out.old ≡ true → K.written out.new ≡ K.written out.old ++ appended) }
     ensures orders { let before = map (λ order. order_state (name order) (log order) (seeded order))
-            players.old.orders.items in
+        players.old.orders.items in
         KeepsOrders (asked_order (asked_by words.now) before) (played_by before
         (map (λ order. order_state (name order) (log order) (seeded order)) players.new.orders.items)) }
     ensures shelf_same { S.tells shelf.new ≡ S.tells shelf.old }
@@ -119,16 +121,16 @@ pub fn chp_main<S: Shelf, K: Sink, W: Sink>(
 ) -> Status
     ensures ended { (appended : List ℕ) × (line : List ℕ)
         × Ends (asked_by words.now) (given_by (S.tells shelf.old) (S.holds shelf.old)) (played_by
-            (map (λ order. order_state (name order) (log order) (seeded order)) players.old.orders.items)
-            (map (λ order. order_state (name order) (log order) (seeded order)) players.new.orders.items))
-            (S.faults shelf.old) (S.faults shelf.new) (K.faults out.old) (K.faults out.new) result appended line
+        (map (λ order. order_state (name order) (log order) (seeded order)) players.old.orders.items)
+        (map (λ order. order_state (name order) (log order) (seeded order)) players.new.orders.items))
+        (S.faults shelf.old) (S.faults shelf.new) (K.faults out.old) (K.faults out.new) result appended line
         × (K.tells out.old ≡ true → K.written out.new ≡ K.written out.old ++ appended)
         × (W.tells say.old ≡ true → ¬ Rose (W.faults say.old) (W.faults say.new) →
         W.written say.new ≡ W.written say.old ++ line) }
     ensures complete { (answer : Answer) → S.tells shelf.old ≡ true →
         AnswersTo (asked_by words.now) (given_by (S.tells shelf.old) (S.holds shelf.old)) (played_by
-            (map (λ order. order_state (name order) (log order) (seeded order)) players.old.orders.items)
-            (map (λ order. order_state (name order) (log order) (seeded order)) players.new.orders.items)) answer
+        (map (λ order. order_state (name order) (log order) (seeded order)) players.old.orders.items)
+        (map (λ order. order_state (name order) (log order) (seeded order)) players.new.orders.items)) answer
         → ¬ Rose (S.faults shelf.old) (S.faults shelf.new) → ¬ Rose (K.faults out.old) (K.faults out.new) →
         (result ≡ status_of answer) ⊎ (result ≡ Status.NoMemory) }
     ensures usage { result ≡ Status.Usage → asked_by words.now ≡ None }
@@ -138,7 +140,7 @@ pub fn chp_main<S: Shelf, K: Sink, W: Sink>(
     ensures silent { is_whole result ≡ false → result ≢ Status.Write → K.tells out.old ≡ true →
         K.written out.new ≡ K.written out.old }
     ensures orders { let before = map (λ order. order_state (name order) (log order) (seeded order))
-            players.old.orders.items in
+        players.old.orders.items in
         KeepsOrders (asked_order (asked_by words.now) before) (played_by before
         (map (λ order. order_state (name order) (log order) (seeded order)) players.new.orders.items)) }
     ensures shelf_same { S.tells shelf.new ≡ S.tells shelf.old }

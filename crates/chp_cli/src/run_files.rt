@@ -21,11 +21,7 @@ use std::alloc::{AllocError, Global};
 const MOST_OF_SCRIPT: usize = 2_097_152;
 
 /// The net whose rule file has this name.
-pub fn net_in<'a, S: Shelf>(
-    alloc: Global,
-    shelf: &mut S,
-    file: &'a str,
-) -> Result<Net, Stop<'a>>
+pub fn net_in<'a, S: Shelf>(alloc: Global, shelf: &mut S, file: &'a str) -> Result<Net, Stop<'a>>
     ensures read { IfOk result (λ net. HoldsNet (given_by (S.tells shelf.old) (S.holds shelf.old)) file.entry.now net) }
     ensures stopped { IfErr result (Stops
         (FromFile (given_by (S.tells shelf.old) (S.holds shelf.old)) file.entry.now most_of_net (λ text. FromNet text Never))
@@ -61,11 +57,7 @@ pub fn channels_of(alloc: Global, net: &Net) -> Result<Vec<Channel>, AllocError>
 }
 
 /// The script of these channels that the text is.
-fn script_of_text<'a>(
-    alloc: Global,
-    text: &[u8],
-    channels: &[Channel],
-) -> Result<Script, Stop<'a>>
+fn script_of_text<'a>(alloc: Global, text: &[u8], channels: &[Channel]) -> Result<Script, Stop<'a>>
     requires short { length text.now ≤ most_of_script }
     requires distinct { AllPairs (λ (a b : ChannelValue). a.name ≢ b.name) channels.now }
     requires widths { All (λ (c : ChannelValue). (1 ≤ c.width) × (c.width ≤ 64)) channels.now }
@@ -94,7 +86,7 @@ pub fn script_in<'a, S: Shelf>(
         HoldsScript (given_by (S.tells shelf.old) (S.holds shelf.old)) file.entry.now channels.now script) }
     ensures stopped { IfErr result (Stops
         (FromFile (given_by (S.tells shelf.old) (S.holds shelf.old)) file.entry.now most_of_script
-            (λ text. FromScript channels.now text Never))
+        (λ text. FromScript channels.now text Never))
         (file.entry.now ∷ []) (given_by (S.tells shelf.old) (S.holds shelf.old)) (S.faults shelf.old)
         (S.faults shelf.new)) }
     ensures same { S.tells shelf.new ≡ S.tells shelf.old }

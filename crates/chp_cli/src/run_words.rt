@@ -117,7 +117,7 @@ fn power_of(text: Option<&str>) -> Option<Option<bool>>
 }
 
 /// The number that the text is, where it is one of at most so much; the other one where no text is given.
-fn number_or(text: Option<&str>, otherwise: u64, most: u64) -> Option<u64>
+pub(crate) fn number_or(text: Option<&str>, otherwise: u64, most: u64) -> Option<u64>
     requires { otherwise ≤ most }
     ensures number { result ≡ number_or otherwise most (option_map (λ t. t.now) text.entry) }
     ensures within { IfSome result (λ n. n ≤ most) }
@@ -178,7 +178,7 @@ fn value_of(digits: &[u8]) -> Option<u64>
 }
 
 /// A positional that has to be there, and is given once.
-fn word_arg<'a>(alloc: Global, id: &'a str) -> Arg<'a>
+pub(crate) fn word_arg<'a>(alloc: Global, id: &'a str) -> Arg<'a>
     ensures rule { rule_of result ≡ word_rule id.entry.now }
     ensures local { result.global ≡ false }
 {
@@ -186,7 +186,7 @@ fn word_arg<'a>(alloc: Global, id: &'a str) -> Arg<'a>
 }
 
 /// An option of this name with a value, which may be given once.
-fn option_arg<'a>(alloc: Global, id: &'a str) -> Arg<'a>
+pub(crate) fn option_arg<'a>(alloc: Global, id: &'a str) -> Arg<'a>
     ensures rule { rule_of result ≡ option_rule id.entry.now }
     ensures local { result.global ≡ false }
 {
@@ -194,7 +194,7 @@ fn option_arg<'a>(alloc: Global, id: &'a str) -> Arg<'a>
 }
 
 /// A form that takes nothing, not even a flag for help.
-fn bare_form<'a>(alloc: Global, name: &'a str) -> Command<'a>
+pub(crate) fn bare_form<'a>(alloc: Global, name: &'a str) -> Command<'a>
     ensures { app_of result ≡ bare_form name.entry.now }
 {
     Command::new(alloc, name)

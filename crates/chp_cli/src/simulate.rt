@@ -92,7 +92,7 @@ fn play(
     requires nodes { length sim.net.first ≤ room.nodes }
     ensures answered { IfOk result (λ output.
         PlaysOut sim seed (order_state (name picker.old) (log picker.old) (seeded picker.old))
-            (order_state (name picker.new) (log picker.new) (seeded picker.new)) (told_answer output)) }
+        (order_state (name picker.new) (log picker.new) (seeded picker.new)) (told_answer output)) }
     ensures name { name picker.new ≡ name picker.old }
 {
     prepare(picker, seed, room)?;
@@ -179,7 +179,7 @@ pub fn simulate<'a, S: Shelf>(
         (run.now.net.now ∷ run.now.script.now ∷ []) (given_by (S.tells shelf.old) (S.holds shelf.old))
         (S.faults shelf.old) (S.faults shelf.new)) }
     ensures orders { let before = map (λ order. order_state (name order) (log order) (seeded order))
-            players.old.orders.items in
+        players.old.orders.items in
         KeepsOrders (place_named before run.now.order.now) (played_by before
         (map (λ order. order_state (name order) (log order) (seeded order)) players.new.orders.items)) }
     ensures same { S.tells shelf.new ≡ S.tells shelf.old }
