@@ -84,10 +84,13 @@ pub record SimulatesNet (played : Played) (place seed : ℕ) (s : SimValue) (ans
 abbrev pub SimulatesFile : AskedRun → Given → Played → (place : ℕ) → NetValue → Answer → Type 0
 SimulatesFile s given played place net =
     FromPower net s.power
-    (FromFile given s.script most_of_script (λ text. FromScript (net_channels net) text (λ script.
-    SimulatesNet played place s.seed (simulation_for net script s.steps s.power))))
+        (FromFile given s.script most_of_script (λ text. FromScript (net_channels net) text (λ script.
+            SimulatesNet played place s.seed (simulation_for net script s.steps s.power))))
+
+-- the order at this place is wanted, and the rule file is read
+abbrev pub SimulatesAt : AskedRun → Given → Played → (place : ℕ) → Answer → Type 0
+SimulatesAt s given played place =
+    FromFile given s.net most_of_net (λ text. FromNet text (SimulatesFile s given played place))
 
 abbrev pub Simulates : AskedRun → Given → Played → Answer → Type 0
-Simulates s given played =
-    FromOrder played s.order (λ place.
-    FromFile given s.net most_of_net (λ text. FromNet text (SimulatesFile s given played place)))
+Simulates s given played = FromOrder played s.order (SimulatesAt s given played)

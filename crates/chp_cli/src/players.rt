@@ -1,6 +1,7 @@
 //! The orders that are handed in.
 
-ghost use Rattle.std.specs.Prelude.{◌≡◌, position, bytes_eq};
+ghost use Rattle.std.specs.Prelude.{◌≡◌, ◌<◌, IfSome, bytes_eq, length, map, position};
+ghost use Rattle.chp_cli.specs.Orders.{order_state, place_named};
 
 use event_sim::Picker;
 
@@ -17,9 +18,21 @@ fn is_named(order: &Box<dyn Picker>, wanted: &str) -> bool
     order.name() == wanted
 }
 
-/// The place of the first order of this name.
-pub(crate) fn place_of(orders: &[Box<dyn Picker>], wanted: &str) -> Option<usize>
+fn first_named(orders: &[Box<dyn Picker>], wanted: &str) -> Option<usize>
     ensures { result ≡ position (λ order. bytes_eq (name order) wanted.now) orders.now }
 {
-    orders.iter().position(|order| is_named(order, wanted))
+    orders
+        .iter()
+        .position(|order: &Box<dyn Picker>| -> bool
+            ensures { result ≡ bytes_eq (name order.now) wanted.entry.now }
+        { is_named(order, wanted) })
+}
+
+/// The place of the first order of this name.
+pub(crate) fn place_of(players: &Players, wanted: &str) -> Option<usize>
+    ensures place { result ≡ place_named
+        (map (λ order. order_state (name order) (log order) (seeded order)) players.now.orders.items) wanted.now }
+    ensures within { IfSome result (λ place. place < length players.now.orders.items) }
+{
+    first_named(&players.orders, wanted)
 }

@@ -37,13 +37,8 @@ pub fn net_in<'a, S: Shelf>(alloc: Global, shelf: &mut S, file: &'a str) -> Resu
     }
 }
 
-/// The channels of the net.
-pub fn channels_of(alloc: Global, net: &Net) -> Result<Vec<Channel>, AllocError>
-    ensures channels { IfOk result (λ channels. channels.items ≡ net_channels net.now) }
-    ensures distinct { IfOk result (λ channels.
-        AllPairs (λ (a b : ChannelValue). a.name ≢ b.name) channels.items) }
-    ensures widths { IfOk result (λ channels.
-        All (λ (c : ChannelValue). (1 ≤ c.width) × (c.width ≤ 64)) channels.items) }
+fn copied_channels(alloc: Global, net: &Net) -> Result<Vec<Channel>, AllocError>
+    ensures { IfOk result (λ channels. channels.items ≡ net_channels net.now) }
 {
     let mut channels = Vec::new(alloc);
     for wires in net.channels() {
@@ -54,6 +49,19 @@ pub fn channels_of(alloc: Global, net: &Net) -> Result<Vec<Channel>, AllocError>
         })?;
     }
     Ok(channels)
+}
+
+/// The channels of the net.
+pub fn channels_of(alloc: Global, net: &Net) -> Result<Vec<Channel>, AllocError>
+    ensures channels { IfOk result (λ channels. channels.items ≡ net_channels net.now) }
+    ensures distinct { IfOk result (λ channels.
+        AllPairs (λ (a b : ChannelValue). a.name ≢ b.name) channels.items) }
+    ensures widths { IfOk result (λ channels.
+        All (λ (c : ChannelValue). (1 ≤ c.width) × (c.width ≤ 64)) channels.items) }
+{
+    // what the net's type keeps is told of its channels
+    let _kept = net.first();
+    copied_channels(alloc, net)
 }
 
 /// The script of these channels that the text is.

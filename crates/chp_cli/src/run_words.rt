@@ -1,6 +1,6 @@
 //! The words of `simulate`.
 
-ghost use Rattle.std.specs.Prelude.{◌≡◌, ◌≤◌, ◌^◌, IfNone, IfOk, IfSome, option_map, true};
+ghost use Rattle.std.specs.Prelude.{◌≡◌, ◌≤◌, ◌^◌, IfNone, IfOk, IfSome, false, option_map, true};
 ghost use Rattle.std.specs.List.{list_all};
 ghost use Rattle.chp_base.specs.Names.{digit};
 ghost use Rattle.clap.specs.Words.{app_of, rule_of};
@@ -75,7 +75,7 @@ impl<'a> Texts<'a> {
 
     /// What they ask for, where both files are given and each option has a value of its kind.
     fn simulation(self) -> Option<Simulation<'a>>
-        ensures asked { option_map run_asked result ≡ run_with (texts_given self) }
+        ensures asked { option_map run_asked result ≡ run_with (texts_given self.entry) }
         ensures few { IfSome result (λ run. run.steps ≤ 1000000) }
     {
         let net = self.net?;
@@ -96,7 +96,7 @@ impl<'a> Texts<'a> {
 
 /// The name of the order, where none is given too.
 fn order_or_lowest<'a>(text: Option<&'a str>) -> &'a str
-    ensures { result.now ≡ order_or (option_map (λ t. t.now) text) }
+    ensures { result.now ≡ order_or (option_map (λ t. t.now) text.entry) }
 {
     match text {
         Some(text) => text,

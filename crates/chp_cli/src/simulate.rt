@@ -8,7 +8,7 @@ ghost use Rattle.chp_cli.specs.Commands.{run_asked};
 ghost use Rattle.chp_cli.specs.Orders.{IsPlayedAt, KeepsOrders, order_state, place_named, played_by};
 ghost use Rattle.chp_cli.specs.Replies.{Stops, told_answer};
 ghost use Rattle.chp_cli.specs.RunSteps.{lacks_reset};
-ghost use Rattle.chp_cli.specs.Simulating.{IsReported, PlaysOut, Simulates, SimulatesNet, ending_for, simulation_for};
+ghost use Rattle.chp_cli.specs.Simulating.{IsReported, PlaysOut, Simulates, SimulatesAt, SimulatesNet, ending_for, simulation_for};
 
 use crate::answer::{Ending, Output, Refusal, Stop};
 use crate::players::{Players, place_of};
@@ -29,6 +29,13 @@ fn ending_for(end: End) -> Ending
         End::AtRest | End::Spent => Ending::Done,
         End::Unstable { .. } | End::BothWays { .. } | End::Protocol { .. } => Ending::Hazard,
     }
+}
+
+/// Whether a power is asked for, and the net has no reset node.
+fn is_powerless(net: &Net, power: Option<bool>) -> bool
+    ensures { result ≡ lacks_reset power net.now.reset }
+{
+    power.is_some() && net.reset().is_none()
 }
 
 /// The simulation of the net under the script, for so many moves at most. A power asks for a net with a reset node.
@@ -159,6 +166,52 @@ fn run_at<'a>(
     }
 }
 
+/// What `simulate` answers, where the order at this place is wanted.
+fn simulate_at<'a, S: Shelf>(
+    alloc: Global,
+    shelf: &mut S,
+    players: &mut Players,
+    place: usize,
+    run: &Simulation<'a>,
+) -> Result<Output, Stop<'a>>
+    requires place { place < length players.old.orders.items }
+    requires steps { run.now.steps ≤ 1000000 }
+    ensures answered { IfOk result (λ output. SimulatesAt (run_asked run.now)
+        (given_by (S.tells shelf.old) (S.holds shelf.old)) (played_by
+        (map (λ order. order_state (name order) (log order) (seeded order)) players.old.orders.items)
+        (map (λ order. order_state (name order) (log order) (seeded order)) players.new.orders.items))
+        place (told_answer output)) }
+    ensures stopped { IfErr result (Stops (SimulatesAt (run_asked run.now)
+        (given_by (S.tells shelf.old) (S.holds shelf.old)) (played_by
+        (map (λ order. order_state (name order) (log order) (seeded order)) players.old.orders.items)
+        (map (λ order. order_state (name order) (log order) (seeded order)) players.new.orders.items)) place)
+        (run.now.net.now ∷ run.now.script.now ∷ []) (given_by (S.tells shelf.old) (S.holds shelf.old))
+        (S.faults shelf.old) (S.faults shelf.new)) }
+    ensures played { IsPlayedAt place (played_by
+        (map (λ order. order_state (name order) (log order) (seeded order)) players.old.orders.items)
+        (map (λ order. order_state (name order) (log order) (seeded order)) players.new.orders.items)) }
+    ensures same { S.tells shelf.new ≡ S.tells shelf.old }
+    ensures kept { S.holds shelf.new ≡ S.holds shelf.old }
+    ensures faults { S.faults shelf.old ≤ S.faults shelf.new }
+{
+    let net = match net_in(alloc, shelf, run.net) {
+        Ok(net) => net,
+        Err(stop) => return Err(stop),
+    };
+    if is_powerless(&net, run.power) {
+        return Err(Stop::Refused(Refusal::NoReset));
+    }
+    let channels = match channels_of(alloc, &net) {
+        Ok(channels) => channels,
+        Err(_) => return Err(Stop::NoMemory),
+    };
+    let script = match script_in(alloc, shelf, run.script, &channels) {
+        Ok(script) => script,
+        Err(stop) => return Err(stop),
+    };
+    run_at(alloc, players, place, net, script, run)
+}
+
 /// What `simulate` answers.
 pub fn simulate<'a, S: Shelf>(
     alloc: Global,
@@ -186,23 +239,8 @@ pub fn simulate<'a, S: Shelf>(
     ensures kept { S.holds shelf.new ≡ S.holds shelf.old }
     ensures faults { S.faults shelf.old ≤ S.faults shelf.new }
 {
-    let Some(place) = place_of(&players.orders, run.order) else {
-        return Err(Stop::Refused(Refusal::NoOrder(run.order)));
-    };
-    let net = match net_in(alloc, shelf, run.net) {
-        Ok(net) => net,
-        Err(stop) => return Err(stop),
-    };
-    if run.power.is_some() && net.reset().is_none() {
-        return Err(Stop::Refused(Refusal::NoReset));
+    match place_of(players, run.order) {
+        Some(place) => simulate_at(alloc, shelf, players, place, run),
+        None => Err(Stop::Refused(Refusal::NoOrder(run.order))),
     }
-    let channels = match channels_of(alloc, &net) {
-        Ok(channels) => channels,
-        Err(_) => return Err(Stop::NoMemory),
-    };
-    let script = match script_in(alloc, shelf, run.script, &channels) {
-        Ok(script) => script,
-        Err(stop) => return Err(stop),
-    };
-    run_at(alloc, players, place, net, script, run)
 }
