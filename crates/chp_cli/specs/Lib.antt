@@ -7,6 +7,7 @@ pub mod RunSteps
 pub mod Held
 pub mod Simulating
 pub mod SimulateWords
+pub mod Simulated
 pub mod Compiling
 pub mod Migrating
 pub mod Checking
