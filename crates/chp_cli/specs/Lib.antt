@@ -10,6 +10,7 @@ pub mod SimulateWords
 pub mod HeldPrograms
 pub mod RoundsWords
 pub mod RoundsReporting
+pub mod Simulated
 pub mod Compiling
 pub mod Migrating
 pub mod Checking

@@ -113,6 +113,6 @@ run_with t = option_and_then (λ net. option_and_then (λ script.
     t.script) t.net
 
 -- what the words behind `simulate` ask for, where its form takes them
-abbrev pub simulate_of : Text → List Text → Option AskedRun
+unfoldable pub simulate_of : Text → List Text → Option AskedRun
 simulate_of name words = if takes (simulate_form name) words
     then run_with (given_texts (matches_of (simulate_form name) words)) else None

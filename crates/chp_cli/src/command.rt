@@ -2,7 +2,8 @@
 
 ghost use Rattle.std.specs.Prelude.{◌≡◌, IfOk, IfSome, Some, is_some, option_map, true};
 ghost use Rattle.clap.specs.Words.{app_of, found_of, matches_of, rows_of, takes};
-ghost use Rattle.chp_cli.specs.Commands.{HasFewSteps, asked, command_of, compile_form, compile_of, file_form, file_of, is_set, plain_command, plain_compile, plain_file, verb_of};
+ghost use Rattle.chp_cli.specs.Commands.{HasFewSteps, asked, command_of, compile_form, compile_of, file_form, file_of, is_set, plain_command, plain_compile, plain_file, simulates, verb_of};
+ghost use Rattle.chp_cli.specs.SimulateWords.{simulate_of};
 ghost use Rattle.chp_cli.specs.Forms.{is_form, texts_of};
 
 use crate::rounds_words::{Rounds, rounds_in};
@@ -70,7 +71,7 @@ pub fn command_in<'a>(alloc: Global, words: &'a [String]) -> Result<Option<Comma
         Verb::Migrate => Ok(file_in(alloc, word, rest)?.map(|net| Command::Migrate { net })),
         Verb::Check => Ok(file_in(alloc, word, rest)?.map(|file| Command::Check { file })),
         Verb::Expand => Ok(file_in(alloc, word, rest)?.map(|file| Command::Expand { file })),
-        Verb::Simulate => Ok(simulation_in(alloc, word, rest)?.map(Command::Simulate)),
+        Verb::Simulate => simulate_in(alloc, word, rest),
         Verb::Run => Ok(rounds_in(alloc, word, rest)?.map(Command::Run)),
     }
 }
@@ -115,6 +116,22 @@ fn compile_in<'a>(
         },
         Ok(None) => Ok(None),
         Err(error) => Err(error),
+    }
+}
+
+/// What the words behind `simulate` ask for, where they are its form.
+fn simulate_in<'a>(
+    alloc: Global,
+    name: &'a str,
+    words: &'a [String],
+) -> Result<Option<Command<'a>>, AllocError>
+    ensures form { IfOk result (λ found. option_map asked found
+        ≡ option_map simulates (simulate_of name.entry.now (texts_of words.entry.now))) }
+    ensures few { IfOk result (λ found. IfSome found HasFewSteps) }
+{
+    match simulation_in(alloc, name, words)? {
+        Some(run) => Ok(Some(Command::Simulate(run))),
+        None => Ok(None),
     }
 }
 
