@@ -37,23 +37,23 @@ pub simulation_written : (s : AskedRun) (given : Given) (played : Played) → gi
     Simulates s given played (writes end text) → IsFileSimulated s given played (writes end text)
 simulation_written s given played told end text (an_order {place = k} named (a_file {text = x} gives short (a_net {net = n} is (has_power powered
     (a_file {text = t} reads fits (a_script {script = sc} are plays)))))) = record {
-  rules = x;
-  net = n;
-  told = t;
-  script = sc;
-  place = k;
-  was = plays.was;
-  is = plays.is;
-  held = gives told;
-  file = is;
-  held_script = reads told;
-  told_is = are;
-  powered = powered;
-  named = named;
-  before = plays.before;
-  after = plays.after;
-  plays = plays.plays;
-}
+      rules = x;
+      net = n;
+      told = t;
+      script = sc;
+      place = k;
+      was = plays.was;
+      is = plays.is;
+      held = gives told;
+      file = is;
+      held_script = reads told;
+      told_is = are;
+      powered = powered;
+      named = named;
+      before = plays.before;
+      after = plays.after;
+      plays = plays.plays;
+    }
 
 -- ---- a safe run has no hazard
 
@@ -105,7 +105,6 @@ module _ (powered : (net : NetValue) (high : Bool) → IsNet net → IsSome net.
 
   module _ (law : (net : NetValue) (script : List OfferValue) (st : RunState) (n : ℕ) → IsNet net →
       ((IsSafeMove net script st n × IsApart net (moved net st n)) ↔ (hazard_of net script st n ≡ None))) where
-
     module _ (s : AskedRun) (given : Given) (played : Played) (p : TypedProgram) (holds : HoldsCarrying given s.net p) where
       carried_safe : (a : Answer) (f : IsFileSimulated s given played a) → AllSafe f.net f.script (start_at (simulation_for f.net f.script s.steps s.power))
       carried_safe a f =
@@ -118,9 +117,9 @@ module _ (powered : (net : NetValue) (high : Bool) → IsNet net → IsSome net.
           let moves = picked_moves sim f.was.log f.is.log in
           let run : IsRun f.net f.script (start_at sim) moves = picked_run f.net f.script (start_at sim) _ f.plays.run.picks in
           let calm : last_hazard f.net f.script (start_at sim) moves ≡ None =
-              safe_calm f.net f.script (λ st n safe. (law f.net f.script st n f.file.kept).0 safe) (start_at sim) moves (carried_safe _ f moves run) in
+          safe_calm f.net f.script (λ st n safe. (law f.net f.script st n f.file.kept).0 safe) (start_at sim) moves (carried_safe _ f moves run) in
           let ended : calm_end (enabled_moves f.net f.script (after f.net (start_at sim) moves)) (length moves == s.steps) ≡ Some f.plays.end =
-              sym (ap (λ h. end_with h (enabled_moves f.net f.script (after f.net (start_at sim) moves)) (length moves == s.steps)) calm) ∙ f.plays.run.ends.ended in
+          sym (ap (λ h. end_with h (enabled_moves f.net f.script (after f.net (start_at sim) moves)) (length moves == s.steps)) calm) ∙ f.plays.run.ends.ended in
           let told : end ≡ ending_for f.plays.end = let is = f.plays.written in cc is in
           told ∙ calm_done _ _ f.plays.end ended
 
@@ -130,6 +129,6 @@ module _ (powered : (net : NetValue) (high : Bool) → IsNet net → IsSome net.
           let moves = picked_moves sim f.was.log f.is.log in
           let run : IsRun f.net f.script (start_at sim) moves = picked_run f.net f.script (start_at sim) _ f.plays.run.picks in
           let still : IsAtRest f.net f.script (after f.net (start_at sim) moves) =
-              rests f.net f.script (after f.net (start_at sim) moves) f.file.kept
-                  (rest_empties (last_hazard f.net f.script (start_at sim) moves) _ _ (f.plays.run.ends.ended ∙ ap (λ e. Some e) rest)) in
+          rests f.net f.script (after f.net (start_at sim) moves) f.file.kept
+          (rest_empties (last_hazard f.net f.script (start_at sim) moves) _ _ (f.plays.run.ends.ended ∙ ap (λ e. Some e) rest)) in
           ends_all f.net f.script (start_at sim) f.file.kept (carried_safe a f) moves run still

@@ -27,8 +27,8 @@ pub plays_out : (s : SimValue) (seed : ℕ) (name other was seeded_log now : Lis
     → PlaysOut s seed (order_state name was old) (order_state other now new) a
 plays_out s seed name other was seeded_log now old new r a seeded same grown picks ends net moves done passed told = subst
     (λ (log : List ℕ). (now ≡ log ++ growth log now) × ArePicks s.net s.script (start_at s) (growth log now)
-        × EndsSo s.net s.script s.steps (start_at s) (picked_moves s log now) r.end × (r ≡ ran_value s log now r.end)
-        → PlaysOut s seed (order_state name was old) (order_state other now new) a)
+    × EndsSo s.net s.script s.steps (start_at s) (picked_moves s log now) r.end × (r ≡ ran_value s log now r.end)
+    → PlaysOut s seed (order_state name was old) (order_state other now new) a)
     (sym same) (λ f. record {
       end = r.end;
       run = record { seeded = seeded; grown = f.0; picks = f.1; ends = f.2 };

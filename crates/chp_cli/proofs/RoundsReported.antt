@@ -24,9 +24,9 @@ module _ (p : TypedProgram) (script : List OfferValue) (n : ℕ) where
       let last : rounds_from old n ≡ rounds p script n = ap (λ (c : Configuration). rounds_from c n) from in
       let there : new ≡ rounds p script n = is.1 ∙ last in
       subst (λ (t : List ℕ). ReportsRounds p script n (writes Done t)) (sym (subst (λ (c : Configuration). IsReportOf Rest c text) there report))
-          (at_rest (subst (λ (c : Configuration). held_in c ≤ most_of_values) last is.0) (subst (λ (c : Configuration). ¬ CanStep c) there is.2))
+      (at_rest (subst (λ (c : Configuration). held_in c ≤ most_of_values) last is.0) (subst (λ (c : Configuration). ¬ CanStep c) there is.2))
   ended_rounds Spent old new text other from is report =
       let last : rounds_from old n ≡ rounds p script n = ap (λ (c : Configuration). rounds_from c n) from in
       let there : new ≡ rounds p script n = is.1 ∙ last in
       subst (λ (t : List ℕ). ReportsRounds p script n (writes Done t)) (sym (subst (λ (c : Configuration). IsReportOf Spent c text) there report))
-          (spent (subst (λ (c : Configuration). held_in c ≤ most_of_values) last is.0) (subst CanStep there is.2))
+      (spent (subst (λ (c : Configuration). held_in c ≤ most_of_values) last is.0) (subst CanStep there is.2))

@@ -29,7 +29,7 @@ module _ (s : AskedRun) (given : Given) (played : Played) (told : given.tells �
   net_writes place n same a (has_power is (long_file long)) = too_long (long told).1 t.held_script (long told).2 t.short_script
   net_writes place n same a (has_power is (a_file gives short (no_script none))) =
       absurd (none.never t.script (subst (λ x. IsScriptText (net_channels n) x t.script) (same_text t.held_script (gives told))
-          (subst (λ (m : NetValue). IsScriptText (net_channels m) t.told t.script) same t.says)))
+      (subst (λ (m : NetValue). IsScriptText (net_channels m) t.told t.script) same t.says)))
   net_writes place n same a (has_power is (a_file gives short (a_script are plays))) =
       ap (λ (b : Answer). is_whole (status_of b)) plays.plays.written ∙ whole_end plays.plays.end
 

@@ -84,8 +84,8 @@ pub record SimulatesNet (played : Played) (place seed : ℕ) (s : SimValue) (ans
 abbrev pub SimulatesFile : AskedRun → Given → Played → (place : ℕ) → NetValue → Answer → Type 0
 SimulatesFile s given played place net =
     FromPower net s.power
-        (FromFile given s.script most_of_script (λ text. FromScript (net_channels net) text (λ script.
-            SimulatesNet played place s.seed (simulation_for net script s.steps s.power))))
+    (FromFile given s.script most_of_script (λ text. FromScript (net_channels net) text (λ script.
+    SimulatesNet played place s.seed (simulation_for net script s.steps s.power))))
 
 -- the order at this place is wanted, and the rule file is read
 abbrev pub SimulatesAt : AskedRun → Given → Played → (place : ℕ) → Answer → Type 0

@@ -21,11 +21,11 @@ fn is_named(order: &Box<dyn Picker>, wanted: &str) -> bool
 fn first_named(orders: &[Box<dyn Picker>], wanted: &str) -> Option<usize>
     ensures { result ≡ position (λ order. bytes_eq (name order) wanted.now) orders.now }
 {
-    orders
-        .iter()
-        .position(|order: &Box<dyn Picker>| -> bool
+    orders.iter().position(
+        |order: &Box<dyn Picker>| -> bool
             ensures { result ≡ bytes_eq (name order.now) wanted.entry.now }
-        { is_named(order, wanted) })
+        { is_named(order, wanted) },
+    )
 }
 
 /// The place of the first order of this name.

@@ -10,9 +10,9 @@ returns g c =
     let found = rw c.deref.ensures.value at c.first_named.ensures in
     record {
       place = found
-      ∙ sym (named_mapped
+          ∙ sym (named_mapped
           (λ order. order_state ((goal.Picker-dyn g (order.vtable, order.value)).name order.value)
-              ((goal.Picker-dyn g (order.vtable, order.value)).log order.value) ((goal.Picker-dyn g (order.vtable, order.value)).seeded order.value))
+          ((goal.Picker-dyn g (order.vtable, order.value)).log order.value) ((goal.Picker-dyn g (order.vtable, order.value)).seeded order.value))
           c.args.players.now.orders.items c.args.wanted.now);
       within = found_within _ _ _ found;
     }

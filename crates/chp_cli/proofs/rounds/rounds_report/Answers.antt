@@ -10,4 +10,4 @@ returns-clause-some c =
     let t = c.args.program.now in
     let other : c.in_ok-end.end ≢ TooMany = search rules in
     ended_rounds (typed_of t) c.args.script.now c.args.n c.in_ok-end.end (seen t c.in_ok-config.config) (seen t c.run_rounds.new.config) c.in_ok-text.text.items
-        other c.in_ok-config.ensures.start c.in_ok-end.ensures.end c.in_ok-text.ensures
+    other c.in_ok-config.ensures.start c.in_ok-end.ensures.end c.in_ok-text.ensures

@@ -24,5 +24,5 @@ returns-in-Ok-Some c =
     let is = rw c.in-Ok-Some.field-0-is at c.in-Ok-Some.ensures.matches in
     c.rounds_with.ensures
     ∙ (same_texts _ _ _ _ _ _ (c.get_str.ensures ∙ first_value-rows found (codes "FILE"))
-        (c.get_str-in-Ok-Some.ensures ∙ first_value-rows found (codes "SCRIPT")) (c.get_str-in-Ok-Some-2.ensures ∙ first_value-rows found (codes "rounds"))
+    (c.get_str-in-Ok-Some.ensures ∙ first_value-rows found (codes "SCRIPT")) (c.get_str-in-Ok-Some-2.ensures ∙ first_value-rows found (codes "rounds"))
     ∙ taken_rounds _ _ words (rows_of found) c.in_ok-form.ensures taken is)

@@ -16,5 +16,5 @@ pub returns-clause-widths : goal.returns-clause-widths
 returns-clause-widths c =
     ok_in c.copied_channels.result _ (λ channels. All (λ (channel : Channel). (1 ≤ channel.width) × (channel.width ≤ 64)) channels.items)
     (λ channels are. subst (λ (cs : List Channel). All (λ (channel : Channel). (1 ≤ channel.width) × (channel.width ≤ 64)) cs) (sym are)
-        (channels_wide _ c.first-kept.ensures.net))
+    (channels_wide _ c.first-kept.ensures.net))
     c.copied_channels.ensures

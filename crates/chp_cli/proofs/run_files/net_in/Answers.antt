@@ -15,7 +15,7 @@ returns-in-Ok-clause-stopped g c =
     let whole = FromFile given c.args.file.now most_of_net (λ t. FromNet t Never) in
     err_in c.net_of_text.result (Halts next) (Stops whole (c.args.file.now ∷ []) given (S.faults c.args.shelf.now) (S.faults c.text_of_file.new.shelf))
     (stops_where next whole (λ answer is. a_file c.in-Ok.ensures.read c.in-Ok.ensures.short is) (c.args.file.now ∷ []) given (S.faults c.args.shelf.now)
-        (S.faults c.text_of_file.new.shelf))
+    (S.faults c.text_of_file.new.shelf))
     (rw c.deref.ensures.value at c.net_of_text.ensures.stopped)
 
 pub returns-in-Err-clause-stopped : goal.returns-in-Err-clause-stopped
@@ -25,4 +25,4 @@ returns-in-Err-clause-stopped g c =
     let before = S.faults c.args.shelf.now in
     stops_in (FromFile given c.args.file.now most_of_net Never) (FromFile given c.args.file.now most_of_net (λ t. FromNet t Never)) (λ answer is. file_goes is)
     (c.args.file.now ∷ []) (c.args.file.now ∷ []) given before before (S.faults c.text_of_file.new.shelf) (λ name own. own) (omega arith) c.in-Err.stop
-        c.in-Err.ensures.stopped
+    c.in-Err.ensures.stopped

@@ -14,5 +14,5 @@ returns-clause-answered g c =
     let e = c.run-ran.ensures in
     ok_in c.reported.result (λ output. IsReported c.run-ran.result (told_answer output)) _
     (λ output told. plays_out c.args.sim c.args.seed _ _ _ _ _ _ _ c.run-ran.result (told_answer output)
-        (e.seeded ∙ c.prepare.ensures.seeded) c.prepare.ensures.log e.log e.picks e.ends e.net e.moves e.done e.passed told)
+    (e.seeded ∙ c.prepare.ensures.seeded) c.prepare.ensures.log e.log e.picks e.ends e.net e.moves e.done e.passed told)
     c.reported.ensures

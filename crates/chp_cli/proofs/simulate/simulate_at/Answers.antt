@@ -38,7 +38,7 @@ returns-clause-answered g c =
     let same : c.deref.result.now ≡ net_channels c.in-Ok.net = c.deref.ensures.value ∙ c.in-Ok-channels_of.ensures.channels in
     ok_in c.run_at.result _ _
     (λ output is. run_answers (run_asked c.args.run.now) _ _ _ c.in-Ok.net c.in-Ok.ensures.read (sym c.is_powerless.ensures ∙ c.if-is_powerless.false)
-        c.in-Ok-script_in.script (rw (same, c.net_in.ensures.same, c.net_in.ensures.kept) at c.in-Ok-script_in.ensures.read) _ is)
+    c.in-Ok-script_in.script (rw (same, c.net_in.ensures.same, c.net_in.ensures.kept) at c.in-Ok-script_in.ensures.read) _ is)
     c.run_at.ensures.answered
 
 pub returns-clause-stopped : goal.returns-clause-stopped
