@@ -14,8 +14,8 @@ use bench::Bench;
 use cases::obey;
 use std::{fs, io};
 
-const TOPICS: [&str; 7] = [
-    "texts", "compile", "check", "expand", "migrate", "simulate", "edge",
+const TOPICS: [&str; 8] = [
+    "texts", "compile", "check", "expand", "migrate", "simulate", "rounds", "edge",
 ];
 
 fn main(rt: HostRuntime) -> io::Result<()> {
