@@ -174,8 +174,16 @@ pub fn run_orders(
             Some(first) => {
                 let is_same = first.out.written() == ran.out.written();
                 let is_new = earlier.iter().all(|other| other.picks != ran.picks);
-                let report = if is_same { "the same report" } else { "another report" };
-                let picks = if is_new { "other picks" } else { "the same picks" };
+                let report = if is_same {
+                    "the same report"
+                } else {
+                    "another report"
+                };
+                let picks = if is_new {
+                    "other picks"
+                } else {
+                    "the same picks"
+                };
                 writeln!(page, "{order}: {report}, {picks}")?;
             }
         }
