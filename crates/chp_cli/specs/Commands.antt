@@ -11,6 +11,8 @@ use Rattle.chp_cli.specs.Expanding.{Expands}
 use Rattle.chp_cli.specs.GrowWords.{IsGrowable, growth_of, plain_growth}
 use Rattle.chp_cli.specs.Growing.{Grows}
 use Rattle.chp_cli.specs.Migrating.{Migrates}
+use Rattle.chp_cli.specs.RoundsReporting.{Runs}
+use Rattle.chp_cli.specs.RoundsWords.{AskedRounds, rounds_of}
 use Rattle.chp_cli.specs.Orders.{OrderState, Played, place_named}
 use Rattle.chp_cli.specs.Simulating.{AskedRun, Simulates}
 use Rattle.chp_cli.specs.SimulateWords.{most_of_steps, simulate_of}
@@ -20,7 +22,8 @@ use Rattle.clap.specs.Words.{App, Rule, Text, first_of, matches_of, new_app, new
 use Rattle.clap.specs.Simple.{on_top}
 use Rattle.clap.specs.declared.builder.ArgAction.TheVariants.{Set, SetTrue}
 use Rattle.chp_cli.specs.declared.command.Command.{Command}
-use Rattle.chp_cli.specs.declared.command.Command.TheVariants.{Compile, Migrate, Check, Expand, Simulate, Grow}
+use Rattle.chp_cli.specs.declared.command.Command.TheVariants.{Compile, Migrate, Check, Expand, Simulate, Run, Grow}
+use Rattle.chp_cli.specs.declared.rounds_words.Rounds.{Rounds}
 use Rattle.chp_cli.specs.declared.simulation.Simulation.{Simulation}
 use Rattle.chp_cli.specs.declared.command.Verb.{Verb}
 use Rattle.chp_cli.specs.declared.grow_words.Growth.{Growth}
@@ -60,6 +63,7 @@ verb_of word = if bytes_eq word (codes "compile") then Some verb.Compile
     else if bytes_eq word (codes "check") then Some verb.Check
     else if bytes_eq word (codes "expand") then Some verb.Expand
     else if bytes_eq word (codes "simulate") then Some verb.Simulate
+    else if bytes_eq word (codes "run") then Some verb.Run
     else if bytes_eq word (codes "grow") then Some verb.Grow
     else None
 
@@ -70,6 +74,7 @@ pub data Asked : Type 0 where
   checks : Text → Asked
   expands : Text → Asked
   simulates : AskedRun → Asked
+  runs : AskedRounds → Asked
   grows : Growth → Asked
 
 -- a simulation, with its names as their bytes
@@ -83,12 +88,17 @@ run_asked run = record {
   power = run.power;
 }
 
+-- rounds that are asked for, with the names as their bytes
+abbrev pub rounds_asked : Rounds → AskedRounds
+rounds_asked r = record { file = r.file.now; script = r.script.now; rounds = r.rounds }
+
 abbrev pub asked : Command → Asked
 asked (Compile file reset) = compiles file.now reset
 asked (Migrate net) = migrates net.now
 asked (Check file) = checks file.now
 asked (Expand file) = expands file.now
 asked (Simulate run) = simulates (run_asked run)
+asked (Run r) = runs (rounds_asked r)
 asked (Grow growth) = grows growth
 
 -- the numbers of a command are within their bounds
@@ -118,6 +128,7 @@ command_with verb.Migrate word rest = option_map migrates (file_of word rest)
 command_with verb.Check word rest = option_map checks (file_of word rest)
 command_with verb.Expand word rest = option_map expands (file_of word rest)
 command_with verb.Simulate word rest = option_map simulates (simulate_of word rest)
+command_with verb.Run word rest = option_map runs (rounds_of word rest)
 command_with verb.Grow word rest = option_and_then grow_asked (growth_of word rest)
 
 -- what the words ask for, where they are a command's name and words that its form takes
@@ -152,13 +163,14 @@ plain_compile words = if asks_reset words
     then option_map (λ file. compiles file true) (plain_file (without_reset words))
     else option_map (λ file. compiles file false) (plain_file words)
 
--- the words of `simulate` are told by its form alone
+-- the words of `simulate` and of `run` are told by their forms alone
 abbrev pub plain_with : Verb → Text → List Text → Option Asked
 plain_with verb.Compile word rest = plain_compile rest
 plain_with verb.Migrate word rest = option_map migrates (plain_file rest)
 plain_with verb.Check word rest = option_map checks (plain_file rest)
 plain_with verb.Expand word rest = option_map expands (plain_file rest)
 plain_with verb.Simulate word rest = option_map simulates (simulate_of word rest)
+plain_with verb.Run word rest = option_map runs (rounds_of word rest)
 plain_with verb.Grow word rest = option_and_then grow_asked (plain_growth rest)
 
 abbrev pub plain_command : List Text → Option Asked
@@ -178,6 +190,7 @@ IsAnswer (migrates net) given played = Migrates given net
 IsAnswer (checks file) given played = Checks given file
 IsAnswer (expands file) given played = Expands given file
 IsAnswer (simulates run) given played = Simulates run given played
+IsAnswer (runs r) given played = Runs r given
 IsAnswer (grows growth) given played = Grows growth
 
 -- the names of its files
@@ -187,6 +200,7 @@ files_of (migrates net) = net ∷ []
 files_of (checks file) = file ∷ []
 files_of (expands file) = file ∷ []
 files_of (simulates run) = run.net ∷ run.script ∷ []
+files_of (runs r) = r.file ∷ r.script ∷ []
 files_of (grows growth) = []
 
 -- the place of the order that it asks for

@@ -7,6 +7,9 @@ pub mod RunSteps
 pub mod Held
 pub mod Simulating
 pub mod SimulateWords
+pub mod HeldPrograms
+pub mod RoundsWords
+pub mod RoundsReporting
 pub mod Simulated
 pub mod Compiling
 pub mod Migrating

@@ -89,6 +89,10 @@ not_built_line = codes "chp: 19 not built\n"
 abbrev pub nodes_line : (count : ℕ) → List ℕ
 nodes_line count = concat (codes "chp: 7 nodes " ∷ decimal count ∷ codes "\n" ∷ [])
 
+-- more values pass in the rounds of a program than may be held
+abbrev pub values_line : List ℕ
+values_line = codes "chp: 7 values over 1048576\n"
+
 abbrev pub too_long_line : (name : List ℕ) → (most : ℕ) → List ℕ
 too_long_line name most = concat (codes "chp: 7 bytes " ∷ name ∷ codes " over " ∷ decimal most ∷ codes "\n" ∷ [])
 

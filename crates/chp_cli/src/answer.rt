@@ -44,6 +44,8 @@ pub enum Refusal<'a> {
     TooLong { name: &'a str, limit: usize },
     /// The circuit of the program has so many nodes, which are more than it may have.
     TooManyNodes(u64),
+    /// More values pass in the rounds than may be held.
+    TooManyValues,
     /// A rule file is refused at this line.
     BadNet { fault: NetFault, line: u32 },
     /// A script is refused at this line.
@@ -62,7 +64,9 @@ impl Refusal<'_> {
     {
         match self {
             Refusal::Text(_) => Status::RefusedText,
-            Refusal::TooLong { .. } | Refusal::TooManyNodes(_) => Status::TooLarge,
+            Refusal::TooLong { .. } | Refusal::TooManyNodes(_) | Refusal::TooManyValues => {
+                Status::TooLarge
+            }
             Refusal::BadNet { .. } | Refusal::BadScript { .. } | Refusal::NoReset =>
                 Status::BadFile,
             Refusal::NoOrder(_) => Status::NoOrder,

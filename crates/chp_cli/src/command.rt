@@ -9,6 +9,7 @@ ghost use Rattle.chp_cli.specs.GrowWords.{growth_of, plain_growth};
 ghost use Rattle.chp_cli.specs.Words.{is_set};
 
 use crate::grow_words::{Growth, growth_of};
+use crate::rounds_words::{Rounds, rounds_in};
 use crate::run_words::simulation_in;
 use crate::simulation::Simulation;
 use clap::error::ErrorKind;
@@ -29,6 +30,8 @@ pub enum Command<'a> {
     Expand { file: &'a str },
     /// `simulate PRS SCRIPT`: make one run of a net under a script, and write its report.
     Simulate(Simulation<'a>),
+    /// `run FILE SCRIPT`: report rounds of the program text in this file under this script.
+    Run(Rounds<'a>),
     /// `grow SEED STAGES`: write the text of the program that is made of these numbers.
     Grow(Growth),
 }
@@ -41,6 +44,7 @@ enum Verb {
     Check,
     Expand,
     Simulate,
+    Run,
     Grow,
 }
 
@@ -48,10 +52,10 @@ enum Verb {
 /// program's name.
 ///
 /// The first word names the command. The words behind it are read by `clap`, by the form of that command: one file and,
-/// for `compile`, the flag `--reset`, which may stand once, before the file or behind it; or for `simulate` two files and
-/// options with a value each. A file is one word, which may be empty or `-`. Any other word that begins with a hyphen and
-/// has more is taken for a flag and refused, a call for help too, but behind `--` any word may stand; `--` may also end the
-/// words.
+/// for `compile`, the flag `--reset`, which may stand once, before the file or behind it; for `simulate` two files and
+/// options with a value each; for `run` two files and one such option. A file is one word, which may be empty or `-`.
+/// Any other word that begins with a hyphen and has more is taken for a flag and refused, a call for help too, but
+/// behind `--` any word may stand; `--` may also end the words.
 ///
 /// `Err` stands for want of memory, and it is left open when that comes.
 pub fn command_in<'a>(alloc: Global, words: &'a [String]) -> Result<Option<Command<'a>>, AllocError>
@@ -74,6 +78,7 @@ pub fn command_in<'a>(alloc: Global, words: &'a [String]) -> Result<Option<Comma
         Verb::Check => Ok(file_in(alloc, word, rest)?.map(|file| Command::Check { file })),
         Verb::Expand => Ok(file_in(alloc, word, rest)?.map(|file| Command::Expand { file })),
         Verb::Simulate => simulate_in(alloc, word, rest),
+        Verb::Run => Ok(rounds_in(alloc, word, rest)?.map(Command::Run)),
         Verb::Grow => grow_in(alloc, word, rest),
     }
 }
@@ -88,6 +93,7 @@ fn verb_in(word: &str) -> Option<Verb>
         "check" => Some(Verb::Check),
         "expand" => Some(Verb::Expand),
         "simulate" => Some(Verb::Simulate),
+        "run" => Some(Verb::Run),
         "grow" => Some(Verb::Grow),
         _ => None,
     }

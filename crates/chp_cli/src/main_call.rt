@@ -18,6 +18,7 @@ use crate::grow::grow;
 use crate::laws::one_answer;
 use crate::migrate::migrate;
 use crate::players::Players;
+use crate::rounds::rounds;
 use crate::say::tell;
 use crate::simulate::simulate;
 use crate::status::Status;
@@ -57,6 +58,7 @@ fn answer<'a, S: Shelf>(
         Command::Check { file } => check(alloc, shelf, file),
         Command::Expand { file } => expand(alloc, shelf, file),
         Command::Simulate(run) => simulate(alloc, shelf, players, run),
+        Command::Run(asked) => rounds(alloc, shelf, asked),
         Command::Grow(growth) => grow(alloc, growth),
     }
 }

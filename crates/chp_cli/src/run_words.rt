@@ -117,7 +117,7 @@ fn power_of(text: Option<&str>) -> Option<Option<bool>>
 }
 
 /// The number that the text is, where it is one of at most so much; the other one where no text is given.
-fn number_or(text: Option<&str>, otherwise: u64, most: u64) -> Option<u64>
+pub(crate) fn number_or(text: Option<&str>, otherwise: u64, most: u64) -> Option<u64>
     requires { otherwise ≤ most }
     ensures number { result ≡ number_or otherwise most (option_map (λ t. t.now) text.entry) }
     ensures within { IfSome result (λ n. n ≤ most) }
@@ -186,7 +186,7 @@ pub(crate) fn word_arg<'a>(alloc: Global, id: &'a str) -> Arg<'a>
 }
 
 /// An option of this name with a value, which may be given once.
-fn option_arg<'a>(alloc: Global, id: &'a str) -> Arg<'a>
+pub(crate) fn option_arg<'a>(alloc: Global, id: &'a str) -> Arg<'a>
     ensures rule { rule_of result ≡ option_rule id.entry.now }
     ensures local { result.global ≡ false }
 {

@@ -229,6 +229,7 @@ fn say_refusal<W: Sink>(say: &mut W, refusal: &Refusal)
         Refusal::Text(fault) => say_refused_text(say, fault),
         Refusal::TooLong { name, limit } => say_too_long(say, name, *limit),
         Refusal::TooManyNodes(count) => say_nodes(say, *count),
+        Refusal::TooManyValues => say_pieces(say, &["chp: 7 values over 1048576\n"]),
         Refusal::BadNet { fault, line } => say_bad_net(say, *fault, *line),
         Refusal::BadScript { fault, line } => say_bad_script(say, *fault, *line),
         Refusal::NoReset => say_pieces(say, &["chp: 8 49 NoReset at line 1\n"]),

@@ -14,8 +14,8 @@ use bench::Bench;
 use cases::obey;
 use std::{fs, io};
 
-const TOPICS: [&str; 8] = [
-    "texts", "compile", "check", "expand", "grow", "migrate", "simulate", "edge",
+const TOPICS: [&str; 9] = [
+    "texts", "compile", "check", "expand", "grow", "migrate", "simulate", "rounds", "edge",
 ];
 
 fn main(rt: HostRuntime) -> io::Result<()> {

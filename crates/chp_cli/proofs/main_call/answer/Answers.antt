@@ -39,6 +39,13 @@ returns-in-Simulate-clause-orders g c = rw c.in-Simulate.is c.simulate.ensures.o
 
 pub simulate-requires : goal.simulate-requires
 simulate-requires g c = rw c.in-Simulate.is at c.requires
+
+pub returns-in-Run-clause-answered : goal.returns-in-Run-clause-answered
+returns-in-Run-clause-answered g c = rw c.in-Run.is c.rounds.ensures.answered
+
+pub returns-in-Run-clause-stopped : goal.returns-in-Run-clause-stopped
+returns-in-Run-clause-stopped g c = rw c.in-Run.is c.rounds.ensures.stopped
+
 pub grow-requires : goal.grow-requires
 grow-requires g c = rw c.in-Grow.is at c.requires
 
