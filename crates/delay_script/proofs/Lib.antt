@@ -1,0 +1,3 @@
+pub mod NameMaps
+pub mod DelayReads
+pub mod OneDelays
