@@ -1,11 +1,11 @@
 -- The lines of a delay file, one after another.
 use Rattle.std.proofs.Common.{◌≡◌, ◌≢◌, ℕ, zero, suc, ◌+◌, ◌<◌, ◌≤◌, Bool, true, false, List, [], ◌∷◌, ◌++◌, length, get_or, set, map, take, drop, replicate, refl, sym, ap, ◌∙◌, subst, arith, length-take, Contains, Some}
-use Rattle.std.specs.Prelude.{not, ◌==◌, filter, bytes_eq, All, slice_get}
+use Rattle.std.specs.Prelude.{not, ◌==◌, if◌then◌else◌, filter, bytes_eq, All, slice_get}
 use Rattle.std.specs.Borrow.{Bor}
 use Rattle.std.specs.List.{AllZip}
 use Rattle.std.proofs.lemmas.Bool.{or_parts, ne_eqb}
 use Rattle.std.proofs.lemmas.List.{length-map, map-append, take_all, take_more, take-append-drop, drop_more}
-use Rattle.std.proofs.lemmas.List.Elements.{All-nil, All-push, filter-append}
+use Rattle.std.proofs.lemmas.List.Elements.{All-nil, All-cons, All-push, filter-append}
 use Rattle.std.proofs.lemmas.List.Quantifiers.{all_pairs_push}
 use Rattle.std.proofs.lemmas.List.Splits.{length-slice_split}
 use Rattle.std.proofs.lemmas.List.Sums.{count_by-le-length}
@@ -227,11 +227,7 @@ fall_quick (l ∷ ls) name quick = by_name (bytes_eq l.node name) (fall_quick ls
 
 all_few : (f : List ℕ → ℕ) (names : List (List ℕ)) → ((name : List ℕ) → f name ≤ 1000000) → All (λ delay. delay ≤ 1000000) (map f names)
 all_few f [] few = All-nil (λ delay. delay ≤ 1000000)
-all_few f (n ∷ names) few = λ k d within. by_place k d within
-  where
-    by_place : (k d : ℕ) → k < suc (length (map f names)) → get_or (f n ∷ map f names) k d ≤ 1000000
-    by_place zero d within = few n
-    by_place (suc k) d within = all_few f names few k d (omega arith)
+all_few f (n ∷ names) few = All-cons (λ delay. delay ≤ 1000000) (f n) (map f names) (few n) (all_few f names few)
 
 pub is_table : (names : List (List ℕ)) (lines : Words) (at : ℕ) (up down : List ℕ) (marks : List Bool) (nodes : ℕ) → AreReadTo names lines at up down marks →
     length names ≡ nodes → IsDelayTable nodes (delay_table up down)

@@ -61,7 +61,7 @@ abbrev pub timed_start : TimedValue → RunState
 timed_start t = begin_at t.net (power_of t.net t.high)
 
 -- these moves are the timed run until it has ended, this is what it answers, and the time of its last move
-pub record IsTimedRan (t : TimedValue) (ms : List NotedMove) (r : RanValue) (time : ℕ) : Type 0 where
+pub record IsTimedRan (t : TimedValue) (ms : List NotedMove) (r : RanValue) (end_time : ℕ) : Type 0 where
   pub run : IsRun t.net t.script (timed_start t) (moved_nodes ms)
   pub timed : IsTimedRun t.delays t.net t.script (timed_start t) ms
   pub ends : EndsSo t.net t.script t.steps (timed_start t) (moved_nodes ms) r.end
@@ -69,4 +69,4 @@ pub record IsTimedRan (t : TimedValue) (ms : List NotedMove) (r : RanValue) (tim
   pub moves : r.moves ≡ length ms
   pub done : r.done_high ≡ high (after t.net (timed_start t) (moved_nodes ms)).values 1
   pub passed : r.passed ≡ passed_in t.net (timed_start t) (moved_nodes ms)
-  pub time : time ≡ time_behind ms (length ms)
+  pub time : end_time ≡ time_behind ms (length ms)

@@ -3,7 +3,10 @@
 ghost use Rattle.std.specs.Prelude.{◌≡◌, List, ℕ};
 ghost use Rattle.delay_script.specs.declared.fault.DelayFault.{DelayFault};
 ghost use Rattle.delay_script.specs.DelayTables.{DelayTable};
+ghost use Rattle.event_sim.specs.Simulating.{RanValue};
+ghost use Rattle.delay_script.specs.declared.noted.NotedMove.{NotedMove};
 ghost use Rattle.delay_script.specs.DelayText.{IsDelayText, IsDelayRefused};
+ghost use Rattle.delay_script.specs.TimedRuns.{TimedValue, IsTimedRan};
 
 /// Law: a text says at most one table of delays of the nodes of some names.
 pub fn one_delay_table()
@@ -22,4 +25,20 @@ pub fn one_delay_refusal()
         → IsDelayRefused names text f n
         → IsDelayRefused names text g m
         → (f ≡ g) × (n ≡ m) }
+{}
+
+/// Law: a timed run has one list of moves, with one time and one cause for each, and one end.
+pub fn one_timed_run()
+    ensures moves { (t : TimedValue) (ms ns : List NotedMove) (r q : RanValue) (u v : ℕ)
+        → IsTimedRan t ms r u
+        → IsTimedRan t ns q v
+        → ms ≡ ns }
+    ensures ran { (t : TimedValue) (ms ns : List NotedMove) (r q : RanValue) (u v : ℕ)
+        → IsTimedRan t ms r u
+        → IsTimedRan t ns q v
+        → r ≡ q }
+    ensures time { (t : TimedValue) (ms ns : List NotedMove) (r q : RanValue) (u v : ℕ)
+        → IsTimedRan t ms r u
+        → IsTimedRan t ns q v
+        → u ≡ v }
 {}

@@ -1,6 +1,6 @@
 //! The reader of delay files.
 
-ghost use Rattle.std.specs.Prelude.{◌≡◌, ◌≢◌, ◌≤◌, ◌<◌, ◌^◌, ℕ, List, AllPairs, true, [], length, map, slice_set, replicate, IfOk, IfErr};
+ghost use Rattle.std.specs.Prelude.{◌≡◌, ◌≢◌, ◌-◌, ◌≤◌, ◌<◌, ◌^◌, ℕ, List, AllPairs, true, false, [], length, map, slice_set, replicate, IfOk, IfErr};
 ghost use Rattle.delay_script.specs.DelayTables.{IsDelayTable};
 ghost use Rattle.delay_script.specs.DelayText.{IsDelayText, IsOnlyDelays, IsNoDelayText, IsDelayRefused, IsOnlyDelayRefusal, OfDelayRefusal};
 

@@ -14,6 +14,7 @@ use std::alloc::{AllocError, Global};
 const LONGEST_DELAY: u64 = 1_000_000;
 
 /// What a line says.
+#[derive(Clone, Copy)]
 pub struct TakenDelay {
     /// The number of the node.
     pub node: u32,
@@ -24,6 +25,7 @@ pub struct TakenDelay {
 }
 
 /// What a line does.
+#[derive(Clone, Copy)]
 pub enum DelayStep {
     /// It has no words.
     Skip,
