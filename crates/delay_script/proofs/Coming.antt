@@ -1,13 +1,13 @@
 -- One more move of a timed run.
-use Rattle.std.proofs.Common.{◌≡◌, ◌≢◌, ℕ, zero, suc, ◌+◌, ◌*◌, ◌<◌, ◌≤◌, Bool, true, false, List, [], ◌∷◌, ◌++◌, length, get_or, map, refl, sym, ap, subst, ◌∙◌, inl, inr, arith}
+use Rattle.std.proofs.Common.{◌≡◌, ℕ, zero, suc, ◌+◌, ◌*◌, ◌<◌, ◌≤◌, Bool, true, false, List, [], ◌∷◌, ◌++◌, length, get_or, map, refl, sym, ap, subst, ◌∙◌, inl, inr, arith}
 use Rattle.std.specs.Prelude.{◌⊎◌, ◌==◌, if◌then◌else◌, Option, None, Some}
-use Rattle.std.proofs.lemmas.Bool.{eqb-true, eqb-false, both_ways, cases_order}
+use Rattle.std.proofs.lemmas.Bool.{eqb-true, eqb-false, both_ways}
 use Rattle.std.proofs.lemmas.List.{append-nil, append_assoc, length-map, map-append, get_or_append_left, length_push, get_or-set_other}
 use Rattle.std.proofs.Math.Seq.{get_or-append_seam}
 use Rattle.prs_core.specs.Nets.{NetValue, IsNet}
 use Rattle.prs_core.specs.Moves.{high}
 use Rattle.env_script.specs.Scripts.{OfferValue}
-use Rattle.env_script.specs.Runs.{RunState, IsRun, move_enabled, moved, after}
+use Rattle.env_script.specs.Runs.{RunState, IsRun, move_enabled, after}
 use Rattle.event_sim.proofs.Following.{after_more}
 use Rattle.event_sim.proofs.Ranges.{move_in}
 use Rattle.delay_script.specs.declared.due.Due.{Due}
@@ -15,7 +15,7 @@ use Rattle.delay_script.specs.declared.due.Next.{Next}
 use Rattle.delay_script.specs.declared.noted.NotedMove.{NotedMove}
 use Rattle.delay_script.specs.DelayTables.{DelayTable, IsDelayTable, next_delay}
 use Rattle.delay_script.specs.Causes.{IsEnabledSince}
-use Rattle.delay_script.specs.TimedRuns.{moved_nodes, time_behind, due_time, ComesNoLater, IsNextMove, ComeNext, IsTimedRun}
+use Rattle.delay_script.specs.TimedRuns.{moved_nodes, time_behind, due_time, ComesNoLater, IsNextMove, ComeNext}
 use Rattle.delay_script.specs.Dues.{due_at, IsDue, IsKept, AreKept, IsFirstDue, renewed_due}
 use Rattle.delay_script.proofs.Sinces.{is_enabled, from_start, still, anew, one_cause}
 

@@ -1,6 +1,6 @@
 -- The lines of a delay file, one after another.
-use Rattle.std.proofs.Common.{◌≡◌, ◌≢◌, ℕ, zero, suc, ◌+◌, ◌<◌, ◌≤◌, Bool, true, false, List, [], ◌∷◌, ◌++◌, length, get_or, set, map, take, drop, replicate, refl, sym, ap, ◌∙◌, subst, arith, length-take, Contains, Some}
-use Rattle.std.specs.Prelude.{not, ◌==◌, if◌then◌else◌, filter, bytes_eq, All, slice_get}
+use Rattle.std.proofs.Common.{◌≡◌, ◌≢◌, ℕ, zero, suc, ◌+◌, ◌<◌, ◌≤◌, Bool, true, false, List, [], ◌∷◌, ◌++◌, length, get_or, set, map, take, drop, replicate, refl, sym, ap, ◌∙◌, subst, arith, length-take, Contains}
+use Rattle.std.specs.Prelude.{not, ◌==◌, if◌then◌else◌, filter, bytes_eq, All}
 use Rattle.std.specs.Borrow.{Bor}
 use Rattle.std.specs.List.{AllZip}
 use Rattle.std.proofs.lemmas.Bool.{or_parts, ne_eqb}
@@ -15,11 +15,10 @@ use Rattle.env_script.proofs.Sayings.{Words, texts}
 use Rattle.env_script.proofs.OneMore.{other_name}
 use Rattle.delay_script.specs.declared.line.DelayLine.{DelayLine}
 use Rattle.delay_script.specs.declared.fault.DelayFault.{DelayFault}
-use Rattle.delay_script.specs.declared.fault.DelayFault.TheVariants.{BadLine, UnknownNode, TooLarge, DoubleNode}
 use Rattle.delay_script.specs.declared.step.TakenDelay.{TakenDelay}
-use Rattle.delay_script.specs.DelayTables.{DelayTable, IsDelayTable, delay_table}
-use Rattle.delay_script.specs.DelayText.{SaysDelays, has_line, IsQuick, AreDelays, AreDelaysTold, rise_said, fall_said, delays_said, IsDelayText, DelayLineFault, no_delays, no_node, again, slow, IsDelayRefused}
-use Rattle.delay_script.specs.DelaySteps.{marked_at, IsNodePlace, DelayStepFault, says_no_delays, of_no_node, of_marked, of_slow, IsTakenDelay, AreDelaysSoFar}
+use Rattle.delay_script.specs.DelayTables.{IsDelayTable, delay_table}
+use Rattle.delay_script.specs.DelayText.{SaysDelays, has_line, IsQuick, AreDelaysTold, rise_said, fall_said, IsDelayText, DelayLineFault, no_delays, no_node, again, slow, IsDelayRefused}
+use Rattle.delay_script.specs.DelaySteps.{marked_at, DelayStepFault, says_no_delays, of_no_node, of_marked, of_slow, IsTakenDelay, AreDelaysSoFar}
 use Rattle.delay_script.proofs.NameMaps.{AreDistinctNames, place_contains, rises_more, falls_more, marks_more, mark_is}
 
 ones : (names : List (List ℕ)) → map (rise_said []) names ≡ replicate (length names) 1

@@ -1,12 +1,12 @@
 -- The first of the moves that are due, node by node, and what is kept of all nodes behind a move.
-use Rattle.std.proofs.Common.{◌≡◌, ◌≢◌, ℕ, zero, suc, ◌+◌, ◌<◌, ◌≤◌, Bool, true, false, List, [], ◌∷◌, length, set, refl, sym, ap, subst, ◌∙◌, inl, inr, arith}
+use Rattle.std.proofs.Common.{◌≡◌, ℕ, ◌+◌, ◌<◌, ◌≤◌, Bool, true, false, List, length, set, refl, sym, ap, subst, ◌∙◌, inl, inr, arith}
 use Rattle.std.specs.Prelude.{◌⊎◌, nat_lt, if◌then◌else◌, Option, None, Some}
-use Rattle.std.proofs.lemmas.Bool.{cases_lt, cases_eq, ltb-true, ltb-false}
+use Rattle.std.proofs.lemmas.Bool.{cases_lt, ltb-true, ltb-false}
 use Rattle.std.proofs.lemmas.List.{get_or-set_same, get_or-set_other, length-set}
 use Rattle.delay_script.specs.declared.due.Due.{Due}
 use Rattle.delay_script.specs.declared.due.Next.{Next}
 use Rattle.delay_script.specs.TimedRuns.{ComesNoLater}
-use Rattle.delay_script.specs.Dues.{due_at, IsFirstDue, IsFirstOf, earlier}
+use Rattle.delay_script.specs.Dues.{due_at, IsFirstOf, earlier}
 
 -- below one more number is what is below it, and it
 split : (n k : ℕ) → n < k + 1 → (n < k) ⊎ (n ≡ k)

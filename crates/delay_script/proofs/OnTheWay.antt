@@ -1,32 +1,32 @@
 -- A timed run that is on its way: how it begins, one more move, and how it ends.
-use Rattle.std.proofs.Common.{◌≡◌, ℕ, zero, suc, ◌+◌, ◌*◌, ◌<◌, ◌≤◌, Bool, true, false, List, [], ◌∷◌, ◌++◌, length, get_or, take, map, filter, replicate, refl, sym, ap, subst, ◌∙◌, inl, inr, arith}
+use Rattle.std.proofs.Common.{◌≡◌, ℕ, zero, suc, ◌+◌, ◌*◌, ◌<◌, ◌≤◌, Bool, true, false, List, [], ◌∷◌, ◌++◌, length, take, replicate, refl, sym, ap, subst, ◌∙◌, inl, inr, arith}
 use Rattle.std.specs.Prelude.{◌⊎◌, not, ◌&&◌, ◌==◌, Option, None, Some, is_some, option_map, option_to_list}
-use Rattle.std.specs.List.{list_any, range_with_len}
+use Rattle.std.specs.List.{list_any}
 use Rattle.std.proofs.lemmas.Bool.{cases_lt, both_ways, ne_eqb}
-use Rattle.std.proofs.lemmas.List.{length_push, take-append-le, take_all, append_assoc, length-replicate, get_or-replicate}
+use Rattle.std.proofs.lemmas.List.{length_push, take-append-le, take_all, length-replicate, get_or-replicate}
 use Rattle.prs_core.specs.Nets.{NetValue, IsNet}
 use Rattle.prs_core.specs.Moves.{high, both_ways as torn}
 use Rattle.env_script.specs.declared.hazard.Hazard.{Hazard}
 use Rattle.env_script.specs.declared.hazard.Hazard.TheVariants.{BothWays, Unstable, Protocol}
 use Rattle.env_script.specs.Scripts.{OfferValue}
 use Rattle.env_script.specs.Phases.{phase_fault}
-use Rattle.env_script.specs.Runs.{RunState, IsRun, move_enabled, moved, after, begin_at}
-use Rattle.env_script.specs.Hazards.{least_below, or_else, takes_away, first_hazard, hazard_of}
+use Rattle.env_script.specs.Runs.{RunState, move_enabled, moved, after, begin_at}
+use Rattle.env_script.specs.Hazards.{least_below, or_else, takes_away, first_hazard}
 use Rattle.event_sim.specs.declared.ran.End.{End}
 use Rattle.event_sim.specs.Following.{enabled_moves, move_at, power_of}
 use Rattle.event_sim.specs.Passing.{completion, passed_in, channel_histories}
-use Rattle.event_sim.specs.Ends.{last_hazard, end_with, end_after, EndsSo}
-use Rattle.event_sim.specs.Simulating.{RanValue, IsEndIn}
+use Rattle.event_sim.specs.Ends.{last_hazard, end_with, end_after}
+use Rattle.event_sim.specs.Simulating.{IsEndIn}
 use Rattle.event_sim.specs.Stages.{worst_cause}
 use Rattle.event_sim.proofs.Lists.{least_agrees, among_is}
 use Rattle.event_sim.proofs.Histories.{histories_none}
 use Rattle.event_sim.proofs.Following.{after_more, last_more, passed_more, enabled_at, enabled_below}
-use Rattle.event_sim.proofs.Ranges.{move_in, end_within}
+use Rattle.event_sim.proofs.Ranges.{end_within}
 use Rattle.delay_script.specs.declared.due.Due.{Due}
 use Rattle.delay_script.specs.declared.due.Next.{Next}
 use Rattle.delay_script.specs.declared.noted.NotedMove.{NotedMove}
 use Rattle.delay_script.specs.DelayTables.{DelayTable, IsDelayTable, next_delay}
-use Rattle.delay_script.specs.TimedRuns.{moved_nodes, time_behind, IsNextMove, ComeNext, IsTimedRun, TimedValue, timed_start, IsTimedRan}
+use Rattle.delay_script.specs.TimedRuns.{moved_nodes, time_behind, TimedValue, timed_start, IsTimedRan}
 use Rattle.delay_script.specs.Circuits.{CircuitValue, circuit_with, circuit_now, can_move}
 use Rattle.delay_script.specs.Dues.{due_at, IsDue, IsKept, AreKept, IsFirstDue, IsFirstOf, renewed_due, fresh_due, AreRenewed, loses_due, list_of_next, IsOnItsWay, IsTimedReady}
 use Rattle.delay_script.proofs.Sinces.{is_enabled}

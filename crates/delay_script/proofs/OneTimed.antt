@@ -1,6 +1,6 @@
 -- A timed run is one: each of its moves is told by those before it, and where it ends too.
-use Rattle.std.proofs.Common.{◌≡◌, ℕ, zero, suc, ◌+◌, ◌<◌, ◌≤◌, Bool, List, [], ◌∷◌, ◌++◌, length, take, refl, sym, ap, subst, ◌∙◌, inl, inr, arith}
-use Rattle.std.specs.Prelude.{◌⊎◌, Option, None, Some}
+use Rattle.std.proofs.Common.{◌≡◌, ℕ, zero, suc, ◌<◌, ◌≤◌, Bool, List, [], ◌∷◌, ◌++◌, length, take, refl, sym, ap, subst, ◌∙◌, inl, inr, arith}
+use Rattle.std.specs.Prelude.{◌⊎◌, None, Some}
 use Rattle.std.proofs.lemmas.Bool.{cases_order}
 use Rattle.std.proofs.lemmas.List.{take_all}
 use Rattle.prs_core.specs.Nets.{NetValue}
@@ -12,7 +12,7 @@ use Rattle.event_sim.specs.Simulating.{RanValue}
 use Rattle.delay_script.specs.declared.noted.NotedMove.{NotedMove}
 use Rattle.delay_script.specs.DelayTables.{DelayTable}
 use Rattle.delay_script.specs.Causes.{IsEnabledSince}
-use Rattle.delay_script.specs.TimedRuns.{moved_nodes, time_behind, due_time, ComesNoLater, IsNextMove, ComeNext, IsTimedRun, TimedValue, timed_start, IsTimedRan}
+use Rattle.delay_script.specs.TimedRuns.{moved_nodes, time_behind, ComesNoLater, IsNextMove, ComeNext, TimedValue, timed_start, IsTimedRan}
 use Rattle.delay_script.proofs.Sinces.{one_cause}
 use Rattle.delay_script.proofs.Coming.{nodes_count}
 

@@ -1,5 +1,5 @@
 -- What the words of a line say, by the words one by one.
-use Rattle.std.proofs.Common.{◌≡◌, ℕ, ◌<◌, ◌≤◌, false, None, Some, Option, List, [], ◌∷◌, length, get_or, sym, ap, ◌∙◌, subst, arith}
+use Rattle.std.proofs.Common.{◌≡◌, ℕ, ◌≤◌, false, None, Some, Option, List, [], ◌∷◌, length, get_or, sym, ap, ◌∙◌, subst, arith}
 use Rattle.std.specs.Prelude.{IfSome, IfNone, IsTrue}
 use Rattle.std.specs.Borrow.{Bor}
 use Rattle.env_script.specs.Numbers.{IsNumber}

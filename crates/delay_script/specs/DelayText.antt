@@ -1,5 +1,5 @@
 -- What a delay file says of the nodes of some names, and at which line and for which cause it is refused.
-use Rattle.std.specs.Prelude.{◌≡◌, ◌≢◌, ◌⊎◌, ℕ, ◌+◌, ◌<◌, ◌≤◌, Bool, true, false, if◌then◌else◌, List, [], ◌∷◌, ◌++◌, length, map, filter, All, AllPairs, Contains, bytes_eq}
+use Rattle.std.specs.Prelude.{◌≡◌, ◌≢◌, ℕ, ◌+◌, ◌<◌, ◌≤◌, Bool, true, false, if◌then◌else◌, List, [], ◌∷◌, ◌++◌, length, map, filter, All, AllPairs, Contains, bytes_eq}
 use Rattle.std.specs.List.{AllZip, list_any}
 use Rattle.chp_base.specs.Names.{IsNodeName}
 use Rattle.env_script.specs.Cutting.{lines_of, words_of}

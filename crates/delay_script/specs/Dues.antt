@@ -5,7 +5,6 @@ use Rattle.prs_core.specs.Moves.{high}
 use Rattle.env_script.specs.declared.hazard.Hazard.{Hazard}
 use Rattle.env_script.specs.Scripts.{OfferValue}
 use Rattle.env_script.specs.Runs.{RunState, move_enabled, after}
-use Rattle.env_script.specs.Hazards.{or_else}
 use Rattle.event_sim.specs.Passing.{passed_in}
 use Rattle.event_sim.specs.Following.{power_of}
 use Rattle.event_sim.specs.Ends.{last_hazard, end_after}

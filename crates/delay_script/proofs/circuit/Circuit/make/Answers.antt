@@ -1,4 +1,4 @@
-use Rattle.std.proofs.Common.{◌≡◌, ◌∙◌, refl, ap, length, arith, Bool, List, ℕ, map}
+use Rattle.std.proofs.Common.{◌≡◌, ◌∙◌, refl, ap, length, List, ℕ, map}
 use Rattle.std.proofs.lemmas.List.{length-set}
 use Rattle.prs_core.specs.Moves.{high, fired}
 use Rattle.event_sim.specs.Passing.{channel_histories}

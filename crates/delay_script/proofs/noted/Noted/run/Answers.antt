@@ -1,16 +1,15 @@
-use Rattle.std.proofs.Common.{◌≡◌, ◌<◌, ◌≤◌, ◌+◌, ◌∙◌, ℕ, Some, None, true, false, length, refl, ap, sym, subst, arith}
+use Rattle.std.proofs.Common.{◌≡◌, ◌<◌, ◌+◌, ◌∙◌, ℕ, true, false, length, ap, subst, arith}
 use Rattle.std.specs.Prelude.{◌==◌, vec_len}
 use Rattle.std.proofs.lemmas.Bool.{ne_eqb, eq-eqb}
 use Rattle.std.proofs.lemmas.List.{length_push}
-use Rattle.prs_core.specs.Nets.{NetValue}
 use Rattle.prs_core.specs.Moves.{high, both_ways}
 use Rattle.env_script.specs.Phases.{phase_fault}
 use Rattle.env_script.specs.Hazards.{least_below}
 use Rattle.event_sim.specs.Stages.{worst_cause}
-use Rattle.delay_script.specs.DelayTables.{DelayTable, IsDelayTable}
+use Rattle.delay_script.specs.DelayTables.{DelayTable}
 use Rattle.delay_script.specs.TimedRuns.{TimedValue, time_behind}
 use Rattle.delay_script.specs.Dues.{IsFirstDue, AreRenewed, loses_due}
-use Rattle.delay_script.proofs.OnTheWay.{begun, step, within_end, finish, due_soon}
+use Rattle.delay_script.proofs.OnTheWay.{begun, step, within_end, finish}
 use Rattle.delay_script.proofs.noted.Noted.run.Goals as goal
 
 pub loop-made-init : goal.loop-made-init

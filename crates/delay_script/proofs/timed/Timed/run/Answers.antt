@@ -1,5 +1,4 @@
-use Rattle.std.proofs.Common.{List, subst}
-use Rattle.delay_script.specs.declared.noted.NotedMove.{NotedMove}
+use Rattle.std.proofs.Common.{subst}
 use Rattle.delay_script.specs.TimedRuns.{TimedValue, IsTimedRan}
 use Rattle.delay_script.proofs.timed.Timed.run.Goals as goal
 
