@@ -14,7 +14,7 @@ use Rattle.width_check.specs.declared.typed.Var.{Var}
 use Rattle.function_blocks.specs.Rails.{number_on}
 use Rattle.circuit_places.specs.Lines.{Line, of_channel, of_var, line_width, Seen, Rails}
 use Rattle.chp_meaning.specs.Terms.{Term, finished, opened}
-use Rattle.circuit_places.specs.Circuit.{low, GuardedSpot, turns, fires, site_rails, takers}
+use Rattle.circuit_places.specs.Circuit.{low, GuardedSpot, turns, one_rule_fires, site_rails, takers}
 use Rattle.circuit_places.specs.Whole.{first_bits, Wires, wires_seen, line_ack, is_heard, is_merged, bit_rule, wrote_rule, value_on, neutral_on, Node, go_node, own_node, rail_node, ack_node, bit_node, wrote_node, joint_node, wrote_turned, joint_turned, receives, answers, offers, cells_passed, passed_after, wires_after, go_after, root_after}
 use Rattle.circuit_places.proofs.RailLemmas.{fst_true, snd_true, both_true}
 use Rattle.circuit_places.proofs.Trees.{node_moves}
@@ -91,8 +91,8 @@ can P script {m = m} g w hs go_node = is_idle m
 can P script g w hs (own_node s) = guarded_moves (wires_seen P w) g s
 can P script g w hs (rail_node k i one) = sent_turns P w k i one ((guarded_shown g).offer k i one) || driven P script w hs k i one
 can P script g w hs (ack_node k) = heard_turns P w k ((guarded_shown g).take k) || answers (channel_width P.channels k) w k (completed hs k) (offer_at script k)
-can P script g w hs (bit_node x i one) = fires (bit_rule (w.rail (of_var x)) (w.bit x) i one)
-can P script g w hs (wrote_node x i) = fires (wrote_rule (w.rail (of_var x)) (w.bit x) (w.wrote x) i)
+can P script g w hs (bit_node x i one) = one_rule_fires (bit_rule (w.rail (of_var x)) (w.bit x) i one)
+can P script g w hs (wrote_node x i) = one_rule_fires (wrote_rule (w.rail (of_var x)) (w.bit x) (w.wrote x) i)
 can P script g w hs (joint_node x k) = node_moves (var_width P.vars x) (w.wrote x) (w.joint x) k
 
 -- what is left of the program
@@ -152,7 +152,8 @@ pub record Exchanges (P : TypedProgram) (busy after : ℕ → Bool) (c : ℕ) (w
 
 -- the environment acknowledges, or the program does
 pub data Acks (P : TypedProgram) (busy after : ℕ → Bool) (k : ℕ) (w : Wires) (t y : Term) : Type 0 where
-  taken_out : is_heard (kind_at P.channels k) ≡ false → Passing P (wires_seen P w) busy (of_channel k) (w.ack k) t y → ((z : ℕ) → after z ≡ false → busy z ≡ false)
+  taken_out : is_heard (kind_at P.channels k) ≡ false → Passing P (wires_seen P w) busy (of_channel k) (w.ack k) t y →
+      ((z : ℕ) → after z ≡ false → busy z ≡ false)
       → Acks P busy after k w t y
   taken_in : is_heard (kind_at P.channels k) ≡ true → is_merged P (of_channel k) ≡ false → Arrives P busy after k w t y → Acks P busy after k w t y
   taken_over : is_heard (kind_at P.channels k) ≡ true → is_merged P (of_channel k) ≡ true → Exchanges P busy after k w t y → Acks P busy after k w t y
@@ -312,7 +313,8 @@ module _ (P : TypedProgram) (script : List OfferValue) {m : Mode} {g : GuardedAt
             (λ (e : guarded_writing (line_ack P w) g x ≡ false). e)
 
     own_term : m ≢ returning → Follows (Decided P w.bit (guarded_writing (line_ack P w) g)) (root_left (line_ack P w) g) (root_left (line_ack P w) r.to)
-    own_term ne = here m r.mode g r.to r.way ne (follows_wider (ToldBy (wires_seen P w) (guarded_shown g).read) (Decided P w.bit (guarded_writing (line_ack P w) g))
+    own_term ne = here m r.mode g r.to r.way ne
+        (follows_wider (ToldBy (wires_seen P w) (guarded_shown g).read) (Decided P w.bit (guarded_writing (line_ack P w) g))
         told (guarded_left (line_ack P w) g) (guarded_left (line_ack P w) r.to) r.term)
       where
         here : (m n : Mode) (a : GuardedAt P.body m) (b : GuardedAt P.body n) → goes m n ≡ true → m ≢ returning
