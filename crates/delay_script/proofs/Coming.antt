@@ -16,7 +16,7 @@ use Rattle.delay_script.specs.declared.noted.NotedMove.{NotedMove}
 use Rattle.delay_script.specs.DelayTables.{DelayTable, IsDelayTable, next_delay}
 use Rattle.delay_script.specs.Causes.{IsEnabledSince}
 use Rattle.delay_script.specs.TimedRuns.{moved_nodes, time_behind, due_time, ComesNoLater, IsNextMove, ComeNext}
-use Rattle.delay_script.specs.Dues.{due_at, IsDue, IsKept, AreKept, IsFirstDue, renewed_due}
+use Rattle.delay_script.specs.Dues.{due_at, IsDue, IsKeptDue, AreKeptDues, IsFirstDue, renewed_due}
 use Rattle.delay_script.proofs.Sinces.{is_enabled, from_start, still, anew, one_cause}
 
 pub nodes_more : (ms : List NotedMove) (x : NotedMove) → moved_nodes (ms ++ x ∷ []) ≡ moved_nodes ms ++ x.node ∷ []
@@ -115,14 +115,14 @@ still_is d net script st ms x due n is apart enabled = record {
     same_value = ap (λ (ns : List ℕ). high (after net st ns).values n) (nodes_more ms x) ∙ other_value net st (moved_nodes ms) x.node n apart
 
 pub kept_more : (d : DelayTable) (net : NetValue) (script : List OfferValue) (st : RunState) (ms : List NotedMove) (x : NotedMove) (fresh : Due) (n : ℕ)
-    (was : Option Due) → IsMade d net script st ms x fresh n → IsKept d net script st ms n was →
-    IsKept d net script st (ms ++ x ∷ []) n
+    (was : Option Due) → IsMade d net script st ms x fresh n → IsKeptDue d net script st ms n was →
+    IsKeptDue d net script st (ms ++ x ∷ []) n
     (renewed_due (move_enabled net script (after net st (moved_nodes (ms ++ x ∷ []))) n) (n == x.node) was fresh)
 kept_more d net script st ms x fresh n was is kept =
     by_case (move_enabled net script (after net st (moved_nodes (ms ++ x ∷ []))) n) (n == x.node) was refl refl kept
   where
     by_case : (now own : Bool) (o : Option Due) → move_enabled net script (after net st (moved_nodes (ms ++ x ∷ []))) n ≡ now → (n == x.node) ≡ own →
-        IsKept d net script st ms n o → IsKept d net script st (ms ++ x ∷ []) n (renewed_due now own o fresh)
+        IsKeptDue d net script st ms n o → IsKeptDue d net script st (ms ++ x ∷ []) n (renewed_due now own o fresh)
     by_case false own o enabled same before = enabled
     by_case true true o enabled same before = fresh_is d net script st ms x fresh n is (inl (sym (eqb-true n x.node same))) enabled
     by_case true false None enabled same before = fresh_is d net script st ms x fresh n is (inr before) enabled
@@ -137,7 +137,7 @@ made_is d net script st ms x fresh n cause time few soon = record { cause = caus
 -- what is kept at the start
 pub kept_first : (d : DelayTable) (net : NetValue) (script : List OfferValue) (st : RunState) (fresh : Due) (n : ℕ) (own : Bool) → fresh.cause ≡ 0 →
     fresh.time ≡ 0 + next_delay d (high st.values) n → next_delay d (high st.values) n ≤ 1000000 →
-    IsKept d net script st [] n (renewed_due (move_enabled net script st n) own None fresh)
+    IsKeptDue d net script st [] n (renewed_due (move_enabled net script st n) own None fresh)
 kept_first d net script st fresh n own cause time few = by_case (move_enabled net script st n) own refl
   where
     first : move_enabled net script st n ≡ true → IsDue d net script st [] n fresh
@@ -147,14 +147,14 @@ kept_first d net script st fresh n own cause time few = by_case (move_enabled ne
       soon = omega (arith, time, few);
     }
 
-    by_case : (now own : Bool) → move_enabled net script st n ≡ now → IsKept d net script st [] n (renewed_due now own None fresh)
+    by_case : (now own : Bool) → move_enabled net script st n ≡ now → IsKeptDue d net script st [] n (renewed_due now own None fresh)
     by_case false own enabled = enabled
     by_case true true enabled = first enabled
     by_case true false enabled = first enabled
 
 -- the move that is first due comes next
 pub is_next : (d : DelayTable) (net : NetValue) (script : List OfferValue) (st : RunState) (ms : List NotedMove) (dues : List (Option Due)) (m : Next) →
-    IsNet net → length dues ≡ length net.first → AreKept d net script st ms dues → IsFirstDue dues (length net.first) m →
+    IsNet net → length dues ≡ length net.first → AreKeptDues d net script st ms dues → IsFirstDue dues (length net.first) m →
     IsNextMove d net script st ms (record { time = m.due.time; node = m.node; cause = m.due.cause })
 is_next d net script st ms dues m is count kept first = record {
   cause = own.since;
@@ -163,13 +163,13 @@ is_next d net script st ms dues m is count kept first = record {
 }
   where
     own : IsDue d net script st ms m.node m.due
-    own = subst (λ (o : Option Due). IsKept d net script st ms m.node o) first.due (kept m.node (omega (arith, count, first.within)))
+    own = subst (λ (o : Option Due). IsKeptDue d net script st ms m.node o) first.due (kept m.node (omega (arith, count, first.within)))
 
     inside : (n number : ℕ) → IsEnabledSince net script st (moved_nodes ms) n number → n < length net.first
     inside n number since = move_in net script (after net st (moved_nodes ms)) n is (is_enabled net script st (moved_nodes ms) n number since)
 
     against : (n number : ℕ) → IsEnabledSince net script st (moved_nodes ms) n number → (o : Option Due) → due_at dues n ≡ o →
-        IsKept d net script st ms n o → ComesNoLater m.due.time m.node (due_time d net st ms number n) n
+        IsKeptDue d net script st ms n o → ComesNoLater m.due.time m.node (due_time d net st ms number n) n
     against n number since None e off = absurd (both_ways _ off (is_enabled net script st (moved_nodes ms) n number since))
     against n number since (Some due) e there =
         subst (λ (t : ℕ). ComesNoLater m.due.time m.node t n)

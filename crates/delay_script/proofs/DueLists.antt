@@ -6,7 +6,7 @@ use Rattle.std.proofs.lemmas.List.{get_or-set_same, get_or-set_other, length-set
 use Rattle.delay_script.specs.declared.due.Due.{Due}
 use Rattle.delay_script.specs.declared.due.Next.{Next}
 use Rattle.delay_script.specs.TimedRuns.{ComesNoLater}
-use Rattle.delay_script.specs.Dues.{due_at, IsFirstOf, earlier}
+use Rattle.delay_script.specs.Dues.{due_at, IsFirstOf, earlier_due}
 
 -- below one more number is what is below it, and it
 split : (n k : ℕ) → n < k + 1 → (n < k) ⊎ (n ≡ k)
@@ -23,7 +23,7 @@ pub none_first : (dues : List (Option Due)) → IsFirstOf dues 0 None
 none_first dues n less = absurd (omega arith)
 
 pub first_more : (dues : List (Option Due)) (k : ℕ) (first : Option Next) (o : Option Due) → IsFirstOf dues k first → due_at dues k ≡ o →
-    IsFirstOf dues (k + 1) (earlier first k o)
+    IsFirstOf dues (k + 1) (earlier_due first k o)
 first_more dues k None None is here = λ n less. by_place n (split n k less)
   where
     by_place : (n : ℕ) → (n < k) ⊎ (n ≡ k) → due_at dues n ≡ None

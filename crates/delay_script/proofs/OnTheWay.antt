@@ -27,8 +27,8 @@ use Rattle.delay_script.specs.declared.due.Next.{Next}
 use Rattle.delay_script.specs.declared.noted.NotedMove.{NotedMove}
 use Rattle.delay_script.specs.DelayTables.{DelayTable, IsDelayTable, next_delay}
 use Rattle.delay_script.specs.TimedRuns.{moved_nodes, time_behind, TimedValue, timed_start, IsTimedRan}
-use Rattle.delay_script.specs.Circuits.{CircuitValue, circuit_with, circuit_now, can_move}
-use Rattle.delay_script.specs.Dues.{due_at, IsDue, IsKept, AreKept, IsFirstDue, IsFirstOf, renewed_due, fresh_due, AreRenewed, loses_due, list_of_next, IsOnItsWay, IsTimedReady}
+use Rattle.delay_script.specs.Circuits.{CircuitValue, circuit_with, circuit_now, node_can_move}
+use Rattle.delay_script.specs.Dues.{due_at, IsDue, IsKeptDue, AreKeptDues, IsFirstDue, IsFirstOf, renewed_due, fresh_due, AreRenewed, loses_due, list_of_next, IsOnItsWay, IsTimedReady}
 use Rattle.delay_script.proofs.Sinces.{is_enabled}
 use Rattle.delay_script.proofs.Coming.{nodes_more, nodes_count, come_more, come_run, delay_few, kept_more, made_is, kept_first, is_next}
 
@@ -39,13 +39,13 @@ made_at_start = record { cause = 0; time = 0 }
 
 pub kept_at_start : (c : CircuitValue) (d : DelayTable) (node : ℕ) (was now : List (Option Due)) → IsDelayTable (length c.net.first) d →
     length was ≡ length c.net.first → ((n : ℕ) → n < length was → due_at was n ≡ None) →
-    AreRenewed c d node (record { cause = 0; time = 0 }) was now → AreKept d c.net c.script (circuit_now c) [] now
+    AreRenewed c d node (record { cause = 0; time = 0 }) was now → AreKeptDues d c.net c.script (circuit_now c) [] now
 kept_at_start c d node was now table count none is n within =
     let before : n < length was = omega (arith, is.count) in
     let fresh : Due = fresh_due d (high c.values) made_at_start n in
-    let one : due_at now n ≡ renewed_due (can_move c n) (n == node) None fresh =
-        is.each n before ∙ ap (λ (o : Option Due). renewed_due (can_move c n) (n == node) o fresh) (none n before) in
-    subst (λ (o : Option Due). IsKept d c.net c.script (circuit_now c) [] n o) (sym one)
+    let one : due_at now n ≡ renewed_due (node_can_move c n) (n == node) None fresh =
+        is.each n before ∙ ap (λ (o : Option Due). renewed_due (node_can_move c n) (n == node) o fresh) (none n before) in
+    subst (λ (o : Option Due). IsKeptDue d c.net c.script (circuit_now c) [] n o) (sym one)
         (kept_first d c.net c.script (circuit_now c) fresh n (n == node) refl refl (delay_few (length c.net.first) d (high c.values) n table (omega arith)))
 
 there : (c : CircuitValue) (start : Bool) → c.values ≡ power_of c.net start → c.passed ≡ [] → circuit_now c ≡ begin_at c.net (power_of c.net start)
@@ -66,7 +66,7 @@ begun c d dues ms slots steps start last is hazard =
       room = omega (arith, is.room);
       timed = tt;
       count = is.count;
-      kept = subst (λ (r : RunState). AreKept d c.net c.script r [] dues) here is.kept;
+      kept = subst (λ (r : RunState). AreKeptDues d c.net c.script r [] dues) here is.kept;
       hazard = hazard ∙ ap (λ (r : RunState). first_hazard c.net r) here;
       no_end = λ k below. absurd (omega arith);
     })
@@ -80,7 +80,7 @@ begun c d dues ms slots steps start last is hazard =
 -- whether a move is enabled, by what is kept
 
 kept_says : (d : DelayTable) (net : NetValue) (script : List OfferValue) (st : RunState) (ms : List NotedMove) (n : ℕ) (o : Option Due) →
-    IsKept d net script st ms n o → is_some o ≡ move_enabled net script (after net st (moved_nodes ms)) n
+    IsKeptDue d net script st ms n o → is_some o ≡ move_enabled net script (after net st (moved_nodes ms)) n
 kept_says d net script st ms n None off = sym off
 kept_says d net script st ms n (Some due) is = sym (is_enabled net script st (moved_nodes ms) n due.cause is.since)
 
@@ -211,14 +211,14 @@ step t ms c later dues nows last brought m net table is few calm first move = re
         ∙ sym (after_more t.net start (moved_nodes ms) m.node) ∙ ap (after t.net start) (sym more)
 
     own : IsDue t.delays t.net t.script start ms m.node m.due
-    own = subst (λ (o : Option Due). IsKept t.delays t.net t.script start ms m.node o) here.due (is.kept m.node (omega (arith, is.count, here.within)))
+    own = subst (λ (o : Option Due). IsKeptDue t.delays t.net t.script start ms m.node o) here.due (is.kept m.node (omega (arith, is.count, here.within)))
 
-    can : (n : ℕ) → can_move later n ≡ move_enabled t.net t.script (after t.net start (moved_nodes (ms ++ x ∷ []))) n
+    can : (n : ℕ) → node_can_move later n ≡ move_enabled t.net t.script (after t.net start (moved_nodes (ms ++ x ∷ []))) n
     can n = ap (λ (w : NetValue). move_enabled w later.script (circuit_now later) n) same_net
         ∙ ap (λ (e : List OfferValue). move_enabled t.net e (circuit_now later) n) same_script
         ∙ ap (λ (r : RunState). move_enabled t.net t.script r n) then
 
-    kept_then : AreKept t.delays t.net t.script start (ms ++ x ∷ []) nows
+    kept_then : AreKeptDues t.delays t.net t.script start (ms ++ x ∷ []) nows
     kept_then n within =
         let before : n < length dues = omega (arith, move.renewed.count) in
         let inside : n < length t.net.first = omega (arith, is.count) in
@@ -228,7 +228,7 @@ step t ms c later dues nows last brought m net table is few calm first move = re
             ap (λ (r : RunState). next_delay t.delays (high r.values) n) then in
         let one : due_at nows n ≡ renewed_due (move_enabled t.net t.script (after t.net start (moved_nodes (ms ++ x ∷ []))) n) (n == m.node) (due_at dues n) fresh =
             move.renewed.each n before ∙ ap (λ (b : Bool). renewed_due b (n == m.node) (due_at dues n) fresh) (can n) in
-        subst (λ (o : Option Due). IsKept t.delays t.net t.script start (ms ++ x ∷ []) n o) (sym one)
+        subst (λ (o : Option Due). IsKeptDue t.delays t.net t.script start (ms ++ x ∷ []) n o) (sym one)
             (kept_more t.delays t.net t.script start ms x fresh n (due_at dues n)
             (made_is t.delays t.net t.script start ms x fresh n refl (ap (λ (k : ℕ). m.due.time + k) values)
             (delay_few (length t.net.first) t.delays v n table inside) own.soon)
@@ -236,7 +236,7 @@ step t ms c later dues nows last brought m net table is few calm first move = re
 
     lost_one : (k : ℕ) → k < length t.net.first → loses_due later dues m.node k ≡ takes_away t.net t.script (after t.net start (moved_nodes ms)) m.node k
     lost_one k within =
-        ap (λ (b : Bool). not (k == m.node) && (b && not (can_move later k)))
+        ap (λ (b : Bool). not (k == m.node) && (b && not (node_can_move later k)))
             (kept_says t.delays t.net t.script start ms k (due_at dues k) (is.kept k (omega (arith, is.count))))
             ∙ ap (λ (b : Bool). not (k == m.node) && (move_enabled t.net t.script (after t.net start (moved_nodes ms)) k && not b))
             (can k ∙ ap (λ (ns : List ℕ). move_enabled t.net t.script (after t.net start ns) k) more
@@ -324,7 +324,7 @@ ready c net script state d start was now dues ms slots steps nodes made powered 
       steps_few = few;
       delays = its_table;
       count = ap length same ∙ renewed.count ∙ whole;
-      kept = subst (λ (ds : List (Option Due)). AreKept d c.net c.script (circuit_now c) [] ds) (sym same)
+      kept = subst (λ (ds : List (Option Due)). AreKeptDues d c.net c.script (circuit_now c) [] ds) (sym same)
           (kept_at_start c d 0 was now its_table whole each_none renewed);
     }
   where
@@ -345,6 +345,6 @@ pub due_soon : (t : TimedValue) (ms : List NotedMove) (c : CircuitValue) (dues :
     IsOnItsWay t ms c dues last → IsFirstDue dues (length c.net.first) m → m.due.time ≤ (length ms + 1) * 1000000
 due_soon t ms c dues last m is first =
     let own : IsDue t.delays t.net t.script (timed_start t) ms m.node m.due =
-        subst (λ (o : Option Due). IsKept t.delays t.net t.script (timed_start t) ms m.node o) first.due
+        subst (λ (o : Option Due). IsKeptDue t.delays t.net t.script (timed_start t) ms m.node o) first.due
         (is.kept m.node (omega (arith, is.count, first.within, ap (λ (w : NetValue). length w.first) is.net))) in
     own.soon

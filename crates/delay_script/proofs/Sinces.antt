@@ -1,8 +1,8 @@
 -- Since which move a node's move is enabled, behind one more move.
-use Rattle.std.proofs.Common.{◌≡◌, ◌≢◌, ℕ, zero, suc, ◌+◌, ◌<◌, ◌≤◌, true, false, List, [], ◌∷◌, ◌++◌, length, get_or, take, sym, ap, ◌∙◌, inl, inr, arith}
+use Rattle.std.proofs.Common.{◌≡◌, ◌≢◌, ℕ, zero, suc, ◌+◌, ◌<◌, ◌≤◌, true, false, List, [], ◌∷◌, ◌++◌, length, get_or, take, refl, sym, ap, subst, ◌∙◌, inl, inr, arith}
 use Rattle.std.specs.Prelude.{◌⊎◌}
-use Rattle.std.proofs.lemmas.Bool.{cases_lt, cases_order, both_ways}
-use Rattle.std.proofs.lemmas.List.{length_push, take-append-le, take_all, get_or_append_left}
+use Rattle.std.proofs.lemmas.Bool.{cases_lt, cases_eq, cases_order, both_ways}
+use Rattle.std.proofs.lemmas.List.{length_push, take-append-le, take_all, get_or_append_left, append-nil, append_assoc}
 use Rattle.std.proofs.Math.Seq.{get_or-append_seam}
 use Rattle.prs_core.specs.Nets.{NetValue}
 use Rattle.env_script.specs.Scripts.{OfferValue}
@@ -94,3 +94,47 @@ one_cause net script st ns n a b one two = by_order (cases_order a b)
     by_order (inl same) = same
     by_order (inr (inl less)) = absurd (not_later net script st ns n a b one two less)
     by_order (inr (inr less)) = absurd (not_later net script st ns n b a two one less)
+
+-- a move that is enabled has a cause
+
+abbrev HasCause : NetValue → List OfferValue → RunState → List ℕ → ℕ → Type 0
+HasCause net script st ns n = (number : ℕ) × IsEnabledSince net script st ns n number
+
+abbrev OffOrCaused : NetValue → List OfferValue → RunState → List ℕ → ℕ → Type 0
+OffOrCaused net script st ns n = (move_enabled net script (after net st ns) n ≡ false) ⊎ HasCause net script st ns n
+
+behind_one : (net : NetValue) (script : List OfferValue) (st : RunState) (ns : List ℕ) (node n : ℕ) → OffOrCaused net script st ns n →
+    OffOrCaused net script st (ns ++ node ∷ []) n
+behind_one net script st ns node n was = by_now (move_enabled net script (after net st (ns ++ node ∷ [])) n) refl
+  where
+    by_own : (n ≡ node) ⊎ (n ≡ node → ⊥) → OffOrCaused net script st ns n → move_enabled net script (after net st (ns ++ node ∷ [])) n ≡ true →
+        HasCause net script st (ns ++ node ∷ []) n
+    by_own (inl same) was on = (length ns + 1, anew net script st ns node n (inl (sym same)) on)
+    by_own (inr apart) (inl off) on = (length ns + 1, anew net script st ns node n (inr off) on)
+    by_own (inr apart) (inr caused) on = (caused.0, still net script st ns node n caused.0 caused.1 apart on)
+
+    by_now : (b : Bool) → move_enabled net script (after net st (ns ++ node ∷ [])) n ≡ b → OffOrCaused net script st (ns ++ node ∷ []) n
+    by_now false off = inl off
+    by_now true on = inr (by_own (cases_eq n node) was on)
+
+behind_all : (net : NetValue) (script : List OfferValue) (st : RunState) (ns ms : List ℕ) (n : ℕ) → OffOrCaused net script st ns n →
+    OffOrCaused net script st (ns ++ ms) n
+behind_all net script st ns [] n was = subst (λ (xs : List ℕ). OffOrCaused net script st xs n) (sym (append-nil ns)) was
+behind_all net script st ns (m ∷ ms) n was =
+    subst (λ (xs : List ℕ). OffOrCaused net script st xs n) (append_assoc ns (m ∷ []) ms)
+        (behind_all net script st (ns ++ m ∷ []) ms n (behind_one net script st ns m n was))
+
+at_first : (net : NetValue) (script : List OfferValue) (st : RunState) (n : ℕ) → OffOrCaused net script st [] n
+at_first net script st n = by_value (move_enabled net script st n) refl
+  where
+    by_value : (b : Bool) → move_enabled net script st n ≡ b → OffOrCaused net script st [] n
+    by_value false off = inl off
+    by_value true on = inr (0, from_start net script st n on)
+
+pub some_cause : (net : NetValue) (script : List OfferValue) (st : RunState) (ns : List ℕ) (n : ℕ) → move_enabled net script (after net st ns) n ≡ true →
+    (number : ℕ) × IsEnabledSince net script st ns n number
+some_cause net script st ns n on = by_case (behind_all net script st [] ns n (at_first net script st n))
+  where
+    by_case : OffOrCaused net script st ns n → (number : ℕ) × IsEnabledSince net script st ns n number
+    by_case (inl off) = absurd (both_ways _ off on)
+    by_case (inr caused) = caused

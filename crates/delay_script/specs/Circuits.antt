@@ -21,8 +21,8 @@ circuit_with net script values passed room =
 abbrev pub circuit_now : CircuitValue → RunState
 circuit_now c = record { values = c.values; histories = channel_histories (length c.net.channels) c.passed }
 
-abbrev pub can_move : CircuitValue → ℕ → Bool
-can_move c n = move_enabled c.net c.script (circuit_now c) n
+abbrev pub node_can_move : CircuitValue → ℕ → Bool
+node_can_move c n = move_enabled c.net c.script (circuit_now c) n
 
 -- beside it is kept how many values are completed on each channel
 pub record IsCounted (c : CircuitValue) (counts : List ℕ) : Type 0 where

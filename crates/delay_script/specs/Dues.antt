@@ -14,25 +14,25 @@ use Rattle.delay_script.specs.declared.noted.NotedMove.{NotedMove}
 use Rattle.delay_script.specs.DelayTables.{DelayTable, IsDelayTable, next_delay}
 use Rattle.delay_script.specs.Causes.{IsEnabledSince}
 use Rattle.delay_script.specs.TimedRuns.{moved_nodes, due_time, ComesNoLater, IsTimedRun, TimedValue, timed_start}
-use Rattle.delay_script.specs.Circuits.{CircuitValue, circuit_now, can_move}
+use Rattle.delay_script.specs.Circuits.{CircuitValue, circuit_now, node_can_move}
 
 abbrev pub due_at : List (Option Due) → ℕ → Option Due
 due_at dues n = slice_index_or dues n None
 
 -- behind these moves a node's move is enabled since that cause, and due at that time
-pub record IsDue (d : DelayTable) (net : NetValue) (script : List OfferValue) (st : RunState) (ms : List NotedMove) (n : ℕ)
-    (due : Due) : Type 0 where
+pub record IsDue (d : DelayTable) (net : NetValue) (script : List OfferValue) (st : RunState) (ms : List NotedMove)
+    (n : ℕ) (due : Due) : Type 0 where
   pub since : IsEnabledSince net script st (moved_nodes ms) n due.cause
   pub time : due.time ≡ due_time d net st ms due.cause n
   pub soon : due.time ≤ (length ms + 1) * 1000000
 
 -- nothing is kept of a node that has no enabled move
-abbrev pub IsKept : DelayTable → NetValue → List OfferValue → RunState → List NotedMove → ℕ → Option Due → Type 0
-IsKept d net script st ms n None = move_enabled net script (after net st (moved_nodes ms)) n ≡ false
-IsKept d net script st ms n (Some due) = IsDue d net script st ms n due
+abbrev pub IsKeptDue : DelayTable → NetValue → List OfferValue → RunState → List NotedMove → ℕ → Option Due → Type 0
+IsKeptDue d net script st ms n None = move_enabled net script (after net st (moved_nodes ms)) n ≡ false
+IsKeptDue d net script st ms n (Some due) = IsDue d net script st ms n due
 
-abbrev pub AreKept : DelayTable → NetValue → List OfferValue → RunState → List NotedMove → List (Option Due) → Type 0
-AreKept d net script st ms dues = (n : ℕ) → n < length dues → IsKept d net script st ms n (due_at dues n)
+abbrev pub AreKeptDues : DelayTable → NetValue → List OfferValue → RunState → List NotedMove → List (Option Due) → Type 0
+AreKeptDues d net script st ms dues = (n : ℕ) → n < length dues → IsKeptDue d net script st ms n (due_at dues n)
 
 -- the first of the moves that are due, of the nodes below a number
 pub record IsFirstDue (dues : List (Option Due)) (count : ℕ) (m : Next) : Type 0 where
@@ -46,10 +46,10 @@ IsFirstOf dues count None = (n : ℕ) → n < count → due_at dues n ≡ None
 IsFirstOf dues count (Some m) = IsFirstDue dues count m
 
 -- the first one, where one more node is looked at
-abbrev pub earlier : Option Next → ℕ → Option Due → Option Next
-earlier first n None = first
-earlier None n (Some due) = Some (record { node = n; due = due })
-earlier (Some m) n (Some due) = if nat_lt due.time m.due.time then Some (record { node = n; due = due }) else Some m
+abbrev pub earlier_due : Option Next → ℕ → Option Due → Option Next
+earlier_due first n None = first
+earlier_due None n (Some due) = Some (record { node = n; due = due })
+earlier_due (Some m) n (Some due) = if nat_lt due.time m.due.time then Some (record { node = n; due = due }) else Some m
 
 -- what is kept of a node behind a move, where it is enabled then or isn't, and the move is its own or isn't
 abbrev pub renewed_due : (now own : Bool) → Option Due → Due → Option Due
@@ -66,11 +66,11 @@ fresh_due d v made n = record { cause = made.cause; time = made.time + next_dela
 pub record AreRenewed (c : CircuitValue) (d : DelayTable) (node : ℕ) (made : Due) (was now : List (Option Due)) : Type 0 where
   pub count : length now ≡ length was
   pub each : (n : ℕ) → n < length was →
-      due_at now n ≡ renewed_due (can_move c n) (n == node) (due_at was n) (fresh_due d (high c.values) made n)
+      due_at now n ≡ renewed_due (node_can_move c n) (n == node) (due_at was n) (fresh_due d (high c.values) made n)
 
 -- a node other than the moved one whose move was due, and isn't enabled
 abbrev pub loses_due : CircuitValue → List (Option Due) → ℕ → ℕ → Bool
-loses_due c dues node n = not (n == node) && (is_some (due_at dues n) && not (can_move c n))
+loses_due c dues node n = not (n == node) && (is_some (due_at dues n) && not (node_can_move c n))
 
 -- the enabled moves as far as they are looked at: none, or one of them
 abbrev pub list_of_next : Option Next → List ℕ
@@ -87,7 +87,7 @@ pub record IsOnItsWay (t : TimedValue) (ms : List NotedMove) (c : CircuitValue) 
   pub room : t.steps ≤ c.room + length ms
   pub timed : IsTimedRun t.delays t.net t.script (timed_start t) ms
   pub count : length dues ≡ length t.net.first
-  pub kept : AreKept t.delays t.net t.script (timed_start t) ms dues
+  pub kept : AreKeptDues t.delays t.net t.script (timed_start t) ms dues
   pub hazard : last ≡ last_hazard t.net t.script (timed_start t) (moved_nodes ms)
   pub no_end : (k : ℕ) → k < length ms →
       end_after t.net t.script t.steps (timed_start t) (moved_nodes (take k ms)) ≡ None
@@ -103,4 +103,4 @@ pub record IsTimedReady (c : CircuitValue) (d : DelayTable) (dues : List (Option
   pub steps_few : steps ≤ 1000000
   pub delays : IsDelayTable (length c.net.first) d
   pub count : length dues ≡ length c.net.first
-  pub kept : AreKept d c.net c.script (circuit_now c) [] dues
+  pub kept : AreKeptDues d c.net c.script (circuit_now c) [] dues

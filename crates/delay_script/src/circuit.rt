@@ -123,7 +123,7 @@ fn note(done: &mut Vec<u64>, passed: &mut Vec<(u32, u64)>, completed: Option<(u3
 
 impl Circuit {
     ghost use Rattle.event_sim.specs.Simulating.{RanValue, IsEndIn};
-    ghost use Rattle.delay_script.specs.Circuits.{CircuitValue, circuit_with, circuit_now, can_move};
+    ghost use Rattle.delay_script.specs.Circuits.{CircuitValue, circuit_with, circuit_now, node_can_move};
 
     /// The net in this state, in which nothing has passed, with room for so many values to pass.
     pub(crate) fn new(
@@ -166,7 +166,7 @@ impl Circuit {
     /// Whether the node has an enabled move.
     pub(crate) fn can_move(&self, node: u32) -> bool
         requires { node < length self.now.net.first }
-        ensures { result ≡ can_move self.now node }
+        ensures { result ≡ node_can_move self.now node }
     {
         enabled(&self.net, &self.state, node)
             || env_enabled(&self.net, &self.script, &self.done, &self.state, node)

@@ -4,8 +4,8 @@ ghost use Rattle.std.specs.Prelude.{◌≡◌, ◌<◌, ◌≤◌, ◌^◌, ◌=
 ghost use Rattle.prs_core.specs.Moves.{high};
 ghost use Rattle.env_script.specs.Hazards.{least_below};
 ghost use Rattle.delay_script.specs.DelayTables.{next_delay, IsDelayTable};
-ghost use Rattle.delay_script.specs.Circuits.{can_move};
-ghost use Rattle.delay_script.specs.Dues.{IsFirstOf, earlier, renewed_due, fresh_due, due_at, AreRenewed, loses_due};
+ghost use Rattle.delay_script.specs.Circuits.{node_can_move};
+ghost use Rattle.delay_script.specs.Dues.{IsFirstOf, earlier_due, renewed_due, fresh_due, due_at, AreRenewed, loses_due};
 
 use crate::circuit::Circuit;
 use crate::delays::Delays;
@@ -37,8 +37,8 @@ pub(crate) fn no_dues(alloc: Global, nodes: u32) -> Result<Vec<Option<Due>>, All
 }
 
 /// The first of these moves, where one more node is looked at, the nodes in ascending order.
-fn earlier(first: Option<Next>, node: u32, due: Option<Due>) -> Option<Next>
-    ensures { result ≡ earlier first node due }
+fn earlier_due(first: Option<Next>, node: u32, due: Option<Due>) -> Option<Next>
+    ensures { result ≡ earlier_due first node due }
 {
     match (first, due) {
         (first, None) => first,
@@ -60,7 +60,7 @@ pub(crate) fn first_due(dues: &[Option<Due>]) -> Option<Next>
 {
     let mut first = None;
     for node in 0..dues.len() as u32 {
-        first = earlier(first, node, dues[node as usize]);
+        first = earlier_due(first, node, dues[node as usize]);
     }
     first
 }

@@ -1,11 +1,15 @@
 //! Laws of delay files and of timed runs.
 
-ghost use Rattle.std.specs.Prelude.{◌≡◌, List, ℕ};
+ghost use Rattle.std.specs.Prelude.{◌≡◌, true, List, ℕ};
+ghost use Rattle.prs_core.specs.Nets.{NetValue};
+ghost use Rattle.env_script.specs.Scripts.{OfferValue};
+ghost use Rattle.env_script.specs.Runs.{RunState, move_enabled, after};
 ghost use Rattle.delay_script.specs.declared.fault.DelayFault.{DelayFault};
 ghost use Rattle.delay_script.specs.DelayTables.{DelayTable};
 ghost use Rattle.event_sim.specs.Simulating.{RanValue};
 ghost use Rattle.delay_script.specs.declared.noted.NotedMove.{NotedMove};
 ghost use Rattle.delay_script.specs.DelayText.{IsDelayText, IsDelayRefused};
+ghost use Rattle.delay_script.specs.Causes.{IsEnabledSince};
 ghost use Rattle.delay_script.specs.TimedRuns.{TimedValue, IsTimedRan};
 
 /// Law: a text says at most one table of delays of the nodes of some names.
@@ -25,6 +29,20 @@ pub fn one_delay_refusal()
         → IsDelayRefused names text f n
         → IsDelayRefused names text g m
         → (f ≡ g) × (n ≡ m) }
+{}
+
+/// Law: behind a run each move that is enabled has one cause, and what has a cause is enabled.
+pub fn one_cause()
+    ensures some { (net : NetValue) (script : List OfferValue) (st : RunState) (ns : List ℕ) (n : ℕ)
+        → move_enabled net script (after net st ns) n ≡ true
+        → ((number : ℕ) × IsEnabledSince net script st ns n number) }
+    ensures only { (net : NetValue) (script : List OfferValue) (st : RunState) (ns : List ℕ) (n a b : ℕ)
+        → IsEnabledSince net script st ns n a
+        → IsEnabledSince net script st ns n b
+        → a ≡ b }
+    ensures enabled { (net : NetValue) (script : List OfferValue) (st : RunState) (ns : List ℕ) (n number : ℕ)
+        → IsEnabledSince net script st ns n number
+        → move_enabled net script (after net st ns) n ≡ true }
 {}
 
 /// Law: a timed run has one list of moves, with one time and one cause for each, and one end.

@@ -17,7 +17,7 @@ mod words;
 
 pub use delays::Delays;
 pub use fault::{DelayError, DelayFault};
-pub use laws::{one_delay_refusal, one_delay_table, one_timed_run};
+pub use laws::{one_cause, one_delay_refusal, one_delay_table, one_timed_run};
 pub use noted::{Noted, NotedMove, NotedRan, TimedRan};
 pub use reader::read_delays;
 pub use timed::Timed;
