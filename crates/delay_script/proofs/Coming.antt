@@ -29,19 +29,22 @@ pub come_more : (d : DelayTable) (net : NetValue) (script : List OfferValue) (st
     ComeNext d net script st before ms → IsNextMove d net script st (before ++ ms) x → ComeNext d net script st before (ms ++ x ∷ [])
 come_more d net script st before [] x all next =
     (subst (λ (v : List NotedMove). IsNextMove d net script st v x) (append-nil before) next, tt)
-come_more d net script st before (m ∷ ms) x all next =
-    (all.0, come_more d net script st (before ++ m ∷ []) ms x all.1
-        (subst (λ (v : List NotedMove). IsNextMove d net script st v x) (sym (append_assoc before (m ∷ []) ms)) next))
+come_more d net script st before (m ∷ ms) x all next = (
+  all.0,
+  come_more d net script st (before ++ m ∷ []) ms x all.1
+      (subst (λ (v : List NotedMove). IsNextMove d net script st v x) (sym (append_assoc before (m ∷ []) ms)) next),
+)
 
 -- the moves of a timed run are a run
 pub come_run : (d : DelayTable) (net : NetValue) (script : List OfferValue) (st : RunState) (before ms : List NotedMove) → ComeNext d net script st before ms →
     IsRun net script (after net st (moved_nodes before)) (moved_nodes ms)
 come_run d net script st before [] all = tt
-come_run d net script st before (m ∷ ms) all =
-    (is_enabled net script st (moved_nodes before) m.node m.cause all.0.cause,
-        subst (λ (r : RunState). IsRun net script r (moved_nodes ms))
-        (ap (after net st) (nodes_more before m) ∙ after_more net st (moved_nodes before) m.node)
-        (come_run d net script st (before ++ m ∷ []) ms all.1))
+come_run d net script st before (m ∷ ms) all = (
+  is_enabled net script st (moved_nodes before) m.node m.cause all.0.cause,
+  subst (λ (r : RunState). IsRun net script r (moved_nodes ms))
+      (ap (after net st) (nodes_more before m) ∙ after_more net st (moved_nodes before) m.node)
+      (come_run d net script st (before ++ m ∷ []) ms all.1),
+)
 
 -- times
 
@@ -52,14 +55,14 @@ pub time_front : (ms : List NotedMove) (x : NotedMove) (number : ℕ) → number
 time_front ms x zero within = refl
 time_front ms x (suc k) within =
     ap (λ (ts : List ℕ). get_or ts k 0) (map-append (λ (m : NotedMove). m.time) ms (x ∷ []))
-        ∙ get_or_append_left (map (λ (m : NotedMove). m.time) ms) (x.time ∷ []) 0 k (omega (arith, length-map ms (λ (m : NotedMove). m.time)))
+    ∙ get_or_append_left (map (λ (m : NotedMove). m.time) ms) (x.time ∷ []) 0 k (omega (arith, length-map ms (λ (m : NotedMove). m.time)))
 
 pub time_last : (ms : List NotedMove) (x : NotedMove) → time_behind (ms ++ x ∷ []) (length ms + 1) ≡ x.time
 time_last ms x =
     ap (time_behind (ms ++ x ∷ [])) (one_more (length ms))
-        ∙ ap (λ (ts : List ℕ). get_or ts (length ms) 0) (map-append (λ (m : NotedMove). m.time) ms (x ∷ []))
-        ∙ ap (λ (k : ℕ). get_or (map (λ (m : NotedMove). m.time) ms ++ x.time ∷ []) k 0) (sym (length-map ms (λ (m : NotedMove). m.time)))
-        ∙ get_or-append_seam (map (λ (m : NotedMove). m.time) ms) x.time [] 0
+    ∙ ap (λ (ts : List ℕ). get_or ts (length ms) 0) (map-append (λ (m : NotedMove). m.time) ms (x ∷ []))
+    ∙ ap (λ (k : ℕ). get_or (map (λ (m : NotedMove). m.time) ms ++ x.time ∷ []) k 0) (sym (length-map ms (λ (m : NotedMove). m.time)))
+    ∙ get_or-append_seam (map (λ (m : NotedMove). m.time) ms) x.time [] 0
   where
     one_more : (k : ℕ) → k + 1 ≡ suc k
     one_more k = omega arith
@@ -78,12 +81,13 @@ delay_few nodes d v n is within = by_value (v n)
     by_value false = is.rises_few n 0 (omega (arith, is.rises))
 
 -- what is kept of a node behind one more move
-pub record IsMade (d : DelayTable) (net : NetValue) (script : List OfferValue) (st : RunState) (ms : List NotedMove) (x : NotedMove) (fresh : Due) (n : ℕ) : Type 0
-    where
-  pub cause : fresh.cause ≡ length ms + 1
-  pub time : fresh.time ≡ x.time + next_delay d (high (after net st (moved_nodes (ms ++ x ∷ []))).values) n
-  pub few : next_delay d (high (after net st (moved_nodes (ms ++ x ∷ []))).values) n ≤ 1000000
-  pub soon : x.time ≤ (length ms + 1) * 1000000
+pub record IsMade (d : DelayTable) (net : NetValue) (script : List OfferValue) (st : RunState) (ms : List NotedMove) (x : NotedMove) (fresh : Due)
+    (n : ℕ) : Type 0
+  where
+    pub cause : fresh.cause ≡ length ms + 1
+    pub time : fresh.time ≡ x.time + next_delay d (high (after net st (moved_nodes (ms ++ x ∷ []))).values) n
+    pub few : next_delay d (high (after net st (moved_nodes (ms ++ x ∷ []))).values) n ≤ 1000000
+    pub soon : x.time ≤ (length ms + 1) * 1000000
 
 fresh_is : (d : DelayTable) (net : NetValue) (script : List OfferValue) (st : RunState) (ms : List NotedMove) (x : NotedMove) (fresh : Due) (n : ℕ) →
     IsMade d net script st ms x fresh n → (x.node ≡ n) ⊎ (move_enabled net script (after net st (moved_nodes ms)) n ≡ false) →
@@ -173,5 +177,5 @@ is_next d net script st ms dues m is count kept first = record {
     against n number since None e off = absurd (both_ways _ off (is_enabled net script st (moved_nodes ms) n number since))
     against n number since (Some due) e there =
         subst (λ (t : ℕ). ComesNoLater m.due.time m.node t n)
-            (there.time ∙ ap (λ (k : ℕ). due_time d net st ms k n) (one_cause net script st (moved_nodes ms) n due.cause number there.since since))
-            (first.first n due (inside n number since) e)
+        (there.time ∙ ap (λ (k : ℕ). due_time d net st ms k n) (one_cause net script st (moved_nodes ms) n due.cause number there.since since))
+        (first.first n due (inside n number since) e)

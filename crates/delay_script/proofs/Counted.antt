@@ -17,7 +17,7 @@ env_agrees : (net : NetValue) (script : List OfferValue) (d e : ℕ → ℕ) (v 
     env_enabled net script d v n ≡ env_enabled net script e v n
 env_agrees net script d e v n agree =
     ap (λ b. if in_reset net.reset v then is_reset net.reset n && rules_rest net v else raises_go v n || b)
-        (channels_agree v (offer_at script) d e agree 0 net.channels n)
+    (channels_agree v (offer_at script) d e agree 0 net.channels n)
 
 counts_are : (hs : List (List ℕ)) (k : ℕ) → slice_index (map (λ (h : List ℕ). length h) hs) k ≡ completed hs k
 counts_are [] zero = refl
@@ -31,4 +31,4 @@ pub by_counts : (net : NetValue) (script : List OfferValue) (values : List Bool)
     move_enabled net script (record { values = values; histories = hs }) n
 by_counts net script values hs done n counted =
     ap (λ b. rule_enabled net (high values) n || b)
-        (env_agrees net script (slice_index done) (completed hs) (high values) n (λ k. ap (λ (xs : List ℕ). slice_index xs k) counted ∙ counts_are hs k))
+    (env_agrees net script (slice_index done) (completed hs) (high values) n (λ k. ap (λ (xs : List ℕ). slice_index xs k) counted ∙ counts_are hs k))

@@ -78,8 +78,8 @@ skipped : (names ws : List (List ℕ)) (line : List ℕ) (ls : List DelayLine) (
     AreDelaysSoFar names ws ls up down marks → words_of line ≡ [] → AreDelaysSoFar names (ws ++ line ∷ []) ls up down marks
 skipped names ws line ls up down marks so_far none =
     let still : filter is_some_line (map words_of (ws ++ line ∷ [])) ≡ filter is_some_line (map words_of ws) =
-        lines_more ws line ∙ ap (λ (vs : List (List (List ℕ))). filter is_some_line (map words_of ws) ++ vs) (no_line (words_of line) none)
-        ∙ append-none (filter is_some_line (map words_of ws)) in
+    lines_more ws line ∙ ap (λ (vs : List (List (List ℕ))). filter is_some_line (map words_of ws) ++ vs) (no_line (words_of line) none)
+    ∙ append-none (filter is_some_line (map words_of ws)) in
     record {
       lines_told = record {
         says = subst (λ (vs : List (List (List ℕ))). AllZip SaysDelays vs ls) (sym still) so_far.lines_told.says;
@@ -104,9 +104,8 @@ taken names ws line ls up down marks t distinct so_far step =
     let mark : marked_at marks t.node ≡ has_line ls l.node = mark_is names ls marks l.node t.node so_far.marks_are step.place in
     let fresh : has_line ls l.node ≡ false = sym mark ∙ step.fresh in
     let more_lines : filter is_some_line (map words_of (ws ++ line ∷ [])) ≡ filter is_some_line (map words_of ws) ++ words_of line ∷ [] =
-        lines_more ws line ∙ ap (λ (vs : List (List (List ℕ))). filter is_some_line (map words_of ws) ++ vs)
-        (one_line (words_of line) _ _ step.says.spelled) in
-    (
+    lines_more ws line ∙ ap (λ (vs : List (List (List ℕ))). filter is_some_line (map words_of ws) ++ vs)
+    (one_line (words_of line) _ _ step.says.spelled) in (
       ls ++ l ∷ [],
       record {
         lines_told = record {
@@ -146,7 +145,7 @@ texts_parts : (lines : Words) (at : ℕ) (d : Bor (List ℕ)) → at < length li
     ∷ texts (drop (at + 1) lines)
 texts_parts lines at d within =
     ap texts (sym (take-append-drop at lines)) ∙ texts_append (take at lines) (drop at lines)
-        ∙ ap (λ (ws : Words). texts (take at lines) ++ texts ws) (drop_more lines at d within)
+    ∙ ap (λ (ws : Words). texts (take at lines) ++ texts ws) (drop_more lines at d within)
 
 -- what was read of the lines before this place
 pub record AreReadTo (names : List (List ℕ)) (lines : Words) (at : ℕ) (up down : List ℕ) (marks : List Bool) : Type 0 where
@@ -155,11 +154,10 @@ pub record AreReadTo (names : List (List ℕ)) (lines : Words) (at : ℕ) (up do
 
 pub one_each : (names : List (List ℕ)) (lines : Words) (at : ℕ) (up down : List ℕ) (marks : List Bool) → AreReadTo names lines at up down marks →
     (length up ≡ length names) × ((length down ≡ length names) × (length marks ≡ length names))
-one_each names lines at up down marks read =
-    (
-      ap length read.so_far.rises ∙ length-map names (rise_said read.ls),
-      (ap length read.so_far.falls ∙ length-map names (fall_said read.ls), ap length read.so_far.marks_are ∙ length-map names (has_line read.ls)),
-    )
+one_each names lines at up down marks read = (
+  ap length read.so_far.rises ∙ length-map names (rise_said read.ls),
+  (ap length read.so_far.falls ∙ length-map names (fall_said read.ls), ap length read.so_far.marks_are ∙ length-map names (has_line read.ls)),
+)
 
 pub refused_at : (names : List (List ℕ)) (text : List ℕ) (lines : Words) (at : ℕ) (d : Bor (List ℕ)) (table : List (List ℕ)) (up down : List ℕ)
     (marks flags : List Bool) (fault : DelayFault) → texts lines ≡ lines_of text → at < length lines → AreReadTo names lines at up down marks → flags ≡ marks →
@@ -167,9 +165,9 @@ pub refused_at : (names : List (List ℕ)) (text : List ℕ) (lines : Words) (at
 refused_at names text lines at d table up down marks flags fault cut within read same is_table step =
     let line : List ℕ = (get_or lines at d).now in
     let there : DelayStepFault names flags (words_of line) fault =
-        subst (λ (ns : List (List ℕ)). DelayStepFault ns flags (words_of line) fault) is_table step in
+    subst (λ (ns : List (List ℕ)). DelayStepFault ns flags (words_of line) fault) is_table step in
     let here : DelayStepFault names marks (words_of line) fault =
-        subst (λ (bs : List Bool). DelayStepFault names bs (words_of line) fault) same there in
+    subst (λ (bs : List Bool). DelayStepFault names bs (words_of line) fault) same there in
     record {
       before = texts (take at lines);
       here = line;

@@ -108,7 +108,8 @@ replaced_more f was now next k o is within here set_so = record {
 }
   where
     at_k : due_at next k ≡ f k (due_at was k)
-    at_k = ap (λ (ds : List (Option Due)). due_at ds k) set_so ∙ get_or-set_same now k o None (omega (arith, is.count)) ∙ here ∙ ap (f k) (is.rest k (omega arith))
+    at_k = ap (λ (ds : List (Option Due)). due_at ds k) set_so ∙ get_or-set_same now k o None (omega (arith, is.count)) ∙ here
+        ∙ ap (f k) (is.rest k (omega arith))
 
     by_place : (n : ℕ) → n < length was → (n < k) ⊎ (n ≡ k) → due_at next n ≡ f n (due_at was n)
     by_place n in_was (inl below) =

@@ -53,7 +53,7 @@ map_set {X} f g (n ∷ names) zero y within here others =
 map_set {X} f g (n ∷ names) (suc k) y within here others =
     let head : g n ≡ f n = others 0 (omega arith) (omega arith) in
     let tail : map g names ≡ set (map f names) k y =
-        map_set f g names k y (omega arith) here (λ j in_range apart. others (suc j) (omega arith) (λ e. apart (omega arith))) in
+    map_set f g names k y (omega arith) here (λ j in_range apart. others (suc j) (omega arith) (λ e. apart (omega arith))) in
     ap (λ (x : X). x ∷ map g names) head ∙ ap (λ (xs : List X). f n ∷ xs) tail
 
 other_place : (names : List (List ℕ)) (name : List ℕ) (k j : ℕ) → AreDistinctNames names → IsNodePlace names name k → j < length names → j ≢ k →
@@ -69,7 +69,7 @@ changed_at : {X : Type 0} (f g : List ℕ → X) (names : List (List ℕ)) (name
     g name ≡ y → ((other : List ℕ) → other ≢ name → g other ≡ f other) → map g names ≡ set (map f names) k y
 changed_at f g names name k y distinct here now others =
     map_set f g names k y here.within (ap g here.is ∙ now)
-        (λ j within apart. others (get_or names j []) (other_place names name k j distinct here within apart))
+    (λ j within apart. others (get_or names j []) (other_place names name k j distinct here within apart))
 
 -- what is said of a name behind one more line
 

@@ -44,15 +44,15 @@ kept_at_start c d node was now table count none is n within =
     let before : n < length was = omega (arith, is.count) in
     let fresh : Due = fresh_due d (high c.values) made_at_start n in
     let one : due_at now n ≡ renewed_due (node_can_move c n) (n == node) None fresh =
-        is.each n before ∙ ap (λ (o : Option Due). renewed_due (node_can_move c n) (n == node) o fresh) (none n before) in
+    is.each n before ∙ ap (λ (o : Option Due). renewed_due (node_can_move c n) (n == node) o fresh) (none n before) in
     subst (λ (o : Option Due). IsKeptDue d c.net c.script (circuit_now c) [] n o) (sym one)
-        (kept_first d c.net c.script (circuit_now c) fresh n (n == node) refl refl (delay_few (length c.net.first) d (high c.values) n table (omega arith)))
+    (kept_first d c.net c.script (circuit_now c) fresh n (n == node) refl refl (delay_few (length c.net.first) d (high c.values) n table (omega arith)))
 
 there : (c : CircuitValue) (start : Bool) → c.values ≡ power_of c.net start → c.passed ≡ [] → circuit_now c ≡ begin_at c.net (power_of c.net start)
 there c start values passed =
     ap (λ (ps : List (ℕ × ℕ)). record { values = c.values; histories = channel_histories (length c.net.channels) ps }) passed
-        ∙ ap (λ (hs : List (List ℕ)). record { values = c.values; histories = hs }) (histories_none (length c.net.channels))
-        ∙ ap (λ (vs : List Bool). record { values = vs; histories = replicate (length c.net.channels) [] }) values
+    ∙ ap (λ (hs : List (List ℕ)). record { values = c.values; histories = hs }) (histories_none (length c.net.channels))
+    ∙ ap (λ (vs : List Bool). record { values = vs; histories = replicate (length c.net.channels) [] }) values
 
 pub begun : (c : CircuitValue) (d : DelayTable) (dues : List (Option Due)) (ms : List NotedMove) (slots steps : ℕ) (start : Bool) (last : Option Hazard) →
     IsTimedReady c d dues ms slots steps start → last ≡ first_hazard c.net (circuit_now c) →
@@ -124,9 +124,10 @@ next_says t ms c dues last way None spent is first =
     off : (n : ℕ) → n < length t.net.first → move_enabled t.net t.script (after t.net (timed_start t) (moved_nodes ms)) n ≡ false
     off n within =
         sym (kept_says t.delays t.net t.script (timed_start t) ms n (due_at dues n) (is.kept n (omega (arith, is.count))))
-            ∙ ap is_some (first n (subst (λ (w : NetValue). n < length w.first) (sym is.net) within))
+        ∙ ap is_some (first n (subst (λ (w : NetValue). n < length w.first) (sym is.net) within))
 next_says t ms c dues last way (Some m) spent is first =
-    end_same last (m.node ∷ []) (enabled_then t ms) spent (omega arith) (some_enabled t.net t.script (after t.net (timed_start t) (moved_nodes ms)) m.node inside on)
+    end_same last (m.node ∷ []) (enabled_then t ms) spent (omega arith) (some_enabled t.net t.script (after t.net (timed_start t) (moved_nodes ms)) m.node
+    inside on)
   where
     inside : m.node < length t.net.first
     inside = subst (λ (w : NetValue). m.node < length w.first) is.net first.within
@@ -141,9 +142,9 @@ end_is : (t : TimedValue) (ms : List NotedMove) (c : CircuitValue) (dues : List 
     end_with last (list_of_next next) spent ≡ end_after t.net t.script t.steps (timed_start t) (moved_nodes ms)
 end_is t ms c dues last next spent is first counted =
     next_says t ms c dues last last next spent is first
-        ∙ ap (λ (h : Option Hazard). end_with h (enabled_then t ms) spent) is.hazard
-        ∙ ap (λ (b : Bool). end_with (last_hazard t.net t.script (timed_start t) (moved_nodes ms)) (enabled_then t ms) b)
-        (sym counted ∙ ap (λ (k : ℕ). k == t.steps) (sym (nodes_count ms)))
+    ∙ ap (λ (h : Option Hazard). end_with h (enabled_then t ms) spent) is.hazard
+    ∙ ap (λ (b : Bool). end_with (last_hazard t.net t.script (timed_start t) (moved_nodes ms)) (enabled_then t ms) b)
+    (sym counted ∙ ap (λ (k : ℕ). k == t.steps) (sym (nodes_count ms)))
 
 -- the hazard by its three tests
 
@@ -225,22 +226,23 @@ step t ms c later dues nows last brought m net table is few calm first move = re
         let v : ℕ → Bool = high (after t.net start (moved_nodes (ms ++ x ∷ []))).values in
         let fresh : Due = fresh_due t.delays (high later.values) (record { cause = length ms + 1; time = m.due.time }) n in
         let values : next_delay t.delays (high later.values) n ≡ next_delay t.delays v n =
-            ap (λ (r : RunState). next_delay t.delays (high r.values) n) then in
-        let one : due_at nows n ≡ renewed_due (move_enabled t.net t.script (after t.net start (moved_nodes (ms ++ x ∷ []))) n) (n == m.node) (due_at dues n) fresh =
-            move.renewed.each n before ∙ ap (λ (b : Bool). renewed_due b (n == m.node) (due_at dues n) fresh) (can n) in
+        ap (λ (r : RunState). next_delay t.delays (high r.values) n) then in
+        let one : due_at nows n ≡ renewed_due (move_enabled t.net t.script (after t.net start (moved_nodes (ms ++ x ∷ []))) n) (n == m.node) (due_at dues n)
+        fresh =
+        move.renewed.each n before ∙ ap (λ (b : Bool). renewed_due b (n == m.node) (due_at dues n) fresh) (can n) in
         subst (λ (o : Option Due). IsKeptDue t.delays t.net t.script start (ms ++ x ∷ []) n o) (sym one)
-            (kept_more t.delays t.net t.script start ms x fresh n (due_at dues n)
-            (made_is t.delays t.net t.script start ms x fresh n refl (ap (λ (k : ℕ). m.due.time + k) values)
-            (delay_few (length t.net.first) t.delays v n table inside) own.soon)
-            (is.kept n before))
+        (kept_more t.delays t.net t.script start ms x fresh n (due_at dues n)
+        (made_is t.delays t.net t.script start ms x fresh n refl (ap (λ (k : ℕ). m.due.time + k) values)
+        (delay_few (length t.net.first) t.delays v n table inside) own.soon)
+        (is.kept n before))
 
     lost_one : (k : ℕ) → k < length t.net.first → loses_due later dues m.node k ≡ takes_away t.net t.script (after t.net start (moved_nodes ms)) m.node k
     lost_one k within =
         ap (λ (b : Bool). not (k == m.node) && (b && not (node_can_move later k)))
-            (kept_says t.delays t.net t.script start ms k (due_at dues k) (is.kept k (omega (arith, is.count))))
-            ∙ ap (λ (b : Bool). not (k == m.node) && (move_enabled t.net t.script (after t.net start (moved_nodes ms)) k && not b))
-            (can k ∙ ap (λ (ns : List ℕ). move_enabled t.net t.script (after t.net start ns) k) more
-            ∙ ap (λ (r : RunState). move_enabled t.net t.script r k) (after_more t.net start (moved_nodes ms) m.node))
+        (kept_says t.delays t.net t.script start ms k (due_at dues k) (is.kept k (omega (arith, is.count))))
+        ∙ ap (λ (b : Bool). not (k == m.node) && (move_enabled t.net t.script (after t.net start (moved_nodes ms)) k && not b))
+        (can k ∙ ap (λ (ns : List ℕ). move_enabled t.net t.script (after t.net start ns) k) more
+        ∙ ap (λ (r : RunState). move_enabled t.net t.script r k) (after_more t.net start (moved_nodes ms) m.node))
 
     lost : least_below (length dues) (loses_due later dues m.node) ≡
         least_below (length t.net.first) (takes_away t.net t.script (after t.net start (moved_nodes ms)) m.node)
@@ -258,9 +260,11 @@ step t ms c later dues nows last brought m net table is few calm first move = re
     hazard_then : brought ≡ last_hazard t.net t.script start (moved_nodes (ms ++ x ∷ []))
     hazard_then = move.hazard ∙ ap (λ (o : Option ℕ). worst_cause o (least_below (length dues) (loses_due later dues m.node))
         (phase_fault c.net (high c.values) m.node)) pulled
-        ∙ ap (λ (o : Option ℕ). worst_cause (least_below (length t.net.first) (torn t.net (high (moved t.net (after t.net start (moved_nodes ms)) m.node).values)))
+        ∙ ap (λ (o : Option ℕ). worst_cause (least_below (length t.net.first)
+        (torn t.net (high (moved t.net (after t.net start (moved_nodes ms)) m.node).values)))
         o (phase_fault c.net (high c.values) m.node)) lost
-        ∙ ap (λ (o : Option ℕ). worst_cause (least_below (length t.net.first) (torn t.net (high (moved t.net (after t.net start (moved_nodes ms)) m.node).values)))
+        ∙ ap (λ (o : Option ℕ). worst_cause (least_below (length t.net.first)
+        (torn t.net (high (moved t.net (after t.net start (moved_nodes ms)) m.node).values)))
         (least_below (length t.net.first) (takes_away t.net t.script (after t.net start (moved_nodes ms)) m.node)) o) broken
         ∙ worst_is _ _ _ ∙ sym (last_more t.net t.script start (moved_nodes ms) m.node) ∙ ap (last_hazard t.net t.script start) (sym more)
 
@@ -274,7 +278,7 @@ step t ms c later dues nows last brought m net table is few calm first move = re
         ap (λ (v : List NotedMove). end_after t.net t.script t.steps start (moved_nodes v)) (take-append-le k ms (x ∷ []) (omega arith)) ∙ is.no_end k less
     no_end_at k below (inr past) =
         ap (λ (v : List NotedMove). end_after t.net t.script t.steps start (moved_nodes v))
-            (take-append-le k ms (x ∷ []) (omega (arith, length_push ms x)) ∙ take_all k ms past) ∙ goes
+        (take-append-le k ms (x ∷ []) (omega (arith, length_push ms x)) ∙ take_all k ms past) ∙ goes
 
 -- its end
 
@@ -288,8 +292,8 @@ pub within_end : (t : TimedValue) (ms : List NotedMove) (c : CircuitValue) (dues
     IsEndIn c.net end
 within_end t ms c dues last next spent end is first ended =
     subst (λ (w : NetValue). IsEndIn w end) (sym is.net)
-        (end_within t.net t.script (timed_start t) (moved_nodes ms) (enabled_then t ms) spent last end is.hazard
-        (sym (next_says t ms c dues last last next spent is first) ∙ ended))
+    (end_within t.net t.script (timed_start t) (moved_nodes ms) (enabled_then t ms) spent last end is.hazard
+    (sym (next_says t ms c dues last last next spent is first) ∙ ended))
 
 pub finish : (t : TimedValue) (ms : List NotedMove) (c : CircuitValue) (dues : List (Option Due)) (last : Option Hazard) (next : Option Next) (spent : Bool)
     (end : End) (count time : ℕ) → IsOnItsWay t ms c dues last → IsFirstOf dues (length c.net.first) next → (length ms == t.steps) ≡ spent →
@@ -339,12 +343,13 @@ ready c net script state d start was now dues ms slots steps nodes made powered 
 
     each_none : (n : ℕ) → n < length was → due_at was n ≡ None
     each_none n within =
-        ap (λ (ds : List (Option Due)). due_at ds n) none ∙ get_or-replicate nodes n None None (omega (arith, ap length none, length-replicate {A = Option Due} nodes None))
+        ap (λ (ds : List (Option Due)). due_at ds n) none
+        ∙ get_or-replicate nodes n None None (omega (arith, ap length none, length-replicate {A = Option Due} nodes None))
 
 pub due_soon : (t : TimedValue) (ms : List NotedMove) (c : CircuitValue) (dues : List (Option Due)) (last : Option Hazard) (m : Next) →
     IsOnItsWay t ms c dues last → IsFirstDue dues (length c.net.first) m → m.due.time ≤ (length ms + 1) * 1000000
 due_soon t ms c dues last m is first =
     let own : IsDue t.delays t.net t.script (timed_start t) ms m.node m.due =
-        subst (λ (o : Option Due). IsKeptDue t.delays t.net t.script (timed_start t) ms m.node o) first.due
-        (is.kept m.node (omega (arith, is.count, first.within, ap (λ (w : NetValue). length w.first) is.net))) in
+    subst (λ (o : Option Due). IsKeptDue t.delays t.net t.script (timed_start t) ms m.node o) first.due
+    (is.kept m.node (omega (arith, is.count, first.within, ap (λ (w : NetValue). length w.first) is.net))) in
     own.soon

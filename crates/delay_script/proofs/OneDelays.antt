@@ -40,8 +40,8 @@ says_once words l m one two =
     let ups : one.up ≡ two.up = cc both in
     let downs : one.down ≡ two.down = cc both in
     line_same l.node m.node l.up m.up l.down m.down node
-        (number_once two.up l.up m.up (subst (λ (w : List ℕ). IsNumber w l.up) ups one.rise) two.rise)
-        (number_once two.down l.down m.down (subst (λ (w : List ℕ). IsNumber w l.down) downs one.fall) two.fall)
+    (number_once two.up l.up m.up (subst (λ (w : List ℕ). IsNumber w l.up) ups one.rise) two.rise)
+    (number_once two.down l.down m.down (subst (λ (w : List ℕ). IsNumber w l.down) downs one.fall) two.fall)
 
 lines_once : (wss : List (List (List ℕ))) (ls ms : List DelayLine) → AllZip SaysDelays wss ls → AllZip SaysDelays wss ms → ls ≡ ms
 lines_once [] [] [] one two = refl
@@ -64,7 +64,7 @@ not_told : (fs : List DelayLine) (name : List ℕ) → ((k : ℕ) (d : DelayLine
 not_told [] name apart = refl
 not_told (f ∷ fs) name apart =
     or_from (bytes_eq f.node name) (has_line fs name) (differ f.node name (apart 0 f (omega arith)))
-        (not_told fs name (λ k d within. apart (suc k) d (omega arith)))
+    (not_told fs name (λ k d within. apart (suc k) d (omega arith)))
 
 at_end : {X : Type 0} (fs : List X) (l : X) (rest : List X) (d : X) → get_or (fs ++ l ∷ rest) (length fs) d ≡ l
 at_end [] l rest d = refl
@@ -163,7 +163,7 @@ no_fault_within : (names lines : List (List ℕ)) (ls : List DelayLine) (before 
     DelayLineFault names fs (words_of here) fault → ⊥
 no_fault_within names lines ls before here behind fs fault told parts front fault_here =
     let cut : worded lines ≡ worded before ++ (words_of here ∷ worded behind) = ap worded parts ∙ worded_parts before here behind
-        ∙ ap (λ (v : List (List (List ℕ))). worded before ++ v) (worded_here here behind (fault_some names fs (words_of here) fault fault_here)) in
+    ∙ ap (λ (v : List (List (List ℕ))). worded before ++ v) (worded_here here behind (fault_some names fs (words_of here) fault fault_here)) in
     let two = parted (worded before) (words_of here ∷ worded behind) ls (subst (λ (v : List (List (List ℕ))). AllZip SaysDelays v ls) cut told.says) in
     let one : two.front ≡ fs = lines_once (worded before) two.front fs two.fronts front.says in
     let good : AreDelays names (fs ++ two.back) = subst (AreDelays names) (two.whole ∙ ap (λ (v : List DelayLine). v ++ two.back) one) told.good in
@@ -173,7 +173,7 @@ pub no_text : (names : List (List ℕ)) (text : List ℕ) (d : DelayTable) (faul
     IsDelayText names text d → ⊥
 no_text names text d fault line refused is =
     no_fault_within names (lines_of text) is.lines refused.before refused.here refused.behind refused.lines fault is.told refused.parts refused.told
-        refused.fault_here
+    refused.fault_here
 
 -- Two refusals are one.
 
@@ -246,8 +246,8 @@ one_refusal names text f g n m one two = by_order (cases_order (length one.befor
         let told : AreDelaysTold names two.before one.lines = subst (λ (v : List (List ℕ)). AreDelaysTold names v one.lines) front.fronts one.told in
         let lines : one.lines ≡ two.lines = lines_once (worded two.before) one.lines two.lines told.says two.told.says in
         let moved : DelayLineFault names two.lines (words_of two.here) f =
-            subst (λ (v : List ℕ). DelayLineFault names two.lines (words_of v) f) front.heres
-            (subst (λ (ls : List DelayLine). DelayLineFault names ls (words_of one.here) f) lines one.fault_here) in
+        subst (λ (v : List ℕ). DelayLineFault names two.lines (words_of v) f) front.heres
+        (subst (λ (ls : List DelayLine). DelayLineFault names ls (words_of one.here) f) lines one.fault_here) in
         (fault_once names two.lines (words_of two.here) f g moved two.fault_here, omega (arith, one.number, two.number))
     by_order (inr (inl less)) =
         let more = longer one.before one.here one.behind two.before two.here two.behind same less in

@@ -34,13 +34,13 @@ next_once : (d : DelayTable) (net : NetValue) (script : List OfferValue) (st : R
     IsNextMove d net script st ms x → IsNextMove d net script st ms y → x ≡ y
 next_once d net script st ms x y one two =
     let there : ComesNoLater x.time x.node y.time y.node =
-        subst (λ (t : ℕ). ComesNoLater x.time x.node t y.node) (sym two.time) (one.first y.node y.cause two.cause) in
+    subst (λ (t : ℕ). ComesNoLater x.time x.node t y.node) (sym two.time) (one.first y.node y.cause two.cause) in
     let back : ComesNoLater y.time y.node x.time x.node =
-        subst (λ (t : ℕ). ComesNoLater y.time y.node t x.node) (sym one.time) (two.first x.node x.cause one.cause) in
+    subst (λ (t : ℕ). ComesNoLater y.time y.node t x.node) (sym one.time) (two.first x.node x.cause one.cause) in
     let both = at_once x.time x.node y.time y.node there back in
     move_same x.time x.node x.cause y.time y.node y.cause both.times both.nodes
-        (one_cause net script st (moved_nodes ms) y.node x.cause y.cause
-        (subst (λ (n : ℕ). IsEnabledSince net script st (moved_nodes ms) n x.cause) both.nodes one.cause) two.cause)
+    (one_cause net script st (moved_nodes ms) y.node x.cause y.cause
+    (subst (λ (n : ℕ). IsEnabledSince net script st (moved_nodes ms) n x.cause) both.nodes one.cause) two.cause)
 
 -- of two timed runs the shorter one is a front of the other
 fronts : (d : DelayTable) (net : NetValue) (script : List OfferValue) (st : RunState) (before ms ns : List NotedMove) → ComeNext d net script st before ms →
@@ -50,7 +50,7 @@ fronts d net script st before (m ∷ ms) [] one two few = absurd (omega arith)
 fronts d net script st before (m ∷ ms) (n ∷ ns) one two few =
     let head : m ≡ n = next_once d net script st before m n one.0 two.0 in
     let rest : ComeNext d net script st (before ++ m ∷ []) ns =
-        subst (λ (x : NotedMove). ComeNext d net script st (before ++ x ∷ []) ns) (sym head) two.1 in
+    subst (λ (x : NotedMove). ComeNext d net script st (before ++ x ∷ []) ns) (sym head) two.1 in
     let tail : ms ≡ take (length ms) ns = fronts d net script st (before ++ m ∷ []) ms ns one.1 rest (omega arith) in
     ap (λ (xs : List NotedMove). m ∷ xs) tail ∙ ap (λ (x : NotedMove). x ∷ take (length ms) ns) head
 
@@ -63,10 +63,10 @@ not_shorter : (t : TimedValue) (ms ns : List NotedMove) (r q : RanValue) (u v : 
 not_shorter t ms ns r q u v one two less =
     let same : ms ≡ take (length ms) ns = fronts t.delays t.net t.script (timed_start t) [] ms ns one.timed two.timed (omega arith) in
     let none : end_after t.net t.script t.steps (timed_start t) (take (length ms) (moved_nodes ns)) ≡ None =
-        two.ends.not_before (length ms) (omega (arith, nodes_count ns)) in
+    two.ends.not_before (length ms) (omega (arith, nodes_count ns)) in
     let here : end_after t.net t.script t.steps (timed_start t) (moved_nodes ms) ≡ None =
-        ap (λ (xs : List NotedMove). end_after t.net t.script t.steps (timed_start t) (moved_nodes xs)) same
-        ∙ ap (end_after t.net t.script t.steps (timed_start t)) (sym (take_nodes (length ms) ns)) ∙ none in
+    ap (λ (xs : List NotedMove). end_after t.net t.script t.steps (timed_start t) (moved_nodes xs)) same
+    ∙ ap (end_after t.net t.script t.steps (timed_start t)) (sym (take_nodes (length ms) ns)) ∙ none in
     absurd (cc (here, one.ends.ended))
 
 pub moves_once : (t : TimedValue) (ms ns : List NotedMove) (r q : RanValue) (u v : ℕ) → IsTimedRan t ms r u → IsTimedRan t ns q v → ms ≡ ns
@@ -90,7 +90,7 @@ ran_once t ms ns r q u v one two =
     let ends : Some r.end ≡ Some q.end = sym there.ends.ended ∙ two.ends.ended in
     let end : r.end ≡ q.end = cc ends in
     ran_same r.net q.net r.end q.end r.moves q.moves r.done_high q.done_high r.passed q.passed (there.net ∙ sym two.net) end (there.moves ∙ sym two.moves)
-        (there.done ∙ sym two.done) (there.passed ∙ sym two.passed)
+    (there.done ∙ sym two.done) (there.passed ∙ sym two.passed)
 
 pub time_once : (t : TimedValue) (ms ns : List NotedMove) (r q : RanValue) (u v : ℕ) → IsTimedRan t ms r u → IsTimedRan t ns q v → u ≡ v
 time_once t ms ns r q u v one two =

@@ -1,5 +1,5 @@
 -- Since which move a node's move is enabled, behind one more move.
-use Rattle.std.proofs.Common.{◌≡◌, ◌≢◌, ℕ, zero, suc, ◌+◌, ◌<◌, ◌≤◌, true, false, List, [], ◌∷◌, ◌++◌, length, get_or, take, refl, sym, ap, subst, ◌∙◌, inl, inr, arith}
+use Rattle.std.proofs.Common.{◌≡◌, ◌≢◌, ℕ, zero, suc, ◌+◌, ◌<◌, ◌≤◌, Bool, true, false, List, [], ◌∷◌, ◌++◌, length, get_or, take, refl, sym, ap, subst, ◌∙◌, inl, inr, arith}
 use Rattle.std.specs.Prelude.{◌⊎◌}
 use Rattle.std.proofs.lemmas.Bool.{cases_lt, cases_eq, cases_order, both_ways}
 use Rattle.std.proofs.lemmas.List.{length_push, take-append-le, take_all, get_or_append_left, append-nil, append_assoc}
@@ -22,7 +22,7 @@ pub is_enabled : (net : NetValue) (script : List OfferValue) (st : RunState) (ns
     move_enabled net script (after net st ns) n ≡ true
 is_enabled net script st ns n number is =
     ap (λ (xs : List ℕ). move_enabled net script (after net st xs) n) (sym (take_all (length ns) ns (omega arith)))
-        ∙ is.stays (length ns) is.within (omega arith)
+    ∙ is.stays (length ns) is.within (omega arith)
 
 pub from_start : (net : NetValue) (script : List OfferValue) (st : RunState) (n : ℕ) → move_enabled net script st n ≡ true →
     IsEnabledSince net script st [] n 0
@@ -122,7 +122,7 @@ behind_all : (net : NetValue) (script : List OfferValue) (st : RunState) (ns ms 
 behind_all net script st ns [] n was = subst (λ (xs : List ℕ). OffOrCaused net script st xs n) (sym (append-nil ns)) was
 behind_all net script st ns (m ∷ ms) n was =
     subst (λ (xs : List ℕ). OffOrCaused net script st xs n) (append_assoc ns (m ∷ []) ms)
-        (behind_all net script st (ns ++ m ∷ []) ms n (behind_one net script st ns m n was))
+    (behind_all net script st (ns ++ m ∷ []) ms n (behind_one net script st ns m n was))
 
 at_first : (net : NetValue) (script : List OfferValue) (st : RunState) (n : ℕ) → OffOrCaused net script st [] n
 at_first net script st n = by_value (move_enabled net script st n) refl

@@ -11,9 +11,10 @@ enabled_behind net script st ns count n = move_enabled net script (after net st 
 -- Behind the run the node's move is enabled since the move of this number, counted from 1, or since the start where it
 -- is 0: it is enabled behind this move and each later one, no later move is its own, and this move is its own or found
 -- it not enabled.
-pub record IsEnabledSince (net : NetValue) (script : List OfferValue) (st : RunState) (ns : List ℕ) (n number : ℕ) : Type 0
-    where
-  pub within : number ≤ length ns
-  pub stays : (k : ℕ) → number ≤ k → k ≤ length ns → enabled_behind net script st ns k n ≡ true
-  pub others : (k : ℕ) → number ≤ k → k < length ns → slice_index ns k ≢ n
-  pub begins : (k : ℕ) → k + 1 ≡ number → (slice_index ns k ≡ n) ⊎ (enabled_behind net script st ns k n ≡ false)
+pub record IsEnabledSince (net : NetValue) (script : List OfferValue) (st : RunState) (ns : List ℕ)
+    (n number : ℕ) : Type 0
+  where
+    pub within : number ≤ length ns
+    pub stays : (k : ℕ) → number ≤ k → k ≤ length ns → enabled_behind net script st ns k n ≡ true
+    pub others : (k : ℕ) → number ≤ k → k < length ns → slice_index ns k ≢ n
+    pub begins : (k : ℕ) → k + 1 ≡ number → (slice_index ns k ≡ n) ⊎ (enabled_behind net script st ns k n ≡ false)

@@ -29,14 +29,14 @@ pub data DelayStepFault (names : List (List ℕ)) (marks : List Bool) (words : L
 
 -- the words are a line without a fault, and this is what it says
 pub record IsTakenDelay (names : List (List ℕ)) (marks : List Bool) (words : List (List ℕ)) (t : TakenDelay) : Type 0
-    where
-  pub line : DelayLine
-  pub says : SaysDelays words line
-  pub place : IsNodePlace names line.node t.node
-  pub fresh : marked_at marks t.node ≡ false
-  pub quick : IsQuick line
-  pub rise : t.up ≡ line.up
-  pub fall : t.down ≡ line.down
+  where
+    pub line : DelayLine
+    pub says : SaysDelays words line
+    pub place : IsNodePlace names line.node t.node
+    pub fresh : marked_at marks t.node ≡ false
+    pub quick : IsQuick line
+    pub rise : t.up ≡ line.up
+    pub fall : t.down ≡ line.down
 
 abbrev pub IsDelayStep : List (List ℕ) → List Bool → List (List ℕ) → DelayStep → Type 0
 IsDelayStep names marks words Skip = words ≡ []

@@ -68,14 +68,14 @@ IsNoDelayText names text = (d : DelayTable) → ¬ IsDelayText names text d
 
 -- why the words of a line are refused behind lines that are not: each cause where none of those before it is there
 pub data DelayLineFault (names : List (List ℕ)) (before : List DelayLine) (words : List (List ℕ)) : DelayFault → Type 0
-    where
-  no_delays : 0 < length words → ((l : DelayLine) → ¬ SaysDelays words l) → DelayLineFault names before words BadLine
-  no_node : (l : DelayLine) → SaysDelays words l → ¬ Contains names l.node →
-      DelayLineFault names before words UnknownNode
-  again : (l : DelayLine) → SaysDelays words l → Contains names l.node → has_line before l.node ≡ true →
-      DelayLineFault names before words DoubleNode
-  slow : (l : DelayLine) → SaysDelays words l → Contains names l.node → has_line before l.node ≡ false → ¬ IsQuick l →
-      DelayLineFault names before words TooLarge
+  where
+    no_delays : 0 < length words → ((l : DelayLine) → ¬ SaysDelays words l) → DelayLineFault names before words BadLine
+    no_node : (l : DelayLine) → SaysDelays words l → ¬ Contains names l.node →
+        DelayLineFault names before words UnknownNode
+    again : (l : DelayLine) → SaysDelays words l → Contains names l.node → has_line before l.node ≡ true →
+        DelayLineFault names before words DoubleNode
+    slow : (l : DelayLine) → SaysDelays words l → Contains names l.node → has_line before l.node ≡ false → ¬ IsQuick l →
+        DelayLineFault names before words TooLarge
 
 -- the text is refused for this cause at this line, the first one with a fault
 pub record IsDelayRefused (names : List (List ℕ)) (text : List ℕ) (fault : DelayFault) (line : ℕ) : Type 0 where

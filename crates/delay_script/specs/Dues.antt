@@ -31,7 +31,8 @@ abbrev pub IsKeptDue : DelayTable → NetValue → List OfferValue → RunState 
 IsKeptDue d net script st ms n None = move_enabled net script (after net st (moved_nodes ms)) n ≡ false
 IsKeptDue d net script st ms n (Some due) = IsDue d net script st ms n due
 
-abbrev pub AreKeptDues : DelayTable → NetValue → List OfferValue → RunState → List NotedMove → List (Option Due) → Type 0
+abbrev pub AreKeptDues : DelayTable → NetValue → List OfferValue → RunState → List NotedMove → List (Option Due) →
+    Type 0
 AreKeptDues d net script st ms dues = (n : ℕ) → n < length dues → IsKeptDue d net script st ms n (due_at dues n)
 
 -- the first of the moves that are due, of the nodes below a number
@@ -63,10 +64,11 @@ abbrev pub fresh_due : DelayTable → (ℕ → Bool) → Due → ℕ → Due
 fresh_due d v made n = record { cause = made.cause; time = made.time + next_delay d v n }
 
 -- behind the move of the node
-pub record AreRenewed (c : CircuitValue) (d : DelayTable) (node : ℕ) (made : Due) (was now : List (Option Due)) : Type 0 where
-  pub count : length now ≡ length was
-  pub each : (n : ℕ) → n < length was →
-      due_at now n ≡ renewed_due (node_can_move c n) (n == node) (due_at was n) (fresh_due d (high c.values) made n)
+pub record AreRenewed (c : CircuitValue) (d : DelayTable) (node : ℕ) (made : Due) (was now : List (Option Due)) : Type 0
+  where
+    pub count : length now ≡ length was
+    pub each : (n : ℕ) → n < length was →
+        due_at now n ≡ renewed_due (node_can_move c n) (n == node) (due_at was n) (fresh_due d (high c.values) made n)
 
 -- a node other than the moved one whose move was due, and isn't enabled
 abbrev pub loses_due : CircuitValue → List (Option Due) → ℕ → ℕ → Bool

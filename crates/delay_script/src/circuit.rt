@@ -174,7 +174,8 @@ impl Circuit {
 
     /// The least node that is pulled both ways.
     pub(crate) fn first_pulled(&self) -> Option<u32>
-        ensures pulled { result ≡ least_below (length self.now.net.first) (both_ways self.now.net (high self.now.values)) }
+        ensures pulled { result ≡ least_below (length self.now.net.first)
+            (both_ways self.now.net (high self.now.values)) }
         ensures net { IsNet self.now.net }
     {
         let _nodes = self.net.first();
@@ -206,8 +207,14 @@ impl Circuit {
     /// The run, which has ended so after so many moves.
     pub(crate) fn ran(self, end: End, moves: u32) -> Ran
         requires { IsEndIn self.net end }
-        ensures { result ≡ record { net = self.net; end = end; moves = moves; done_high = high self.values 1; passed =
-            self.passed } }
+        ensures { result ≡ record {
+          net = self.net;
+          end = end;
+          moves = moves;
+          done_high = high self.values 1;
+          passed =
+              self.passed;
+        } }
     {
         let done_high = self.state.is_high(1);
         Ran::new(self.net, end, moves, done_high, self.passed)

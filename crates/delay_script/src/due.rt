@@ -94,7 +94,13 @@ fn renewed_due(now: bool, own: bool, was: Option<Due>, fresh: Due) -> Option<Due
 }
 
 /// Brings the moves that are due up to date behind the move of the node, of this number and time.
-pub(crate) fn renew(circuit: &Circuit, delays: &Delays, dues: &mut [Option<Due>], node: u32, made: Due)
+pub(crate) fn renew(
+    circuit: &Circuit,
+    delays: &Delays,
+    dues: &mut [Option<Due>],
+    node: u32,
+    made: Due,
+)
     requires dues { length dues.old ≡ length circuit.now.net.first }
     requires delays { IsDelayTable (length circuit.now.net.first) delays.now }
     requires time { made.time < 2 ^ 62 }

@@ -151,7 +151,8 @@ impl Course {
             (record { cause = vec_len self.old.moves + 1; time = next.due.time }) self.old.dues.items
             self.new.dues.items }
         ensures hazard { result ≡ worst_cause
-            (least_below (length self.new.circuit.net.first) (both_ways self.new.circuit.net (high self.new.circuit.values)))
+            (least_below (length self.new.circuit.net.first)
+            (both_ways self.new.circuit.net (high self.new.circuit.values)))
             (least_below (vec_len self.old.dues) (loses_due self.new.circuit self.old.dues.items next.node))
             (phase_fault self.old.circuit.net (high self.old.circuit.values) next.node) }
     {
@@ -185,8 +186,13 @@ impl Course {
     fn ran(self, end: End) -> NotedRan
         requires end { IsEndIn self.circuit.net end }
         requires few { vec_len self.moves < 2 ^ 32 }
-        ensures ran { result.timed.ran ≡ record { net = self.circuit.net; end = end; moves = vec_len self.moves;
-            done_high = high self.circuit.values 1; passed = self.circuit.passed } }
+        ensures ran { result.timed.ran ≡ record {
+          net = self.circuit.net;
+          end = end;
+          moves = vec_len self.moves;
+          done_high = high self.circuit.values 1;
+          passed = self.circuit.passed;
+        } }
         ensures time { result.timed.time ≡ time_behind self.moves.items (vec_len self.moves) }
         ensures moves { result.moves.items ≡ self.moves.items }
     {
@@ -272,10 +278,10 @@ impl Noted {
         Noted::begin(alloc, net, script, steps, delays, false)
     }
 
-    /// Runs the net. It takes no memory. A node's move comes its delay later than the move since which it is enabled, or
-    /// that long behind the start; of the moves that are enabled the one that is due first is made, and of several at
-    /// one time that of the least node. The run ends as a simulation does. (Whether a net's gates have these delays is
-    /// not ours to say.)
+    /// Runs the net. It takes no memory. A node's move comes its delay later than the move since which it is enabled,
+    /// or that long behind the start; of the moves that are enabled the one that is due first is made, and of several
+    /// at one time that of the least node. The run ends as a simulation does. (Whether a net's gates have these delays
+    /// is not ours to say.)
     pub fn run(self) -> NotedRan
         ensures timed { IsTimedRun self.delays self.net self.script (timed_start self) result.moves.items }
         ensures run { IsRun self.net self.script (timed_start self) (moved_nodes result.moves.items) }

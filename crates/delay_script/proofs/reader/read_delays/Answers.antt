@@ -19,22 +19,22 @@ loop-at-init c =
 pub overflow_cast-line : goal.overflow_cast-line
 overflow_cast-line c =
     let few : length c.deref-line-items.result.now ≤ 4194305 =
-        few_lines c.args.text.now _ c.requires (ap texts c.deref-line-items.ensures.value ∙ c.in_ok-lines.ensures) in
+    few_lines c.args.text.now _ c.requires (ap texts c.deref-line-items.ensures.value ∙ c.in_ok-lines.ensures) in
     let small : c.loop-at.at < 4194305 = omega arith in
     search rules
 
 pub overflow_add-line : goal.overflow_add-line
 overflow_add-line c =
     let few : length c.deref-line-items.result.now ≤ 4194305 =
-        few_lines c.args.text.now _ c.requires (ap texts c.deref-line-items.ensures.value ∙ c.in_ok-lines.ensures) in
+    few_lines c.args.text.now _ c.requires (ap texts c.deref-line-items.ensures.value ∙ c.in_ok-lines.ensures) in
     let small : c.loop-at.at < 4194305 = omega arith in
     search rules
 
 pub returns-in-Refused-clause-refused : goal.returns-in-Refused-clause-refused
 returns-in-Refused-clause-refused c =
     refused_at c.args.net.now.names c.args.text.now c.deref-line-items.result.now c.loop-at.at _ c.in_ok-names.names _ _ c.loop-at.marks.items _
-        c.in-Refused.fault (ap texts c.deref-line-items.ensures.value ∙ c.in_ok-lines.ensures) c.loop-at-test.true c.loop-at.invariant c.deref.ensures.value
-        (c.in_ok-names.ensures ∙ c.names.ensures.names) (rw c.in-Refused.is at c.in_ok-step_of.ensures)
+    c.in-Refused.fault (ap texts c.deref-line-items.ensures.value ∙ c.in_ok-lines.ensures) c.loop-at-test.true c.loop-at.invariant c.deref.ensures.value
+    (c.in_ok-names.ensures ∙ c.names.ensures.names) (rw c.in-Refused.is at c.in_ok-step_of.ensures)
 
 pub loop-at-preserved : goal.loop-at-preserved
 loop-at-preserved c =
@@ -46,26 +46,26 @@ loop-at-preserved c =
           let down_kept : length w.note.new.down ≡ c.loop-at.down.len = search rules in
           let marks_kept : length w.note.new.marks ≡ c.loop-at.marks.len = search rules in
           rw (w.up-is, w.down-is, w.marks-is) (take_line c.args.net.now.names c.deref-line-items.result.now c.loop-at.at _ c.in_ok-names.names
-              c.loop-at.up.items c.loop-at.down.items _ _ c.loop-at.marks.items _ _ w.in-Take.taken c.names.ensures.net.distinct c.loop-at-test.true
-              c.loop-at.invariant c.deref.ensures.value (c.in_ok-names.ensures ∙ c.names.ensures.names) (rw w.in-Take.is at c.in_ok-step_of.ensures)
+          c.loop-at.up.items c.loop-at.down.items _ _ c.loop-at.marks.items _ _ w.in-Take.taken c.names.ensures.net.distinct c.loop-at-test.true
+          c.loop-at.invariant c.deref.ensures.value (c.in_ok-names.ensures ∙ c.names.ensures.names) (rw w.in-Take.is at c.in_ok-step_of.ensures)
           (with_items_is c.loop-at.up w.note.new.up up_kept ∙ w.note.ensures.up
-              ∙ ap (λ (ns : List ℕ). slice_set ns w.in-Take.taken.node w.in-Take.taken.up) w.deref_mut.ensures.value)
+          ∙ ap (λ (ns : List ℕ). slice_set ns w.in-Take.taken.node w.in-Take.taken.up) w.deref_mut.ensures.value)
           (with_items_is c.loop-at.down w.note.new.down down_kept ∙ w.note.ensures.down
-              ∙ ap (λ (ns : List ℕ). slice_set ns w.in-Take.taken.node w.in-Take.taken.down) w.deref_mut-in-Take.ensures.value)
+          ∙ ap (λ (ns : List ℕ). slice_set ns w.in-Take.taken.node w.in-Take.taken.down) w.deref_mut-in-Take.ensures.value)
           (with_items_is c.loop-at.marks w.note.new.marks marks_kept ∙ w.note.ensures.marks
-              ∙ ap (λ (bs : List Bool). slice_set bs w.in-Take.taken.node true) w.deref_mut-in-Take-2.ensures.value))
+          ∙ ap (λ (bs : List Bool). slice_set bs w.in-Take.taken.node true) w.deref_mut-in-Take-2.ensures.value))
     ]
 
 pub new-requires : goal.new-requires
 new-requires c =
     let read = c.loop-at.invariant in
     is_table c.args.net.now.names c.deref-line-items.result.now c.loop-at.at c.loop-at.up.items c.loop-at.down.items c.loop-at.marks.items _ read
-        (sym (one_each c.args.net.now.names c.deref-line-items.result.now c.loop-at.at c.loop-at.up.items c.loop-at.down.items c.loop-at.marks.items read).0)
+    (sym (one_each c.args.net.now.names c.deref-line-items.result.now c.loop-at.at c.loop-at.up.items c.loop-at.down.items c.loop-at.marks.items read).0)
 
 pub returns-clause-read : goal.returns-clause-read
 returns-clause-read c =
     rw c.new.ensures (all_read c.args.net.now.names c.args.text.now c.deref-line-items.result.now c.loop-at.at c.loop-at.up.items c.loop-at.down.items
-        c.loop-at.marks.items (ap texts c.deref-line-items.ensures.value ∙ c.in_ok-lines.ensures) c.loop-at-test.false c.loop-at.invariant)
+    c.loop-at.marks.items (ap texts c.deref-line-items.ensures.value ∙ c.in_ok-lines.ensures) c.loop-at-test.false c.loop-at.invariant)
 
 pub returns-clause-only : goal.returns-clause-only
 returns-clause-only c = λ other is. one_table c.args.net.now.names c.args.text.now other _ is (returns-clause-read c)
@@ -73,7 +73,7 @@ returns-clause-only c = λ other is. one_table c.args.net.now.names c.args.text.
 pub returns-clause-table : goal.returns-clause-table
 returns-clause-table c =
     rw c.new.ensures (is_table c.args.net.now.names c.deref-line-items.result.now c.loop-at.at c.loop-at.up.items c.loop-at.down.items c.loop-at.marks.items _
-        c.loop-at.invariant c.names.ensures.net.named)
+    c.loop-at.invariant c.names.ensures.net.named)
 
 pub returns-in-Refused-clause-first : goal.returns-in-Refused-clause-first
 returns-in-Refused-clause-first c =

@@ -22,5 +22,6 @@ returns-else-enabled c =
     let n = c.args.node in
     let off : rule_enabled s.net (high s.state) n ≡ false = sym c.enabled.ensures ∙ c.if-enabled.false in
     rw (← c.self.view_is)
-        (c.env_enabled.ensures ∙ ap (λ (ds : List ℕ). env_enabled s.net s.script (slice_index ds) (high s.state) n) c.deref.ensures.value
-        ∙ or_off _ _ off ∙ by_counts s.net s.script s.state (channel_histories (length s.net.channels) s.passed.items) s.done.items n c.self.invariant.counts_are)
+    (c.env_enabled.ensures ∙ ap (λ (ds : List ℕ). env_enabled s.net s.script (slice_index ds) (high s.state) n) c.deref.ensures.value
+    ∙ or_off _ _ off ∙ by_counts s.net s.script s.state (channel_histories (length s.net.channels) s.passed.items) s.done.items n
+    c.self.invariant.counts_are)

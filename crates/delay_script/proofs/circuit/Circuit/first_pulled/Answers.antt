@@ -12,5 +12,5 @@ pub returns-in-Some-clause-pulled : goal.returns-in-Some-clause-pulled
 returns-in-Some-clause-pulled c =
     let s = c.self.inside in
     rw (← c.self.view_is)
-        (sym (least_some (length s.net.first) c.in-Some.node (both_ways s.net (high s.state)) c.in-Some.ensures.within c.in-Some.ensures.some
-        c.in-Some.ensures.least))
+    (sym (least_some (length s.net.first) c.in-Some.node (both_ways s.net (high s.state)) c.in-Some.ensures.within c.in-Some.ensures.some
+    c.in-Some.ensures.least))

@@ -14,7 +14,7 @@ pub note-requires-clause-chan : goal.note-requires-clause-chan
 note-requires-clause-chan c =
     let s = c.self.inside in
     completion_within s.net (high s.state) c.args.node c.completion-completed.result (length s.done.items) c.completion-completed.ensures.completion
-        (counts_whole (length s.net.channels) s.passed.items s.done.items c.self.invariant.counts_are)
+    (counts_whole (length s.net.channels) s.passed.items s.done.items c.self.invariant.counts_are)
 
 pub invariant_of-self : goal.invariant_of-self
 invariant_of-self c =
@@ -22,7 +22,7 @@ invariant_of-self c =
     let channels = length s.net.channels in
     let whole : length s.done.items ≡ channels = counts_whole channels s.passed.items s.done.items c.self.invariant.counts_are in
     let counts : c.note.new.done.items ≡ map (λ (h : List ℕ). length h) (channel_histories channels c.note.new.passed.items) =
-        rw whole at c.note.ensures.counts in
+    rw whole at c.note.ensures.counts in
     record {
       net = c.self.invariant.net;
       script = c.self.invariant.script;
@@ -38,4 +38,4 @@ returns-clause-moved c =
     let s = c.self.inside in
     let histories = histories_more s.net c.completion-completed.ensures.net s.state s.passed.items c.args.node in
     rw (← c.self.view_is, c.fire.ensures, c.note.ensures.passed, c.completion-completed.ensures.completion)
-        (ap (λ (hs : List (List ℕ)). record { values = fired s.state c.args.node; histories = hs }) histories)
+    (ap (λ (hs : List (List ℕ)). record { values = fired s.state c.args.node; histories = hs }) histories)

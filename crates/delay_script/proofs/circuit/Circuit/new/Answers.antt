@@ -8,7 +8,7 @@ invariant_of-result c =
     let net = c.args.net in
     let done = c.in_ok-done.done.items in
     let none : done ≡ replicate (length net.channels) 0 =
-        c.in_ok-done.ensures ∙ ap (λ (ws : List Wires). replicate (length ws) 0) c.channels.ensures.channels in
+    c.in_ok-done.ensures ∙ ap (λ (ws : List Wires). replicate (length ws) 0) c.channels.ensures.channels in
     let counts = no_counts_are (length net.channels) done none in
     record {
       net = c.channels.ensures.net;

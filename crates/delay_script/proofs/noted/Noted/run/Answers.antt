@@ -31,7 +31,7 @@ pub ran-requires-clause-end : goal.ran-requires-clause-end
 ran-requires-clause-end c =
     let i = c.loop-made.invariant in
     within_end c.args.self c.loop-made.course.moves.items c.loop-made.course.circuit c.loop-made.course.dues.items c.loop-made.hazard c.next.result false
-        c.in-Err.end i.way c.next.ensures.first c.in-Err.ensures.end
+    c.in-Err.end i.way c.next.ensures.first c.in-Err.ensures.end
 
 pub returns-in-Err-clause-ran : goal.returns-in-Err-clause-ran
 returns-in-Err-clause-ran c =
@@ -40,8 +40,8 @@ returns-in-Err-clause-ran c =
     let goes : (length ms == c.args.self.steps) ≡ false = ne_eqb _ _ (omega (arith, i.count, i.steps, c.loop-made-test.true)) in
     let same : vec_len c.loop-made.course.moves ≡ length ms = omega (arith, c.loop-made.course.moves.ok.0) in
     rw (c.ran.ensures.moves, c.ran.ensures.ran)
-        (finish c.args.self ms c.loop-made.course.circuit c.loop-made.course.dues.items c.loop-made.hazard c.next.result false c.in-Err.end _ _ i.way
-        c.next.ensures.first goes c.in-Err.ensures.end same (c.ran.ensures.time ∙ ap (time_behind ms) same))
+    (finish c.args.self ms c.loop-made.course.circuit c.loop-made.course.dues.items c.loop-made.hazard c.next.result false c.in-Err.end _ _ i.way
+    c.next.ensures.first goes c.in-Err.ensures.end same (c.ran.ensures.time ∙ ap (time_behind ms) same))
 
 pub returns-in-Err-clause-run : goal.returns-in-Err-clause-run
 returns-in-Err-clause-run c = (returns-in-Err-clause-ran c).run
@@ -53,7 +53,7 @@ pub ran-requires-2-clause-end : goal.ran-requires-2-clause-end
 ran-requires-2-clause-end c =
     let i = c.loop-made.invariant in
     within_end c.args.self c.loop-made.course.moves.items c.loop-made.course.circuit c.loop-made.course.dues.items c.loop-made.hazard c.next-2.result true
-        c.last_end-end.result i.way c.next-2.ensures.first c.last_end-end.ensures
+    c.last_end-end.result i.way c.next-2.ensures.first c.last_end-end.ensures
 
 pub returns-clause-ran : goal.returns-clause-ran
 returns-clause-ran c =
@@ -63,8 +63,8 @@ returns-clause-ran c =
     let spent : (length ms == c.args.self.steps) ≡ true = eq-eqb _ _ (omega (arith, i.count, i.steps, all)) in
     let same : vec_len c.loop-made.course.moves ≡ length ms = omega (arith, c.loop-made.course.moves.ok.0) in
     rw (c.ran-2.ensures.moves, c.ran-2.ensures.ran)
-        (finish c.args.self ms c.loop-made.course.circuit c.loop-made.course.dues.items c.loop-made.hazard c.next-2.result true c.last_end-end.result _ _ i.way
-        c.next-2.ensures.first spent c.last_end-end.ensures same (c.ran-2.ensures.time ∙ ap (time_behind ms) same))
+    (finish c.args.self ms c.loop-made.course.circuit c.loop-made.course.dues.items c.loop-made.hazard c.next-2.result true c.last_end-end.result _ _ i.way
+    c.next-2.ensures.first spent c.last_end-end.ensures same (c.ran-2.ensures.time ∙ ap (time_behind ms) same))
 
 pub returns-clause-run : goal.returns-clause-run
 returns-clause-run c = (returns-clause-ran c).run
@@ -78,7 +78,7 @@ loop-made-preserved c =
     let ms = c.loop-made.course.moves.items in
     let m = c.in-Ok.next in
     let first : IsFirstDue c.loop-made.course.dues.items (length c.loop-made.course.circuit.net.first) m =
-        rw c.in-Ok.ensures.next at c.next.ensures.first in
+    rw c.in-Ok.ensures.next at c.next.ensures.first in
     let same : vec_len c.loop-made.course.moves ≡ length ms = omega (arith, c.loop-made.course.moves.ok.0) in
     let dues_same : vec_len c.loop-made.course.dues ≡ length c.loop-made.course.dues.items = omega (arith, c.loop-made.course.dues.ok.0) in
     let later = c.make-hazard.new.self.circuit in
