@@ -1,0 +1,8 @@
+pub mod DelayFaults
+pub mod DelayTables
+pub mod DelayText
+pub mod DelaySteps
+pub mod Causes
+pub mod TimedRuns
+pub mod Circuits
+pub mod Dues

@@ -1,0 +1,23 @@
+//! Delays of a net's nodes, and runs that are timed by them.
+#![tactic(auto)]
+
+mod circuit;
+mod delays;
+mod due;
+mod fault;
+mod laws;
+mod line;
+mod noted;
+mod number;
+mod power;
+mod reader;
+mod step;
+mod timed;
+mod words;
+
+pub use delays::Delays;
+pub use fault::{DelayError, DelayFault};
+pub use laws::{one_cause, one_delay_refusal, one_delay_table, one_timed_run};
+pub use noted::{Noted, NotedMove, NotedRan, TimedRan};
+pub use reader::read_delays;
+pub use timed::Timed;

@@ -1,0 +1,305 @@
+//! Timed runs, with the cause of each move.
+
+ghost use Rattle.std.specs.Prelude.{◌≡◌, ℕ, ◌+◌, ◌≤◌, ◌<◌, ◌^◌, ◌++◌, List, [], ◌∷◌, length, true, false, vec_len, vec_capacity, option_to_list, IsSome, Some, None, IfOk, IfErr};
+ghost use Rattle.prs_core.specs.Nets.{IsNet};
+ghost use Rattle.prs_core.specs.Moves.{high, both_ways};
+ghost use Rattle.env_script.specs.Scripts.{IsScript};
+ghost use Rattle.env_script.specs.Environment.{net_channels};
+ghost use Rattle.env_script.specs.Phases.{phase_fault};
+ghost use Rattle.env_script.specs.Runs.{IsRun, after, moved};
+ghost use Rattle.env_script.specs.Hazards.{least_below, first_hazard};
+ghost use Rattle.event_sim.specs.Passing.{completion, passed_in};
+ghost use Rattle.event_sim.specs.Ends.{end_from, end_with, EndsSo};
+ghost use Rattle.event_sim.specs.Simulating.{IsEndIn};
+ghost use Rattle.event_sim.specs.Stages.{worst_cause};
+ghost use Rattle.delay_script.specs.DelayTables.{IsDelayTable};
+ghost use Rattle.delay_script.specs.Circuits.{circuit_now};
+ghost use Rattle.delay_script.specs.Dues.{IsFirstOf, AreRenewed, loses_due, list_of_next};
+ghost use Rattle.delay_script.specs.TimedRuns.{time_behind};
+
+use crate::circuit::Circuit;
+use crate::delays::Delays;
+use crate::due::{Due, Next, first_due, first_lost, no_dues, renew};
+use crate::power::power_state;
+use env_script::{Hazard, Script};
+use event_sim::{End, Ran};
+use prs_core::Net;
+use std::alloc::{AllocError, Global};
+use std::marker::Model;
+
+/// A timed run that has ended.
+#[derive(Debug, Drop)]
+pub struct TimedRan {
+    pub ran: Ran,
+    /// The time of the last move, 0 where none was made.
+    pub time: u64,
+}
+
+/// A move of a timed run: when it came, its node, and the number of the move, counted from 1, behind which the node's
+/// move became enabled and stayed so, 0 where that is the start. Its time is that of its cause, or 0, and its delay.
+#[derive(Clone, Copy, Debug, PartialEq, Eq)]
+pub struct NotedMove {
+    pub time: u64,
+    pub node: u32,
+    pub cause: u32,
+}
+
+/// A timed run that has ended, with its moves.
+#[derive(Debug, Drop)]
+pub struct NotedRan {
+    pub timed: TimedRan,
+    pub moves: Vec<NotedMove>,
+}
+
+/// How far a timed run has come.
+#[derive(Debug, Drop)]
+struct Course {
+    circuit: Circuit,
+    delays: Delays,
+    /// For each node its move, where that is due.
+    dues: Vec<Option<Due>>,
+    moves: Vec<NotedMove>,
+}
+
+/// A node that is pulled both ways comes before one whose move was taken away, and that before a channel whose
+/// phases are broken.
+fn worst_cause(pulled: Option<u32>, lost: Option<u32>, broken: Option<u32>) -> Option<Hazard>
+    ensures { result ≡ worst_cause pulled lost broken }
+{
+    match (pulled, lost, broken) {
+        (Some(node), _, _) => Some(Hazard::BothWays { node }),
+        (None, Some(node), _) => Some(Hazard::Unstable { node }),
+        (None, None, Some(chan)) => Some(Hazard::Protocol { chan }),
+        (None, None, None) => None,
+    }
+}
+
+fn end_from(hazard: Hazard) -> End
+    ensures { result ≡ end_from hazard }
+{
+    match hazard {
+        Hazard::BothWays { node } => End::BothWays { node },
+        Hazard::Unstable { node } => End::Unstable { node },
+        Hazard::Protocol { chan } => End::Protocol { chan },
+    }
+}
+
+/// What comes where fewer moves were made than are allowed: the next move, or the end.
+fn onward(hazard: Option<Hazard>, next: Option<Next>) -> Result<Next, End>
+    ensures end { IfErr result (λ end. end_with hazard (list_of_next next) false ≡ Some end) }
+    ensures calm { IfOk result (λ m. hazard ≡ None) }
+    ensures next { IfOk result (λ m. next ≡ Some m) }
+{
+    match (hazard, next) {
+        (Some(hazard), _) => Err(end_from(hazard)),
+        (None, None) => Err(End::AtRest),
+        (None, Some(next)) => Ok(next),
+    }
+}
+
+/// How the run has ended where as many moves were made as are allowed.
+fn last_end(hazard: Option<Hazard>, next: Option<Next>) -> End
+    ensures { end_with hazard (list_of_next next) true ≡ Some result }
+{
+    match (hazard, next) {
+        (Some(hazard), _) => end_from(hazard),
+        (None, None) => End::AtRest,
+        (None, Some(_)) => End::Spent,
+    }
+}
+
+impl Course {
+    /// The move that comes next.
+    fn next(&self) -> Option<Next>
+        requires { vec_len self.now.dues ≡ length self.now.circuit.net.first }
+        ensures first { IsFirstOf self.now.dues.items (length self.now.circuit.net.first) result }
+        ensures net { IsNet self.now.circuit.net }
+    {
+        let _nodes = self.circuit.nodes();
+        first_due(&self.dues)
+    }
+
+    /// The hazard in the first state: a node that is pulled both ways.
+    fn first_hazard(&self) -> Option<Hazard>
+        ensures hazard { result ≡ first_hazard self.now.circuit.net (circuit_now self.now.circuit) }
+        ensures net { IsNet self.now.circuit.net }
+    {
+        worst_cause(self.circuit.first_pulled(), None, None)
+    }
+
+    /// Makes the move, and tells the hazard that this brings.
+    fn make(&mut self, next: Next) -> Option<Hazard>
+        requires node { next.node < length self.old.circuit.net.first }
+        requires dues { vec_len self.old.dues ≡ length self.old.circuit.net.first }
+        requires delays { IsDelayTable (length self.old.circuit.net.first) self.old.delays }
+        requires time { next.due.time < 2 ^ 62 }
+        requires few { vec_len self.old.moves < 2 ^ 31 }
+        requires slot { vec_len self.old.moves < vec_capacity self.old.moves }
+        requires room { 1 ≤ self.old.circuit.room }
+        ensures net { self.new.circuit.net ≡ self.old.circuit.net }
+        ensures script { self.new.circuit.script ≡ self.old.circuit.script }
+        ensures delays { self.new.delays ≡ self.old.delays }
+        ensures moved { circuit_now self.new.circuit ≡
+            moved self.old.circuit.net (circuit_now self.old.circuit) next.node }
+        ensures passed { self.new.circuit.passed ≡ self.old.circuit.passed
+            ++ option_to_list (completion self.old.circuit.net (high self.old.circuit.values) next.node) }
+        ensures room { self.old.circuit.room ≤ self.new.circuit.room + 1 }
+        ensures moves { self.new.moves.items ≡ self.old.moves.items
+            ++ record { time = next.due.time; node = next.node; cause = next.due.cause } ∷ [] }
+        ensures slots { vec_capacity self.new.moves ≡ vec_capacity self.old.moves }
+        ensures dues { AreRenewed self.new.circuit self.old.delays next.node
+            (record { cause = vec_len self.old.moves + 1; time = next.due.time }) self.old.dues.items
+            self.new.dues.items }
+        ensures hazard { result ≡ worst_cause
+            (least_below (length self.new.circuit.net.first)
+            (both_ways self.new.circuit.net (high self.new.circuit.values)))
+            (least_below (vec_len self.old.dues) (loses_due self.new.circuit self.old.dues.items next.node))
+            (phase_fault self.old.circuit.net (high self.old.circuit.values) next.node) }
+    {
+        let Next { node, due } = next;
+        let broken = self.circuit.make(node);
+        let lost = first_lost(&self.circuit, &self.dues, node);
+        self.moves.push_reserved(NotedMove {
+            time: due.time,
+            node,
+            cause: due.cause,
+        });
+        let made = Due {
+            cause: self.moves.len() as u32,
+            time: due.time,
+        };
+        renew(&self.circuit, &self.delays, &mut self.dues, node, made);
+        worst_cause(self.circuit.first_pulled(), lost, broken)
+    }
+
+    /// The time of the last move, 0 where none was made.
+    fn time(&self) -> u64
+        ensures { result ≡ time_behind self.now.moves.items (vec_len self.now.moves) }
+    {
+        match self.moves.last() {
+            None => 0,
+            Some(last) => last.time,
+        }
+    }
+
+    /// The run, which has ended so.
+    fn ran(self, end: End) -> NotedRan
+        requires end { IsEndIn self.circuit.net end }
+        requires few { vec_len self.moves < 2 ^ 32 }
+        ensures ran { result.timed.ran ≡ record {
+          net = self.circuit.net;
+          end = end;
+          moves = vec_len self.moves;
+          done_high = high self.circuit.values 1;
+          passed = self.circuit.passed;
+        } }
+        ensures time { result.timed.time ≡ time_behind self.moves.items (vec_len self.moves) }
+        ensures moves { result.moves.items ≡ self.moves.items }
+    {
+        let time = self.time();
+        let ran = self.circuit.ran(end, self.moves.len() as u32);
+        let timed = TimedRan { ran, time };
+        NotedRan {
+            timed,
+            moves: self.moves,
+        }
+    }
+}
+
+/// A timed run that hasn't begun, whose moves are noted with their times and causes. All memory of the run is taken.
+#[derive(Debug, Drop)]
+pub struct Noted {
+    course: Course,
+    steps: u32,
+    high: bool,
+}
+
+impl Model for Noted {
+    ghost use Rattle.std.specs.Prelude.{vec_capacity};
+    ghost use Rattle.delay_script.specs.TimedRuns.{TimedValue, timed_value};
+    ghost use Rattle.delay_script.specs.Dues.{IsTimedReady};
+
+    ghost Value = { TimedValue };
+
+    ghost view = { λ n. timed_value n.course.circuit.net n.course.circuit.script n.steps n.course.delays n.high };
+
+    ghost invariant = { λ n. IsTimedReady n.course.circuit n.course.delays n.course.dues.items n.course.moves.items
+        (vec_capacity n.course.moves) n.steps n.high };
+}
+
+impl Noted {
+    ghost use Rattle.delay_script.specs.TimedRuns.{TimedValue, timed_value, timed_start, moved_nodes, IsTimedRun, IsTimedRan};
+
+    pub(crate) fn begin(
+        alloc: Global,
+        net: Net,
+        script: Script,
+        steps: u32,
+        delays: Delays,
+        high: bool,
+    ) -> Result<Noted, AllocError>
+        requires script { IsScript (net_channels net) script }
+        requires delays { IsDelayTable (length net.first) delays }
+        requires steps { steps ≤ 1000000 }
+        ensures { IfOk result (λ n. n ≡ timed_value net script steps delays high) }
+    {
+        let state = power_state(alloc, &net, high)?;
+        let circuit = Circuit::new(alloc, net, script, state, steps)?;
+        let moves = Vec::with_capacity(alloc, steps as usize)?;
+        let mut dues = no_dues(alloc, circuit.nodes())?;
+        renew(&circuit, &delays, &mut dues, 0, Due { cause: 0, time: 0 });
+        let course = Course {
+            circuit,
+            delays,
+            dues,
+            moves,
+        };
+        Ok(Noted {
+            course,
+            steps,
+            high,
+        })
+    }
+
+    /// The timed run of the net under the script by these delays, for so many moves at most. Where the net has a reset
+    /// node, the nodes that have rules are low at power-up.
+    pub fn new(
+        alloc: Global,
+        net: Net,
+        script: Script,
+        steps: u32,
+        delays: Delays,
+    ) -> Result<Noted, AllocError>
+        requires script { IsScript (net_channels net) script }
+        requires delays { IsDelayTable (length net.first) delays }
+        requires steps { steps ≤ 1000000 }
+        ensures { IfOk result (λ n. n ≡ timed_value net script steps delays false) }
+    {
+        Noted::begin(alloc, net, script, steps, delays, false)
+    }
+
+    /// Runs the net. It takes no memory. A node's move comes its delay later than the move since which it is enabled,
+    /// or that long behind the start; of the moves that are enabled the one that is due first is made, and of several
+    /// at one time that of the least node. The run ends as a simulation does. (Whether a net's gates have these delays
+    /// is not ours to say.)
+    pub fn run(self) -> NotedRan
+        ensures timed { IsTimedRun self.delays self.net self.script (timed_start self) result.moves.items }
+        ensures run { IsRun self.net self.script (timed_start self) (moved_nodes result.moves.items) }
+        ensures ends { EndsSo self.net self.script self.steps (timed_start self) (moved_nodes result.moves.items)
+            result.timed.ran.end }
+        ensures time { result.timed.time ≡ time_behind result.moves.items (length result.moves.items) }
+        ensures ran { IsTimedRan self result.moves.items result.timed.ran result.timed.time }
+    {
+        let steps = self.steps;
+        let mut course = self.course;
+        let mut hazard = course.first_hazard();
+        for _made in 0..steps {
+            match onward(hazard, course.next()) {
+                Err(end) => return course.ran(end),
+                Ok(next) => hazard = course.make(next),
+            }
+        }
+        let end = last_end(hazard, course.next());
+        course.ran(end)
+    }
+}

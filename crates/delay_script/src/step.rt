@@ -1,0 +1,74 @@
+//! What a line of a delay file does.
+
+ghost use Rattle.std.specs.Prelude.{◌≡◌, true, length, IfOk, IsTrue, ◌↔◌};
+ghost use Rattle.env_script.specs.Cutting.{words_of};
+ghost use Rattle.delay_script.specs.DelayText.{IsQuick};
+ghost use Rattle.delay_script.specs.DelaySteps.{IsDelayStep};
+
+use crate::fault::DelayFault;
+use crate::line::{DelayLine, delay_line_in};
+use crate::words::words_of;
+use chp_base::Symbols;
+use std::alloc::{AllocError, Global};
+
+const LONGEST_DELAY: u64 = 1_000_000;
+
+/// What a line says.
+#[derive(Clone, Copy)]
+pub struct TakenDelay {
+    /// The number of the node.
+    pub node: u32,
+    /// How long its rise takes.
+    pub up: u32,
+    /// How long its fall takes.
+    pub down: u32,
+}
+
+/// What a line does.
+#[derive(Clone, Copy)]
+pub enum DelayStep {
+    /// It has no words.
+    Skip,
+    Refused(DelayFault),
+    Take(TakenDelay),
+}
+
+/// Whether neither delay is too large.
+fn is_quick(line: &DelayLine) -> bool
+    ensures { IsTrue result ↔ IsQuick line.now }
+{
+    line.up <= LONGEST_DELAY && line.down <= LONGEST_DELAY
+}
+
+/// What the line does, where the nodes of these names are told of that are marked.
+pub fn step_of(
+    alloc: Global,
+    names: &Symbols,
+    marks: &[bool],
+    line: &[u8],
+) -> Result<DelayStep, AllocError>
+    requires { length marks.now ≡ length names.now }
+    ensures { IfOk result (IsDelayStep names.now marks.now (words_of line.now)) }
+{
+    let words = words_of(alloc, line)?;
+    if words.is_empty() {
+        return Ok(DelayStep::Skip);
+    }
+    let Some(line) = delay_line_in(alloc, &words)? else {
+        return Ok(DelayStep::Refused(DelayFault::BadLine));
+    };
+    let Some(node) = names.find(&line.node) else {
+        return Ok(DelayStep::Refused(DelayFault::UnknownNode));
+    };
+    if marks[node as usize] {
+        return Ok(DelayStep::Refused(DelayFault::DoubleNode));
+    }
+    if !is_quick(&line) {
+        return Ok(DelayStep::Refused(DelayFault::TooLarge));
+    }
+    Ok(DelayStep::Take(TakenDelay {
+        node,
+        up: line.up as u32,
+        down: line.down as u32,
+    }))
+}
