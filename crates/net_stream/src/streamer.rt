@@ -6,12 +6,14 @@ ghost use Rattle.prs_file.specs.Spelling.{NetText};
 ghost use Rattle.reset_net.specs.Resets.{reset_of};
 ghost use Rattle.width_check.specs.Typed.{program_of};
 ghost use Rattle.handshake_expand.specs.Layout.{node_count, nodes_of};
+ghost use Rattle.net_compose.specs.Carries.{Carries, CarriesReset};
 ghost use Rattle.net_compose.specs.Errors.{IfTooMany};
 ghost use Rattle.net_compose.specs.Translation.{translation};
 
 use crate::buffer::line_buffer;
 use crate::cursor::{Cursor, give};
 use crate::place::Place;
+use net_compose::laws::carries_reset;
 use net_compose::{NetError, translate};
 use prs_core::Net;
 use reset_net::with_reset;
@@ -63,10 +65,11 @@ fn stream_reset(alloc: Global, net: Net) -> Result<Streamer, AllocError>
 }
 
 impl Streamer {
-    /// The streamer of the program's rule file: of the one text of the net that `translate` answers. A program whose
-    /// circuit has more than 65,536 nodes is refused with their number.
+    /// The streamer of the program's rule file: of the one text of the net that `translate` answers, which carries the
+    /// program. A program whose circuit has more than 65,536 nodes is refused with their number.
     pub fn new(alloc: Global, program: &Disjoint) -> Result<Streamer, NetError>
         ensures text { IfOk result (λ s. NetText s (translation (program_of program.now))) }
+        ensures carries { OnOk result (Carries (translation (program_of program.now)) (program_of program.now)) }
         ensures fits { OnOk result (nodes_of (program_of program.now) ≤ 65536) }
         ensures count { IfErr result (IfTooMany (λ count. count ≡ node_count (program_of program.now))) }
         ensures too_many { IfErr result (IfTooMany (λ _. 65536 < nodes_of (program_of program.now))) }
@@ -78,14 +81,18 @@ impl Streamer {
         }
     }
 
-    /// The same with a reset node.
+    /// The same with a reset node: that net carries the program from every power-up state.
     pub fn new_reset(alloc: Global, program: &Disjoint) -> Result<Streamer, NetError>
         ensures text { IfOk result (λ s. NetText s (reset_of (translation (program_of program.now)))) }
+        ensures carries { OnOk result
+            (CarriesReset (reset_of (translation (program_of program.now))) (program_of program.now)) }
         ensures fits { OnOk result (nodes_of (program_of program.now) ≤ 65536) }
         ensures count { IfErr result (IfTooMany (λ count. count ≡ node_count (program_of program.now))) }
         ensures too_many { IfErr result (IfTooMany (λ _. 65536 < nodes_of (program_of program.now))) }
     {
+        carries_reset();
         let net = translate(alloc, program)?;
+        let _net = net.first();
         match stream_reset(alloc, net) {
             Ok(streamer) => Ok(streamer),
             Err(e) => Err(NetError::NoMemory(e)),
