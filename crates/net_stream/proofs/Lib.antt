@@ -1,0 +1,4 @@
+pub mod RuleTexts
+pub mod PlaceSteps
+pub mod NamesFree
+pub mod Pieces

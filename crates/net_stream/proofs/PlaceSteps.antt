@@ -1,0 +1,118 @@
+-- From one line of a rule file to the next.
+use Rattle.std.proofs.Common.{◌≡◌, ◌∙◌, ℕ, suc, ◌+◌, ◌-◌, ◌<◌, ◌≤◌, true, false, List, [], ◌∷◌, ◌++◌, length, get_or, drop, refl, sym, ap, arith}
+use Rattle.std.specs.List.{flat_map, range_with_len}
+use Rattle.std.proofs.lemmas.List.{append_assoc, append-nil, drop_more, drop_all}
+use Rattle.prs_core.specs.declared.wires.Wires.{Wires}
+use Rattle.prs_core.specs.Nets.{NetValue, name_at, first_at, up_of, down_of}
+use Rattle.prs_file.specs.Spelling.{version_of, head_spelling, node_spelling, channel_spelling, rule_spelling, rules_spelling, spelling}
+use Rattle.net_stream.specs.declared.place.Place.{Place}
+use Rattle.net_stream.specs.declared.place.Place.TheVariants.{Head, Node, Channel, Up, Down}
+use Rattle.net_stream.specs.Places.{node_lines_from, channel_lines_from, rule_lines_from, text_from, IsMadeAt}
+
+range_front : (f : ℕ → List ℕ) (count k : ℕ) → k < count →
+    flat_map f (range_with_len k (count - k)) ≡ f k ++ flat_map f (range_with_len (k + 1) (count - (k + 1)))
+range_front f count k within =
+    let e : count - k ≡ suc (count - (k + 1)) = omega arith in
+    ap (λ m. flat_map f (range_with_len k m)) e
+
+range_over : (f : ℕ → List ℕ) (count k : ℕ) → count ≤ k → flat_map f (range_with_len k (count - k)) ≡ []
+range_over f count k over =
+    let e : count - k ≡ 0 = omega arith in
+    ap (λ m. flat_map f (range_with_len k m)) e
+
+range_whole : (f : ℕ → List ℕ) (count : ℕ) → flat_map f (range_with_len 0 (count - 0)) ≡ flat_map f (range_with_len 0 count)
+range_whole f count =
+    let e : count - 0 ≡ count = omega arith in
+    ap (λ m. flat_map f (range_with_len 0 m)) e
+
+abbrev node_line_of : NetValue → ℕ → List ℕ
+node_line_of n k = node_spelling (name_at n k) (first_at n k)
+
+abbrev channel_line_of : Wires → List ℕ
+channel_line_of w = channel_spelling w.channel
+
+head_text : (n : NetValue) → head_spelling (version_of n.reset) ++ text_from n (Node 0) ≡ spelling n
+head_text n =
+    let head = head_spelling (version_of n.reset) in
+    let nodes = flat_map (node_line_of n) (range_with_len 0 (length n.first)) in
+    let channels = flat_map channel_line_of n.channels in
+    let rules = flat_map (rules_spelling n) (range_with_len 0 (length n.first)) in
+    ap (λ xs. head ++ (xs ++ (channels ++ rule_lines_from n 0))) (range_whole (node_line_of n) (length n.first))
+    ∙ ap (λ xs. head ++ (nodes ++ (channels ++ xs))) (range_whole (rules_spelling n) (length n.first) ∙ sym (append-nil rules))
+
+-- a line is appended, and what is left is the text behind it
+line_behind : (n : NetValue) (place next : Place) (line before now : List ℕ) → now ≡ before ++ line → line ++ text_from n next ≡ text_from n place →
+    now ++ text_from n next ≡ before ++ text_from n place
+line_behind n place next line before now e rest =
+    ap (λ t. t ++ text_from n next) e ∙ append_assoc before line (text_from n next) ∙ ap (λ t. before ++ t) rest
+
+pub head_made : (n : NetValue) (before now : List ℕ) → now ≡ before ++ head_spelling (version_of n.reset) → IsMadeAt n Head (Node 0) before now
+head_made n before now e = record {
+  text = line_behind n Head (Node 0) (head_spelling (version_of n.reset)) before now e (head_text n);
+  within = omega arith;
+  fewer = omega arith;
+}
+
+pub node_made : (n : NetValue) (k : ℕ) (before now : List ℕ) → k < length n.first → now ≡ before ++ node_spelling (name_at n k) (first_at n k) →
+    IsMadeAt n (Node k) (Node (k + 1)) before now
+node_made n k before now within e =
+    let rest = channel_lines_from n 0 ++ rule_lines_from n 0 in
+    record {
+      text = line_behind n (Node k) (Node (k + 1)) (node_line_of n k) before now e
+          (sym (append_assoc (node_line_of n k) (node_lines_from n (k + 1)) rest)
+          ∙ ap (λ t. t ++ rest) (sym (range_front (node_line_of n) (length n.first) k within)));
+      within = omega arith;
+      fewer = omega arith;
+    }
+
+pub nodes_over : (n : NetValue) (k : ℕ) (before : List ℕ) → k ≡ length n.first → IsMadeAt n (Node k) (Channel 0) before before
+nodes_over n k before whole = record {
+  text = sym (ap (λ xs. before ++ (xs ++ (channel_lines_from n 0 ++ rule_lines_from n 0)))
+      (range_over (node_line_of n) (length n.first) k (omega arith)));
+  within = omega arith;
+  fewer = omega arith;
+}
+
+pub channel_made : (n : NetValue) (k : ℕ) (w : Wires) (before now : List ℕ) → k < length n.channels → w ≡ get_or n.channels k w →
+    now ≡ before ++ channel_spelling w.channel → IsMadeAt n (Channel k) (Channel (k + 1)) before now
+channel_made n k w before now within is e =
+    let here : drop k n.channels ≡ w ∷ drop (k + 1) n.channels =
+    drop_more n.channels k w within ∙ ap (λ x. x ∷ drop (k + 1) n.channels) (sym is) in
+    let line : channel_lines_from n k ≡ channel_line_of w ++ channel_lines_from n (k + 1) = ap (flat_map channel_line_of) here in
+    record {
+      text = line_behind n (Channel k) (Channel (k + 1)) (channel_line_of w) before now e
+          (sym (append_assoc (channel_line_of w) (channel_lines_from n (k + 1)) (rule_lines_from n 0))
+          ∙ ap (λ t. t ++ rule_lines_from n 0) (sym line));
+      within = omega arith;
+      fewer = omega arith;
+    }
+
+pub channels_over : (n : NetValue) (k : ℕ) (before : List ℕ) → k ≡ length n.channels → IsMadeAt n (Channel k) (Up 0) before before
+channels_over n k before whole =
+    let none : channel_lines_from n k ≡ [] = ap (flat_map channel_line_of) (drop_all k n.channels (omega arith)) in
+    record {
+      text = sym (ap (λ xs. before ++ (xs ++ rule_lines_from n 0)) none);
+      within = omega arith;
+      fewer = omega arith;
+    }
+
+pub up_made : (n : NetValue) (k : ℕ) (before now : List ℕ) → k < length n.first → now ≡ before ++ rule_spelling n (up_of n k) k true →
+    IsMadeAt n (Up k) (Down k) before now
+up_made n k before now within e = record {
+  text = line_behind n (Up k) (Down k) (rule_spelling n (up_of n k) k true) before now e
+      (sym (append_assoc (rule_spelling n (up_of n k) k true) (rule_spelling n (down_of n k) k false) (rule_lines_from n (k + 1)))
+      ∙ sym (range_front (rules_spelling n) (length n.first) k within));
+  within = within;
+  fewer = omega arith;
+}
+
+pub down_made : (n : NetValue) (k : ℕ) (before now : List ℕ) → k < length n.first → now ≡ before ++ rule_spelling n (down_of n k) k false →
+    IsMadeAt n (Down k) (Up (k + 1)) before now
+down_made n k before now within e = record {
+  text = line_behind n (Down k) (Up (k + 1)) (rule_spelling n (down_of n k) k false) before now e refl;
+  within = omega arith;
+  fewer = omega arith;
+}
+
+pub over_ends : (n : NetValue) (k : ℕ) → k ≡ length n.first → text_from n (Up k) ≡ []
+over_ends n k whole = range_over (rules_spelling n) (length n.first) k (omega arith)

@@ -1,0 +1,98 @@
+-- The text of a rule, literal by literal, each behind its lead.
+use Rattle.std.proofs.Common.{◌≡◌, ℕ, Bool, true, false, ◌+◌, ◌<◌, ◌≤◌, List, [], ◌∷◌, ◌++◌, length, get_or, drop, refl, ap, sym, ◌∙◌, arith}
+use Rattle.std.specs.Prelude.{codes}
+use Rattle.std.specs.List.{flat_map}
+use Rattle.std.proofs.lemmas.List.{append_assoc, append-nil, drop_more, drop_all}
+use Rattle.chp_base.specs.Names.{IsNodeName}
+use Rattle.prs_core.specs.declared.rule.Literal.{Literal}
+use Rattle.prs_core.specs.Nets.{GuardValue, NetValue, name_at}
+use Rattle.prs_file.specs.declared.forms.Lead.{Lead}
+use Rattle.prs_file.specs.declared.forms.Lead.TheVariants.{Rule, And, Or}
+use Rattle.prs_file.specs.Spelling.{lead_spelling, sign_spelling, literal_behind, literal_spelling, term_spelling, guard_spelling, end_spelling, rule_spelling}
+
+abbrev pub literals_behind : NetValue → Lead → List Literal → List ℕ
+literals_behind net lead [] = []
+literals_behind net lead (l ∷ ls) = literal_behind lead l.high (name_at net l.node) ++ literals_behind net And ls
+
+abbrev pub terms_behind : NetValue → Lead → GuardValue → List ℕ
+terms_behind net lead [] = []
+terms_behind net lead (t ∷ ts) = (lead_spelling lead ++ term_spelling net t) ++ terms_behind net Or ts
+
+-- what is written, and what is left with one literal less
+pub literal_more : (net : NetValue) (lead : Lead) (ls : List Literal) (i : ℕ) (l : Literal) (now : List ℕ) → i < length ls → l ≡ get_or ls i l →
+    (now ++ literal_behind lead l.high (name_at net l.node)) ++ literals_behind net And (drop (i + 1) ls) ≡ now ++ literals_behind net lead (drop i ls)
+literal_more net lead ls i l now within is =
+    let here : drop i ls ≡ l ∷ drop (i + 1) ls = drop_more ls i l within ∙ ap (λ x. x ∷ drop (i + 1) ls) (sym is) in
+    rw here (append_assoc now (literal_behind lead l.high (name_at net l.node)) (literals_behind net And (drop (i + 1) ls)))
+
+pub term_more : (net : NetValue) (lead : Lead) (ts : GuardValue) (i : ℕ) (t : List Literal) (now : List ℕ) → i < length ts → t ≡ get_or ts i t →
+    (now ++ (lead_spelling lead ++ term_spelling net t)) ++ terms_behind net Or (drop (i + 1) ts) ≡ now ++ terms_behind net lead (drop i ts)
+term_more net lead ts i t now within is =
+    let here : drop i ts ≡ t ∷ drop (i + 1) ts = drop_more ts i t within ∙ ap (λ x. x ∷ drop (i + 1) ts) (sym is) in
+    rw here (append_assoc now (lead_spelling lead ++ term_spelling net t) (terms_behind net Or (drop (i + 1) ts)))
+
+-- a literal behind its lead, in the pieces of a term
+literal_is : (net : NetValue) (lead : Lead) (l : Literal) → literal_behind lead l.high (name_at net l.node) ≡ lead_spelling lead ++ literal_spelling net l
+literal_is net lead l = ap (λ xs. (lead_spelling lead ++ sign_spelling l.high) ++ xs) (append-nil (name_at net l.node))
+    ∙ append_assoc (lead_spelling lead) (sign_spelling l.high) (name_at net l.node)
+
+literals_and : (net : NetValue) (ls : List Literal) → literals_behind net And ls ≡ flat_map (λ y. codes " & " ++ literal_spelling net y) ls
+literals_and net [] = refl
+literals_and net (l ∷ ls) = ap (λ xs. xs ++ literals_behind net And ls) (literal_is net And l)
+    ∙ ap (λ xs. (codes " & " ++ literal_spelling net l) ++ xs) (literals_and net ls)
+
+-- the literals of a term make up its text
+pub term_is : (net : NetValue) (lead : Lead) (t : List Literal) → 0 < length t → literals_behind net lead t ≡ lead_spelling lead ++ term_spelling net t
+term_is net lead [] some = absurd (omega arith)
+term_is net lead (l ∷ ls) some =
+    ap (λ xs. xs ++ literals_behind net And ls) (literal_is net lead l)
+    ∙ append_assoc (lead_spelling lead) (literal_spelling net l) (literals_behind net And ls)
+    ∙ ap (λ xs. lead_spelling lead ++ (literal_spelling net l ++ xs)) (literals_and net ls)
+
+terms_or : (net : NetValue) (ts : GuardValue) → terms_behind net Or ts ≡ flat_map (λ y. codes " | " ++ term_spelling net y) ts
+terms_or net [] = refl
+terms_or net (t ∷ ts) = ap (λ xs. (codes " | " ++ term_spelling net t) ++ xs) (terms_or net ts)
+
+-- the terms of a guard make up its text
+pub guard_is : (net : NetValue) (t : List Literal) (ts : GuardValue) → terms_behind net Rule (t ∷ ts) ≡ codes "rule " ++ guard_spelling net (t ∷ ts)
+guard_is net t ts = append_assoc (codes "rule ") (term_spelling net t) (terms_behind net Or ts)
+    ∙ ap (λ xs. codes "rule " ++ (term_spelling net t ++ xs)) (terms_or net ts)
+
+-- after the last literal, and after the last term
+pub term_over : (net : NetValue) (lead next : Lead) (t : List Literal) (i : ℕ) (before now : List ℕ) → 0 < length t → length t ≤ i →
+    now ++ literals_behind net next (drop i t) ≡ before ++ literals_behind net lead t → now ≡ before ++ (lead_spelling lead ++ term_spelling net t)
+term_over net lead next t i before now some over e =
+    let rest : drop i t ≡ [] = drop_all i t over in
+    let e' = rw rest at e in
+    sym (append-nil now) ∙ e' ∙ ap (λ xs. before ++ xs) (term_is net lead t some)
+
+pub guard_over : (net : NetValue) (next : Lead) (g : GuardValue) (i : ℕ) (before now : List ℕ) → 0 < length g → length g ≤ i →
+    now ++ terms_behind net next (drop i g) ≡ before ++ terms_behind net Rule g → now ≡ before ++ (codes "rule " ++ guard_spelling net g)
+guard_over net next [] i before now some over e = absurd (omega arith)
+guard_over net next (t ∷ ts) i before now some over e =
+    let rest : drop i (t ∷ ts) ≡ [] = drop_all i (t ∷ ts) over in
+    let e' = rw rest at e in
+    sym (append-nil now) ∙ e' ∙ ap (λ xs. before ++ xs) (guard_is net t ts)
+
+-- a rule that is there
+pub rule_is : (net : NetValue) (g : GuardValue) (node : ℕ) (up : Bool) (before : List ℕ) → 0 < length g → (before ++ (codes "rule " ++ guard_spelling net g))
+    ++ end_spelling (name_at net node) up ≡ before ++ rule_spelling net g node up
+rule_is net [] node up before some = absurd (omega arith)
+rule_is net (t ∷ ts) node up before some =
+    append_assoc before (codes "rule " ++ guard_spelling net (t ∷ ts)) (end_spelling (name_at net node) up)
+    ∙ ap (λ xs. before ++ xs) (append_assoc (codes "rule ") (guard_spelling net (t ∷ ts)) (end_spelling (name_at net node) up)
+    ∙ ap (λ xs. codes "rule " ++ (guard_spelling net (t ∷ ts) ++ xs)) (sym (append-nil (end_spelling (name_at net node) up))))
+
+pub no_rule_is : (net : NetValue) (g : GuardValue) (node : ℕ) (up : Bool) → length g ≡ 0 → rule_spelling net g node up ≡ []
+no_rule_is net [] node up none = refl
+no_rule_is net (t ∷ ts) node up none = absurd (omega arith)
+
+-- ---- how long the pieces are
+
+pub literal_short : (lead : Lead) (high : Bool) (name : List ℕ) → IsNodeName name → length (literal_behind lead high name) ≤ 64
+literal_short Rule true name is = omega (arith, is.short, ap length (append-nil name))
+literal_short Rule false name is = omega (arith, is.short, ap length (append-nil name))
+literal_short And true name is = omega (arith, is.short, ap length (append-nil name))
+literal_short And false name is = omega (arith, is.short, ap length (append-nil name))
+literal_short Or true name is = omega (arith, is.short, ap length (append-nil name))
+literal_short Or false name is = omega (arith, is.short, ap length (append-nil name))
