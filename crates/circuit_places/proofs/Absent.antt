@@ -5,7 +5,7 @@ use Rattle.std.proofs.lemmas.Bool.Decides.{nat_tests}
 use Rattle.width_check.specs.Processes.{Formula, Process, Processes, member_count, TypedProgram, Choices, no_choices, and_choice}
 use Rattle.width_check.specs.Typing.{channel_width}
 use Rattle.circuit_places.specs.Lines.{Line, of_channel, of_var, Rails, Seen}
-use Rattle.circuit_places.specs.Circuit.{SiteSpot, PortSpot, site_stands, port_stands, Pairs, gate_count, gate_rule, fires, cell_bit, joint_count, GuardedSpot, Spot, TurnSpot, BranchSpot, heard, stored, taking, child, latch, next, inner, of_skip, done, gate, of_assign, of_send, of_receive, in_members, of_branch, joint, in_this, in_others, of_loop, ask, in_body, in_last, in_member, in_later, guarded_stands, stands, turn_stands, branch_stands, GuardCells, GuardSpot, this_gate, other_gate, ChoiceSpot, this_choice, other_choice, of_core, of_guard, of_choice, of_round, guard_stands, choice_stands, guards_rule, low_guards}
+use Rattle.circuit_places.specs.Circuit.{SiteSpot, PortSpot, site_stands, port_stands, Pairs, gate_count, gate_rule, one_rule_fires, cell_bit, joint_count, GuardedSpot, Spot, TurnSpot, BranchSpot, heard, stored, taking, child, latch, next, inner, of_skip, done, gate, of_assign, of_send, of_receive, in_members, of_branch, joint, in_this, in_others, of_loop, ask, in_body, in_last, in_member, in_later, guarded_stands, stands, turn_stands, branch_stands, GuardCells, GuardSpot, this_gate, other_gate, ChoiceSpot, this_choice, other_choice, of_core, of_guard, of_choice, of_round, guard_stands, choice_stands, guards_rule, low_guards}
 use Rattle.circuit_places.proofs.RailLemmas.{gate_there, snd_true}
 use Rattle.circuit_places.proofs.Trees.{joint_absent}
 use Rattle.circuit_places.proofs.Meets.{PortMeets, Meets, TurnMeets, EachMeets, ChoiceMeets}
@@ -22,15 +22,15 @@ past i n h less = let g = not_below i n h in let z : ⊥ = omega (arith, g, less
 absent_site : (env : Seen) (k : Line) (e : Formula) (m : Mode) (u : Pairs (gate_count e)) (s : SiteSpot e) → site_stands s ≡ false
     → site_moves env k e m u s ≡ false
 absent_site env k e m u done h = absurd (cc h)
-absent_site env k e m u (gate i one) h = cases (fires (gate_rule e env.bit (asks m) u i one))
-    (λ (z : fires (gate_rule e env.bit (asks m) u i one) ≡ true). absurd (past i (gate_count e) h (gate_there e env.bit (asks m) u i one z)))
-    (λ (z : fires (gate_rule e env.bit (asks m) u i one) ≡ false). z)
+absent_site env k e m u (gate i one) h = cases (one_rule_fires (gate_rule e env.bit (asks m) u i one))
+    (λ (z : one_rule_fires (gate_rule e env.bit (asks m) u i one) ≡ true). absurd (past i (gate_count e) h (gate_there e env.bit (asks m) u i one z)))
+    (λ (z : one_rule_fires (gate_rule e env.bit (asks m) u i one) ≡ false). z)
 
 absent_guard : (choices : Choices) (bits : ℕ → Rails) (r : Bool) (x : GuardCells choices) (s : GuardSpot choices) → guard_stands s ≡ false
-    → fires (guards_rule choices bits r x s) ≡ false
-absent_guard (and_choice g p more) bits r x (this_gate i one) h = cases (fires (gate_rule g bits r x.0 i one))
-    (λ (z : fires (gate_rule g bits r x.0 i one) ≡ true). absurd (past i (gate_count g) h (gate_there g bits r x.0 i one z)))
-    (λ (z : fires (gate_rule g bits r x.0 i one) ≡ false). z)
+    → one_rule_fires (guards_rule choices bits r x s) ≡ false
+absent_guard (and_choice g p more) bits r x (this_gate i one) h = cases (one_rule_fires (gate_rule g bits r x.0 i one))
+    (λ (z : one_rule_fires (gate_rule g bits r x.0 i one) ≡ true). absurd (past i (gate_count g) h (gate_there g bits r x.0 i one z)))
+    (λ (z : one_rule_fires (gate_rule g bits r x.0 i one) ≡ false). z)
 absent_guard (and_choice g p more) bits r x (other_gate s) h = absent_guard more bits r x.1 s h
 absent_guard no_choices bits r x s h = elim s [ ]
 

@@ -8,7 +8,7 @@ use Rattle.env_script.specs.Runs.{completed}
 use Rattle.width_check.specs.Processes.{TypedProgram}
 use Rattle.width_check.specs.Typing.{channel_width, var_width}
 use Rattle.circuit_places.specs.Lines.{Line, of_channel, of_var, same_line, Rails}
-use Rattle.circuit_places.specs.Circuit.{GuardedSpot, fires, same_bit, rails_turned, tree_answer}
+use Rattle.circuit_places.specs.Circuit.{GuardedSpot, one_rule_fires, same_bit, rails_turned, tree_answer}
 use Rattle.circuit_places.specs.Whole.{Wires, wires_seen, line_ack, bit_rule, wrote_rule, Node, go_node, own_node, rail_node, ack_node, bit_node, wrote_node, joint_node, answers, bit_turned, wrote_turned, joint_turned}
 use Rattle.circuit_places.proofs.RailLemmas.{fst_true, snd_true, not_true, each_bit}
 use Rattle.circuit_places.proofs.Writing.{OneTurned, guarded_writing_there, guarded_writing_falls, guarded_writing_other, guarded_writing_unread}
@@ -39,7 +39,7 @@ module _ (P : TypedProgram) (script : List OfferValue) {m : Mode} {g : GuardedAt
     bit_acks (of_channel c) = refl
     bit_acks (of_var y) = refl
 
-    bit_below : fires (bit_rule (w.rail (of_var x)) (w.bit x) i one) ≡ true → i < var_width P.vars x
+    bit_below : one_rule_fires (bit_rule (w.rail (of_var x)) (w.bit x) i one) ≡ true → i < var_width P.vars x
     bit_below e = by (w.bit x i one) refl
       where
         by : (b : Bool) → w.bit x i one ≡ b → i < var_width P.vars x
@@ -48,7 +48,7 @@ module _ (P : TypedProgram) (script : List OfferValue) {m : Mode} {g : GuardedAt
             (ap (λ b. if b then w.rail (of_var x) i (not one) else w.rail (of_var x) i one && not (w.bit x i (not one))) (sym h) ∙ e))
 
     -- the variable is being written
-    being_written : i < var_width P.vars x → fires (bit_rule (w.rail (of_var x)) (w.bit x) i one) ≡ true → guarded_writing (line_ack P w) g x ≡ true
+    being_written : i < var_width P.vars x → one_rule_fires (bit_rule (w.rail (of_var x)) (w.bit x) i one) ≡ true → guarded_writing (line_ack P w) g x ≡ true
     being_written less e = here (moves_written one (now_at (w.bit x) (w.rail (of_var x)) (w.wrote x) (line_ack P w (of_var x)) i)
         ((good.block x (some_of less)).bits i less) (sym (bit_can (w.bit x) (w.rail (of_var x)) (w.wrote x) (line_ack P w (of_var x)) i one) ∙ e))
       where
@@ -61,7 +61,7 @@ module _ (P : TypedProgram) (script : List OfferValue) {m : Mode} {g : GuardedAt
             either (w.rail (of_var x) i true) (w.rail (of_var x) i false) (snd_true (not (line_ack P w (of_var x))) _ h) (there true low) (there false low)
 
     -- and so it isn't read
-    bit_changed : i < var_width P.vars x → fires (bit_rule (w.rail (of_var x)) (w.bit x) i one) ≡ true → GuardedChanged P.body m (wires_seen P w) (wires_seen P bitten) g
+    bit_changed : i < var_width P.vars x → one_rule_fires (bit_rule (w.rail (of_var x)) (w.bit x) i one) ≡ true → GuardedChanged P.body m (wires_seen P w) (wires_seen P bitten) g
     bit_changed less e = guarded_changed P (wires_seen P w) (wires_seen P bitten) (Unread x) (unread_down x)
         (bit_leaves P (wires_seen P w) (wires_seen P bitten) x refl bit_acks (λ c h. refl) bit_far) g good.meets
         (record { read = guarded_writing_unread P (line_ack P w) g good.meets x (being_written less e) }) good.fits
@@ -129,9 +129,9 @@ module _ (P : TypedProgram) (script : List OfferValue) {m : Mode} {g : GuardedAt
 
         others : (q : Node P.body) → q ≢ bit_node x i one → ((s : GuardedSpot P.body) → guarded_moves (wires_seen P w) g s ≡ true
             → guarded_moves (wires_seen P bitten) g s ≡ true) → ((j : ℕ) (s : Bool) → (j ≡ i → s ≡ one → ⊥)
-            → fires (bit_rule (w.rail (of_var x)) (w.bit x) j s) ≡ true → fires (bit_rule (w.rail (of_var x)) (rails_turned (w.bit x) i one) j s) ≡ true)
-            → ((j : ℕ) → fires (wrote_rule (w.rail (of_var x)) (w.bit x) (w.wrote x) j) ≡ true
-            → fires (wrote_rule (w.rail (of_var x)) (rails_turned (w.bit x) i one) (w.wrote x) j) ≡ true)
+            → one_rule_fires (bit_rule (w.rail (of_var x)) (w.bit x) j s) ≡ true → one_rule_fires (bit_rule (w.rail (of_var x)) (rails_turned (w.bit x) i one) j s) ≡ true)
+            → ((j : ℕ) → one_rule_fires (wrote_rule (w.rail (of_var x)) (w.bit x) (w.wrote x) j) ≡ true
+            → one_rule_fires (wrote_rule (w.rail (of_var x)) (rails_turned (w.bit x) i one) (w.wrote x) j) ≡ true)
             → can P script g w hs q ≡ true → can P script g bitten hs q ≡ true
         others go_node ne l b v z = z
         others (own_node s) ne l b v z = l s z
@@ -145,17 +145,17 @@ module _ (P : TypedProgram) (script : List OfferValue) {m : Mode} {g : GuardedAt
             (λ y. same_answers w bitten c refl refl (offer_at script c) (channel_width P.channels c) (completed hs c) ∙ y) z
         others (bit_node y j s) ne l b v z = cases (y == x)
             (λ (h : (y == x) ≡ true). let same = same_number y x h in
-            ap (λ (a : Bool). fires (bit_rule (w.rail (of_var y)) (if a then rails_turned (w.bit x) i one else w.bit y) j s)) h
-            ∙ (ap (λ v. fires (bit_rule (w.rail (of_var v)) (rails_turned (w.bit x) i one) j s)) same
+            ap (λ (a : Bool). one_rule_fires (bit_rule (w.rail (of_var y)) (if a then rails_turned (w.bit x) i one else w.bit y) j s)) h
+            ∙ (ap (λ v. one_rule_fires (bit_rule (w.rail (of_var v)) (rails_turned (w.bit x) i one) j s)) same
             ∙ b j s (λ k l. ne (ap (λ v. bit_node v j s) same ∙ (ap (λ v. bit_node x v s) k ∙ ap (λ v. bit_node x i v) l)))
-            (ap (λ v. fires (bit_rule (w.rail (of_var v)) (w.bit v) j s)) (sym same) ∙ z)))
-            (λ (h : (y == x) ≡ false). ap (λ (a : Bool). fires (bit_rule (w.rail (of_var y)) (if a then rails_turned (w.bit x) i one else w.bit y) j s)) h ∙ z)
+            (ap (λ v. one_rule_fires (bit_rule (w.rail (of_var v)) (w.bit v) j s)) (sym same) ∙ z)))
+            (λ (h : (y == x) ≡ false). ap (λ (a : Bool). one_rule_fires (bit_rule (w.rail (of_var y)) (if a then rails_turned (w.bit x) i one else w.bit y) j s)) h ∙ z)
         others (wrote_node y j) ne l b v z = cases (y == x)
             (λ (h : (y == x) ≡ true). let same = same_number y x h in
-            ap (λ (a : Bool). fires (wrote_rule (w.rail (of_var y)) (if a then rails_turned (w.bit x) i one else w.bit y) (w.wrote y) j)) h
-            ∙ (ap (λ u. fires (wrote_rule (w.rail (of_var u)) (rails_turned (w.bit x) i one) (w.wrote u) j)) same
-            ∙ v j (ap (λ u. fires (wrote_rule (w.rail (of_var u)) (w.bit u) (w.wrote u) j)) (sym same) ∙ z)))
-            (λ (h : (y == x) ≡ false). ap (λ (a : Bool). fires (wrote_rule (w.rail (of_var y)) (if a then rails_turned (w.bit x) i one else w.bit y)
+            ap (λ (a : Bool). one_rule_fires (wrote_rule (w.rail (of_var y)) (if a then rails_turned (w.bit x) i one else w.bit y) (w.wrote y) j)) h
+            ∙ (ap (λ u. one_rule_fires (wrote_rule (w.rail (of_var u)) (rails_turned (w.bit x) i one) (w.wrote u) j)) same
+            ∙ v j (ap (λ u. one_rule_fires (wrote_rule (w.rail (of_var u)) (w.bit u) (w.wrote u) j)) (sym same) ∙ z)))
+            (λ (h : (y == x) ≡ false). ap (λ (a : Bool). one_rule_fires (wrote_rule (w.rail (of_var y)) (if a then rails_turned (w.bit x) i one else w.bit y)
             (w.wrote y) j)) h ∙ z)
         others (joint_node y j) ne l b v z = z
 
@@ -243,7 +243,7 @@ module _ (P : TypedProgram) (script : List OfferValue) {m : Mode} {g : GuardedAt
     written_others : Others P x w written
     written_others y h = ap (λ (f : ℕ → Bool). tree_answer (var_width P.vars y) f (w.joint y)) (written_far y h)
 
-    wrote_below : fires (wrote_rule (w.rail (of_var x)) (w.bit x) (w.wrote x) i) ≡ true → i < var_width P.vars x
+    wrote_below : one_rule_fires (wrote_rule (w.rail (of_var x)) (w.bit x) (w.wrote x) i) ≡ true → i < var_width P.vars x
     wrote_below e = by (w.wrote x i) refl
       where
         by : (b : Bool) → w.wrote x i ≡ b → i < var_width P.vars x
@@ -308,8 +308,8 @@ module _ (P : TypedProgram) (script : List OfferValue) {m : Mode} {g : GuardedAt
 
         others : (q : Node P.body) → q ≢ wrote_node x i → ((s : GuardedSpot P.body) → guarded_moves (wires_seen P w) g s ≡ true
             → guarded_moves (wires_seen P written) g s ≡ true)
-            → ((j : ℕ) → j ≢ i → fires (wrote_rule (w.rail (of_var x)) (w.bit x) (w.wrote x) j) ≡ true
-            → fires (wrote_rule (w.rail (of_var x)) (w.bit x) (turned (w.wrote x) i) j) ≡ true)
+            → ((j : ℕ) → j ≢ i → one_rule_fires (wrote_rule (w.rail (of_var x)) (w.bit x) (w.wrote x) j) ≡ true
+            → one_rule_fires (wrote_rule (w.rail (of_var x)) (w.bit x) (turned (w.wrote x) i) j) ≡ true)
             → ((k : ℕ) → node_moves (var_width P.vars x) (w.wrote x) (w.joint x) k ≡ true
             → node_moves (var_width P.vars x) (turned (w.wrote x) i) (w.joint x) k ≡ true)
             → can P script g w hs q ≡ true → can P script g written hs q ≡ true
@@ -326,11 +326,11 @@ module _ (P : TypedProgram) (script : List OfferValue) {m : Mode} {g : GuardedAt
         others (bit_node y j s) ne l b v z = z
         others (wrote_node y j) ne l b v z = cases (y == x)
             (λ (h : (y == x) ≡ true). let same = same_number y x h in
-            subst (λ (u : ℕ). fires (wrote_rule (w.rail (of_var u)) (w.bit u) (written.wrote u) j) ≡ true) (sym same)
-            (ap (λ (f : ℕ → Bool). fires (wrote_rule (w.rail (of_var x)) (w.bit x) f j)) written_here
+            subst (λ (u : ℕ). one_rule_fires (wrote_rule (w.rail (of_var u)) (w.bit u) (written.wrote u) j) ≡ true) (sym same)
+            (ap (λ (f : ℕ → Bool). one_rule_fires (wrote_rule (w.rail (of_var x)) (w.bit x) f j)) written_here
             ∙ b j (λ k. ne (ap (λ u. wrote_node u j) same ∙ ap (λ u. wrote_node x u) k))
-            (ap (λ u. fires (wrote_rule (w.rail (of_var u)) (w.bit u) (w.wrote u) j)) (sym same) ∙ z)))
-            (λ (h : (y == x) ≡ false). ap (λ (f : ℕ → Bool). fires (wrote_rule (w.rail (of_var y)) (w.bit y) f j)) (written_far y h) ∙ z)
+            (ap (λ u. one_rule_fires (wrote_rule (w.rail (of_var u)) (w.bit u) (w.wrote u) j)) (sym same) ∙ z)))
+            (λ (h : (y == x) ≡ false). ap (λ (f : ℕ → Bool). one_rule_fires (wrote_rule (w.rail (of_var y)) (w.bit y) f j)) (written_far y h) ∙ z)
         others (joint_node y j) ne l b v z = cases (y == x)
             (λ (h : (y == x) ≡ true). let same = same_number y x h in
             subst (λ (u : ℕ). node_moves (var_width P.vars u) (written.wrote u) (w.joint u) j ≡ true) (sym same)

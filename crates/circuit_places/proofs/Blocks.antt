@@ -8,7 +8,7 @@ use Rattle.prs_core.specs.Parts.{Owned, turned}
 use Rattle.prs_core.specs.Turning.{turned_apart, none_among}
 use Rattle.cell_parallel.specs.Trees.{tree_owned}
 use Rattle.circuit_places.specs.Lines.{Rails}
-use Rattle.circuit_places.specs.Circuit.{tree_value, tree_answer, fires, is_apart, same_bit, rails_turned}
+use Rattle.circuit_places.specs.Circuit.{tree_value, tree_answer, one_rule_fires, is_apart, same_bit, rails_turned}
 use Rattle.circuit_places.specs.Whole.{bit_rule, wrote_rule, value_on, neutral_on}
 use Rattle.circuit_places.proofs.RailLemmas.{both_true}
 use Rattle.circuit_places.proofs.LineNames.{self_number, same_number}
@@ -34,11 +34,11 @@ write_role true = write_t
 write_role false = write_f
 
 -- the rules are those of the table
-pub bit_can : (x w : Rails) (wrote : ℕ → Bool) (va : Bool) (i : ℕ) (one : Bool) → fires (bit_rule w x i one) ≡ may (rail_role one) (now_at x w wrote va i)
+pub bit_can : (x w : Rails) (wrote : ℕ → Bool) (va : Bool) (i : ℕ) (one : Bool) → one_rule_fires (bit_rule w x i one) ≡ may (rail_role one) (now_at x w wrote va i)
 bit_can x w wrote va i true = refl
 bit_can x w wrote va i false = refl
 
-pub wrote_can : (x w : Rails) (wrote : ℕ → Bool) (va : Bool) (i : ℕ) → fires (wrote_rule w x wrote i) ≡ may written (now_at x w wrote va i)
+pub wrote_can : (x w : Rails) (wrote : ℕ → Bool) (va : Bool) (i : ℕ) → one_rule_fires (wrote_rule w x wrote i) ≡ may written (now_at x w wrote va i)
 wrote_can x w wrote va i = refl
 
 -- a move at one bit
@@ -127,10 +127,10 @@ written_not_write false e = cc e
 -- a move of a bit's rail
 pub record BitMoved (n : ℕ) (x w : Rails) (wrote node : ℕ → Bool) (i : ℕ) (one : Bool) : Type 0 where
   pub block : Block n (rails_turned x i one) w wrote node
-  pub bits : (j : ℕ) (side : Bool) → (j ≡ i → side ≡ one → ⊥) → fires (bit_rule w x j side) ≡ true → fires (bit_rule w (rails_turned x i one) j side) ≡ true
-  pub wrotes : (j : ℕ) → fires (wrote_rule w x wrote j) ≡ true → fires (wrote_rule w (rails_turned x i one) wrote j) ≡ true
+  pub bits : (j : ℕ) (side : Bool) → (j ≡ i → side ≡ one → ⊥) → one_rule_fires (bit_rule w x j side) ≡ true → one_rule_fires (bit_rule w (rails_turned x i one) j side) ≡ true
+  pub wrotes : (j : ℕ) → one_rule_fires (wrote_rule w x wrote j) ≡ true → one_rule_fires (wrote_rule w (rails_turned x i one) wrote j) ≡ true
 
-pub bit_moved : (n : ℕ) (x w : Rails) (wrote node : ℕ → Bool) → Block n x w wrote node → (i : ℕ) (one : Bool) → i < n → fires (bit_rule w x i one) ≡ true
+pub bit_moved : (n : ℕ) (x w : Rails) (wrote node : ℕ → Bool) → Block n x w wrote node → (i : ℕ) (one : Bool) → i < n → one_rule_fires (bit_rule w x i one) ≡ true
     → BitMoved n x w wrote node i one
 bit_moved n x w wrote node b i one less e =
     let va = tree_answer n wrote node in
@@ -154,8 +154,8 @@ bit_moved n x w wrote node b i one less e =
 -- a move of a rail by which it is written
 pub record WriteMoved (n : ℕ) (x w : Rails) (wrote node : ℕ → Bool) (i : ℕ) (one : Bool) : Type 0 where
   pub block : Block n x (rails_turned w i one) wrote node
-  pub bits : (j : ℕ) (side : Bool) → fires (bit_rule w x j side) ≡ true → fires (bit_rule (rails_turned w i one) x j side) ≡ true
-  pub wrotes : (j : ℕ) → fires (wrote_rule w x wrote j) ≡ true → fires (wrote_rule (rails_turned w i one) x wrote j) ≡ true
+  pub bits : (j : ℕ) (side : Bool) → one_rule_fires (bit_rule w x j side) ≡ true → one_rule_fires (bit_rule (rails_turned w i one) x j side) ≡ true
+  pub wrotes : (j : ℕ) → one_rule_fires (wrote_rule w x wrote j) ≡ true → one_rule_fires (wrote_rule (rails_turned w i one) x wrote j) ≡ true
 
 pub write_moved : (n : ℕ) (x w : Rails) (wrote node : ℕ → Bool) → Block n x w wrote node → (i : ℕ) (one : Bool) → i < n
     → may (write_role one) (now_at x w wrote (tree_answer n wrote node) i) ≡ true → WriteMoved n x w wrote node i one
@@ -221,14 +221,14 @@ joint_some (suc n) wrote node k e = omega arith
 pub record WroteTurned (n : ℕ) (x w : Rails) (wrote node : ℕ → Bool) (i : ℕ) : Type 0 where
   pub block : Block n x w (turned wrote i) node
   pub acked : Acked n x w wrote (tree_answer n wrote node) (tree_answer n (turned wrote i) node)
-  pub wrotes : (j : ℕ) → j ≢ i → fires (wrote_rule w x wrote j) ≡ true → fires (wrote_rule w x (turned wrote i) j) ≡ true
+  pub wrotes : (j : ℕ) → j ≢ i → one_rule_fires (wrote_rule w x wrote j) ≡ true → one_rule_fires (wrote_rule w x (turned wrote i) j) ≡ true
   pub joints : (k : ℕ) → node_moves n wrote node k ≡ true → node_moves n (turned wrote i) node k ≡ true
 
-wrote_far : (x w : Rails) (wrote : ℕ → Bool) (i j : ℕ) → j ≢ i → fires (wrote_rule w x wrote j) ≡ true → fires (wrote_rule w x (turned wrote i) j) ≡ true
+wrote_far : (x w : Rails) (wrote : ℕ → Bool) (i j : ℕ) → j ≢ i → one_rule_fires (wrote_rule w x wrote j) ≡ true → one_rule_fires (wrote_rule w x (turned wrote i) j) ≡ true
 wrote_far x w wrote i j ne z = ap (λ b. if b then not (w j true) && not (w j false) else (w j true && x j true) || (w j false && x j false))
     (turned_apart wrote i j ne) ∙ z
 
-pub wrote_turns : (n : ℕ) (x w : Rails) (wrote node : ℕ → Bool) → Block n x w wrote node → (i : ℕ) → i < n → fires (wrote_rule w x wrote i) ≡ true
+pub wrote_turns : (n : ℕ) (x w : Rails) (wrote node : ℕ → Bool) → Block n x w wrote node → (i : ℕ) → i < n → one_rule_fires (wrote_rule w x wrote i) ≡ true
     → WroteTurned n x w wrote node i
 wrote_turns zero x w wrote node b i less e = absurd (let g : ⊥ = omega (arith, less) in g)
 wrote_turns (suc zero) x w wrote node b zero less e = record {
@@ -270,8 +270,8 @@ wrote_turns (suc (suc n)) x w wrote node b i less e =
     }
 
 -- What a block in which nothing moves waits for: that a rail moves by which it is written.
-pub block_waits : (n : ℕ) (x w : Rails) (wrote node : ℕ → Bool) → Block n x w wrote node → ((i : ℕ) (one : Bool) → fires (bit_rule w x i one) ≡ false)
-    → ((i : ℕ) → fires (wrote_rule w x wrote i) ≡ false) → ((k : ℕ) → node_moves n wrote node k ≡ false)
+pub block_waits : (n : ℕ) (x w : Rails) (wrote node : ℕ → Bool) → Block n x w wrote node → ((i : ℕ) (one : Bool) → one_rule_fires (bit_rule w x i one) ≡ false)
+    → ((i : ℕ) → one_rule_fires (wrote_rule w x wrote i) ≡ false) → ((k : ℕ) → node_moves n wrote node k ≡ false)
     → (i : ℕ) × (i < n) × ((may write_t (now_at x w wrote (tree_answer n wrote node) i) || may write_f (now_at x w wrote (tree_answer n wrote node) i)) ≡ true)
 block_waits n x w wrote node b no_bit no_wrote no_joint =
     let (i, less, same) = waits_on n b.known wrote node b.tree no_joint in

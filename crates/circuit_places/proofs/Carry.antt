@@ -19,7 +19,7 @@ use Rattle.cell_parallel.specs.Trees.{tree_top}
 use Rattle.std.specs.List.{range_with_len}
 use Rattle.std.proofs.lemmas.Bool.{cases_lt}
 use Rattle.circuit_places.specs.Lines.{Line, of_channel, of_var, line_width}
-use Rattle.circuit_places.specs.Circuit.{low, joint_count, tree_answer, same_bit, QElementCells, Cells, turns, fires, no_rule, is_apart, guarded_rule, site_rails, takers}
+use Rattle.circuit_places.specs.Circuit.{low, joint_count, tree_answer, same_bit, QElementCells, Cells, turns, one_rule_fires, no_rule, is_apart, guarded_rule, site_rails, takers}
 use Rattle.circuit_places.specs.Whole.{wires_seen, line_ack, is_sent, is_heard, is_merged, merged, brings, drives, offers, bit_rule, wrote_rule, number_rail, first_bits, Whole, Node, go_node, own_node, rail_node, ack_node, bit_node, wrote_node, joint_node, is_node, rule_in, answers, enabled, wires_after, go_after, root_after, cells_moved, first_cells, Reaches, at_first, by_move}
 use Rattle.chp_meaning.specs.Halves.{IsSized, IsSizedVar}
 use Rattle.circuit_places.specs.Carried.{IsSafe, IsCarried, CircuitsCarry}
@@ -149,21 +149,21 @@ or_false : (b : Bool) → (b || false) ≡ b
 or_false true = refl
 or_false false = refl
 
-no_fire : (b : Bool) → fires (no_rule b) ≡ false
+no_fire : (b : Bool) → one_rule_fires (no_rule b) ≡ false
 no_fire true = refl
 no_fire false = refl
 
-go_is : (m : Mode) → m ≢ returning → (fires (no_rule (asks m)) || not (asks m)) ≡ is_idle m
+go_is : (m : Mode) → m ≢ returning → (one_rule_fires (no_rule (asks m)) || not (asks m)) ≡ is_idle m
 go_is idle ne = refl
 go_is running ne = refl
 go_is answered ne = refl
 go_is returning ne = absurd (ne refl)
 
 module _ (P : TypedProgram) (script : List OfferValue) {moves : ℕ} {x : Whole P.body} (r : Reached P script moves x) where
-  rail_is : (k : Line) (i : ℕ) (one : Bool) → fires (rule_in P x (rail_node k i one)) ≡ sent_turns P x.wires k i one ((guarded_shown r.place).offer k i one)
+  rail_is : (k : Line) (i : ℕ) (one : Bool) → one_rule_fires (rule_in P x (rail_node k i one)) ≡ sent_turns P x.wires k i one ((guarded_shown r.place).offer k i one)
   rail_is k i one = here (is_merged P k) refl
     where
-      here : (b : Bool) → is_merged P k ≡ b → fires (if b then merged (x.wires.rail k i one) (site_rails P.body x.root.inner k i one) else no_rule
+      here : (b : Bool) → is_merged P k ≡ b → one_rule_fires (if b then merged (x.wires.rail k i one) (site_rails P.body x.root.inner k i one) else no_rule
           (x.wires.rail k i one)) ≡ (b && turns (x.wires.rail k i one) ((guarded_shown r.place).offer k i one) (not ((guarded_shown r.place).offer k i one)))
       here true u =
           merged_can (x.wires.rail k i one) (site_rails P.body x.root.inner k i one)
@@ -172,10 +172,10 @@ module _ (P : TypedProgram) (script : List OfferValue) {moves : ℕ} {x : Whole 
           ∙ guarded_offered r.place k i one)
       here false u = no_fire (x.wires.rail k i one)
 
-  ack_is : (k : ℕ) → fires (rule_in P x (ack_node k)) ≡ heard_turns P x.wires k ((guarded_shown r.place).take k)
+  ack_is : (k : ℕ) → one_rule_fires (rule_in P x (ack_node k)) ≡ heard_turns P x.wires k ((guarded_shown r.place).take k)
   ack_is k = here (is_heard (kind_at P.channels k)) refl
     where
-      here : (b : Bool) → is_heard (kind_at P.channels k) ≡ b → fires (if b then merged (x.wires.ack k) (takers P.body x.root.inner k) else no_rule
+      here : (b : Bool) → is_heard (kind_at P.channels k) ≡ b → one_rule_fires (if b then merged (x.wires.ack k) (takers P.body x.root.inner k) else no_rule
           (x.wires.ack k)) ≡ (b && turns (x.wires.ack k) ((guarded_shown r.place).take k) (not ((guarded_shown r.place).take k)))
       here true u =
           merged_can (x.wires.ack k) (takers P.body x.root.inner k) (λ e. same_takers P.body x.root.inner (low P.body) k ∙ r.good.heard_sited k e u)
@@ -195,17 +195,17 @@ module _ (P : TypedProgram) (script : List OfferValue) {moves : ℕ} {x : Whole 
 
   -- which moves are enabled in it
   pub enabled_is : (n : Node P.body) → enabled P script x n ≡ can P script r.place x.wires x.histories n
-  enabled_is go_node = ap (λ b. fires (no_rule b) || not b) r.go ∙ go_is r.mode r.root
+  enabled_is go_node = ap (λ b. one_rule_fires (no_rule b) || not b) r.go ∙ go_is r.mode r.root
   enabled_is (own_node s) =
-      or_false (fires (guarded_rule P.body (wires_seen P x.wires) x.go x.root s))
-      ∙ (ap (λ b. fires (guarded_rule P.body (wires_seen P x.wires) b x.root s)) r.go
-      ∙ (ap (λ g. fires (guarded_rule P.body (wires_seen P x.wires) (asks r.mode) g s)) r.same ∙ guarded_can_is (wires_seen P x.wires) r.place s))
+      or_false (one_rule_fires (guarded_rule P.body (wires_seen P x.wires) x.go x.root s))
+      ∙ (ap (λ b. one_rule_fires (guarded_rule P.body (wires_seen P x.wires) b x.root s)) r.go
+      ∙ (ap (λ g. one_rule_fires (guarded_rule P.body (wires_seen P x.wires) (asks r.mode) g s)) r.same ∙ guarded_can_is (wires_seen P x.wires) r.place s))
   enabled_is (rail_node (of_channel c) i one) = ap (λ b. b || driven P script x.wires x.histories (of_channel c) i one) (rail_is (of_channel c) i one)
   enabled_is (rail_node (of_var v) i one) = ap (λ b. b || false) (rail_is (of_var v) i one)
   enabled_is (ack_node k) = ap (λ b. b || answers (channel_width P.channels k) x.wires k (completed x.histories k) (offer_at script k)) (ack_is k)
-  enabled_is (bit_node v i one) = or_false (fires (rule_in P x (bit_node v i one)))
-  enabled_is (wrote_node v i) = or_false (fires (rule_in P x (wrote_node v i)))
-  enabled_is (joint_node v k) = or_false (fires (rule_in P x (joint_node v k)))
+  enabled_is (bit_node v i one) = or_false (one_rule_fires (rule_in P x (bit_node v i one)))
+  enabled_is (wrote_node v i) = or_false (one_rule_fires (rule_in P x (wrote_node v i)))
+  enabled_is (joint_node v k) = or_false (one_rule_fires (rule_in P x (joint_node v k)))
 
   may : (n : Node P.body) → enabled P script x n ≡ true → can P script r.place x.wires x.histories n ≡ true
   may n e = sym (enabled_is n) ∙ e
@@ -405,14 +405,14 @@ module _ (P : TypedProgram) (script : List OfferValue) (fitted : Fitted P script
           (drives_up (channel_width P.channels c) x.wires c (slice_get o.0 (completed x.histories c)) i one a e).0))))
           (λ (d : driven P script x.wires x.histories (of_channel c) i one ≡ false). d)
 
-  no_bit : (v i : ℕ) (one : Bool) → nat_lt i (var_width P.vars v) ≡ false → fires (bit_rule (x.wires.rail (of_var v)) (x.wires.bit v) i one) ≡ false
+  no_bit : (v i : ℕ) (one : Bool) → nat_lt i (var_width P.vars v) ≡ false → one_rule_fires (bit_rule (x.wires.rail (of_var v)) (x.wires.bit v) i one) ≡ false
   no_bit v i one h =
       ap (λ b. if b then x.wires.rail (of_var v) i (not one) else x.wires.rail (of_var v) i one && not (x.wires.bit v i (not one)))
       (cases (x.wires.bit v i one) (λ (e : x.wires.bit v i one ≡ true). absurd (not_there i (var_width P.vars v) h (r.good.no_bit v i one e)))
       (λ (e : x.wires.bit v i one ≡ false). e))
       ∙ ap (λ b. b && not (x.wires.bit v i (not one))) (low_rail P script r v i one (not_there i (var_width P.vars v) h))
 
-  no_wrote : (v i : ℕ) → nat_lt i (var_width P.vars v) ≡ false → fires (wrote_rule (x.wires.rail (of_var v)) (x.wires.bit v) (x.wires.wrote v) i) ≡ false
+  no_wrote : (v i : ℕ) → nat_lt i (var_width P.vars v) ≡ false → one_rule_fires (wrote_rule (x.wires.rail (of_var v)) (x.wires.bit v) (x.wires.wrote v) i) ≡ false
   no_wrote v i h =
       ap (λ b. if b then not (x.wires.rail (of_var v) i true) && not (x.wires.rail (of_var v) i false) else
       (x.wires.rail (of_var v) i true && x.wires.bit v i true) || (x.wires.rail (of_var v) i false && x.wires.bit v i false))
@@ -449,9 +449,9 @@ module _ (P : TypedProgram) (script : List OfferValue) (fitted : Fitted P script
   absent (own_node s) h = enabled_is P script r (own_node s) ∙ guarded_absent P (wires_seen P x.wires) (clean_of r.good) r.place r.good.meets r.good.fits s h
   absent (rail_node k i one) h = no_rail k i one h
   absent (ack_node k) h = no_ack k h
-  absent (bit_node v i one) h = or_false (fires (rule_in P x (bit_node v i one))) ∙ no_bit v i one h
-  absent (wrote_node v i) h = or_false (fires (rule_in P x (wrote_node v i))) ∙ no_wrote v i h
-  absent (joint_node v k) h = or_false (fires (rule_in P x (joint_node v k)))
+  absent (bit_node v i one) h = or_false (one_rule_fires (rule_in P x (bit_node v i one))) ∙ no_bit v i one h
+  absent (wrote_node v i) h = or_false (one_rule_fires (rule_in P x (wrote_node v i))) ∙ no_wrote v i h
+  absent (joint_node v k) h = or_false (one_rule_fires (rule_in P x (joint_node v k)))
       ∙ joint_absent (var_width P.vars v) (x.wires.wrote v) (x.wires.joint v) k (let g : joint_count (var_width P.vars v) ≤ k = grind (arith, nat_tests) in g)
 
   all_rest : ((n : Node P.body) → is_node P n ≡ true → enabled P script x n ≡ false) → (n : Node P.body) → can P script r.place x.wires x.histories n ≡ false

@@ -4,7 +4,7 @@ use Rattle.std.specs.Prelude.{not, ◌&&◌, if◌then◌else◌, is_some}
 use Rattle.chp_base.specs.declared.span.Span.{Span}
 use Rattle.width_check.specs.Processes.{Formula, Process, skipping, assigning, sending, receiving, in_turn, side_by_side, repeating, Processes, no_members, and_member, member_count, TypedProgram, choosing, Choices, and_choice}
 use Rattle.circuit_places.specs.Lines.{Line, of_channel, of_var, same_line, site_statement, line_width, Rails, Seen}
-use Rattle.circuit_places.specs.Circuit.{PortSpot, heard, stored, taking, of_receive, rails_turned, Pairs, gate_count, gate_rule, fires, SiteSpot, Bits, joint_count, GuardedSpot, Spot, TurnSpot, BranchSpot, child, latch, next, inner, of_skip, done, gate, of_assign, of_send, in_members, of_branch, joint, in_this, in_others, of_loop, ask, in_body, in_last, in_member, in_later, GuardCells, low_guards, GuardSpot, ChoiceSpot, this_choice, other_choice, of_core, of_guard, of_choice, of_round, guards_read, guards_rule, guards_good}
+use Rattle.circuit_places.specs.Circuit.{PortSpot, heard, stored, taking, of_receive, rails_turned, Pairs, gate_count, gate_rule, one_rule_fires, SiteSpot, Bits, joint_count, GuardedSpot, Spot, TurnSpot, BranchSpot, child, latch, next, inner, of_skip, done, gate, of_assign, of_send, in_members, of_branch, joint, in_this, in_others, of_loop, ask, in_body, in_last, in_member, in_later, GuardCells, low_guards, GuardSpot, ChoiceSpot, this_choice, other_choice, of_core, of_guard, of_choice, of_round, guards_read, guards_rule, guards_good}
 use Rattle.circuit_places.specs.Whole.{is_heard, value_on, neutral_on}
 use Rattle.width_check.specs.Typing.{kind_at}
 use Rattle.width_check.specs.Values.{width_of}
@@ -70,7 +70,7 @@ pub record PortChanged (c x : ℕ) (m : Mode) (l : Bool) (q : Rails) (env now : 
 
 pub record GuardsChanged (choices : Choices) (r : Bool) (x : GuardCells choices) (env now : Seen) : Type 0 where
   pub fits : guards_good choices now.bit r x ≡ true
-  pub keeps : (s : GuardSpot choices) → fires (guards_rule choices env.bit r x s) ≡ true → fires (guards_rule choices now.bit r x s) ≡ true
+  pub keeps : (s : GuardSpot choices) → one_rule_fires (guards_rule choices env.bit r x s) ≡ true → one_rule_fires (guards_rule choices now.bit r x s) ≡ true
 
 pub record AtLeaves (P : TypedProgram) (env now : Seen) (Cond : Process → Shown → Type 0) : Type 0 where
   pub at_ports : (c x : ℕ) (at to : Span) (m : Mode) (l : Bool) (q : Rails) → port_may m l ≡ true → PortMeets P c x
@@ -372,14 +372,14 @@ still_site env now k e m u same bits f = record {
   where
     keeps : (s : SiteSpot e) → site_moves env k e m u s ≡ true → site_moves now k e m u s ≡ true
     keeps done z = ap (λ b. if acks m then not b else asks m && b) same ∙ z
-    keeps (gate i one) z = ap (λ (b : ℕ → Rails). fires (gate_rule e b (asks m) u i one)) bits ∙ z
+    keeps (gate i one) z = ap (λ (b : ℕ → Rails). one_rule_fires (gate_rule e b (asks m) u i one)) bits ∙ z
 
 -- guards over bits that stay
 pub still_guards : (env now : Seen) (choices : Choices) (r : Bool) (x : GuardCells choices) → now.bit ≡ env.bit → guards_good choices env.bit r x ≡ true
     → GuardsChanged choices r x env now
 still_guards env now choices r x bits f = record {
   fits = ap (λ (b : ℕ → Rails). guards_good choices b r x) bits ∙ f;
-  keeps = λ s z. ap (λ (b : ℕ → Rails). fires (guards_rule choices b r x s)) bits ∙ z;
+  keeps = λ s z. ap (λ (b : ℕ → Rails). one_rule_fires (guards_rule choices b r x s)) bits ∙ z;
 }
 
 -- a receive whose acknowledges and whose channel's rails stay
@@ -441,7 +441,7 @@ bit_leaves P env now v widths same rails far = record {
         → Unread v (choosing again choices) (guards_shown r choices) → guards_good choices env.bit r x ≡ true → GuardsChanged choices r x env now
     the_guards again choices true x laws i f =
         let r = guards_unread P env.bit now.bit true choices laws x others in
-        record { fits = sym r.0 ∙ f; keeps = λ s z. sym (ap fires (r.1 s)) ∙ z }
+        record { fits = sym r.0 ∙ f; keeps = λ s z. sym (ap one_rule_fires (r.1 s)) ∙ z }
       where
         others : (y j : ℕ) (one : Bool) → guards_read choices y ≡ true → env.bit y j one ≡ now.bit y j one
         others y j one read = cases (y == v)
@@ -449,7 +449,7 @@ bit_leaves P env now v widths same rails far = record {
             (λ (z : (y == v) ≡ false). ap (λ (b : Rails). b j one) (sym (far y z)))
     the_guards again choices false x laws i f =
         let r = guards_asleep P env.bit now.bit choices laws x in
-        record { fits = sym r.0 ∙ f; keeps = λ s z. sym (ap fires (r.1 s)) ∙ z }
+        record { fits = sym r.0 ∙ f; keeps = λ s z. sym (ap one_rule_fires (r.1 s)) ∙ z }
 
     the_site : (k : Line) (at : Span) (e : Formula) (m : Mode) (u : Pairs (gate_count e)) → SiteMay e m u → SiteMeets P k e
         → Unread v (site_statement k at e) (site_shown k e u) → SiteFits k e m u env → SiteChanged k e m u env now
@@ -469,7 +469,7 @@ bit_leaves P env now v widths same rails far = record {
 
         keeps : (s : SiteSpot e) → site_moves env k e m u s ≡ true → site_moves now k e m u s ≡ true
         keeps done z = ap (λ b. if acks m then not b else asks m && b) (same k) ∙ z
-        keeps (gate i one) z = sym (ap fires (both.1 i one)) ∙ z
+        keeps (gate i one) z = sym (ap one_rule_fires (both.1 i one)) ∙ z
 
 -- What a site's rails say where the line's do.
 pub ready_full : (P : TypedProgram) (env : Seen) (c : Line) → is_some (value_on (line_width P c) (env.rail c)) ≡ true
@@ -535,7 +535,7 @@ raise_leaves P env now c busy t low some wide = record {
       where
         keeps : (s : SiteSpot e) → site_moves env d e running u s ≡ true → site_moves now d e running u s ≡ true
         keeps done z = absurd (cc (l, z))
-        keeps (gate i one) z = ap (λ (b : ℕ → Rails). fires (gate_rule e b true u i one)) t.bits ∙ z
+        keeps (gate i one) z = ap (λ (b : ℕ → Rails). one_rule_fires (gate_rule e b true u i one)) t.bits ∙ z
     at_it d e idle u is whole l f = absurd (cc is)
     at_it d e answered u is whole l f = absurd (cc is)
     at_it d e returning u is whole l f = absurd (cc is)
@@ -690,7 +690,7 @@ lower_leaves P env now c t high lows wide = record {
       where
         keeps : (s : SiteSpot e) → site_moves env d e returning u s ≡ true → site_moves now d e returning u s ≡ true
         keeps done z = absurd (cc (l, z))
-        keeps (gate i one) z = ap (λ (b : ℕ → Rails). fires (gate_rule e b false u i one)) t.bits ∙ z
+        keeps (gate i one) z = ap (λ (b : ℕ → Rails). one_rule_fires (gate_rule e b false u i one)) t.bits ∙ z
     at_it d e idle u is none l f = absurd (cc is)
     at_it d e answered u is none l f = absurd (cc is)
     at_it d e running u is none l f = absurd (cc is)

@@ -7,7 +7,7 @@ use Rattle.chp_meaning.specs.Terms.{Term, finished}
 use Rattle.function_blocks.specs.Rails.{Pairs, turned_pairs}
 use Rattle.function_blocks.specs.Waves.{good, out_rail, full, empty, Waves}
 use Rattle.circuit_places.specs.Lines.{Line, of_channel, of_var, same_line, Seen}
-use Rattle.circuit_places.specs.Circuit.{gate_count, gate_rule, fires, SiteSpot, low_site, turned_site, Spot, of_skip, done, gate, of_assign, of_send}
+use Rattle.circuit_places.specs.Circuit.{gate_count, gate_rule, one_rule_fires, SiteSpot, low_site, turned_site, Spot, of_skip, done, gate, of_assign, of_send}
 use Rattle.circuit_places.proofs.RailLemmas.{fst_true, snd_true, not_true, never_and, empty_low}
 use Rattle.circuit_places.proofs.Places.{Mode, idle, running, answered, returning, acks, is_idle, wave_may, SiteMay, site_of, site_shown, site_moves, under_way, rests, at_skip, at_assign, at_send, none_shown, send_fits, SiteFits, moves}
 use Rattle.circuit_places.proofs.Left.{waits, skip_follows}
@@ -117,16 +117,16 @@ module _ (P : TypedProgram) (k : Line) (e : Formula) (env : Seen) (clean : Clean
   }
 
   -- a gate that rises has a value that isn't whole, and one that falls has one that isn't gone
-  not_full : (u : Pairs (gate_count e)) (i : ℕ) (one : Bool) → good true env.bit e u ≡ true → fires (gate_rule e env.bit true u i one) ≡ true → full e u ≡ false
+  not_full : (u : Pairs (gate_count e)) (i : ℕ) (one : Bool) → good true env.bit e u ≡ true → one_rule_fires (gate_rule e env.bit true u i one) ≡ true → full e u ≡ false
   not_full u i one g f = cases (full e u) (λ (z : full e u ≡ true). absurd (cc (known.quiet_full env.bit u clean.single g z i one, f)))
       (λ (z : full e u ≡ false). z)
 
   gone_quiet : (u : Pairs (gate_count e)) → good false env.bit e u ≡ true → empty e u ≡ true → (i : ℕ) (one : Bool)
-      → fires (gate_rule e env.bit false u i one) ≡ false
-  gone_quiet u g z i one = ap (λ (x : Pairs (gate_count e)). fires (gate_rule e env.bit false x i one)) (known.inner_empty env.bit u g z)
+      → one_rule_fires (gate_rule e env.bit false u i one) ≡ false
+  gone_quiet u g z i one = ap (λ (x : Pairs (gate_count e)). one_rule_fires (gate_rule e env.bit false x i one)) (known.inner_empty env.bit u g z)
       ∙ known.quiet_low env.bit i one
 
-  not_gone : (u : Pairs (gate_count e)) (i : ℕ) (one : Bool) → good false env.bit e u ≡ true → fires (gate_rule e env.bit false u i one) ≡ true
+  not_gone : (u : Pairs (gate_count e)) (i : ℕ) (one : Bool) → good false env.bit e u ≡ true → one_rule_fires (gate_rule e env.bit false u i one) ≡ true
       → empty e u ≡ false
   not_gone u i one g f = cases (empty e u) (λ (z : empty e u ≡ true). absurd (cc (gone_quiet u g z i one, f))) (λ (z : empty e u ≡ false). z)
 
@@ -156,7 +156,7 @@ module _ (P : TypedProgram) (k : Line) (e : Formula) (env : Seen) (clean : Clean
       keeps none done ne = absurd (ne refl)
       keeps none (gate j side) ne = gone_quiet u f.1 none j side
 
-  rises : (u : Pairs (gate_count e)) (i : ℕ) (one : Bool) → SiteFits k e running u env → fires (gate_rule e env.bit true u i one) ≡ true
+  rises : (u : Pairs (gate_count e)) (i : ℕ) (one : Bool) → SiteFits k e running u env → one_rule_fires (gate_rule e env.bit true u i one) ≡ true
       → SiteAfter k e env running u (gate i one)
   rises u i one f h =
       let low = run_low (full e u) (empty e u) (env.ack k) f.0 (not_full u i one f.1 h) in
@@ -170,7 +170,7 @@ module _ (P : TypedProgram) (k : Line) (e : Formula) (env : Seen) (clean : Clean
       keeps done ne z = z
       keeps (gate j side) ne z = known.firm true env.bit u i one j side clean.single (other_gate i one j side ne) f.1 h z
 
-  falls : (u : Pairs (gate_count e)) (i : ℕ) (one : Bool) → SiteFits k e returning u env → fires (gate_rule e env.bit false u i one) ≡ true
+  falls : (u : Pairs (gate_count e)) (i : ℕ) (one : Bool) → SiteFits k e returning u env → one_rule_fires (gate_rule e env.bit false u i one) ≡ true
       → SiteAfter k e env returning u (gate i one)
   falls u i one f h =
       let high = back_high (full e u) (empty e u) (env.ack k) f.0 (not_gone u i one f.1 h) in

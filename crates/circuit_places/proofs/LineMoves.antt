@@ -10,7 +10,7 @@ use Rattle.width_check.specs.Processes.{Process, TypedProgram}
 use Rattle.chp_meaning.specs.Terms.{opened}
 use Rattle.width_check.specs.Typing.{kind_at, channel_width, var_width}
 use Rattle.circuit_places.specs.Lines.{Line, of_channel, of_var, same_line, line_width, Rails}
-use Rattle.circuit_places.specs.Circuit.{low, GuardedSpot, turns, fires, same_bit, rails_turned, site_rails}
+use Rattle.circuit_places.specs.Circuit.{low, GuardedSpot, turns, one_rule_fires, same_bit, rails_turned, site_rails}
 use Rattle.circuit_places.specs.Whole.{Wires, wires_seen, line_ack, is_heard, is_merged, bit_rule, wrote_rule, value_on, neutral_on, number_rail, brings, drives, offers, Node, go_node, own_node, rail_node, ack_node, bit_node, wrote_node, joint_node, answers, rail_turned}
 use Rattle.function_blocks.specs.RailFacts.{covers}
 use Rattle.circuit_places.proofs.RailLemmas.{fst_true, snd_true, both_true, not_true, same_value, neutral_low, each_bit}
@@ -244,16 +244,16 @@ module _ (P : TypedProgram) (script : List OfferValue) {m : Mode} {g : GuardedAt
     rail_others (bit_node x j s) ne l a d b z = cases (same_line (of_var x) k)
         (λ (e : same_line (of_var x) k ≡ true).
         let same = same_line_is (of_var x) k e in
-        ap (λ (r : Rails). fires (bit_rule r (w.bit x) j s)) (ap (λ (b : Bool). if b then rails_turned (w.rail k) i side else w.rail (of_var x)) e
+        ap (λ (r : Rails). one_rule_fires (bit_rule r (w.bit x) j s)) (ap (λ (b : Bool). if b then rails_turned (w.rail k) i side else w.rail (of_var x)) e
         ∙ ap (λ (l : Line). rails_turned (w.rail l) i side) (sym same)) ∙ (b x (sym same)).bits j s z)
-        (λ (e : same_line (of_var x) k ≡ false). ap (λ (b : Bool). fires (bit_rule (if b then rails_turned (w.rail k) i side else w.rail (of_var x))
+        (λ (e : same_line (of_var x) k ≡ false). ap (λ (b : Bool). one_rule_fires (bit_rule (if b then rails_turned (w.rail k) i side else w.rail (of_var x))
         (w.bit x) j s)) e ∙ z)
     rail_others (wrote_node x j) ne l a d b z = cases (same_line (of_var x) k)
         (λ (e : same_line (of_var x) k ≡ true).
         let same = same_line_is (of_var x) k e in
-        ap (λ (r : Rails). fires (wrote_rule r (w.bit x) (w.wrote x) j)) (ap (λ (b : Bool). if b then rails_turned (w.rail k) i side else w.rail (of_var x)) e
+        ap (λ (r : Rails). one_rule_fires (wrote_rule r (w.bit x) (w.wrote x) j)) (ap (λ (b : Bool). if b then rails_turned (w.rail k) i side else w.rail (of_var x)) e
         ∙ ap (λ (l : Line). rails_turned (w.rail l) i side) (sym same)) ∙ (b x (sym same)).wrotes j z)
-        (λ (e : same_line (of_var x) k ≡ false). ap (λ (b : Bool). fires (wrote_rule (if b then rails_turned (w.rail k) i side else w.rail (of_var x)) (w.bit x)
+        (λ (e : same_line (of_var x) k ≡ false). ap (λ (b : Bool). one_rule_fires (wrote_rule (if b then rails_turned (w.rail k) i side else w.rail (of_var x)) (w.bit x)
         (w.wrote x) j)) e ∙ z)
     rail_others (joint_node x j) ne l a d b z = z
 

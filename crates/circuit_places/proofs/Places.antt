@@ -10,7 +10,7 @@ pub use Rattle.circuit_places.proofs.Modes.{Mode, idle, running, answered, retur
 use Rattle.circuit_places.specs.Lines.{Line, of_channel, of_var, same_line, Rails, Seen}
 use Rattle.prs_core.specs.Deciding.{implies}
 use Rattle.circuit_places.specs.Whole.{value_on, neutral_on}
-use Rattle.circuit_places.specs.Circuit.{Port, PortSpot, low_port, port_rule, heard, stored, taking, of_receive, QElementCells, Site, Pairs, SiteSpot, site_rule, low_site, Cells, TurnCells, Bits, BranchCells, low_bits, cell_bit, joint_count, low_guarded, low, low_turn, low_branches, branches_answered, tree_answer, tree_rule, gate_count, answer, turn_answer, GuardedSpot, Spot, TurnSpot, BranchSpot, child, latch, next, inner, of_skip, done, gate, of_assign, of_send, in_members, of_branch, joint, in_this, in_others, of_loop, ask, in_body, in_last, in_member, in_later, fires, same_bit, gate_rule, guarded_rule, rule, turn_rule, branch_rule, Core, OwnSpot, RoundSpot, GuardCells, ChoiceCells, low_guards, low_core, low_choices, choice_answers, GuardSpot, this_gate, other_gate, ChoiceSpot, this_choice, other_choice, of_core, of_guard, of_choice, of_round, Pair, pair_of, guard_head, heads, guards_read, guards_rule, guards_good, choice_rule, low_pairs}
+use Rattle.circuit_places.specs.Circuit.{Port, PortSpot, low_port, port_rule, heard, stored, taking, of_receive, QElementCells, Site, Pairs, SiteSpot, site_rule, low_site, Cells, TurnCells, Bits, BranchCells, low_bits, cell_bit, joint_count, low_guarded, low, low_turn, low_branches, branches_answered, tree_answer, tree_rule, gate_count, answer, turn_answer, GuardedSpot, Spot, TurnSpot, BranchSpot, child, latch, next, inner, of_skip, done, gate, of_assign, of_send, in_members, of_branch, joint, in_this, in_others, of_loop, ask, in_body, in_last, in_member, in_later, one_rule_fires, same_bit, gate_rule, guarded_rule, rule, turn_rule, branch_rule, Core, OwnSpot, RoundSpot, GuardCells, ChoiceCells, low_guards, low_core, low_choices, choice_answers, GuardSpot, this_gate, other_gate, ChoiceSpot, this_choice, other_choice, of_core, of_guard, of_choice, of_round, RailLevels, levels_of, guard_head, heads, guards_read, guards_rule, guards_good, choice_rule, low_pairs}
 use Rattle.width_check.specs.Reads.{reads}
 use Rattle.function_blocks.specs.Waves.{good, out_rail, full, empty, Waves}
 use Rattle.circuit_places.proofs.RailLemmas.{fst_true, snd_true, same_value, low_gate_quiet, low_out}
@@ -393,10 +393,10 @@ abbrev mutual
 -- which nodes may move
 abbrev pub site_moves : Seen → Line → (e : Formula) → (m : Mode) → Pairs (gate_count e) → SiteSpot e → Bool
 site_moves env k e m u done = if acks m then not (env.ack k) else asks m && env.ack k
-site_moves env k e m u (gate i one) = fires (gate_rule e env.bit (asks m) u i one)
+site_moves env k e m u (gate i one) = one_rule_fires (gate_rule e env.bit (asks m) u i one)
 
 abbrev pub port_moves : Seen → (c x : ℕ) → (m : Mode) → (kept : Bool) → Rails → PortSpot → Bool
-port_moves env c x m k q s = fires (port_rule (env.rail (of_channel c)) (env.ack (of_channel c)) (env.ack (of_var x)) (asks m) (port_of (acks m) k q) s)
+port_moves env c x m k q s = one_rule_fires (port_rule (env.rail (of_channel c)) (env.ack (of_channel c)) (env.ack (of_var x)) (asks m) (port_of (acks m) k q) s)
 
 abbrev pub choice_own : {again : Bool} {choices : Choices} {m : Mode} → ChoiceAt again choices m → OwnSpot (choice_count choices) → Bool
 choice_own (control_at c) s = control_moves c s
@@ -407,7 +407,7 @@ choice_round (control_at c) s = turning_moves c s
 choice_round (inside_at a w) s = way_turning w s
 
 abbrev pub choice_guard : {again : Bool} {choices : Choices} {m : Mode} → Seen → ChoiceAt again choices m → GuardSpot choices → Bool
-choice_guard env (control_at {choices = choices} c) s = fires (guards_rule choices env.bit (control_ask c) (control_guards (low_guards choices) c) s)
+choice_guard env (control_at {choices = choices} c) s = one_rule_fires (guards_rule choices env.bit (control_ask c) (control_guards (low_guards choices) c) s)
 choice_guard env (inside_at a w) s = false
 
 abbrev mutual
@@ -578,53 +578,53 @@ chosen_answers (another {p = p} {more = more} a) = ap (λ (b : Bool). (b, choice
     ∙ ap (λ (y : Bits (choice_count more)). (false, y)) (chosen_answers a)
 
 -- nothing can move where the handshake rests
-low_site_quiet : (e : Formula) (bits : ℕ → Rails) (ack : Bool) (s : SiteSpot e) → fires (site_rule e bits ack false (low_site e) s) ≡ false
+low_site_quiet : (e : Formula) (bits : ℕ → Rails) (ack : Bool) (s : SiteSpot e) → one_rule_fires (site_rule e bits ack false (low_site e) s) ≡ false
 low_site_quiet e bits ack done = refl
 low_site_quiet e bits ack (gate i one) = low_gate_quiet e bits i one
 
-low_port_quiet : (rail : Rails) (ack va : Bool) (s : PortSpot) → fires (port_rule rail ack va false low_port s) ≡ false
+low_port_quiet : (rail : Rails) (ack va : Bool) (s : PortSpot) → one_rule_fires (port_rule rail ack va false low_port s) ≡ false
 low_port_quiet rail ack va heard = refl
 low_port_quiet rail ack va stored = refl
 low_port_quiet rail ack va (taking i one) = refl
 
 -- nor do gates of guards, whose heads are low
-pub low_guards_quiet : (choices : Choices) (bits : ℕ → Rails) (s : GuardSpot choices) → fires (guards_rule choices bits false (low_guards choices) s) ≡ false
+pub low_guards_quiet : (choices : Choices) (bits : ℕ → Rails) (s : GuardSpot choices) → one_rule_fires (guards_rule choices bits false (low_guards choices) s) ≡ false
 low_guards_quiet (and_choice g p more) bits (this_gate i one) = low_gate_quiet g bits i one
 low_guards_quiet (and_choice g p more) bits (other_gate s) = low_guards_quiet more bits s
 low_guards_quiet no_choices bits s = elim s [ ]
 
-low_head : (e : Formula) → guard_head e (low_pairs (gate_count e)) ≡ pair_of false false
-low_head e = ap (λ b. pair_of b (out_rail e (low_pairs (gate_count e)) 0 false)) (low_out e 0 true) ∙ ap (λ b. pair_of false b) (low_out e 0 false)
+low_head : (e : Formula) → guard_head e (low_pairs (gate_count e)) ≡ levels_of false false
+low_head e = ap (λ b. levels_of b (out_rail e (low_pairs (gate_count e)) 0 false)) (low_out e 0 true) ∙ ap (λ b. levels_of false b) (low_out e 0 false)
 
 pub low_neutral : (choices : Choices) → all_neutral (choice_count choices) (heads choices (low_guards choices)) ≡ true
 low_neutral no_choices = refl
-low_neutral (and_choice g p more) = ap (λ (h : Pair). not h.t && (not h.f && all_neutral (choice_count more) (heads more (low_guards more)))) (low_head g)
+low_neutral (and_choice g p more) = ap (λ (h : RailLevels). not h.t && (not h.f && all_neutral (choice_count more) (heads more (low_guards more)))) (low_head g)
     ∙ low_neutral more
 
 -- of a core at rest, as of one that isn't asked
 low_core_quiet : (choices : Choices) (s : OwnSpot (choice_count choices))
-    → fires (core_rule false false (heads choices (low_guards choices)) (choice_answers choices (low_choices choices)) (low_core choices (low_choices choices))
+    → one_rule_fires (core_rule false false (heads choices (low_guards choices)) (choice_answers choices (low_choices choices)) (low_core choices (low_choices choices))
     s)
     ≡ false
 low_core_quiet choices s =
-    ap (λ (y : Bits (choice_count choices)). fires (core_rule false false (heads choices (low_guards choices)) y (low_core choices (low_choices choices)) s))
+    ap (λ (y : Bits (choice_count choices)). one_rule_fires (core_rule false false (heads choices (low_guards choices)) y (low_core choices (low_choices choices)) s))
     (low_choice_answers choices)
     ∙ control_can_is {again = false} {heads = heads choices} (low_guards choices) (low_choices choices) (low_neutral choices) uncalled s
 
 low_round_quiet : (choices : Choices) (s : RoundSpot)
-    → fires (turning_rule false (heads choices (low_guards choices)) (turning_of false false false (low_core choices (low_choices choices))) s) ≡ false
+    → one_rule_fires (turning_rule false (heads choices (low_guards choices)) (turning_of false false false (low_core choices (low_choices choices))) s) ≡ false
 low_round_quiet choices of_answer = refl
 low_round_quiet choices of_turn = refl
 low_round_quiet choices of_leave = neutral_over (choice_count choices) (heads choices (low_guards choices)) (low_neutral choices)
 
 mutual
-  pub low_guarded_quiet : (p : Process) (env : Seen) (s : GuardedSpot p) → fires (guarded_rule p env false (low_guarded (low p)) s) ≡ false
+  pub low_guarded_quiet : (p : Process) (env : Seen) (s : GuardedSpot p) → one_rule_fires (guarded_rule p env false (low_guarded (low p)) s) ≡ false
   low_guarded_quiet p env child = refl
   low_guarded_quiet p env latch = low_answer p
   low_guarded_quiet p env next = refl
   low_guarded_quiet p env (inner s) = low_quiet p env s
 
-  pub low_quiet : (p : Process) (env : Seen) (s : Spot p) → fires (rule p env false (low p) s) ≡ false
+  pub low_quiet : (p : Process) (env : Seen) (s : Spot p) → one_rule_fires (rule p env false (low p) s) ≡ false
   low_quiet skipping env of_skip = refl
   low_quiet (assigning x at e) env (of_assign s) = low_site_quiet e env.bit (env.ack (of_var x)) s
   low_quiet (sending c at e) env (of_send s) = low_site_quiet e env.bit (env.ack (of_channel c)) s
@@ -647,17 +647,17 @@ mutual
   low_quiet (choosing true choices) env (of_round s) = low_round_quiet choices s
 
   pub low_choice_quiet : (choices : Choices) (env : Seen) (s : ChoiceSpot choices)
-      → fires (choice_rule choices env (low_bits (choice_count choices)) (low_choices choices) s) ≡ false
+      → one_rule_fires (choice_rule choices env (low_bits (choice_count choices)) (low_choices choices) s) ≡ false
   low_choice_quiet no_choices env s = refl
   low_choice_quiet (and_choice g p more) env (this_choice s) = low_quiet p env s
   low_choice_quiet (and_choice g p more) env (other_choice s) = low_choice_quiet more env s
 
-  pub low_branch_quiet : (members : Processes) (env : Seen) (s : BranchSpot members) → fires (branch_rule members env false (low_branches members) s) ≡ false
+  pub low_branch_quiet : (members : Processes) (env : Seen) (s : BranchSpot members) → one_rule_fires (branch_rule members env false (low_branches members) s) ≡ false
   low_branch_quiet no_members env s = refl
   low_branch_quiet (and_member p more) env (in_this s) = low_guarded_quiet p env s
   low_branch_quiet (and_member p more) env (in_others s) = low_branch_quiet more env s
 
-  pub low_turn_quiet : (members : Processes) (env : Seen) (s : TurnSpot members) → fires (turn_rule members env false (low_turn members) s) ≡ false
+  pub low_turn_quiet : (members : Processes) (env : Seen) (s : TurnSpot members) → one_rule_fires (turn_rule members env false (low_turn members) s) ≡ false
   low_turn_quiet no_members env s = refl
   low_turn_quiet (and_member p no_members) env (in_last s) = low_quiet p env s
   low_turn_quiet (and_member p (and_member q more)) env (in_member s) = low_guarded_quiet p env s
@@ -665,7 +665,7 @@ mutual
 
 -- the rules allow what a place says
 site_can_is : (env : Seen) (k : Line) (e : Formula) (m : Mode) (u : Pairs (gate_count e)) (s : SiteSpot e)
-    → fires (site_rule e env.bit (env.ack k) (asks m) (site_of e (acks m) u) s) ≡ site_moves env k e m u s
+    → one_rule_fires (site_rule e env.bit (env.ack k) (asks m) (site_of e (acks m) u) s) ≡ site_moves env k e m u s
 site_can_is env k e m u done = refl
 site_can_is env k e m u (gate i one) = refl
 
@@ -679,41 +679,41 @@ no_leave (inside_at a w) = refl
 
 -- of the own nodes of a core, and of those round it
 choice_own_is : {again : Bool} {choices : Choices} {m : Mode} (x : ChoiceAt again choices m) (s : OwnSpot (choice_count choices))
-    → fires (core_rule (asks m) (choice_leave x) (heads choices (choice_cells x).guards) (choice_answers choices (choice_cells x).branches) (choice_cells x) s)
+    → one_rule_fires (core_rule (asks m) (choice_leave x) (heads choices (choice_cells x).guards) (choice_answers choices (choice_cells x).branches) (choice_cells x) s)
     ≡ choice_own x s
 choice_own_is {choices = choices} {m = m} (control_at c) s =
-    ap (λ (y : Bits (choice_count choices)). fires (core_rule (asks m) (control_leave c) (heads choices (control_guards (low_guards choices) c)) y
+    ap (λ (y : Bits (choice_count choices)). one_rule_fires (core_rule (asks m) (control_leave c) (heads choices (control_guards (low_guards choices) c)) y
     (control_cells (low_guards choices) (low_choices choices) c) s)) (low_choice_answers choices)
     ∙ control_can_is (low_guards choices) (low_choices choices) (low_neutral choices) c s
 choice_own_is {choices = choices} {m = m} (inside_at a w) s =
-    ap (λ (y : Bits (choice_count choices)). fires (core_rule (asks m) false (heads choices (low_guards choices)) y
+    ap (λ (y : Bits (choice_count choices)). one_rule_fires (core_rule (asks m) false (heads choices (low_guards choices)) y
     (way_cells (low_guards choices) (chosen_index a) (chosen_cells a) w) s)) (chosen_answers a)
     ∙ way_can_is (low_guards choices) (heads choices (low_guards choices)) (chosen_cells a) (low_neutral choices) w (chosen_index a) s
 
 choice_round_is : {again : Bool} {choices : Choices} {m : Mode} (x : ChoiceAt again choices m) (s : RoundSpot)
-    → fires (turning_rule true (heads choices (choice_cells x).guards) (turning_of false (asks m) (choice_leave x) (choice_cells x)) s) ≡ choice_round x s
+    → one_rule_fires (turning_rule true (heads choices (choice_cells x).guards) (turning_of false (asks m) (choice_leave x) (choice_cells x)) s) ≡ choice_round x s
 choice_round_is {choices = choices} (control_at c) s = turning_can_is (low_guards choices) (low_choices choices) (low_neutral choices) c s
 choice_round_is {choices = choices} (inside_at a w) s =
     way_turning_is (low_guards choices) (heads choices (low_guards choices)) (chosen_cells a) (low_neutral choices) w (chosen_index a) s
 
 choice_guard_is : {again : Bool} {choices : Choices} {m : Mode} (env : Seen) (x : ChoiceAt again choices m) (s : GuardSpot choices)
-    → fires (guards_rule choices env.bit (choice_cells x).ask (choice_cells x).guards s) ≡ choice_guard env x s
+    → one_rule_fires (guards_rule choices env.bit (choice_cells x).ask (choice_cells x).guards s) ≡ choice_guard env x s
 choice_guard_is env (control_at c) s = refl
 choice_guard_is {choices = choices} env (inside_at a w) s = low_guards_quiet choices env.bit s
 
 closing_is : (choices : Choices) {m : Mode} (c : Closing m) (s : OwnSpot (choice_count choices))
-    → fires (core_rule (closing_turn c) (closing_leave c) (heads choices (low_guards choices)) (choice_answers choices (low_choices choices))
+    → one_rule_fires (core_rule (closing_turn c) (closing_leave c) (heads choices (low_guards choices)) (choice_answers choices (low_choices choices))
     (core_of false false (closing_any c) (low_bits (choice_count choices)) (low_bits (choice_count choices)) (low_guards choices) (low_choices choices)) s)
     ≡ closing_own c s
 closing_is choices c s =
-    ap (λ (y : Bits (choice_count choices)). fires (core_rule (closing_turn c) (closing_leave c) (heads choices (low_guards choices)) y
+    ap (λ (y : Bits (choice_count choices)). one_rule_fires (core_rule (closing_turn c) (closing_leave c) (heads choices (low_guards choices)) y
     (core_of {B = ChoiceCells choices} false false (closing_any c) (low_bits (choice_count choices)) (low_bits (choice_count choices)) (low_guards choices)
     (low_choices choices)) s)) (low_choice_answers choices)
     ∙ closing_own_is (low_guards choices) (heads choices (low_guards choices)) (low_choices choices) (low_neutral choices) c s
 
 mutual
   pub guarded_can_is : {p : Process} {m : Mode} (env : Seen) (g : GuardedAt p m) (s : GuardedSpot p)
-      → fires (guarded_rule p env (asks m) (guarded_cells g) s) ≡ guarded_moves env g s
+      → one_rule_fires (guarded_rule p env (asks m) (guarded_cells g) s) ≡ guarded_moves env g s
   guarded_can_is {p = p} env g_rests s = low_guarded_quiet p env s
   guarded_can_is env (g_in {m = m} u a h) child = refl
   guarded_can_is env (g_in {m = m} u a h) latch = ap (λ d. if u then false else d) (answer_is a)
@@ -732,7 +732,7 @@ mutual
   guarded_can_is {p = p} env (g_back u) next = refl
   guarded_can_is {p = p} env (g_back u) (inner s) = low_quiet p env s
 
-  pub can_is : {p : Process} {m : Mode} (env : Seen) (a : At p m) (s : Spot p) → fires (rule p env (asks m) (cells a) s) ≡ moves env a s
+  pub can_is : {p : Process} {m : Mode} (env : Seen) (a : At p m) (s : Spot p) → one_rule_fires (rule p env (asks m) (cells a) s) ≡ moves env a s
   can_is {p = p} env rests s = low_quiet p env s
   can_is env (at_skip m h) of_skip = refl
   can_is env (at_assign {x = x} {e = e} m u h) (of_assign s) = site_can_is env (of_var x) e m u s
@@ -740,13 +740,13 @@ mutual
   can_is env (at_receive m k q h) (of_receive s) = refl
   can_is env (at_turn t) (in_members s) = turn_can_is env t s
   can_is env (at_side m t b h) (of_branch s) = branch_can_is env (asks m) b h.asked s
-  can_is env (at_side {members = members} m t b h) (joint k) = ap (λ (f : ℕ → Bool). fires
+  can_is env (at_side {members = members} m t b h) (joint k) = ap (λ (f : ℕ → Bool). one_rule_fires
       (tree_rule (member_count members) f (cell_bit (joint_count (member_count members)) t) k)) (ends_are b)
   can_is env (at_body a) of_loop = refl
   can_is env (at_body {m = m} a) ask = ap (λ d. if asks m then d else not d) (answer_is a)
   can_is env (at_body a) (in_body s) = can_is env a s
   can_is {m = m} env (at_choice {choices = choices} x) (of_core s) =
-      ap (λ v. fires (core_rule (asks m) v (heads choices (choice_cells x).guards) (choice_answers choices (choice_cells x).branches) (choice_cells x) s))
+      ap (λ v. one_rule_fires (core_rule (asks m) v (heads choices (choice_cells x).guards) (choice_answers choices (choice_cells x).branches) (choice_cells x) s))
       (sym (no_leave x)) ∙ choice_own_is x s
   can_is env (at_choice x) (of_guard s) = choice_guard_is env x s
   can_is env (at_choice x) (of_choice s) = choice_inner_is env x s
@@ -761,32 +761,32 @@ mutual
       closing_can_is (choice_count choices) (low_guards choices) (heads choices (low_guards choices)) (low_choices choices) (low_neutral choices) c s
 
   pub choice_inner_is : {again : Bool} {choices : Choices} {m : Mode} (env : Seen) (x : ChoiceAt again choices m) (s : ChoiceSpot choices)
-      → fires (choice_rule choices env (choice_cells x).started (choice_cells x).branches s) ≡ choice_inner env x s
+      → one_rule_fires (choice_rule choices env (choice_cells x).started (choice_cells x).branches s) ≡ choice_inner env x s
   choice_inner_is {choices = choices} env (control_at c) s = low_choice_quiet choices env s
   choice_inner_is env (inside_at a w) s = chosen_can_is env a s
 
   pub chosen_can_is : {choices : Choices} {k : Mode} (env : Seen) (a : ChosenAt choices k) (s : ChoiceSpot choices)
-      → fires (choice_rule choices env (hot (chosen_index a) (asks k)) (chosen_cells a) s) ≡ chosen_moves env a s
+      → one_rule_fires (choice_rule choices env (hot (chosen_index a) (asks k)) (chosen_cells a) s) ≡ chosen_moves env a s
   chosen_can_is env (this_one a) (this_choice s) = can_is env a s
   chosen_can_is env (this_one {more = more} a) (other_choice s) = low_choice_quiet more env s
   chosen_can_is env (another {p = p} a) (this_choice s) = low_quiet p env s
   chosen_can_is env (another a) (other_choice s) = chosen_can_is env a s
 
   pub branch_can_is : {members : Processes} {ks : List Mode} (env : Seen) (r : Bool) (b : BranchesAt members ks) → all_ask r ks ≡ true
-      → (s : BranchSpot members) → fires (branch_rule members env r (branch_cells b) s) ≡ branch_moves env b s
+      → (s : BranchSpot members) → one_rule_fires (branch_rule members env r (branch_cells b) s) ≡ branch_moves env b s
   branch_can_is env r no_more h s = refl
-  branch_can_is env r (and_at {p = p} {k = k} g b) h (in_this s) = ap (λ x. fires (guarded_rule p env x (guarded_cells g) s))
+  branch_can_is env r (and_at {p = p} {k = k} g b) h (in_this s) = ap (λ x. one_rule_fires (guarded_rule p env x (guarded_cells g) s))
       (sym (same_value (asks k) r (fst_true _ _ h))) ∙ guarded_can_is env g s
   branch_can_is env r (and_at g b) h (in_others s) = branch_can_is env r b (snd_true _ _ h) s
 
   pub turn_can_is : {members : Processes} {m : Mode} (env : Seen) (t : TurnAt members m) (s : TurnSpot members)
-      → fires (turn_rule members env (asks m) (turn_cells t) s) ≡ turn_moves env t s
+      → one_rule_fires (turn_rule members env (asks m) (turn_cells t) s) ≡ turn_moves env t s
   turn_can_is {members = members} env turn_rests s = low_turn_quiet members env s
   turn_can_is env (at_last a) (in_last s) = can_is env a s
   turn_can_is env (at_member g) (in_member s) = guarded_can_is env g s
-  turn_can_is env (at_member {q = q} {more = more} g) (in_later s) = ap (λ b. fires (turn_rule (and_member q more) env b (low_turn (and_member q more)) s))
+  turn_can_is env (at_member {q = q} {more = more} g) (in_later s) = ap (λ b. one_rule_fires (turn_rule (and_member q more) env b (low_turn (and_member q more)) s))
       (next_is g) ∙ low_turn_quiet (and_member q more) env s
-  turn_can_is env (at_later {p = p} {k = k} {n = n} {m = m} g t h) (in_member s) = ap (λ b. fires (guarded_rule p env b (guarded_cells g) s))
+  turn_can_is env (at_later {p = p} {k = k} {n = n} {m = m} g t h) (in_member s) = ap (λ b. one_rule_fires (guarded_rule p env b (guarded_cells g) s))
       (sym (link_asks m k n h)) ∙ guarded_can_is env g s
   turn_can_is env (at_later {q = q} {more = more} {k = k} {n = n} {m = m} g t h) (in_later s) = ap
-      (λ b. fires (turn_rule (and_member q more) env b (turn_cells t) s)) (next_is g ∙ link_next m k n h) ∙ turn_can_is env t s
+      (λ b. one_rule_fires (turn_rule (and_member q more) env b (turn_cells t) s)) (next_is g ∙ link_next m k n h) ∙ turn_can_is env t s

@@ -5,7 +5,7 @@ use Rattle.chp_base.specs.declared.span.Span.{Span}
 use Rattle.width_check.specs.Processes.{Formula, Process, assigning, sending, receiving, side_by_side, Processes, and_member, member_count, TypedProgram, choosing, Choices, choice_count, no_members}
 use Rattle.chp_meaning.specs.Terms.{Term, Terms, and_branch, is_finished, all_finished, together, finished, active, in_sequence, in_parallel, followed, Place, here as at_here, in_first, in_branch, statement_at, branch_at}
 use Rattle.circuit_places.specs.Lines.{Line, of_channel, of_var, same_line, line_width, Rails, Seen}
-use Rattle.circuit_places.specs.Circuit.{Pairs, gate_count, SiteSpot, PortSpot, heard, stored, taking, Bits, cell_bit, joint_count, same_bit, GuardedSpot, Spot, TurnSpot, BranchSpot, child, latch, next, inner, of_skip, done, gate, of_assign, of_send, of_receive, in_members, of_branch, joint, in_this, in_others, ask, in_body, in_last, in_member, in_later, fires, GuardCells, low_guards, GuardSpot, ChoiceSpot, this_choice, other_choice, of_core, of_guard, of_choice, of_round, heads, guards_rule, guards_good}
+use Rattle.circuit_places.specs.Circuit.{Pairs, gate_count, SiteSpot, PortSpot, heard, stored, taking, Bits, cell_bit, joint_count, same_bit, GuardedSpot, Spot, TurnSpot, BranchSpot, child, latch, next, inner, of_skip, done, gate, of_assign, of_send, of_receive, in_members, of_branch, joint, in_this, in_others, ask, in_body, in_last, in_member, in_later, one_rule_fires, GuardCells, low_guards, GuardSpot, ChoiceSpot, this_choice, other_choice, of_core, of_guard, of_choice, of_round, heads, guards_rule, guards_good}
 use Rattle.width_check.specs.Typing.{var_width}
 use Rattle.function_blocks.specs.Waves.{out_rail}
 use Rattle.circuit_places.specs.Whole.{is_merged, value_on}
@@ -449,7 +449,7 @@ control_rest : (P : TypedProgram) {m : Mode} (env : Seen) (clean : Clean P env) 
     → GuardsMeet P choices → (c : Control again (choice_count choices) (GuardCells choices) (heads choices) m)
     → guards_good choices env.bit (control_ask c) (control_guards (low_guards choices) c) ≡ true
     → ((s : OwnSpot (choice_count choices)) → control_moves c s ≡ false)
-    → ((s : GuardSpot choices) → fires (guards_rule choices env.bit (control_ask c) (control_guards (low_guards choices) c) s) ≡ false)
+    → ((s : GuardSpot choices) → one_rule_fires (guards_rule choices env.bit (control_ask c) (control_guards (low_guards choices) c) s) ≡ false)
     → (again ≡ true → (t : RoundSpot) → turning_moves c t ≡ false) → Rest P m (control_left again choices c) env (guards_shown (control_ask c) choices)
 control_rest P {m = m} env clean valid again choices some laws c f s q t =
     by_core c (core_rest (guards_of P env.bit clean.single choices laws) (choice_branches P env clean choices)

@@ -4,7 +4,7 @@ use Rattle.std.specs.Prelude.{not, ◌&&◌, ◌||◌}
 use Rattle.std.specs.List.{list_any, list_all}
 use Rattle.width_check.specs.Processes.{Formula, Process, skipping, assigning, sending, receiving, in_turn, side_by_side, choosing, repeating, Processes, no_members, and_member, Choices, no_choices, and_choice}
 use Rattle.circuit_places.specs.Lines.{Line, of_channel, of_var, same_line, Rails}
-use Rattle.circuit_places.specs.Circuit.{Port, low_port, rails_of_port, takers_of_port, takers, branch_takers, turn_takers, Site, low_site, rails_of_site, Pairs, low_pairs, gate_count, Cells, TurnCells, BranchCells, low, low_turn, low_branches, fires, is_apart, turns, out_rail, site_rails, turn_rails, branch_rails, ChoiceCells, low_choices, choice_rails, choice_takers}
+use Rattle.circuit_places.specs.Circuit.{Port, low_port, rails_of_port, takers_of_port, takers, branch_takers, turn_takers, Site, low_site, rails_of_site, Pairs, low_pairs, gate_count, Cells, TurnCells, BranchCells, low, low_turn, low_branches, one_rule_fires, is_apart, turns, out_rail, site_rails, turn_rails, branch_rails, ChoiceCells, low_choices, choice_rails, choice_takers}
 use Rattle.circuit_places.specs.Whole.{lows_only, merged}
 use Rattle.circuit_places.proofs.RailLemmas.{low_out}
 use Rattle.circuit_places.proofs.Places.{Mode, running, acks, site_of, port_of, GuardedAt, At, TurnAt, BranchesAt, g_rests, g_in, g_past, g_back, rests, at_skip, at_assign, at_send, at_receive, at_turn, at_side, at_body, no_more, and_at, turn_rests, at_last, at_member, at_later, guarded_cells, cells, turn_cells, branch_cells, guarded_shown, shown, turn_shown, branches_shown, not_running, at_choice, at_turning, at_closing, control_at, inside_at, ChosenAt, this_one, another, chosen_cells, chosen_shown}
@@ -39,7 +39,7 @@ low_is [] h = absurd (cc h)
 low_is (true ∷ xs) h = refl
 low_is (false ∷ xs) h = all_not xs
 
-pub merged_can : (now : Bool) (xs : List Bool) → (now ≡ true → is_nil xs ≡ false) → fires (merged now xs) ≡ turns now (any xs) (not (any xs))
+pub merged_can : (now : Bool) (xs : List Bool) → (now ≡ true → is_nil xs ≡ false) → one_rule_fires (merged now xs) ≡ turns now (any xs) (not (any xs))
 merged_can true xs h = low_is xs (h refl)
 merged_can false xs h = refl
 

@@ -14,7 +14,7 @@ use Rattle.width_check.specs.declared.typed.Var.{Var}
 use Rattle.function_blocks.specs.Rails.{number_on}
 use Rattle.circuit_places.specs.Lines.{Line, of_channel, of_var, line_width, Seen, Rails}
 use Rattle.chp_meaning.specs.Terms.{Term, finished, opened}
-use Rattle.circuit_places.specs.Circuit.{low, GuardedSpot, turns, fires, site_rails, takers}
+use Rattle.circuit_places.specs.Circuit.{low, GuardedSpot, turns, one_rule_fires, site_rails, takers}
 use Rattle.circuit_places.specs.Whole.{first_bits, Wires, wires_seen, line_ack, is_heard, is_merged, bit_rule, wrote_rule, value_on, neutral_on, Node, go_node, own_node, rail_node, ack_node, bit_node, wrote_node, joint_node, wrote_turned, joint_turned, receives, answers, offers, cells_passed, passed_after, wires_after, go_after, root_after}
 use Rattle.circuit_places.proofs.RailLemmas.{fst_true, snd_true, both_true}
 use Rattle.circuit_places.proofs.Trees.{node_moves}
@@ -91,8 +91,8 @@ can P script {m = m} g w hs go_node = is_idle m
 can P script g w hs (own_node s) = guarded_moves (wires_seen P w) g s
 can P script g w hs (rail_node k i one) = sent_turns P w k i one ((guarded_shown g).offer k i one) || driven P script w hs k i one
 can P script g w hs (ack_node k) = heard_turns P w k ((guarded_shown g).take k) || answers (channel_width P.channels k) w k (completed hs k) (offer_at script k)
-can P script g w hs (bit_node x i one) = fires (bit_rule (w.rail (of_var x)) (w.bit x) i one)
-can P script g w hs (wrote_node x i) = fires (wrote_rule (w.rail (of_var x)) (w.bit x) (w.wrote x) i)
+can P script g w hs (bit_node x i one) = one_rule_fires (bit_rule (w.rail (of_var x)) (w.bit x) i one)
+can P script g w hs (wrote_node x i) = one_rule_fires (wrote_rule (w.rail (of_var x)) (w.bit x) (w.wrote x) i)
 can P script g w hs (joint_node x k) = node_moves (var_width P.vars x) (w.wrote x) (w.joint x) k
 
 -- what is left of the program

@@ -15,7 +15,7 @@ use Rattle.prs_core.specs.Parts as parts
 use Rattle.prs_core.specs.Turning.{turned_here, turned_apart, among_cases, none_among}
 use Rattle.cell_parallel.specs.Trees.{c_element, level_rules, next_level, levels_rules, tree_rules, tree_top, tree_owned}
 use Rattle.cell_parallel.specs.TreeParts.{IsOutsideTree, AreOutside, IsTreeSettled, TreeMove, by_rule, of_leaf, Settles}
-use Rattle.circuit_places.specs.Circuit.{Bits, low_bits, cell_bit, turned_bits, joint_count, tree_value, tree_answer, tree_node, tree_rule, fires, is_apart}
+use Rattle.circuit_places.specs.Circuit.{Bits, low_bits, cell_bit, turned_bits, joint_count, tree_value, tree_answer, tree_node, tree_rule, one_rule_fires, is_apart}
 
 abbrev no_guards : NodeRules
 no_guards = record { up = []; down = [] }
@@ -72,7 +72,7 @@ all_low_value n leaf node l b k = here (nat_lt k n)
     here true = l k
     here false = b (k - n)
 
-pub joint_quiet : (n : ℕ) (leaf node : ℕ → Bool) → ((i : ℕ) → leaf i ≡ false) → ((i : ℕ) → node i ≡ false) → (k : ℕ) → fires (tree_rule n leaf node k) ≡ false
+pub joint_quiet : (n : ℕ) (leaf node : ℕ → Bool) → ((i : ℕ) → leaf i ≡ false) → ((i : ℕ) → node i ≡ false) → (k : ℕ) → one_rule_fires (tree_rule n leaf node k) ≡ false
 joint_quiet n leaf node l b k = ap (λ z. if z then guard_holds (tree_value n leaf node) (tree_node n k).down else guard_holds (tree_value n leaf node)
     (tree_node n k).up) (b k) ∙ here (node_is n k)
   where
@@ -82,7 +82,7 @@ joint_quiet n leaf node l b k = ap (λ z. if z then guard_holds (tree_value n le
     here (is_none e) = ap (λ (r : NodeRules). guard_holds (tree_value n leaf node) r.up) e
 
 -- behind the tree's nodes none moves
-pub joint_absent : (n : ℕ) (leaf node : ℕ → Bool) (k : ℕ) → joint_count n ≤ k → fires (tree_rule n leaf node k) ≡ false
+pub joint_absent : (n : ℕ) (leaf node : ℕ → Bool) (k : ℕ) → joint_count n ≤ k → one_rule_fires (tree_rule n leaf node k) ≡ false
 joint_absent n leaf node k far =
     let e : tree_node n k ≡ no_guards = get_or_past (tree_rules (range_with_len 0 n) n) k no_guards far in
     ap (λ (r : NodeRules). if node k then guard_holds (tree_value n leaf node) r.down else guard_holds (tree_value n leaf node) r.up) e ∙ here (node k)
@@ -91,7 +91,7 @@ joint_absent n leaf node k far =
     here true = refl
     here false = refl
 
-pub joint_stands : (n : ℕ) (leaf node : ℕ → Bool) (k : ℕ) → fires (tree_rule n leaf node k) ≡ true → k < joint_count n
+pub joint_stands : (n : ℕ) (leaf node : ℕ → Bool) (k : ℕ) → one_rule_fires (tree_rule n leaf node k) ≡ true → k < joint_count n
 joint_stands n leaf node k f = by (cases_lt k (joint_count n))
   where
     by : (k < joint_count n) ⊎ (joint_count n ≤ k) → k < joint_count n
@@ -205,7 +205,7 @@ pub record Settling (n : ℕ) (leaf : ℕ → Bool) (node : ℕ → Bool) : Type
   pub is : IsTreeSettled (range_with_len 0 n) n (tree_value n leaf node)
 
 abbrev pub node_moves : (n : ℕ) → (leaf node : ℕ → Bool) → ℕ → Bool
-node_moves n leaf node k = fires (tree_rule n leaf node k)
+node_moves n leaf node k = one_rule_fires (tree_rule n leaf node k)
 
 pub joint_below : (n : ℕ) (leaf : ℕ → Bool) (node : ℕ → Bool) (k : ℕ) → node_moves n leaf node k ≡ true → k < joint_count n
 joint_below n leaf node k f = joint_stands n leaf node k f

@@ -14,7 +14,7 @@ use Rattle.width_check.specs.Processes.{Process, TypedProgram}
 use Rattle.width_check.specs.Typing.{kind_at, channel_width, var_width}
 pub use Rattle.function_blocks.specs.Rails.{value_on, neutral_on}
 use Rattle.circuit_places.specs.Lines.{Line, of_channel, of_var, same_line, line_width, Rails, Seen}
-use Rattle.circuit_places.specs.Circuit.{QElementCells, Cells, low_guarded, low, joint_count, tree_answer, tree_rule, GuardedSpot, guarded_stands, Rule, rule_of, no_rule, fires, same_bit, guarded_rule, rails_turned, turned_guarded, site_rails, takers}
+use Rattle.circuit_places.specs.Circuit.{QElementCells, Cells, low_guarded, low, joint_count, tree_answer, tree_rule, GuardedSpot, guarded_stands, Rule, rule_of, no_rule, one_rule_fires, same_bit, guarded_rule, rails_turned, turned_guarded, site_rails, takers}
 
 -- What stands apart from the statements: each channel's acknowledge, the rails of each line, and of each variable the
 -- rails of its bits, the nodes that say that a bit is written, and the tree over these.
@@ -153,7 +153,7 @@ env_moves P script x _ = false
 
 -- a move of the node is enabled, by a rule or by the environment
 abbrev pub enabled : (P : TypedProgram) → List OfferValue → Whole P.body → Node P.body → Bool
-enabled P script x n = fires (rule_in P x n) || env_moves P script x n
+enabled P script x n = one_rule_fires (rule_in P x n) || env_moves P script x n
 
 abbrev pub ack_turned : Wires → ℕ → Wires
 ack_turned w k = record w { ack = λ c. if c == k then not (w.ack k) else w.ack c }

@@ -24,7 +24,7 @@ use Rattle.net_compose.proofs.FlatBlocks.{Part, a_bit, a_put, a_mark, a_joint, o
 use Rattle.handshake_expand.specs.Layout.{block_size, var_from, wires_before, channel_from, blocks_before, root_request, root_latch, body_from, nodes_of, go_node as go_number}
 use Rattle.cell_sequence.specs.Sequence.{q_child, q_latch, q_next}
 use Rattle.chp_meaning.specs.Halves.{ReadsNoTarget}
-use Rattle.circuit_places.specs.Circuit.{joint_count, tree_rule, answer, GuardedSpot, child, latch, next, inner, Rule, no_rule, fires, is_apart, same_bit, guarded_rule, rule, site_rails, rails_turned, takers}
+use Rattle.circuit_places.specs.Circuit.{joint_count, tree_rule, answer, GuardedSpot, child, latch, next, inner, Rule, no_rule, one_rule_fires, is_apart, same_bit, guarded_rule, rule, site_rails, rails_turned, takers}
 use Rattle.circuit_places.specs.Whole.{Wires, line_ack, bit_rule, wrote_rule, bit_turned, wrote_turned, joint_turned, ack_turned, wires_seen, is_sent, is_heard, rail_turned, Whole, Node, go_node, own_node, rail_node, ack_node, bit_node, wrote_node, joint_node, merged, lows_only, rule_in, answers, offers, brings, number_rail, env_moves, enabled, cells_moved, cells_passed, value_on, neutral_on}
 use Rattle.handshake_expand.specs.Sites.{in_body}
 use Rattle.net_compose.specs.Translation.{translation, all_rules, channels_rules, vars_rules, rules_of, write_site, bits_at, written_at, send_site, receive_site, rails_at, ack_at, wires_from, body_answer}
@@ -457,7 +457,7 @@ module _ (P : TypedProgram) (given : Given P) where
                 ∙ ap (λ b. number_rail (channel_width P.channels k) value i one && (not (x.wires.rail (of_channel k) i true) && not b))
                 (s.rail k i false hk hi))
 
-    rule_fires : (n : ℕ) (r : Rule) → Tells (high st.values) n r → rule_enabled (translation P) (high st.values) n ≡ fires r
+    rule_fires : (n : ℕ) (r : Rule) → Tells (high st.values) n r → rule_enabled (translation P) (high st.values) n ≡ one_rule_fires r
     rule_fires n r t =
         ap (λ b. if b then guard_holds (high st.values) (down_of (translation P) n) else guard_holds (high st.values) (up_of (translation P) n)) t.now
         ∙ (ap (λ b. if r.now then b else guard_holds (high st.values) (up_of (translation P) n)) t.down ∙ ap (λ b. if r.now then r.down else b) t.up)
@@ -488,7 +488,7 @@ module _ (P : TypedProgram) (given : Given P) where
     enabled_is script n f =
         ap (λ b. b || env_enabled (translation P) script (completed st.histories) (high st.values) (number_of n))
         (rule_fires (number_of n) (rule_in P x n) (node_tells n f))
-        ∙ ap (λ b. fires (rule_in P x n) || b) (env_is script n f)
+        ∙ ap (λ b. one_rule_fires (rule_in P x n) || b) (env_is script n f)
 
     -- its guards hold as those of the cells do
     pub apart_is : (n : Node P.body) → Fine n → is_apart (rule_in P x n) ≡ true → both_ways (translation P) (high st.values) (number_of n) ≡ false

@@ -1,0 +1,9 @@
+pub mod Rerouting
+pub mod Holding
+pub mod Beside
+pub mod Filling
+pub mod Following
+pub mod Sharing
+pub mod Passing
+pub mod Lagging
+pub mod LagSteps

@@ -1,0 +1,4 @@
+//! One-place buffers on the channels inside of a program.
+#![tactic(auto)]
+
+pub mod laws;
