@@ -1,29 +1,24 @@
 -- A program beside the same program with a buffer on one of its channels: each step of the one is up to three of the other.
-use Rattle.std.proofs.Common.{◌≡◌, ◌≢◌, ◌⊎◌, ℕ, zero, suc, ◌+◌, ◌-◌, ◌*◌, ◌/◌, ◌%◌, ◌^◌, ◌<◌, ◌≤◌, Bool, true, false, List, [], ◌∷◌, ◌++◌, map, length, refl, sym, ap, ◌∙◌, subst, inl, inr, arith}
+use Rattle.std.proofs.Common.{◌≡◌, ◌≢◌, ◌⊎◌, ℕ, zero, suc, ◌+◌, ◌-◌, ◌/◌, ◌%◌, ◌^◌, ◌<◌, ◌≤◌, Bool, true, false, List, [], ◌∷◌, ◌++◌, map, length, refl, sym, ap, ◌∙◌, subst, inl, inr, arith}
 use Rattle.std.specs.Prelude.{if◌then◌else◌, ◌==◌, slice_index, slice_set, Some}
 use Rattle.std.proofs.Math.ListN.{get_or-append}
 use Rattle.std.proofs.Math.Nat.{div-one, mod-eq_of_lt}
-use Rattle.std.proofs.Math.Seq.{get_or-append_seam, set-append_seam}
-use Rattle.std.proofs.lemmas.List.{set-append_left, length-set, get_or-set_other, get_or-set_same}
-use Rattle.std.proofs.lemmas.Bool.{cases_eq}
+use Rattle.std.proofs.lemmas.List.{set-append_left, get_or-set_other}
 use Rattle.std.proofs.lemmas.Bool.Decides.{eqb_tells}
 use Rattle.chp_base.specs.declared.span.Span.{Span}
 use Rattle.chp_base.specs.declared.channel.Channel.{Channel}
-use Rattle.env_script.specs.declared.script.Count.{Count}
-use Rattle.env_script.specs.Scripts.{OfferValue, gives, takes, nothing, offer_at, is_over}
+use Rattle.env_script.specs.Scripts.{OfferValue, nothing, offer_at}
 use Rattle.env_script.specs.Runs.{history_at}
 use Rattle.width_check.specs.declared.typed.Var.{Var}
-use Rattle.width_check.specs.Processes.{Formula, constant, reading, joined, inverted, chained, compared, Formulas, no_parts, and_part, Operations, no_operations, and_operation, Process, skipping, assigning, sending, receiving, in_turn, choosing, repeating, no_members, and_member, Choices, no_choices, and_choice}
+use Rattle.width_check.specs.Processes.{Formula, constant, reading, joined, inverted, chained, compared, Formulas, no_parts, and_part, Operations, no_operations, and_operation, Process, sending, receiving, Choices, no_choices, and_choice}
 use Rattle.width_check.specs.Values.{width_of, value, joined_value, chained_value, operated}
 use Rattle.width_check.specs.Typing.{channel_width, ReadsFrom, EachReadsFrom, AllReadFrom, IsOfWidth, IsSend, IsReceive, IsProcess}
 use Rattle.width_check.proofs.Bounds.{value_fits, width_some}
-use Rattle.chp_meaning.specs.Terms.{Term, Terms, finished, active, in_sequence, in_parallel, no_branches, and_branch, is_finished, opened, followed, Place, here, in_first, in_branch, statement_at, with_left}
-use Rattle.chp_meaning.specs.Steps.{Configuration, value_in, open_branches, one_fewer, leaving, storing, passing, offering, Step, a_skip, an_assignment, a_selection, a_turn, an_end, a_repetition, a_communication, a_delivery, an_arrival, Leads, no_step, one_step}
-use Rattle.chp_meaning.proofs.Places.{still}
-use Rattle.chp_meaning.proofs.Meeting.{lead_on}
-use Rattle.slack_buffer.specs.Buffers.{nowhere, rerouted, rerouted_choices, passing_on}
-use Rattle.slack_buffer.proofs.Rerouting.{rerouted_term, opened_same, followed_same, at_same, with_same, together_open}
-use Rattle.slack_buffer.proofs.Holding.{HoldsIn, HoldsChoices, opened_holds, followed_holds, left_holds, at_holds, one_holds}
+use Rattle.chp_meaning.specs.Terms.{Term, finished, active, in_parallel, no_branches, and_branch, is_finished, Place, in_branch, statement_at, with_left}
+use Rattle.chp_meaning.specs.Steps.{Configuration, value_in, open_branches, leaving, storing, passing, offering, Step, a_communication, Leads, no_step, one_step}
+use Rattle.slack_buffer.specs.Buffers.{rerouted, rerouted_choices, passing_on}
+use Rattle.slack_buffer.proofs.Rerouting.{rerouted_term, at_same, with_same, together_open}
+use Rattle.slack_buffer.proofs.Holding.{HoldsIn, HoldsChoices, at_holds}
 
 -- two statements side by side
 abbrev pub pair : Term → Term → List ℕ → List OfferValue → List (List ℕ) → Configuration

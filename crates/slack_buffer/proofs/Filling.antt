@@ -1,6 +1,6 @@
 -- A communication on the channel: the buffer begins a turn, takes the value, and gives it on.
-use Rattle.std.proofs.Common.{◌≡◌, ◌≢◌, ℕ, zero, suc, ◌+◌, ◌-◌, ◌/◌, ◌%◌, ◌^◌, ◌<◌, ◌≤◌, Bool, true, false, List, [], ◌∷◌, ◌++◌, length, refl, sym, ap, ◌∙◌, subst, arith}
-use Rattle.std.specs.Prelude.{if◌then◌else◌, ◌==◌, slice_index, slice_set, Some}
+use Rattle.std.proofs.Common.{◌≡◌, ◌≢◌, ℕ, zero, suc, ◌+◌, ◌-◌, ◌/◌, ◌%◌, ◌^◌, ◌<◌, List, [], ◌∷◌, ◌++◌, length, refl, sym, ap, ◌∙◌, subst, arith}
+use Rattle.std.specs.Prelude.{slice_index, slice_set, Some}
 use Rattle.std.proofs.Math.ListN.{get_or-append}
 use Rattle.std.proofs.Math.Seq.{get_or-append_seam, set-append_seam}
 use Rattle.std.proofs.lemmas.List.{set-append_left, length-set, get_or-set_same}
@@ -9,10 +9,10 @@ use Rattle.chp_base.specs.declared.channel.Channel.{Channel}
 use Rattle.env_script.specs.Scripts.{OfferValue, nothing, offer_at}
 use Rattle.env_script.specs.Runs.{history_at}
 use Rattle.width_check.specs.declared.typed.Var.{Var}
-use Rattle.width_check.specs.Processes.{Formula, reading, Process, sending, receiving, in_turn, repeating, no_members, and_member}
+use Rattle.width_check.specs.Processes.{Formula, reading, Process, sending, receiving, in_turn, no_members, and_member}
 use Rattle.width_check.specs.Typing.{channel_width, IsOfWidth, IsSend, IsReceive, IsProcess}
-use Rattle.chp_meaning.specs.Terms.{Term, finished, active, in_sequence, opened, followed, Place, here, in_first, in_branch, statement_at, with_left}
-use Rattle.chp_meaning.specs.Steps.{Configuration, value_in, leaving, storing, passing, Step, a_repetition, a_communication, Leads, no_step, one_step}
+use Rattle.chp_meaning.specs.Terms.{Term, finished, active, in_sequence, Place, here, in_first, in_branch, statement_at, with_left}
+use Rattle.chp_meaning.specs.Steps.{Configuration, value_in, leaving, storing, passing, Step, a_repetition, a_communication, no_step, one_step}
 use Rattle.chp_meaning.proofs.Places.{still}
 use Rattle.slack_buffer.specs.Buffers.{nowhere, passing_on}
 use Rattle.slack_buffer.proofs.Rerouting.{rerouted_term, at_same, with_same}

@@ -1,6 +1,6 @@
 -- Each run of a program is gone along with by a run of the program with a buffer, of up to three times as many steps.
-use Rattle.std.proofs.Common.{◌≡◌, ◌≢◌, ◌⊎◌, ℕ, zero, suc, ◌+◌, ◌*◌, ◌<◌, ◌≤◌, Bool, true, false, List, [], ◌∷◌, ◌++◌, map, length, refl, sym, ap, ◌∙◌, subst, inl, inr, arith}
-use Rattle.std.specs.Prelude.{slice_set, Some}
+use Rattle.std.proofs.Common.{◌≡◌, ◌≢◌, ◌⊎◌, ℕ, zero, ◌+◌, ◌*◌, ◌<◌, ◌≤◌, Bool, true, false, List, [], ◌∷◌, ◌++◌, map, length, refl, sym, ap, ◌∙◌, subst, inl, inr, arith}
+use Rattle.std.specs.Prelude.{Some}
 use Rattle.std.proofs.lemmas.List.{length-set, get_or-set_other}
 use Rattle.std.proofs.lemmas.Bool.{cases_eq}
 use Rattle.chp_base.specs.declared.span.Span.{Span}
@@ -10,13 +10,13 @@ use Rattle.env_script.specs.Scripts.{OfferValue, gives, takes, nothing, offer_at
 use Rattle.env_script.specs.Runs.{history_at}
 use Rattle.width_check.specs.declared.typed.Var.{Var}
 use Rattle.width_check.specs.Processes.{Formula, Process, skipping, assigning, sending, receiving, choosing, repeating, no_members, and_member, Choices}
-use Rattle.width_check.specs.Typing.{var_width, IsOfWidth, IsSend, IsReceive, IsProcess}
-use Rattle.chp_meaning.specs.Terms.{Term, finished, opened, followed, Place, in_branch, statement_at, with_left}
+use Rattle.width_check.specs.Typing.{IsOfWidth, IsSend, IsReceive, IsProcess}
+use Rattle.chp_meaning.specs.Terms.{Term, finished, opened, followed, Place, in_branch, statement_at}
 use Rattle.chp_meaning.specs.Steps.{Configuration, value_in, open_branches, one_fewer, leaving, storing, passing, offering, Step, a_skip, an_assignment, a_selection, a_turn, an_end, a_repetition, a_communication, a_delivery, an_arrival, Leads, no_step, one_step}
 use Rattle.chp_meaning.proofs.Meeting.{lead_on}
 use Rattle.slack_buffer.specs.Buffers.{rerouted, rerouted_choices}
-use Rattle.slack_buffer.proofs.Rerouting.{rerouted_term, opened_same, followed_same, at_same}
-use Rattle.slack_buffer.proofs.Holding.{HoldsIn, HoldsChoices, opened_holds, followed_holds, left_holds, at_holds, one_holds}
+use Rattle.slack_buffer.proofs.Rerouting.{opened_same, followed_same, at_same}
+use Rattle.slack_buffer.proofs.Holding.{HoldsChoices, opened_holds, followed_holds, left_holds, at_holds, one_holds}
 use Rattle.slack_buffer.proofs.Beside.{Made, IsOn, beside, Ahead, value_more, kept_channel, left_beside, stored_beside, offered_beside, passed_beside, offer_beside, open_beside, at_once, left_at_once, elsewhere}
 use Rattle.slack_buffer.proofs.Filling.{through}
 

@@ -50,7 +50,7 @@ mutual
   opened_holds A G (receiving k at x x_at) h = h
   opened_holds A G (in_turn members) h = turn_holds A G members h
   opened_holds A G (side_by_side members) h = together_holds A G (opened_each members) (each_holds A G members h)
-  opened_holds A G (choosing again choices) h = h
+  opened_holds A G (choosing again _) h = h
   opened_holds A G (repeating p) h = h
 
   turn_holds : (A : Process → Type 0) (G : Formula → Type 0) (members : Processes) → HoldsEach A G members → HoldsIn A G (opened_turn members)

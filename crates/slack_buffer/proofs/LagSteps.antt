@@ -1,21 +1,19 @@
 -- Each step of a program with a buffer leaves the buffer behind by one value at most.
-use Rattle.std.proofs.Common.{◌≡◌, ◌≢◌, ◌⊎◌, ℕ, zero, suc, ◌+◌, ◌-◌, ◌/◌, ◌%◌, ◌^◌, ◌<◌, ◌≤◌, Bool, true, false, List, [], ◌∷◌, ◌++◌, map, length, refl, sym, ap, ◌∙◌, subst, inl, inr, arith}
+use Rattle.std.proofs.Common.{◌≡◌, ◌≢◌, ℕ, zero, suc, ◌-◌, ◌^◌, ◌<◌, ◌≤◌, true, false, List, [], ◌∷◌, ◌++◌, map, length, refl, sym, ap, ◌∙◌, subst, inl, inr, arith}
 use Rattle.std.specs.Prelude.{slice_index, slice_set, replicate, Some}
 use Rattle.std.proofs.lemmas.List.{length-set, length-map, length-append, length-replicate, get_or-set_other, get_or-set_same}
 use Rattle.chp_base.specs.declared.span.Span.{Span}
 use Rattle.chp_base.specs.declared.channel.Channel.{Channel}
-use Rattle.chp_base.specs.declared.channel.Kind.{Kind}
 use Rattle.chp_base.specs.declared.channel.Kind.TheVariants.{Chan}
 use Rattle.env_script.specs.declared.script.Count.{Count}
-use Rattle.env_script.specs.Scripts.{OfferValue, gives, takes, nothing, offer_at, is_over, IsScript}
+use Rattle.env_script.specs.Scripts.{OfferValue, gives, takes, nothing, offer_at, IsScript}
 use Rattle.env_script.specs.Runs.{history_at}
 use Rattle.width_check.specs.declared.typed.Var.{Var}
-use Rattle.width_check.specs.Processes.{Formula, reading, Process, skipping, assigning, sending, receiving, in_turn, choosing, repeating, no_members, and_member, Choices, TypedProgram}
-use Rattle.width_check.specs.Values.{value, width_of}
+use Rattle.width_check.specs.Processes.{Formula, reading, Process, skipping, assigning, sending, receiving, in_turn, choosing, repeating, no_members, and_member, TypedProgram}
 use Rattle.width_check.specs.Typing.{kind_at, channel_width, IsProcess}
 use Rattle.width_check.proofs.Bounds.{value_fits, width_some}
-use Rattle.chp_meaning.specs.Terms.{Term, Terms, finished, active, in_parallel, no_branches, and_branch, is_finished, opened, followed, Place, here, in_branch, statement_at, with_left}
-use Rattle.chp_meaning.specs.Steps.{Configuration, value_in, open_branches, one_fewer, leaving, storing, passing, offering, Step, a_skip, an_assignment, a_selection, a_turn, an_end, a_repetition, a_communication, a_delivery, an_arrival, Leads, no_step, one_step, start_of}
+use Rattle.chp_meaning.specs.Terms.{Term, finished, active, in_parallel, no_branches, and_branch, is_finished, opened, followed, Place, in_branch, statement_at, with_left}
+use Rattle.chp_meaning.specs.Steps.{Configuration, value_in, one_fewer, leaving, storing, passing, offering, Step, a_skip, an_assignment, a_selection, a_turn, an_end, a_repetition, a_communication, a_delivery, an_arrival, Leads, no_step, one_step, start_of}
 use Rattle.slack_buffer.specs.Buffers.{nowhere, copy_name, slot_name, rerouted, passing_on, buffered, LagsByOne}
 use Rattle.slack_buffer.proofs.Rerouting.{together_open}
 use Rattle.slack_buffer.proofs.Holding.{HoldsChoices, opened_holds, followed_holds, left_holds, at_holds, one_holds}

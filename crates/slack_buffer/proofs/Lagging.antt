@@ -1,25 +1,18 @@
 -- The buffer is behind by one value at most: an invariant of the program with a buffer.
-use Rattle.std.proofs.Common.{◌≡◌, ◌≢◌, ◌⊎◌, ℕ, zero, suc, ◌+◌, ◌-◌, ◌/◌, ◌%◌, ◌^◌, ◌<◌, ◌≤◌, Bool, true, false, List, [], ◌∷◌, ◌++◌, length, refl, sym, ap, ◌∙◌, subst, inl, inr, arith}
-use Rattle.std.specs.Prelude.{if◌then◌else◌, ◌==◌, slice_index, slice_set, Some}
-use Rattle.std.proofs.lemmas.List.{length-set, get_or-set_other, get_or-set_same}
-use Rattle.std.proofs.lemmas.Bool.{cases_eq}
+use Rattle.std.proofs.Common.{◌≡◌, ◌≢◌, ◌⊎◌, ℕ, zero, suc, ◌^◌, ◌<◌, ◌≤◌, true, false, List, [], ◌∷◌, ◌++◌, length, refl, sym, ap, ◌∙◌, inl, inr, arith}
+use Rattle.std.specs.Prelude.{if◌then◌else◌, ◌==◌, slice_index, Some}
 use Rattle.std.proofs.lemmas.Bool.Decides.{eqb_tells}
-use Rattle.chp_base.specs.declared.span.Span.{Span}
 use Rattle.chp_base.specs.declared.channel.Channel.{Channel}
-use Rattle.env_script.specs.declared.script.Count.{Count}
-use Rattle.env_script.specs.Scripts.{OfferValue, gives, takes, nothing, offer_at, is_over}
+use Rattle.env_script.specs.Scripts.{nothing, offer_at}
 use Rattle.env_script.specs.Runs.{history_at}
 use Rattle.width_check.specs.declared.typed.Var.{Var}
-use Rattle.width_check.specs.Processes.{Formula, reading, Process, skipping, assigning, sending, receiving, in_turn, side_by_side, choosing, repeating, Processes, no_members, and_member, Choices, no_choices, and_choice}
-use Rattle.width_check.specs.Values.{value, width_of, IsWellFormed}
-use Rattle.width_check.specs.Typing.{channel_width, IsOfWidth, IsProcess, AreProcesses, AreChoices}
-use Rattle.width_check.proofs.Bounds.{value_fits, width_some}
-use Rattle.chp_meaning.specs.Terms.{Term, Terms, finished, active, in_sequence, in_parallel, no_branches, and_branch, is_finished, together, opened, followed, Place, here, in_first, in_branch, statement_at, with_left}
-use Rattle.chp_meaning.specs.Steps.{Configuration, value_in, open_branches, one_fewer, leaving, storing, passing, offering, Step, a_skip, an_assignment, a_selection, a_turn, an_end, a_repetition, a_communication, a_delivery, an_arrival, Leads, no_step, one_step}
-use Rattle.slack_buffer.specs.Buffers.{nowhere, rerouted, rerouted_each, rerouted_choices, passing_on, IsOrLacksLast}
-use Rattle.slack_buffer.proofs.Rerouting.{together_open}
-use Rattle.slack_buffer.proofs.Holding.{Holds, HoldsEach, HoldsChoices, HoldsIn, opened_holds, followed_holds, left_holds, at_holds, one_holds}
-use Rattle.slack_buffer.proofs.Beside.{whole_value, kept_channel, put_channel}
+use Rattle.width_check.specs.Processes.{Formula, Process, skipping, assigning, sending, receiving, in_turn, side_by_side, choosing, repeating, Processes, no_members, and_member, Choices, no_choices, and_choice}
+use Rattle.width_check.specs.Values.{width_of, IsWellFormed}
+use Rattle.width_check.specs.Typing.{channel_width, IsProcess, AreProcesses, AreChoices}
+use Rattle.chp_meaning.specs.Terms.{Term, active, in_parallel, no_branches, and_branch, is_finished, Place, here, in_first, in_branch, statement_at}
+use Rattle.chp_meaning.specs.Steps.{Configuration}
+use Rattle.slack_buffer.specs.Buffers.{rerouted, rerouted_each, rerouted_choices, passing_on, IsOrLacksLast}
+use Rattle.slack_buffer.proofs.Holding.{Holds, HoldsEach, HoldsChoices, HoldsIn}
 use Rattle.slack_buffer.proofs.Filling.{taking, giving, empty, full}
 
 -- What the simple statements of the program keep, where n channels and b variables are its own: the new ones are left to
@@ -29,9 +22,9 @@ Leaves x w n b skipping = Unit {0}
 Leaves x w n b (assigning y at e) = y < b
 Leaves x w n b (sending k at e) = (k < n) × (k ≡ x → (IsWellFormed e × (width_of e ≡ w)))
 Leaves x w n b (receiving k at y y_at) = (k ≢ x) × (y < b)
-Leaves x w n b (in_turn members) = Unit {0}
-Leaves x w n b (side_by_side members) = Unit {0}
-Leaves x w n b (choosing again choices) = Unit {0}
+Leaves x w n b (in_turn _) = Unit {0}
+Leaves x w n b (side_by_side _) = Unit {0}
+Leaves x w n b (choosing again _) = Unit {0}
 Leaves x w n b (repeating p) = Unit {0}
 
 abbrev pub AnyGuard : Formula → Type 0
@@ -136,9 +129,9 @@ kind_of skipping = 0
 kind_of (assigning y at e) = 1
 kind_of (sending k at e) = 2
 kind_of (receiving k at y y_at) = 3
-kind_of (in_turn members) = 4
-kind_of (side_by_side members) = 5
-kind_of (choosing again choices) = 6
+kind_of (in_turn _) = 4
+kind_of (side_by_side _) = 5
+kind_of (choosing again _) = 6
 kind_of (repeating p) = 7
 
 -- it begins a turn, receives, or sends

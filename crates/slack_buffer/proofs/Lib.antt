@@ -7,3 +7,13 @@ pub mod Sharing
 pub mod Passing
 pub mod Lagging
 pub mod LagSteps
+pub mod Longer
+pub mod Copies
+pub mod FreeNames
+pub mod Declaring
+pub mod Forms
+pub mod Typing
+pub mod Accepting
+pub mod Whole
+pub mod Making
+pub mod InnerChannels

@@ -1,5 +1,5 @@
 -- What a run of a program passes, the rounds of the program with a buffer pass too.
-use Rattle.std.proofs.Common.{◌≡◌, ◌≢◌, ◌⊎◌, ℕ, zero, suc, ◌+◌, ◌-◌, ◌*◌, ◌<◌, ◌≤◌, List, [], ◌∷◌, ◌++◌, map, length, refl, sym, ap, ◌∙◌, subst, inl, inr, arith}
+use Rattle.std.proofs.Common.{◌≡◌, ◌⊎◌, ℕ, zero, suc, ◌+◌, ◌-◌, ◌*◌, ◌<◌, ◌≤◌, List, [], ◌∷◌, ◌++◌, map, length, refl, sym, ap, ◌∙◌, subst, inl, inr, arith}
 use Rattle.std.specs.Prelude.{replicate}
 use Rattle.std.proofs.Math.ListN.{get_or-append, get_or-eq_default}
 use Rattle.std.proofs.Math.Seq.{get_or-append_seam}
@@ -11,15 +11,15 @@ use Rattle.chp_base.specs.declared.channel.Kind.TheVariants.{In, Out, Chan}
 use Rattle.env_script.specs.Scripts.{OfferValue, gives, takes, nothing, offer_at, Suits, IsScript}
 use Rattle.env_script.specs.Runs.{history_at}
 use Rattle.width_check.specs.declared.typed.Var.{Var}
-use Rattle.width_check.specs.Processes.{Formula, Process, skipping, assigning, sending, receiving, in_turn, side_by_side, choosing, repeating, Processes, no_members, and_member, Choices, no_choices, and_choice, TypedProgram}
+use Rattle.width_check.specs.Processes.{Process, skipping, assigning, sending, receiving, in_turn, side_by_side, choosing, repeating, Processes, no_members, and_member, Choices, no_choices, and_choice, TypedProgram}
 use Rattle.width_check.specs.Typing.{kind_at, channel_width, IsOfWidth, IsProcess, AreProcesses, AreChoices}
 use Rattle.width_check.specs.Sharing.{MeetsSharing}
-use Rattle.chp_meaning.specs.Terms.{Term, Terms, active, in_parallel, no_branches, and_branch, together, opened}
+use Rattle.chp_meaning.specs.Terms.{Term, active, no_branches, and_branch, together, opened}
 use Rattle.chp_meaning.specs.Steps.{Configuration, Leads, start_of}
 use Rattle.chp_meaning.specs.Rounds.{rounds}
 use Rattle.chp_meaning.specs.Laws.{IsBehind}
 use Rattle.chp_meaning.proofs.RoundRuns.{one_history, rounds_hold, run_behind}
-use Rattle.slack_buffer.specs.Buffers.{rerouted, passing_on, buffered, with_nothing, GoesOn, KeepsPassing}
+use Rattle.slack_buffer.specs.Buffers.{buffered, with_nothing, KeepsPassing}
 use Rattle.slack_buffer.proofs.Rerouting.{rerouted_term, opened_same, together_open}
 use Rattle.slack_buffer.proofs.Holding.{Holds, HoldsEach, HoldsChoices, opened_holds}
 use Rattle.slack_buffer.proofs.Beside.{IsOn, buffer_on, beside, pair_same}

@@ -42,7 +42,7 @@ mutual
   opened_same x n (receiving k at y y_at) = refl
   opened_same x n (in_turn members) = turn_same x n members
   opened_same x n (side_by_side members) = ap together (each_same x n members) ∙ together_same x n (opened_each members)
-  opened_same x n (choosing again choices) = refl
+  opened_same x n (choosing again _) = refl
   opened_same x n (repeating p) = refl
 
   turn_same : (x n : ℕ) (members : Processes) → opened_turn (rerouted_each x n members) ≡ rerouted_term x n (opened_turn members)

@@ -1,17 +1,17 @@
 -- A program with a buffer meets the sharing rule.
-use Rattle.std.proofs.Common.{◌≡◌, ◌≢◌, ◌⊎◌, ℕ, ◌<◌, Bool, true, false, List, [], ◌∷◌, ◌++◌, length, refl, sym, ap, ◌∙◌, subst, inl, inr, arith}
+use Rattle.std.proofs.Common.{◌≡◌, ◌≢◌, ◌⊎◌, ℕ, ◌<◌, true, false, List, [], ◌∷◌, ◌++◌, length, refl, sym, ap, ◌∙◌, subst, inl, inr, arith}
 use Rattle.std.specs.Prelude.{if◌then◌else◌, ◌==◌}
 use Rattle.std.proofs.lemmas.Bool.Decides.{eqb_tells}
 use Rattle.chp_base.specs.declared.channel.Channel.{Channel}
 use Rattle.width_check.specs.declared.typed.Var.{Var}
 use Rattle.width_check.specs.Processes.{Formula, constant, reading, joined, inverted, chained, compared, Formulas, no_parts, and_part, Operations, no_operations, and_operation, Process, skipping, assigning, sending, receiving, in_turn, side_by_side, choosing, repeating, Processes, no_members, and_member, Choices, no_choices, and_choice}
-use Rattle.width_check.specs.Typing.{channel_width, ReadsFrom, EachReadsFrom, AllReadFrom, IsProcess, AreProcesses, AreChoices}
+use Rattle.width_check.specs.Typing.{ReadsFrom, EachReadsFrom, AllReadFrom, IsProcess, AreProcesses, AreChoices}
 use Rattle.width_check.specs.Sharing.{Deed, reads_var, writes_var, sends_on, receives_on, Occurrence, done_at, reads_of, reads_of_parts, reads_of_operations, occurrences, occurrences_of_each, occurrences_of_choices, MeetsSharing}
 use Rattle.chp_meaning.specs.Fitting.{In, Conflict, Apart, Sound, EachSound, EachApart, ChoicesSound}
 use Rattle.chp_meaning.proofs.Places.{in_left, in_right, in_either}
 use Rattle.chp_meaning.proofs.Fitting.{meeting_sound}
 use Rattle.chp_meaning.proofs.HalvedPrograms.{sound_meets}
-use Rattle.slack_buffer.specs.Buffers.{rerouted, rerouted_each, rerouted_choices, passing_on, buffered}
+use Rattle.slack_buffer.specs.Buffers.{rerouted, rerouted_each, rerouted_choices, passing_on}
 
 -- a deed on one of so many channels or variables
 abbrev Among : (channels vars : ℕ) → Deed → Type 0

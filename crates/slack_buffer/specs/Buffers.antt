@@ -1,11 +1,9 @@
 -- One-place buffers on channels inside of a program, and what they keep.
-use Rattle.std.specs.Prelude.{◌≡◌, ℕ, ◌-◌, ◌*◌, ◌⊎◌, Bool, ◌==◌, if◌then◌else◌, List, [], ◌∷◌, ◌++◌, length, codes, decimal}
+use Rattle.std.specs.Prelude.{◌≡◌, ℕ, ◌-◌, ◌*◌, ◌⊎◌, ◌==◌, if◌then◌else◌, List, [], ◌∷◌, ◌++◌, length, codes, decimal}
 use Rattle.chp_base.specs.declared.span.Span.{Span}
-use Rattle.chp_base.specs.declared.channel.Channel.{Channel}
 use Rattle.chp_base.specs.declared.channel.Kind.TheVariants.{Chan}
 use Rattle.env_script.specs.Scripts.{OfferValue, nothing, IsScript}
 use Rattle.env_script.specs.Runs.{history_at}
-use Rattle.width_check.specs.declared.typed.Var.{Var}
 use Rattle.width_check.specs.Processes.{reading, Process, skipping, assigning, sending, receiving, in_turn, side_by_side, choosing, repeating, Processes, no_members, and_member, Choices, no_choices, and_choice, TypedProgram}
 use Rattle.width_check.specs.Typing.{channel_width}
 use Rattle.chp_meaning.specs.Steps.{Configuration, Leads, start_of}
