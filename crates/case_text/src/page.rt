@@ -28,8 +28,8 @@ fn ended_lines(bytes: &[u8]) -> usize {
     bytes.iter().filter(|byte| **byte == b'\n').count()
 }
 
-/// Each line behind a bar. Of more than 80 lines the first and the last ones are printed, and how many there are. A last
-/// line without an end is ended by `\e`.
+/// Each line behind a bar. Of more than 80 lines the first and the last ones are printed, and how many there are. A
+/// last line without an end is ended by `\e`.
 pub fn put_lines(page: &mut String, bytes: &[u8]) -> Result<(), AllocError> {
     let count = ended_lines(bytes);
     for (number, line) in bytes.split(|byte| *byte == b'\n').enumerate() {

@@ -14,13 +14,13 @@ enough : (n m : ℕ) (ls : List ℕ) (from : ℕ) → length ls ≤ suc n → le
 enough zero zero ls from h k = refl
 enough zero (suc m) ls from h k =
     sym (ap (λ l. l ++ levels_rules m (next_level ls from) (from + length ls / 2)) (short_rules ls h)
-        ∙ sym (enough zero m (next_level ls from) (from + length ls / 2) (omega (arith, next_length ls from)) (omega (arith, next_length ls from))))
+    ∙ sym (enough zero m (next_level ls from) (from + length ls / 2) (omega (arith, next_length ls from)) (omega (arith, next_length ls from))))
 enough (suc n) zero ls from h k =
     ap (λ l. l ++ levels_rules n (next_level ls from) (from + length ls / 2)) (short_rules ls k)
-        ∙ enough n zero (next_level ls from) (from + length ls / 2) (omega (arith, next_length ls from)) (omega (arith, next_length ls from))
+    ∙ enough n zero (next_level ls from) (from + length ls / 2) (omega (arith, next_length ls from)) (omega (arith, next_length ls from))
 enough (suc n) (suc m) ls from h k =
     ap (λ l. level_rules ls ++ l) (enough n m (next_level ls from) (from + length ls / 2) (omega (arith, next_length ls from))
-        (omega (arith, next_length ls from)))
+    (omega (arith, next_length ls from)))
 
 -- a tree is its lowest level and the tree above that
 pub tree_is : (ls : List ℕ) (from : ℕ) → tree_rules ls from ≡ level_rules ls ++ tree_rules (next_level ls from) (from + length ls / 2)
@@ -80,7 +80,7 @@ grown_partly leaves from old level next now later so_far some =
     let us : List Owned = tree_owned (next_level level next) (next + length level / 2) in
     partly_on (tree_owned leaves from) old now later so_far.partly
     (partly_of os (tree_owned leaves from) now later
-        (λ o k. so_far.among o (subst (λ l. Contains l o) (sym (tree_parts level next)) (Contains-append_left os us o k))) some)
+    (λ o k. so_far.among o (subst (λ l. Contains l o) (sym (tree_parts level next)) (Contains-append_left os us o k))) some)
 
 pub grown_more : (leaves : List ℕ) (from : ℕ) (old : RulesValue) (level : List ℕ) (next : ℕ) (now : RulesValue) (above : List ℕ) (then : ℕ) (later : RulesValue)
     → Grown leaves from old level next now → from + length leaves ≤ length old.up + 1 → 1 < length level → above ≡ next_level level next →
@@ -110,7 +110,7 @@ pub grown_alone : (leaves : List ℕ) (from : ℕ) (old : RulesValue) (level : L
 grown_alone leaves from old level next now later so_far far node o =
     let us : List Owned = tree_owned (next_level level next) (next + length level / 2) in
     alone_on old now later node (so_far.others node o)
-        (far node (other_left node (owned_from next (level_rules level)) us (subst (IsOther node) (tree_parts level next) (so_far.rest node o))))
+    (far node (other_left node (owned_from next (level_rules level)) us (subst (IsOther node) (tree_parts level next) (so_far.rest node o))))
 
 pub grown_end : (leaves : List ℕ) (from : ℕ) (old : RulesValue) (level : List ℕ) (next : ℕ) (now : RulesValue) → Grown leaves from old level next now →
     length level ≤ 1 → now ≡ with_owned (tree_owned leaves from) old

@@ -145,7 +145,7 @@ down P (suc n) ls from few goes top =
     let at : ℕ = from + length ls / 2 in
     let above = levels_joins n next at in
     let rest : Down P n next at = down P n next at (few_left n ls from few) (λ j among. goes j (Contains-append_right (level_joins ls from) above j among))
-        (subst P (sym (top_same ls from)) top) in record {
+    (subst P (sym (top_same ls from)) top) in record {
       leaves = level_down P ls from (λ j among. goes j (Contains-append_left (level_joins ls from) above j among)) rest.leaves;
       nodes = λ j among. either (Contains-append_cases (level_joins ls from) above j among) (level_nodes P ls from rest.leaves j) (rest.nodes j);
     }
@@ -170,7 +170,7 @@ up P (suc n) ls from few goes each =
     let above = levels_joins n next at in
     let higher : Each P next = level_up P ls from (λ j among. goes j (Contains-append_left (level_joins ls from) above j among)) each in
     let rest : Up P n next at = up P n next at (few_left n ls from few) (λ j among. goes j (Contains-append_right (level_joins ls from) above j among)) higher
-        in record {
+    in record {
       top = λ some. subst P (top_same ls from) (rest.top (omega (arith, next_length ls from)));
       nodes = λ j among. either (Contains-append_cases (level_joins ls from) above j among) (level_nodes P ls from higher j) (rest.nodes j);
     }
@@ -189,7 +189,7 @@ inputs P (suc n) ls from each own j among =
     let above = levels_joins n next at in
     let higher : Each P next = level_up P ls from (λ k here l r. own k (Contains-append_left (level_joins ls from) above k here)) each in
     either (Contains-append_cases (level_joins ls from) above j among) (level_inputs P ls from each j)
-        (inputs P n next at higher (λ k here. own k (Contains-append_right (level_joins ls from) above k here)) j)
+    (inputs P n next at higher (λ k here. own k (Contains-append_right (level_joins ls from) above k here)) j)
   where
     either : {A B C : Type 0} → A ⊎ B → (A → C) → (B → C) → C
     either (inl a) f g = f a

@@ -43,7 +43,7 @@ joined_one nodes from old p q rest above now later so_far is =
     let this : List Owned = owned (from + length above) (c_element p q) ∷ [] in
     let others : List Owned = owned_from (from + length above + 1) (level_rules rest) in
     partly_on all old now later so_far.partly (partly_of this all now later (λ o k. so_far.among o (Contains-append_left this others o k))
-        (partly_all this now later is))
+    (partly_all this now later is))
 
 pub joined_more : (nodes : List ℕ) (from : ℕ) (old : RulesValue) (p q : ℕ) (rest above : List ℕ) (now later : RulesValue) →
     Joined nodes from old (p ∷ q ∷ rest) above now → later ≡ with_rules (from + length above) (c_element p q) now → length later.up ≡ length now.up →
@@ -66,7 +66,7 @@ joined_more nodes from old p q rest above now later so_far is same far =
       partly = joined_one nodes from old p q rest above now later so_far is;
       among = λ o k.
           so_far.among o (Contains-append_right (owned at (c_element p q) ∷ []) (owned_from (at + 1) (level_rules rest)) o
-              (subst (λ n. Contains (owned_from n (level_rules rest)) o) next k));
+          (subst (λ n. Contains (owned_from n (level_rules rest)) o) next k));
     }
 
 -- the same as the code has it: the first two of what is left, and a node number
@@ -80,7 +80,7 @@ joined_step nodes from old (p ∷ q ∷ left) rest above upper node now later so
     let whole : rest ≡ left = cut ∙ (let e : length left ≤ length (p ∷ q ∷ left) - 2 = omega arith in take_all _ left e) in
     let upper_is : upper ≡ above ++ (from + length above) ∷ [] = up ∙ ap (λ k. above ++ k ∷ []) at in
     rw (whole, upper_is) (joined_more nodes from old p q left above now later so_far (is ∙ ap (λ k. with_rules k (c_element p q) now) at) same
-        (λ other ne. far other (λ e. ne (e ∙ at))))
+    (λ other ne. far other (λ e. ne (e ∙ at))))
 
 -- also where the last node's guards are half written
 pub joined_alone : (nodes : List ℕ) (from : ℕ) (old : RulesValue) (left above : List ℕ) (node : ℕ) (now later : RulesValue) →
@@ -90,8 +90,8 @@ joined_alone nodes from old [] above node now later so_far long at far other o =
 joined_alone nodes from old (p ∷ []) above node now later so_far long at far other o = absurd (omega arith)
 joined_alone nodes from old (p ∷ q ∷ left) above node now later so_far long at far other o =
     alone_on old now later other (so_far.others other o)
-        (far other (λ e. All-head (λ (x : Owned). x.node ≢ other) (owned (from + length above) (c_element p q))
-        (owned_from (from + length above + 1) (level_rules left)) (so_far.rest other o) (sym at ∙ sym e)))
+    (far other (λ e. All-head (λ (x : Owned). x.node ≢ other) (owned (from + length above) (c_element p q))
+    (owned_from (from + length above + 1) (level_rules left)) (so_far.rest other o) (sym at ∙ sym e)))
 
 -- where memory runs out, before a C-element is written or after it
 pub joined_before : (nodes : List ℕ) (from : ℕ) (old : RulesValue) (left above : List ℕ) (now later : RulesValue) → Joined nodes from old left above now →

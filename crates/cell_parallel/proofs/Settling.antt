@@ -98,7 +98,7 @@ either_value false false = inl refl
 settled_same : (t c p q t' c' p' q' : Bool) → t' ≡ t → c' ≡ c → p' ≡ p → q' ≡ q → settled t c p q ≡ true → settled t' c' p' q' ≡ true
 settled_same t c p q t' c' p' q' et ec ep eq s =
     subst (λ x. settled x c' p' q' ≡ true) (sym et)
-        (subst (λ x. settled t x p' q' ≡ true) (sym ec) (subst (λ x. settled t c x q' ≡ true) (sym ep) (subst (λ x. settled t c p x ≡ true) (sym eq) s)))
+    (subst (λ x. settled t x p' q' ≡ true) (sym ec) (subst (λ x. settled t c x q' ≡ true) (sym ep) (subst (λ x. settled t c p x ≡ true) (sym eq) s)))
 
 settled_both : (t c p q : Bool) → c ≡ t → settled t c p q ≡ true
 settled_both t c p q e = subst (λ x. settled t x p q ≡ true) (sym e) (settled_top t p q)
@@ -201,7 +201,7 @@ module _ (leaves : List ℕ) (from : ℕ) (some : 0 < length leaves) (outside : 
           let l : v j.left ≡ not b = both.0 ∙ ap not value in
           let r : v j.right ≡ not b = both.1 ∙ ap not value in
           settled_same b (not b) (not b) (not b) (w top) (w j.node) (w j.left) (w j.right) at_top (ap w e ∙ (turned_here v node ∙ ap not from_top))
-              (unturned j.left l ∙ l) (unturned j.right r ∙ r) (settled_turned b)
+          (unturned j.left l ∙ l) (unturned j.right r ∙ r) (settled_turned b)
       by (inr ne) = rest (input j.left) (input j.right) (either_value (v j.node) b)
         where
           same : w j.node ≡ v j.node
@@ -226,7 +226,8 @@ module _ (leaves : List ℕ) (from : ℕ) (some : 0 < length leaves) (outside : 
       by (inl e) = turned_apart v top j.node (λ same. differ (v top) (ap v (sym same) ∙ e)) ∙ (e ∙ sym (turned_here v top))
       by (inr e) = ap w e
 
-  inputs_far : (node : ℕ) → IsOutsideTree leaves from node → All (λ leaf. leaf ≢ node) leaves → (j : Join) → Contains joins j → (j.left ≢ node) × (j.right ≢ node)
+  inputs_far : (node : ℕ) → IsOutsideTree leaves from node → All (λ leaf. leaf ≢ node) leaves → (j : Join) → Contains joins j →
+      (j.left ≢ node) × (j.right ≢ node)
   inputs_far node out far = inputs (λ n. n ≢ node) (length leaves) leaves from (recursion_from_All (λ leaf. leaf ≢ node) leaves far)
       (λ j among. not_own node out j among)
 
@@ -251,7 +252,7 @@ module _ (leaves : List ℕ) (from : ℕ) (some : 0 < length leaves) (outside : 
       by (by_rule o here g at) =
           let (k, there, is) = join_of leaves from o here in
           with_top (ap v (at ∙ ap (λ (x : Owned). x.node) (sym is))
-              ∙ moves_from_top (v top) (v k.node) (v k.left) (v k.right) (s k there) (subst (λ (x : Owned). fires v x ≡ true) (sym is) g))
+          ∙ moves_from_top (v top) (v k.node) (v k.left) (v k.right) (s k there) (subst (λ (x : Owned). fires v x ≡ true) (sym is) g))
       by (of_leaf out e) = with_top e
       by (elsewhere out far) = inputs_far node out far j among
 
@@ -266,20 +267,20 @@ module _ (leaves : List ℕ) (from : ℕ) (some : 0 < length leaves) (outside : 
       by k here enabled (inl e) = subst (λ n. Settled (turned v n)) (sym e) (stays_top v k s here enabled e)
       by k here enabled (inr ne) =
           stays_away v k.node s (λ e. ne (sym e)) (moves_from_top (v top) (v k.node) (v k.left) (v k.right) (s k here) enabled)
-              (λ j among e. subst (λ (x : Join). Moves v x) (sym (unique leaves from j k among here e)) enabled)
+          (λ j among e. subst (λ (x : Join). Moves v x) (sym (unique leaves from j k among here e)) enabled)
   stays v node s (of_leaf out from_top) = λ j among. stays_away v node s (not_top node out j among) from_top (λ i here e. absurd (not_own node out i here e)) j
       among
   stays v node s (elsewhere out far) = λ j among.
       let around = inputs_far node out far j among in
       settled_same (v top) (v j.node) (v j.left) (v j.right) _ _ _ _ (turned_apart v node top (not_top node out j among))
-          (turned_apart v node j.node (not_own node out j among)) (turned_apart v node j.left around.0) (turned_apart v node j.right around.1) (s j among)
+      (turned_apart v node j.node (not_own node out j among)) (turned_apart v node j.left around.0) (turned_apart v node j.right around.1) (s j among)
 
   -- an enabled C-element stays so while another node moves
   firm : (v : ℕ → Bool) (j : Join) (node : ℕ) → Settled v → Contains joins j → Moves v j → TreeMove leaves from v node → node ≢ j.node → Moves (turned v node) j
   firm v j node s among f move ne =
       let around = inputs_still v j node s among f move in
       still_moves (v j.node) (v j.left) (v j.right) _ _ _ (turned_apart v node j.node (λ e. ne (sym e))) (turned_apart v node j.left around.0)
-          (turned_apart v node j.right around.1) f
+      (turned_apart v node j.right around.1) f
 
   turns : (v : ℕ → Bool) (j : Join) → Settled v → Contains joins j → Moves v j → j.node ≡ top → All (λ leaf. v leaf ≡ not (v top)) leaves
   turns v j s among f at =
@@ -292,13 +293,13 @@ module _ (leaves : List ℕ) (from : ℕ) (some : 0 < length leaves) (outside : 
   rests : (v : ℕ → Bool) → Settled v → v top ≡ false → All (λ leaf. v leaf ≡ false) leaves → (j : Join) → Contains joins j → v j.node ≡ false
   rests v s low all =
       (up (λ n. v n ≡ false) (length leaves) leaves from (omega arith)
-          (λ j among l r. low_with_inputs (v j.node) (v j.left) (v j.right) (subst (λ b. settled b (v j.node) (v j.left) (v j.right) ≡ true) low (s j among)) l
-          r) (recursion_from_All (λ leaf. v leaf ≡ false) leaves all)).nodes
+      (λ j among l r. low_with_inputs (v j.node) (v j.left) (v j.right) (subst (λ b. settled b (v j.node) (v j.left) (v j.right) ≡ true) low (s j among)) l
+      r) (recursion_from_All (λ leaf. v leaf ≡ false) leaves all)).nodes
 
   flat : (v : ℕ → Bool) → Settled v → All (λ leaf. v leaf ≡ v top) leaves → (j : Join) → Contains joins j → v j.node ≡ v top
   flat v s all =
       (up (λ n. v n ≡ v top) (length leaves) leaves from (omega arith) (λ j among l r. with_inputs (v top) (v j.node) (v j.left) (v j.right) (s j among) l r)
-          (recursion_from_All (λ leaf. v leaf ≡ v top) leaves all)).nodes
+      (recursion_from_All (λ leaf. v leaf ≡ v top) leaves all)).nodes
 
   waits : (v : ℕ → Bool) → Settled v → ((j : Join) → Contains joins j → moves (v j.node) (v j.left) (v j.right) ≡ false) →
       (leaf : ℕ) × Contains leaves leaf × (v leaf ≡ v top)
@@ -316,11 +317,11 @@ module _ (leaves : List ℕ) (from : ℕ) (some : 0 < length leaves) (outside : 
     leaves_it = λ v o s among f.
         let (j, here, is) = join_of leaves from o among in
         subst (λ (x : Owned). v x.node ≡ v top) is
-            (moves_from_top (v top) (v j.node) (v j.left) (v j.right) (to_joins v s j here) (subst (λ (x : Owned). fires v x ≡ true) (sym is) f));
+        (moves_from_top (v top) (v j.node) (v j.left) (v j.right) (to_joins v s j here) (subst (λ (x : Owned). fires v x ≡ true) (sym is) f));
     firm = λ v o node s among f move ne.
         let (j, here, is) = join_of leaves from o among in
         subst (λ (x : Owned). fires (turned v node) x ≡ true) is (firm v j node (to_joins v s) here (subst (λ (x : Owned). fires v x ≡ true) (sym is) f) move
-            (λ e. ne (e ∙ ap (λ (x : Owned). x.node) is)));
+        (λ e. ne (e ∙ ap (λ (x : Owned). x.node) is)));
     apart = λ v o among.
         let (j, here, is) = join_of leaves from o among in
         subst (λ (x : Owned). (guard_holds v x.rules.up && guard_holds v x.rules.down) ≡ false) is (never_both (v j.left) (v j.right));

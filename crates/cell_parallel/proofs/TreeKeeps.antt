@@ -108,14 +108,15 @@ module _ (leaves : List ℕ) (from : ℕ) (some : 0 < length leaves) (outside : 
       by (inl is) =
           let all = known.turns m.value o s among f (sym at ∙ ap (λ (x : Wire). x.node) (sym is)) in
           subst (λ (x : Wire). may_move m x ≡ true) is
-              (turn (m.value top) (λ n there. All-contains (λ leaf. m.value leaf ≡ not (m.value top)) leaves n all there))
+          (turn (m.value top) (λ n there. All-contains (λ leaf. m.value leaf ≡ not (m.value top)) leaves n all there))
 
-  lows : (v : ℕ → Bool) → IsTreeSettled leaves from v → all_low v (top ∷ leaves) ≡ true → all_low v (map (λ (o : Owned). o.node) (tree_owned leaves from)) ≡ true
+  lows : (v : ℕ → Bool) → IsTreeSettled leaves from v → all_low v (top ∷ leaves) ≡ true →
+      all_low v (map (λ (o : Owned). o.node) (tree_owned leaves from)) ≡ true
   lows v s h =
       each_low v (map (λ (o : Owned). o.node) (tree_owned leaves from)) (λ n among.
       let (o, here, is) = among_mapped (λ (o : Owned). o.node) (tree_owned leaves from) n among in
       ap v (sym is) ∙ known.rests v s (low_from_not (v top) (first_true (not (v top)) (all_low v leaves) h))
-          (All-low leaves (second_true (not (v top)) (all_low v leaves) h)) o here)
+      (All-low leaves (second_true (not (v top)) (all_low v leaves) h)) o here)
     where
       each : (ns : List ℕ) → all_low v ns ≡ true → Rattle.std.specs.List.AllByRecursion (λ n. v n ≡ false) ns
       each [] h = tt

@@ -15,7 +15,7 @@ next_length [] from = refl
 next_length (p ∷ []) from = refl
 next_length (p ∷ q ∷ rest) from =
     let e : length (next_level rest (from + 1)) ≡ length rest - length rest / 2 = next_length rest (from + 1) in
-        omega arith
+    omega arith
 
 levels_length : (n : ℕ) (ls : List ℕ) (from : ℕ) → length ls ≤ suc n → length (levels_rules n ls from) ≡ length ls - 1
 levels_length zero ls from few = omega arith
@@ -23,10 +23,10 @@ levels_length (suc n) ls from few =
     let level = level_length ls in
     let next = next_length ls from in
     let all : length (levels_rules n (next_level ls from) (from + length ls / 2)) ≡ length (next_level ls from) - 1 =
-        levels_length n (next_level ls from) (from + length ls / 2) (omega (arith, next)) in
+    levels_length n (next_level ls from) (from + length ls / 2) (omega (arith, next)) in
     let parts : length (level_rules ls ++ levels_rules n (next_level ls from) (from + length ls / 2)) ≡
-        length (level_rules ls) + length (levels_rules n (next_level ls from) (from + length ls / 2)) =
-        length-append _ _ in
+    length (level_rules ls) + length (levels_rules n (next_level ls from) (from + length ls / 2)) =
+    length-append _ _ in
     omega (arith, level, next, all, parts)
 
 -- one node fewer than leaves

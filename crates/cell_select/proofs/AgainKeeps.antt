@@ -21,13 +21,13 @@ use Rattle.cell_select.proofs.Waiting.{or_rest, weaker, or_cases, some_rail, low
 abbrev pub again_up : ℕ → List Bool → List Bool → Bool
 again_up j (r ∷ a ∷ lr ∷ d ∷ e ∷ m ∷ v ∷ l ∷ s ∷ x ∷ []) (n ∷ w ∷ u ∷ k ∷ z ∷ y ∷ kz ∷ []) =
     bit_at (not a ∷ ((v && n) || false) ∷ ((r && (not d && true)) || false) ∷ not (not x) ∷ ((lr && (not m && true)) || false) ∷ not (not v && not l)
-        ∷ (z || false) ∷ (w || false) ∷ ((l && n) || false) ∷ s ∷ []) j
+    ∷ (z || false) ∷ (w || false) ∷ ((l && n) || false) ∷ s ∷ []) j
 again_up j _ _ = false
 
 abbrev pub again_down : ℕ → List Bool → List Bool → Bool
 again_down j (r ∷ a ∷ lr ∷ d ∷ e ∷ m ∷ v ∷ l ∷ s ∷ x ∷ []) q =
     bit_at (a ∷ ((not m && true) || false) ∷ ((d && true) || ((not r && true) || false)) ∷ ((not m && not x) || false) ∷ ((m && true) || false)
-        ∷ ((not v && not l) || false) ∷ ((not lr && true) || false) ∷ ((not lr && true) || false) ∷ ((not l && true) || false) ∷ not s ∷ []) j
+    ∷ ((not v && not l) || false) ∷ ((not lr && true) || false) ∷ ((not lr && true) || false) ∷ ((not l && true) || false) ∷ not s ∷ []) j
 again_down j _ _ = false
 
 -- the end is latched while no branch is under way; a branch is under way only under the request; without it all falls in order; between two
@@ -45,8 +45,8 @@ again_control _ = false
 abbrev pub again_fit : List Bool → List Bool → Bool
 again_fit (r ∷ a ∷ lr ∷ d ∷ e ∷ m ∷ v ∷ l ∷ s ∷ x ∷ []) (n ∷ w ∷ u ∷ k ∷ z ∷ y ∷ kz ∷ []) =
     consistent (n ∷ w ∷ u ∷ k ∷ z ∷ y ∷ kz ∷ [])
-        && (implies (not lr || (s || ((not e && not m) || a))) n
-        && (implies (lr && l) (if e then w else k) && (implies (lr && v) (y && (if e then z else kz)) && implies (l || (s || x)) u)))
+    && (implies (not lr || (s || ((not e && not m) || a))) n
+    && (implies (lr && l) (if e then w else k) && (implies (lr && v) (y && (if e then z else kz)) && implies (l || (s || x)) u)))
 again_fit _ _ = false
 
 abbrev pub answer_promise : List Bool → List Bool → Bool
@@ -89,13 +89,13 @@ may_wait c q = (can again_moves 0 c q || can again_moves 9 c q)
 abbrev pub waits_test : List Bool → List Bool → Bool
 waits_test c q =
     can again_moves 1 c q || (can again_moves 2 c q
-        || (can again_moves 3 c q || (can again_moves 4 c q
-        || (can again_moves 5 c q || (can again_moves 6 c q || (can again_moves 7 c q || (can again_moves 8 c q || may_wait c q)))))))
+    || (can again_moves 3 c q || (can again_moves 4 c q
+    || (can again_moves 5 c q || (can again_moves 6 c q || (can again_moves 7 c q || (can again_moves 8 c q || may_wait c q)))))))
 
 abbrev pub again_extra : List Bool → List Bool → Bool
 again_extra c q =
     implies (can again_moves 1 c q) (answer_promise c q)
-        && (implies (can again_moves 4 c q) (eval_promise c q) && (implies (can again_moves 8 c q) (start_promise c q) && (at_first c && waits_test c q)))
+    && (implies (can again_moves 4 c q) (eval_promise c q) && (implies (can again_moves 8 c q) (start_promise c q) && (at_first c && waits_test c q)))
 
 abbrev pub again_machine : Machine
 again_machine = record again_moves { extra = again_extra }
@@ -239,10 +239,16 @@ again_owns c o h =
     (λ h5. ⊎_elim (λ (same : o ≡ any_owned c). inl (in_frame c o (any_owned c) 5 (omega arith) same (any_rule c)))
     (λ h6. ⊎_elim (λ (same : o ≡ leave_owned c). inl (in_frame c o (leave_owned c) 6 (omega arith) same (leave_rule c)))
     (λ last. ⊎_elim
-    (λ (l : IsMade c.branches (latch_owned c.turn) o). inr (l.0, 7,
-        subst (λ (o : Owned). AsPlaced again_machine (again_frame c) c.branches l.0 o 7) (sym l.2) (latch_placed c l.0 l.1)))
-    (λ (s : IsMade c.branches (start_owned (guards_of c.branches)) o). inr (s.0, 8,
-        subst (λ (o : Owned). AsPlaced again_machine (again_frame c) c.branches s.0 o 8) (sym s.2) (start_placed c s.0 s.1)))
+    (λ (l : IsMade c.branches (latch_owned c.turn) o). inr (
+      l.0,
+      7,
+      subst (λ (o : Owned). AsPlaced again_machine (again_frame c) c.branches l.0 o 7) (sym l.2) (latch_placed c l.0 l.1),
+    ))
+    (λ (s : IsMade c.branches (start_owned (guards_of c.branches)) o). inr (
+      s.0,
+      8,
+      subst (λ (o : Owned). AsPlaced again_machine (again_frame c) c.branches s.0 o 8) (sym s.2) (start_placed c s.0 s.1),
+    ))
     (branch_own c.turn c.branches o last))
     (contains_cons (leave_owned c) (from_branches c) o h6))
     (contains_cons (any_owned c) (from_leave c) o h5))
@@ -254,8 +260,8 @@ again_owns c o h =
 behind_any : (c : AgainNodes) (o : Owned) → Contains (from_leave c) o → Contains (again_owned c) o
 behind_any c o h =
     contains_next (answer_owned c) (from_turn c) o
-        (contains_next (turn_owned c) (from_joined c) o
-        (contains_next (joined_owned c) (from_eval c) o (contains_next (eval_owned c) (from_any c) o (contains_next (any_owned c) (from_leave c) o h))))
+    (contains_next (turn_owned c) (from_joined c) o
+    (contains_next (joined_owned c) (from_eval c) o (contains_next (eval_owned c) (from_any c) o (contains_next (any_owned c) (from_leave c) o h))))
 
 behind_all : (c : AgainNodes) (o : Owned) → Contains (from_branches c) o → Contains (again_owned c) o
 behind_all c o h = behind_any c o (contains_next (leave_owned c) (from_branches c) o h)
@@ -308,7 +314,7 @@ answer_holds c apart m p view may =
     let v = m.value in
     let promise = implies_at _ (answer_promise (ctl c m p) (rls c m p)) (extras c apart m p view).answers may in
     ap (λ i. if v c.answer then not (v c.request) && (not (v c.eval) && (guards_neutral v c.branches && i)) else v c.request
-        && (guards_false m.noted c.branches && (not (v c.eval) && (guards_neutral v c.branches && i)))) (idle_is v c.branches p view.is view.calm) ∙ promise
+    && (guards_false m.noted c.branches && (not (v c.eval) && (guards_neutral v c.branches && i)))) (idle_is v c.branches p view.is view.calm) ∙ promise
 
 eval_holds : (c : AgainNodes) → AreApart (again_nodes c) → (m : Moment) (p : BranchPlace) → Sees c m p → can again_machine 4 (ctl c m p) (rls c m p) ≡ true →
     may_move m (rises_under c.request (eval_wire c.turn c.answer c.eval c.branches)) ≡ true
@@ -316,12 +322,12 @@ eval_holds c apart m p view may =
     let v = m.value in
     let promise = implies_at _ (eval_promise (ctl c m p) (rls c m p)) (extras c apart m p view).evals may in
     let valid : (alone_true v p || guards_false v c.branches) ≡ true → guards_valid v c.branches ≡ true =
-        λ h. ⊎_elim (λ w. alone_valid v c.branches p view.is view.single w) (λ z. false_valid v c.branches view.single z)
-        (or_cases (alone_true v p) (guards_false v c.branches) h) in
+    λ h. ⊎_elim (λ w. alone_valid v c.branches p view.is view.single w) (λ z. false_valid v c.branches view.single z)
+    (or_cases (alone_true v p) (guards_false v c.branches) h) in
     let strong = weaker (v c.eval) (alone_true v p || guards_false v c.branches) (guards_valid v c.branches) (not (v p.this.start) && not (v p.this.answer))
-        (v c.request && (v c.turn && (not (v c.answer) && (guards_neutral v c.branches && (not (v p.this.start) && not (v p.this.answer)))))) valid promise in
+    (v c.request && (v c.turn && (not (v c.answer) && (guards_neutral v c.branches && (not (v p.this.start) && not (v p.this.answer)))))) valid promise in
     ap (λ i. if v c.eval then guards_valid v c.branches && i else v c.request && (v c.turn && (not (v c.answer) && (guards_neutral v c.branches && i))))
-        (idle_is v c.branches p view.is view.calm) ∙ strong
+    (idle_is v c.branches p view.is view.calm) ∙ strong
 
 start_holds : (c : AgainNodes) → AreApart (again_nodes c) → (m : Moment) (p : BranchPlace) → Sees c m p → can again_machine 8 (ctl c m p) (rls c m p) ≡ true →
     may_move m (rises_under c.request (start_wire c.turn c.answer c.eval c.branches p)) ≡ true
@@ -329,8 +335,8 @@ start_holds c apart m p view may =
     let v = m.value in
     let promise = implies_at _ (start_promise (ctl c m p) (rls c m p)) (extras c apart m p view).starts may in
     ap (λ i. if v p.this.start then v p.this.answer else v c.request
-        && (v c.turn && (alone_true m.noted p && (not (v c.eval) && (not (v c.answer) && (guards_neutral v c.branches && i))))))
-        (idle_is v c.branches p view.is view.calm) ∙ promise
+    && (v c.turn && (alone_true m.noted p && (not (v c.eval) && (not (v c.answer) && (guards_neutral v c.branches && i))))))
+    (idle_is v c.branches p view.is view.calm) ∙ promise
 
 promise_of : (c : AgainNodes) → AreApart (again_nodes c) → (m : Moment) (w : Wire) → Contains (plain_again c).promises w →
     IsPromise again_machine (again_frame c) c.branches m w
@@ -339,11 +345,25 @@ promise_of c apart m w h =
     let starts = start_wires c.turn c.answer c.eval c.branches in
     let under = rises_under c.request in
     ⊎_elim
-    (λ (same : w ≡ plain_answer c). inl (1, record { less = omega arith; at = λ p is. ap (λ (w : Wire). w.node) same; holds =
-        λ p view may. ap (may_move m) same ∙ answer_holds c apart m p view may }))
+    (λ (same : w ≡ plain_answer c). inl (
+      1,
+      record {
+        less = omega arith;
+        at = λ p is. ap (λ (w : Wire). w.node) same;
+        holds =
+            λ p view may. ap (may_move m) same ∙ answer_holds c apart m p view may;
+      },
+    ))
     (λ more. ⊎_elim
-    (λ (same : w ≡ under e). inl (4, record { less = omega arith; at = λ p is. ap (λ (w : Wire). w.node) same; holds =
-        λ p view may. ap (may_move m) same ∙ eval_holds c apart m p view may }))
+    (λ (same : w ≡ under e). inl (
+      4,
+      record {
+        less = omega arith;
+        at = λ p is. ap (λ (w : Wire). w.node) same;
+        holds =
+            λ p view may. ap (may_move m) same ∙ eval_holds c apart m p view may;
+      },
+    ))
     (λ last. let u = map_in under starts w last in
     let r = place_in (start_wire c.turn c.answer c.eval c.branches) [] c.branches u.0 u.1 in
     let is = u.2 ∙ ap under r.2 in
@@ -364,11 +384,11 @@ lows_of c apart m p view low =
     let fifth = and_right (not (v c.any)) _ fourth in
     let sixth = and_right (not (v c.leave)) _ fifth in
     both _ _ a (both _ _ (and_left (not (v c.turn)) _ first)
-        (both _ _ (and_left (not (v c.joined)) _ second)
-        (both _ _ (and_left (not (v c.eval)) _ third) (both _ _ (and_left (not (v c.any)) _ fourth) (both _ _ (and_left (not (v c.leave)) _ fifth)
+    (both _ _ (and_left (not (v c.joined)) _ second)
+    (both _ _ (and_left (not (v c.eval)) _ third) (both _ _ (and_left (not (v c.any)) _ fourth) (both _ _ (and_left (not (v c.leave)) _ fifth)
     (low_append v (latches_of c.branches) (starts_of c.branches)
     ∙ both _ _ (ap (λ (xs : List Branch). all_low v (latches_of xs)) view.is ∙ only_latch v p view.calm ∙ and_left (not (v p.this.latch)) _ sixth)
-        (ap (λ (xs : List Branch). all_low v (starts_of xs)) view.is ∙ only_start v p view.calm ∙ and_right (not (v p.this.latch)) _ sixth)))))))
+    (ap (λ (xs : List Branch). all_low v (starts_of xs)) view.is ∙ only_start v p view.calm ∙ and_right (not (v p.this.latch)) _ sixth)))))))
 
 abbrev Waits : AgainNodes → Moment → Type 0
 Waits c m = ((w : Wire) × Contains (plain_again c).allows w × (may_move m w ≡ true)) ⊎ ((plain_again c).blocked m.value ≡ true)
@@ -379,34 +399,35 @@ by_branch c m h = inl (h.0, contains_next (request_wire c.request c.answer) (bra
 latch_low : (c : AgainNodes) (m : Moment) (p q : BranchPlace) → Sees c m p → IsPlace c.branches q → m.value p.this.latch ≡ false → m.value q.this.latch ≡ false
 latch_low c m p q view at low =
     ⊎_elim (λ (same : p ≡ q). ap (λ (r : BranchPlace). m.value r.this.latch) (sym same) ∙ low)
-        (λ (apart : Apart p q). (quiet_among m.value p q.this view.calm apart.second).latch) (one_or_apart c.branches p q view.is at)
+    (λ (apart : Apart p q). (quiet_among m.value p q.this view.calm apart.second).latch) (one_or_apart c.branches p q view.is at)
 
 -- no latch may rise: neither is a guard true alone, nor are all false
 latch_fires : (c : AgainNodes) (m : Moment) (q : BranchPlace) → m.value q.this.latch ≡ false → alone_true m.value q ≡ true →
     fires m.value (latch_owned c.turn q) ≡ true
 latch_fires c m q low alone =
     ap (λ b. if b then guard_holds m.value (latch_owned c.turn q).rules.down else guard_holds m.value (latch_owned c.turn q).rules.up) low
-        ∙ latch_up m.value c.turn q ∙ ap (λ b. b || false) alone
+    ∙ latch_up m.value c.turn q ∙ ap (λ b. b || false) alone
 
 leave_fires : (c : AgainNodes) (m : Moment) → m.value c.leave ≡ false → guards_false m.value c.branches ≡ true → fires m.value (leave_owned c) ≡ true
 leave_fires c m low none =
     ap (λ b. if b then guard_holds m.value (leave_owned c).rules.down else guard_holds m.value (leave_owned c).rules.up) low
-        ∙ ap (λ b. b || false) (falses_hold m.value c.branches ∙ none)
+    ∙ ap (λ b. b || false) (falses_hold m.value c.branches ∙ none)
 
-awaits : (c : AgainNodes) (m : Moment) (p : BranchPlace) → Sees c m p → ((o : Owned) → Contains (again_owned c) o → fires m.value o ≡ false) → m.value c.eval ≡ true →
+awaits : (c : AgainNodes) (m : Moment) (p : BranchPlace) → Sees c m p → ((o : Owned) → Contains (again_owned c) o → fires m.value o ≡ false) →
+    m.value c.eval ≡ true →
     m.value p.this.latch ≡ false → m.value c.leave ≡ false → (valid zero_true one : Bool) → guards_valid m.value c.branches ≡ valid →
     none_true m.value c.branches ≡ zero_true → one_true m.value c.branches ≡ one → Waits c m
 awaits c m p view none e low out false zero_true one is_valid is_none is_one =
     by_branch c m (low_may m c.eval c.branches e (low_guard m.value c.branches view.single is_valid))
 awaits c m p view none e low out true true one is_valid is_none is_one =
     absurd (true_false (leave_fires c m out (valid_false m.value c.branches is_valid is_none))
-        (none (leave_owned c) (behind_any c (leave_owned c) (contains_here (leave_owned c) (from_branches c)))))
+    (none (leave_owned c) (behind_any c (leave_owned c) (contains_here (leave_owned c) (from_branches c)))))
 awaits c m p view none e low out true false false is_valid is_none is_one = inr (both _ _ is_valid (both _ _ (true_not _ is_none) (true_not _ is_one)))
 awaits c m p view none e low out true false true is_valid is_none is_one =
     let q = one_place m.value c.branches is_valid is_one in
     let there = subst (λ (xs : List Branch). Contains (branches_owned c.turn xs) (latch_owned c.turn q.0)) (sym q.1) (latch_there c.turn q.0) in
     absurd (true_false (latch_fires c m q.0 (latch_low c m p q.0 view q.1 low) q.2)
-        (none (latch_owned c.turn q.0) (behind_all c (latch_owned c.turn q.0) there)))
+    (none (latch_owned c.turn q.0) (behind_all c (latch_owned c.turn q.0) there)))
 
 waits_of : (c : AgainNodes) → AreApart (again_nodes c) → (m : Moment) (p : BranchPlace) → Sees c m p →
     ((o : Owned) → Contains (again_owned c) o → fires m.value o ≡ false) → Waits c m
@@ -420,46 +441,49 @@ waits_of c apart m p view none =
     let latch_in = subst (λ (xs : List Branch). Contains (branches_owned c.turn xs) (latch_owned c.turn p)) (sym view.is) (latch_there c.turn p) in
     let start_in = subst (λ (xs : List Branch). Contains (branches_owned c.turn xs) (start_owned (guards_of xs) p)) (sym view.is) (start_there c.turn p) in
     let still : (o : Owned) (j : ℕ) → Rule c p o j → Contains (again_owned c) o → can again_machine j cs q ≡ false =
-        λ o j rule among. sym (fires_is again_machine (again_frame c) c.branches c.eval v m.noted p o j s view.calm rule) ∙ none o among in
+    λ o j rule among. sym (fires_is again_machine (again_frame c) c.branches c.eval v m.noted p o j s view.calm rule) ∙ none o among in
     let one = still (answer_owned c) 1 (answer_rule c p view.is) (contains_here (answer_owned c) (from_turn c)) in
     let two = still (turn_owned c) 2 (turn_rule c p view.is)
-        (contains_next (answer_owned c) (from_turn c) (turn_owned c) (contains_here (turn_owned c) (from_joined c))) in
+    (contains_next (answer_owned c) (from_turn c) (turn_owned c) (contains_here (turn_owned c) (from_joined c))) in
     let three = still (joined_owned c) 3 (joined_rule c p view.is)
-        (contains_next (answer_owned c) (from_turn c) (joined_owned c)
-        (contains_next (turn_owned c) (from_joined c) (joined_owned c) (contains_here (joined_owned c) (from_eval c)))) in
+    (contains_next (answer_owned c) (from_turn c) (joined_owned c)
+    (contains_next (turn_owned c) (from_joined c) (joined_owned c) (contains_here (joined_owned c) (from_eval c)))) in
     let four = still (eval_owned c) 4 (eval_rule c p view.is)
-        (contains_next (answer_owned c) (from_turn c) (eval_owned c)
-        (contains_next (turn_owned c) (from_joined c) (eval_owned c)
-        (contains_next (joined_owned c) (from_eval c) (eval_owned c) (contains_here (eval_owned c) (from_any c))))) in
+    (contains_next (answer_owned c) (from_turn c) (eval_owned c)
+    (contains_next (turn_owned c) (from_joined c) (eval_owned c)
+    (contains_next (joined_owned c) (from_eval c) (eval_owned c) (contains_here (eval_owned c) (from_any c))))) in
     let five = still (any_owned c) 5 (any_rule c p view.is)
-        (contains_next (answer_owned c) (from_turn c) (any_owned c)
-        (contains_next (turn_owned c) (from_joined c) (any_owned c)
-        (contains_next (joined_owned c) (from_eval c) (any_owned c)
-        (contains_next (eval_owned c) (from_any c) (any_owned c) (contains_here (any_owned c) (from_leave c)))))) in
+    (contains_next (answer_owned c) (from_turn c) (any_owned c)
+    (contains_next (turn_owned c) (from_joined c) (any_owned c)
+    (contains_next (joined_owned c) (from_eval c) (any_owned c)
+    (contains_next (eval_owned c) (from_any c) (any_owned c) (contains_here (any_owned c) (from_leave c)))))) in
     let six = still (leave_owned c) 6 (leave_rule c p view.is) (behind_any c (leave_owned c) (contains_here (leave_owned c) (from_branches c))) in
     let seven = still l 7 (latch_placed c p view.is).rule (behind_all c l latch_in) in
     let eight = still st 8 (start_placed c p view.is).rule (behind_all c st start_in) in
     let wait = or_rest (can again_machine 8 cs q) (may_wait cs q) eight
-        (or_rest (can again_machine 7 cs q) _ seven
-        (or_rest (can again_machine 6 cs q) _ six
-        (or_rest (can again_machine 5 cs q) _ five
-        (or_rest (can again_machine 4 cs q) _ four
-        (or_rest (can again_machine 3 cs q) _ three
-        (or_rest (can again_machine 2 cs q) _ two (or_rest (can again_machine 1 cs q) _ one (extras c apart m p view).waits))))))) in
+    (or_rest (can again_machine 7 cs q) _ seven
+    (or_rest (can again_machine 6 cs q) _ six
+    (or_rest (can again_machine 5 cs q) _ five
+    (or_rest (can again_machine 4 cs q) _ four
+    (or_rest (can again_machine 3 cs q) _ three
+    (or_rest (can again_machine 2 cs q) _ two (or_rest (can again_machine 1 cs q) _ one (extras c apart m p view).waits))))))) in
     ⊎_elim
     (λ (h : (can again_machine 0 cs q || can again_machine 9 cs q) ≡ true). ⊎_elim
-    (λ (r : can again_machine 0 cs q ≡ true). inl (request_wire c.request c.answer,
-        contains_here (request_wire c.request c.answer) (branch_wires c.eval c.branches), r))
+    (λ (r : can again_machine 0 cs q ≡ true). inl (
+      request_wire c.request c.answer,
+      contains_here (request_wire c.request c.answer) (branch_wires c.eval c.branches),
+      r,
+    ))
     (λ (d : can again_machine 9 cs q ≡ true). by_branch c m (answer_may m c.eval c.branches p view.is d))
     (or_cases (can again_machine 0 cs q) (can again_machine 9 cs q) h))
     (λ (h : ((not (v c.eval) && not (guards_neutral v c.branches)) || (v c.eval && (not (v p.this.latch) && not (v c.leave)))) ≡ true). ⊎_elim
     (λ (r : (not (v c.eval) && not (guards_neutral v c.branches)) ≡ true).
-        by_branch c m (high_may m c.eval c.branches (not_true _ (and_left (not (v c.eval)) _ r))
-        (some_rail v c.branches (not_true _ (and_right (not (v c.eval)) _ r)))))
+    by_branch c m (high_may m c.eval c.branches (not_true _ (and_left (not (v c.eval)) _ r))
+    (some_rail v c.branches (not_true _ (and_right (not (v c.eval)) _ r)))))
     (λ (r : (v c.eval && (not (v p.this.latch) && not (v c.leave))) ≡ true).
     let lows = and_right (v c.eval) _ r in
     awaits c m p view none (and_left (v c.eval) _ r) (not_true _ (and_left (not (v p.this.latch)) _ lows))
-        (not_true _ (and_right (not (v p.this.latch)) _ lows)) (guards_valid v c.branches) (none_true v c.branches) (one_true v c.branches) refl refl refl)
+    (not_true _ (and_right (not (v p.this.latch)) _ lows)) (guards_valid v c.branches) (none_true v c.branches) (one_true v c.branches) refl refl refl)
     (or_cases (not (v c.eval) && not (guards_neutral v c.branches)) (v c.eval && (not (v p.this.latch) && not (v c.leave))) h))
     (or_cases (can again_machine 0 cs q || can again_machine 9 cs q) _ wait)
 
@@ -486,13 +510,21 @@ first_by c apart b rest is v first =
     let sixth = and_right (not (v c.any)) _ fifth in
     let last = sym (low_append v (latches_of c.branches) (starts_of c.branches)) ∙ and_right (not (v c.leave)) _ sixth in
     let quiet = all_quiet v c.branches p is (controls_low v c.branches (and_left (all_low v (latches_of c.branches)) _ last)
-        (and_right (all_low v (latches_of c.branches)) _ last) wires.answers) in
+    (and_right (all_low v (latches_of c.branches)) _ last) wires.answers) in
     let single = neutral_single v c.branches wires.neutral in
     let low : map v (controls (again_frame c) p) ≡ all_down =
-    rw (not_true _ (and_left (not (v c.request)) _ first.outside), not_true _ (and_left (not (v c.answer)) _ own),
-        not_true _ (and_left (not (v c.turn)) _ second), not_true _ (and_left (not (v c.joined)) _ third), not_true _ (and_left (not (v c.eval)) _ fourth),
-        not_true _ (and_left (not (v c.any)) _ fifth), not_true _ (and_left (not (v c.leave)) _ sixth), quiet.quiet.latch, quiet.quiet.start,
-        quiet.quiet.answer) refl in
+    rw (
+      not_true _ (and_left (not (v c.request)) _ first.outside),
+      not_true _ (and_left (not (v c.answer)) _ own),
+      not_true _ (and_left (not (v c.turn)) _ second),
+      not_true _ (and_left (not (v c.joined)) _ third),
+      not_true _ (and_left (not (v c.eval)) _ fourth),
+      not_true _ (and_left (not (v c.any)) _ fifth),
+      not_true _ (and_left (not (v c.leave)) _ sixth),
+      quiet.quiet.latch,
+      quiet.quiet.start,
+      quiet.quiet.answer,
+    ) refl in
     let noted : ℕ → Bool = λ n. false in (
       p,
       record {
@@ -502,11 +534,12 @@ first_by c apart b rest is v first =
         control = ap again_control low;
         fit = ap (λ d. again_fit d (seen_rails v noted c.branches p)) low
             ∙ fit_first (seen_rails v noted c.branches p) (guards_neutral v c.branches) (alone_true v p) _ (alone_true noted p) (guards_false v c.branches)
-                (none_true v c.branches) (guards_false noted c.branches) refl wires.neutral (rails_consistent v noted c.branches p is single);
+            (none_true v c.branches) (guards_false noted c.branches) refl wires.neutral (rails_consistent v noted c.branches p is single);
       },
     )
 
-pub first_of : (c : AgainNodes) → AreApart (again_nodes c) → (bs : List Branch) → c.branches ≡ bs → 0 < length bs → (v : ℕ → Bool) → IsFirstState (plain_again c) v →
+pub first_of : (c : AgainNodes) → AreApart (again_nodes c) → (bs : List Branch) → c.branches ≡ bs → 0 < length bs → (v : ℕ → Bool) →
+    IsFirstState (plain_again c) v →
     Reaches c (record { value = v; noted = λ n. false })
 first_of c apart [] is some v first = absurd (omega (arith, some))
 first_of c apart (b ∷ rest) is some v first = first_by c apart b rest is v first

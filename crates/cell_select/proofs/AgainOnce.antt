@@ -76,8 +76,8 @@ module _ (c : AgainNodes) (apart : AreApart (again_nodes c)) (m : Moment) (node 
       × (end_test (map v (controls (again_frame c) z)) (seen_rails v h.old c.branches z) ≡ true)
   tests j lt at =
       let seen : (z : BranchPlace) × SeenAt again_machine (again_frame c) c.branches (plain m h.old) z j =
-          frame_seen again_machine (again_frame c) c.branches c.request c.answer c.eval (plain_again c) (plain m h.old) h.reaches.0 node setting
-          (again_is_part c) h.reaches.1 move j lt at in
+      frame_seen again_machine (again_frame c) c.branches c.request c.answer c.eval (plain_again c) (plain m h.old) h.reaches.0 node setting
+      (again_is_part c) h.reaches.1 move j lt at in
       (seen.0, seen.1.1, tried_at again_machine (again_frame c) c.branches c.eval (plain m h.old) seen.0 end_test setting seen.1.0 ends_tried)
 
   asks_anew : node ≡ c.request → v c.request ≡ false → (v c.eval ≡ false) × (v c.leave ≡ false)
@@ -86,8 +86,8 @@ module _ (c : AgainNodes) (apart : AreApart (again_nodes c)) (m : Moment) (node 
       let cs = map v (controls (again_frame c) t.0) in
       let q = seen_rails v h.old c.branches t.0 in
       let both_low = implies_at (can again_machine 0 cs q && not (bit_at cs 0)) (not (v c.eval) && not (v c.leave))
-          (and_left _ (implies (can again_machine 6 cs q && not (bit_at cs 6)) (bit_at cs 4)
-          && implies (can again_machine 1 cs q && not (bit_at cs 1)) (bit_at cs 6)) t.2) (both _ _ t.1 (true_not _ low)) in
+      (and_left _ (implies (can again_machine 6 cs q && not (bit_at cs 6)) (bit_at cs 4)
+      && implies (can again_machine 1 cs q && not (bit_at cs 1)) (bit_at cs 6)) t.2) (both _ _ t.1 (true_not _ low)) in
       (not_true (v c.eval) (and_left (not (v c.eval)) _ both_low), not_true (v c.leave) (and_right (not (v c.eval)) _ both_low))
 
   ends_asked : node ≡ c.leave → v c.leave ≡ false → v c.eval ≡ true
@@ -96,7 +96,7 @@ module _ (c : AgainNodes) (apart : AreApart (again_nodes c)) (m : Moment) (node 
       let cs = map v (controls (again_frame c) t.0) in
       let q = seen_rails v h.old c.branches t.0 in
       implies_at (can again_machine 6 cs q && not (bit_at cs 6)) (v c.eval) (and_left _ (implies (can again_machine 1 cs q && not (bit_at cs 1)) (bit_at cs 6))
-          (and_right (implies (can again_machine 0 cs q && not (bit_at cs 0)) (not (bit_at cs 4) && not (bit_at cs 6))) _ t.2)) (both _ _ t.1 (true_not _ low))
+      (and_right (implies (can again_machine 0 cs q && not (bit_at cs 0)) (not (bit_at cs 4) && not (bit_at cs 6))) _ t.2)) (both _ _ t.1 (true_not _ low))
 
   answers_ended : node ≡ c.answer → v c.answer ≡ false → v c.leave ≡ true
   answers_ended same low =
@@ -104,8 +104,8 @@ module _ (c : AgainNodes) (apart : AreApart (again_nodes c)) (m : Moment) (node 
       let cs = map v (controls (again_frame c) t.0) in
       let q = seen_rails v h.old c.branches t.0 in
       implies_at (can again_machine 1 cs q && not (bit_at cs 1)) (v c.leave) (and_right (implies (can again_machine 6 cs q && not (bit_at cs 6)) (bit_at cs 4))
-          _ (and_right (implies (can again_machine 0 cs q && not (bit_at cs 0)) (not (bit_at cs 4) && not (bit_at cs 6))) _ t.2))
-          (both _ _ t.1 (true_not _ low))
+      _ (and_right (implies (can again_machine 0 cs q && not (bit_at cs 0)) (not (bit_at cs 4) && not (bit_at cs 6))) _ t.2))
+      (both _ _ t.1 (true_not _ low))
 
   abbrev others : List ℕ
   others = controls_of c.branches ++ rails_of (guards_of c.branches)
@@ -145,7 +145,7 @@ module _ (c : AgainNodes) (apart : AreApart (again_nodes c)) (m : Moment) (node 
       let rest = and_right (v c.turn) _ under in
       let e = not_true (v c.eval) (and_left (not (v c.eval)) _ (and_right (alone_true h.old y) _ rest)) in
       let latched = start_latched again_machine (again_frame c) c.branches c.request c.answer c.eval (plain_again c) v h.old h.reaches.0 node setting
-          (again_is_part c) h.reaches.1 move starts_tried y is same low in
+      (again_is_part c) h.reaches.1 move starts_tried y is same low in
       ap (λ b. if b then v y.this.answer else v c.request && ((v c.turn && (alone_true m.noted y && within)) && not (m.noted y.this.start))) low
       ∙ both _ _ (and_left (v c.request) _ rises)
       (both _ _ (ap (λ k. v c.turn && (k && within)) (sym (alone_agrees c.branches h.old m.noted y is h.agree)) ∙ under)
@@ -163,7 +163,7 @@ module _ (c : AgainNodes) (apart : AreApart (again_nodes c)) (m : Moment) (node 
       let asked = ended_new (v c.request) (v c.eval) (v c.leave) (m.noted c.eval) h.ended (and_left (v c.request) _ rises) (answers_ended same low) in
       ap (λ b. if b then not (v c.request) && over else v c.request && (m.noted c.eval && (guards_false m.noted c.branches && over))) low
       ∙ both _ _ (and_left (v c.request) _ rises) (both _ _ asked (ap (λ k. k && over) (sym (all_false_agrees c.branches h.old m.noted h.agree))
-          ∙ and_right (v c.request) _ rises))
+      ∙ and_right (v c.request) _ rises))
 
 promised_once : (c : AgainNodes) → AreApart (again_nodes c) → (m : Moment) → (h : Noted c m) → (o : Owned) → Contains (again_owned c) o →
     fires m.value o ≡ true → (w : Wire) → Contains (again_part c).promises w → w.node ≡ o.node → may_move m w ≡ true
@@ -177,11 +177,11 @@ promised_once c apart m h o among f w promise e =
     (λ (same : w ≡ again_answer c).
     let at : c.answer ≡ o.node = ap (λ (w : Wire). w.node) (sym same) ∙ e in
     ap (may_move m) same ∙ answer_by c apart m o.node h move (m.value c.answer) refl (sym at)
-        (kept.promised o among f (plain_answer c) (contains_here (plain_answer c) (map under (evals ∷ starts))) at))
+    (kept.promised o among f (plain_answer c) (contains_here (plain_answer c) (map under (evals ∷ starts))) at))
     (λ more. ⊎_elim
     (λ (same : w ≡ under evals). ap (may_move m) same
-        ∙ kept.promised o among f (under evals) (contains_next (plain_answer c) (map under (evals ∷ starts)) (under evals)
-        (contains_here (under evals) (map under starts))) (ap (λ (w : Wire). w.node) (sym same) ∙ e))
+    ∙ kept.promised o among f (under evals) (contains_next (plain_answer c) (map under (evals ∷ starts)) (under evals)
+    (contains_here (under evals) (map under starts))) (ap (λ (w : Wire). w.node) (sym same) ∙ e))
     (λ last. let u = map_in under (map once starts) w last in
     let x = map_in once starts u.0 u.1 in
     let r = place_in (start_wire c.turn c.answer c.eval c.branches) [] c.branches x.0 x.1 in
@@ -192,7 +192,7 @@ promised_once c apart m h o among f w promise e =
     ap (may_move m) is
     ∙ start_by c apart m o.node h move r.0 r.1 (sym at) (m.value r.0.this.start) refl
     (kept.promised o among f (under start) (contains_next (plain_answer c) (map under (evals ∷ starts)) (under start)
-        (contains_next (under evals) (map under starts) (under start) (mapped_among under starts start there))) at))
+    (contains_next (under evals) (map under starts) (under start) (mapped_among under starts start there))) at))
     (contains_cons (under evals) (map under (map once starts)) w more))
     (contains_cons (again_answer c) (map under (evals ∷ map once starts)) w promise)
 
@@ -206,12 +206,15 @@ kept_noted c apart m h =
       lows = kept.lows;
       bits = kept.bits;
       waits = λ none. ⊎_elim
-          (λ (w : (w : Wire) × Contains (again_part c).allows w × (may_move (plain m h.old) w ≡ true)). inl (w.0, w.1,
-              same_may c.request c.answer c.eval c.branches m.value h.old m.noted w.0 ((again_is_part c).wires w.0 w.1) ∙ w.2))
+          (λ (w : (w : Wire) × Contains (again_part c).allows w × (may_move (plain m h.old) w ≡ true)). inl (
+            w.0,
+            w.1,
+            same_may c.request c.answer c.eval c.branches m.value h.old m.noted w.0 ((again_is_part c).wires w.0 w.1) ∙ w.2,
+          ))
           (λ blocked. inr blocked) (kept.waits none);
     }
 
 pub again_keeps : (c : AgainNodes) → 0 < length c.branches → AreApart (again_nodes c) → Keeps (again_part c)
 again_keeps c some apart =
     kept_by (again_part c) (Noted c) (first_noted c apart some) (λ m node h move. noted_after c apart m node h (plain_move c m h.old node move))
-        (kept_noted c apart)
+    (kept_noted c apart)

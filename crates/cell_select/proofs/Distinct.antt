@@ -22,8 +22,10 @@ fresh_in n (m ∷ ms) h = (h 0 0 (omega arith), fresh_in n ms (λ j d lt. h (suc
 
 pub distinct_from : (ns : List ℕ) → AllPairs (λ (a b : ℕ). a ≢ b) ns → Distinct ns
 distinct_from [] h = tt
-distinct_from (n ∷ ns) h = (fresh_in n ns (λ j d lt. h 0 (suc j) d (omega arith) (omega (arith, lt))),
-    distinct_from ns (λ i j d less lt. h (suc i) (suc j) d (omega (arith, less)) (omega (arith, lt))))
+distinct_from (n ∷ ns) h = (
+  fresh_in n ns (λ j d lt. h 0 (suc j) d (omega arith) (omega (arith, lt))),
+  distinct_from ns (λ i j d less lt. h (suc i) (suc j) d (omega (arith, less)) (omega (arith, lt))),
+)
 
 pub fresh_left : (n : ℕ) (xs ys : List ℕ) → Fresh n (xs ++ ys) → Fresh n xs
 fresh_left n [] ys h = tt
@@ -91,7 +93,7 @@ swapped xs ys zs ws h =
     let behind = cross_right xs ys (zs ++ ws) far in
     let inner = distinct_both ys ws (distinct_left ys (zs ++ ws) rest) (distinct_right zs ws last) (cross_right ys zs ws near) in
     let middle = distinct_both zs (ys ++ ws) (distinct_left zs ws last) inner
-        (cross_both zs ys ws (cross_turned ys zs (cross_left ys zs ws near)) (distinct_cross zs ws last)) in
+    (cross_both zs ys ws (cross_turned ys zs (cross_left ys zs ws near)) (distinct_cross zs ws last)) in
     distinct_both xs (zs ++ (ys ++ ws)) (distinct_left xs (ys ++ (zs ++ ws)) h) middle
     (cross_both xs zs (ys ++ ws) (cross_left xs zs ws behind) (cross_both xs ys ws (cross_left xs ys (zs ++ ws) far) (cross_right xs zs ws behind)))
 

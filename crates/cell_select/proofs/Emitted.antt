@@ -75,7 +75,7 @@ latches_list request nodes hs i h ln lh at =
     ap (λ ns. owned_at ns (latches_behind request (take i hs) (drop i hs))) (dropped nodes i 0 ln)
     ∙ ap (λ xs. owned_at (slice_index_or nodes i 0 ∷ drop (i + 1) nodes) (latches_behind request (take i hs) xs)) was
     ∙ ap (λ xs. owned (slice_index_or nodes i 0) (latch_of request (all_false (take i hs) ++ is_high h.t ∷ all_false (drop (i + 1) hs)))
-        ∷ owned_at (drop (i + 1) nodes) (latches_behind request xs (drop (i + 1) hs))) (sym more)
+    ∷ owned_at (drop (i + 1) nodes) (latches_behind request xs (drop (i + 1) hs))) (sym more)
 
 latches_next : (request : ℕ) (nodes : List ℕ) (hs : List Pair) (i : ℕ) (h : Pair) → i < length nodes → i < length hs → slice_index_or hs i no_pair ≡ h →
     (now : RulesValue) → with_owned (owned_at (drop (i + 1) nodes) (latches_behind request (take (i + 1) hs) (drop (i + 1) hs)))
@@ -92,15 +92,15 @@ latches_step request nodes rails i old now new up down even lt before ups downs 
     let hs = pairs_of rails in
     let same : length hs ≡ length nodes = pairs_length (length nodes) rails even in
     let wrote : new ≡ with_rules (slice_index_or nodes i 0) (latch_of request (all_false (take i hs) ++ is_high (slice_index_or rails (2 * i) 0)
-        ∷ all_false (drop (i + 1) hs))) now = made ∙ ap (λ (g : GuardValue). with_rules (slice_index_or nodes i 0) (record { up = g; down = down }) now) ups
-        ∙ ap (λ (g : GuardValue). with_rules (slice_index_or nodes i 0)
-        (record { up = one_term (all_false (take i hs) ++ is_high (slice_index_or rails (2 * i) 0) ∷ all_false (drop (i + 1) hs)); down = g }) now) downs in
+    ∷ all_false (drop (i + 1) hs))) now = made ∙ ap (λ (g : GuardValue). with_rules (slice_index_or nodes i 0) (record { up = g; down = down }) now) ups
+    ∙ ap (λ (g : GuardValue). with_rules (slice_index_or nodes i 0)
+    (record { up = one_term (all_false (take i hs) ++ is_high (slice_index_or rails (2 * i) 0) ∷ all_false (drop (i + 1) hs)); down = g }) now) downs in
     let all : List Owned = owned_at nodes (latches request hs) in
     let this : Owned = owned (slice_index_or nodes i 0) (latch_of request (all_false (take i hs) ++ is_high (slice_index_or rails (2 * i) 0)
-        ∷ all_false (drop (i + 1) hs))) in
+    ∷ all_false (drop (i + 1) hs))) in
     let left : List Owned = owned_at (drop (i + 1) nodes) (latches_behind request (take (i + 1) hs) (drop (i + 1) hs)) in
     let list : owned_at (drop i nodes) (latches_behind request (take i hs) (drop i hs)) ≡ this ∷ left =
-        latches_list request nodes hs i (pair_in rails i) lt (omega (arith, same, lt)) (pair_is (length nodes) rails i no_pair even lt) in
+    latches_list request nodes hs i (pair_in rails i) lt (omega (arith, same, lt)) (pair_is (length nodes) rails i no_pair even lt) in
     record {
       rest = ap (λ r. with_owned (owned_at (drop (i + 1) nodes) (latches_behind request (take (i + 1) hs) (drop (i + 1) hs))) r) wrote
           ∙ latches_next request nodes hs i (pair_in rails i) lt (omega (arith, same, lt)) (pair_is (length nodes) rails i no_pair even lt) now ∙ before.rest;
@@ -109,7 +109,7 @@ latches_step request nodes rails i old now new up down even lt before ups downs 
       partly =
           partly_on all old now new before.partly
           (partly_of (this ∷ []) all now new (λ o k. before.among o (subst (λ l. Contains l o) (sym list) (Contains-append_left (this ∷ []) left o k)))
-              (partly_all (this ∷ []) now new wrote));
+          (partly_all (this ∷ []) now new wrote));
       among = λ o k. before.among o (subst (λ l. Contains l o) (sym list) (Contains-append_right (this ∷ []) left o k));
     }
 
@@ -136,8 +136,8 @@ starts_step nodes latched rails i old now new up down even same lt before ups do
     let again : rails_of hs ≡ rails = rails_again (length latched) rails even in
     let wanted : up ≡ (started (slice_index_or latched i 0) hs).up = ups ∙ ap (λ ns. one_term (is_high (slice_index_or latched i 0) ∷ lows ns)) (sym again) in
     let wrote : new ≡ with_rules (slice_index_or nodes i 0) (started (slice_index_or latched i 0) hs) now =
-        made ∙ ap (λ (g : GuardValue). with_rules (slice_index_or nodes i 0) (record { up = g; down = down }) now) wanted
-        ∙ ap (λ (g : GuardValue). with_rules (slice_index_or nodes i 0) (record { up = (started (slice_index_or latched i 0) hs).up; down = g }) now) downs in
+    made ∙ ap (λ (g : GuardValue). with_rules (slice_index_or nodes i 0) (record { up = g; down = down }) now) wanted
+    ∙ ap (λ (g : GuardValue). with_rules (slice_index_or nodes i 0) (record { up = (started (slice_index_or latched i 0) hs).up; down = g }) now) downs in
     let all : List Owned = owned_at nodes (starts latched hs) in
     let this : Owned = owned (slice_index_or nodes i 0) (started (slice_index_or latched i 0) hs) in
     let left : List Owned = owned_at (drop (i + 1) nodes) (starts (drop (i + 1) latched) hs) in
@@ -150,7 +150,7 @@ starts_step nodes latched rails i old now new up down even same lt before ups do
       partly =
           partly_on all old now new before.partly
           (partly_of (this ∷ []) all now new (λ o k. before.among o (subst (λ l. Contains l o) (sym list) (Contains-append_left (this ∷ []) left o k)))
-              (partly_all (this ∷ []) now new wrote));
+          (partly_all (this ∷ []) now new wrote));
       among = λ o k. before.among o (subst (λ l. Contains l o) (sym list) (Contains-append_right (this ∷ []) left o k));
     }
 
@@ -210,7 +210,7 @@ nodes_apart node [] rs e h = All-nil (λ n. n ≢ node)
 nodes_apart node (n ∷ ns) [] e h = absurd (omega (arith, e))
 nodes_apart node (n ∷ ns) (r ∷ rs) e h =
     All-cons (λ n. n ≢ node) n ns (All-head (λ (o : Owned). o.node ≢ node) (owned n r) (owned_at ns rs) h)
-        (nodes_apart node ns rs (omega (arith, e)) (All-tail (λ (o : Owned). o.node ≢ node) (owned n r) (owned_at ns rs) h))
+    (nodes_apart node ns rs (omega (arith, e)) (All-tail (λ (o : Owned). o.node ≢ node) (owned n r) (owned_at ns rs) h))
 
 all_left : {X : Type 0} (P : X → Type 0) (xs ys : List X) → All P (xs ++ ys) → All P xs
 all_left P [] ys h = All-nil P
@@ -248,7 +248,7 @@ select_lists_are : (p : SelectPorts) → AreBranches p.latches.items p.starts.it
 select_lists_are p are =
     let hs = pairs_of p.guard_rails.items in
     let lists = branch_lists p.latches.items p.starts.items p.answers.items hs are.started are.answered
-        (pairs_length (length p.latches.items) p.guard_rails.items are.railed) in
+    (pairs_length (length p.latches.items) p.guard_rails.items are.railed) in
     rw (lists.latches, lists.started, lists.answered, lists.guards) refl
 
 pub select_made : (p : SelectPorts) (a b c d e f : RulesValue) → AreBranches p.latches.items p.starts.items p.answers.items p.guard_rails.items →
@@ -260,7 +260,7 @@ select_made p a b c d e f are first second third fourth fifth =
     let same : length hs ≡ length p.latches.items = pairs_length (length p.latches.items) p.guard_rails.items are.railed in
     branches_made p.request p.latches.items p.starts.items hs d e f same fourth fifth
     ∙ ap (with_owned (owned_at (p.latches.items ++ p.starts.items) (latches p.request hs ++ starts p.latches.items hs))) (third
-        ∙ ap (with_rules p.any (or_of p.latches.items)) (second ∙ ap (with_rules p.eval (evaluation p.request p.any)) first))
+    ∙ ap (with_rules p.any (or_of p.latches.items)) (second ∙ ap (with_rules p.eval (evaluation p.request p.any)) first))
     ∙ ap (λ os. with_owned os a) (sym (select_lists_are p are))
 
 pub record SelectApart (node : ℕ) (p : SelectPorts) : Type 0 where
@@ -288,7 +288,7 @@ abbrev again_six : AgainPorts → List Pair → List Owned
 again_six p hs =
     let ls = p.latches.items in
     owned p.answer (leave_answer p.leave p.any hs) ∷ owned p.loop_request (turn_request p.request p.joined)
-        ∷ owned p.joined (joined_answer p.any p.answers.items)
+    ∷ owned p.joined (joined_answer p.any p.answers.items)
     ∷ owned p.eval (evaluation p.loop_request p.any) ∷ owned p.any (or_of (p.leave ∷ ls)) ∷ owned p.leave (leave_latch p.loop_request hs) ∷ []
 
 abbrev again_lists : AgainPorts → List Pair → List Owned
@@ -299,7 +299,7 @@ again_lists_are : (p : AgainPorts) → AreBranches p.latches.items p.starts.item
 again_lists_are p are =
     let hs = pairs_of p.guard_rails.items in
     let lists = branch_lists p.latches.items p.starts.items p.answers.items hs are.started are.answered
-        (pairs_length (length p.latches.items) p.guard_rails.items are.railed) in
+    (pairs_length (length p.latches.items) p.guard_rails.items are.railed) in
     rw (lists.latches, lists.started, lists.answered, lists.guards) refl
 
 -- what the first six calls make
@@ -307,9 +307,9 @@ abbrev pub again_first : AgainPorts → RulesValue → RulesValue
 again_first p a =
     let hs = pairs_of p.guard_rails.items in
     with_rules p.leave (leave_latch p.loop_request hs)
-        (with_rules p.any (or_of (p.leave ∷ p.latches.items)) (with_rules p.eval (evaluation p.loop_request p.any)
+    (with_rules p.any (or_of (p.leave ∷ p.latches.items)) (with_rules p.eval (evaluation p.loop_request p.any)
     (with_rules p.joined (joined_answer p.any p.answers.items)
-        (with_rules p.loop_request (turn_request p.request p.joined) (with_rules p.answer (leave_answer p.leave p.any hs) a)))))
+    (with_rules p.loop_request (turn_request p.request p.joined) (with_rules p.answer (leave_answer p.leave p.any hs) a)))))
 
 pub again_made : (p : AgainPorts) (a g h i : RulesValue) → AreBranches p.latches.items p.starts.items p.answers.items p.guard_rails.items →
     g ≡ again_first p a → h ≡ with_owned (owned_at p.latches.items (latches p.loop_request (pairs_of p.guard_rails.items))) g →
@@ -372,7 +372,7 @@ select_owns p are =
     let ls : List Owned = owned_at p.latches.items (latches p.request hs) in
     let ss : List Owned = owned_at p.starts.items (starts p.latches.items hs) in
     let is : select_owned (select_of p) ≡ front ++ (ls ++ ss) =
-        select_lists_are p are ∙ ap (λ os. front ++ os) (branches_among p.request p.latches.items p.starts.items hs same) in
+    select_lists_are p are ∙ ap (λ os. front ++ os) (branches_among p.request p.latches.items p.starts.items hs same) in
     let back : (o : Owned) → Contains (front ++ (ls ++ ss)) o → Contains (select_owned (select_of p)) o = λ o k. subst (λ os. Contains os o) (sym is) k in
     record {
       answer = back (owned p.answer (joined_answer p.any p.answers.items)) (0, omega arith, refl);
@@ -402,7 +402,7 @@ again_owns p are =
     let ls : List Owned = owned_at p.latches.items (latches p.loop_request hs) in
     let ss : List Owned = owned_at p.starts.items (starts p.latches.items hs) in
     let is : again_owned (again_of p) ≡ front ++ (ls ++ ss) =
-        again_lists_are p are ∙ ap (λ os. front ++ os) (branches_among p.loop_request p.latches.items p.starts.items hs same) in
+    again_lists_are p are ∙ ap (λ os. front ++ os) (branches_among p.loop_request p.latches.items p.starts.items hs same) in
     let back : (o : Owned) → Contains (front ++ (ls ++ ss)) o → Contains (again_owned (again_of p)) o = λ o k. subst (λ os. Contains os o) (sym is) k in
     record {
       answer = back (owned p.answer (leave_answer p.leave p.any hs)) (0, omega arith, refl);

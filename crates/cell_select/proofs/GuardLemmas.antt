@@ -18,7 +18,7 @@ pub terms_below : (count : ℕ) (ns : List ℕ) → All (λ n. n < count) ns →
 terms_below count [] h = All-nil (λ t. All (Under count) t)
 terms_below count (n ∷ ns) h =
     All-cons (λ t. All (Under count) t) (is_high n ∷ []) (map (λ n. is_high n ∷ []) ns) (term_below count n (All-head (λ n. n < count) n ns h))
-        (terms_below count ns (All-tail (λ n. n < count) n ns h))
+    (terms_below count ns (All-tail (λ n. n < count) n ns h))
 
 literals_below : (count : ℕ) (ns : List ℕ) → All (λ n. n < count) ns → All (Under count) (lows ns)
 literals_below count [] h = All-nil (Under count)
@@ -30,7 +30,7 @@ falses_below count [] h = All-nil (Under count)
 falses_below count (p ∷ hs) h =
     let rest = All-tail (λ n. n < count) p.t (p.f ∷ rails_of hs) h in
     All-cons (Under count) (is_high p.f) (all_false hs) (All-head (λ n. n < count) p.f (rails_of hs) rest)
-        (falses_below count hs (All-tail (λ n. n < count) p.f (rails_of hs) rest))
+    (falses_below count hs (All-tail (λ n. n < count) p.f (rails_of hs) rest))
 
 one_below : (count : ℕ) (t : List Literal) → All (Under count) t → IsBelow count (t ∷ [])
 one_below count t h = All-cons (λ t. All (Under count) t) t [] h (All-nil (λ t. All (Under count) t))
@@ -54,14 +54,14 @@ pub none_within : (count n : ℕ) (rails : List ℕ) (g : GuardValue) → g ≡ 
     IsBelow count g
 none_within count n rails g is even h =
     subst (IsBelow count) (sym is) (one_below count (all_false (pairs_of rails))
-        (falses_below count (pairs_of rails) (subst (All (λ n. n < count)) (sym (rails_again n rails even)) h)))
+    (falses_below count (pairs_of rails) (subst (All (λ n. n < count)) (sym (rails_again n rails even)) h)))
 
 falses_take : (count k : ℕ) (hs : List Pair) → All (Under count) (all_false hs) → All (Under count) (all_false (take k hs))
 falses_take count zero hs h = All-nil (Under count)
 falses_take count (suc k) [] h = h
 falses_take count (suc k) (p ∷ hs) h =
     All-cons (Under count) (is_high p.f) (all_false (take k hs)) (All-head (Under count) (is_high p.f) (all_false hs) h)
-        (falses_take count k hs (All-tail (Under count) (is_high p.f) (all_false hs) h))
+    (falses_take count k hs (All-tail (Under count) (is_high p.f) (all_false hs) h))
 
 falses_drop : (count k : ℕ) (hs : List Pair) → All (Under count) (all_false hs) → All (Under count) (all_false (drop k hs))
 falses_drop count zero hs h = h
@@ -74,7 +74,7 @@ pub only_within : (count n k : ℕ) (rails : List ℕ) (g : GuardValue) →
 only_within count n k rails g is even lt h =
     let falses = falses_below count (pairs_of rails) (subst (All (λ n. n < count)) (sym (rails_again n rails even)) h) in
     subst (IsBelow count) (sym is) (one_below count _
-        (All-append (Under count) (all_false (take k (pairs_of rails))) _ (falses_take count k (pairs_of rails) falses)
+    (All-append (Under count) (all_false (take k (pairs_of rails))) _ (falses_take count k (pairs_of rails) falses)
     (All-cons (Under count) (is_high (slice_index_or rails (2 * k) 0)) _ (h (2 * k) 0 (omega arith)) (falses_drop count (k + 1) (pairs_of rails) falses))))
 
 -- a node whose guards are as they were, twice

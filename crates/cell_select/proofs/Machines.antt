@@ -68,7 +68,7 @@ step_test M c q =
 abbrev rail_test : Machine → List Bool → List Bool → Bool
 rail_test M c q =
     all_lists 7 (λ r. when (rails_go (bit_at c M.eval) q r) (λ _. M.fit c r
-        && all_below M.size (λ j. when (M.own j) (λ _. implies (can M j c q) (can M j c r)))))
+    && all_below M.size (λ j. when (M.own j) (λ _. implies (can M j c q) (can M j c r)))))
 
 -- where no branch is under way any branch may be looked at
 abbrev aim_test : Machine → List Bool → List Bool → Bool
@@ -102,8 +102,10 @@ pub record Setting (M : Machine) (frame : List ℕ) (bs : List Branch) (eval : �
   pub whole : whole_test M ≡ true
   -- the request is the first control and the answer the second; the last follows the start
   pub second : 1 < M.latch
-  pub request_up : (v noted : ℕ → Bool) (p : BranchPlace) → M.up 0 (map v (controls frame p)) (seen_rails v noted bs p) ≡ not (bit_at (map v (controls frame p)) 1)
-  pub request_down : (v noted : ℕ → Bool) (p : BranchPlace) → M.down 0 (map v (controls frame p)) (seen_rails v noted bs p) ≡ bit_at (map v (controls frame p)) 1
+  pub request_up : (v noted : ℕ → Bool) (p : BranchPlace) →
+      M.up 0 (map v (controls frame p)) (seen_rails v noted bs p) ≡ not (bit_at (map v (controls frame p)) 1)
+  pub request_down : (v noted : ℕ → Bool) (p : BranchPlace) →
+      M.down 0 (map v (controls frame p)) (seen_rails v noted bs p) ≡ bit_at (map v (controls frame p)) 1
   pub answer_up : (v noted : ℕ → Bool) (p : BranchPlace) →
       M.up (M.latch + 2) (map v (controls frame p)) (seen_rails v noted bs p) ≡ bit_at (map v (controls frame p)) (M.latch + 1)
   pub answer_down : (v noted : ℕ → Bool) (p : BranchPlace) →
@@ -124,7 +126,8 @@ append_length : (xs ys : List ℕ) → length (xs ++ ys) ≡ length xs + length 
 append_length [] ys = omega arith
 append_length (x ∷ xs) ys = let rest = append_length xs ys in omega (arith, rest)
 
-pub controls_length : (M : Machine) (frame : List ℕ) (bs : List Branch) (eval : ℕ) (p : BranchPlace) → Setting M frame bs eval → length (controls frame p) ≡ M.size
+pub controls_length : (M : Machine) (frame : List ℕ) (bs : List Branch) (eval : ℕ) (p : BranchPlace) → Setting M frame bs eval →
+    length (controls frame p) ≡ M.size
 controls_length M frame bs eval p s =
     let l = append_length frame (p.this.latch ∷ p.this.start ∷ p.this.answer ∷ []) in
     let long = s.long in
@@ -149,10 +152,10 @@ around frame bs p is d =
     let parts : controls_of bs ++ rails ≡ controls_of p.before ++ (mine ++ (controls_of p.behind ++ rails)) =
     ap (λ (xs : List Branch). controls_of xs ++ rails) is ∙ ap (λ (ns : List ℕ). ns ++ rails) (controls_parts p.before p.this p.behind)
     ∙ append_assoc (controls_of p.before) (mine ++ controls_of p.behind) rails
-        ∙ ap (λ (ns : List ℕ). controls_of p.before ++ ns) (append_assoc mine (controls_of p.behind) rails) in
+    ∙ ap (λ (ns : List ℕ). controls_of p.before ++ ns) (append_assoc mine (controls_of p.behind) rails) in
     let whole = subst (λ (ns : List ℕ). Distinct (frame ++ ns)) parts d in
     subst Distinct (sym (append_assoc frame mine (controls_of p.before ++ (controls_of p.behind ++ rails))))
-        (swapped frame (controls_of p.before) mine (controls_of p.behind ++ rails) whole)
+    (swapped frame (controls_of p.before) mine (controls_of p.behind ++ rails) whole)
 
 -- all that a state has
 table_at : (M : Machine) (c q : List Bool) → whole_test M ≡ true → length c ≡ M.size → length q ≡ 7 → M.control c ≡ true → M.fit c q ≡ true →
@@ -160,7 +163,7 @@ table_at : (M : Machine) (c q : List Bool) → whole_test M ≡ true → length 
 table_at M c q h lc lq control fit =
     when_at (M.fit c q) (λ _. state_test M c q)
     (all_lists_at 7 (λ q. when (M.fit c q) (λ _. state_test M c q)) (when_at (M.control c) (λ _. all_lists 7 (λ q. when (M.fit c q) (λ _. state_test M c q)))
-        (all_lists_at M.size (λ c. when (M.control c) (λ _. all_lists 7 (λ q. when (M.fit c q) (λ _. state_test M c q)))) h c lc) control) q lq)
+    (all_lists_at M.size (λ c. when (M.control c) (λ _. all_lists 7 (λ q. when (M.fit c q) (λ _. state_test M c q)))) h c lc) control) q lq)
     fit
 
 pub state_of : (M : Machine) (frame : List ℕ) (bs : List Branch) (eval : ℕ) (m : Moment) (p : BranchPlace) → Setting M frame bs eval → View M frame bs m p →
@@ -175,9 +178,9 @@ extra_of M c q h = and_right (both_test M c q) _
 pub both_of : (M : Machine) (c q : List Bool) (j : ℕ) → state_test M c q ≡ true → j < M.size → M.own j ≡ true → (M.up j c q && M.down j c q) ≡ false
 both_of M c q j h lt own =
     let tests = and_left (both_test M c q) (M.extra c q)
-        (and_right (won_test M c q) _ (and_right (aim_test M c q) _ (and_right (rail_test M c q) _ (and_right (step_test M c q) _ h)))) in
+    (and_right (won_test M c q) _ (and_right (aim_test M c q) _ (and_right (rail_test M c q) _ (and_right (step_test M c q) _ h)))) in
     not_true _ (when_at (M.own j) (λ _. not (M.up j c q && M.down j c q)) (all_below_at M.size (λ j. when (M.own j) (λ _. not (M.up j c q && M.down j c q)))
-        tests j lt) own)
+    tests j lt) own)
 
 pub won_of : (M : Machine) (c q : List Bool) → state_test M c q ≡ true → won_test M c q ≡ true
 won_of M c q h = and_left _ (both_test M c q && M.extra c q) (and_right (aim_test M c q) _ (and_right (rail_test M c q) _ (and_right (step_test M c q) _ h)))
@@ -193,18 +196,18 @@ step_of M c q i h lt can_i =
     let steps = and_left (step_test M c q) _ h in
     let firms : Bool = all_below M.size (λ j. when (M.own j && not (j == i)) (λ _. implies (can M j c q) (can M j (flip i c) q))) in
     let here = when_at (can M i c q) (λ _. M.control (flip i c) && (M.fit (flip i c) (renoted ((i == M.eval) && bit_at c i) q) && firms))
-        (all_below_at M.size (λ i. when (can M i c q) (λ _. M.control (flip i c)
-        && (M.fit (flip i c) (renoted ((i == M.eval) && bit_at c i) q)
-        && all_below M.size (λ j. when (M.own j && not (j == i)) (λ _. implies (can M j c q) (can M j (flip i c) q)))))) steps i lt) can_i in
+    (all_below_at M.size (λ i. when (can M i c q) (λ _. M.control (flip i c)
+    && (M.fit (flip i c) (renoted ((i == M.eval) && bit_at c i) q)
+    && all_below M.size (λ j. when (M.own j && not (j == i)) (λ _. implies (can M j c q) (can M j (flip i c) q)))))) steps i lt) can_i in
     let rest = and_right (M.control (flip i c)) _ here in
     record {
       control = and_left (M.control (flip i c)) _ here;
       fit = and_left (M.fit (flip i c) (renoted ((i == M.eval) && bit_at c i) q)) firms rest;
       firm = λ j less own ne can_j.
           implies_at (can M j c q) (can M j (flip i c) q) (when_at (M.own j && not (j == i)) (λ _. implies (can M j c q) (can M j (flip i c) q))
-              (all_below_at M.size (λ j. when (M.own j && not (j == i)) (λ _. implies (can M j c q) (can M j (flip i c) q)))
-              (and_right (M.fit (flip i c) (renoted ((i == M.eval) && bit_at c i) q)) firms rest) j less) (both (M.own j) (not (j == i)) own (other j i ne)))
-              can_j;
+          (all_below_at M.size (λ j. when (M.own j && not (j == i)) (λ _. implies (can M j c q) (can M j (flip i c) q)))
+          (and_right (M.fit (flip i c) (renoted ((i == M.eval) && bit_at c i) q)) firms rest) j less) (both (M.own j) (not (j == i)) own (other j i ne)))
+          can_j;
     }
 
 pub record RailStepped (M : Machine) (c q r : List Bool) : Type 0 where
@@ -215,13 +218,13 @@ pub rail_of : (M : Machine) (c q r : List Bool) → state_test M c q ≡ true �
 rail_of M c q r h long go =
     let rails = and_left (rail_test M c q) _ (and_right (step_test M c q) _ h) in
     let here = when_at (rails_go (bit_at c M.eval) q r) (λ _. M.fit c r && all_below M.size (λ j. when (M.own j) (λ _. implies (can M j c q) (can M j c r))))
-        (all_lists_at 7 (λ r. when (rails_go (bit_at c M.eval) q r) (λ _. M.fit c r
-        && all_below M.size (λ j. when (M.own j) (λ _. implies (can M j c q) (can M j c r))))) rails r long) go in
+    (all_lists_at 7 (λ r. when (rails_go (bit_at c M.eval) q r) (λ _. M.fit c r
+    && all_below M.size (λ j. when (M.own j) (λ _. implies (can M j c q) (can M j c r))))) rails r long) go in
     record {
       fit = and_left (M.fit c r) _ here;
       firm = λ j less own can_j.
           implies_at (can M j c q) (can M j c r) (when_at (M.own j) (λ _. implies (can M j c q) (can M j c r))
-              (all_below_at M.size (λ j. when (M.own j) (λ _. implies (can M j c q) (can M j c r))) (and_right (M.fit c r) _ here) j less) own) can_j;
+          (all_below_at M.size (λ j. when (M.own j) (λ _. implies (can M j c q) (can M j c r))) (and_right (M.fit c r) _ here) j less) own) can_j;
     }
 
 pub aim_of : (M : Machine) (c q r : List Bool) → state_test M c q ≡ true → under_way M c ≡ false → length r ≡ 7 → consistent r ≡ true → same_seen q r ≡ true →
@@ -229,9 +232,9 @@ pub aim_of : (M : Machine) (c q r : List Bool) → state_test M c q ≡ true →
 aim_of M c q r h idle long con same =
     let aims = and_left (aim_test M c q) _ (and_right (rail_test M c q) _ (and_right (step_test M c q) _ h)) in
     when_at (consistent r && same_seen q r) (λ _. M.fit c r)
-        (all_lists_at 7 (λ r. when (consistent r && same_seen q r) (λ _. M.fit c r))
-        (when_at (not (under_way M c)) (λ _. all_lists 7 (λ r. when (consistent r && same_seen q r) (λ _. M.fit c r))) aims (true_not _ idle)) r long)
-        (both (consistent r) (same_seen q r) con same)
+    (all_lists_at 7 (λ r. when (consistent r && same_seen q r) (λ _. M.fit c r))
+    (when_at (not (under_way M c)) (λ _. all_lists 7 (λ r. when (consistent r && same_seen q r) (λ _. M.fit c r))) aims (true_not _ idle)) r long)
+    (both (consistent r) (same_seen q r) con same)
 
 -- what a moment says after a control has moved
 note_same : (v noted : ℕ → Bool) (bs : List Branch) (p : BranchPlace) (b : Bool) →
@@ -253,7 +256,7 @@ control_moved M frame bs eval v p i node s is calm lt at =
     let less : i < length (controls frame p) = omega (arith, lt, long) in
     let rails = rails_of (guards_of bs) in
     let cross = cross_at (controls frame p) (controls_of p.before ++ (controls_of p.behind ++ rails)) i less
-        (distinct_cross (controls frame p) (controls_of p.before ++ (controls_of p.behind ++ rails)) d) in
+    (distinct_cross (controls frame p) (controls_of p.before ++ (controls_of p.behind ++ rails)) d) in
     let off = subst (λ n. Fresh n (controls_of p.before ++ (controls_of p.behind ++ rails))) (sym at) cross in
     let last = fresh_right node (controls_of p.before) (controls_of p.behind ++ rails) off in
     let fresh = fresh_right node (controls_of p.behind) rails last in
@@ -299,8 +302,8 @@ same_test M frame bs eval p i node s is lt at false e =
     let size = s.size in
     let apart = distinct_left (controls frame p) (controls_of p.before ++ (controls_of p.behind ++ rails_of (guards_of bs))) d in
     other_number node eval (λ same. true_false
-        (ap (λ k. k == M.eval) (one_place (controls frame p) apart i M.eval (omega (arith, lt, long)) (omega (arith, inside, size, long)) (sym at ∙ same
-        ∙ sym (eval_there M frame bs eval p s))) ∙ same_number M.eval) e)
+    (ap (λ k. k == M.eval) (one_place (controls frame p) apart i M.eval (omega (arith, lt, long)) (omega (arith, inside, size, long)) (sym at ∙ same
+    ∙ sym (eval_there M frame bs eval p s))) ∙ same_number M.eval) e)
 
 pub control_kept : (M : Machine) (frame : List ℕ) (bs : List Branch) (eval : ℕ) (m : Moment) (p : BranchPlace) (i node : ℕ) → Setting M frame bs eval →
     View M frame bs m p → i < M.size → node ≡ slice_index_or (controls frame p) i 0 →
@@ -312,11 +315,11 @@ control_kept M frame bs eval m p i node s view lt at can_i =
     let step = step_of M c q i (state_of M frame bs eval m p s view) lt can_i in
     let moved = control_moved M frame bs eval m.value p i node s view.is view.calm lt at in
     let test : ((node == eval) && m.value eval) ≡ ((i == M.eval) && bit_at c M.eval) =
-        ap (λ b. b && m.value eval) (same_test M frame bs eval p i node s view.is lt at (i == M.eval) refl)
-        ∙ ap (λ b. (i == M.eval) && b) (sym (eval_value M frame bs eval m.value p s)) in
+    ap (λ b. b && m.value eval) (same_test M frame bs eval p i node s view.is lt at (i == M.eval) refl)
+    ∙ ap (λ b. (i == M.eval) && b) (sym (eval_value M frame bs eval m.value p s)) in
     let exact : ((i == M.eval) && bit_at c M.eval) ≡ ((i == M.eval) && bit_at c i) = same_bit c i M.eval (i == M.eval) refl in
     let noted : seen_rails (turned m.value node) (as_evaluated eval m node) bs p ≡ renoted ((i == M.eval) && bit_at c i) q =
-        moved.rails (as_evaluated eval m node) ∙ note_same m.value m.noted bs p ((node == eval) && m.value eval) ∙ ap (λ b. renoted b q) (test ∙ exact) in
+    moved.rails (as_evaluated eval m node) ∙ note_same m.value m.noted bs p ((node == eval) && m.value eval) ∙ ap (λ b. renoted b q) (test ∙ exact) in
     record {
       is = view.is;
       calm = moved.calm;
@@ -345,11 +348,11 @@ rail_off frame bs p q rail is at which d =
     let all = controls frame p ++ (controls_of p.before ++ controls_of p.behind) in
     let whole = around frame bs p is d in
     let joined = subst Distinct (ap (λ (ns : List ℕ). controls frame p ++ ns) (sym (append_assoc (controls_of p.before) (controls_of p.behind) rails))
-        ∙ sym (append_assoc (controls frame p) (controls_of p.before ++ controls_of p.behind) rails)) whole in
+    ∙ sym (append_assoc (controls frame p) (controls_of p.before ++ controls_of p.behind) rails)) whole in
     let cross = cross_turned all rails (distinct_cross all rails joined) in
     let here = rail_at q.before q.this q.behind all (subst (λ (xs : List Branch). Cross (rails_of (guards_of xs)) all) at cross) in
     ⊎_elim (λ (e : rail ≡ q.this.guard.t). subst (λ n. Fresh n all) (sym e) here.0) (λ (e : rail ≡ q.this.guard.f). subst (λ n. Fresh n all) (sym e) here.1)
-        which
+    which
 
 rails_distinct : (frame : List ℕ) (bs : List Branch) → Distinct (frame ++ (controls_of bs ++ rails_of (guards_of bs))) → Distinct (rails_of (guards_of bs))
 rails_distinct frame bs d = distinct_right (controls_of bs) (rails_of (guards_of bs)) (distinct_right frame (controls_of bs ++ rails_of (guards_of bs)) d)
@@ -375,18 +378,18 @@ rail_kept M frame bs eval m p q rail s view at which may =
     let mine = fresh_left rail (controls frame p) (controls_of p.before ++ controls_of p.behind) off in
     let moved = rail_moved v m.noted eval rail bs p q view.is at which (rails_distinct frame bs s.apart) view.single may in
     let go : rails_go (bit_at c M.eval) (seen_rails v m.noted bs p) (seen_rails (turned v rail) m.noted bs p) ≡ true =
-        ap (λ e. rails_go e (seen_rails v m.noted bs p) (seen_rails (turned v rail) m.noted bs p)) (eval_value M frame bs eval v p s) ∙ moved.go in
+    ap (λ e. rails_go e (seen_rails v m.noted bs p) (seen_rails (turned v rail) m.noted bs p)) (eval_value M frame bs eval v p s) ∙ moved.go in
     let step = rail_of M c (seen_rails v m.noted bs p) (seen_rails (turned v rail) m.noted bs p) (state_of M frame bs eval m p s view) refl go in
     let same = still v rail (controls frame p) mine in
     let calm = both _ _ (low_still v rail (controls_of p.before) (fresh_left rail (controls_of p.before) (controls_of p.behind) others)
-        ∙ and_left _ (all_low v (controls_of p.behind)) view.calm)
-        (low_still v rail (controls_of p.behind) (fresh_right rail (controls_of p.before) (controls_of p.behind) others)
-        ∙ and_right (all_low v (controls_of p.before)) _ view.calm) in
+    ∙ and_left _ (all_low v (controls_of p.behind)) view.calm)
+    (low_still v rail (controls_of p.behind) (fresh_right rail (controls_of p.before) (controls_of p.behind) others)
+    ∙ and_right (all_low v (controls_of p.before)) _ view.calm) in
     let inside = s.inside in
     let size = s.size in
     let long = controls_length M frame bs eval p s in
     let no_eval : (rail == eval) ≡ false = other_number rail eval (λ e. fresh_place (controls frame p) rail M.eval (omega (arith, inside, size, long)) mine (e
-        ∙ sym (eval_there M frame bs eval p s))) in
+    ∙ sym (eval_there M frame bs eval p s))) in
     let noted : as_evaluated eval m rail ≡ m.noted = ap (λ b. λ (n : ℕ). if b && v eval then v n else m.noted n) no_eval in
     record {
       view = record {

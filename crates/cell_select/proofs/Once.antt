@@ -37,7 +37,7 @@ no_rail : (n : ℕ) (bs : List Branch) → Fresh n (rails_of (guards_of bs)) →
 no_rail n [] h = refl
 no_rail n (b ∷ bs) h =
     ap (λ x. x || (n == b.guard.f || is_rail bs n)) (other_number n b.guard.t h.0) ∙ ap (λ x. x || is_rail bs n) (other_number n b.guard.f h.1.0)
-        ∙ no_rail n bs h.1.1
+    ∙ no_rail n bs h.1.1
 
 -- two notes that are the same on the rails
 pub record Agree (bs : List Branch) (f g : ℕ → Bool) : Type 0 where
@@ -49,7 +49,7 @@ noted_rail : (request eval : ℕ) (bs : List Branch) (v n0 n1 : ℕ → Bool) (n
 noted_rail request eval bs v n0 n1 node rail is same =
     ap (λ b. if node == eval && v eval then v rail else b) same
     ∙ ap (λ b. if b then as_evaluated eval (record { value = v; noted = n1 }) node rail else if node == (if rail == eval then request else eval) then false else
-        node == rail || n1 rail) (sym is)
+    node == rail || n1 rail) (sym is)
 
 pub agree_after : (request eval : ℕ) (bs : List Branch) (v n0 n1 : ℕ → Bool) (node : ℕ) → Agree bs n0 n1 →
     Agree bs (as_evaluated eval (record { value = v; noted = n0 }) node) (noting request eval bs (record { value = v; noted = n1 }) node)
@@ -71,20 +71,20 @@ alone_agrees bs f g p is h =
     let there : (b : Branch) → Among b (p.before ++ p.this ∷ p.behind) → Among b bs = λ b a. subst (Among b) (sym is) a in
     ap (λ x. x && (guards_false f p.before && guards_false f p.behind)) (h.trues p.this (there p.this (among_middle p.this p.before p.behind)))
     ∙ ap (λ x. g p.this.guard.t && (x && guards_false f p.behind))
-        (false_agrees f g p.before (λ b a. h.falses b (there b (among_left b p.before (p.this ∷ p.behind) a))))
+    (false_agrees f g p.before (λ b a. h.falses b (there b (among_left b p.before (p.this ∷ p.behind) a))))
     ∙ ap (λ x. g p.this.guard.t && (guards_false g p.before && x))
-        (false_agrees f g p.behind (λ b a. h.falses b (there b (among_right b p.before (p.this ∷ p.behind) (inr a)))))
+    (false_agrees f g p.behind (λ b a. h.falses b (there b (among_right b p.before (p.this ∷ p.behind) (inr a)))))
 
 -- neighbours' wires look at values alone
 pub same_may : (request answer eval : ℕ) (bs : List Branch) (v n0 n1 : ℕ → Bool) (w : Wire) → (w ≡ request_wire request answer) ⊎ IsBranchWire eval bs w →
     may_move (record { value = v; noted = n1 }) w ≡ may_move (record { value = v; noted = n0 }) w
 same_may request answer eval bs v n0 n1 w is =
     let at : (u : Wire) → w ≡ u → may_move (record { value = v; noted = n1 }) u ≡ may_move (record { value = v; noted = n0 }) u →
-        may_move (record { value = v; noted = n1 }) w ≡ may_move (record { value = v; noted = n0 }) w =
+    may_move (record { value = v; noted = n1 }) w ≡ may_move (record { value = v; noted = n0 }) w =
     λ u e same. ap (may_move (record { value = v; noted = n1 })) e ∙ same ∙ ap (may_move (record { value = v; noted = n0 })) (sym e) in
     ⊎_elim (λ e. at (request_wire request answer) e refl)
     (λ (b : IsBranchWire eval bs w). ⊎_elim (λ e. at (t_wire eval b.0) e refl) (λ more. ⊎_elim (λ e. at (f_wire eval b.0) e refl) (λ e. at (d_wire b.0) e refl)
-        more) b.2)
+    more) b.2)
     is
 
 -- which control a move concerns
@@ -106,10 +106,10 @@ elsewhere M frame bs eval z k node b i s is less at a lt =
     let rails = rails_of (guards_of bs) in
     let others = controls_of z.before ++ (controls_of z.behind ++ rails) in
     let fresh = subst (λ n. Fresh n others) (sym at)
-        (cross_at (controls frame z) others k (omega (arith, long, less)) (distinct_cross (controls frame z) others (around frame bs z is s.apart))) in
+    (cross_at (controls frame z) others k (omega (arith, long, less)) (distinct_cross (controls frame z) others (around frame bs z is s.apart))) in
     ⊎_elim (λ l. fresh_control node b z.before i lt l (fresh_left node (controls_of z.before) (controls_of z.behind ++ rails) fresh))
     (λ r. fresh_control node b z.behind i lt r
-        (fresh_left node (controls_of z.behind) rails (fresh_right node (controls_of z.before) (controls_of z.behind ++ rails) fresh)))
+    (fresh_left node (controls_of z.behind) rails (fresh_right node (controls_of z.before) (controls_of z.behind ++ rails) fresh)))
     (among_cases b z.before z.behind a)
 
 pub rail_no_control : (M : Machine) (frame : List ℕ) (bs : List Branch) (eval : ℕ) (m : Moment) (z q : BranchPlace) (k node : ℕ) → Setting M frame bs eval →
@@ -124,7 +124,8 @@ abbrev pub SeenAt : Machine → List ℕ → List Branch → Moment → BranchPl
 SeenAt M frame bs m y k = View M frame bs m y × (can M k (map m.value (controls frame y)) (seen_rails m.value m.noted bs y) ≡ true)
 
 pub seen_at : (M : Machine) (frame : List ℕ) (bs : List Branch) (request answer eval : ℕ) (part : Part) (m : Moment) (p : BranchPlace) (node : ℕ) →
-    Setting M frame bs eval → IsPart M frame bs request answer eval part → View M frame bs m p → IsMove part m node → (y : BranchPlace) → IsPlace bs y → (i : ℕ) →
+    Setting M frame bs eval → IsPart M frame bs request answer eval part → View M frame bs m p → IsMove part m node → (y : BranchPlace) → IsPlace bs y →
+    (i : ℕ) →
     i < 3 → node ≡ slice_index_or (y.this.latch ∷ y.this.start ∷ y.this.answer ∷ []) i 0 → SeenAt M frame bs m y (M.latch + i)
 seen_at M frame bs request answer eval part m p node s part_is view move y is i lt at =
     let size = s.size in
@@ -168,8 +169,8 @@ tried_at M frame bs eval m p test s view h =
     let q = seen_rails m.value m.noted bs p in
     when_at (M.fit c q) (λ _. test c q)
     (all_lists_at 7 (λ q. when (M.fit c q) (λ _. test c q)) (when_at (M.control c) (λ _. all_lists 7 (λ q. when (M.fit c q) (λ _. test c q)))
-        (all_lists_at M.size (λ c. when (M.control c) (λ _. all_lists 7 (λ q. when (M.fit c q) (λ _. test c q)))) h c
-        (values_length M frame bs eval m.value p s)) view.control) q refl)
+    (all_lists_at M.size (λ c. when (M.control c) (λ _. all_lists 7 (λ q. when (M.fit c q) (λ _. test c q)))) h c
+    (values_length M frame bs eval m.value p s)) view.control) q refl)
     view.fit
 
 -- nodes that are no rails
@@ -178,14 +179,14 @@ pub noted_start : (request eval : ℕ) (bs : List Branch) (m : Moment) (node s :
     noting request eval bs m node s ≡ (if node == eval then false else node == s || m.noted s)
 noted_start request eval bs m node s fresh ne =
     ap (λ b. if b then as_evaluated eval m node s else if node == (if s == eval then request else eval) then false else node == s || m.noted s)
-        (no_rail s bs fresh)
+    (no_rail s bs fresh)
     ∙ ap (λ b. if node == (if b then request else eval) then false else node == s || m.noted s) (other_number s eval ne)
 
 pub noted_eval : (request eval : ℕ) (bs : List Branch) (m : Moment) (node : ℕ) → Fresh eval (rails_of (guards_of bs)) →
     noting request eval bs m node eval ≡ (if node == request then false else node == eval || m.noted eval)
 noted_eval request eval bs m node fresh =
     ap (λ b. if b then as_evaluated eval m node eval else if node == (if eval == eval then request else eval) then false else node == eval || m.noted eval)
-        (no_rail eval bs fresh)
+    (no_rail eval bs fresh)
     ∙ ap (λ b. if node == (if b then request else eval) then false else node == eval || m.noted eval) (same_number eval)
 
 pub control_fresh : (M : Machine) (frame : List ℕ) (bs : List Branch) (eval : ℕ) (y : BranchPlace) (i : ℕ) → Setting M frame bs eval → IsPlace bs y → i < 3 →
@@ -196,7 +197,7 @@ control_fresh M frame bs eval y i s is lt =
     let rails = rails_of (guards_of bs) in
     let others = controls_of y.before ++ (controls_of y.behind ++ rails) in
     let fresh = cross_at (controls frame y) others (M.latch + i) (omega (arith, long, size, lt))
-        (distinct_cross (controls frame y) others (around frame bs y is s.apart)) in
+    (distinct_cross (controls frame y) others (around frame bs y is s.apart)) in
     subst (λ n. Fresh n rails) (last_there M frame bs eval y i s)
     (fresh_right _ (controls_of y.behind) rails (fresh_right _ (controls_of y.before) (controls_of y.behind ++ rails) fresh))
 
@@ -205,7 +206,7 @@ pub latch_no_start : (M : Machine) (frame : List ℕ) (bs : List Branch) (eval :
 latch_no_start M frame bs eval y s is e =
     let size = s.size in
     let same : M.latch + 0 ≡ M.latch + 1 = one_control M frame bs eval y (M.latch + 0) (M.latch + 1) s is (omega (arith, size)) (omega (arith, size))
-        (last_there M frame bs eval y 0 s ∙ e ∙ sym (last_there M frame bs eval y 1 s)) in
+    (last_there M frame bs eval y 0 s ∙ e ∙ sym (last_there M frame bs eval y 1 s)) in
     omega (arith, same)
 
 pub among_place : (bs : List Branch) (y : BranchPlace) → IsPlace bs y → Among y.this bs
@@ -275,7 +276,7 @@ module _ (v n1 : ℕ → Bool) (eval l s node : ℕ) (ls : l ≢ s) (latch_fact 
   cases false false true ex ey ez = at_latch (v l) refl (eqb-true node l ez) (apart_by node eval ex)
   cases false false false ex ey ez =
       ap (λ b. start_ok (turned v node eval) (turned v node l) (turned v node s) b) (ap (λ b. if b then false else node == s || n1 s) ex
-          ∙ ap (λ b. b || n1 s) ey)
+      ∙ ap (λ b. b || n1 s) ey)
       ∙ ap (λ b. start_ok b (turned v node l) (turned v node s) (n1 s)) (turned_other v node eval (apart_by node eval ex))
       ∙ ap (λ b. start_ok (v eval) b (turned v node s) (n1 s)) (turned_other v node l (apart_by node l ez))
       ∙ ap (λ b. start_ok (v eval) (v l) b (n1 s)) (turned_other v node s (apart_by node s ey)) ∙ holds
@@ -314,7 +315,7 @@ module _ (v n1 : ℕ → Bool) (request eval any node : ℕ) (er : eval ≢ any)
   ways false false true ex ey ez = at_any (v any) refl (eqb-true node any ez) (apart_by node request ex)
   ways false false false ex ey ez =
       ap (λ b. eval_ok (turned v node request) (turned v node eval) (turned v node any) b) (ap (λ b. if b then false else node == eval || n1 eval) ex
-          ∙ ap (λ b. b || n1 eval) ey)
+      ∙ ap (λ b. b || n1 eval) ey)
       ∙ ap (λ b. eval_ok b (turned v node eval) (turned v node any) (n1 eval)) (turned_other v node request (apart_by node request ex))
       ∙ ap (λ b. eval_ok (v request) b (turned v node any) (n1 eval)) (turned_other v node eval (apart_by node eval ey))
       ∙ ap (λ b. eval_ok (v request) (v eval) b (n1 eval)) (turned_other v node any (apart_by node any ez)) ∙ holds
@@ -368,7 +369,7 @@ module _ (v n1 : ℕ → Bool) (request eval leave node : ℕ) (re : request ≢
   at_request false is same =
       let low = rise_fact same is in
       ended_low (turned v node request) (turned v node eval) (turned v node leave) Note (turned_other v node eval (λ e. re (sym same ∙ e)) ∙ low.0)
-          (turned_other v node leave (λ e. rl (sym same ∙ e)) ∙ low.1)
+      (turned_other v node leave (λ e. rl (sym same ∙ e)) ∙ low.1)
 
   same_note : (node == request) ≡ false → (node == eval) ≡ false → Note ≡ n1 eval
   same_note ex ey = ap (λ b. if b then false else node == eval || n1 eval) ex ∙ ap (λ b. b || n1 eval) ey
@@ -415,12 +416,13 @@ start_test M c q =
     implies (can M M.latch c q && not (bit_at c M.latch)) (bit_at c M.eval)
     && implies (can M (M.latch + 1) c q) (if bit_at c (M.latch + 1) then not (bit_at c M.latch) else bit_at c M.latch)
 
-pub start_no_eval : (M : Machine) (frame : List ℕ) (bs : List Branch) (eval : ℕ) (y : BranchPlace) → Setting M frame bs eval → IsPlace bs y → y.this.start ≢ eval
+pub start_no_eval : (M : Machine) (frame : List ℕ) (bs : List Branch) (eval : ℕ) (y : BranchPlace) → Setting M frame bs eval → IsPlace bs y →
+    y.this.start ≢ eval
 start_no_eval M frame bs eval y s is e =
     let size = s.size in
     let inside = s.inside in
     let same : M.latch + 1 ≡ M.eval = one_control M frame bs eval y (M.latch + 1) M.eval s is (omega (arith, size)) (omega (arith, size, inside))
-        (last_there M frame bs eval y 1 s ∙ e ∙ sym (eval_there M frame bs eval y s)) in
+    (last_there M frame bs eval y 1 s ∙ e ∙ sym (eval_there M frame bs eval y s)) in
     omega (arith, same, inside)
 
 plus_zero : (n : ℕ) → n + 0 ≡ n
@@ -451,7 +453,7 @@ module _ (M : Machine) (frame : List ℕ) (bs : List Branch) (request answer eva
       let t = tried_at M frame bs eval (record { value = v; noted = old }) y (start_test M) s here.0 tries in
       sym (eval_value M frame bs eval v y s)
       ∙ implies_at (can M M.latch c q && not (bit_at c M.latch)) (bit_at c M.eval)
-          (and_left _ (implies (can M (M.latch + 1) c q) (if bit_at c (M.latch + 1) then not (bit_at c M.latch) else bit_at c M.latch)) t)
+      (and_left _ (implies (can M (M.latch + 1) c q) (if bit_at c (M.latch + 1) then not (bit_at c M.latch) else bit_at c M.latch)) t)
       (both _ _ (ap (λ k. can M k c q) (sym (plus_zero M.latch)) ∙ here.1) (ap not (latch_value M frame bs eval v y s ∙ low)))
 
   start_moves : node ≡ y.this.start → (if bit_at c (M.latch + 1) then not (bit_at c M.latch) else bit_at c M.latch) ≡ true
@@ -471,6 +473,6 @@ module _ (M : Machine) (frame : List ℕ) (bs : List Branch) (request answer eva
       (noting request eval bs (record { value = v; noted = n1 }) node y.this.start) ≡ true
   started_after n1 holds =
       ap (start_ok (turned v node eval) (turned v node y.this.latch) (turned v node y.this.start))
-          (noted_start request eval bs (record { value = v; noted = n1 }) node y.this.start (control_fresh M frame bs eval y 1 s is (omega arith))
-          (start_no_eval M frame bs eval y s is))
+      (noted_start request eval bs (record { value = v; noted = n1 }) node y.this.start (control_fresh M frame bs eval y 1 s is (omega arith))
+      (start_no_eval M frame bs eval y s is))
       ∙ start_step v n1 eval y.this.latch y.this.start node (latch_no_start M frame bs eval y s is) latch_asked start_unlatched holds

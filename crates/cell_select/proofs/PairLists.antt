@@ -36,7 +36,7 @@ pair_is (suc n) (t ∷ f ∷ rails) (suc i) d e lt =
     let at_even : slice_index_or (t ∷ f ∷ rails) (2 * suc i) 0 ≡ slice_index_or rails (2 * i) 0 = ap (λ k. slice_index_or (t ∷ f ∷ rails) k 0) even in
     let at_odd : slice_index_or (t ∷ f ∷ rails) (2 * suc i + 1) 0 ≡ slice_index_or rails (2 * i + 1) 0 = ap (λ k. slice_index_or (t ∷ f ∷ rails) k 0) odd in
     rest ∙ ap (λ (k : ℕ). let p : Pair = record { t = k; f = slice_index_or rails (2 * i + 1) 0 } in p) (sym at_even)
-        ∙ ap (λ (k : ℕ). let p : Pair = record { t = slice_index_or (t ∷ f ∷ rails) (2 * suc i) 0; f = k } in p) (sym at_odd)
+    ∙ ap (λ (k : ℕ). let p : Pair = record { t = slice_index_or (t ∷ f ∷ rails) (2 * suc i) 0; f = k } in p) (sym at_odd)
 
 pub pair_within : (rails : List ℕ) (i : ℕ) (d : Pair) → 2 * i + 1 < length rails →
     (i < length (pairs_of rails)) × (slice_index_or (pairs_of rails) i d ≡ pair_in rails i)
@@ -48,9 +48,11 @@ pair_within (t ∷ f ∷ rails) (suc i) d lt =
     let even : 2 * suc i ≡ suc (suc (2 * i)) = omega arith in
     let odd : 2 * suc i + 1 ≡ suc (suc (2 * i + 1)) = omega arith in
     let at_even : slice_index_or (t ∷ f ∷ rails) (2 * suc i) 0 ≡ slice_index_or rails (2 * i) 0 = ap (λ k. slice_index_or (t ∷ f ∷ rails) k 0) even in
-    let at_odd : slice_index_or (t ∷ f ∷ rails) (2 * suc i + 1) 0 ≡ slice_index_or rails (2 * i + 1) 0 = ap (λ k. slice_index_or (t ∷ f ∷ rails) k 0) odd in
-    (omega (arith, rest.0), rest.1 ∙ ap (λ (k : ℕ). let p : Pair = record { t = k; f = slice_index_or rails (2 * i + 1) 0 } in p) (sym at_even)
-        ∙ ap (λ (k : ℕ). let p : Pair = record { t = slice_index_or (t ∷ f ∷ rails) (2 * suc i) 0; f = k } in p) (sym at_odd))
+    let at_odd : slice_index_or (t ∷ f ∷ rails) (2 * suc i + 1) 0 ≡ slice_index_or rails (2 * i + 1) 0 = ap (λ k. slice_index_or (t ∷ f ∷ rails) k 0) odd in (
+      omega (arith, rest.0),
+      rest.1 ∙ ap (λ (k : ℕ). let p : Pair = record { t = k; f = slice_index_or rails (2 * i + 1) 0 } in p) (sym at_even)
+          ∙ ap (λ (k : ℕ). let p : Pair = record { t = slice_index_or (t ∷ f ∷ rails) (2 * suc i) 0; f = k } in p) (sym at_odd),
+    )
 
 -- one more literal that wants a guard false
 pub falses_step : (rails : List ℕ) (from guard : ℕ) (start items : List Literal) → from ≤ guard → 2 * guard + 1 < length rails →
@@ -66,13 +68,13 @@ falses_step rails from guard start items le lt is =
     let long : length hs ≡ length (pairs_of rails) - from = length-drop from (pairs_of rails) in
     let inside : guard - from < length hs = omega (arith, long, within.0, le) in
     let at : slice_index_or hs (guard - from) p ≡ p = get_or-drop from (pairs_of rails) (guard - from) p ∙ ap (λ n. slice_index_or (pairs_of rails) n p) back
-        ∙ within.1 in
+    ∙ within.1 in
     let more : all_false (take (guard + 1 - from) hs) ≡ all_false (take (guard - from) hs) ++ is_high p.f ∷ [] =
     ap (λ n. all_false (take n hs)) next ∙ ap all_false (take_more hs (guard - from) p inside)
-        ∙ map-append (λ (h : Pair). is_high h.f) (take (guard - from) hs) (slice_index_or hs (guard - from) p ∷ [])
+    ∙ map-append (λ (h : Pair). is_high h.f) (take (guard - from) hs) (slice_index_or hs (guard - from) p ∷ [])
     ∙ ap (λ (h : Pair). all_false (take (guard - from) hs) ++ is_high h.f ∷ []) at in
     ap (λ (xs : List Literal). xs ++ is_high p.f ∷ []) is ∙ append_assoc start (all_false (take (guard - from) hs)) (is_high p.f ∷ [])
-        ∙ ap (λ (xs : List Literal). start ++ xs) (sym more)
+    ∙ ap (λ (xs : List Literal). start ++ xs) (sym more)
 
 -- all of them
 pub falses_all : (rails : List ℕ) (n : ℕ) → length rails ≡ 2 * n →

@@ -58,10 +58,16 @@ further z w b1 x h1 b2 y h2 e (inr apart) = inr (record { second = inr apart.sec
 places_of : (b1 : List Branch) (x : Branch) (h1 b2 : List Branch) (y : Branch) (h2 : List Branch) → b1 ++ x ∷ h1 ≡ b2 ++ y ∷ h2 →
     (at_place b1 x h1 ≡ at_place b2 y h2) ⊎ Apart (at_place b1 x h1) (at_place b2 y h2)
 places_of [] x h1 [] y h2 e = inl (same_place [] x h1 [] y h2 refl (heads x y h1 h2 e) (tails x y h1 h2 e))
-places_of [] x h1 (z ∷ zs) y h2 e = inr (record { second = subst (Among y) (sym (tails x z h1 (zs ++ y ∷ h2) e)) (among_middle y zs h2); first =
-    inl (heads x z h1 (zs ++ y ∷ h2) e) })
-places_of (z ∷ zs) x h1 [] y h2 e = inr (record { second = inl (sym (heads z y (zs ++ x ∷ h1) h2 e)); first =
-    subst (Among x) (tails z y (zs ++ x ∷ h1) h2 e) (among_middle x zs h1) })
+places_of [] x h1 (z ∷ zs) y h2 e = inr (record {
+  second = subst (Among y) (sym (tails x z h1 (zs ++ y ∷ h2) e)) (among_middle y zs h2);
+  first =
+      inl (heads x z h1 (zs ++ y ∷ h2) e);
+})
+places_of (z ∷ zs) x h1 [] y h2 e = inr (record {
+  second = inl (sym (heads z y (zs ++ x ∷ h1) h2 e));
+  first =
+      subst (Among x) (tails z y (zs ++ x ∷ h1) h2 e) (among_middle x zs h1);
+})
 places_of (z ∷ zs) x h1 (w ∷ ws) y h2 e =
     further z w zs x h1 ws y h2 (heads z w (zs ++ x ∷ h1) (ws ++ y ∷ h2) e) (places_of zs x h1 ws y h2 (tails z w (zs ++ x ∷ h1) (ws ++ y ∷ h2) e))
 
@@ -113,9 +119,9 @@ latch_in request pre [] o h = absurd (contains_none o h)
 latch_in request pre (b ∷ bs) o h =
     ⊎_elim (λ e. (at_place pre b bs, refl, e))
     (λ more. let r = latch_in request (pre ++ b ∷ []) bs o (subst (λ hs. Contains (owned_at (latches_of bs) (latches_behind request hs (guards_of bs))) o)
-        (sym (guards_next pre b)) more) in (r.0, moved_on pre b bs r.0 r.1, r.2))
+    (sym (guards_next pre b)) more) in (r.0, moved_on pre b bs r.0 r.1, r.2))
     (contains_cons (latch_owned request (at_place pre b bs)) (owned_at (latches_of bs) (latches_behind request (guards_of pre ++ b.guard ∷ []) (guards_of bs)))
-        o h)
+    o h)
 
 start_in : (hs : List Pair) (pre bs : List Branch) (o : Owned) → Contains (owned_at (starts_of bs) (starts (latches_of bs) hs)) o →
     IsMade (pre ++ bs) (start_owned hs) o
@@ -144,7 +150,7 @@ branch_own request bs o h =
     ⊎_elim (λ first. inl (latch_in request [] bs o first))
     (λ second. inr (start_in (guards_of bs) [] bs o second))
     (Contains-append_cases (owned_at (latches_of bs) (latches_behind request [] (guards_of bs)))
-        (owned_at (starts_of bs) (starts (latches_of bs) (guards_of bs))) o (subst (λ os. Contains os o) (owned_apart request bs) h))
+    (owned_at (starts_of bs) (starts (latches_of bs) (guards_of bs))) o (subst (λ os. Contains os o) (owned_apart request bs) h))
 
 -- and the other way round
 latch_from : (request : ℕ) (pre before : List Branch) (b : Branch) (behind : List Branch) →
@@ -152,32 +158,32 @@ latch_from : (request : ℕ) (pre before : List Branch) (b : Branch) (behind : L
     (latch_owned request (at_place (pre ++ before) b behind))
 latch_from request pre [] b behind =
     subst (λ (bs : List Branch). Contains (owned_at (latches_of (b ∷ behind)) (latches_behind request (guards_of pre) (guards_of (b ∷ behind))))
-        (latch_owned request (at_place bs b behind))) (sym (append-nil pre))
+    (latch_owned request (at_place bs b behind))) (sym (append-nil pre))
     (contains_here (latch_owned request (at_place pre b behind))
-        (owned_at (latches_of behind) (latches_behind request (guards_of pre ++ b.guard ∷ []) (guards_of behind))))
+    (owned_at (latches_of behind) (latches_behind request (guards_of pre ++ b.guard ∷ []) (guards_of behind))))
 latch_from request pre (x ∷ before) b behind =
     let rest = latch_from request (pre ++ x ∷ []) before b behind in
     let there = subst (λ hs. Contains (owned_at (latches_of (before ++ b ∷ behind)) (latches_behind request hs (guards_of (before ++ b ∷ behind))))
-        (latch_owned request (at_place ((pre ++ x ∷ []) ++ before) b behind))) (guards_next pre x) rest in
+    (latch_owned request (at_place ((pre ++ x ∷ []) ++ before) b behind))) (guards_next pre x) rest in
     subst (λ (bs : List Branch). Contains (owned_at (latches_of ((x ∷ before) ++ b ∷ behind))
-        (latches_behind request (guards_of pre) (guards_of ((x ∷ before) ++ b ∷ behind)))) (latch_owned request (at_place bs b behind)))
-        (append_assoc pre (x ∷ []) before)
+    (latches_behind request (guards_of pre) (guards_of ((x ∷ before) ++ b ∷ behind)))) (latch_owned request (at_place bs b behind)))
+    (append_assoc pre (x ∷ []) before)
     (contains_next (latch_owned request (at_place pre x (before ++ b ∷ behind)))
-        (owned_at (latches_of (before ++ b ∷ behind)) (latches_behind request (guards_of pre ++ x.guard ∷ []) (guards_of (before ++ b ∷ behind)))) _ there)
+    (owned_at (latches_of (before ++ b ∷ behind)) (latches_behind request (guards_of pre ++ x.guard ∷ []) (guards_of (before ++ b ∷ behind)))) _ there)
 
 start_from : (hs : List Pair) (pre before : List Branch) (b : Branch) (behind : List Branch) →
     Contains (owned_at (starts_of (before ++ b ∷ behind)) (starts (latches_of (before ++ b ∷ behind)) hs)) (start_owned hs (at_place pre b behind))
 start_from hs pre [] b behind = contains_here (start_owned hs (at_place pre b behind)) (owned_at (starts_of behind) (starts (latches_of behind) hs))
 start_from hs pre (x ∷ before) b behind =
     contains_next (start_owned hs (at_place pre x behind)) (owned_at (starts_of (before ++ b ∷ behind)) (starts (latches_of (before ++ b ∷ behind)) hs)) _
-        (start_from hs pre before b behind)
+    (start_from hs pre before b behind)
 
 pub latch_there : (request : ℕ) (p : BranchPlace) → Contains (branches_owned request (p.before ++ p.this ∷ p.behind)) (latch_owned request p)
 latch_there request p =
     let bs = p.before ++ p.this ∷ p.behind in
     subst (λ os. Contains os (latch_owned request p)) (sym (owned_apart request bs))
     (Contains-append_left (owned_at (latches_of bs) (latches_behind request [] (guards_of bs)))
-        (owned_at (starts_of bs) (starts (latches_of bs) (guards_of bs))) (latch_owned request p) (latch_from request [] p.before p.this p.behind))
+    (owned_at (starts_of bs) (starts (latches_of bs) (guards_of bs))) (latch_owned request p) (latch_from request [] p.before p.this p.behind))
 
 pub start_there : (request : ℕ) (p : BranchPlace) →
     Contains (branches_owned request (p.before ++ p.this ∷ p.behind)) (start_owned (guards_of (p.before ++ p.this ∷ p.behind)) p)
@@ -185,8 +191,8 @@ start_there request p =
     let bs = p.before ++ p.this ∷ p.behind in
     subst (λ os. Contains os (start_owned (guards_of bs) p)) (sym (owned_apart request bs))
     (Contains-append_right (owned_at (latches_of bs) (latches_behind request [] (guards_of bs)))
-        (owned_at (starts_of bs) (starts (latches_of bs) (guards_of bs))) (start_owned (guards_of bs) p)
-        (start_from (guards_of bs) p.before p.before p.this p.behind))
+    (owned_at (starts_of bs) (starts (latches_of bs) (guards_of bs))) (start_owned (guards_of bs) p)
+    (start_from (guards_of bs) p.before p.before p.this p.behind))
 
 -- the wires of the branches' neighbours
 abbrev pub t_wire : (eval : ℕ) → BranchPlace → Wire
@@ -217,7 +223,7 @@ over_three : (eval : ℕ) (b : Branch) (bs : List Branch) (w : Wire) → Contain
 over_three eval b bs w h =
     let p = at_place [] b bs in
     contains_next (t_wire eval p) (f_wire eval p ∷ d_wire p ∷ branch_wires eval bs) w
-        (contains_next (f_wire eval p) (d_wire p ∷ branch_wires eval bs) w (contains_next (d_wire p) (branch_wires eval bs) w h))
+    (contains_next (f_wire eval p) (d_wire p ∷ branch_wires eval bs) w (contains_next (d_wire p) (branch_wires eval bs) w h))
 
 pub t_there : (eval : ℕ) (before : List Branch) (b : Branch) (behind : List Branch) →
     Contains (branch_wires eval (before ++ b ∷ behind)) (guard_wire eval b.guard b.guard.t)
@@ -241,4 +247,4 @@ pub map_in : (f : Wire → Wire) (ws : List Wire) (w : Wire) → Contains (map f
 map_in f [] w h = absurd (contains_none w h)
 map_in f (x ∷ ws) w h =
     ⊎_elim (λ (e : w ≡ f x). (x, contains_here x ws, e)) (λ more. let r = map_in f ws w more in
-        (r.0, contains_next x ws r.0 r.1, r.2)) (contains_cons (f x) (map f ws) w h)
+    (r.0, contains_next x ws r.0 r.1, r.2)) (contains_cons (f x) (map f ws) w h)

@@ -13,7 +13,7 @@ abbrev pub plain_answer : AgainNodes → Wire
 plain_answer c =
     wire c.answer
     (λ m. m.value c.request && (guards_false m.noted c.branches
-        && (not (m.value c.eval) && (guards_neutral m.value c.branches && branches_idle m.value c.branches))))
+    && (not (m.value c.eval) && (guards_neutral m.value c.branches && branches_idle m.value c.branches))))
     (λ m. not (m.value c.request) && (not (m.value c.eval) && (guards_neutral m.value c.branches && branches_idle m.value c.branches)))
 
 abbrev pub plain_again : AgainNodes → Part

@@ -32,7 +32,7 @@ none_below : (w v : ℕ → Bool) → Below w v → (bs : List Branch) → none_
 none_below w v b [] h = refl
 none_below w v b (x ∷ bs) h =
     both _ _ (true_not _ (b x.guard.t (not_true _ (and_left (not (v x.guard.t)) (none_true v bs) h))))
-        (none_below w v b bs (and_right (not (v x.guard.t)) (none_true v bs) h))
+    (none_below w v b bs (and_right (not (v x.guard.t)) (none_true v bs) h))
 
 pair_below : (w v : ℕ → Bool) → Below w v → (p : Pair) → is_single v p ≡ true → is_single w p ≡ true
 pair_below w v b p h = cases (v p.t) (v p.f) refl refl h
@@ -46,14 +46,14 @@ single_below : (w v : ℕ → Bool) → Below w v → (bs : List Branch) → gua
 single_below w v b [] h = refl
 single_below w v b (x ∷ bs) h =
     both _ _ (pair_below w v b x.guard (and_left (is_single v x.guard) (guards_single v bs) h))
-        (single_below w v b bs (and_right (is_single v x.guard) (guards_single v bs) h))
+    (single_below w v b bs (and_right (is_single v x.guard) (guards_single v bs) h))
 
 won_below : (w v : ℕ → Bool) → Below w v → (p : BranchPlace) → is_won v p ≡ true → is_won w p ≡ true
 won_below w v b p h =
     let rest = and_right (not (v p.this.guard.f)) (none_true v p.before && none_true v p.behind) h in
     both _ _ (true_not _ (b p.this.guard.f (not_true _ (and_left (not (v p.this.guard.f)) (none_true v p.before && none_true v p.behind) h))))
     (both _ _ (none_below w v b p.before (and_left (none_true v p.before) (none_true v p.behind) rest))
-        (none_below w v b p.behind (and_right (none_true v p.before) (none_true v p.behind) rest)))
+    (none_below w v b p.behind (and_right (none_true v p.before) (none_true v p.behind) rest)))
 
 -- a node that is no rail
 single_still : (v : ℕ → Bool) (n : ℕ) (bs : List Branch) → Fresh n (rails_of (guards_of bs)) → guards_single (turned v n) bs ≡ guards_single v bs
@@ -61,7 +61,7 @@ single_still v n [] h = refl
 single_still v n (x ∷ bs) h =
     ap (λ t. not (t && turned v n x.guard.f) && guards_single (turned v n) bs) (turned_other v n x.guard.t h.0)
     ∙ ap (λ f. not (v x.guard.t && f) && guards_single (turned v n) bs) (turned_other v n x.guard.f h.1.0)
-        ∙ ap (λ r. is_single v x.guard && r) (single_still v n bs h.1.1)
+    ∙ ap (λ r. is_single v x.guard && r) (single_still v n bs h.1.1)
 
 false_still : (v : ℕ → Bool) (n : ℕ) (bs : List Branch) → Fresh n (rails_of (guards_of bs)) → guards_false (turned v n) bs ≡ guards_false v bs
 false_still v n [] h = refl
@@ -92,8 +92,17 @@ seen_still v noted n bs p is h =
     let neutral = low_still v n (rails_of (guards_of bs)) h in
     let t = turned_other v n p.this.guard.t last.0 in
     let f = turned_other v n p.this.guard.f last.1.0 in
-    rw (neutral, t, f, false_still v n p.before first, false_still v n p.behind last.1.1, none_still v n p.before first, none_still v n p.behind last.1.1,
-        false_still v n bs h, none_still v n bs h) refl
+    rw (
+      neutral,
+      t,
+      f,
+      false_still v n p.before first,
+      false_still v n p.behind last.1.1,
+      none_still v n p.before first,
+      none_still v n p.behind last.1.1,
+      false_still v n bs h,
+      none_still v n bs h,
+    ) refl
 
 pub singles_still : (v : ℕ → Bool) (n : ℕ) (bs : List Branch) → Fresh n (rails_of (guards_of bs)) → guards_single v bs ≡ true →
     guards_single (turned v n) bs ≡ true
@@ -124,7 +133,7 @@ single_rises : (v : ℕ → Bool) (rail : ℕ) (before : List Branch) (b : Branc
 single_rises v rail [] b behind d which lt lf h =
     both _ _ (pair_rises v rail b.guard.t b.guard.f d.0.0 lt lf which)
     (singles_still v rail behind (rail_fresh v rail b (rails_of (guards_of behind)) d.0.1 d.1.0 which)
-        (and_right (is_single v b.guard) (guards_single v behind) h))
+    (and_right (is_single v b.guard) (guards_single v behind) h))
 single_rises v rail (x ∷ before) b behind d which lt lf h =
     let rest = before ++ b ∷ behind in
     let t = not_rail x.guard.t rail b (fresh_rail x.guard.t before b behind d.0.1) which in
@@ -132,7 +141,7 @@ single_rises v rail (x ∷ before) b behind d which lt lf h =
     ap (λ z. not (z && turned v rail x.guard.f) && guards_single (turned v rail) rest) (turned_other v rail x.guard.t t)
     ∙ ap (λ z. not (v x.guard.t && z) && guards_single (turned v rail) rest) (turned_other v rail x.guard.f f)
     ∙ both _ _ (and_left (is_single v x.guard) (guards_single v rest) h)
-        (single_rises v rail before b behind d.1.1 which lt lf (and_right (is_single v x.guard) (guards_single v rest) h))
+    (single_rises v rail before b behind d.1.1 which lt lf (and_right (is_single v x.guard) (guards_single v rest) h))
 
 rail_value : (v : ℕ → Bool) (q : BranchPlace) (rail : ℕ) (b : Bool) → IsRail q rail → v rail ≡ b → (v q.this.guard.t ≡ b) ⊎ (v q.this.guard.f ≡ b)
 rail_value v q rail b (inl e) h = inl (ap v (sym e) ∙ h)
@@ -147,7 +156,7 @@ not_alone : (v : ℕ → Bool) (bs : List Branch) (p q : BranchPlace) → IsPlac
 not_alone v bs p q is at lt lf =
     no_true _ (λ w. ⊎_elim
     (λ (same : p ≡ q). true_false (ap (λ (r : BranchPlace). v r.this.guard.t) (sym same)
-        ∙ and_left (v p.this.guard.t) (guards_false v p.before && guards_false v p.behind) w) lt)
+    ∙ and_left (v p.this.guard.t) (guards_false v p.before && guards_false v p.behind) w) lt)
     (λ (apart : Apart p q). true_false (false_among v p q.this w apart.second) lf)
     (one_or_apart bs p q is at))
 
@@ -169,7 +178,8 @@ goes : (e n w u k z y kz n' w' u' z' y' : Bool) → consistent (n' ∷ w' ∷ u'
     rails_go e (n ∷ w ∷ u ∷ k ∷ z ∷ y ∷ kz ∷ []) (n' ∷ w' ∷ u' ∷ k ∷ z' ∷ y' ∷ kz ∷ []) ≡ true
 goes e n w u k z y kz n' w' u' z' y' c h = both _ _ c (both _ _ (same_same k) (both _ _ (same_same kz) h))
 
-rail_falls : (v noted : ℕ → Bool) (eval rail : ℕ) (bs : List Branch) (p q : BranchPlace) → IsPlace bs p → IsPlace bs q → IsRail q rail → guards_single v bs ≡ true →
+rail_falls : (v noted : ℕ → Bool) (eval rail : ℕ) (bs : List Branch) (p q : BranchPlace) → IsPlace bs p → IsPlace bs q → IsRail q rail →
+    guards_single v bs ≡ true →
     v rail ≡ true → v eval ≡ false → RailMoved v noted eval rail bs p
 rail_falls v noted eval rail bs p q is at which s high low =
     let w = turned v rail in
@@ -181,7 +191,7 @@ rail_falls v noted eval rail bs p q is at which s high low =
       go = goes (v eval) (guards_neutral v bs) (alone_true v p) (is_won v p) (alone_true noted p) (guards_false v bs) (none_true v bs) (guards_false noted bs)
           (guards_neutral w bs) (alone_true w p) (is_won w p) (guards_false w bs) (none_true w bs) (rails_consistent w noted bs p is single)
           (ap (λ e. if e then not (alone_true v p) && (not (guards_false v bs) && not (guards_neutral w bs)) else not (guards_neutral v bs)
-              && (implies (is_won v p) (is_won w p) && implies (none_true v bs) (none_true w bs))) low
+          && (implies (is_won v p) (is_won w p) && implies (none_true v bs) (none_true w bs))) low
           ∙ both _ _ (true_not _ n) (both _ _ (implied _ _ (won_below w v b p)) (implied _ _ (none_below w v b bs))));
     }
 
@@ -191,17 +201,17 @@ rail_rises : (v noted : ℕ → Bool) (eval rail : ℕ) (bs : List Branch) (p q 
 rail_rises v noted eval rail bs p q is at which d s low high lt lf =
     let w = turned v rail in
     let single = subst (λ (xs : List Branch). guards_single w xs ≡ true) (sym at)
-        (single_rises v rail q.before q.this q.behind (subst (λ (xs : List Branch). Distinct (rails_of (guards_of xs))) at d) which lt lf
-        (subst (λ (xs : List Branch). guards_single v xs ≡ true) at s)) in
+    (single_rises v rail q.before q.this q.behind (subst (λ (xs : List Branch). Distinct (rails_of (guards_of xs))) at d) which lt lf
+    (subst (λ (xs : List Branch). guards_single v xs ≡ true) at s)) in
     let up : w rail ≡ true = turned_here v rail ∙ true_not _ low in
     record {
       single = single;
       go = goes (v eval) (guards_neutral v bs) (alone_true v p) (is_won v p) (alone_true noted p) (guards_false v bs) (none_true v bs) (guards_false noted bs)
           (guards_neutral w bs) (alone_true w p) (is_won w p) (guards_false w bs) (none_true w bs) (rails_consistent w noted bs p is single)
           (ap (λ e. if e then not (alone_true v p) && (not (guards_false v bs) && not (guards_neutral w bs)) else not (guards_neutral v bs)
-              && (implies (is_won v p) (is_won w p) && implies (none_true v bs) (none_true w bs))) high
+          && (implies (is_won v p) (is_won w p) && implies (none_true v bs) (none_true w bs))) high
           ∙ both _ _ (true_not _ (not_alone v bs p q is at lt lf))
-              (both _ _ (true_not _ (no_true _ (λ z. true_false (false_at v bs q at z) lf))) (true_not _ (not_neutral w bs q rail at which up))));
+          (both _ _ (true_not _ (no_true _ (λ z. true_false (false_at v bs q at z) lf))) (true_not _ (not_neutral w bs q rail at which up))));
     }
 
 by_value : (v noted : ℕ → Bool) (eval rail : ℕ) (bs : List Branch) (p q : BranchPlace) (b : Bool) → v rail ≡ b → IsPlace bs p → IsPlace bs q → IsRail q rail →
@@ -211,7 +221,7 @@ by_value v noted eval rail bs p q true e is at which d s may = rail_falls v note
 by_value v noted eval rail bs p q false e is at which d s may =
     let low = and_right (v eval) (not (v q.this.guard.t) && not (v q.this.guard.f)) may in
     rail_rises v noted eval rail bs p q is at which d s e (and_left (v eval) _ may)
-        (not_true _ (and_left (not (v q.this.guard.t)) (not (v q.this.guard.f)) low)) (not_true _ (and_right (not (v q.this.guard.t)) _ low))
+    (not_true _ (and_left (not (v q.this.guard.t)) (not (v q.this.guard.f)) low)) (not_true _ (and_right (not (v q.this.guard.t)) _ low))
 
 pub rail_moved : (v noted : ℕ → Bool) (eval rail : ℕ) (bs : List Branch) (p q : BranchPlace) → IsPlace bs p → IsPlace bs q → IsRail q rail →
     Distinct (rails_of (guards_of bs)) → guards_single v bs ≡ true →

@@ -33,7 +33,7 @@ seen_rails v noted bs p =
 abbrev pub consistent : List Bool → Bool
 consistent (n ∷ w ∷ u ∷ k ∷ z ∷ y ∷ kz ∷ []) =
     implies n u && (implies n y && (implies n (not w)
-        && (implies n (not z) && (implies w u && (implies w (not y) && (implies z y && (implies z (not w) && implies u (not z))))))))
+    && (implies n (not z) && (implies w u && (implies w (not y) && (implies z y && (implies z (not w) && implies u (not z))))))))
 consistent _ = false
 
 -- a rail that is allowed to move leads from the one to the other
@@ -54,7 +54,7 @@ neutral_parts v (x ∷ before) b behind =
     let rest = not (v b.guard.t) && (not (v b.guard.f) && guards_neutral v behind) in
     ap (λ r. not (v x.guard.t) && (not (v x.guard.f) && r)) (neutral_parts v before b behind)
     ∙ ap (λ r. not (v x.guard.t) && r) (and_assoc (not (v x.guard.f)) (guards_neutral v before) rest)
-        ∙ and_assoc (not (v x.guard.t)) (not (v x.guard.f) && guards_neutral v before) rest
+    ∙ and_assoc (not (v x.guard.t)) (not (v x.guard.f) && guards_neutral v before) rest
 
 pub all_parts : (test : Branch → Bool) (before : List Branch) (b : Branch) (behind : List Branch) →
     list_all test (before ++ b ∷ behind) ≡ (list_all test before && (test b && list_all test behind))
@@ -70,7 +70,7 @@ neutral_none : (v : ℕ → Bool) (bs : List Branch) → guards_neutral v bs ≡
 neutral_none v [] h = refl
 neutral_none v (b ∷ bs) h =
     both _ _ (and_left (not (v b.guard.t)) (not (v b.guard.f) && guards_neutral v bs) h)
-        (neutral_none v bs (and_right (not (v b.guard.f)) (guards_neutral v bs) (and_right (not (v b.guard.t)) (not (v b.guard.f) && guards_neutral v bs) h)))
+    (neutral_none v bs (and_right (not (v b.guard.f)) (guards_neutral v bs) (and_right (not (v b.guard.t)) (not (v b.guard.f) && guards_neutral v bs) h)))
 
 not_both : (t f : Bool) → not (t && f) ≡ true → f ≡ true → not t ≡ true
 not_both true true h e = h
@@ -105,15 +105,15 @@ pub rails_consistent : (v noted : ℕ → Bool) (bs : List Branch) (p : BranchPl
     consistent (seen_rails v noted bs p) ≡ true
 rails_consistent v noted bs p is s =
     let whole = sym (all_parts (λ (b : Branch). is_single v b.guard) p.before p.this p.behind) ∙ ap (list_all (λ (b : Branch). is_single v b.guard)) (sym is)
-        ∙ sym (single_by v bs) ∙ s in
+    ∙ sym (single_by v bs) ∙ s in
     let rest = and_right (list_all (λ (b : Branch). is_single v b.guard) p.before) (is_single v p.this.guard
-        && list_all (λ (b : Branch). is_single v b.guard) p.behind) whole in
+    && list_all (λ (b : Branch). is_single v b.guard) p.behind) whole in
     let first = single_by v p.before ∙ and_left (list_all (λ (b : Branch). is_single v b.guard) p.before) (is_single v p.this.guard
-        && list_all (λ (b : Branch). is_single v b.guard) p.behind) whole in
+    && list_all (λ (b : Branch). is_single v b.guard) p.behind) whole in
     let here = and_left (is_single v p.this.guard) (list_all (λ (b : Branch). is_single v b.guard) p.behind) rest in
     let last = single_by v p.behind ∙ and_right (is_single v p.this.guard) (list_all (λ (b : Branch). is_single v b.guard) p.behind) rest in
     let table = parts_consistent (v p.this.guard.t) (v p.this.guard.f) (guards_neutral v p.before) (guards_false v p.before) (none_true v p.before)
-        (guards_neutral v p.behind) (guards_false v p.behind) (none_true v p.behind) here
+    (guards_neutral v p.behind) (guards_false v p.behind) (none_true v p.behind) here
     (neutral_none v p.before) (neutral_none v p.behind) (false_none v p.before first) (false_none v p.behind last) in
     let n = ap (guards_neutral v) is ∙ neutral_parts v p.before p.this p.behind in
     let z = ap (guards_false v) is ∙ all_parts (λ (b : Branch). v b.guard.f) p.before p.this p.behind in
@@ -155,7 +155,7 @@ wanted_is v p =
     wanted_from v (all_false (guards_of p.before)) (is_high p.this.guard.t) (all_false (guards_of p.behind))
     ∙ ap (λ a. a && (v p.this.guard.t && list_all (literal_holds v) (all_false (guards_of p.behind)))) (falses_hold v p.before)
     ∙ ap (λ c. guards_false v p.before && (v p.this.guard.t && c)) (falses_hold v p.behind)
-        ∙ around (guards_false v p.before) (v p.this.guard.t) (guards_false v p.behind)
+    ∙ around (guards_false v p.before) (v p.this.guard.t) (guards_false v p.behind)
 
 -- the OR of the latches
 pub or_up : (ns : List ℕ) → (or_of ns).up ≡ map (λ k. is_high k ∷ []) ns
@@ -185,7 +185,7 @@ one_in f v [] b behind h k = ap (λ r. not (v (f b)) && r) k ∙ and_true (not (
     and_true false = refl
 one_in f v (x ∷ before) b behind h k =
     ap (λ r. r && all_low v (map f (before ++ b ∷ behind))) (and_left (not (v (f x))) (all_low v (map f before)) h)
-        ∙ one_in f v before b behind (and_right (not (v (f x))) (all_low v (map f before)) h) k
+    ∙ one_in f v before b behind (and_right (not (v (f x))) (all_low v (map f before)) h) k
 
 pick_latch : (v : ℕ → Bool) (b : Branch) (rest : Bool) → (not (v b.latch) && (not (v b.start) && (not (v b.answer) && rest))) ≡ true →
     (not (v b.latch) ≡ true) × (rest ≡ true)
@@ -209,20 +209,20 @@ pick_answer v b rest h =
 pub only_latch : (v : ℕ → Bool) (p : BranchPlace) → is_calm v p ≡ true → all_low v (latches_of (p.before ++ p.this ∷ p.behind)) ≡ not (v p.this.latch)
 only_latch v p h =
     one_in (λ (b : Branch). b.latch) v p.before p.this p.behind
-        (calm_map (λ (b : Branch). b.latch) v (pick_latch v) p.before (and_left _ (all_low v (controls_of p.behind)) h))
-        (calm_map (λ (b : Branch). b.latch) v (pick_latch v) p.behind (and_right (all_low v (controls_of p.before)) _ h))
+    (calm_map (λ (b : Branch). b.latch) v (pick_latch v) p.before (and_left _ (all_low v (controls_of p.behind)) h))
+    (calm_map (λ (b : Branch). b.latch) v (pick_latch v) p.behind (and_right (all_low v (controls_of p.before)) _ h))
 
 pub only_start : (v : ℕ → Bool) (p : BranchPlace) → is_calm v p ≡ true → all_low v (starts_of (p.before ++ p.this ∷ p.behind)) ≡ not (v p.this.start)
 only_start v p h =
     one_in (λ (b : Branch). b.start) v p.before p.this p.behind
-        (calm_map (λ (b : Branch). b.start) v (pick_start v) p.before (and_left _ (all_low v (controls_of p.behind)) h))
-        (calm_map (λ (b : Branch). b.start) v (pick_start v) p.behind (and_right (all_low v (controls_of p.before)) _ h))
+    (calm_map (λ (b : Branch). b.start) v (pick_start v) p.before (and_left _ (all_low v (controls_of p.behind)) h))
+    (calm_map (λ (b : Branch). b.start) v (pick_start v) p.behind (and_right (all_low v (controls_of p.before)) _ h))
 
 pub only_answer : (v : ℕ → Bool) (p : BranchPlace) → is_calm v p ≡ true → all_low v (answers_of (p.before ++ p.this ∷ p.behind)) ≡ not (v p.this.answer)
 only_answer v p h =
     one_in (λ (b : Branch). b.answer) v p.before p.this p.behind
-        (calm_map (λ (b : Branch). b.answer) v (pick_answer v) p.before (and_left _ (all_low v (controls_of p.behind)) h))
-        (calm_map (λ (b : Branch). b.answer) v (pick_answer v) p.behind (and_right (all_low v (controls_of p.before)) _ h))
+    (calm_map (λ (b : Branch). b.answer) v (pick_answer v) p.before (and_left _ (all_low v (controls_of p.behind)) h))
+    (calm_map (λ (b : Branch). b.answer) v (pick_answer v) p.behind (and_right (all_low v (controls_of p.before)) _ h))
 
 -- a branch among others that do nothing
 pub record IsQuiet (v : ℕ → Bool) (b : Branch) : Type 0 where
@@ -234,8 +234,12 @@ quiet_in : (v : ℕ → Bool) (b : Branch) (bs : List Branch) → all_low v (con
 quiet_in v b [] h a = absurd a
 quiet_in v b (x ∷ bs) h (inl e) =
     let rest = all_low v (controls_of bs) in
-    subst (IsQuiet v) (sym e) (record { latch = not_true _ ((pick_latch v x rest h).0); start = not_true _ ((pick_start v x rest h).0); answer =
-        not_true _ ((pick_answer v x rest h).0) })
+    subst (IsQuiet v) (sym e) (record {
+      latch = not_true _ ((pick_latch v x rest h).0);
+      start = not_true _ ((pick_start v x rest h).0);
+      answer =
+          not_true _ ((pick_answer v x rest h).0);
+    })
 quiet_in v b (x ∷ bs) h (inr a) = quiet_in v b bs ((pick_latch v x (all_low v (controls_of bs)) h).1) a
 
 pub among_cases : (b : Branch) (xs ys : List Branch) → Among b (xs ++ ys) → Among b xs ⊎ Among b ys
@@ -246,7 +250,7 @@ among_cases b (x ∷ xs) ys (inr h) = ⊎_elim (λ l. inl (inr l)) (λ r. inr r)
 pub quiet_among : (v : ℕ → Bool) (p : BranchPlace) (b : Branch) → is_calm v p ≡ true → Among b (p.before ++ p.behind) → IsQuiet v b
 quiet_among v p b h a =
     ⊎_elim (λ l. quiet_in v b p.before (and_left _ (all_low v (controls_of p.behind)) h) l)
-        (λ r. quiet_in v b p.behind (and_right (all_low v (controls_of p.before)) _ h) r) (among_cases b p.before p.behind a)
+    (λ r. quiet_in v b p.behind (and_right (all_low v (controls_of p.before)) _ h) r) (among_cases b p.before p.behind a)
 
 false_in : (v : ℕ → Bool) (b : Branch) (bs : List Branch) → guards_false v bs ≡ true → Among b bs → v b.guard.f ≡ true
 false_in v b [] h a = absurd a
@@ -258,7 +262,7 @@ pub false_among : (v : ℕ → Bool) (p : BranchPlace) (b : Branch) → alone_tr
 false_among v p b h a =
     let rest = and_right (v p.this.guard.t) (guards_false v p.before && guards_false v p.behind) h in
     ⊎_elim (λ l. false_in v b p.before (and_left _ (guards_false v p.behind) rest) l)
-        (λ r. false_in v b p.behind (and_right (guards_false v p.before) _ rest) r) (among_cases b p.before p.behind a)
+    (λ r. false_in v b p.behind (and_right (guards_false v p.before) _ rest) r) (among_cases b p.before p.behind a)
 
 pub false_at : (v : ℕ → Bool) (bs : List Branch) (q : BranchPlace) → IsPlace bs q → guards_false v bs ≡ true → v q.this.guard.f ≡ true
 false_at v bs q is h = false_in v q.this bs h (subst (Among q.this) (sym is) (among_middle q.this q.before q.behind))
@@ -266,9 +270,10 @@ false_at v bs q is h = false_in v q.this bs h (subst (Among q.this) (sym is) (am
 neutral_in : (v : ℕ → Bool) (b : Branch) (bs : List Branch) → guards_neutral v bs ≡ true → Among b bs → (v b.guard.t ≡ false) × (v b.guard.f ≡ false)
 neutral_in v b [] h a = absurd a
 neutral_in v b (x ∷ bs) h (inl e) =
-    let rest = and_right (not (v x.guard.t)) (not (v x.guard.f) && guards_neutral v bs) h in
-    (ap (λ (y : Branch). v y.guard.t) e ∙ not_true _ (and_left (not (v x.guard.t)) (not (v x.guard.f) && guards_neutral v bs) h),
-        ap (λ (y : Branch). v y.guard.f) e ∙ not_true _ (and_left (not (v x.guard.f)) (guards_neutral v bs) rest))
+    let rest = and_right (not (v x.guard.t)) (not (v x.guard.f) && guards_neutral v bs) h in (
+      ap (λ (y : Branch). v y.guard.t) e ∙ not_true _ (and_left (not (v x.guard.t)) (not (v x.guard.f) && guards_neutral v bs) h),
+      ap (λ (y : Branch). v y.guard.f) e ∙ not_true _ (and_left (not (v x.guard.f)) (guards_neutral v bs) rest),
+    )
 neutral_in v b (x ∷ bs) h (inr a) = neutral_in v b bs
     (and_right (not (v x.guard.f)) (guards_neutral v bs) (and_right (not (v x.guard.t)) (not (v x.guard.f) && guards_neutral v bs) h)) a
 

@@ -25,7 +25,7 @@ select_up j _ _ = false
 abbrev pub select_down : ℕ → List Bool → List Bool → Bool
 select_down j (r ∷ a ∷ e ∷ m ∷ l ∷ s ∷ d ∷ []) q =
     bit_at (a ∷ ((not m && not d) || false) ∷ ((m && true) || false) ∷ (not l || false) ∷ ((not r && true) || false) ∷ ((not l && true) || false) ∷ not s ∷ [])
-        j
+    j
 select_down j _ _ = false
 
 -- under the request the answer follows the branch's, which follows its start, which follows its latch; a latch is up once one is; without
@@ -40,7 +40,7 @@ select_control _ = false
 abbrev pub select_fit : List Bool → List Bool → Bool
 select_fit (r ∷ a ∷ e ∷ m ∷ l ∷ s ∷ d ∷ []) (n ∷ w ∷ u ∷ k ∷ z ∷ y ∷ kz ∷ []) =
     consistent (n ∷ w ∷ u ∷ k ∷ z ∷ y ∷ kz ∷ [])
-        && (implies (not r || (s || (not e && not m))) n && (implies (r && l) (if e then w else k) && implies (l || (s || d)) u))
+    && (implies (not r || (s || (not e && not m))) n && (implies (r && l) (if e then w else k) && implies (l || (s || d)) u))
 select_fit _ _ = false
 
 abbrev pub answer_promise : List Bool → List Bool → Bool
@@ -82,8 +82,8 @@ waits_test M c q = can M 1 c q || (can M 2 c q || (can M 3 c q || (can M 4 c q |
 abbrev pub select_extra : List Bool → List Bool → Bool
 select_extra c q =
     implies (can select_moves 1 c q) (answer_promise c q)
-        && (implies (can select_moves 2 c q) (eval_promise c q)
-        && (implies (can select_moves 5 c q) (start_promise c q) && (at_first c && waits_test select_moves c q)))
+    && (implies (can select_moves 2 c q) (eval_promise c q)
+    && (implies (can select_moves 5 c q) (start_promise c q) && (at_first c && waits_test select_moves c q)))
 
 abbrev pub select_machine : Machine
 select_machine = record select_moves { extra = select_extra }
@@ -171,10 +171,16 @@ select_owns c o h =
     (λ more. ⊎_elim (λ (same : o ≡ e). inl (in_frame c o e 2 (omega arith) same (eval_rule c)))
     (λ further. ⊎_elim (λ (same : o ≡ m). inl (in_frame c o m 3 (omega arith) same (any_rule c)))
     (λ last. ⊎_elim
-    (λ (l : IsMade c.branches (latch_owned c.request) o). inr (l.0, 4,
-        subst (λ (o : Owned). AsPlaced select_machine (select_frame c) c.branches l.0 o 4) (sym l.2) (latch_placed c l.0 l.1)))
-    (λ (s : IsMade c.branches (start_owned (guards_of c.branches)) o). inr (s.0, 5,
-        subst (λ (o : Owned). AsPlaced select_machine (select_frame c) c.branches s.0 o 5) (sym s.2) (start_placed c s.0 s.1)))
+    (λ (l : IsMade c.branches (latch_owned c.request) o). inr (
+      l.0,
+      4,
+      subst (λ (o : Owned). AsPlaced select_machine (select_frame c) c.branches l.0 o 4) (sym l.2) (latch_placed c l.0 l.1),
+    ))
+    (λ (s : IsMade c.branches (start_owned (guards_of c.branches)) o). inr (
+      s.0,
+      5,
+      subst (λ (o : Owned). AsPlaced select_machine (select_frame c) c.branches s.0 o 5) (sym s.2) (start_placed c s.0 s.1),
+    ))
     (branch_own c.request c.branches o last))
     (contains_cons m rest o further))
     (contains_cons e (m ∷ rest) o more))
@@ -207,16 +213,17 @@ answers_is : (c : SelectNodes) (v : ℕ → Bool) (p : BranchPlace) → IsPlace 
     all_low v (answers_of c.branches) ≡ not (v p.this.answer)
 answers_is c v p is calm = ap (λ (xs : List Branch). all_low v (answers_of xs)) is ∙ only_answer v p calm
 
-answer_holds : (c : SelectNodes) → AreApart (select_nodes c) → (m : Moment) (p : BranchPlace) → Sees c m p → can select_machine 1 (ctl c m p) (rls c m p) ≡ true →
+answer_holds : (c : SelectNodes) → AreApart (select_nodes c) → (m : Moment) (p : BranchPlace) → Sees c m p →
+    can select_machine 1 (ctl c m p) (rls c m p) ≡ true →
     may_move m (select_answer c) ≡ true
 answer_holds c apart m p view may =
     let v = m.value in
     let promise = implies_at _ (answer_promise (ctl c m p) (rls c m p))
-        (and_left (implies (can select_machine 1 (ctl c m p) (rls c m p)) (answer_promise (ctl c m p) (rls c m p))) _ (extras c apart m p view)) may in
+    (and_left (implies (can select_machine 1 (ctl c m p) (rls c m p)) (answer_promise (ctl c m p) (rls c m p))) _ (extras c apart m p view)) may in
     ap (λ i. if v c.answer then not (v c.request) && (not (v c.eval) && i) else v c.request && not (all_low v (answers_of c.branches)))
-        (idle_is v c.branches p view.is view.calm)
+    (idle_is v c.branches p view.is view.calm)
     ∙ ap (λ i. if v c.answer then not (v c.request) && (not (v c.eval) && (not (v p.this.start) && not (v p.this.answer))) else v c.request && not i)
-        (answers_is c v p view.is view.calm) ∙ promise
+    (answers_is c v p view.is view.calm) ∙ promise
 
 eval_holds : (c : SelectNodes) → AreApart (select_nodes c) → (m : Moment) (p : BranchPlace) → Sees c m p → can select_machine 2 (ctl c m p) (rls c m p) ≡ true →
     may_move m (eval_wire c.request c.answer c.eval c.branches) ≡ true
@@ -225,25 +232,26 @@ eval_holds c apart m p view may =
     let q = rls c m p in
     let tests = and_right (implies (can select_machine 1 (ctl c m p) q) (answer_promise (ctl c m p) q)) _ (extras c apart m p view) in
     let promise = implies_at _ (eval_promise (ctl c m p) q) (and_left (implies (can select_machine 2 (ctl c m p) q) (eval_promise (ctl c m p) q)) _ tests) may
-        in
+    in
     let strong = weaker (v c.eval) (alone_true v p) (guards_valid v c.branches) (not (v p.this.start) && not (v p.this.answer)) (v c.request
-        && (not (v c.answer) && (guards_neutral v c.branches && (not (v p.this.start) && not (v p.this.answer)))))
-        (alone_valid v c.branches p view.is view.single) promise in
+    && (not (v c.answer) && (guards_neutral v c.branches && (not (v p.this.start) && not (v p.this.answer)))))
+    (alone_valid v c.branches p view.is view.single) promise in
     ap (λ i. if v c.eval then guards_valid v c.branches && i else v c.request && (not (v c.answer) && (guards_neutral v c.branches && i)))
-        (idle_is v c.branches p view.is view.calm) ∙ strong
+    (idle_is v c.branches p view.is view.calm) ∙ strong
 
-start_holds : (c : SelectNodes) → AreApart (select_nodes c) → (m : Moment) (p : BranchPlace) → Sees c m p → can select_machine 5 (ctl c m p) (rls c m p) ≡ true →
+start_holds : (c : SelectNodes) → AreApart (select_nodes c) → (m : Moment) (p : BranchPlace) → Sees c m p →
+    can select_machine 5 (ctl c m p) (rls c m p) ≡ true →
     may_move m (start_wire c.request c.answer c.eval c.branches p) ≡ true
 start_holds c apart m p view may =
     let v = m.value in
     let q = rls c m p in
     let tests = and_right (implies (can select_machine 2 (ctl c m p) q) (eval_promise (ctl c m p) q)) _
-        (and_right (implies (can select_machine 1 (ctl c m p) q) (answer_promise (ctl c m p) q)) _ (extras c apart m p view)) in
+    (and_right (implies (can select_machine 1 (ctl c m p) q) (answer_promise (ctl c m p) q)) _ (extras c apart m p view)) in
     let promise = implies_at _ (start_promise (ctl c m p) q) (and_left (implies (can select_machine 5 (ctl c m p) q) (start_promise (ctl c m p) q)) _ tests) may
-        in
+    in
     ap (λ i. if v p.this.start then v p.this.answer else v c.request
-        && (alone_true m.noted p && (not (v c.eval) && (not (v c.answer) && (guards_neutral v c.branches && i))))) (idle_is v c.branches p view.is view.calm)
-        ∙ promise
+    && (alone_true m.noted p && (not (v c.eval) && (not (v c.answer) && (guards_neutral v c.branches && i))))) (idle_is v c.branches p view.is view.calm)
+    ∙ promise
 
 promise_of : (c : SelectNodes) → AreApart (select_nodes c) → (m : Moment) (w : Wire) → Contains (plain_select c).promises w →
     IsPromise select_machine (select_frame c) c.branches m w
@@ -251,11 +259,25 @@ promise_of c apart m w h =
     let e = eval_wire c.request c.answer c.eval c.branches in
     let starts = start_wires c.request c.answer c.eval c.branches in
     ⊎_elim
-    (λ (same : w ≡ select_answer c). inl (1, record { less = omega arith; at = λ p is. ap (λ (w : Wire). w.node) same; holds =
-        λ p view may. ap (may_move m) same ∙ answer_holds c apart m p view may }))
+    (λ (same : w ≡ select_answer c). inl (
+      1,
+      record {
+        less = omega arith;
+        at = λ p is. ap (λ (w : Wire). w.node) same;
+        holds =
+            λ p view may. ap (may_move m) same ∙ answer_holds c apart m p view may;
+      },
+    ))
     (λ more. ⊎_elim
-    (λ (same : w ≡ e). inl (2, record { less = omega arith; at = λ p is. ap (λ (w : Wire). w.node) same; holds =
-        λ p view may. ap (may_move m) same ∙ eval_holds c apart m p view may }))
+    (λ (same : w ≡ e). inl (
+      2,
+      record {
+        less = omega arith;
+        at = λ p is. ap (λ (w : Wire). w.node) same;
+        holds =
+            λ p view may. ap (may_move m) same ∙ eval_holds c apart m p view may;
+      },
+    ))
     (λ last. let r = place_in (start_wire c.request c.answer c.eval c.branches) [] c.branches w last in
     inr (r.0, record { is = r.1; at = ap (λ (w : Wire). w.node) r.2; holds = λ view may. ap (may_move m) r.2 ∙ start_holds c apart m r.0 view may }))
     (contains_cons e starts w more))
@@ -268,17 +290,17 @@ lows_of c apart m p view low =
     let v = m.value in
     let q = rls c m p in
     let tests = and_right (implies (can select_machine 5 (ctl c m p) q) (start_promise (ctl c m p) q)) _
-        (and_right (implies (can select_machine 2 (ctl c m p) q) (eval_promise (ctl c m p) q)) _
-        (and_right (implies (can select_machine 1 (ctl c m p) q) (answer_promise (ctl c m p) q)) _ (extras c apart m p view))) in
+    (and_right (implies (can select_machine 2 (ctl c m p) q) (eval_promise (ctl c m p) q)) _
+    (and_right (implies (can select_machine 1 (ctl c m p) q) (answer_promise (ctl c m p) q)) _ (extras c apart m p view))) in
     let a = and_left (not (v c.answer)) true (and_right (not (v c.request)) (not (v c.answer) && true) low) in
     let first = implies_at (not (v c.request) && not (v c.answer)) _ (and_left (at_first (ctl c m p)) (waits_test select_moves (ctl c m p) q) tests)
-        (both _ _ (and_left (not (v c.request)) _ low) a) in
+    (both _ _ (and_left (not (v c.request)) _ low) a) in
     let second = and_right (not (v c.eval)) _ first in
     let third = and_right (not (v c.any)) _ second in
     both _ _ a (both _ _ (and_left (not (v c.eval)) _ first) (both _ _ (and_left (not (v c.any)) _ second)
     (low_append v (latches_of c.branches) (starts_of c.branches)
     ∙ both _ _ (ap (λ (xs : List Branch). all_low v (latches_of xs)) view.is ∙ only_latch v p view.calm ∙ and_left (not (v p.this.latch)) _ third)
-        (ap (λ (xs : List Branch). all_low v (starts_of xs)) view.is ∙ only_start v p view.calm ∙ and_right (not (v p.this.latch)) _ third))))
+    (ap (λ (xs : List Branch). all_low v (starts_of xs)) view.is ∙ only_start v p view.calm ∙ and_right (not (v p.this.latch)) _ third))))
 
 abbrev Waits : SelectNodes → Moment → Type 0
 Waits c m = ((w : Wire) × Contains (plain_select c).allows w × (may_move m w ≡ true)) ⊎ ((plain_select c).blocked m.value ≡ true)
@@ -289,14 +311,14 @@ by_branch c m h = inl (h.0, contains_next (request_wire c.request c.answer) (bra
 latch_low : (c : SelectNodes) (m : Moment) (p q : BranchPlace) → Sees c m p → IsPlace c.branches q → m.value p.this.latch ≡ false → m.value q.this.latch ≡ false
 latch_low c m p q view at low =
     ⊎_elim (λ (same : p ≡ q). ap (λ (r : BranchPlace). m.value r.this.latch) (sym same) ∙ low)
-        (λ (apart : Apart p q). (quiet_among m.value p q.this view.calm apart.second).latch) (one_or_apart c.branches p q view.is at)
+    (λ (apart : Apart p q). (quiet_among m.value p q.this view.calm apart.second).latch) (one_or_apart c.branches p q view.is at)
 
 -- no latch may rise: no guard is true alone
 latch_fires : (c : SelectNodes) (m : Moment) (q : BranchPlace) → m.value q.this.latch ≡ false → alone_true m.value q ≡ true →
     fires m.value (latch_owned c.request q) ≡ true
 latch_fires c m q low alone =
     ap (λ b. if b then guard_holds m.value (latch_owned c.request q).rules.down else guard_holds m.value (latch_owned c.request q).rules.up) low
-        ∙ latch_up m.value c.request q ∙ ap (λ b. b || false) alone
+    ∙ latch_up m.value c.request q ∙ ap (λ b. b || false) alone
 
 awaits : (c : SelectNodes) (m : Moment) (p : BranchPlace) → Sees c m p → ((o : Owned) → Contains (select_owned c) o → fires m.value o ≡ false) →
     m.value c.eval ≡ true → m.value p.this.latch ≡ false → (valid one : Bool) → guards_valid m.value c.branches ≡ valid → one_true m.value c.branches ≡ one →
@@ -310,8 +332,8 @@ awaits c m p view none e low true true is_valid is_one =
     let ev = owned c.eval (evaluation c.request c.any) in
     let an = owned c.any (or_of (latches_of c.branches)) in
     let among = contains_next a (ev ∷ an ∷ branches_owned c.request c.branches) (latch_owned c.request q.0)
-        (contains_next ev (an ∷ branches_owned c.request c.branches) (latch_owned c.request q.0)
-        (contains_next an (branches_owned c.request c.branches) (latch_owned c.request q.0) there)) in
+    (contains_next ev (an ∷ branches_owned c.request c.branches) (latch_owned c.request q.0)
+    (contains_next an (branches_owned c.request c.branches) (latch_owned c.request q.0) there)) in
     absurd (true_false (latch_fires c m q.0 (latch_low c m p q.0 view q.1 low) q.2) (none (latch_owned c.request q.0) among))
 
 waits_of : (c : SelectNodes) → AreApart (select_nodes c) → (m : Moment) (p : BranchPlace) → Sees c m p →
@@ -322,8 +344,8 @@ waits_of c apart m p view none =
     let cs = ctl c m p in
     let q = rls c m p in
     let tests = and_right (at_first cs) _ (and_right (implies (can select_machine 5 cs q) (start_promise cs q)) _
-        (and_right (implies (can select_machine 2 cs q) (eval_promise cs q)) _
-        (and_right (implies (can select_machine 1 cs q) (answer_promise cs q)) _ (extras c apart m p view)))) in
+    (and_right (implies (can select_machine 2 cs q) (eval_promise cs q)) _
+    (and_right (implies (can select_machine 1 cs q) (answer_promise cs q)) _ (extras c apart m p view)))) in
     let a = owned c.answer (joined_answer c.any (answers_of c.branches)) in
     let e = owned c.eval (evaluation c.request c.any) in
     let n = owned c.any (or_of (latches_of c.branches)) in
@@ -332,34 +354,37 @@ waits_of c apart m p view none =
     let rest = branches_owned c.request c.branches in
     let latch_in = subst (λ (xs : List Branch). Contains (branches_owned c.request xs) (latch_owned c.request p)) (sym view.is) (latch_there c.request p) in
     let start_in = subst (λ (xs : List Branch). Contains (branches_owned c.request xs) (start_owned (guards_of xs) p)) (sym view.is) (start_there c.request p)
-        in
+    in
     let behind : (o : Owned) → Contains rest o → Contains (select_owned c) o =
-        λ o h. contains_next a (e ∷ n ∷ rest) o (contains_next e (n ∷ rest) o (contains_next n rest o h)) in
+    λ o h. contains_next a (e ∷ n ∷ rest) o (contains_next e (n ∷ rest) o (contains_next n rest o h)) in
     let one = sym (fires_is select_machine (select_frame c) c.branches c.eval v m.noted p a 1 s view.calm (answer_rule c p view.is))
-        ∙ none a (contains_here a (e ∷ n ∷ rest)) in
+    ∙ none a (contains_here a (e ∷ n ∷ rest)) in
     let two = sym (fires_is select_machine (select_frame c) c.branches c.eval v m.noted p e 2 s view.calm (eval_rule c p view.is))
-        ∙ none e (contains_next a (e ∷ n ∷ rest) e (contains_here e (n ∷ rest))) in
+    ∙ none e (contains_next a (e ∷ n ∷ rest) e (contains_here e (n ∷ rest))) in
     let three = sym (fires_is select_machine (select_frame c) c.branches c.eval v m.noted p n 3 s view.calm (any_rule c p view.is))
-        ∙ none n (contains_next a (e ∷ n ∷ rest) n (contains_next e (n ∷ rest) n (contains_here n rest))) in
+    ∙ none n (contains_next a (e ∷ n ∷ rest) n (contains_next e (n ∷ rest) n (contains_here n rest))) in
     let four = sym (fires_is select_machine (select_frame c) c.branches c.eval v m.noted p l 4 s view.calm (latch_placed c p view.is).rule)
-        ∙ none l (behind l latch_in) in
+    ∙ none l (behind l latch_in) in
     let five = sym (fires_is select_machine (select_frame c) c.branches c.eval v m.noted p st 5 s view.calm (start_placed c p view.is).rule)
-        ∙ none st (behind st start_in) in
+    ∙ none st (behind st start_in) in
     let wait = or_rest (can select_machine 5 cs q) (may_wait select_moves cs q) five
-        (or_rest (can select_machine 4 cs q) _ four
-        (or_rest (can select_machine 3 cs q) _ three (or_rest (can select_machine 2 cs q) _ two (or_rest (can select_machine 1 cs q) _ one tests)))) in
+    (or_rest (can select_machine 4 cs q) _ four
+    (or_rest (can select_machine 3 cs q) _ three (or_rest (can select_machine 2 cs q) _ two (or_rest (can select_machine 1 cs q) _ one tests)))) in
     ⊎_elim
     (λ (h : (can select_machine 0 cs q || can select_machine 6 cs q) ≡ true). ⊎_elim
-    (λ (r : can select_machine 0 cs q ≡ true). inl (request_wire c.request c.answer,
-        contains_here (request_wire c.request c.answer) (branch_wires c.eval c.branches), r))
+    (λ (r : can select_machine 0 cs q ≡ true). inl (
+      request_wire c.request c.answer,
+      contains_here (request_wire c.request c.answer) (branch_wires c.eval c.branches),
+      r,
+    ))
     (λ (d : can select_machine 6 cs q ≡ true). by_branch c m (answer_may m c.eval c.branches p view.is d))
     (or_cases (can select_machine 0 cs q) (can select_machine 6 cs q) h))
     (λ (h : ((not (v c.eval) && not (guards_neutral v c.branches)) || (v c.eval && not (v p.this.latch))) ≡ true). ⊎_elim
     (λ (r : (not (v c.eval) && not (guards_neutral v c.branches)) ≡ true).
-        by_branch c m (high_may m c.eval c.branches (not_true _ (and_left (not (v c.eval)) _ r))
-        (some_rail v c.branches (not_true _ (and_right (not (v c.eval)) _ r)))))
+    by_branch c m (high_may m c.eval c.branches (not_true _ (and_left (not (v c.eval)) _ r))
+    (some_rail v c.branches (not_true _ (and_right (not (v c.eval)) _ r)))))
     (λ (r : (v c.eval && not (v p.this.latch)) ≡ true). awaits c m p view none (and_left (v c.eval) _ r) (not_true _ (and_right (v c.eval) _ r))
-        (guards_valid v c.branches) (one_true v c.branches) refl refl)
+    (guards_valid v c.branches) (one_true v c.branches) refl refl)
     (or_cases (not (v c.eval) && not (guards_neutral v c.branches)) (v c.eval && not (v p.this.latch)) h))
     (or_cases (can select_machine 0 cs q || can select_machine 6 cs q) _ wait)
 
@@ -382,12 +407,18 @@ first_by c apart b rest is v first =
     let third = and_right (not (v c.eval)) _ second in
     let fourth = sym (low_append v (latches_of c.branches) (starts_of c.branches)) ∙ and_right (not (v c.any)) _ third in
     let quiet = all_quiet v c.branches p is (controls_low v c.branches (and_left (all_low v (latches_of c.branches)) _ fourth)
-        (and_right (all_low v (latches_of c.branches)) _ fourth) wires.answers) in
+    (and_right (all_low v (latches_of c.branches)) _ fourth) wires.answers) in
     let single = neutral_single v c.branches wires.neutral in
     let low : map v (controls (select_frame c) p) ≡ false ∷ false ∷ false ∷ false ∷ false ∷ false ∷ false ∷ [] =
-    rw (not_true _ (and_left (not (v c.request)) _ first.outside), not_true _ (and_left (not (v c.answer)) _ own),
-        not_true _ (and_left (not (v c.eval)) _ second), not_true _ (and_left (not (v c.any)) _ third), quiet.quiet.latch, quiet.quiet.start,
-        quiet.quiet.answer) refl in
+    rw (
+      not_true _ (and_left (not (v c.request)) _ first.outside),
+      not_true _ (and_left (not (v c.answer)) _ own),
+      not_true _ (and_left (not (v c.eval)) _ second),
+      not_true _ (and_left (not (v c.any)) _ third),
+      quiet.quiet.latch,
+      quiet.quiet.start,
+      quiet.quiet.answer,
+    ) refl in
     let noted : ℕ → Bool = λ n. false in (
       p,
       record {
@@ -397,7 +428,7 @@ first_by c apart b rest is v first =
         control = ap select_control low;
         fit = ap (λ d. select_fit d (seen_rails v noted c.branches p)) low
             ∙ fit_first (seen_rails v noted c.branches p) (guards_neutral v c.branches) (alone_true v p) _ (alone_true noted p) (guards_false v c.branches)
-                (none_true v c.branches) (guards_false noted c.branches) refl wires.neutral (rails_consistent v noted c.branches p is single);
+            (none_true v c.branches) (guards_false noted c.branches) refl wires.neutral (rails_consistent v noted c.branches p is single);
       },
     )
 

@@ -72,74 +72,75 @@ if_low true x h e = absurd (cc h)
 if_low false x h e = not_true x e
 
 module _ (c : SelectNodes) (apart : AreApart (select_nodes c)) (m : Moment) (node : ℕ) (h : Noted c m) (move : IsMove (plain_select c) (plain m h.old) node)
-    where
-  abbrev v : ℕ → Bool
-  v = m.value
+  where
+    abbrev v : ℕ → Bool
+    v = m.value
 
-  setting : Setting select_machine (select_frame c) c.branches c.eval
-  setting = select_setting c apart
+    setting : Setting select_machine (select_frame c) c.branches c.eval
+    setting = select_setting c apart
 
-  distinct : Distinct (select_nodes c)
-  distinct = distinct_from (select_nodes c) apart
+    distinct : Distinct (select_nodes c)
+    distinct = distinct_from (select_nodes c) apart
 
-  abbrev Frame : ℕ → Type 0
-  Frame j = (z : BranchPlace) × SeenAt select_machine (select_frame c) c.branches (plain m h.old) z j
+    abbrev Frame : ℕ → Type 0
+    Frame j = (z : BranchPlace) × SeenAt select_machine (select_frame c) c.branches (plain m h.old) z j
 
-  evaluates : node ≡ c.eval → (if v c.eval then not (not (v c.any)) else not (v c.any)) ≡ true
-  evaluates same =
-      let seen : Frame 2 = frame_seen select_machine (select_frame c) c.branches c.request c.answer c.eval (plain_select c) (plain m h.old) h.reaches.0 node
-          setting (select_is_part c) h.reaches.1 move 2 (omega arith) (λ z. same) in
-      let cs = map v (controls (select_frame c) seen.0) in
-      let q = seen_rails v h.old c.branches seen.0 in
-      let t = tried_at select_machine (select_frame c) c.branches c.eval (plain m h.old) seen.0 eval_test setting seen.1.0 evals_tried in
-      implies_at (can select_machine 2 cs q) _ (and_left _ (implies (can select_machine 3 cs q && bit_at cs 3) (not (bit_at cs 0))) t) seen.1.1
+    evaluates : node ≡ c.eval → (if v c.eval then not (not (v c.any)) else not (v c.any)) ≡ true
+    evaluates same =
+        let seen : Frame 2 = frame_seen select_machine (select_frame c) c.branches c.request c.answer c.eval (plain_select c) (plain m h.old) h.reaches.0 node
+        setting (select_is_part c) h.reaches.1 move 2 (omega arith) (λ z. same) in
+        let cs = map v (controls (select_frame c) seen.0) in
+        let q = seen_rails v h.old c.branches seen.0 in
+        let t = tried_at select_machine (select_frame c) c.branches c.eval (plain m h.old) seen.0 eval_test setting seen.1.0 evals_tried in
+        implies_at (can select_machine 2 cs q) _ (and_left _ (implies (can select_machine 3 cs q && bit_at cs 3) (not (bit_at cs 0))) t) seen.1.1
 
-  lets_go : node ≡ c.any → v c.any ≡ true → v c.request ≡ false
-  lets_go same high =
-      let seen : Frame 3 = frame_seen select_machine (select_frame c) c.branches c.request c.answer c.eval (plain_select c) (plain m h.old) h.reaches.0 node
-          setting (select_is_part c) h.reaches.1 move 3 (omega arith) (λ z. same) in
-      let cs = map v (controls (select_frame c) seen.0) in
-      let q = seen_rails v h.old c.branches seen.0 in
-      let t = tried_at select_machine (select_frame c) c.branches c.eval (plain m h.old) seen.0 eval_test setting seen.1.0 evals_tried in
-      not_true (v c.request) (implies_at (can select_machine 3 cs q && bit_at cs 3) _
-          (and_right (implies (can select_machine 2 cs q) (if bit_at cs 2 then not (not (bit_at cs 3)) else not (bit_at cs 3))) _ t) (both _ _ seen.1.1 high))
+    lets_go : node ≡ c.any → v c.any ≡ true → v c.request ≡ false
+    lets_go same high =
+        let seen : Frame 3 = frame_seen select_machine (select_frame c) c.branches c.request c.answer c.eval (plain_select c) (plain m h.old) h.reaches.0 node
+        setting (select_is_part c) h.reaches.1 move 3 (omega arith) (λ z. same) in
+        let cs = map v (controls (select_frame c) seen.0) in
+        let q = seen_rails v h.old c.branches seen.0 in
+        let t = tried_at select_machine (select_frame c) c.branches c.eval (plain m h.old) seen.0 eval_test setting seen.1.0 evals_tried in
+        not_true (v c.request) (implies_at (can select_machine 3 cs q && bit_at cs 3) _
+        (and_right (implies (can select_machine 2 cs q) (if bit_at cs 2 then not (not (bit_at cs 3)) else not (bit_at cs 3))) _ t) (both _ _ seen.1.1 high))
 
-  asked_after : eval_ok (turned v node c.request) (turned v node c.eval) (turned v node c.any) (noting c.request c.eval c.branches m node c.eval) ≡ true
-  asked_after =
-      ap (eval_ok (turned v node c.request) (turned v node c.eval) (turned v node c.any))
-          (noted_eval c.request c.eval c.branches m node (fresh_right c.eval (controls_of c.branches) (rails_of (guards_of c.branches)) distinct.1.1.0.1))
-      ∙ eval_step v m.noted c.request c.eval c.any node distinct.1.1.0.0 (λ same high. if_high (v c.eval) (v c.any) high (evaluates same)) lets_go h.asked
+    asked_after : eval_ok (turned v node c.request) (turned v node c.eval) (turned v node c.any) (noting c.request c.eval c.branches m node c.eval) ≡ true
+    asked_after =
+        ap (eval_ok (turned v node c.request) (turned v node c.eval) (turned v node c.any))
+        (noted_eval c.request c.eval c.branches m node (fresh_right c.eval (controls_of c.branches) (rails_of (guards_of c.branches)) distinct.1.1.0.1))
+        ∙ eval_step v m.noted c.request c.eval c.any node distinct.1.1.0.0 (λ same high. if_high (v c.eval) (v c.any) high (evaluates same)) lets_go h.asked
 
-  noted_after : Noted c (moment_after (select_part c) m node)
-  noted_after = record {
-    old = (moment_after (plain_select c) (plain m h.old) node).noted;
-    reaches = view_kept select_machine (select_frame c) c.branches c.request c.answer c.eval (plain_select c) (plain m h.old) h.reaches.0 node setting
-        (select_is_part c) h.reaches.1 move;
-    agree = agree_after c.request c.eval c.branches v h.old m.noted node h.agree;
-    asked = asked_after;
-    started = λ y is. started_after select_machine (select_frame c) c.branches c.request c.answer c.eval (plain_select c) v h.old h.reaches.0 node setting
-        (select_is_part c) h.reaches.1 move starts_tried y is m.noted (h.started y is);
-  }
+    noted_after : Noted c (moment_after (select_part c) m node)
+    noted_after = record {
+      old = (moment_after (plain_select c) (plain m h.old) node).noted;
+      reaches = view_kept select_machine (select_frame c) c.branches c.request c.answer c.eval (plain_select c) (plain m h.old) h.reaches.0 node setting
+          (select_is_part c) h.reaches.1 move;
+      agree = agree_after c.request c.eval c.branches v h.old m.noted node h.agree;
+      asked = asked_after;
+      started = λ y is. started_after select_machine (select_frame c) c.branches c.request c.answer c.eval (plain_select c) v h.old h.reaches.0 node setting
+          (select_is_part c) h.reaches.1 move starts_tried y is m.noted (h.started y is);
+    }
 
-  eval_once : node ≡ c.eval → may_move (plain m h.old) (eval_wire c.request c.answer c.eval c.branches) ≡ true →
-      may_move m (once (eval_wire c.request c.answer c.eval c.branches)) ≡ true
-  eval_once same may =
-      once_may v h.old m.noted (eval_wire c.request c.answer c.eval c.branches) (v c.eval) refl may refl
-      (λ low rises. both _ _ rises (eval_new (v c.request) (v c.eval) (v c.any) (m.noted c.eval) h.asked (and_left (v c.request) _ rises) low
-          (if_low (v c.eval) (v c.any) low (evaluates same))))
+    eval_once : node ≡ c.eval → may_move (plain m h.old) (eval_wire c.request c.answer c.eval c.branches) ≡ true →
+        may_move m (once (eval_wire c.request c.answer c.eval c.branches)) ≡ true
+    eval_once same may =
+        once_may v h.old m.noted (eval_wire c.request c.answer c.eval c.branches) (v c.eval) refl may refl
+        (λ low rises. both _ _ rises (eval_new (v c.request) (v c.eval) (v c.any) (m.noted c.eval) h.asked (and_left (v c.request) _ rises) low
+        (if_low (v c.eval) (v c.any) low (evaluates same))))
 
-  start_once : (y : BranchPlace) → IsPlace c.branches y → node ≡ y.this.start → may_move (plain m h.old) (start_wire c.request c.answer c.eval c.branches y) ≡ true →
-      may_move m (once (start_wire c.request c.answer c.eval c.branches y)) ≡ true
-  start_once y is same may =
-      once_may v h.old m.noted (start_wire c.request c.answer c.eval c.branches y) (v y.this.start) refl may refl
-      (λ low rises.
-      let rest = and_right (v c.request) _ rises in
-      let e = not_true (v c.eval) (and_left (not (v c.eval)) _ (and_right (alone_true h.old y) _ rest)) in
-      let latched = start_latched select_machine (select_frame c) c.branches c.request c.answer c.eval (plain_select c) v h.old h.reaches.0 node setting
-          (select_is_part c) h.reaches.1 move starts_tried y is same low in
-      both _ _ (ap (λ k. v c.request && (k && (not (v c.eval) && (not (v c.answer) && (guards_neutral v c.branches && branches_idle v c.branches)))))
-          (sym (alone_agrees c.branches h.old m.noted y is h.agree)) ∙ rises)
-      (start_new (v c.eval) (v y.this.latch) (v y.this.start) (m.noted y.this.start) (h.started y is) latched e low))
+    start_once : (y : BranchPlace) → IsPlace c.branches y → node ≡ y.this.start →
+        may_move (plain m h.old) (start_wire c.request c.answer c.eval c.branches y) ≡ true →
+        may_move m (once (start_wire c.request c.answer c.eval c.branches y)) ≡ true
+    start_once y is same may =
+        once_may v h.old m.noted (start_wire c.request c.answer c.eval c.branches y) (v y.this.start) refl may refl
+        (λ low rises.
+        let rest = and_right (v c.request) _ rises in
+        let e = not_true (v c.eval) (and_left (not (v c.eval)) _ (and_right (alone_true h.old y) _ rest)) in
+        let latched = start_latched select_machine (select_frame c) c.branches c.request c.answer c.eval (plain_select c) v h.old h.reaches.0 node setting
+        (select_is_part c) h.reaches.1 move starts_tried y is same low in
+        both _ _ (ap (λ k. v c.request && (k && (not (v c.eval) && (not (v c.answer) && (guards_neutral v c.branches && branches_idle v c.branches)))))
+        (sym (alone_agrees c.branches h.old m.noted y is h.agree)) ∙ rises)
+        (start_new (v c.eval) (v y.this.latch) (v y.this.start) (m.noted y.this.start) (h.started y is) latched e low))
 
 promised_once : (c : SelectNodes) → AreApart (select_nodes c) → (m : Moment) → (h : Noted c m) → (o : Owned) → Contains (select_owned c) o →
     fires m.value o ≡ true → (w : Wire) → Contains (select_part c).promises w → w.node ≡ o.node → may_move m w ≡ true
@@ -150,17 +151,17 @@ promised_once c apart m h o among f w promise e =
     let move : IsMove (plain_select c) (plain m h.old) o.node = inl (record { o = o; among = among; enabled = f; at = refl }) in
     ⊎_elim
     (λ (same : w ≡ select_answer c). ap (may_move m) same ∙ kept.promised o among f (select_answer c) (contains_here (select_answer c) (evals ∷ starts))
-        (ap (λ (w : Wire). w.node) (sym same) ∙ e))
+    (ap (λ (w : Wire). w.node) (sym same) ∙ e))
     (λ more. let u = map_in once (evals ∷ starts) w more in
     let at : u.0.node ≡ o.node = ap (λ (w : Wire). w.node) (sym u.2) ∙ e in
     let plainly = kept.promised o among f u.0 (contains_next (select_answer c) (evals ∷ starts) u.0 u.1) at in
     ap (may_move m) u.2
     ∙ ⊎_elim
     (λ (same : u.0 ≡ evals). ap (λ (w : Wire). may_move m (once w)) same
-        ∙ eval_once c apart m o.node h move (sym at ∙ ap (λ (w : Wire). w.node) same) (ap (may_move (plain m h.old)) (sym same) ∙ plainly))
+    ∙ eval_once c apart m o.node h move (sym at ∙ ap (λ (w : Wire). w.node) same) (ap (may_move (plain m h.old)) (sym same) ∙ plainly))
     (λ last. let r = place_in (start_wire c.request c.answer c.eval c.branches) [] c.branches u.0 last in
     ap (λ (w : Wire). may_move m (once w)) r.2 ∙ start_once c apart m o.node h move r.0 r.1 (sym at ∙ ap (λ (w : Wire). w.node) r.2)
-        (ap (may_move (plain m h.old)) (sym r.2) ∙ plainly))
+    (ap (may_move (plain m h.old)) (sym r.2) ∙ plainly))
     (contains_cons evals starts u.0 u.1))
     (contains_cons (select_answer c) (map once (evals ∷ starts)) w promise)
 
@@ -174,12 +175,15 @@ kept_noted c apart m h =
       lows = kept.lows;
       bits = kept.bits;
       waits = λ none. ⊎_elim
-          (λ (w : (w : Wire) × Contains (select_part c).allows w × (may_move (plain m h.old) w ≡ true)). inl (w.0, w.1,
-              same_may c.request c.answer c.eval c.branches m.value h.old m.noted w.0 ((select_is_part c).wires w.0 w.1) ∙ w.2))
+          (λ (w : (w : Wire) × Contains (select_part c).allows w × (may_move (plain m h.old) w ≡ true)). inl (
+            w.0,
+            w.1,
+            same_may c.request c.answer c.eval c.branches m.value h.old m.noted w.0 ((select_is_part c).wires w.0 w.1) ∙ w.2,
+          ))
           (λ blocked. inr blocked) (kept.waits none);
     }
 
 pub select_keeps : (c : SelectNodes) → 0 < length c.branches → AreApart (select_nodes c) → Keeps (select_part c)
 select_keeps c some apart =
     kept_by (select_part c) (Noted c) (first_noted c apart some) (λ m node h move. noted_after c apart m node h (plain_move c m h.old node move))
-        (kept_noted c apart)
+    (kept_noted c apart)

@@ -70,8 +70,8 @@ low_all v (x ∷ before) b behind k h g =
     let rest = and_right (not (v x.latch)) _ h in
     let last = and_right (not (v x.start)) _ rest in
     both _ _ (and_left (not (v x.latch)) _ h)
-        (both _ _ (and_left (not (v x.start)) _ rest)
-        (both _ _ (and_left (not (v x.answer)) _ last) (low_all v before b behind k (and_right (not (v x.answer)) _ last) g)))
+    (both _ _ (and_left (not (v x.start)) _ rest)
+    (both _ _ (and_left (not (v x.answer)) _ last) (low_all v before b behind k (and_right (not (v x.answer)) _ last) g)))
 
 pub record AllQuiet (v : ℕ → Bool) (q : BranchPlace) : Type 0 where
   pub calm : is_calm v q ≡ true
@@ -81,9 +81,18 @@ quiet_parts : (v : ℕ → Bool) (before : List Branch) (b : Branch) (behind : L
     (all_low v (controls_of before) ≡ true) × (IsQuiet v b × (all_low v (controls_of behind) ≡ true))
 quiet_parts v [] b behind h =
     let rest = and_right (not (v b.latch)) _ h in
-    let last = and_right (not (v b.start)) _ rest in
-    (refl, (record { latch = not_true _ (and_left (not (v b.latch)) _ h); start = not_true _ (and_left (not (v b.start)) _ rest); answer =
-        not_true _ (and_left (not (v b.answer)) _ last) }, and_right (not (v b.answer)) _ last))
+    let last = and_right (not (v b.start)) _ rest in (
+      refl,
+      (
+        record {
+          latch = not_true _ (and_left (not (v b.latch)) _ h);
+          start = not_true _ (and_left (not (v b.start)) _ rest);
+          answer =
+              not_true _ (and_left (not (v b.answer)) _ last);
+        },
+        and_right (not (v b.answer)) _ last,
+      ),
+    )
 quiet_parts v (x ∷ before) b behind h =
     let rest = and_right (not (v x.latch)) _ h in
     let last = and_right (not (v x.start)) _ rest in
@@ -110,17 +119,20 @@ aim_by M frame bs eval m p q s view at false idle =
     let v = m.value in
     let l = or_false (bit_at (map v (controls frame p)) M.latch) _ idle in
     let r = or_false (bit_at (map v (controls frame p)) (M.latch + 1)) _ l.1 in
-    let mine : IsQuiet v p.this = record { latch = sym (latch_value M frame bs eval v p s) ∙ l.0; start = sym (start_value M frame bs eval v p s) ∙ r.0;
-        answer = sym (answer_value M frame bs eval v p s) ∙ r.1 } in
+    let mine : IsQuiet v p.this = record {
+      latch = sym (latch_value M frame bs eval v p s) ∙ l.0;
+      start = sym (start_value M frame bs eval v p s) ∙ r.0;
+      answer = sym (answer_value M frame bs eval v p s) ∙ r.1;
+    } in
     let low = subst (λ (xs : List Branch). all_low v (controls_of xs) ≡ true) (sym view.is)
-        (low_all v p.before p.this p.behind mine (and_left _ (all_low v (controls_of p.behind)) view.calm)
-        (and_right (all_low v (controls_of p.before)) _ view.calm)) in
+    (low_all v p.before p.this p.behind mine (and_left _ (all_low v (controls_of p.behind)) view.calm)
+    (and_right (all_low v (controls_of p.before)) _ view.calm)) in
     let theirs = all_quiet v bs q at low in
     let same : map v (controls frame q) ≡ map v (controls frame p) = quiet_controls v frame q theirs.quiet ∙ sym (quiet_controls v frame p mine) in
     let fit = aim_of M (map v (controls frame p)) (seen_rails v m.noted bs p) (seen_rails v m.noted bs q) (state_of M frame bs eval m p s view) idle refl
-        (rails_consistent v m.noted bs q at view.single)
+    (rails_consistent v m.noted bs q at view.single)
     (both _ _ (same_bit (guards_neutral v bs))
-        (both _ _ (same_bit (guards_false v bs)) (both _ _ (same_bit (none_true v bs)) (same_bit (guards_false m.noted bs))))) in
+    (both _ _ (same_bit (guards_false v bs)) (both _ _ (same_bit (none_true v bs)) (same_bit (guards_false m.noted bs))))) in
     inl (record {
       is = at;
       calm = theirs.calm;
@@ -132,7 +144,7 @@ aim_by M frame bs eval m p q s view at true busy =
     let v = m.value in
     let c = map v (controls frame p) in
     let won : is_won v p ≡ true = implies_at _ (won_bit (seen_rails v m.noted bs p))
-        (won_of M c (seen_rails v m.noted bs p) (state_of M frame bs eval m p s view)) (or_left (under_way M c) _ busy) in
+    (won_of M c (seen_rails v m.noted bs p) (state_of M frame bs eval m p s view)) (or_left (under_way M c) _ busy) in
     ⊎_elim (λ (same : p ≡ q). inl (subst (View M frame bs m) same view))
     (λ (apart : Apart p q). inr (record {
       quiet = quiet_among v p q.this view.calm apart.second;
@@ -146,7 +158,8 @@ pub aim : (M : Machine) (frame : List ℕ) (bs : List Branch) (eval : ℕ) (m : 
 aim M frame bs eval m p q s view at = aim_by M frame bs eval m p q s view at (under_way M (map m.value (controls frame p))) refl
 
 -- where this branch's guard isn't false every other branch does nothing
-pub still_beside : (M : Machine) (frame : List ℕ) (bs : List Branch) (m : Moment) (p q : BranchPlace) → View M frame bs m p → is_won m.value p ≡ true → Apart p q →
+pub still_beside : (M : Machine) (frame : List ℕ) (bs : List Branch) (m : Moment) (p q : BranchPlace) → View M frame bs m p → is_won m.value p ≡ true →
+    Apart p q →
     IsStill m.value q
 still_beside M frame bs m p q view won apart = record {
   quiet = quiet_among m.value p q.this view.calm apart.second;
@@ -188,7 +201,8 @@ rule_value M frame bs eval v p o j s r =
     let less = r.less in
     ap v r.at ∙ sym (value_at v (controls frame p) j (omega (arith, less, long)))
 
-pub fires_is : (M : Machine) (frame : List ℕ) (bs : List Branch) (eval : ℕ) (v noted : ℕ → Bool) (p : BranchPlace) (o : Owned) (j : ℕ) → Setting M frame bs eval →
+pub fires_is : (M : Machine) (frame : List ℕ) (bs : List Branch) (eval : ℕ) (v noted : ℕ → Bool) (p : BranchPlace) (o : Owned) (j : ℕ) →
+    Setting M frame bs eval →
     is_calm v p ≡ true → AsRule M frame bs p o j → fires v o ≡ can M j (map v (controls frame p)) (seen_rails v noted bs p)
 fires_is M frame bs eval v noted p o j s calm r =
     let c = map v (controls frame p) in
@@ -234,9 +248,10 @@ frame_value M frame bs eval v p i s lt =
     let size = s.size in
     let all = s.long in
     value_at v (controls frame p) i (omega (arith, lt, long, size))
-        ∙ ap v (frame_there frame (p.this.latch ∷ p.this.start ∷ p.this.answer ∷ []) i (omega (arith, lt, all)))
+    ∙ ap v (frame_there frame (p.this.latch ∷ p.this.start ∷ p.this.answer ∷ []) i (omega (arith, lt, all)))
 
-pub request_turn : (M : Machine) (frame : List ℕ) (bs : List Branch) (request answer eval : ℕ) (m : Moment) (p : BranchPlace) (node : ℕ) → Setting M frame bs eval →
+pub request_turn : (M : Machine) (frame : List ℕ) (bs : List Branch) (request answer eval : ℕ) (m : Moment) (p : BranchPlace) (node : ℕ) →
+    Setting M frame bs eval →
     slice_index_or frame 0 0 ≡ request → slice_index_or frame 1 0 ≡ answer → may_move m (request_wire request answer) ≡ true → node ≡ request →
     Turn M frame bs eval m p node
 request_turn M frame bs request answer eval m p node s first second may at =
@@ -282,8 +297,10 @@ still_answer : (m : Moment) (q : BranchPlace) → IsStill m.value q → may_move
 still_answer m q still = ap (λ b. if b then not (m.value q.this.start) else m.value q.this.start) still.quiet.answer ∙ still.quiet.start
 
 -- from a branch that may be looked at
-turn_by : (M : Machine) (frame : List ℕ) (bs : List Branch) (request answer eval : ℕ) (part : Part) (m : Moment) (P : BranchPlace → Type 0) (p : BranchPlace) (node : ℕ) →
-    Setting M frame bs eval → IsPart M frame bs request answer eval part → ((y : BranchPlace) → IsPlace bs y → (P y × View M frame bs m y) ⊎ IsStill m.value y) →
+turn_by : (M : Machine) (frame : List ℕ) (bs : List Branch) (request answer eval : ℕ) (part : Part) (m : Moment) (P : BranchPlace →
+    Type 0) (p : BranchPlace) (node : ℕ) →
+    Setting M frame bs eval → IsPart M frame bs request answer eval part →
+    ((y : BranchPlace) → IsPlace bs y → (P y × View M frame bs m y) ⊎ IsStill m.value y) →
     P p → View M frame bs m p → IsMove part m node → Seen M frame bs eval m P node
 turn_by M frame bs request answer eval part m P p node s part_is pick ok view (inl own) =
     ⊎_elim (λ (f : InFrame M frame bs own.o). (p, ok, view, own_turn M frame bs eval m p own.o f.0 node s view (f.2 p view.is) own.enabled own.at))
@@ -293,19 +310,42 @@ turn_by M frame bs request answer eval part m P p node s part_is pick ok view (i
     (pick b.0 b.2.is))
     (part_is.own own.o own.among)
 turn_by M frame bs request answer eval part m P p node s part_is pick ok view (inr theirs) =
-    ⊎_elim (λ (e : theirs.w ≡ request_wire request answer).
-    (p, ok, view, request_turn M frame bs request answer eval m p node s part_is.first part_is.second (ap (may_move m) (sym e) ∙ theirs.may) (theirs.at
-        ∙ ap (λ (w : Wire). w.node) e)))
+    ⊎_elim (λ (e : theirs.w ≡ request_wire request answer). (
+      p,
+      ok,
+      view,
+      request_turn M frame bs request answer eval m p node s part_is.first part_is.second (ap (may_move m) (sym e) ∙ theirs.may) (theirs.at
+          ∙ ap (λ (w : Wire). w.node) e),
+    ))
     (λ (b : IsBranchWire eval bs theirs.w). ⊎_elim
-    (λ (e : theirs.w ≡ t_wire eval b.0). (p, ok, view,
-        inr (b.0, record { is = b.1; which = inl (theirs.at ∙ ap (λ (w : Wire). w.node) e); may =
-        rail_may b.0 b.0.this.guard.t theirs.w e theirs.at theirs.may })))
+    (λ (e : theirs.w ≡ t_wire eval b.0). (
+      p,
+      ok,
+      view,
+      inr (
+        b.0,
+        record {
+          is = b.1;
+          which = inl (theirs.at ∙ ap (λ (w : Wire). w.node) e);
+          may =
+              rail_may b.0 b.0.this.guard.t theirs.w e theirs.at theirs.may;
+        },
+      ),
+    ))
     (λ more. ⊎_elim
-    (λ (e : theirs.w ≡ f_wire eval b.0). (p, ok, view,
-        inr (b.0, record { is = b.1; which = inr (theirs.at ∙ ap (λ (w : Wire). w.node) e); may = rail_may_f b.0 theirs.w e theirs.at theirs.may })))
+    (λ (e : theirs.w ≡ f_wire eval b.0). (
+      p,
+      ok,
+      view,
+      inr (b.0, record { is = b.1; which = inr (theirs.at ∙ ap (λ (w : Wire). w.node) e); may = rail_may_f b.0 theirs.w e theirs.at theirs.may }),
+    ))
     (λ (e : theirs.w ≡ d_wire b.0). ⊎_elim
-    (λ (g : P b.0 × View M frame bs m b.0). (b.0, g.0, g.1,
-        answer_turn M frame bs eval m b.0 node s (ap (may_move m) (sym e) ∙ theirs.may) (theirs.at ∙ ap (λ (w : Wire). w.node) e)))
+    (λ (g : P b.0 × View M frame bs m b.0). (
+      b.0,
+      g.0,
+      g.1,
+      answer_turn M frame bs eval m b.0 node s (ap (may_move m) (sym e) ∙ theirs.may) (theirs.at ∙ ap (λ (w : Wire). w.node) e),
+    ))
     (λ still. absurd (true_false (ap (may_move m) (sym e) ∙ theirs.may) (still_answer m b.0 still)))
     (pick b.0 b.1)) more)
     b.2)
@@ -324,7 +364,7 @@ pub turn_any : (M : Machine) (frame : List ℕ) (bs : List Branch) (request answ
     Setting M frame bs eval → IsPart M frame bs request answer eval part → View M frame bs m p → IsMove part m node → Seen M frame bs eval m Any node
 turn_any M frame bs request answer eval part m p node s part_is view move =
     turn_by M frame bs request answer eval part m Any p node s part_is
-        (λ y at. ⊎_elim (λ g. inl (tt, g)) (λ still. inr still) (aim M frame bs eval m p y s view at)) tt view move
+    (λ y at. ⊎_elim (λ g. inl (tt, g)) (λ still. inr still) (aim M frame bs eval m p y s view at)) tt view move
 
 pub turn_won : (M : Machine) (frame : List ℕ) (bs : List Branch) (request answer eval : ℕ) (part : Part) (m : Moment) (p : BranchPlace) (node : ℕ) →
     Setting M frame bs eval → IsPart M frame bs request answer eval part → View M frame bs m p → is_won m.value p ≡ true → IsMove part m node →
@@ -332,7 +372,7 @@ pub turn_won : (M : Machine) (frame : List ℕ) (bs : List Branch) (request answ
 turn_won M frame bs request answer eval part m p node s part_is view won move =
     turn_by M frame bs request answer eval part m (λ y. y ≡ p) p node s part_is
     (λ y at. ⊎_elim (λ (same : p ≡ y). inl (sym same, subst (View M frame bs m) same view))
-        (λ (apart : Apart p y). inr (still_beside M frame bs m p y view won apart)) (one_or_apart bs p y view.is at)) refl view move
+    (λ (apart : Apart p y). inr (still_beside M frame bs m p y view won apart)) (one_or_apart bs p y view.is at)) refl view move
 
 -- every move keeps it
 pub view_kept : (M : Machine) (frame : List ℕ) (bs : List Branch) (request answer eval : ℕ) (part : Part) (m : Moment) (p : BranchPlace) (node : ℕ) →
@@ -355,9 +395,9 @@ firm_at M frame bs eval m p o j node s view r f ne (inl t) =
     let moved = control_moved M frame bs eval v p t.0 node s view.is view.calm t.1.less t.1.at in
     let step = step_of M c q t.0 (state_of M frame bs eval m p s view) t.1.less t.1.may in
     fires_is M frame bs eval (turned v node) m.noted p o j s moved.calm r ∙ ap (λ d. can M j d (seen_rails (turned v node) m.noted bs p)) moved.controls
-        ∙ ap (can M j (flip t.0 c)) (moved.rails m.noted)
+    ∙ ap (can M j (flip t.0 c)) (moved.rails m.noted)
     ∙ step.firm j r.less r.own (λ e. ne (t.1.at ∙ ap (λ k. slice_index_or (controls frame p) k 0) (sym e) ∙ sym r.at))
-        (sym (fires_is M frame bs eval v m.noted p o j s view.calm r) ∙ f)
+    (sym (fires_is M frame bs eval v m.noted p o j s view.calm r) ∙ f)
 firm_at M frame bs eval m p o j node s view r f ne (inr t) =
     let v = m.value in
     let after = rail_kept M frame bs eval m p t.0 node s view t.1.is t.1.which t.1.may in
@@ -368,16 +408,18 @@ or_right : (a b : Bool) → b ≡ true → (a || b) ≡ true
 or_right true b h = refl
 or_right false b h = h
 
-fired_won : (M : Machine) (frame : List ℕ) (bs : List Branch) (eval : ℕ) (m : Moment) (p : BranchPlace) (j : ℕ) → Setting M frame bs eval → View M frame bs m p →
+fired_won : (M : Machine) (frame : List ℕ) (bs : List Branch) (eval : ℕ) (m : Moment) (p : BranchPlace) (j : ℕ) → Setting M frame bs eval →
+    View M frame bs m p →
     (j ≡ M.latch) ⊎ (j ≡ M.latch + 1) → can M j (map m.value (controls frame p)) (seen_rails m.value m.noted bs p) ≡ true → is_won m.value p ≡ true
 fired_won M frame bs eval m p j s view which may =
     let c = map m.value (controls frame p) in
     let q = seen_rails m.value m.noted bs p in
     implies_at _ (won_bit q) (won_of M c q (state_of M frame bs eval m p s view))
     (or_right (under_way M c) _ (⊎_elim (λ (e : j ≡ M.latch). or_left _ _ (ap (λ k. can M k c q) (sym e) ∙ may))
-        (λ (e : j ≡ M.latch + 1). or_right _ _ (or_left _ _ (ap (λ k. can M k c q) (sym e) ∙ may))) which))
+    (λ (e : j ≡ M.latch + 1). or_right _ _ (or_left _ _ (ap (λ k. can M k c q) (sym e) ∙ may))) which))
 
-pub firm_of : (M : Machine) (frame : List ℕ) (bs : List Branch) (request answer eval : ℕ) (part : Part) (m : Moment) (p : BranchPlace) → Setting M frame bs eval →
+pub firm_of : (M : Machine) (frame : List ℕ) (bs : List Branch) (request answer eval : ℕ) (part : Part) (m : Moment) (p : BranchPlace) →
+    Setting M frame bs eval →
     IsPart M frame bs request answer eval part → View M frame bs m p → (o : Owned) → Contains part.own o → fires m.value o ≡ true → (node : ℕ) →
     IsMove part m node → node ≢ o.node → fires (turned m.value node) o ≡ true
 firm_of M frame bs request answer eval part m p s part_is view o among f node move ne =
@@ -395,13 +437,14 @@ firm_of M frame bs request answer eval part m p s part_is view o among f node mo
     (part_is.own o among)
 
 -- no node is pulled both ways
-pub apart_of : (M : Machine) (frame : List ℕ) (bs : List Branch) (request answer eval : ℕ) (part : Part) (m : Moment) (p : BranchPlace) → Setting M frame bs eval →
+pub apart_of : (M : Machine) (frame : List ℕ) (bs : List Branch) (request answer eval : ℕ) (part : Part) (m : Moment) (p : BranchPlace) →
+    Setting M frame bs eval →
     IsPart M frame bs request answer eval part → View M frame bs m p → (o : Owned) → Contains part.own o →
     (guard_holds m.value o.rules.up && guard_holds m.value o.rules.down) ≡ false
 apart_of M frame bs request answer eval part m p s part_is view o among =
     ⊎_elim (λ (k : InFrame M frame bs o). rule_apart p view k.0 (k.2 p view.is))
     (λ (b : InBranch M frame bs o). ⊎_elim (λ (g : View M frame bs m b.0). rule_apart b.0 g b.1 b.2.rule)
-        (λ still. ap (λ u. u && guard_holds m.value o.rules.down) (b.2.still m.value still)) (aim M frame bs eval m p b.0 s view b.2.is))
+    (λ still. ap (λ u. u && guard_holds m.value o.rules.down) (b.2.still m.value still)) (aim M frame bs eval m p b.0 s view b.2.is))
     (part_is.own o among)
   where
     rule_apart : (p : BranchPlace) → View M frame bs m p → (j : ℕ) → AsRule M frame bs p o j →
@@ -410,7 +453,7 @@ apart_of M frame bs request answer eval part m p s part_is view o among =
         let c = map m.value (controls frame p) in
         let q = seen_rails m.value m.noted bs p in
         ap (λ u. u && guard_holds m.value o.rules.down) (r.up m.value m.noted view.calm) ∙ ap (λ d. M.up j c q && d) (r.down m.value m.noted view.calm)
-            ∙ both_of M c q j (state_of M frame bs eval m p s view) r.less r.own
+        ∙ both_of M c q j (state_of M frame bs eval m p s view) r.less r.own
 
 -- a promise that stands on a control
 pub record FramePromise (M : Machine) (frame : List ℕ) (bs : List Branch) (m : Moment) (w : Wire) (j : ℕ) : Type 0 where
@@ -432,12 +475,13 @@ fresh_among n b (x ∷ bs) (inl e) h = (λ same. h.0 (same ∙ ap (λ (y : Branc
 fresh_among n b (x ∷ bs) (inr a) h = fresh_among n b bs a h.1.1.1
 
 -- two controls seen from one branch that are one node
-pub one_control : (M : Machine) (frame : List ℕ) (bs : List Branch) (eval : ℕ) (p : BranchPlace) (i j : ℕ) → Setting M frame bs eval → IsPlace bs p → i < M.size →
+pub one_control : (M : Machine) (frame : List ℕ) (bs : List Branch) (eval : ℕ) (p : BranchPlace) (i j : ℕ) → Setting M frame bs eval → IsPlace bs p →
+    i < M.size →
     j < M.size → slice_index_or (controls frame p) i 0 ≡ slice_index_or (controls frame p) j 0 → i ≡ j
 one_control M frame bs eval p i j s is lt less e =
     let long = controls_length M frame bs eval p s in
     one_place (controls frame p) (distinct_left (controls frame p) (controls_of p.before ++ (controls_of p.behind ++ rails_of (guards_of bs)))
-        (around frame bs p is s.apart)) i j (omega (arith, lt, long)) (omega (arith, less, long)) e
+    (around frame bs p is s.apart)) i j (omega (arith, lt, long)) (omega (arith, less, long)) e
 
 -- a start is no latch and no start of another branch
 start_apart : (M : Machine) (frame : List ℕ) (bs : List Branch) (eval : ℕ) (y : BranchPlace) (b : Branch) → Setting M frame bs eval → IsPlace bs y →
@@ -447,22 +491,23 @@ start_apart M frame bs eval y b s is a =
     let size = s.size in
     let others = controls_of y.before ++ (controls_of y.behind ++ rails_of (guards_of bs)) in
     let fresh = subst (λ n. Fresh n others) (last_there M frame bs eval y 1 s)
-        (cross_at (controls frame y) others (M.latch + 1) (omega (arith, long, size)) (distinct_cross (controls frame y) others (around frame bs y is s.apart)))
-        in
+    (cross_at (controls frame y) others (M.latch + 1) (omega (arith, long, size)) (distinct_cross (controls frame y) others (around frame bs y is s.apart)))
+    in
     ⊎_elim (λ l. fresh_among y.this.start b y.before l (fresh_left y.this.start (controls_of y.before) (controls_of y.behind ++ rails_of (guards_of bs)) fresh))
     (λ r. fresh_among y.this.start b y.behind r
-        (fresh_left y.this.start (controls_of y.behind) (rails_of (guards_of bs))
-        (fresh_right y.this.start (controls_of y.before) (controls_of y.behind ++ rails_of (guards_of bs)) fresh)))
+    (fresh_left y.this.start (controls_of y.behind) (rails_of (guards_of bs))
+    (fresh_right y.this.start (controls_of y.before) (controls_of y.behind ++ rails_of (guards_of bs)) fresh)))
     (among_cases b y.before y.behind a)
 
-pub promised_of : (M : Machine) (frame : List ℕ) (bs : List Branch) (request answer eval : ℕ) (part : Part) (m : Moment) (p : BranchPlace) → Setting M frame bs eval →
+pub promised_of : (M : Machine) (frame : List ℕ) (bs : List Branch) (request answer eval : ℕ) (part : Part) (m : Moment) (p : BranchPlace) →
+    Setting M frame bs eval →
     IsPart M frame bs request answer eval part → View M frame bs m p → (o : Owned) → Contains part.own o → fires m.value o ≡ true → (w : Wire) →
     IsPromise M frame bs m w → w.node ≡ o.node → may_move m w ≡ true
 promised_of M frame bs request answer eval part m p s part_is view o among f w promise e =
     ⊎_elim (λ (k : InFrame M frame bs o). ⊎_elim (λ (g : (j : ℕ) × FramePromise M frame bs m w j). frame_frame k g)
-        (λ (g : (y : BranchPlace) × StartPromise M frame bs m w y). frame_start k g) promise)
+    (λ (g : (y : BranchPlace) × StartPromise M frame bs m w y). frame_start k g) promise)
     (λ (b : InBranch M frame bs o). ⊎_elim (λ (g : (j : ℕ) × FramePromise M frame bs m w j). branch_frame b g)
-        (λ (g : (y : BranchPlace) × StartPromise M frame bs m w y). branch_start b g) promise)
+    (λ (g : (y : BranchPlace) × StartPromise M frame bs m w y). branch_start b g) promise)
     (part_is.own o among)
   where
     size : M.size ≡ M.latch + 3
@@ -475,9 +520,9 @@ promised_of M frame bs request answer eval part m p s part_is view o among f w p
         let less = g.1.less in
         let size = s.size in
         let same : k.0 ≡ g.0 = one_control M frame bs eval p k.0 g.0 s view.is (omega (arith, lt, size)) (omega (arith, less, size)) (sym rule.at ∙ sym e
-            ∙ g.1.at p view.is) in
+        ∙ g.1.at p view.is) in
         g.1.holds p view (ap (λ j. can M j (map m.value (controls frame p)) (seen_rails m.value m.noted bs p)) (sym same)
-            ∙ sym (fires_is M frame bs eval m.value m.noted p o k.0 s view.calm rule) ∙ f)
+        ∙ sym (fires_is M frame bs eval m.value m.noted p o k.0 s view.calm rule) ∙ f)
 
     frame_start : InFrame M frame bs o → (y : BranchPlace) × StartPromise M frame bs m w y → may_move m w ≡ true
     frame_start k g =
@@ -485,7 +530,7 @@ promised_of M frame bs request answer eval part m p s part_is view o among f w p
         let lt = k.1 in
         let size = s.size in
         let same : k.0 ≡ M.latch + 1 = one_control M frame bs eval g.0 k.0 (M.latch + 1) s g.1.is (omega (arith, lt, size)) (omega (arith, size)) (sym rule.at
-            ∙ sym e ∙ g.1.at ∙ sym (last_there M frame bs eval g.0 1 s)) in
+        ∙ sym e ∙ g.1.at ∙ sym (last_there M frame bs eval g.0 1 s)) in
         absurd (omega (arith, lt, same))
 
     branch_frame : InBranch M frame bs o → (j : ℕ) × FramePromise M frame bs m w j → may_move m w ≡ true
@@ -501,13 +546,13 @@ promised_of M frame bs request answer eval part m p s part_is view o among f w p
         let size = s.size in
         let all = b.2.rule.less in
         let here : o.node ≡ slice_index_or (controls frame b.0) (M.latch + 1) 0 = sym e ∙ g.1.at ∙ ap (λ (y : BranchPlace). y.this.start) (sym place)
-            ∙ sym (last_there M frame bs eval b.0 1 s) in
+        ∙ sym (last_there M frame bs eval b.0 1 s) in
         let same : b.1 ≡ M.latch + 1 = one_control M frame bs eval b.0 b.1 (M.latch + 1) s b.2.is all (omega (arith, size)) (sym b.2.rule.at ∙ here) in
         ⊎_elim (λ (v : View M frame bs m b.0).
         let fired = ap (λ j. can M j (map m.value (controls frame b.0)) (seen_rails m.value m.noted bs b.0)) (sym same)
-            ∙ sym (fires_is M frame bs eval m.value m.noted b.0 o b.1 s v.calm b.2.rule) ∙ f in
+        ∙ sym (fires_is M frame bs eval m.value m.noted b.0 o b.1 s v.calm b.2.rule) ∙ f in
         g.1.holds (subst (View M frame bs m) place v)
-            (subst (λ (y : BranchPlace). can M (M.latch + 1) (map m.value (controls frame y)) (seen_rails m.value m.noted bs y) ≡ true) place fired))
+        (subst (λ (y : BranchPlace). can M (M.latch + 1) (map m.value (controls frame y)) (seen_rails m.value m.noted bs y) ≡ true) place fired))
         (λ still. absurd (true_false f (still_fires M frame bs m.value b.0 o b.1 b.2 still)))
         (aim M frame bs eval m p b.0 s view b.2.is)
 
@@ -518,8 +563,8 @@ promised_of M frame bs request answer eval part m p s part_is view o among f w p
         let off = start_apart M frame bs eval g.0 b.0.this s g.1.is apart.first in
         ⊎_elim
         (λ (h : b.1 ≡ M.latch). absurd (off.0 (sym g.1.at ∙ e ∙ b.2.rule.at ∙ ap (λ k. slice_index_or (controls frame b.0) k 0) (h ∙ sym (plus_zero M.latch))
-            ∙ last_there M frame bs eval b.0 0 s)))
+        ∙ last_there M frame bs eval b.0 0 s)))
         (λ (h : b.1 ≡ M.latch + 1). absurd (off.1 (sym g.1.at ∙ e ∙ b.2.rule.at ∙ ap (λ k. slice_index_or (controls frame b.0) k 0) h
-            ∙ last_there M frame bs eval b.0 1 s)))
+        ∙ last_there M frame bs eval b.0 1 s)))
         b.2.which)
         (one_or_apart bs b.0 g.0 b.2.is g.1.is)

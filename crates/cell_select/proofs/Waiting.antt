@@ -56,18 +56,18 @@ low_guard_by v b bs true true e g s h rest = absurd (cc (e, g, s))
 low_guard_by v b bs false false e g s h rest = (at_place [] b bs, refl, e, g)
 low_guard_by v b bs true false e g s h rest =
     let more = rest (sym (ap (λ x. x && guards_valid v bs) (ap (λ t. t && not (v b.guard.f) || not t && v b.guard.f) e ∙ ap (λ f. not f || false && f) g)) ∙ h)
-        in
+    in
     (further b more.0, further_is b bs more.0 more.1, more.2, more.3)
 low_guard_by v b bs false true e g s h rest =
     let more = rest (sym (ap (λ x. x && guards_valid v bs) (ap (λ t. t && not (v b.guard.f) || not t && v b.guard.f) e ∙ ap (λ f. false && not f || f) g)) ∙ h)
-        in
+    in
     (further b more.0, further_is b bs more.0 more.1, more.2, more.3)
 
 pub low_guard : (v : ℕ → Bool) (bs : List Branch) → guards_single v bs ≡ true → guards_valid v bs ≡ false → LowGuard v bs
 low_guard v [] s h = absurd (cc h)
 low_guard v (b ∷ bs) s h =
     low_guard_by v b bs (v b.guard.t) (v b.guard.f) refl refl (and_left (is_single v b.guard) (guards_single v bs) s) h
-        (low_guard v bs (and_right (is_single v b.guard) (guards_single v bs) s))
+    (low_guard v bs (and_right (is_single v b.guard) (guards_single v bs) s))
 
 valid_cases : (t f : Bool) → (t && not f || not t && f) ≡ true → t ≡ false → f ≡ true
 valid_cases true f h e = absurd (cc e)
@@ -78,7 +78,7 @@ pub valid_false : (v : ℕ → Bool) (bs : List Branch) → guards_valid v bs �
 valid_false v [] h n = refl
 valid_false v (b ∷ bs) h n =
     both _ _ (valid_cases (v b.guard.t) (v b.guard.f) (and_left (is_valid v b.guard) (guards_valid v bs) h)
-        (not_true _ (and_left (not (v b.guard.t)) (none_true v bs) n)))
+    (not_true _ (and_left (not (v b.guard.t)) (none_true v bs) n)))
     (valid_false v bs (and_right (is_valid v b.guard) (guards_valid v bs) h) (and_right (not (v b.guard.t)) (none_true v bs) n))
 
 abbrev pub AlonePlace : (ℕ → Bool) → List Branch → Type 0
@@ -129,12 +129,13 @@ alone_parts v (x ∷ before) b behind s t h k =
     both _ _ (valid_f (v x.guard.t) (v x.guard.f) (and_left (is_single v x.guard) rest s) (and_left (v x.guard.f) (guards_false v before) h))
     (alone_parts v before b behind (and_right (is_single v x.guard) rest s) t (and_right (v x.guard.f) (guards_false v before) h) k)
 
-pub alone_valid : (v : ℕ → Bool) (bs : List Branch) (p : BranchPlace) → IsPlace bs p → guards_single v bs ≡ true → alone_true v p ≡ true → guards_valid v bs ≡ true
+pub alone_valid : (v : ℕ → Bool) (bs : List Branch) (p : BranchPlace) → IsPlace bs p → guards_single v bs ≡ true → alone_true v p ≡ true →
+    guards_valid v bs ≡ true
 alone_valid v bs p is s h =
     let rest = and_right (v p.this.guard.t) (guards_false v p.before && guards_false v p.behind) h in
     subst (λ (xs : List Branch). guards_valid v xs ≡ true) (sym is)
     (alone_parts v p.before p.this p.behind (subst (λ (xs : List Branch). guards_single v xs ≡ true) is s) (and_left (v p.this.guard.t) _ h)
-        (and_left (guards_false v p.before) _ rest) (and_right (guards_false v p.before) _ rest))
+    (and_left (guards_false v p.before) _ rest) (and_right (guards_false v p.before) _ rest))
 
 -- wires that may move
 abbrev pub MayMove : Moment → (eval : ℕ) → List Branch → Type 0
@@ -144,11 +145,18 @@ pub high_may : (m : Moment) (eval : ℕ) (bs : List Branch) → m.value eval ≡
 high_may m eval bs e h =
     let v = m.value in
     let q = h.0 in
-    ⊎_elim (λ t. (t_wire eval q, subst (λ (xs : List Branch). Contains (branch_wires eval xs) (t_wire eval q)) (sym h.1)
-        (t_there eval q.before q.this q.behind), ap (λ x. if x then not (v eval) else v eval && (not (v q.this.guard.t) && not (v q.this.guard.f))) t
-        ∙ ap not e))
-    (λ f. (f_wire eval q, subst (λ (xs : List Branch). Contains (branch_wires eval xs) (f_wire eval q)) (sym h.1) (f_there eval q.before q.this q.behind),
-        ap (λ x. if x then not (v eval) else v eval && (not (v q.this.guard.t) && not (v q.this.guard.f))) f ∙ ap not e))
+    ⊎_elim (λ t. (
+      t_wire eval q,
+      subst (λ (xs : List Branch). Contains (branch_wires eval xs) (t_wire eval q)) (sym h.1)
+          (t_there eval q.before q.this q.behind),
+      ap (λ x. if x then not (v eval) else v eval && (not (v q.this.guard.t) && not (v q.this.guard.f))) t
+          ∙ ap not e,
+    ))
+    (λ f. (
+      f_wire eval q,
+      subst (λ (xs : List Branch). Contains (branch_wires eval xs) (f_wire eval q)) (sym h.1) (f_there eval q.before q.this q.behind),
+      ap (λ x. if x then not (v eval) else v eval && (not (v q.this.guard.t) && not (v q.this.guard.f))) f ∙ ap not e,
+    ))
     h.2
 
 pub low_may : (m : Moment) (eval : ℕ) (bs : List Branch) → m.value eval ≡ true → LowGuard m.value bs → MayMove m eval bs
@@ -162,8 +170,12 @@ low_may m eval bs e h =
     )
 
 pub answer_may : (m : Moment) (eval : ℕ) (bs : List Branch) (q : BranchPlace) → IsPlace bs q → may_move m (d_wire q) ≡ true → MayMove m eval bs
-answer_may m eval bs q is h = (d_wire q, subst (λ (xs : List Branch). Contains (branch_wires eval xs) (d_wire q)) (sym is)
-    (d_there eval q.before q.this q.behind), h)
+answer_may m eval bs q is h = (
+  d_wire q,
+  subst (λ (xs : List Branch). Contains (branch_wires eval xs) (d_wire q)) (sym is)
+      (d_there eval q.before q.this q.behind),
+  h,
+)
 
 -- the rules of a latch and of a start, by the values of the nodes
 pub latch_up : (v : ℕ → Bool) (request : ℕ) (p : BranchPlace) → guard_holds v (latch_owned request p).rules.up ≡ (alone_true v p || false)
@@ -184,7 +196,7 @@ pub idle_is : (v : ℕ → Bool) (bs : List Branch) (p : BranchPlace) → IsPlac
     branches_idle v bs ≡ (not (v p.this.start) && not (v p.this.answer))
 idle_is v bs p is calm =
     ap (branches_idle v) is ∙ ap (λ a. a && all_low v (answers_of (p.before ++ p.this ∷ p.behind))) (only_start v p calm)
-        ∙ ap (λ b. not (v p.this.start) && b) (only_answer v p calm)
+    ∙ ap (λ b. not (v p.this.start) && b) (only_answer v p calm)
 
 -- first values
 abbrev wire_nodes : List Wire → List ℕ
@@ -215,7 +227,7 @@ pub controls_low : (v : ℕ → Bool) (bs : List Branch) → all_low v (latches_
 controls_low v [] h k l = refl
 controls_low v (b ∷ bs) h k l =
     both _ _ (and_left (not (v b.latch)) (all_low v (latches_of bs)) h)
-        (both _ _ (and_left (not (v b.start)) (all_low v (starts_of bs)) k) (both _ _ (and_left (not (v b.answer)) (all_low v (answers_of bs)) l)
+    (both _ _ (and_left (not (v b.start)) (all_low v (starts_of bs)) k) (both _ _ (and_left (not (v b.answer)) (all_low v (answers_of bs)) l)
     (controls_low v bs (and_right (not (v b.latch)) _ h) (and_right (not (v b.start)) _ k) (and_right (not (v b.answer)) _ l))))
 
 pub neutral_single : (v : ℕ → Bool) (bs : List Branch) → guards_neutral v bs ≡ true → guards_single v bs ≡ true
@@ -223,4 +235,4 @@ neutral_single v [] h = refl
 neutral_single v (b ∷ bs) h =
     let rest = and_right (not (v b.guard.t)) (not (v b.guard.f) && guards_neutral v bs) h in
     both _ _ (ap (λ t. not (t && v b.guard.f)) (not_true _ (and_left (not (v b.guard.t)) (not (v b.guard.f) && guards_neutral v bs) h)))
-        (neutral_single v bs (and_right (not (v b.guard.f)) (guards_neutral v bs) rest))
+    (neutral_single v bs (and_right (not (v b.guard.f)) (guards_neutral v bs) rest))

@@ -18,7 +18,7 @@ some_branch : (ls ss ans rails : List ℕ) → AreBranches ls ss ans rails → 0
 some_branch ls ss ans rails are =
     let lists = branch_lists ls ss ans (pairs_of rails) are.started are.answered (pairs_length (length ls) rails are.railed) in
     let count : length (branches_from ls ss ans (pairs_of rails)) ≡ length ls = sym (latches_count (branches_from ls ss ans (pairs_of rails)))
-        ∙ ap (λ (xs : List ℕ). length xs) lists.latches in
+    ∙ ap (λ (xs : List ℕ). length xs) lists.latches in
     let some = are.some in
     omega (arith, count, some)
 

@@ -14,8 +14,13 @@ all_low_first n = false
 
 abbrev two_branches : List Branch
 two_branches =
-    record { latch = 13; start = 15; answer = 30; guard = record { t = 20; f = 21 } } ∷ record { latch = 14; start = 16; answer = 31; guard =
-        record { t = 22; f = 23 } } ∷ []
+    record { latch = 13; start = 15; answer = 30; guard = record { t = 20; f = 21 } } ∷ record {
+      latch = 14;
+      start = 16;
+      answer = 31;
+      guard =
+          record { t = 22; f = 23 };
+    } ∷ []
 
 abbrev two_guards : SelectNodes
 two_guards = record { request = 5; answer = 10; eval = 11; any = 12; branches = two_branches }
@@ -38,7 +43,7 @@ hasty_select = record (select_part two_guards) { own = with_other 10 hasty_answe
 pub hasty_breaks : ¬ Keeps hasty_select
 hasty_breaks =
     broken hasty_select _ (5 ∷ 11 ∷ 20 ∷ 23 ∷ 13 ∷ 12 ∷ 11 ∷ 20 ∷ 23 ∷ 15 ∷ 30 ∷ 10 ∷ 5 ∷ 13 ∷ 12 ∷ [])
-        (at_first all_low_first (record { outside = refl; own = refl; bits = refl })) refl
+    (at_first all_low_first (record { outside = refl; own = refl; bits = refl })) refl
 
 -- It takes the first guard that is true: h_i.t -> l_i+, whatever the others are.
 abbrev eager_latches : List NodeRules
@@ -68,13 +73,16 @@ restless_select = record (select_part two_guards) {
 pub restless_breaks : ¬ Keeps restless_select
 restless_breaks =
     broken restless_select _ (5 ∷ 11 ∷ 20 ∷ 23 ∷ 13 ∷ 12 ∷ 11 ∷ 20 ∷ 23 ∷ 15 ∷ 30 ∷ 15 ∷ 30 ∷ [])
-        (at_first all_low_first (record { outside = refl; own = refl; bits = refl })) refl
+    (at_first all_low_first (record { outside = refl; own = refl; bits = refl })) refl
 
 -- It asks for its guards again once the branch has run: a_i -> l_i-, and never answers.
 abbrev let_go_latches : List NodeRules
 let_go_latches =
-    record { up = one_term (is_high 20 ∷ is_high 23 ∷ []); down = one_term (is_high 30 ∷ []) } ∷ record { up = one_term (is_high 21 ∷ is_high 22 ∷ []); down =
-        one_term (is_high 31 ∷ []) } ∷ []
+    record { up = one_term (is_high 20 ∷ is_high 23 ∷ []); down = one_term (is_high 30 ∷ []) } ∷ record {
+      up = one_term (is_high 21 ∷ is_high 22 ∷ []);
+      down =
+          one_term (is_high 31 ∷ []);
+    } ∷ []
 
 abbrev asking_select : Part
 asking_select = record (select_part two_guards) {
@@ -85,7 +93,7 @@ asking_select = record (select_part two_guards) {
 pub asking_breaks : ¬ Keeps asking_select
 asking_breaks =
     broken asking_select _ (5 ∷ 11 ∷ 20 ∷ 23 ∷ 13 ∷ 12 ∷ 11 ∷ 20 ∷ 23 ∷ 15 ∷ 30 ∷ 13 ∷ 15 ∷ 30 ∷ 12 ∷ [])
-        (at_first all_low_first (record { outside = refl; own = refl; bits = refl })) refl
+    (at_first all_low_first (record { outside = refl; own = refl; bits = refl })) refl
 
 -- It answers where all guards are false and hasn't let them go: l_0 -> a+, without the rails.
 abbrev hasty_end : NodeRules
@@ -120,7 +128,7 @@ restless_again = record (again_part two_turns) {
 pub restless_again_breaks : ¬ Keeps restless_again
 restless_again_breaks =
     broken restless_again _ (5 ∷ 17 ∷ 11 ∷ 20 ∷ 23 ∷ 13 ∷ 12 ∷ 11 ∷ 20 ∷ 23 ∷ 15 ∷ 30 ∷ 15 ∷ 30 ∷ [])
-        (at_first all_low_first (record { outside = refl; own = refl; bits = refl })) refl
+    (at_first all_low_first (record { outside = refl; own = refl; bits = refl })) refl
 
 -- It answers its second request as it did the first, and doesn't ask: l_0 is never let go, and ~r -> a-.
 abbrev kept_end : List Owned
@@ -135,4 +143,4 @@ unasking_again = record (again_part two_turns) { own = with_other 10 unasking_an
 pub unasking_breaks : ¬ Keeps unasking_again
 unasking_breaks =
     broken unasking_again _ (5 ∷ 17 ∷ 11 ∷ 21 ∷ 23 ∷ 19 ∷ 12 ∷ 11 ∷ 21 ∷ 23 ∷ 10 ∷ 5 ∷ 10 ∷ 5 ∷ [])
-        (at_first all_low_first (record { outside = refl; own = refl; bits = refl })) refl
+    (at_first all_low_first (record { outside = refl; own = refl; bits = refl })) refl

@@ -67,7 +67,7 @@ pub record AgainNodes : Type 0 where
 abbrev pub again_nodes : AgainNodes → List ℕ
 again_nodes c =
     c.request ∷ c.answer ∷ c.turn ∷ c.joined ∷ c.eval ∷ c.any ∷ c.leave
-        ∷ (controls_of c.branches ++ rails_of (guards_of c.branches))
+    ∷ (controls_of c.branches ++ rails_of (guards_of c.branches))
 
 abbrev pub again_inner : AgainNodes → List ℕ
 again_inner c =
@@ -176,7 +176,7 @@ abbrev pub start_wire : (request answer eval : ℕ) → List Branch → BranchPl
 start_wire request answer eval bs p =
     wire p.this.start
     (λ m. m.value request && (alone_true m.noted p
-        && (not (m.value eval) && (not (m.value answer) && (guards_neutral m.value bs && branches_idle m.value bs)))))
+    && (not (m.value eval) && (not (m.value answer) && (guards_neutral m.value bs && branches_idle m.value bs)))))
     (λ m. m.value p.this.answer)
 
 abbrev pub start_wires : (request answer eval : ℕ) → List Branch → List Wire
@@ -211,10 +211,10 @@ abbrev pub again_answer : AgainNodes → Wire
 again_answer c =
     wire c.answer
     (λ m. m.value c.request && (m.noted c.eval
-        && (guards_false m.noted c.branches
-        && (not (m.value c.eval) && (guards_neutral m.value c.branches && branches_idle m.value c.branches)))))
+    && (guards_false m.noted c.branches
+    && (not (m.value c.eval) && (guards_neutral m.value c.branches && branches_idle m.value c.branches)))))
     (λ m. not (m.value c.request) &&
-        (not (m.value c.eval) && (guards_neutral m.value c.branches && branches_idle m.value c.branches)))
+    (not (m.value c.eval) && (guards_neutral m.value c.branches && branches_idle m.value c.branches)))
 
 -- as wires that move only where the request is high too
 abbrev pub rises_under : (request : ℕ) → Wire → Wire

@@ -18,8 +18,11 @@ only_one_true before (h ∷ behind) = (all_false before ++ is_high h.t ∷ all_f
 -- a guard's latch rises where it alone is true, and falls with the request: h_i.t & h_j.f for all other j -> l_i+, ~r
 -- -> l_i-
 abbrev pub latches : (request : ℕ) → List Pair → List NodeRules
-latches request hs = map (λ (wanted : List Literal). record { up = one_term wanted; down =
-    one_term (is_low request ∷ []) }) (only_one_true [] hs)
+latches request hs = map (λ (wanted : List Literal). record {
+  up = one_term wanted;
+  down =
+      one_term (is_low request ∷ []);
+}) (only_one_true [] hs)
 
 -- once the guards are let go the latched one has its way: l & ~h_1.t & ~h_1.f & .. -> s+, ~l -> s-
 abbrev pub started : (latch : ℕ) → List Pair → NodeRules
@@ -30,13 +33,19 @@ starts ls hs = map (λ l. started l hs) ls
 
 -- the guards are evaluated until a latch is up: r & ~m -> e+, m -> e-
 abbrev pub evaluation : (request any : ℕ) → NodeRules
-evaluation request any = record { up = one_term (is_high request ∷ is_low any ∷ []); down =
-    one_term (is_high any ∷ []) }
+evaluation request any = record {
+  up = one_term (is_high request ∷ is_low any ∷ []);
+  down =
+      one_term (is_high any ∷ []);
+}
 
 -- a branch's answer is the whole's, until no latch is up: a_1 | .. | a_g -> a+, ~m & ~a_1 & .. & ~a_g -> a-
 abbrev pub joined_answer : (any : ℕ) → (answers : List ℕ) → NodeRules
-joined_answer any answers = record { up = map (λ a. is_high a ∷ []) answers; down =
-    one_term (is_low any ∷ lows answers) }
+joined_answer any answers = record {
+  up = map (λ a. is_high a ∷ []) answers;
+  down =
+      one_term (is_low any ∷ lows answers);
+}
 
 -- the nodes at a selection: its request, the node that says that a latch is up, for each guard its latch and its rails,
 -- and the answer of its branch
@@ -51,7 +60,7 @@ pub record Choosing : Type 0 where
 abbrev pub select_rules : Choosing → List NodeRules
 select_rules c =
     joined_answer c.any c.answers ∷ evaluation c.request c.any ∷ or_of c.latched
-        ∷ (latches c.request c.guards ++ starts c.latched c.guards)
+    ∷ (latches c.request c.guards ++ starts c.latched c.guards)
 
 -- the nodes at a guarded repetition: also the request of one turn, the joined answers of the branches, and the latch by
 -- which it ends; the selection's request is that of a turn
@@ -63,8 +72,11 @@ pub record Repeating : Type 0 where
 
 -- a turn is asked for until a branch has answered: r & ~d -> lr+, d | ~r -> lr-
 abbrev pub turn_request : (request joined : ℕ) → NodeRules
-turn_request request joined = record { up = one_term (is_high request ∷ is_low joined ∷ []); down =
-    (is_high joined ∷ []) ∷ (is_low request ∷ []) ∷ [] }
+turn_request request joined = record {
+  up = one_term (is_high request ∷ is_low joined ∷ []);
+  down =
+      (is_high joined ∷ []) ∷ (is_low request ∷ []) ∷ [];
+}
 
 -- it ends where all guards are false: h_1.f & .. & h_g.f -> l_0+, ~lr -> l_0-
 abbrev pub leave_latch : (turn : ℕ) → List Pair → NodeRules
@@ -72,8 +84,11 @@ leave_latch turn hs = record { up = one_term (all_false hs); down = one_term (is
 
 -- and answers once the guards are let go: l_0 & ~h_1.t & .. -> a+, ~m -> a-
 abbrev pub leave_answer : (leave any : ℕ) → List Pair → NodeRules
-leave_answer leave any hs = record { up = one_term (is_high leave ∷ lows (rails_of hs)); down =
-    one_term (is_low any ∷ []) }
+leave_answer leave any hs = record {
+  up = one_term (is_high leave ∷ lows (rails_of hs));
+  down =
+      one_term (is_low any ∷ []);
+}
 
 -- the answer, the request of a turn, the joined answers, the request of the guards, whether a latch is up, the latch of
 -- the end, the other latches, and the starts of the branches
@@ -81,6 +96,6 @@ abbrev pub again_rules : Repeating → List NodeRules
 again_rules p =
     let c = p.turn in
     leave_answer p.leave c.any c.guards ∷ turn_request p.request p.joined ∷ joined_answer c.any c.answers
-        ∷ evaluation c.request c.any
+    ∷ evaluation c.request c.any
     ∷ or_of (p.leave ∷ c.latched) ∷ leave_latch c.request c.guards
-        ∷ (latches c.request c.guards ++ starts c.latched c.guards)
+    ∷ (latches c.request c.guards ++ starts c.latched c.guards)

@@ -7,8 +7,8 @@ ghost use Rattle.cell_select.specs.PortNodes.{select_of, again_of, IsSelect, IsA
 ghost use Rattle.cell_select.specs.declared.emit.SelectPorts.{SelectPorts};
 ghost use Rattle.cell_select.specs.declared.emit.AgainPorts.{AgainPorts};
 
-/// Law: a selection keeps its contract against every neighbour, in every order of moves, for any number of guards from one
-/// on and whatever the numbers of its nodes are, as long as they are distinct. So does what `emit_select` writes.
+/// Law: a selection keeps its contract against every neighbour, in every order of moves, for any number of guards from
+/// one on and whatever the numbers of its nodes are, as long as they are distinct. So does what `emit_select` writes.
 pub fn select_keeps()
     ensures all { (c : SelectNodes) → 0 < length c.branches → AreApart (select_nodes c) → Keeps (select_part c) }
     ensures written { (count : ℕ) (p : SelectPorts) → IsSelect count p → Keeps (select_part (select_of p)) }

@@ -202,7 +202,7 @@ valid_when_idle n l a b c = implies_both (legal n) (idle n) (valid n.xt n.xf) (a
 pub legal_at_first : (n : Now) → valid n.xt n.xf ≡ true → n.wt ≡ false → n.wf ≡ false → n.va ≡ false → n.wa ≡ false → legal n ≡ true
 legal_at_first n v a b c d =
     implies_at (not n.wa) (legal n) (implies_both (valid n.xt n.xf) (idle n) (implies (not n.wa) (legal n))
-        (at_now (λ n. implies (valid n.xt n.xf) (implies (idle n) (implies (not n.wa) (legal n)))) refl n) v (idle_from n a b c))
+    (at_now (λ n. implies (valid n.xt n.xf) (implies (idle n) (implies (not n.wa) (legal n)))) refl n) v (idle_from n a b c))
     (subst (λ x. not x ≡ true) (sym d) refl)
 
 -- a bit that stands still with the acknowledge's value waits for its neighbour

@@ -63,7 +63,7 @@ divided : (sites : List (List Pair)) (at width from : ℕ) (o : Owned) → Conta
 divided sites at zero from o among = absurd (none_among o among)
 divided sites at (suc n) from o among =
     by (Contains-append_cases (bit_block sites at from) (owned_from (from + 5) (bits_rules sites (suc at) (bits_from n (from + 5)))) o
-        (subst (λ l. Contains l o) (bits_block sites at n from) among)) (divided sites (suc at) n (from + 5) o)
+    (subst (λ l. Contains l o) (bits_block sites at n from) among)) (divided sites (suc at) n (from + 5) o)
   where
     b : Bit
     b = bit_at from
@@ -210,7 +210,7 @@ block_written : (sites : List (List Pair)) (at from : ℕ) (r : RulesValue) →
 block_written sites at from r =
     let b = bit_at from in
     with_exchanged (Pair_of sites at from) (owned (from + 4) (bit_written b) ∷ [])
-        (with_owned (owned from (kept_rail b.w.t b.x.f b.w.f) ∷ owned (from + 1) (kept_rail b.w.f b.x.t b.w.t) ∷ []) r)
+    (with_owned (owned from (kept_rail b.w.t b.x.f b.w.f) ∷ owned (from + 1) (kept_rail b.w.f b.x.t b.w.t) ∷ []) r)
     (λ o among. others_from o.node (owned (from + 4) (bit_written b) ∷ []) (λ x here e. apart o among (only x here ∙ e)))
   where
     only : (x : Owned) → Contains (owned (from + 4) (bit_written (bit_at from)) ∷ []) x → from + 4 ≡ x.node
@@ -259,7 +259,7 @@ variable_written width from sites r =
     ∙ (ap (with_owned tree) (bits_written sites 0 width from r)
     ∙ (sym (with_append merges tree (with_owned own r))
     ∙ (with_exchanged merges tree (with_owned own r) (λ o among. others_from o.node tree (λ x here e. let before = merges_before sites 0 width from o among in
-        let behind = not_before (from + 5 * width) (tree_rules (written_leaves width from) (from + 5 * width)) x here in omega (arith, before, behind, e)))
+    let behind = not_before (from + 5 * width) (tree_rules (written_leaves width from) (from + 5 * width)) x here in omega (arith, before, behind, e)))
     ∙ (with_append tree merges (with_owned own r)
     ∙ ap (with_owned merges) (sym (with_append own tree r))))))))
   where

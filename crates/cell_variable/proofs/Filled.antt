@@ -35,8 +35,8 @@ pub half_bit : (bit : ℕ) (old now later : RulesValue) → now ≡ with_rules b
 half_bit bit old now later first same =
     let b = bit_at bit in
     partly_of (owned bit (kept_rail b.w.t b.x.f b.w.f) ∷ []) (bit_owned b) old later
-        (λ o k. Contains-append_left (owned bit (kept_rail b.w.t b.x.f b.w.f) ∷ []) (owned (bit + 1) (kept_rail b.w.f b.x.t b.w.t)
-        ∷ owned (bit + 4) (bit_written b) ∷ []) o k) (partly_all (owned bit (kept_rail b.w.t b.x.f b.w.f) ∷ []) old later (same ∙ first))
+    (λ o k. Contains-append_left (owned bit (kept_rail b.w.t b.x.f b.w.f) ∷ []) (owned (bit + 1) (kept_rail b.w.f b.x.t b.w.t)
+    ∷ owned (bit + 4) (bit_written b) ∷ []) o k) (partly_all (owned bit (kept_rail b.w.t b.x.f b.w.f) ∷ []) old later (same ∙ first))
 
 pub whole_bit : {E : Type 0} (bit : ℕ) (old one two later : RulesValue) (r : Result (Unit {0}) E) →
     one ≡ with_rules bit (kept_rail (bit + 2) (bit + 1) (bit + 3)) old → two ≡ with_rules (bit + 1) (kept_rail (bit + 3) bit (bit + 2)) one →
@@ -44,12 +44,12 @@ pub whole_bit : {E : Type 0} (bit : ℕ) (old one two later : RulesValue) (r : R
 whole_bit bit old one two later (Ok u) first second made kept =
     let b = bit_at bit in
     partly_all (bit_owned b) old later (made ∙ ap (with_rules (bit + 4) (bit_written b)) (second
-        ∙ ap (with_rules (bit + 1) (kept_rail b.w.f b.x.t b.w.t)) first))
+    ∙ ap (with_rules (bit + 1) (kept_rail b.w.f b.x.t b.w.t)) first))
 whole_bit bit old one two later (Err e) first second made kept =
     let b = bit_at bit in
     let os : List Owned = owned bit (kept_rail b.w.t b.x.f b.w.f) ∷ owned (bit + 1) (kept_rail b.w.f b.x.t b.w.t) ∷ [] in
     partly_of os (bit_owned b) old later (λ o k. Contains-append_left os (owned (bit + 4) (bit_written b) ∷ []) o k)
-        (partly_all os old later (kept ∙ (second ∙ ap (with_rules (bit + 1) (kept_rail b.w.f b.x.t b.w.t)) first)))
+    (partly_all os old later (kept ∙ (second ∙ ap (with_rules (bit + 1) (kept_rail b.w.f b.x.t b.w.t)) first)))
 
 abbrev bits_owned : ℕ → ℕ → List Owned
 bits_owned width from = flat_map bit_owned (bits_from width from)
@@ -92,7 +92,7 @@ bit_partly : (width from : ℕ) (old : RulesValue) (left bit : ℕ) (leaves : Li
 bit_partly width from old left bit leaves now later so_far some =
     partly_on (bits_owned width from) old now later so_far.partly
     (partly_of (bit_owned (bit_at bit)) (bits_owned width from) now later
-        (λ o k. so_far.among o (Contains-append_left (bit_owned (bit_at bit)) (bits_owned left (bit + 5)) o k)) some)
+    (λ o k. so_far.among o (Contains-append_left (bit_owned (bit_at bit)) (bits_owned left (bit + 5)) o k)) some)
 
 more : (width from : ℕ) (old : RulesValue) (left bit : ℕ) (leaves : List ℕ) (now : RulesValue) (later : RulesValue) →
     Filled width from old (suc left) bit leaves now → later ≡ with_owned (bit_owned (bit_at bit)) now → length later.up ≡ length now.up →
@@ -115,7 +115,7 @@ alone : (width from : ℕ) (old : RulesValue) (left bit : ℕ) (leaves : List �
 alone width from old left bit leaves now later so_far far node o =
     let mine : IsOther node (bits_owned width from) = other_left node (bits_owned width from) (tree_owned (written_leaves width from) (from + 5 * width)) o in
     alone_on old now later node (so_far.others node mine)
-        (far node (other_left node (bit_owned (bit_at bit)) (bits_owned left (bit + 5)) (so_far.rest node mine)))
+    (far node (other_left node (bit_owned (bit_at bit)) (bits_owned left (bit + 5)) (so_far.rest node mine)))
 
 -- the same by the place of the next bit
 pub record Filling (width from : ℕ) (old : RulesValue) (place bit : ℕ) (leaves : List ℕ) (now : RulesValue) : Type 0 where
@@ -198,7 +198,7 @@ ended width from old bit leaves now so_far fits some =
           partly_on (variable_owned width from) old now later
           (partly_of (bits_owned width from) (variable_owned width from) old now (λ o k. Contains-append_left (bits_owned width from) tree o k) so_far.partly)
           (partly_of tree (variable_owned width from) now later (λ o k. Contains-append_right (bits_owned width from) tree o k)
-              (subst (λ os. IsPartly os now later) same some));
+          (subst (λ os. IsPartly os now later) same some));
     }
 
 pub filled_end : (width from : ℕ) (old : RulesValue) (place bit : ℕ) (leaves slice : List ℕ) (now : RulesValue) → Filling width from old place bit leaves now →
@@ -206,4 +206,4 @@ pub filled_end : (width from : ℕ) (old : RulesValue) (place bit : ℕ) (leaves
 filled_end width from old place bit leaves slice now f last fits some is =
     let none : f.left ≡ 0 = omega (arith, f.counted) in
     subst (λ l. AllFilled width from old bit l now) (sym is)
-        (ended width from old bit leaves now (subst (λ l. Filled width from old l bit leaves now) none f.so_far) fits some)
+    (ended width from old bit leaves now (subst (λ l. Filled width from old l bit leaves now) none f.so_far) fits some)

@@ -71,7 +71,7 @@ module _ (n : ℕ) (ns : List ℕ) (output : ℕ) where
   still : (m : Moment) (input : ℕ) → Contains inputs input → fires m.value output_owned ≡ true → may_move m (input_wire input) ≡ true → ⊥
   still m input among f may =
       by (m.value output) (m.value input) (all_low m.value inputs) (list_any m.value inputs) (any_or_all m.value inputs)
-          (low_with_all m.value inputs input among) (sym (fires_is m.value) ∙ f) may
+      (low_with_all m.value inputs input among) (sym (fires_is m.value) ∙ f) may
     where
       low_with_all : (v : ℕ → Bool) (ks : List ℕ) (k : ℕ) → Contains ks k → all_low v ks ≡ true → v k ≡ false
       low_with_all v [] k among h = absurd (none_among k among)
@@ -99,7 +99,7 @@ module _ (n : ℕ) (ns : List ℕ) (output : ℕ) where
   firm m o among f node (inr outside) ne =
       let (input, here, is) = among_mapped input_wire inputs outside.w outside.among in
       absurd (still m input here (subst (λ (x : Owned). fires m.value x ≡ true) (sym (only o among)) f)
-          (subst (λ (x : Wire). may_move m x ≡ true) (sym is) outside.may))
+      (subst (λ (x : Wire). may_move m x ≡ true) (sym is) outside.may))
 
   promised : (m : Moment) (o : Owned) → Contains part.own o → fires m.value o ≡ true → (w : Wire) → Contains part.promises w → may_move m w ≡ true
   promised m o among f w here = by (among_cases output_wire [] w here)

@@ -12,13 +12,13 @@ pub terms_below : (count : ℕ) (ns : List ℕ) → All (λ n. n < count) ns →
 terms_below count [] h = All-nil (λ t. All (λ (l : Literal). l.node < count) t)
 terms_below count (n ∷ ns) h =
     All-cons (λ t. All (λ (l : Literal). l.node < count) t) (is_high n ∷ []) (map (λ n. is_high n ∷ []) ns)
-        (term_below count n (All-head (λ n. n < count) n ns h)) (terms_below count ns (All-tail (λ n. n < count) n ns h))
+    (term_below count n (All-head (λ n. n < count) n ns h)) (terms_below count ns (All-tail (λ n. n < count) n ns h))
 
 literals_below : (count : ℕ) (ns : List ℕ) → All (λ n. n < count) ns → All (λ (l : Literal). l.node < count) (lows ns)
 literals_below count [] h = All-nil (λ (l : Literal). l.node < count)
 literals_below count (n ∷ ns) h =
     All-cons (λ (l : Literal). l.node < count) (is_low n) (lows ns) (All-head (λ n. n < count) n ns h)
-        (literals_below count ns (All-tail (λ n. n < count) n ns h))
+    (literals_below count ns (All-tail (λ n. n < count) n ns h))
 
 pub lows_below : (count : ℕ) (ns : List ℕ) → All (λ n. n < count) ns → IsBelow count (lows ns ∷ [])
 lows_below count ns h = All-cons (λ t. All (λ (l : Literal). l.node < count) t) (lows ns) [] (literals_below count ns h)

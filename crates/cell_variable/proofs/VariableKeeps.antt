@@ -225,7 +225,8 @@ module _ (width from : ℕ) (some : 1 ≤ width) (settles : (leaves : List ℕ) 
           (ap (turned v (s + 4)) e ∙ (turned_here v (s + 4) ∙ ap (λ n. not (v n)) (sym e)))
           (table.stays_alone (now v (v ack) s) l m)
 
-  leaf_turned : (v : ℕ → Bool) (o : Owned) → IsTreeSettled leaves tree_from v → Contains tree o → fires v o ≡ true → o.node ≡ ack → (s : ℕ) → IsBit width from s →
+  leaf_turned : (v : ℕ → Bool) (o : Owned) → IsTreeSettled leaves tree_from v → Contains tree o → fires v o ≡ true → o.node ≡ ack → (s : ℕ) →
+      IsBit width from s →
       v (s + 4) ≡ not (v ack)
   leaf_turned v o settled among f at s bit =
       All-contains (λ leaf. v leaf ≡ not (v ack)) leaves (s + 4) (known.turns v o settled among f at) (bit_leaf width from s bit)
@@ -329,7 +330,7 @@ module _ (width from : ℕ) (some : 1 ≤ width) (settles : (leaves : List ℕ) 
       turned_by e (inr apart) =
           subst (λ x. may k (now (turned v (place j x)) (v ack) s) ≡ true) (sym e)
           (carry (may k) _ s (turn j (now v (v ack) s)) (v ack) (five_at v (v ack) s j) (table.ack_kept j (now v (v ack) s))
-              (table.firm k j (now v (v ack) s) own apart (l s bit) m (subst (λ x. may j (now v (v ack) x) ≡ true) e o)))
+          (table.firm k j (now v (v ack) s) own apart (l s bit) m (subst (λ x. may j (now v (v ack) x) ≡ true) e o)))
 
       by : (t ≡ s) ⊎ (t ≢ s) → may k (now (turned v (place j t)) (v ack) s) ≡ true
       by (inl e) = turned_by e (table.role_cases k j)
@@ -346,7 +347,8 @@ module _ (width from : ℕ) (some : 1 ≤ width) (settles : (leaves : List ℕ) 
       (λ m. all_low m.value (rails_of (map (λ (b : Bit). b.w) (bits_from width from))))
 
   -- the acknowledge turns once each bit is ready
-  ready_bits : (v : ℕ → Bool) (o : Owned) → Legal v → IsTreeSettled leaves tree_from v → Mine o → fires v o ≡ true → o.node ≡ ack → (s : ℕ) → IsBit width from s →
+  ready_bits : (v : ℕ → Bool) (o : Owned) → Legal v → IsTreeSettled leaves tree_from v → Mine o → fires v o ≡ true → o.node ≡ ack → (s : ℕ) →
+      IsBit width from s →
       ready (now v (v ack) s) ≡ true
   ready_bits v o l settled (of_tree among) f at s bit = table.ready_after (now v (v ack) s) (l s bit) (leaf_turned v o settled among f at s bit)
   ready_bits v o l settled (of_bit t other k own here same pulled) f at s bit = by k own (sym here ∙ at) (sym (same v (v ack)) ∙ f)
@@ -468,7 +470,7 @@ module _ (width from : ℕ) (some : 1 ≤ width) (settles : (leaves : List ℕ) 
   waits : (m : Moment) → Holds m → ((o : Owned) → Contains part.own o → fires m.value o ≡ false) → (w : Wire) × Contains part.allows w × (may_move m w ≡ true)
   waits m h none =
       let (leaf, among, is) = known.waits m.value h.settled (λ o among. none o (Contains-append_right (flat_map bit_owned (bits_from width from)) tree o among))
-          in
+      in
       let (s, bit, at) = leaf_bit width from leaf among in
       by s bit (waiting s bit (ap m.value (sym at) ∙ is))
     where

@@ -33,8 +33,10 @@ early_breaks = broken early zero_at_first (2 ∷ []) (at_first (λ n. n == 1) (r
 
 -- a merge of 1 and 2 that falls where its first input is low: 1 | 2 -> 3+, ~1 -> 3-
 abbrev forgetful : Part
-forgetful = record (merge_part (1 ∷ 2 ∷ []) 3) { own = owned 3 (record { up = (is_high 1 ∷ []) ∷ (is_high 2 ∷ []) ∷ []; down = one_term (is_low 1 ∷ []) })
-    ∷ [] }
+forgetful = record (merge_part (1 ∷ 2 ∷ []) 3) {
+  own = owned 3 (record { up = (is_high 1 ∷ []) ∷ (is_high 2 ∷ []) ∷ []; down = one_term (is_low 1 ∷ []) })
+      ∷ [];
+}
 
 abbrev all_low_at_first : Moment
 all_low_at_first = record { value = λ n. false; noted = λ n. false }

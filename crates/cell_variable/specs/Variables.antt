@@ -15,8 +15,12 @@ pub record Bit : Type 0 where
 
 -- five nodes for each bit
 abbrev pub bit_at : ℕ → Bit
-bit_at node = record { x = record { t = node; f = node + 1 }; w = record { t = node + 2; f = node + 3 }; written =
-    node + 4 }
+bit_at node = record {
+  x = record { t = node; f = node + 1 };
+  w = record { t = node + 2; f = node + 3 };
+  written =
+      node + 4;
+}
 
 -- the lowest bit comes first
 abbrev pub bits_from : (width from : ℕ) → List Bit
@@ -25,8 +29,11 @@ bits_from (suc n) from = bit_at from ∷ bits_from n (from + 5)
 
 -- a rail of the bit rises once the other one has fallen: w.t & ~x.f -> x.t+, w.f -> x.t-, and the same exchanged
 abbrev pub kept_rail : (set other reset : ℕ) → NodeRules
-kept_rail set other reset = record { up = one_term (is_high set ∷ is_low other ∷ []); down =
-    one_term (is_high reset ∷ []) }
+kept_rail set other reset = record {
+  up = one_term (is_high set ∷ is_low other ∷ []);
+  down =
+      one_term (is_high reset ∷ []);
+}
 
 -- the bit is written once it has the value: w.t & x.t | w.f & x.f -> wa+, ~w.t & ~w.f -> wa-
 abbrev pub bit_written : Bit → NodeRules
@@ -39,7 +46,7 @@ bit_written b = record {
 abbrev pub bit_rules : (sites : List (List Pair)) → (place : ℕ) → Bit → List NodeRules
 bit_rules sites place b =
     kept_rail b.w.t b.x.f b.w.f ∷ kept_rail b.w.f b.x.t b.w.t ∷ merged_true sites place ∷ merged_false sites place
-        ∷ bit_written b ∷ []
+    ∷ bit_written b ∷ []
 
 -- the bits from this place on
 abbrev pub bits_rules : (sites : List (List Pair)) → (place : ℕ) → List Bit → List NodeRules

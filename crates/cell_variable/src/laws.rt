@@ -29,8 +29,8 @@ pub fn variable_keeps()
 pub fn variable_divided()
     ensures nodes { (width from : ℕ) (sites : List (List Pair)) (o : Owned)
         → Contains (owned_from from (variable_rules width from sites)) o ↔ Contains (variable_owned width from
-            ++ merges_owned sites 0 (bits_from width from)) o }
+        ++ merges_owned sites 0 (bits_from width from)) o }
     ensures written { (width from : ℕ) (sites : List (List Pair)) (r : RulesValue)
         → with_owned (merges_owned sites 0 (bits_from width from)) (with_owned (variable_owned width from) r) ≡
-            with_owned (owned_from from (variable_rules width from sites)) r }
+        with_owned (owned_from from (variable_rules width from sites)) r }
 {}

@@ -73,7 +73,7 @@ wires_free : (c : Channel) → All IsFree (wires_named c)
 wires_free c = All-append IsFree (rail_names c.name c.width) (ack_name c.name ∷ [])
     (all_flat (λ bit. true_rail c.name bit ∷ false_rail c.name bit ∷ []) (range_with_len 0 c.width)
     (λ bit. All-cons IsFree (true_rail c.name bit) (false_rail c.name bit ∷ []) (wire c.name (decimal bit) (codes ".t"))
-        (one (false_rail c.name bit) (wire c.name (decimal bit) (codes ".f")))))
+    (one (false_rail c.name bit) (wire c.name (decimal bit) (codes ".f")))))
     (one (ack_name c.name) (dotted (ack_name c.name) (dot_in c.name (codes "a"))))
 
 bits_free : (v : Var) → All IsFree (bits_named v)
@@ -93,7 +93,7 @@ names_free p =
     let body = numbered_from (root_request p) (2 + size_of p p.body) in
     let blocks = block_names p.vars (vars_from p) ++ body in
     let blocks_are = All-append IsFree (block_names p.vars (vars_from p)) body (blocks_free p.vars (vars_from p))
-        (all_numbered (root_request p) (2 + size_of p p.body)) in
+    (all_numbered (root_request p) (2 + size_of p p.body)) in
     let wires_are = All-append IsFree (wire_names p.channels) blocks (all_flat wires_named p.channels wires_free) blocks_are in
     All-cons IsFree (codes "go") (codes "done" ∷ (wire_names p.channels ++ blocks)) (begins 103 (codes "o") refl)
     (All-cons IsFree (codes "done") (wire_names p.channels ++ blocks) (begins 100 (codes "one") refl) wires_are)

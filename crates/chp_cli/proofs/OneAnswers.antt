@@ -85,11 +85,11 @@ module _ (named : (p : ProgramTree) (c d : FaultCode) (s t : Span) → IsFirstFa
     (placed : (p : ProgramTree) (c d : FaultCode) (s t : Span) → IsFirstFault p naming_faults c s → IsFirstFault p naming_faults d t → s ≡ t)
     (no_name : (p : ProgramTree) (c : FaultCode) (s : Span) → HasNone p naming_faults → ¬ IsFirstFault p naming_faults c s)
     (shared : (body : Process) (c d : FaultCode) (s t u v : Span) → IsFirstSharedFault body sharing_faults c s t → IsFirstSharedFault body sharing_faults d u v
-        → c ≡ d)
+    → c ≡ d)
     (first : (body : Process) (c d : FaultCode) (s t u v : Span) → IsFirstSharedFault body sharing_faults c s t → IsFirstSharedFault body sharing_faults d u v →
-        s ≡ u)
+    s ≡ u)
     (second : (body : Process) (c d : FaultCode) (s t u v : Span) → IsFirstSharedFault body sharing_faults c s t → IsFirstSharedFault body sharing_faults d u v
-        → t ≡ v)
+    → t ≡ v)
     (unshared : (body : Process) (c : FaultCode) (s t : Span) → MeetsSharing body → ¬ IsFirstSharedFault body sharing_faults c s t) where
   fault_once : (program : ProgramTree) (f g : Fault) → IsFaulty program f → IsFaulty program g → f ≡ g
   fault_once p f g (of_names {c = c} {at = s} n) (of_names {c = d} {at = t} m) = let at = placed p c d s t n m in same_fault f g (named p c d s t n m) at at
@@ -135,7 +135,7 @@ module _ (cause : (text : List ℕ) (k j : FaultCode) (s t : Span) → IsRefused
   command_once (compiles file reset) given told = file_once given file _ _ told
       (λ text. program_once text (CompilesProgram reset)
       (λ program. checked program (FromNodes (typed_form program) (CompilesNet reset))
-          (nodes_once (typed_form program) (CompilesNet reset) (compile_once reset (typed_form program))))
+      (nodes_once (typed_form program) (CompilesNet reset) (compile_once reset (typed_form program))))
       (cause text) (place text))
   command_once (migrates file) given told = file_once given file _ _ told (λ text. net_once text MigratesNet migrate_once (once text))
   command_once (checks file) given told = file_once given file _ _ told

@@ -211,7 +211,7 @@ takes_is name words = go (walk rules [] nothing_held words).stopped
   where
     go : (stop : Option (Text × List Text))
         → (entered_passes (built (compile_form name)) stop
-            && level_passes (shape name) [] nothing_held words (is_some (entered (built (compile_form name)) stop)))
+        && level_passes (shape name) [] nothing_held words (is_some (entered (built (compile_form name)) stop)))
         ≡ level_passes (shape name) [] nothing_held words false
     go None = refl
     go (Some p) = refl
@@ -224,7 +224,7 @@ module _ (name : Text) where
   abbrev outcome : Walk → List Text → Option Asked
   outcome w words = cond (walk_passes (shape name) [] w words && ends_well (fold (walked rules []) w words).held)
       (compile_with (first_of (codes "FILE") (finished rules (fold (walked rules []) w words).held))
-          (first_of (codes "reset") (finished rules (fold (walked rules []) w words).held)))
+      (first_of (codes "reset") (finished rules (fold (walked rules []) w words).held)))
       None
 
   stops : (w : Walk) (word : Text) (rest : List Text) → turn_passes (shape name) [] w word ≡ false → outcome w (word ∷ rest) ≡ None
@@ -271,11 +271,11 @@ module _ (name : Text) where
       turn nothing word rest u (a_plain f t r) next =
           let p = plain_word word f in
           rw (t, r, f) (goes_on (at nothing false) (at (the_file word) false) word rest (rw (p.ends, p.long, p.short) refl) (walked_plain word p)
-              ∙ next (the_file word))
+          ∙ next (the_file word))
       turn the_flag word rest u (a_plain f t r) next =
           let p = plain_word word f in
           rw (t, r, f) (goes_on (at the_flag false) (at (flag_file word) false) word rest (rw (p.ends, p.long, p.short) refl) (walked_plain_flagged word p)
-              ∙ next (flag_file word))
+          ∙ next (flag_file word))
       turn (the_file file) word rest u (a_plain f t r) next =
           let p = plain_word word f in
           rw (t, r, f) (stops (at (the_file file) false) word rest (rw (p.ends, p.long, p.short) refl))
@@ -351,10 +351,20 @@ behind_file a (b ∷ rest) f t r = second b rest (sort_of b)
     second b [] a_tail = rw (t, r, f) refl
     second b (c ∷ rest) a_tail = rw (t, r) refl
     second b rest a_reset = rw (t, r) (behind_both a rest f t)
-    second b rest (a_flag g s q) = rw (s, q, g, t,
-        r) (sym (either_none (asks_reset rest) _ _ (two_none a b (without_reset rest) f t s) (two_none a b rest f t s)))
-    second b rest (a_plain g s q) = rw (s, q, g, t,
-        r) (sym (either_none (asks_reset rest) _ _ (two_none a b (without_reset rest) f t s) (two_none a b rest f t s)))
+    second b rest (a_flag g s q) = rw (
+      s,
+      q,
+      g,
+      t,
+      r,
+    ) (sym (either_none (asks_reset rest) _ _ (two_none a b (without_reset rest) f t s) (two_none a b rest f t s)))
+    second b rest (a_plain g s q) = rw (
+      s,
+      q,
+      g,
+      t,
+      r,
+    ) (sym (either_none (asks_reset rest) _ _ (two_none a b (without_reset rest) f t s) (two_none a b rest f t s)))
 
 file_met : (a : Text) (rest : List Text) → is_flag a ≡ false → bytes_eq a dashes ≡ false → bytes_eq a flag_word ≡ false
     → read nothing false (a ∷ rest) ≡ read (the_file a) false rest

@@ -90,7 +90,8 @@ err_in (Err e) P Q is p = is e p
 
 module _ (text : List ℕ) (program : ProgramTree) (Next : ProgramTree → Answer → Type 0) (read : IsTextOf text program) (r : Result Output Stop) where
   pub program_answers : IfOk r (λ output. Next program (told_answer output)) → IfOk r (λ output. FromProgram text Next (told_answer output))
-  program_answers = ok_in r (λ output. Next program (told_answer output)) (λ output. FromProgram text Next (told_answer output)) (λ output is. a_program read is)
+  program_answers = ok_in r (λ output. Next program (told_answer output)) (λ output. FromProgram text Next (told_answer output))
+      (λ output is. a_program read is)
 
   pub program_stops : IfErr r (Halts (Next program)) → IfErr r (Halts (FromProgram text Next))
   program_stops = err_in r (Halts (Next program)) (Halts (FromProgram text Next))
@@ -117,7 +118,8 @@ module _ (text : List ℕ) (net : NetValue) (Next : NetValue → Answer → Type
 module _ (given : Given) (name : List ℕ) (most : ℕ) (text : List ℕ) (Next : List ℕ → Answer →
     Type 0) (gives : Gives given name text) (short : length text ≤ most) (r : Result Output Stop) where
   pub file_answers : IfOk r (λ output. Next text (told_answer output)) → IfOk r (λ output. FromFile given name most Next (told_answer output))
-  file_answers = ok_in r (λ output. Next text (told_answer output)) (λ output. FromFile given name most Next (told_answer output)) (λ output is. a_file gives short is)
+  file_answers = ok_in r (λ output. Next text (told_answer output)) (λ output. FromFile given name most Next (told_answer output))
+      (λ output is. a_file gives short is)
 
   pub file_stops : (files : List (List ℕ)) (before after : ℕ) → IfErr r (Halts (Next text)) →
       IfErr r (Stops (FromFile given name most Next) files given before after)

@@ -264,7 +264,7 @@ valid_none s rows has free e =
     let first = chosen_none (not has && (s.arg_required_else_help && not (list_any (λ (r : Row). explicit_source r.source) rows))) _ _ _ e in
     let second = chosen_none (not has && s.subcommand_required) _ _ _ first.1 in
     let third = chosen_none (not (s.subcommand_negates_reqs && has) && list_any (λ (a : Rule). a.required && not (is_given a.id rows)) s.rules) _ _ _ second.1
-        in
+    in
     and_true _ _ (no_help has s.arg_required_else_help _ first.0)
     (and_true _ _ (no_command has s.subcommand_required second.0)
     (and_true _ _ free (go (s.subcommand_negates_reqs && has) third.0)))

@@ -22,8 +22,8 @@ pub record Lacks (given : Given) (name : List ℕ) : Type 0 where
   pub told : given.tells ≡ true
   pub none : given.files name ≡ None
 
--- a text that is written whole before the command ends so; a refusal, with its status and its line; or that a file isn't
--- there
+-- a text that is written whole before the command ends so; a refusal, with its status and its line; or that a file
+-- isn't there
 pub data Answer : Type 0 where
   writes : Ending → (text : List ℕ) → Answer
   refuses : Status → (line : List ℕ) → Answer

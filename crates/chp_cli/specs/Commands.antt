@@ -78,7 +78,7 @@ compile_with file reset = option_map (λ name. compiles name (is_set reset)) fil
 abbrev pub compile_of : Text → List Text → Option Asked
 compile_of name words = if takes (compile_form name) words
     then compile_with (first_of (codes "FILE") (matches_of (compile_form name) words))
-        (first_of (codes "reset") (matches_of (compile_form name) words))
+    (first_of (codes "reset") (matches_of (compile_form name) words))
     else None
 
 -- what the words behind this word ask for

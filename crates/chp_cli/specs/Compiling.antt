@@ -41,8 +41,8 @@ Compiles reset given file = FromFile given file most_of_text (λ text. FromProgr
 
 -- ---- what follows from that
 
--- The file holds a text that reads as a program, and as no other one; the program is accepted; and what is written is the
--- one text of its net, which carries it.
+-- The file holds a text that reads as a program, and as no other one; the program is accepted; and what is written is
+-- the one text of its net, which carries it.
 pub record IsFileCompiled (reset : Bool) (given : Given) (file written : List ℕ) : Type 0 where
   pub text : List ℕ
   pub program : ProgramTree

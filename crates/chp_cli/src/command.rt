@@ -36,9 +36,9 @@ enum Verb {
 /// program's name.
 ///
 /// The first word names the command. The words behind it are read by `clap`, by the form of that command: one file and,
-/// for `compile`, the flag `--reset`, which may stand once, before the file or behind it. The file is one word, which may
-/// be empty or `-`. Any other word that begins with a hyphen and has more is taken for a flag and refused, a call for help
-/// too, but behind `--` any word may stand; `--` may also end the words.
+/// for `compile`, the flag `--reset`, which may stand once, before the file or behind it. The file is one word, which
+/// may be empty or `-`. Any other word that begins with a hyphen and has more is taken for a flag and refused, a call
+/// for help too, but behind `--` any word may stand; `--` may also end the words.
 ///
 /// `Err` stands for want of memory, and it is left open when that comes.
 pub fn command_in<'a>(alloc: Global, words: &'a [String]) -> Result<Option<Command<'a>>, AllocError>

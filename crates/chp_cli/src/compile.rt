@@ -40,7 +40,8 @@ fn net_text(alloc: Global, net: Net, reset: bool) -> Result<Vec<u8>, AllocError>
 
 /// The rule file of an accepted program.
 fn compile_accepted<'a>(alloc: Global, program: &Disjoint, reset: bool) -> Result<Output, Stop<'a>>
-    ensures answered { IfOk result (λ output. FromNodes (typed_of program.now) (CompilesNet reset) (told_answer output)) }
+    ensures answered { IfOk result (λ output. FromNodes (typed_of program.now) (CompilesNet reset)
+        (told_answer output)) }
     ensures stopped { IfErr result (Halts (FromNodes (typed_of program.now) (CompilesNet reset))) }
 {
     carries_reset();

@@ -52,7 +52,7 @@ fn run<'a, S: Shelf, K: Sink>(
 ) -> End<'a>
     ensures ended { (appended : List ℕ)
         × Ends (asked_by words.now) (given_by (S.tells shelf.old) (S.holds shelf.old)) (S.faults shelf.old)
-            (S.faults shelf.new) (K.faults out.old) (K.faults out.new) (end_status result) appended (end_line result)
+        (S.faults shelf.new) (K.faults out.old) (K.faults out.new) (end_status result) appended (end_line result)
         × (K.tells out.old ≡ true → K.written out.new ≡ K.written out.old ++ appended) }
     ensures shelf_same { S.tells shelf.new ≡ S.tells shelf.old }
     ensures shelf_kept { S.holds shelf.new ≡ S.holds shelf.old }
@@ -91,14 +91,14 @@ pub fn chp_main<S: Shelf, K: Sink, W: Sink>(
 ) -> Status
     ensures ended { (appended : List ℕ) × (line : List ℕ)
         × Ends (asked_by words.now) (given_by (S.tells shelf.old) (S.holds shelf.old)) (S.faults shelf.old)
-            (S.faults shelf.new) (K.faults out.old) (K.faults out.new) result appended line
+        (S.faults shelf.new) (K.faults out.old) (K.faults out.new) result appended line
         × (K.tells out.old ≡ true → K.written out.new ≡ K.written out.old ++ appended)
         × (W.tells say.old ≡ true → ¬ Rose (W.faults say.old) (W.faults say.new) →
-            W.written say.new ≡ W.written say.old ++ line) }
+        W.written say.new ≡ W.written say.old ++ line) }
     ensures complete { (answer : Answer) → S.tells shelf.old ≡ true →
         AnswersTo (asked_by words.now) (given_by (S.tells shelf.old) (S.holds shelf.old)) answer
         → ¬ Rose (S.faults shelf.old) (S.faults shelf.new) → ¬ Rose (K.faults out.old) (K.faults out.new) →
-            (result ≡ status_of answer) ⊎ (result ≡ Status.NoMemory) }
+        (result ≡ status_of answer) ⊎ (result ≡ Status.NoMemory) }
     ensures usage { result ≡ Status.Usage → asked_by words.now ≡ None }
     ensures read { result ≡ Status.Read → (name : List ℕ) × IsFile (asked_by words.now) name
         × IsReadFault (S.faults shelf.old) (S.faults shelf.new) (S.tells shelf.old) (S.holds shelf.old name) }

@@ -158,7 +158,7 @@ mutual
   framed old' new' (at_first h) f g = at_first h
   framed {old = old} {new = new} old' new' (at_second {x = x} {h = k} {at = at} {e = e} h v) f g =
       at_second h (value_same (slice_index new') (slice_index new) (read_through k e at) (λ y s i. g here _ refl y s (inr i))
-          ∙ (v ∙ sym (value_same (slice_index old') (slice_index old) e (λ y s i. f here _ refl y s (inr i)))))
+      ∙ (v ∙ sym (value_same (slice_index old') (slice_index old) e (λ y s i. f here _ refl y s (inr i)))))
   framed old' new' (both_in_sequence a ms) f g = both_in_sequence (framed old' new' a (λ w p h. f (in_first w) p h) (λ w p h. g (in_first w) p h)) ms
   framed old' new' (both_in_parallel a) f g = both_in_parallel (each_framed old' new' a (λ j w p h. f (in_branch j w) p h) (λ j w p h. g (in_branch j w) p h))
 
@@ -205,15 +205,21 @@ mutual
   find both_finished b q h = absurd (cc h)
   find {N = N} {M = M} {old = old} {new = new} (both_active {p = p} {q = r} s) here q h =
       let e : r ≡ q = cc h in
-      subst (λ z. Found N M old new (active p) (active r) here z) e (record { place = here; process = p; on = refl; pair = pair_same s; put =
-          λ old' new' l m f g a. a })
+      subst (λ z. Found N M old new (active p) (active r) here z) e (record {
+        place = here;
+        process = p;
+        on = refl;
+        pair = pair_same s;
+        put =
+            λ old' new' l m f g a. a;
+      })
   find (both_active s) (in_first b) q h = absurd (cc h)
   find (both_active s) (in_branch k b) q h = absurd (cc h)
   find (at_first i) here q h = absurd (cc h)
   find {N = N} {M = M} {old = old} {new = new} (at_first {x = x} {h = k} {at = at} {e = f} i) (in_first here) q h =
       let e : assigning k at f ≡ q = cc h in
       subst (λ z. Found N M old new (active (assigning x at f))
-          (in_sequence (active (assigning k at f)) (and_member (assigning x at (read_through k f at)) no_members)) (in_first here) z) e
+      (in_sequence (active (assigning k at f)) (and_member (assigning x at (read_through k f at)) no_members)) (in_first here) z) e
       (record { place = here; process = assigning x at f; on = refl; pair = pair_first i; put = λ old' new' l m f g a. a })
   find (at_first i) (in_first (in_first b)) q h = absurd (cc h)
   find (at_first i) (in_first (in_branch k b)) q h = absurd (cc h)
@@ -304,8 +310,13 @@ mutual
   standing (at_first i) (in_branch k a) p h = absurd (cc h)
   standing {N = N} {M = M} {old = old} {new = new} (at_second {x = x} {h = k} {at = at} {e = f} i v) here p h =
       let e : assigning x at f ≡ p = cc h in
-      subst (λ z. Standing N M old new (active (assigning x at (read_through k f at))) z) e (record { place = here; process = assigning x at (read_through k f at);
-          on = refl; pair = pair_second i v })
+      subst (λ z. Standing N M old new (active (assigning x at (read_through k f at))) z) e
+      (record {
+        place = here;
+        process = assigning x at (read_through k f at);
+        on = refl;
+        pair = pair_second i v;
+      })
   standing (at_second i v) (in_first a) p h = absurd (cc h)
   standing (at_second i v) (in_branch k a) p h = absurd (cc h)
   standing (both_in_sequence a ms) here p h = absurd (cc h)

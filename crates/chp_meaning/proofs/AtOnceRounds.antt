@@ -27,8 +27,13 @@ use Rattle.chp_meaning.proofs.Planning.{one_below}
 use Rattle.chp_meaning.proofs.Tables.{active_in, active_at, receive_noted, noted_receives, send_noted, noted_sends, none_there}
 
 abbrev pub outset_for : Configuration → Outset
-outset_for c = record { store = c.store; rests = c.rests; sends = fold (noted_send true) (replicate (length c.rests) false) (actives c.term); receives =
-    fold (noted_receive true) (replicate (length c.rests) None) (actives c.term) }
+outset_for c = record {
+  store = c.store;
+  rests = c.rests;
+  sends = fold (noted_send true) (replicate (length c.rests) false) (actives c.term);
+  receives =
+      fold (noted_receive true) (replicate (length c.rests) None) (actives c.term);
+}
 
 -- each active statement has what its run asks for
 abbrev pub AllRun : Configuration → ℕ → Type 0
@@ -73,7 +78,7 @@ send_waits : (c : Configuration) (m : ℕ) → AllRun c m → (w : Place) (k : �
 send_waits c m run w k s e h =
     let r = runs_at c m run w (sending k s e) h in
     send_noted true (actives c.term) (replicate (length c.rests) false) k (omega (arith, r.0.0, length-replicate (length c.rests) false))
-        (inr (s, e, active_in c.term w (sending k s e) h))
+    (inr (s, e, active_in c.term w (sending k s e) h))
 
 waits_send : (c : Configuration) (k : ℕ) → slice_index_or (outset_for c).sends k false ≡ true → (w : Place) × (s : Span) × (e : Formula)
     × (statement_at c.term w ≡ Some (sending k s e))
@@ -104,11 +109,13 @@ guards_numbered c j (and_choice g p more) = by_test (value (slice_index c.store)
   where
     by_test : (b : Bool) → Numbered c (j + 1) more
         → (ks : List ℕ) × ((if b then j ∷ true_guards c.store (j + 1) more else true_guards c.store (j + 1) more) ≡ map (λ k. j + k) ks)
-            × ((if b then p ∷ open_branches c more else open_branches c more) ≡ map (branch_of (and_choice g p more)) ks)
+        × ((if b then p ∷ open_branches c more else open_branches c more) ≡ map (branch_of (and_choice g p more)) ks)
     by_test true (ks, e, f) =
-        let z : j ≡ j + 0 = omega arith in
-        (0 ∷ map suc ks, ap (λ x. x ∷ true_guards c.store (j + 1) more) z ∙ ap (λ xs. (j + 0) ∷ xs) (e ∙ sym (shifted j ks)),
-            ap (λ ps. p ∷ ps) (f ∙ sym (later_branches g p more ks)))
+        let z : j ≡ j + 0 = omega arith in (
+          0 ∷ map suc ks,
+          ap (λ x. x ∷ true_guards c.store (j + 1) more) z ∙ ap (λ xs. (j + 0) ∷ xs) (e ∙ sym (shifted j ks)),
+          ap (λ ps. p ∷ ps) (f ∙ sym (later_branches g p more ks)),
+        )
     by_test false (ks, e, f) = (map suc ks, e ∙ sym (shifted j ks), f ∙ sym (later_branches g p more ks))
 
 plain_numbers : (ks : List ℕ) → map (λ k. 0 + k) ks ≡ ks
@@ -216,7 +223,8 @@ ends_finished : (q : Process) (x : Option Move) (m : Move) (met : Bool) → x �
 ends_finished q x m met e = ap (λ y. term_of q (ended y met)) e
 
 -- a branch, begun
-branch_begins : (n m : ℕ) (again : Bool) (cs : Choices) (store : List ℕ) (k : ℕ) → IsRunnable n m (choosing again cs) → guards_counted (true_guards store 0 cs) ≡ One k
+branch_begins : (n m : ℕ) (again : Bool) (cs : Choices) (store : List ℕ) (k : ℕ) → IsRunnable n m (choosing again cs) →
+    guards_counted (true_guards store 0 cs) ≡ One k
     → Begins (branch_of cs k)
 branch_begins n m again cs store k r e = begins n m (branch_of cs k) (part_runnable n m (choosing again cs) k (one_below store cs k (sym e)) r)
 
@@ -243,7 +251,7 @@ step_left {c = c} {a = a} m f run (a_turn {choices = cs} {p = p} on true_ones) q
 step_left {c = c} m f run (an_end {choices = cs} on true_ones) q h =
     let e : choosing true cs ≡ q = cc (on, h) in
     subst (λ r. left_of (outset_for c) r ≡ finished) e (ap (λ g. term_of (choosing true cs) (chosen_remains (choosing true cs) true g))
-        (none_open c cs true_ones))
+    (none_open c cs true_ones))
 step_left {c = c} {a = a} m f run (a_repetition {p = p} on) q h =
     let e : repeating p ≡ q = cc (on, h) in
     let b = begins (length c.rests) m p (runs_at c m run a (repeating p) on).0 in
@@ -252,15 +260,15 @@ step_left {c = c} {a = a} m f run (a_repetition {p = p} on) q h =
 step_left {c = c} m f run (a_communication {at = a} other {k = k} {s = s} {e = i} on there inside) q h =
     let e : sending k s i ≡ q = cc (on, h) in
     subst (λ r. left_of (outset_for c) r ≡ finished) e (ends_finished (sending k s i) (ending_move (outset_for c) (sending k s i)) _ false
-        (step_move m f run (a_communication {c = c} other on there inside) (sending k s i) on))
+    (step_move m f run (a_communication {c = c} other on there inside) (sending k s i) on))
 step_left {c = c} m f run (a_delivery {k = k} {s = s} {e = i} on offered more) q h =
     let e : sending k s i ≡ q = cc (on, h) in
     subst (λ r. left_of (outset_for c) r ≡ finished) e (ends_finished (sending k s i) (ending_move (outset_for c) (sending k s i)) _ false
-        (step_move m f run (a_delivery {c = c} on offered more) (sending k s i) on))
+    (step_move m f run (a_delivery {c = c} on offered more) (sending k s i) on))
 step_left {c = c} m f run (an_arrival {k = k} {x = x} {s = s} {t = t} on offered) q h =
     let e : receiving k s x t ≡ q = cc (on, h) in
     subst (λ r. left_of (outset_for c) r ≡ finished) e (ends_finished (receiving k s x t) (ending_move (outset_for c) (receiving k s x t)) _
-        (is_met (outset_for c) (receiving k s x t)) (step_move m f run (an_arrival {c = c} on offered) (receiving k s x t) on))
+    (is_met (outset_for c) (receiving k s x t)) (step_move m f run (an_arrival {c = c} on offered) (receiving k s x t) on))
 
 -- where a statement has a move there is a step
 
@@ -328,9 +336,9 @@ other_left {c = c} m run (a_communication {at = b} other {k = k} {x = x} {s = s}
     let e : receiving k t x u ≡ q = cc (there, g, place) in
     let none : ending_move (outset_for c) (receiving k t x u) ≡ None = ap (λ v. received_move k x (next_of v)) inside in
     let met : is_met (outset_for c) (receiving k t x u) ≡ true = ap (λ v. if offers_inside v then slice_index_or (outset_for c).sends k false else false) inside
-        ∙ send_waits c m run b k s i on in
+    ∙ send_waits c m run b k s i on in
     subst (λ r. left_of (outset_for c) r ≡ finished) e (ap (λ y. term_of (receiving k t x u) (ended y (is_met (outset_for c) (receiving k t x u)))) none
-        ∙ ap (λ y. term_of (receiving k t x u) (ended None y)) met)
+    ∙ ap (λ y. term_of (receiving k t x u) (ended None y)) met)
 other_left m run _ o q h g = absurd (cc h)
 
 other_is : {c d : Configuration} {b : Place} (m : ℕ) → Fits c.term → (s : Step c b d) (a : Place) (k x : ℕ) (t u v : Span) (e : Formula) →
@@ -394,7 +402,7 @@ kept_on {c = c} {a = a} {b = b} s u f ne g kept = record {
   agrees = λ q h x t i. unwritten g.store (deal s).write x (λ v e.
       let r = writer s x v e in
       places_apart c.term r.place b r.process q f (parts_apart s u f ne r.place b r.part (inl refl)) r.is h (done_at (writes_var x) r.var_at)
-          (done_at (reads_var x) t) r.writes i refl) ∙ kept.agrees q h x t i;
+      (done_at (reads_var x) t) r.writes i refl) ∙ kept.agrees q h x t i;
   offers = λ k port. unoffered g.rests (deal s).offer k (λ v e. ports_apart c a b k f ne (offer_port s k v e) port) ∙ kept.offers k port;
 }
 
@@ -409,7 +417,7 @@ taken_dealt no_steps f distinct e fits kept = refl
 taken_dealt (and_step {a = a} {ps = ps} s ss) f distinct e fits kept =
     let next = again s e kept.0 in
     ap (λ x. fold taken x ps) (taken_is fits next)
-        ∙ taken_dealt ss f distinct.1 (dealt e a (deal s)) (step_fits fits next) (all_kept_on s ss f distinct.0 e kept.1)
+    ∙ taken_dealt ss f distinct.1 (dealt e a (deal s)) (step_fits fits next) (all_kept_on s ss f distinct.0 e kept.1)
 
 -- part by part
 
@@ -443,7 +451,7 @@ rests_all : {c : Configuration} {ps : List Place} (ss : StepsAt c ps) → Fits c
 rests_all no_steps f distinct e kept = refl
 rests_all (and_step {a = a} s ss) f distinct e kept =
     rests_all ss f distinct.1 (dealt e a (deal s)) (all_kept_on s ss f distinct.0 e kept.1)
-        ∙ ap (λ x. fold used x (moves_in ss)) (one_used s e.rests kept.0.offers)
+    ∙ ap (λ x. fold used x (moves_in ss)) (one_used s e.rests kept.0.offers)
 
 leave_append : (t : Term) (xs ys : List Part) → leave_all t (xs ++ ys) ≡ leave_all (leave_all t xs) ys
 leave_append t [] ys = refl
@@ -472,8 +480,10 @@ other_stands s (Some w) e = (part_stands s w (inr e), tt)
 
 all_stand : {c : Configuration} {ps : List Place} (ss : StepsAt c ps) → Stand c.term (parts_in ss)
 all_stand no_steps = tt
-all_stand {c = c} (and_step s ss) = (stands s,
-    stand_append c.term (other_parts (deal s).other) (parts_in ss) (other_stands s (deal s).other refl) (all_stand ss))
+all_stand {c = c} (and_step s ss) = (
+  stands s,
+  stand_append c.term (other_parts (deal s).other) (parts_in ss) (other_stands s (deal s).other refl) (all_stand ss),
+)
 
 others_append : (w : Place) (xs ys : List Part) → Other w xs → Other w ys → Other w (xs ++ ys)
 others_append w [] ys a b = b
@@ -666,7 +676,7 @@ mutual
   branches_at ts (and_branch t more) k lift =
       at_append (in_parallel ts) (map (in_branch k) (places t)) (branch_places (suc k) more) (actives t) (branch_actives more)
       (at_map t (in_parallel ts) (in_branch k) (λ a q h. let e : k + 0 ≡ k = omega arith in subst (λ n. branch_at ts n a ≡ Some q) e (lift 0 a q h)) (places t)
-          (actives t) (places_at t))
+      (actives t) (places_at t))
       (branches_at ts more (suc k) (λ j a q h. let e : k + suc j ≡ suc k + j = omega arith in subst (λ n. branch_at ts n a ≡ Some q) e (lift (suc j) a q h)))
 
 moves_are : (c : Configuration) (m : ℕ) → Fits c.term → AllRun c m → (spots : List Place) (qs : List Process) → At c.term spots qs →

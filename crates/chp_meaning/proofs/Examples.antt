@@ -66,8 +66,12 @@ meets_once = refl
 
 -- *[L?x; R!x] over three values
 abbrev copies : TypedProgram
-copies = record { channels = channel In 4 ∷ channel Out 4 ∷ []; vars = var 4 0 ∷ []; body =
-    repeating (both (receiving 0 at 0 at) (sending 1 at (reading 0 3 0 at))) }
+copies = record {
+  channels = channel In 4 ∷ channel Out 4 ∷ [];
+  vars = var 4 0 ∷ [];
+  body =
+      repeating (both (receiving 0 at 0 at) (sending 1 at (reading 0 3 0 at)));
+}
 
 copies_all : (rounds copies (gives (3 ∷ 15 ∷ 0 ∷ []) ∷ takes All ∷ []) 30).histories ≡ (3 ∷ 15 ∷ 0 ∷ []) ∷ (3 ∷ 15 ∷ 0 ∷ []) ∷ []
 copies_all = refl
@@ -77,9 +81,13 @@ copies_first = refl
 
 -- [x = 0 -> A!1 [] x < 2 -> B!1] with both guards true
 abbrev torn : Bool → TypedProgram
-torn again = record { channels = channel Out 1 ∷ channel Out 1 ∷ []; vars = var 2 0 ∷ []; body =
-    choosing again (and_choice (compared op.Eq (reading 0 1 0 at) (constant 2 0)) (sending 0 at (constant 1 1))
-    (and_choice (compared op.Lt (reading 0 1 0 at) (constant 2 2)) (sending 1 at (constant 1 1)) no_choices)) }
+torn again = record {
+  channels = channel Out 1 ∷ channel Out 1 ∷ [];
+  vars = var 2 0 ∷ [];
+  body =
+      choosing again (and_choice (compared op.Eq (reading 0 1 0 at) (constant 2 0)) (sending 0 at (constant 1 1))
+      (and_choice (compared op.Lt (reading 0 1 0 at) (constant 2 2)) (sending 1 at (constant 1 1)) no_choices));
+}
 
 torn_stays : (again : Bool) → enabled_places (rounds (torn again) (takes All ∷ takes All ∷ []) 5) ≡ []
 torn_stays true = refl
@@ -87,9 +95,13 @@ torn_stays false = refl
 
 -- *[x < 3 -> x := x + 1]; R!x
 abbrev counts : TypedProgram
-counts = record { channels = channel Out 4 ∷ []; vars = var 4 0 ∷ []; body =
-    both (choosing true (and_choice (compared op.Lt (reading 0 3 0 at) (constant 4 3)) (assigning 0 at (plus_one 4)) no_choices))
-    (sending 0 at (reading 0 3 0 at)) }
+counts = record {
+  channels = channel Out 4 ∷ [];
+  vars = var 4 0 ∷ [];
+  body =
+      both (choosing true (and_choice (compared op.Lt (reading 0 3 0 at) (constant 4 3)) (assigning 0 at (plus_one 4)) no_choices))
+      (sending 0 at (reading 0 3 0 at));
+}
 
 counts_to_three : rounds counts (takes All ∷ []) 8 ≡ record { term = finished; store = 3 ∷ []; rests = takes All ∷ []; histories = (3 ∷ []) ∷ [] }
 counts_to_three = refl
@@ -98,8 +110,13 @@ counts_to_three = refl
 abbrev later : TypedProgram
 later = record { channels = channel Out 1 ∷ []; vars = []; body = beside skipping (both skipping (sending 0 at (constant 1 1))) }
 
-later_not_yet : rounds later (takes All ∷ []) 1 ≡ record { term =
-    in_parallel (and_branch finished (and_branch (active (sending 0 at (constant 1 1))) no_branches)); store = []; rests = takes All ∷ []; histories = [] ∷ [] }
+later_not_yet : rounds later (takes All ∷ []) 1 ≡ record {
+  term =
+      in_parallel (and_branch finished (and_branch (active (sending 0 at (constant 1 1))) no_branches));
+  store = [];
+  rests = takes All ∷ [];
+  histories = [] ∷ [];
+}
 later_not_yet = refl
 
 later_then : (rounds later (takes (Times 1) ∷ []) 2).rests ≡ takes (Times 0) ∷ []
@@ -117,10 +134,14 @@ awaited_then = refl
 
 -- in halves: x := x + 1 beside y := y + 1 gets two hidden variables, and as many steps more; the rest stays
 abbrev pair : TypedProgram
-pair = record { channels = channel Out 8 ∷ []; vars = var 8 254 ∷ var 4 15 ∷ []; body =
-    both (beside (assigning 0 at (plus_one 8))
-    (in_turn (and_member (assigning 1 at (chained (reading 1 3 0 at) (and_operation op.Add (constant 4 1) no_operations)))
-    (and_member (assigning 1 at (constant 4 7)) no_members)))) (sending 0 at (reading 0 7 0 at)) }
+pair = record {
+  channels = channel Out 8 ∷ [];
+  vars = var 8 254 ∷ var 4 15 ∷ [];
+  body =
+      both (beside (assigning 0 at (plus_one 8))
+      (in_turn (and_member (assigning 1 at (chained (reading 1 3 0 at) (and_operation op.Add (constant 4 1) no_operations)))
+      (and_member (assigning 1 at (constant 4 7)) no_members)))) (sending 0 at (reading 0 7 0 at));
+}
 
 pair_in_halves : halved_program pair ≡ record {
   channels = pair.channels;
@@ -128,7 +149,7 @@ pair_in_halves : halved_program pair ≡ record {
   body = both (beside
       (both (assigning 2 at (plus_one 8)) (assigning 0 at (reading 2 7 0 at)))
       (both (both (assigning 3 at (chained (reading 1 3 0 at) (and_operation op.Add (constant 4 1) no_operations))) (assigning 1 at (reading 3 3 0 at)))
-          (assigning 1 at (constant 4 7))))
+      (assigning 1 at (constant 4 7))))
       (sending 0 at (reading 0 7 0 at));
 }
 pair_in_halves = refl
@@ -143,8 +164,13 @@ pair_between : rounds (halved_program pair) (takes All ∷ []) 1 ≡ record {
 }
 pair_between = refl
 
-pair_end : rounds (halved_program pair) (takes All ∷ []) 4 ≡ record { term = finished; store = 255 ∷ 7 ∷ 255 ∷ 0 ∷ []; rests = takes All ∷ []; histories =
-    (255 ∷ []) ∷ [] }
+pair_end : rounds (halved_program pair) (takes All ∷ []) 4 ≡ record {
+  term = finished;
+  store = 255 ∷ 7 ∷ 255 ∷ 0 ∷ [];
+  rests = takes All ∷ [];
+  histories =
+      (255 ∷ []) ∷ [];
+}
 pair_end = refl
 
 pair_end_as_before : (rounds pair (takes All ∷ []) 3).histories ≡ (255 ∷ []) ∷ []

@@ -111,7 +111,7 @@ mutual
   turn_within (and_member p no_members) u h = in_left (occurrences p) [] u (opened_within p u h)
   turn_within (and_member p (and_member q more)) u h =
       within_append (uses (opened p)) (occurrences_of_each (and_member q more)) (occurrences p) (occurrences_of_each (and_member q more)) (opened_within p)
-          (λ v k. k) u h
+      (λ v k. k) u h
 
   each_within : (members : Processes) → Within (uses_of_each (opened_each members)) (occurrences_of_each members)
   each_within no_members u h = h
@@ -229,7 +229,7 @@ mutual
   left_within (in_sequence t more) here l p h w = absurd (cc h)
   left_within (in_sequence t more) (in_first a) l p h w = λ u k.
       within_append (uses (with_left t a l)) (occurrences_of_each more) (uses t) (occurrences_of_each more) (left_within t a l p h w) (λ v x. x) u
-          (followed_within (with_left t a l) more u k)
+      (followed_within (with_left t a l) more u k)
   left_within (in_sequence t more) (in_branch i a) l p h w = absurd (cc h)
   left_within (in_parallel ts) here l p h w = absurd (cc h)
   left_within (in_parallel ts) (in_first a) l p h w = absurd (cc h)
@@ -271,14 +271,19 @@ open_sound c no_choices p s h = absurd h
 open_sound c (and_choice g q more) p s h = by_guard (value_in c g == 1) h (open_sound c more p s.1)
   where
     deeper : Sound p × Within (occurrences p) (occurrences_of_choices more) → Sound p × Within (occurrences p) (occurrences_of_choices (and_choice g q more))
-    deeper r = (r.0, λ u k. in_right (reads_of g) (occurrences q ++ occurrences_of_choices more) u
-        (in_right (occurrences q) (occurrences_of_choices more) u (r.1 u k)))
+    deeper r = (
+      r.0,
+      λ u k. in_right (reads_of g) (occurrences q ++ occurrences_of_choices more) u
+          (in_right (occurrences q) (occurrences_of_choices more) u (r.1 u k)),
+    )
 
     by_guard : (b : Bool) → In (if b then q ∷ open_branches c more else open_branches c more) p →
         (In (open_branches c more) p → Sound p × Within (occurrences p) (occurrences_of_choices more)) →
         Sound p × Within (occurrences p) (occurrences_of_choices (and_choice g q more))
-    by_guard true (inl e) rest = (subst Sound e s.0,
-        λ u k. in_right (reads_of g) (occurrences q ++ occurrences_of_choices more) u
-        (in_left (occurrences q) (occurrences_of_choices more) u (subst (λ r. In (occurrences r) u) (sym e) k)))
+    by_guard true (inl e) rest = (
+      subst Sound e s.0,
+      λ u k. in_right (reads_of g) (occurrences q ++ occurrences_of_choices more) u
+          (in_left (occurrences q) (occurrences_of_choices more) u (subst (λ r. In (occurrences r) u) (sym e) k)),
+    )
     by_guard true (inr k) rest = deeper (rest k)
     by_guard false k rest = deeper (rest k)

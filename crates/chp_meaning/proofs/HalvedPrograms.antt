@@ -119,7 +119,7 @@ mutual
   each_like channels vars M n (and_member p more) typed from to =
       let both = length-append (hidden_vars p) (hidden_in_each more) in
       each_more (like_halved channels vars M n p typed.0 from (omega arith)) (each_like channels vars M (n + length (hidden_vars p)) more typed.1 (omega arith)
-          (omega arith))
+      (omega arith))
 
   choices_like : (channels : List Channel) (vars : List Var) (M n : ℕ) (choices : Choices) → AreChoices channels vars choices → length vars ≤ n →
       n + length (hidden_in_choices choices) ≤ M → ChoicesLike (length vars) M choices (halved_choices n choices)
@@ -127,7 +127,7 @@ mutual
   choices_like channels vars M n (and_choice g p more) typed from to =
       let both = length-append (hidden_vars p) (hidden_in_choices more) in
       choice_more (reads_below vars g typed.0.reads) (like_halved channels vars M n p typed.1 from (omega arith))
-          (choices_like channels vars M (n + length (hidden_vars p)) more typed.2 (omega arith) (omega arith))
+      (choices_like channels vars M (n + length (hidden_vars p)) more typed.2 (omega arith) (omega arith))
 
 -- what a statement reads and writes is declared
 
@@ -158,7 +158,7 @@ mutual
   choices_below channels vars (and_choice g p more) typed =
       below_append (length vars) (reads_of g) (occurrences p ++ occurrences_of_choices more) (formula_below vars g typed.0.reads)
       (below_append (length vars) (occurrences p) (occurrences_of_choices more) (process_below channels vars p typed.1)
-          (choices_below channels vars more typed.2))
+      (choices_below channels vars more typed.2))
 
 -- in halves it does the same, and reads and writes its hidden variables
 abbrev Known : List Occurrence → (from to : ℕ) → List Occurrence → Type 0
@@ -218,7 +218,7 @@ mutual
       up_to (occurrences p ++ occurrences_of_each more) (occurrences (halved n p) ++ occurrences_of_each (halved_each (n + length (hidden_vars p)) more)) n
       (n + length (hidden_vars p) + length (hidden_in_each more)) (n + length (hidden_vars p ++ hidden_in_each more)) (omega arith)
       (known_append (occurrences p) (occurrences_of_each more) (occurrences (halved n p)) (occurrences_of_each (halved_each (n + length (hidden_vars p)) more))
-          n (n + length (hidden_vars p)) (n + length (hidden_vars p) + length (hidden_in_each more)) (omega arith) (omega arith)
+      n (n + length (hidden_vars p)) (n + length (hidden_vars p) + length (hidden_in_each more)) (omega arith) (omega arith)
       (known n p) (each_known (n + length (hidden_vars p)) more))
 
   choices_known : (n : ℕ) (choices : Choices) →
@@ -228,12 +228,12 @@ mutual
       let l = length-append (hidden_vars p) (hidden_in_choices more) in
       let mid = n + length (hidden_vars p) in
       up_to (reads_of g ++ (occurrences p ++ occurrences_of_choices more)) (reads_of g
-          ++ (occurrences (halved n p) ++ occurrences_of_choices (halved_choices mid more))) n
+      ++ (occurrences (halved n p) ++ occurrences_of_choices (halved_choices mid more))) n
       (mid + length (hidden_in_choices more)) (n + length (hidden_vars p ++ hidden_in_choices more)) (omega arith)
       (known_append (reads_of g) (occurrences p ++ occurrences_of_choices more) (reads_of g) (occurrences (halved n p)
-          ++ occurrences_of_choices (halved_choices mid more)) n n (mid + length (hidden_in_choices more)) (omega arith) (omega arith) (known_reads n g)
+      ++ occurrences_of_choices (halved_choices mid more)) n n (mid + length (hidden_in_choices more)) (omega arith) (omega arith) (known_reads n g)
       (known_append (occurrences p) (occurrences_of_choices more) (occurrences (halved n p)) (occurrences_of_choices (halved_choices mid more)) n mid
-          (mid + length (hidden_in_choices more)) (omega arith) (omega arith)
+      (mid + length (hidden_in_choices more)) (omega arith) (omega arith)
       (known n p) (choices_known mid more)))
 
 -- no two parallel branches are in conflict, as before
@@ -277,7 +277,7 @@ mutual
     apart_known (length vars) n (n + length (hidden_vars p)) (n + length (hidden_vars p) + length (hidden_in_each more)) (occurrences p)
         (occurrences_of_each more) (occurrences (halved n p)) (occurrences_of_each (halved_each (n + length (hidden_vars p)) more))
         le (omega arith) (process_below channels vars p typed.0) (each_below channels vars more typed.1) (known n p)
-            (each_known (n + length (hidden_vars p)) more) s.0,
+        (each_known (n + length (hidden_vars p)) more) s.0,
     each_halved_apart channels vars (n + length (hidden_vars p)) more typed.1 (omega arith) s.1,
   )
 

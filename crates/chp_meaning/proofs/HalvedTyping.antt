@@ -163,9 +163,11 @@ width_still vars vs w e h = record { formed = h.formed; reads = reads_still vars
 
 assign_typed : (channels : List Channel) (vars vs : List Var) (n x : ℕ) (at : Span) (e : Formula) (b : Bool) → x < length vars →
     IsOfWidth vars (var_width vars x) e → Placed (vars ++ vs) n (hidden_of b e) → IsProcess channels (vars ++ vs) (halved_assign b n x at e)
-assign_typed channels vars vs n x at e false below typed placed =
-    (declared_still vars vs x below, subst (λ w. IsOfWidth (vars ++ vs) w e) (sym (width_before vars vs x below))
-        (width_still vars vs (var_width vars x) e typed))
+assign_typed channels vars vs n x at e false below typed placed = (
+  declared_still vars vs x below,
+  subst (λ w. IsOfWidth (vars ++ vs) w e) (sym (width_before vars vs x below))
+      (width_still vars vs (var_width vars x) e typed),
+)
 assign_typed channels vars vs n x at e true below typed placed =
     let some = width_some e typed.formed in
     let most = width_most e typed.formed in
@@ -195,8 +197,13 @@ mutual
   halved_typed channels vars vs n (sending k at e) typed placed =
       record { within = typed.within; direction = typed.direction; sent = width_still vars vs _ e typed.sent }
   halved_typed channels vars vs n (receiving k s x t) typed placed =
-      record { within = typed.within; direction = typed.direction; target = declared_still vars vs x typed.target; widths =
-          width_before vars vs x typed.target ∙ typed.widths }
+      record {
+        within = typed.within;
+        direction = typed.direction;
+        target = declared_still vars vs x typed.target;
+        widths =
+            width_before vars vs x typed.target ∙ typed.widths;
+      }
   halved_typed channels vars vs n (in_turn members) typed placed =
       (let e = each_count n members in let two = typed.0 in omega arith, each_typed channels vars vs n members typed.1 placed)
   halved_typed channels vars vs n (side_by_side members) typed placed =
@@ -231,7 +238,7 @@ hidden_sized : (vars : List Var) (w : ℕ) (e : Formula) (b : Bool) → IsOfWidt
 hidden_sized vars w e false typed = All-nil IsSizedVar
 hidden_sized vars w e true typed =
     All-cons IsSizedVar (hidden_var e) [] (record { some = width_some e typed.formed; most = width_most e typed.formed; first = pow_pos (width_of e) })
-        (All-nil IsSizedVar)
+    (All-nil IsSizedVar)
 
 mutual
   each_sized : (channels : List Channel) (vars : List Var) (p : Process) → IsProcess channels vars p → All IsSizedVar (hidden_vars p)
@@ -291,7 +298,7 @@ start_near p script typed meets =
       stores = λ x below.
           let e = length-map p.vars (λ (v : Var). v.first) in
           let first : slice_index (first_values p.vars ++ first_values (hidden_vars p.body)) x ≡ slice_index (first_values p.vars) x =
-              get_or-append (first_values p.vars) (first_values (hidden_vars p.body)) 0 x (omega arith) in
+          get_or-append (first_values p.vars) (first_values (hidden_vars p.body)) 0 x (omega arith) in
           sym (ap (λ s. slice_index s x) (map-append (λ (v : Var). v.first) p.vars (hidden_vars p.body)) ∙ first);
       old_length = length-map p.vars (λ (v : Var). v.first);
       new_length = length-map (p.vars ++ hidden_vars p.body) (λ (v : Var). v.first);

@@ -61,7 +61,7 @@ open_alike : (N M : ℕ) (c d : Configuration) → Near N M c d → {cs ds : Cho
 open_alike N M c d n choice_none = like_none
 open_alike N M c d n (choice_more {g = g} {p = p} {q = q} {cs = cs} {ds = ds} below l more) =
     subst (λ v. AllLike N M (open_branches c (and_choice g p cs)) (if v == 1 then q ∷ open_branches d ds else open_branches d ds))
-        (values_near N M c d n g below)
+    (values_near N M c d n g below)
     (by_test (value_in c g == 1) (open_alike N M c d n more))
   where
     by_test : (b : Bool) → AllLike N M (open_branches c cs) (open_branches d ds) →
@@ -115,8 +115,18 @@ quiet N M c d n a b l m s u alike = record {
   steps = 1;
   few = omega arith;
   leads = one_step s no_step;
-  near = record { alike = alike; stores = n.stores; old_length = n.old_length; new_length = n.new_length; more = n.more; rests = n.rests; histories =
-      n.histories; fits = step_fits n.fits s; new_fits = step_fits n.new_fits u };
+  near = record {
+    alike = alike;
+    stores = n.stores;
+    old_length = n.old_length;
+    new_length = n.new_length;
+    more = n.more;
+    rests = n.rests;
+    histories =
+        n.histories;
+    fits = step_fits n.fits s;
+    new_fits = step_fits n.new_fits u;
+  };
 }
 
 -- both write one value
@@ -146,8 +156,8 @@ wrote N M c d n a b x v below s u alike = record {
 begun : (N M : ℕ) (c d : Configuration) → Near N M c d → (b : Place) (x h : ℕ) (at : Span) (e : Formula) (i : Halving N M x h e) →
     statement_at d.term b ≡ Some (assigning h at e) → (a : Place) → statement_at c.term a ≡ Some (assigning x at e)
     → ((old' new' : List ℕ) (l m : Term) → OthersKept c.store old' c.term a → OthersKept d.store new' d.term b →
-        Alike N M old' new' l (followed m (and_member (assigning x at (read_through h e at)) no_members)) →
-        Alike N M old' new' (with_left c.term a l) (with_left d.term b m))
+    Alike N M old' new' l (followed m (and_member (assigning x at (read_through h e at)) no_members)) →
+    Alike N M old' new' (with_left c.term a l) (with_left d.term b m))
     → Followed N M c (storing (leaving d b finished) h (value_in d e))
 begun N M c d n b x h at e i there a on put = record {
   to = c;
@@ -174,7 +184,7 @@ begun N M c d n b x h at e i there a on put = record {
         let l : h < length d.store = let k = i.within in let m = n.new_length in omega arith in
         ap (λ v. v / 2 ^ 0 % 2 ^ (width_of e - 1 + 1 - 0)) (get_or-set_same d.store h (value_in d e) 0 l)
         ∙ (whole_value (value_in d e) (width_of e) (width_some e i.formed) (value_fits (slice_index d.store) e i.formed)
-            ∙ sym (values_near N M c d n e i.below))
+        ∙ sym (values_near N M c d n e i.below))
 
 -- statements that are no assignments go along with their own kind
 
@@ -198,7 +208,7 @@ record Plainly (N M : ℕ) (old new : List ℕ) (t u : Term) (b : Place) (q : Pr
 plainly_by : (N M : ℕ) (old new : List ℕ) (t u : Term) (b : Place) (q : Process) → is_assigning q ≡ false → (w : Place) (p : Process) →
     statement_at t w ≡ Some p → (pair : Pair N M old new p q)
     → ((old' new' : List ℕ) (l m : Term) → OthersKept old old' t w → OthersKept new new' u b → Alike N M old' new' l (behind pair m) →
-        Alike N M old' new' (with_left t w l) (with_left u b m)) → Plainly N M old new t u b q
+    Alike N M old' new' (with_left t w l) (with_left u b m)) → Plainly N M old new t u b q
 plainly_by N M old new t u b q calm w p there (pair_same s) put = record { place = w; process = p; on = there; same = s; put = put }
 plainly_by N M old new t u b q calm w p there (pair_first i) put = absurd (cc calm)
 plainly_by N M old new t u b q calm w p there (pair_second i v) put = absurd (cc calm)
@@ -244,7 +254,7 @@ repeat_after (same_repeat {q = q} l) = (q, refl, l)
 assigned : (N M : ℕ) (c d : Configuration) → Near N M c d → (a b : Place) (x : ℕ) (s : Span) (e f : Formula) → x < N →
     statement_at c.term a ≡ Some (assigning x s e) → statement_at d.term b ≡ Some (assigning x s f) → value_in c e ≡ value_in d f
     → ((old' new' : List ℕ) (l m : Term) → OthersKept c.store old' c.term a → OthersKept d.store new' d.term b → Alike N M old' new' l m →
-        Alike N M old' new' (with_left c.term a l) (with_left d.term b m))
+    Alike N M old' new' (with_left c.term a l) (with_left d.term b m))
     → Followed N M c (storing (leaving d b finished) x (value_in d f))
 assigned N M c d n a b x s e f below on there same put =
     let v = value_in d f in
@@ -252,12 +262,12 @@ assigned N M c d n a b x s e f below on there same put =
     wrote N M c d n a b x v below first (an_assignment there)
     (put (slice_set c.store x v) (slice_set d.store x v) finished finished
     (write_kept c.store c.term a (assigning x s e) x v s n.fits on (inl refl)) (write_kept d.store d.term b (assigning x s f) x v s n.new_fits there (inl refl))
-        both_finished)
+    both_finished)
 
 assign_by : (N M : ℕ) (c d : Configuration) → Near N M c d → (a b : Place) (x : ℕ) (s : Span) (e : Formula) (p : Process) → statement_at c.term a ≡ Some p →
     statement_at d.term b ≡ Some (assigning x s e) → (pair : Pair N M c.store d.store p (assigning x s e))
     → ((old' new' : List ℕ) (l m : Term) → OthersKept c.store old' c.term a → OthersKept d.store new' d.term b → Alike N M old' new' l (behind pair m) →
-        Alike N M old' new' (with_left c.term a l) (with_left d.term b m))
+    Alike N M old' new' (with_left c.term a l) (with_left d.term b m))
     → Followed N M c (storing (leaving d b finished) x (value_in d e))
 assign_by N M c d n a b x s e p on there (pair_same (same_assign below reads)) put =
     assigned N M c d n a b x s e e below on there (values_near N M c d n e reads) put
@@ -269,14 +279,14 @@ communicated : (N M : ℕ) (c d : Configuration) → Near N M c d → (b other :
     → Followed N M c (passing (storing (leaving (leaving d b finished) other finished) x (value_in d e)) k (value_in d e))
 communicated N M c d n b other k x s t u e on there inside =
     let step : Step d b (passing (storing (leaving (leaving d b finished) other finished) x (value_in d e)) k (value_in d e)) =
-        a_communication other on there inside in
+    a_communication other on there inside in
     let r = plainly N M c.store d.store c.term d.term b (sending k s e) refl n.alike on in
     let sends = send_before r.same in
     let on_c : statement_at c.term r.place ≡ Some (sending k s e) = r.on ∙ ap Some sends.0 in
     let left_c = with_left c.term r.place finished in
     let left_d = with_left d.term b finished in
     let alike : Alike N M c.store d.store left_c left_d =
-        r.put c.store d.store finished finished (nothing_kept c.store c.term r.place) (nothing_kept d.store d.term b) both_finished in
+    r.put c.store d.store finished finished (nothing_kept c.store c.term r.place) (nothing_kept d.store d.term b) both_finished in
     let fits_c : Fits left_c = left_fits c.term r.place finished (sending k s e) n.fits on_c tt (λ z h. absurd h) in
     let fits_d : Fits left_d = left_fits d.term b finished (sending k s e) n.new_fits on tt (λ z h. absurd h) in
     let there_d : statement_at left_d other ≡ Some (receiving k t x u) = still d.term b other finished (receiving k t x u) (own_apart step other refl) there in
@@ -293,7 +303,7 @@ communicated N M c d n b other k x s t u e on there inside =
     let v = value_in d e in
     let first : Step c r.place (passing (storing (leaving (leaving c r.place finished) w.place finished) x v) k v) =
     subst (λ z. Step c r.place (passing (storing (leaving (leaving c r.place finished) w.place finished) x z) k z)) same
-        (a_communication w.place on_c on_w (ap (λ z. offer_at z k) n.rests ∙ inside)) in
+    (a_communication w.place on_c on_w (ap (λ z. offer_at z k) n.rests ∙ inside)) in
     record {
       to = passing (storing (leaving (leaving c r.place finished) w.place finished) x v) k v;
       steps = 1;
@@ -342,7 +352,7 @@ follow N M {c = c} {d = d} {b = b} n (a_turn {choices = ds} {p = q} on true_ones
     let m = followed (opened q) (and_member (choosing true ds) no_members) in
     quiet N M c d n r.place b l m (a_turn (r.on ∙ ap Some cs.1) p.1) (a_turn on true_ones)
     (r.put c.store d.store l m (nothing_kept c.store c.term r.place) (nothing_kept d.store d.term b)
-        (followed_alike (like_opened p.2) (each_more (alone (same_choice cs.2)) each_none)))
+    (followed_alike (like_opened p.2) (each_more (alone (same_choice cs.2)) each_none)))
 follow N M {c = c} {d = d} {b = b} n (an_end {choices = ds} on true_ones) =
     let r = plainly N M c.store d.store c.term d.term b (choosing true ds) refl n.alike on in
     let cs = choice_before r.same in
@@ -355,7 +365,7 @@ follow N M {c = c} {d = d} {b = b} n (a_repetition {p = q} on) =
     let m = followed (opened q) (and_member (repeating q) no_members) in
     quiet N M c d n r.place b l m (a_repetition (r.on ∙ ap Some p.1)) (a_repetition on)
     (r.put c.store d.store l m (nothing_kept c.store c.term r.place) (nothing_kept d.store d.term b)
-        (followed_alike (like_opened p.2) (each_more (alone (same_repeat p.2)) each_none)))
+    (followed_alike (like_opened p.2) (each_more (alone (same_repeat p.2)) each_none)))
 follow N M {c = c} {d = d} {b = b} n (a_communication other {k = k} {x = x} {s = s} {t = t} {u = u} {e = e} on there inside) =
     communicated N M c d n b other k x s t u e on there inside
 follow N M {c = c} {d = d} {b = b} n (a_delivery {k = k} {s = s} {e = e} {count = count} on offered more) =
@@ -389,7 +399,7 @@ follow N M {c = c} {d = d} {b = b} n (an_arrival {k = k} {x = x} {v = v} {s = s}
     let below : x < N = hears.1 in
     let on_c : statement_at c.term r.place ≡ Some (receiving k s x t) = r.on ∙ ap Some hears.0 in
     let first : Step c r.place (passing (storing (offering (leaving c r.place finished) k (gives more)) x v) k v) =
-        an_arrival on_c (ap (λ z. offer_at z k) n.rests ∙ offered) in
+    an_arrival on_c (ap (λ z. offer_at z k) n.rests ∙ offered) in
     let second : Step d b (passing (storing (offering (leaving d b finished) k (gives more)) x v) k v) = an_arrival on offered in
     record {
       to = passing (storing (offering (leaving c r.place finished) k (gives more)) x v) k v;
@@ -447,9 +457,12 @@ goes_on N M {a = a} n (a_repetition {p = p} on) =
     (r.place, _, a_repetition (r.on ∙ ap Some q.1))
 goes_on N M {a = a} n (a_communication other {k = k} {x = x} {s = s} {t = t} {u = u} {e = e} on there inside) =
     let r = standing n.alike a (sending k s e) on in
-    let w = standing n.alike other (receiving k t x u) there in
-    (r.place, _, a_communication w.place (r.on ∙ ap Some (send_after (same_of r.pair refl)).0) (w.on ∙ ap Some (receive_after (same_of w.pair refl)).0)
-        (sym (ap (λ z. offer_at z k) n.rests) ∙ inside))
+    let w = standing n.alike other (receiving k t x u) there in (
+      r.place,
+      _,
+      a_communication w.place (r.on ∙ ap Some (send_after (same_of r.pair refl)).0) (w.on ∙ ap Some (receive_after (same_of w.pair refl)).0)
+          (sym (ap (λ z. offer_at z k) n.rests) ∙ inside),
+    )
 goes_on N M {a = a} n (a_delivery {k = k} {s = s} {e = e} on offered more) =
     let r = standing n.alike a (sending k s e) on in
     (r.place, _, a_delivery (r.on ∙ ap Some (send_after (same_of r.pair refl)).0) (sym (ap (λ z. offer_at z k) n.rests) ∙ offered) more)

@@ -110,7 +110,7 @@ first_at (part (in_first b) l ∷ xs) a other =
 
 next_sequence : (t : Term) (a : Place) (l : Term) (more : Processes) (rest : List Part) → Other (in_first a) rest → Stand (in_sequence t more) rest
     → ((u : Term) → is_finished u ≡ false → Stand (in_sequence u more) rest →
-        leave_all (in_sequence u more) rest ≡ followed (leave_all u (first_parts rest)) more)
+    leave_all (in_sequence u more) rest ≡ followed (leave_all u (first_parts rest)) more)
     → leave_all (followed (with_left t a l) more) rest ≡ followed (leave_all (with_left t a l) (first_parts rest)) more
 next_sequence t a l more [] o s later = refl
 next_sequence t a l more (part here m ∷ xs) o s later = absurd (cc s.0.1)
@@ -296,7 +296,7 @@ mutual
   left_at_once f (in_sequence t more) xs v s d says =
       sequence_left t more xs v.0 s d
       ∙ ap (λ x. followed x more) (left_at_once f t (first_parts xs) v.1 (first_stand t more xs s) (first_single xs d) (λ a q h. first_at xs a (active q)
-          ∙ says (in_first a) q h))
+      ∙ says (in_first a) q h))
   left_at_once f (in_parallel ts) xs v s d says =
       parallel_left ts xs v.0 s d
       ∙ ap together (branches_at_once f ts xs v.1 (branches_stand ts xs s) d (λ k a q h. says (in_branch k a) q h))
@@ -313,6 +313,6 @@ mutual
   branches_at_once f (and_branch t more) xs v s d says =
       branches_left t more xs
       ∙ (ap (λ x. and_branch x (leave_branches more (later_parts xs))) (left_at_once f t (zero_parts xs) v.0 (zero_stand t more xs s) (zero_single xs d)
-          (λ a q h. zero_at xs a (active q) ∙ says zero a q h))
+      (λ a q h. zero_at xs a (active q) ∙ says zero a q h))
       ∙ ap (and_branch (all_left f t)) (branches_at_once f more (later_parts xs) v.1 (later_stand t more xs s) (later_single xs d)
-          (λ k a q h. later_at xs k a (active q) ∙ says (suc k) a q h)))
+      (λ k a q h. later_at xs k a (active q) ∙ says (suc k) a q h)))

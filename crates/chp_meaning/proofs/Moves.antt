@@ -43,8 +43,13 @@ appended histories None = histories
 appended histories (Some (entry k v)) = slice_set histories k (history_at histories k ++ v ∷ [])
 
 abbrev pub dealt : Configuration → Place → Deal → Configuration
-dealt c at x = record { term = leave c.term at x.left x.other; store = written c.store x.write; rests = put c.rests x.offer; histories =
-    appended c.histories x.pass }
+dealt c at x = record {
+  term = leave c.term at x.left x.other;
+  store = written c.store x.write;
+  rests = put c.rests x.offer;
+  histories =
+      appended c.histories x.pass;
+}
 
 abbrev becoming : Term → Deal
 becoming left = record { left = left; other = None; write = None; offer = None; pass = None }
@@ -86,7 +91,7 @@ ports_apart c a b k f ne (sends g n) (receives {vs = vs} h m) = n vs m
 ports_apart c a b k f ne (receives {vs = vs} g n) (sends h m) = m vs n
 ports_apart c a b k f ne (receives {s = s} {t = t} {x = x} g n) (receives {s = s'} {t = t'} {x = x'} h m) =
     places_apart c.term a b (receiving k s x t) (receiving k s' x' t') f ne g h (done_at (receives_on k) s) (done_at (receives_on k) s') (inl refl) (inl refl)
-        refl
+    refl
 
 pub record Receiver (c : Configuration) (o : Place) (k : ℕ) : Type 0 where
   pub chan_at : Span
@@ -96,9 +101,11 @@ pub record Receiver (c : Configuration) (o : Place) (k : ℕ) : Type 0 where
 
 pub other_port : {c d : Configuration} {at : Place} (s : Step c at d) (o : Place) → (deal s).other ≡ Some o → (k : ℕ) × Receiver c o k × Port c at k
 other_port (a_communication {c = c} other {k = k} {x = x} {t = t} {u = u} on there inside) o e =
-    let same : other ≡ o = cc e in
-    (k, record { chan_at = t; var = x; var_at = u; is = subst (λ w. statement_at c.term w ≡ Some (receiving k t x u)) same there },
-        sends on (λ vs g. absurd (cc (inside, g))))
+    let same : other ≡ o = cc e in (
+      k,
+      record { chan_at = t; var = x; var_at = u; is = subst (λ w. statement_at c.term w ≡ Some (receiving k t x u)) same there },
+      sends on (λ vs g. absurd (cc (inside, g))),
+    )
 other_port _ o e = absurd (cc e)
 
 receive_port : {c d : Configuration} {at : Place} (s : Step c at d) (k x : ℕ) (t u : Span) → statement_at c.term at ≡ Some (receiving k t x u) → Port c at k
@@ -216,7 +223,7 @@ mutual
   joined_same f g no_parts h = refl
   joined_same f g (and_part e more) h =
       rw (value_same f g e (agree_left f g (reads_of e) (reads_of_parts more) h), joined_same f g more (agree_right f g (reads_of e) (reads_of_parts more) h))
-          refl
+      refl
 
   chained_same : (f g : ℕ → ℕ) (width v : ℕ) (more : Operations) → Agree f g (reads_of_operations more) →
       chained_value f width v more ≡ chained_value g width v more
@@ -230,9 +237,9 @@ open_same : (c d : Configuration) (options : Choices) → Agree (slice_index c.s
 open_same c d no_choices h = refl
 open_same c d (and_choice g p more) h =
     let here_same = value_same (slice_index c.store) (slice_index d.store) g (agree_left (slice_index c.store) (slice_index d.store) (reads_of g) (occurrences p
-        ++ occurrences_of_choices more) h) in
+    ++ occurrences_of_choices more) h) in
     let more_same = open_same c d more (agree_right (slice_index c.store) (slice_index d.store) (occurrences p) (occurrences_of_choices more)
-        (agree_right (slice_index c.store) (slice_index d.store) (reads_of g) (occurrences p ++ occurrences_of_choices more) h)) in
+    (agree_right (slice_index c.store) (slice_index d.store) (reads_of g) (occurrences p ++ occurrences_of_choices more) h)) in
     ap (λ v. if v == 1 then p ∷ open_branches c more else open_branches c more) here_same
     ∙ ap (λ ps. if value_in d g == 1 then p ∷ ps else ps) more_same
 
@@ -258,7 +265,7 @@ again (a_communication {c = c} {at = at} other {k = k} {x = x} {s = s} {t = t} {
     let same : value_in e f ≡ value_in c f = value_same (slice_index e.store) (slice_index c.store) f (λ y z i. kept.agrees _ on y z (inr i)) in
     subst (λ v. Step e at (passing (storing (leaving (leaving e at finished) other finished) x v) k v)) same
     (a_communication other (kept.stays at _ (inl refl) on) (kept.stays other _ (inr refl) there) (kept.offers k (sends on (λ vs g. absurd (cc (inside, g))))
-        ∙ inside))
+    ∙ inside))
 again (a_delivery {c = c} {at = at} {k = k} {e = f} {count = count} on offered more) e kept =
     let same : value_in e f ≡ value_in c f = value_same (slice_index e.store) (slice_index c.store) f (λ y z i. kept.agrees _ on y z (inr i)) in
     subst (λ v. Step e at (passing (offering (leaving e at finished) k (takes (one_fewer count))) k v)) same
@@ -289,7 +296,7 @@ undisturbed {c = c} {a = a} {b = b} s u f ne = record {
   agrees = λ q h x t i. unwritten c.store (deal s).write x (λ v e.
       let r = writer s x v e in
       places_apart c.term r.place b r.process q f (parts_apart s u f ne r.place b r.part (inl refl)) r.is h (done_at (writes_var x) r.var_at)
-          (done_at (reads_var x) t) r.writes i refl);
+      (done_at (reads_var x) t) r.writes i refl);
   offers = λ k port. unoffered c.rests (deal s).offer k (λ v e. ports_apart c a b k f ne (offer_port s k v e) port);
 }
 
@@ -322,7 +329,7 @@ leaves_swap t a l None b m (Some w) first second apart own own' =
     let q = second b (inl refl) in
     let r = second w (inr refl) in
     sym (pair_swapped t b m w a l q.0 r.0 p.0 (λ e. apart a b (inl refl) (inl refl) (sym e)) (λ e. apart a w (inl refl) (inr refl) (sym e)) (own' w refl) q.1
-        r.1 p.1)
+    r.1 p.1)
 leaves_swap t a l (Some o) b m (Some w) first second apart own own' =
     let p = first a (inl refl) in
     let r = first o (inr refl) in
@@ -372,11 +379,11 @@ pub either_order : {c d e : Configuration} {a b : Place} (s : Step c a d) (u : S
     dealt (dealt c a (deal s)) b (deal u) ≡ dealt (dealt c b (deal u)) a (deal s)
 either_order {c = c} {a = a} {b = b} s u f ne = same_configuration (dealt (dealt c a (deal s)) b (deal u)) (dealt (dealt c b (deal u)) a (deal s))
     (leaves_swap c.term a (deal s).left (deal s).other b (deal u).left (deal u).other (part_stands s) (part_stands u) (parts_apart s u f ne) (own_apart s)
-        (own_apart u))
+    (own_apart u))
     (writes_swap c.store (deal s).write (deal u).write (λ x m n g h.
     let r = writer s x m g in
     let q = writer u x n h in
     places_apart c.term r.place q.place r.process q.process f (parts_apart s u f ne r.place q.place r.part q.part) r.is q.is (done_at (writes_var x) r.var_at)
-        (done_at (writes_var x) q.var_at) r.writes q.writes refl))
+    (done_at (writes_var x) q.var_at) r.writes q.writes refl))
     (offers_swap c.rests (deal s).offer (deal u).offer (λ k m n g h. ports_apart c a b k f ne (offer_port s k m g) (offer_port u k n h)))
     (passes_swap c.histories (deal s).pass (deal u).pass (λ k m n g h. ports_apart c a b k f ne (pass_port s k m g) (pass_port u k n h)))

@@ -159,7 +159,7 @@ used_length rests (w ∷ ms) = used_length (used rests w) ms ∙ one w.uses
 settled_rests : (c d : Config) (left : Left) (moves : List Move) → HaveMoved c d left moves → length d.rests.items ≡ length c.rests.items
 settled_rests c d left moves s =
     sym (length-map d.rests.items offer_of_rest) ∙ (ap (λ (xs : List OfferValue). length xs) s.rests
-        ∙ (used_length (map offer_of_rest c.rests.items) moves ∙ length-map c.rests.items offer_of_rest))
+    ∙ (used_length (map offer_of_rest c.rests.items) moves ∙ length-map c.rests.items offer_of_rest))
 
 settled_store : (c d : Config) (left : Left) (moves : List Move) → HaveMoved c d left moves → length d.store.items ≡ length c.store.items
 settled_store c d left moves s = ap (λ (xs : List ℕ). length xs) s.store ∙ written_length c.store.items moves
@@ -167,7 +167,7 @@ settled_store c d left moves s = ap (λ (xs : List ℕ). length xs) s.store ∙ 
 settled_histories : (c d : Config) (left : Left) (moves : List Move) → HaveMoved c d left moves → length d.histories.items ≡ length c.histories.items
 settled_histories c d left moves s =
     sym (length-map d.histories.items (λ h. h.items))
-        ∙ (ap (λ (xs : List (List ℕ)). length xs) s.histories ∙ (all_passed_length (histories_of c) moves ∙ length-map c.histories.items (λ h. h.items)))
+    ∙ (ap (λ (xs : List (List ℕ)). length xs) s.histories ∙ (all_passed_length (histories_of c) moves ∙ length-map c.histories.items (λ h. h.items)))
 
 pub settled_stands : (body : Process) (c d : Config) (left : Left) (moves : List Move) → IsStanding body c → IsPlan body c left moves →
     HaveMoved c d left moves → IsStanding body d
@@ -192,8 +192,13 @@ outset_same body c =
     ap (λ (k : ℕ). outset_of k (actives (term_of body (remains_of c.left)))) n ∙ ap (λ (ps : List Process). outset_of (length c.rests.items) ps) ss
   where
     outset_of : ℕ → List Process → Outset
-    outset_of k ps = record { store = c.store.items; rests = map offer_of_rest c.rests.items; sends = fold (noted_send true) (replicate k false) ps; receives =
-        fold (noted_receive true) (replicate k None) ps }
+    outset_of k ps = record {
+      store = c.store.items;
+      rests = map offer_of_rest c.rests.items;
+      sends = fold (noted_send true) (replicate k false) ps;
+      receives =
+          fold (noted_receive true) (replicate k None) ps;
+    }
 
 runs_all : (body : Process) (c : Config) → IsStanding body c → AllRun (configuration_of body c) (length c.store.items)
 runs_all body c s q i =
@@ -242,7 +247,7 @@ unchanged_stands body c d s u =
     let n : length d.rests.items ≡ length c.rests.items = ap (λ v. length v.items) u.rests in
     let m : length d.store.items ≡ length c.store.items = ap (λ (xs : List ℕ). length xs) u.store in
     let h : length d.histories.items ≡ length c.histories.items = sym (length-map d.histories.items (λ x. x.items))
-        ∙ (ap (λ (xs : List (List ℕ)). length xs) u.histories ∙ length-map c.histories.items (λ x. x.items)) in
+    ∙ (ap (λ (xs : List (List ℕ)). length xs) u.histories ∙ length-map c.histories.items (λ x. x.items)) in
     record {
       runnable = subst (λ k. IsRunnable k (length d.store.items) body) (sym n) (subst (λ k. IsRunnable (length c.rests.items) k body) (sym m) s.runnable);
       remains = subst (λ l. CanRemain body (remains_of l)) (sym u.left_is) s.remains;
@@ -256,8 +261,12 @@ unchanged_stands body c d s u =
 pub held_set : (hs : List (List ℕ)) (k : ℕ) (h : List ℕ) → k < length hs → held_values (set hs k (get_or hs k [] ++ h)) ≡ held_values hs + length h
 held_set [] k h lt = absurd (omega (arith, lt))
 held_set (x ∷ xs) zero h lt = omega (arith, sum_by-cons length (x ++ h) xs, sum_by-cons length x xs, length-append x h)
-held_set (x ∷ xs) (suc k) h lt = omega (arith, sum_by-cons length x (set xs k (get_or xs k [] ++ h)), sum_by-cons length x xs,
-    held_set xs k h (omega (arith, lt)))
+held_set (x ∷ xs) (suc k) h lt = omega (
+  arith,
+  sum_by-cons length x (set xs k (get_or xs k [] ++ h)),
+  sum_by-cons length x xs,
+  held_set xs k h (omega (arith, lt)),
+)
 
 abbrev pub passing : List Move → ℕ
 passing ms = count_by (λ (w : Move). is_some w.pass) ms
@@ -291,7 +300,7 @@ within_after c d moves u w =
     let n : length d.rests.items ≡ length c.rests.items = ap (λ v. length v.items) u.rests in
     let m : length d.store.items ≡ length c.store.items = ap (λ (xs : List ℕ). length xs) u.store in
     let h : length d.histories.items ≡ length c.histories.items = sym (length-map d.histories.items (λ x. x.items))
-        ∙ (ap (λ (xs : List (List ℕ)). length xs) u.histories ∙ length-map c.histories.items (λ x. x.items)) in
+    ∙ (ap (λ (xs : List (List ℕ)). length xs) u.histories ∙ length-map c.histories.items (λ x. x.items)) in
     record {
       passes = subst (λ k. All (λ (x : Move). is_below k x.pass ≡ true) moves) (sym h) w.passes;
       writes = subst (λ k. All (λ (x : Move). is_below k x.write ≡ true) moves) (sym m) w.writes;
@@ -326,7 +335,7 @@ pub held_next : (hs : List (Vec ℕ Global)) (i : ℕ) (h : Vec ℕ Global) → 
     held_values (items_of (drop i hs)) ≡ length h.items + held_values (items_of (drop (i + 1) hs))
 held_next hs i h lt at =
     ap (λ xs. held_values (items_of xs)) (drop_more hs i h lt) ∙ (ap (λ (x : Vec ℕ Global). held_values (x.items ∷ items_of (drop (i + 1) hs))) (sym at)
-        ∙ sum_by-cons length h.items (items_of (drop (i + 1) hs)))
+    ∙ sum_by-cons length h.items (items_of (drop (i + 1) hs)))
 
 pub held_last : (hs : List (Vec ℕ Global)) (i : ℕ) → length hs ≤ i → held_values (items_of (drop i hs)) ≡ 0
 held_last hs i le = ap (λ xs. held_values (items_of xs)) (drop_all i hs le)

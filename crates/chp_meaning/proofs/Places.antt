@@ -214,11 +214,11 @@ mutual
   branch_listed k (and_branch t more) zero a p h =
       let e : k ≡ k + 0 = omega arith in
       in_left (map (in_branch k) (places t)) (branch_places (suc k) more) (in_branch (k + 0) a)
-          (subst (λ i. In (map (in_branch k) (places t)) (in_branch i a)) e (in_map (in_branch k) (places t) a (listed t a p h)))
+      (subst (λ i. In (map (in_branch k) (places t)) (in_branch i a)) e (in_map (in_branch k) (places t) a (listed t a p h)))
   branch_listed k (and_branch t more) (suc i) a p h =
       let e : suc k + i ≡ k + suc i = omega arith in
       in_right (map (in_branch k) (places t)) (branch_places (suc k) more) (in_branch (k + suc i) a)
-          (subst (λ n. In (branch_places (suc k) more) (in_branch n a)) e (branch_listed (suc k) more i a p h))
+      (subst (λ n. In (branch_places (suc k) more) (in_branch n a)) e (branch_listed (suc k) more i a p h))
 
 numbered : (k : ℕ) (ts : Terms) (a : Place) → In (branch_places k ts) a → (i : ℕ) × (b : Place) × (k ≤ i) × (in_branch i b ≡ a)
 numbered k no_branches a h = absurd h

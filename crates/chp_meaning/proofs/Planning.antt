@@ -31,7 +31,7 @@ pub guards_have : (n m : ℕ) (s : TStmt) (again : Bool) (v : Vec TArm Global) (
     IsRunnable n m (process_of s) → GuardsHaveValues (choices_of xs)
 guards_have n m s again v xs is same r =
     subst (λ (ys : List TArm). GuardsHaveValues (choices_of ys)) (sym same)
-        (guards_formed n m (choices_of v.items) (subst (λ p. IsRunnable n m p) (select_said s again v is) r))
+    (guards_formed n m (choices_of v.items) (subst (λ p. IsRunnable n m p) (select_said s again v is) r))
 
 guards_below : (store : List ℕ) (j : ℕ) (cs : Choices) (k : ℕ) → In (true_guards store j cs) k → k < j + choice_count cs
 guards_below store j no_choices k i = absurd i
@@ -56,7 +56,7 @@ pub one_within : (store : List ℕ) (s : TStmt) (again : Bool) (v : Vec TArm Glo
 one_within store s again v xs k is same e =
     let below = guards_below store 0 (choices_of xs) k (one_counted (true_guards store 0 (choices_of xs)) k e) in
     let count : choice_count (choices_of xs) ≡ part_count (process_of s) = ap (λ (ys : List TArm). choice_count (choices_of ys)) same
-        ∙ ap part_count (sym (select_said s again v is)) in
+    ∙ ap part_count (sym (select_said s again v is)) in
     omega (arith, below, count)
 
 pub select_remains : (o : Outset) (s : TStmt) (again : Bool) (v : Vec TArm Global) (xs : List TArm) (g : TrueGuards) → s ≡ Select again v → xs ≡ v.items →
@@ -176,7 +176,7 @@ pub statements_more : (p : Process) (xs : List Left) (i : ℕ) (x : Left) → i 
 statements_more p xs i x lt at =
     let e : suc i ≡ i + 1 = omega arith in
     ap (each_statements p i) (left_more xs i x lt at) ∙ ap (λ k. statements (part_of p i) (remains_of x) ++ each_statements p k (several_of (drop (i + 1) xs)))
-        e
+    e
 
 pub folded_more : {B : Type 0} (f : B → Process → B) (p : Process) (xs : List Left) (i : ℕ) (x : Left) (before after all : B) → i < length xs →
     x ≡ get_or xs i x → after ≡ fold f before (statements (part_of p i) (remains_of x))
@@ -217,7 +217,7 @@ moves_append o (p ∷ xs) ys = ap (λ ms. option_to_list (move_of o p) ++ ms) (m
 pub moves_more : (o : Outset) (p : Process) (xs : List Left) (i : ℕ) (x : Left) (before after all : List Move) → i < length xs → x ≡ get_or xs i x →
     after ≡ before ++ moves_of o (statements (part_of p i) (remains_of x))
     → before ++ moves_of o (each_statements p i (several_of (drop i xs))) ≡ all →
-        after ++ moves_of o (each_statements p (i + 1) (several_of (drop (i + 1) xs))) ≡ all
+    after ++ moves_of o (each_statements p (i + 1) (several_of (drop (i + 1) xs))) ≡ all
 moves_more o p xs i x before after all lt at is so_far =
     let here_moves = moves_of o (statements (part_of p i) (remains_of x)) in
     let rest = each_statements p (i + 1) (several_of (drop (i + 1) xs)) in
@@ -247,5 +247,5 @@ pub lefts_end : (o : Outset) (p : Process) (l : Left) (v : Vec Left Global) (xs 
     → front ls (each_advanced o p i (several_of (drop i xs))) ≡ each_advanced o p 0 (several_of xs) → gathered (several_of ls) ≡ advanced o p (remains_of l)
 lefts_end o p l v xs i ls is same le so_far =
     ap gathered (sym (front_all ls) ∙ (ap (λ s. front ls (each_advanced o p i s)) (sym (no_left_more xs i le))
-        ∙ (so_far ∙ ap (λ (ys : List Left). each_advanced o p 0 (several_of ys)) same)))
+    ∙ (so_far ∙ ap (λ (ys : List Left). each_advanced o p 0 (several_of ys)) same)))
     ∙ ap (advanced o p) (sym (branches_said l v is))

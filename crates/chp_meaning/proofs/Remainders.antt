@@ -322,7 +322,7 @@ mutual
   advanced_term n m o p (within k r) q c =
       let inner = part_runnable n m p k c.0 q in
       resumed_term n m (left_of o) p k (term_of (part_of p k) r) (advanced o (part_of p k) r) q (advanced_can n m o (part_of p k) r inner c.3)
-          (sym (advanced_term n m o (part_of p k) r inner c.3))
+      (sym (advanced_term n m o (part_of p k) r inner c.3))
   advanced_term n m o p (alongside rs) q c =
       let below : (j : ℕ) → j < how_many rs → 0 + j < part_count p = λ j lt. omega (arith, lt, c.1) in
       gathered_term p (each_advanced o p 0 rs) (each_advanced_can n m o p 0 rs q below c.3) ∙ ap together (each_advanced_terms n m o p 0 rs q below c.3)
@@ -333,9 +333,9 @@ mutual
   each_advanced_terms n m o p k no_more q lt c = refl
   each_advanced_terms n m o p k (and_left r rest) q lt c =
       ap (λ t. and_branch t (terms_of p (suc k) (each_advanced o p (suc k) rest)))
-          (advanced_term n m o (part_of p k) r (part_runnable n m p k (let first = lt 0 (omega arith) in omega (arith, first)) q) c.0)
+      (advanced_term n m o (part_of p k) r (part_runnable n m p k (let first = lt 0 (omega arith) in omega (arith, first)) q) c.0)
       ∙ ap (and_branch (all_left (left_of o) (term_of (part_of p k) r))) (each_advanced_terms n m o p (suc k) rest q (λ j h. let later =
-          lt (suc j) (omega (arith, h)) in omega (arith, later)) c.1)
+      lt (suc j) (omega (arith, h)) in omega (arith, later)) c.1)
 
 -- each active statement is one of the program
 

@@ -127,7 +127,8 @@ rest_there body old i c d f a none can =
     let there : CanStep (configuration_of body c) = subst CanStep e can in
     no_step_planned body c a.standing (at_fits body old i c d f a) none there.0 there.1 there.2
 
-held_there : (body : Process) (old : Configuration) (i : ℕ) (c d : Config) → IsAt body old i c d → held_in (configuration_of body d) ≡ held_values (histories_of c)
+held_there : (body : Process) (old : Configuration) (i : ℕ) (c d : Config) → IsAt body old i c d →
+    held_in (configuration_of body d) ≡ held_values (histories_of c)
 held_there body old i c d a = ap held_values a.unchanged.histories
 
 pub rested : (body : Process) (old : Configuration) (i n most : ℕ) (c d : Config) (left : Left) (moves : List Move) → Fits old.term → IsAt body old i c d →
@@ -137,7 +138,7 @@ rested body old i n most c d left moves f a p none le few =
     let there = now_is body old i c d a in
     let e : i + (n - i) ≡ n = omega (arith, le) in
     let last : configuration_of body d ≡ rounds_from old n = sym (rounds_rest (n - i) (configuration_of body d) rest)
-        ∙ (ap (λ x. rounds_from x (n - i)) there ∙ (rounds_more i (n - i) old ∙ ap (rounds_from old) e)) in
+    ∙ (ap (λ x. rounds_from x (n - i)) there ∙ (rounds_more i (n - i) old ∙ ap (rounds_from old) e)) in
     (omega (arith, few, held_there body old i c d a, ap held_in last), last, rest)
 
 pub overfull : (body : Process) (old : Configuration) (i n most : ℕ) (c d : Config) (left : Left) (moves : List Move) → Fits old.term → IsAt body old i c d →

@@ -101,8 +101,11 @@ longer histories (Some (entry j v)) k = by_number (cases_eq k j) (cases_lt j (le
         (rest : List ℕ) × (history_at (slice_set histories j (history_at histories j ++ v ∷ [])) k ≡ history_at histories k ++ rest)
     by_number (inr ne) within = as_before (get_or-set_other histories j k (history_at histories j ++ v ∷ []) [] ne)
     by_number (inl e) (inr past) = as_before (ap (λ hs. history_at hs k) (set_past histories j (history_at histories j ++ v ∷ []) past))
-    by_number (inl e) (inl within) = (v ∷ [], ap (λ n. history_at (slice_set histories j (history_at histories j ++ v ∷ [])) n) e
-        ∙ (get_or-set_same histories j (history_at histories j ++ v ∷ []) [] within ∙ ap (λ n. history_at histories n ++ v ∷ []) (sym e)))
+    by_number (inl e) (inl within) = (
+      v ∷ [],
+      ap (λ n. history_at (slice_set histories j (history_at histories j ++ v ∷ [])) n) e
+          ∙ (get_or-set_same histories j (history_at histories j ++ v ∷ []) [] within ∙ ap (λ n. history_at histories n ++ v ∷ []) (sym e)),
+    )
 
 step_behind : {c d : Configuration} {at : Place} → Step c at d → IsBehind c d
 step_behind {c = c} {d = d} {at = at} s k =

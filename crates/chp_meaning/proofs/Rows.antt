@@ -180,7 +180,8 @@ pub begun_all : (s : TStmt) (v : Vec TStmt Global) (xs : List TStmt) (ls : Vec L
 begun_all s v xs ls i is same all whole_of =
     branches_is ls
     ∙ (ap alongside (sym (front_all ls.items)
-        ∙ (ap (λ ms. front ls.items (each_begun ms)) (sym (no_member_more xs i all)) ∙ (whole_of ∙ ap (λ (ys : List TStmt). each_begun (statement_processes ys)) same)))
+    ∙ (ap (λ ms. front ls.items (each_begun ms)) (sym (no_member_more xs i all))
+    ∙ (whole_of ∙ ap (λ (ys : List TStmt). each_begun (statement_processes ys)) same)))
     ∙ ap begun (sym (beside_said s v is)))
 
 pub first_members : (s : TStmt) (v : Vec TStmt Global) (x : TStmt) → s ≡ Then v → x ≡ get_or v.items 0 x → HasMembers (process_of s) → HasMembers (process_of x)
@@ -202,7 +203,7 @@ then_next s v k is lt =
     let count = count_members v.items in
     ap (λ p. after_part p k) (then_said s v is)
     ∙ (ap (λ b. if b then within (k + 1) (begun (member_at (statement_processes v.items) (k + 1))) else over)
-        (lt-ltb (k + 1) (member_count (statement_processes v.items)) (omega (arith, lt, count)))
+    (lt-ltb (k + 1) (member_count (statement_processes v.items)) (omega (arith, lt, count)))
     ∙ ap (λ p. within (k + 1) (begun (part_of p (k + 1)))) (sym (then_said s v is)))
 
 pub then_last : (s : TStmt) (v : Vec TStmt Global) (k : ℕ) → s ≡ Then v → length v.items ≤ k + 1 → after_part (process_of s) k ≡ over
@@ -210,7 +211,7 @@ then_last s v k is le =
     let count = count_members v.items in
     ap (λ p. after_part p k) (then_said s v is)
     ∙ ap (λ b. if b then within (k + 1) (begun (member_at (statement_processes v.items) (k + 1))) else over)
-        (le-ltb (k + 1) (member_count (statement_processes v.items)) (omega (arith, le, count)))
+    (le-ltb (k + 1) (member_count (statement_processes v.items)) (omega (arith, le, count)))
 
 all_are_over : (ls : List Left) → list_all (λ l. none_remains (remains_of l)) ls ≡ all_over (several_of ls)
 all_are_over [] = refl

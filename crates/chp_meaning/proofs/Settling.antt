@@ -107,7 +107,8 @@ rest_is [] k d lt = absurd (omega (arith, lt))
 rest_is (r ∷ rs) zero d lt = refl
 rest_is (r ∷ rs) (suc k) d lt = rest_is rs k d (omega (arith, lt))
 
-pub used_one : (rs : List Rest) (k : ℕ) (d new : Rest) (step : Move) → k < length rs → step.uses ≡ Some k → offer_of_rest new ≡ less (offer_of_rest (get_or rs k d)) →
+pub used_one : (rs : List Rest) (k : ℕ) (d new : Rest) (step : Move) → k < length rs → step.uses ≡ Some k →
+    offer_of_rest new ≡ less (offer_of_rest (get_or rs k d)) →
     map offer_of_rest (slice_set rs k new) ≡ used (map offer_of_rest rs) step
 used_one rs k d new step lt is e =
     map-set offer_of_rest rs k new

@@ -62,7 +62,7 @@ first_stands body channels script c f fits =
     let n : channels ≡ length c.rests.items = sym fits ∙ (ap (λ (xs : List OfferValue). length xs) (sym f.rests) ∙ length-map c.rests.items offer_of_rest) in
     let none : List ℕ = [] in
     let h : length c.histories.items ≡ channels = sym (length-map c.histories.items (λ x. x.items))
-        ∙ (ap (λ (xs : List (List ℕ)). length xs) f.histories ∙ length-replicate channels none) in
+    ∙ (ap (λ (xs : List (List ℕ)). length xs) f.histories ∙ length-replicate channels none) in
     record {
       runnable = subst (λ k. IsRunnable k (length c.store.items) body) n f.runnable;
       remains = rw f.left_is (begins channels (length c.store.items) body f.runnable).can;

@@ -121,7 +121,7 @@ receive_noted [] table k x lt one (inl e) = e
 receive_noted [] table k x lt one (inr (s, u, i)) = absurd i
 receive_noted (p ∷ ps) table k x lt one start =
     receive_noted ps (noted_receive true table p) k x (subst (λ n. k < n) (sym (receive_length true table p)) lt) (λ s u y i. one s u y (inr i))
-        (by_start start)
+    (by_start start)
   where
     by_start : (get_or table k None ≡ Some x) ⊎ Receiving (p ∷ ps) k x → (get_or (noted_receive true table p) k None ≡ Some x) ⊎ Receiving ps k x
     by_start (inl e) = inl (keeps_note table p ps k x one e)
@@ -273,14 +273,14 @@ pub sends_clear : (n : ℕ) (ps : List Process) → fold (noted_send false) (fol
 sends_clear n ps =
     let noted = fold (noted_send true) (replicate n false) ps in
     let count : length (fold (noted_send false) noted ps) ≡ n =
-        sends_length false noted ps ∙ (sends_length true (replicate n false) ps ∙ length-replicate n false) in
+    sends_length false noted ps ∙ (sends_length true (replicate n false) ps ∙ length-replicate n false) in
     ext_get_or false (fold (noted_send false) noted ps) (replicate n false) (count ∙ sym (length-replicate n false))
-        (λ k lt. send_then_clear n ps k (subst (λ m. k < m) count lt) ∙ sym (none_there n k false))
+    (λ k lt. send_then_clear n ps k (subst (λ m. k < m) count lt) ∙ sym (none_there n k false))
 
 pub receives_clear : (n : ℕ) (ps : List Process) → fold (noted_receive false) (fold (noted_receive true) (replicate n None) ps) ps ≡ replicate n None
 receives_clear n ps =
     let noted = fold (noted_receive true) (replicate n None) ps in
     let count : length (fold (noted_receive false) noted ps) ≡ n =
-        receives_length false noted ps ∙ (receives_length true (replicate n None) ps ∙ length-replicate n None) in
+    receives_length false noted ps ∙ (receives_length true (replicate n None) ps ∙ length-replicate n None) in
     ext_get_or None (fold (noted_receive false) noted ps) (replicate n None) (count ∙ sym (length-replicate n None))
-        (λ k lt. receive_then_clear n ps k (subst (λ m. k < m) count lt) ∙ sym (none_there n k None))
+    (λ k lt. receive_then_clear n ps k (subst (λ m. k < m) count lt) ∙ sym (none_there n k None))

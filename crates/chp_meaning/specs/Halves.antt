@@ -47,7 +47,8 @@ abbrev pub read_through : ℕ → Formula → Span → Formula
 read_through h e at = reading h (width_of e - 1) 0 at
 
 abbrev pub in_halves : ℕ → ℕ → Span → Formula → Process
-in_halves h x at e = in_turn (and_member (assigning h at e) (and_member (assigning x at (read_through h e at)) no_members))
+in_halves h x at e = in_turn (and_member (assigning h at e)
+    (and_member (assigning x at (read_through h e at)) no_members))
 
 abbrev pub halved_assign : Bool → ℕ → ℕ → Span → Formula → Process
 halved_assign false h x at e = assigning x at e
@@ -75,8 +76,12 @@ abbrev mutual
 
 -- the hidden variables are declared behind all others
 abbrev pub halved_program : TypedProgram → TypedProgram
-halved_program p = record { channels = p.channels; vars = p.vars ++ hidden_vars p.body; body =
-    halved (length p.vars) p.body }
+halved_program p = record {
+  channels = p.channels;
+  vars = p.vars ++ hidden_vars p.body;
+  body =
+      halved (length p.vars) p.body;
+}
 
 -- no assignment reads its own target
 abbrev mutual

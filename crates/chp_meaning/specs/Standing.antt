@@ -23,16 +23,26 @@ abbrev pub items_of : List (Vec ℕ Global) → List (List ℕ)
 items_of histories = map (λ h. h.items) histories
 
 abbrev pub outset_of : Config → Outset
-outset_of c = record { store = c.store.items; rests = map offer_of_rest c.rests.items; sends = c.sends.items; receives =
-    c.receives.items }
+outset_of c = record {
+  store = c.store.items;
+  rests = map offer_of_rest c.rests.items;
+  sends = c.sends.items;
+  receives =
+      c.receives.items;
+}
 
 abbrev pub histories_of : Config → List (List ℕ)
 histories_of c = items_of c.histories.items
 
 -- of a program that does this
 abbrev pub configuration_of : Process → Config → Configuration
-configuration_of body c = record { term = term_of body (remains_of c.left); store = c.store.items; rests =
-    map offer_of_rest c.rests.items; histories = histories_of c }
+configuration_of body c = record {
+  term = term_of body (remains_of c.left);
+  store = c.store.items;
+  rests =
+      map offer_of_rest c.rests.items;
+  histories = histories_of c;
+}
 
 -- What is kept between rounds of a program that does this: its numbers are within the lists, what is left can be left
 -- of it, and no end is noted.

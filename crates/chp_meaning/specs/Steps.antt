@@ -34,21 +34,36 @@ one_fewer (Times n) = Times (n - 1)
 
 -- the configuration in which this is left of the statement at the place
 abbrev pub leaving : Configuration → Place → Term → Configuration
-leaving c at left = record { term = with_left c.term at left; store = c.store; rests = c.rests; histories =
-    c.histories }
+leaving c at left = record {
+  term = with_left c.term at left;
+  store = c.store;
+  rests = c.rests;
+  histories =
+      c.histories;
+}
 
 abbrev pub storing : Configuration → ℕ → ℕ → Configuration
 storing c var v = record { term = c.term; store = slice_set c.store var v; rests = c.rests; histories = c.histories }
 
 -- the value has passed on the channel
 abbrev pub passing : Configuration → ℕ → ℕ → Configuration
-passing c chan v = record { term = c.term; store = c.store; rests = c.rests; histories =
-    slice_set c.histories chan (history_at c.histories chan ++ v ∷ []) }
+passing c chan v = record {
+  term = c.term;
+  store = c.store;
+  rests = c.rests;
+  histories =
+      slice_set c.histories chan (history_at c.histories chan ++ v ∷ []);
+}
 
 -- this is left of the script on the channel
 abbrev pub offering : Configuration → ℕ → OfferValue → Configuration
-offering c chan rest = record { term = c.term; store = c.store; rests = slice_set c.rests chan rest; histories =
-    c.histories }
+offering c chan rest = record {
+  term = c.term;
+  store = c.store;
+  rests = slice_set c.rests chan rest;
+  histories =
+      c.histories;
+}
 
 -- The steps, each at its place: that of the sender in a communication, and the program's own end where the environment
 -- is at the other one. A channel on which the environment has no part is inside of the program.

@@ -105,8 +105,13 @@ pub(crate) fn begun(
     requires numbers { IsRunnable channels (length store.items) (process_of body.now) }
     requires script { length script.now ≡ channels }
     ensures standing { IfOk result (λ config. IsStanding (process_of body.now) config) }
-    ensures start { IfOk result (λ config. configuration_of (process_of body.now) config ≡ record { term =
-        opened (process_of body.now); store = store.items; rests = script.now; histories = replicate channels [] }) }
+    ensures start { IfOk result (λ config. configuration_of (process_of body.now) config ≡ record {
+      term =
+          opened (process_of body.now);
+      store = store.items;
+      rests = script.now;
+      histories = replicate channels [];
+    }) }
 {
     Ok(Config {
         left: opened(alloc, body)?,

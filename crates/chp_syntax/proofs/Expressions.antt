@@ -288,7 +288,8 @@ pub disjunction_more : {l rest : List Token} {us : Tail} → MoreDisjunction l r
 disjunction_more no_more_disjunction = no_further
 disjunction_more (one_more_disjunction e a n) = a_further (operator e) a n
 
-pub disjunction_in : {l x mid rest : List Token} {o : Op} {c : Covered} {us : Tail} → Operator or_operator l x o → Exclusive x mid c → MoreDisjunction mid rest us →
+pub disjunction_in : {l x mid rest : List Token} {o : Op} {c : Covered} {us : Tail} → Operator or_operator l x o → Exclusive x mid c →
+    MoreDisjunction mid rest us →
     MoreDisjunction l rest (longer o c us)
 disjunction_in (operator e) a n = one_more_disjunction e a n
 

@@ -104,7 +104,8 @@ mutual
       let w = more_parts_once (subst (λ (x : List Token). MoreParts x r es) h.0 n) m f g in
       (w.0, both_same (λ (c : Covered) (us : Expressions). and_part c.expression us) h.1 w.1)
 
-  more_parts_once : {ts r q : List Token} {es ds : Expressions} → MoreParts ts r es → MoreParts ts q ds → StopsAt 4 (sees r) → StopsAt 4 (sees q) → Same r es q ds
+  more_parts_once : {ts r q : List Token} {es ds : Expressions} → MoreParts ts r es → MoreParts ts q ds → StopsAt 4 (sees r) → StopsAt 4 (sees q) →
+      Same r es q ds
   more_parts_once no_more_parts no_more_parts f g = (refl, refl)
   more_parts_once no_more_parts (one_more_part b m) f g = absurd (omega (arith, f))
   more_parts_once (one_more_part a n) no_more_parts f g = absurd (omega (arith, g))
@@ -244,7 +245,8 @@ mutual
       let w = more_choices_once (subst (λ (x : List Token). MoreChoices x r bs) h.0 n) m f g in
       (w.0, both_same (λ (c : Guarded) (ds : Arms). and_arm c.guard c.body ds) h.1 w.1)
 
-  more_choices_once : {ts r q : List Token} {bs cs : Arms} → MoreChoices ts r bs → MoreChoices ts q cs → StopsAt 1 (sees r) → StopsAt 1 (sees q) → Same r bs q cs
+  more_choices_once : {ts r q : List Token} {bs cs : Arms} → MoreChoices ts r bs → MoreChoices ts q cs → StopsAt 1 (sees r) → StopsAt 1 (sees q) →
+      Same r bs q cs
   more_choices_once no_more_choices no_more_choices f g = (refl, refl)
   more_choices_once no_more_choices (one_more_choice b m) f g = absurd (omega (arith, f))
   more_choices_once (one_more_choice a n) no_more_choices f g = absurd (omega (arith, g))

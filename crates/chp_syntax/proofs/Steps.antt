@@ -27,7 +27,8 @@ pub data Either {A : Type 0} (P Q : List Token → List Token → A → Type 0) 
   one : {l rest : List Token} {a : A} → P l rest a → Either P Q l rest a
   other : {l rest : List Token} {a : A} → Q l rest a → Either P Q l rest a
 
-pub then_parts : {A B : Type 0} {R : GrammarPart B} {Q : B → GrammarPart A} {l rest : List Token} {a : A} → Then R Q l rest a → (mid : List Token) × (b : B) × R l mid b
+pub then_parts : {A B : Type 0} {R : GrammarPart B} {Q : B → GrammarPart A} {l rest : List Token} {a : A} → Then R Q l rest a →
+    (mid : List Token) × (b : B) × R l mid b
     × Q b mid rest a
 then_parts (and_then {mid = mid} {b = b} r q) = (mid, b, r, q)
 
@@ -60,7 +61,8 @@ sees_same [] l left e = e
 sees_same (t ∷ d) l left e = refl
 
 -- another way to say what is to come
-pub instead : {A : Type 0} {W : GrammarPart A} {F : Option Token → Type 0} {ts left : List Token} {Q : GrammarPart A} (P : GrammarPart A) → SoFar W F ts left Q →
+pub instead : {A : Type 0} {W : GrammarPart A} {F : Option Token → Type 0} {ts left : List Token} {Q : GrammarPart A} (P : GrammarPart A) →
+    SoFar W F ts left Q →
     ((l rest : List Token) (a : A) → P l rest a → Q l rest a) → ((l rest : List Token) (a : A) → sees l ≡ sees left → F (sees rest) → Q l rest a → P l rest a) →
     SoFar W F ts left P
 instead P so i o = record {
@@ -70,7 +72,8 @@ instead P so i o = record {
   out = λ l rest a s f w. o l rest a s f (so.out l rest a s f w);
 }
 
-pub by_part : {A B : Type 0} {W : GrammarPart A} {F : Option Token → Type 0} {ts mid left : List Token} {R : GrammarPart B} {G : Option Token → Type 0} {b : B} {Q : B →
+pub by_part : {A B : Type 0} {W : GrammarPart A} {F : Option Token → Type 0} {ts mid left : List Token} {R : GrammarPart B} {G : Option Token →
+    Type 0} {b : B} {Q : B →
     GrammarPart A} → Seam R G F Q → SoFar W F ts mid (Then R Q) → Good R G mid left b → SoFar W F ts left (Q b)
 by_part {A} {B} {W} {F} {ts} {mid} {left} {R} {G} {b} {Q} seam so good = record {
   done = so.done ++ good.done;
@@ -84,7 +87,8 @@ by_part {A} {B} {W} {F} {ts} {mid} {left} {R} {G} {b} {Q} seam so good = record 
       subst (λ (c : B). Q c l rest a) e.1 (subst (λ (x : List Token). Q p.1 x rest a) e.0 p.3);
 }
 
-pub part_bad : {A B : Type 0} {W : GrammarPart A} {F : Option Token → Type 0} {ts mid left : List Token} {R : GrammarPart B} {G : Option Token → Type 0} {Q : B → GrammarPart A} →
+pub part_bad : {A B : Type 0} {W : GrammarPart A} {F : Option Token → Type 0} {ts mid left : List Token} {R : GrammarPart B} {G : Option Token →
+    Type 0} {Q : B → GrammarPart A} →
     Seam R G F Q → SoFar W F ts mid (Then R Q) → Bad R G mid left → Bad W F ts left
 part_bad {A} {B} {W} {F} {ts} {mid} {left} {R} {G} {Q} seam so bad = record {
   done = so.done ++ bad.done;
@@ -268,7 +272,8 @@ operator_only : {O : Type 0} (op : TokenKind → Option O) (t : Token) (o p : O)
     (rest ≡ l) × (p ≡ o)
 operator_only {O} op t o p l rest h (operator e) = (refl, let x : ◌≡◌ {A = Option O} (Some p) (Some o) = sym e ∙ h in cc x)
 
-operator_here : {O : Type 0} (op : TokenKind → Option O) (xs : List Token) (o : O) → kind_read op (sees xs) ≡ Some o → Good (Operator op) Anything xs (drop 1 xs) o
+operator_here : {O : Type 0} (op : TokenKind → Option O) (xs : List Token) (o : O) → kind_read op (sees xs) ≡ Some o →
+    Good (Operator op) Anything xs (drop 1 xs) o
 operator_here op [] o h = absurd (cc h)
 operator_here op (t ∷ xs) o h = record {
   done = t ∷ [];

@@ -36,7 +36,8 @@ pub record IsSpoken (ts : List Token) : Type 0 where
 -- why tokens are refused, and where; each cause comes only where none of those above it holds
 pub data RefusedTokens (ts : List Token) (end : ℕ) : FaultCode → Span → Type 0 where
   a_probe : {s : Span} → IsFirstToken is_probe ts s → RefusedTokens ts end code.Probe s
-  an_arbiter : {s : Span} → has_kind is_probe ts ≡ false → IsFirstToken is_arbiter ts s → RefusedTokens ts end code.Arbiter s
+  an_arbiter : {s : Span} → has_kind is_probe ts ≡ false → IsFirstToken is_arbiter ts s →
+      RefusedTokens ts end code.Arbiter s
   too_deep : {s : Span} → IsSpoken ts → GoesOver ts s → RefusedTokens ts end code.TooDeep s
   no_program : {n : ℕ} → IsSpoken ts → IsShallow ts → FirstFault ts n →
       RefusedTokens ts end code.Syntax (spot (drop n ts) end)

@@ -101,7 +101,8 @@ module _ (P : TypedProgram) (script : List OfferValue) {m : Mode} {g : GuardedAt
   far_done c e = done_far P w hs k c e
 
   -- Other moves stay, where those of the statements do, and the environment moves no rail of the channel.
-  ack_others : (n : Node P.body) → n ≢ ack_node k → ((s : GuardedSpot P.body) → guarded_moves (wires_seen P w) g s ≡ true → guarded_moves (wires_seen P acked) g s ≡ true)
+  ack_others : (n : Node P.body) → n ≢ ack_node k →
+      ((s : GuardedSpot P.body) → guarded_moves (wires_seen P w) g s ≡ true → guarded_moves (wires_seen P acked) g s ≡ true)
       → ((j : ℕ) (b : Bool) → driven P script w hs (of_channel k) j b ≡ true → ⊥) → can P script g w hs n ≡ true → can P script g acked after n ≡ true
   ack_others go_node ne l d z = z
   ack_others (own_node s) ne l d z = l s z

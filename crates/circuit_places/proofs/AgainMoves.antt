@@ -101,7 +101,8 @@ module _ {n : ℕ} {G Q B C S T : Type 0} (W : Guards n G Q) (K : Branches n B C
   rests_core (guard q) = W.low_quiet q
   rests_core (branch c) = K.low_quiet c
 
-  pub again_can_is : {m : Mode} (x : AgainAt n G W.heads K.At m) (s : AgainSpot n Q C) → one_rule_fires (again_rule (asks m) (again_cells x) s) ≡ again_moves x s
+  pub again_can_is : {m : Mode} (x : AgainAt n G W.heads K.At m) (s : AgainSpot n Q C) →
+      one_rule_fires (again_rule (asks m) (again_cells x) s) ≡ again_moves x s
   again_can_is again_rests (round of_answer) = refl
   again_can_is again_rests (round of_turn) = refl
   again_can_is again_rests (round of_leave) = neutral_over n (W.heads W.low) W.low_neutral

@@ -61,7 +61,8 @@ module _ (P : TypedProgram) (script : List OfferValue) {m : Mode} {g : GuardedAt
             either (w.rail (of_var x) i true) (w.rail (of_var x) i false) (snd_true (not (line_ack P w (of_var x))) _ h) (there true low) (there false low)
 
     -- and so it isn't read
-    bit_changed : i < var_width P.vars x → one_rule_fires (bit_rule (w.rail (of_var x)) (w.bit x) i one) ≡ true → GuardedChanged P.body m (wires_seen P w) (wires_seen P bitten) g
+    bit_changed : i < var_width P.vars x → one_rule_fires (bit_rule (w.rail (of_var x)) (w.bit x) i one) ≡ true →
+        GuardedChanged P.body m (wires_seen P w) (wires_seen P bitten) g
     bit_changed less e = guarded_changed P (wires_seen P w) (wires_seen P bitten) (Unread x) (unread_down x)
         (bit_leaves P (wires_seen P w) (wires_seen P bitten) x refl bit_acks (λ c h. refl) bit_far) g good.meets
         (record { read = guarded_writing_unread P (line_ack P w) g good.meets x (being_written less e) }) good.fits
@@ -129,7 +130,8 @@ module _ (P : TypedProgram) (script : List OfferValue) {m : Mode} {g : GuardedAt
 
         others : (q : Node P.body) → q ≢ bit_node x i one → ((s : GuardedSpot P.body) → guarded_moves (wires_seen P w) g s ≡ true
             → guarded_moves (wires_seen P bitten) g s ≡ true) → ((j : ℕ) (s : Bool) → (j ≡ i → s ≡ one → ⊥)
-            → one_rule_fires (bit_rule (w.rail (of_var x)) (w.bit x) j s) ≡ true → one_rule_fires (bit_rule (w.rail (of_var x)) (rails_turned (w.bit x) i one) j s) ≡ true)
+            → one_rule_fires (bit_rule (w.rail (of_var x)) (w.bit x) j s) ≡ true →
+            one_rule_fires (bit_rule (w.rail (of_var x)) (rails_turned (w.bit x) i one) j s) ≡ true)
             → ((j : ℕ) → one_rule_fires (wrote_rule (w.rail (of_var x)) (w.bit x) (w.wrote x) j) ≡ true
             → one_rule_fires (wrote_rule (w.rail (of_var x)) (rails_turned (w.bit x) i one) (w.wrote x) j) ≡ true)
             → can P script g w hs q ≡ true → can P script g bitten hs q ≡ true
@@ -149,7 +151,8 @@ module _ (P : TypedProgram) (script : List OfferValue) {m : Mode} {g : GuardedAt
             ∙ (ap (λ v. one_rule_fires (bit_rule (w.rail (of_var v)) (rails_turned (w.bit x) i one) j s)) same
             ∙ b j s (λ k l. ne (ap (λ v. bit_node v j s) same ∙ (ap (λ v. bit_node x v s) k ∙ ap (λ v. bit_node x i v) l)))
             (ap (λ v. one_rule_fires (bit_rule (w.rail (of_var v)) (w.bit v) j s)) (sym same) ∙ z)))
-            (λ (h : (y == x) ≡ false). ap (λ (a : Bool). one_rule_fires (bit_rule (w.rail (of_var y)) (if a then rails_turned (w.bit x) i one else w.bit y) j s)) h ∙ z)
+            (λ (h : (y == x) ≡ false). ap (λ (a : Bool).
+            one_rule_fires (bit_rule (w.rail (of_var y)) (if a then rails_turned (w.bit x) i one else w.bit y) j s)) h ∙ z)
         others (wrote_node y j) ne l b v z = cases (y == x)
             (λ (h : (y == x) ≡ true). let same = same_number y x h in
             ap (λ (a : Bool). one_rule_fires (wrote_rule (w.rail (of_var y)) (if a then rails_turned (w.bit x) i one else w.bit y) (w.wrote y) j)) h

@@ -34,7 +34,8 @@ write_role true = write_t
 write_role false = write_f
 
 -- the rules are those of the table
-pub bit_can : (x w : Rails) (wrote : ℕ → Bool) (va : Bool) (i : ℕ) (one : Bool) → one_rule_fires (bit_rule w x i one) ≡ may (rail_role one) (now_at x w wrote va i)
+pub bit_can : (x w : Rails) (wrote : ℕ → Bool) (va : Bool) (i : ℕ) (one : Bool) →
+    one_rule_fires (bit_rule w x i one) ≡ may (rail_role one) (now_at x w wrote va i)
 bit_can x w wrote va i true = refl
 bit_can x w wrote va i false = refl
 
@@ -127,10 +128,12 @@ written_not_write false e = cc e
 -- a move of a bit's rail
 pub record BitMoved (n : ℕ) (x w : Rails) (wrote node : ℕ → Bool) (i : ℕ) (one : Bool) : Type 0 where
   pub block : Block n (rails_turned x i one) w wrote node
-  pub bits : (j : ℕ) (side : Bool) → (j ≡ i → side ≡ one → ⊥) → one_rule_fires (bit_rule w x j side) ≡ true → one_rule_fires (bit_rule w (rails_turned x i one) j side) ≡ true
+  pub bits : (j : ℕ) (side : Bool) → (j ≡ i → side ≡ one → ⊥) → one_rule_fires (bit_rule w x j side) ≡ true →
+      one_rule_fires (bit_rule w (rails_turned x i one) j side) ≡ true
   pub wrotes : (j : ℕ) → one_rule_fires (wrote_rule w x wrote j) ≡ true → one_rule_fires (wrote_rule w (rails_turned x i one) wrote j) ≡ true
 
-pub bit_moved : (n : ℕ) (x w : Rails) (wrote node : ℕ → Bool) → Block n x w wrote node → (i : ℕ) (one : Bool) → i < n → one_rule_fires (bit_rule w x i one) ≡ true
+pub bit_moved : (n : ℕ) (x w : Rails) (wrote node : ℕ → Bool) → Block n x w wrote node → (i : ℕ) (one : Bool) → i < n →
+    one_rule_fires (bit_rule w x i one) ≡ true
     → BitMoved n x w wrote node i one
 bit_moved n x w wrote node b i one less e =
     let va = tree_answer n wrote node in
@@ -224,7 +227,8 @@ pub record WroteTurned (n : ℕ) (x w : Rails) (wrote node : ℕ → Bool) (i : 
   pub wrotes : (j : ℕ) → j ≢ i → one_rule_fires (wrote_rule w x wrote j) ≡ true → one_rule_fires (wrote_rule w x (turned wrote i) j) ≡ true
   pub joints : (k : ℕ) → node_moves n wrote node k ≡ true → node_moves n (turned wrote i) node k ≡ true
 
-wrote_far : (x w : Rails) (wrote : ℕ → Bool) (i j : ℕ) → j ≢ i → one_rule_fires (wrote_rule w x wrote j) ≡ true → one_rule_fires (wrote_rule w x (turned wrote i) j) ≡ true
+wrote_far : (x w : Rails) (wrote : ℕ → Bool) (i j : ℕ) → j ≢ i → one_rule_fires (wrote_rule w x wrote j) ≡ true →
+    one_rule_fires (wrote_rule w x (turned wrote i) j) ≡ true
 wrote_far x w wrote i j ne z = ap (λ b. if b then not (w j true) && not (w j false) else (w j true && x j true) || (w j false && x j false))
     (turned_apart wrote i j ne) ∙ z
 

@@ -160,7 +160,8 @@ go_is answered ne = refl
 go_is returning ne = absurd (ne refl)
 
 module _ (P : TypedProgram) (script : List OfferValue) {moves : ℕ} {x : Whole P.body} (r : Reached P script moves x) where
-  rail_is : (k : Line) (i : ℕ) (one : Bool) → one_rule_fires (rule_in P x (rail_node k i one)) ≡ sent_turns P x.wires k i one ((guarded_shown r.place).offer k i one)
+  rail_is : (k : Line) (i : ℕ) (one : Bool) →
+      one_rule_fires (rule_in P x (rail_node k i one)) ≡ sent_turns P x.wires k i one ((guarded_shown r.place).offer k i one)
   rail_is k i one = here (is_merged P k) refl
     where
       here : (b : Bool) → is_merged P k ≡ b → one_rule_fires (if b then merged (x.wires.rail k i one) (site_rails P.body x.root.inner k i one) else no_rule
@@ -179,7 +180,8 @@ module _ (P : TypedProgram) (script : List OfferValue) {moves : ℕ} {x : Whole 
           (x.wires.ack k)) ≡ (b && turns (x.wires.ack k) ((guarded_shown r.place).take k) (not ((guarded_shown r.place).take k)))
       here true u =
           merged_can (x.wires.ack k) (takers P.body x.root.inner k) (λ e. same_takers P.body x.root.inner (low P.body) k ∙ r.good.heard_sited k e u)
-          ∙ ap (λ b. turns (x.wires.ack k) b (not b)) (ap (λ (g : QElementCells (Cells P.body)). any (takers P.body g.inner k)) r.same ∙ guarded_taken r.place k)
+          ∙ ap (λ b. turns (x.wires.ack k) b (not b)) (ap (λ (g : QElementCells (Cells P.body)). any (takers P.body g.inner k)) r.same
+          ∙ guarded_taken r.place k)
       here false u = no_fire (x.wires.ack k)
 
   by_bits : (v i : ℕ) {A : Type 0} → (i < var_width P.vars v → A) → ((i < var_width P.vars v → ⊥) → A) → A
@@ -412,7 +414,8 @@ module _ (P : TypedProgram) (script : List OfferValue) (fitted : Fitted P script
       (λ (e : x.wires.bit v i one ≡ false). e))
       ∙ ap (λ b. b && not (x.wires.bit v i (not one))) (low_rail P script r v i one (not_there i (var_width P.vars v) h))
 
-  no_wrote : (v i : ℕ) → nat_lt i (var_width P.vars v) ≡ false → one_rule_fires (wrote_rule (x.wires.rail (of_var v)) (x.wires.bit v) (x.wires.wrote v) i) ≡ false
+  no_wrote : (v i : ℕ) → nat_lt i (var_width P.vars v) ≡ false → one_rule_fires (wrote_rule (x.wires.rail (of_var v)) (x.wires.bit v) (x.wires.wrote v) i) ≡
+      false
   no_wrote v i h =
       ap (λ b. if b then not (x.wires.rail (of_var v) i true) && not (x.wires.rail (of_var v) i false) else
       (x.wires.rail (of_var v) i true && x.wires.bit v i true) || (x.wires.rail (of_var v) i false && x.wires.bit v i false))

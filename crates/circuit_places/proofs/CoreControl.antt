@@ -189,7 +189,8 @@ module _ {again : Bool} {n : ℕ} {G : Type 0} {heads : G → Pairs n} where
 
   -- round the core of a repetition that is called and hasn't answered
   pub turning_can_is : {m : Mode} {B : Type 0} (low : G) (b : B) → all_neutral n (heads low) ≡ true → (c : Control again n G heads m) (s : RoundSpot)
-      → one_rule_fires (turning_rule true (heads (control_guards low c)) (turning_of false (asks m) (control_leave c) (control_cells low b c)) s) ≡ turning_moves c s
+      → one_rule_fires (turning_rule true (heads (control_guards low c)) (turning_of false (asks m) (control_leave c) (control_cells low b c)) s) ≡
+      turning_moves c s
   turning_can_is low b z uncalled of_answer = refl
   turning_can_is low b z uncalled of_turn = refl
   turning_can_is low b z uncalled of_leave = neutral_over n (heads low) z

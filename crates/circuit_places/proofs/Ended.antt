@@ -280,7 +280,8 @@ module _ (P : TypedProgram) {script : List OfferValue} (fitted : Fitted P script
       brought i less = let (one, h) = number_some (channel_width P.channels c) x i less in low_both i one h
 
   -- each bit of a channel on which a send waits has a rail high
-  sent_there : (c : ℕ) → Full P (of_channel c) (wires_seen P w) (guarded_shown g) → is_some (value_on (channel_width P.channels c) (w.rail (of_channel c))) ≡ true
+  sent_there : (c : ℕ) → Full P (of_channel c) (wires_seen P w) (guarded_shown g) →
+      is_some (value_on (channel_width P.channels c) (w.rail (of_channel c))) ≡ true
   sent_there c b = ap is_some (value_same (channel_width P.channels c) (w.rail (of_channel c)) ((guarded_shown g).offer (of_channel c))
       (λ i one. rails_are (of_channel c) i one b.merged)) ∙ b.whole
 

@@ -90,7 +90,8 @@ module _ (P : TypedProgram) (bits : ℕ → Rails) (lone : Single bits) where
   all_own no_choices h r x q f e = elim q [ ]
 
   pub all_firm : (choices : Choices) → GuardsMeet P choices → (r : Bool) (x : GuardCells choices) (q p : GuardSpot choices)
-      → guards_good choices bits r x ≡ true → one_rule_fires (guards_rule choices bits r x q) ≡ true → p ≢ q → one_rule_fires (guards_rule choices bits r x p) ≡ true
+      → guards_good choices bits r x ≡ true → one_rule_fires (guards_rule choices bits r x q) ≡ true → p ≢ q →
+      one_rule_fires (guards_rule choices bits r x p) ≡ true
       → one_rule_fires (guards_rule choices bits r (turned_guards choices x q) p) ≡ true
   all_firm (and_choice g p more) h r x (this_gate i one) (this_gate j side) f e ne z =
       h.0.known.firm r bits x.0 i one j side lone (λ (a : j ≡ i) (b : side ≡ one). ne (ap (λ k. this_gate k side) a ∙ ap (λ k. this_gate i k) b))

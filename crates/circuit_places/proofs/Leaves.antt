@@ -117,7 +117,8 @@ module _ (P : TypedProgram) (k : Line) (e : Formula) (env : Seen) (clean : Clean
   }
 
   -- a gate that rises has a value that isn't whole, and one that falls has one that isn't gone
-  not_full : (u : Pairs (gate_count e)) (i : ℕ) (one : Bool) → good true env.bit e u ≡ true → one_rule_fires (gate_rule e env.bit true u i one) ≡ true → full e u ≡ false
+  not_full : (u : Pairs (gate_count e)) (i : ℕ) (one : Bool) → good true env.bit e u ≡ true → one_rule_fires (gate_rule e env.bit true u i one) ≡ true →
+      full e u ≡ false
   not_full u i one g f = cases (full e u) (λ (z : full e u ≡ true). absurd (cc (known.quiet_full env.bit u clean.single g z i one, f)))
       (λ (z : full e u ≡ false). z)
 

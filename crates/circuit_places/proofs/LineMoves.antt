@@ -251,9 +251,11 @@ module _ (P : TypedProgram) (script : List OfferValue) {m : Mode} {g : GuardedAt
     rail_others (wrote_node x j) ne l a d b z = cases (same_line (of_var x) k)
         (λ (e : same_line (of_var x) k ≡ true).
         let same = same_line_is (of_var x) k e in
-        ap (λ (r : Rails). one_rule_fires (wrote_rule r (w.bit x) (w.wrote x) j)) (ap (λ (b : Bool). if b then rails_turned (w.rail k) i side else w.rail (of_var x)) e
+        ap (λ (r : Rails). one_rule_fires (wrote_rule r (w.bit x) (w.wrote x) j))
+        (ap (λ (b : Bool). if b then rails_turned (w.rail k) i side else w.rail (of_var x)) e
         ∙ ap (λ (l : Line). rails_turned (w.rail l) i side) (sym same)) ∙ (b x (sym same)).wrotes j z)
-        (λ (e : same_line (of_var x) k ≡ false). ap (λ (b : Bool). one_rule_fires (wrote_rule (if b then rails_turned (w.rail k) i side else w.rail (of_var x)) (w.bit x)
+        (λ (e : same_line (of_var x) k ≡ false). ap
+        (λ (b : Bool). one_rule_fires (wrote_rule (if b then rails_turned (w.rail k) i side else w.rail (of_var x)) (w.bit x)
         (w.wrote x) j)) e ∙ z)
     rail_others (joint_node x j) ne l a d b z = z
 
@@ -702,7 +704,8 @@ module _ (P : TypedProgram) (script : List OfferValue) {m : Mode} {g : GuardedAt
     pub falling : (c : Line) (i : ℕ) (one : Bool) → line_ack P now c ≡ true → (guarded_shown g).offer c i one ≡ true → now.rail c i one ≡ true
 
   -- no acknowledge turns over
-  pub seen_by : (now : Wires) → now.rail ≡ w.rail → ((k : Line) → line_ack P now k ≡ line_ack P w k) → GuardedChanged P.body m (wires_seen P w) (wires_seen P now) g
+  pub seen_by : (now : Wires) → now.rail ≡ w.rail → ((k : Line) → line_ack P now k ≡ line_ack P w k) →
+      GuardedChanged P.body m (wires_seen P w) (wires_seen P now) g
       → SeenChanged now
   seen_by now rails same x =
       let rail_is : (c : Line) (i : ℕ) (one : Bool) → now.rail c i one ≡ w.rail c i one = λ c i one. ap (λ (r : Line → Rails). r c i one) rails in

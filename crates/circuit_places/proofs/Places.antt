@@ -396,7 +396,8 @@ site_moves env k e m u done = if acks m then not (env.ack k) else asks m && env.
 site_moves env k e m u (gate i one) = one_rule_fires (gate_rule e env.bit (asks m) u i one)
 
 abbrev pub port_moves : Seen → (c x : ℕ) → (m : Mode) → (kept : Bool) → Rails → PortSpot → Bool
-port_moves env c x m k q s = one_rule_fires (port_rule (env.rail (of_channel c)) (env.ack (of_channel c)) (env.ack (of_var x)) (asks m) (port_of (acks m) k q) s)
+port_moves env c x m k q s = one_rule_fires (port_rule (env.rail (of_channel c)) (env.ack (of_channel c)) (env.ack (of_var x)) (asks m) (port_of (acks m) k q)
+    s)
 
 abbrev pub choice_own : {again : Bool} {choices : Choices} {m : Mode} → ChoiceAt again choices m → OwnSpot (choice_count choices) → Bool
 choice_own (control_at c) s = control_moves c s
@@ -471,7 +472,8 @@ low_end (and_member p more) (suc i) = low_end more i
 low_sides_answer : (members : Processes) → answer (side_by_side members) (low (side_by_side members)) ≡ false
 low_sides_answer members =
     let n = member_count members in
-    all_low_value n (branches_answered members (low_branches members)) (cell_bit (joint_count n) (low_bits (joint_count n))) (low_end members) (low_bit (joint_count n))
+    all_low_value n (branches_answered members (low_branches members)) (cell_bit (joint_count n) (low_bits (joint_count n))) (low_end members)
+    (low_bit (joint_count n))
     (tree_top (range_with_len 0 n) n)
 
 mutual
@@ -557,7 +559,8 @@ mutual
   answer_is (at_send m u h) = refl
   answer_is (at_receive m k q h) = refl
   answer_is (at_turn t) = turn_answer_is t
-  answer_is (at_side {members = members} m t b h) = ap (λ (f : ℕ → Bool). tree_answer (member_count members) f (cell_bit (joint_count (member_count members)) t))
+  answer_is (at_side {members = members} m t b h) =
+      ap (λ (f : ℕ → Bool). tree_answer (member_count members) f (cell_bit (joint_count (member_count members)) t))
       (ends_are b) ∙ h.top
   answer_is (at_body a) = refl
   answer_is (at_choice (control_at c)) = control_acks c
@@ -588,7 +591,8 @@ low_port_quiet rail ack va stored = refl
 low_port_quiet rail ack va (taking i one) = refl
 
 -- nor do gates of guards, whose heads are low
-pub low_guards_quiet : (choices : Choices) (bits : ℕ → Rails) (s : GuardSpot choices) → one_rule_fires (guards_rule choices bits false (low_guards choices) s) ≡ false
+pub low_guards_quiet : (choices : Choices) (bits : ℕ → Rails) (s : GuardSpot choices) →
+    one_rule_fires (guards_rule choices bits false (low_guards choices) s) ≡ false
 low_guards_quiet (and_choice g p more) bits (this_gate i one) = low_gate_quiet g bits i one
 low_guards_quiet (and_choice g p more) bits (other_gate s) = low_guards_quiet more bits s
 low_guards_quiet no_choices bits s = elim s [ ]
@@ -603,11 +607,13 @@ low_neutral (and_choice g p more) = ap (λ (h : RailLevels). not h.t && (not h.f
 
 -- of a core at rest, as of one that isn't asked
 low_core_quiet : (choices : Choices) (s : OwnSpot (choice_count choices))
-    → one_rule_fires (core_rule false false (heads choices (low_guards choices)) (choice_answers choices (low_choices choices)) (low_core choices (low_choices choices))
+    → one_rule_fires (core_rule false false (heads choices (low_guards choices)) (choice_answers choices (low_choices choices))
+    (low_core choices (low_choices choices))
     s)
     ≡ false
 low_core_quiet choices s =
-    ap (λ (y : Bits (choice_count choices)). one_rule_fires (core_rule false false (heads choices (low_guards choices)) y (low_core choices (low_choices choices)) s))
+    ap (λ (y : Bits (choice_count choices)). one_rule_fires
+    (core_rule false false (heads choices (low_guards choices)) y (low_core choices (low_choices choices)) s))
     (low_choice_answers choices)
     ∙ control_can_is {again = false} {heads = heads choices} (low_guards choices) (low_choices choices) (low_neutral choices) uncalled s
 
@@ -652,7 +658,8 @@ mutual
   low_choice_quiet (and_choice g p more) env (this_choice s) = low_quiet p env s
   low_choice_quiet (and_choice g p more) env (other_choice s) = low_choice_quiet more env s
 
-  pub low_branch_quiet : (members : Processes) (env : Seen) (s : BranchSpot members) → one_rule_fires (branch_rule members env false (low_branches members) s) ≡ false
+  pub low_branch_quiet : (members : Processes) (env : Seen) (s : BranchSpot members) →
+      one_rule_fires (branch_rule members env false (low_branches members) s) ≡ false
   low_branch_quiet no_members env s = refl
   low_branch_quiet (and_member p more) env (in_this s) = low_guarded_quiet p env s
   low_branch_quiet (and_member p more) env (in_others s) = low_branch_quiet more env s
@@ -679,7 +686,8 @@ no_leave (inside_at a w) = refl
 
 -- of the own nodes of a core, and of those round it
 choice_own_is : {again : Bool} {choices : Choices} {m : Mode} (x : ChoiceAt again choices m) (s : OwnSpot (choice_count choices))
-    → one_rule_fires (core_rule (asks m) (choice_leave x) (heads choices (choice_cells x).guards) (choice_answers choices (choice_cells x).branches) (choice_cells x) s)
+    → one_rule_fires (core_rule (asks m) (choice_leave x) (heads choices (choice_cells x).guards) (choice_answers choices (choice_cells x).branches)
+    (choice_cells x) s)
     ≡ choice_own x s
 choice_own_is {choices = choices} {m = m} (control_at c) s =
     ap (λ (y : Bits (choice_count choices)). one_rule_fires (core_rule (asks m) (control_leave c) (heads choices (control_guards (low_guards choices) c)) y
@@ -691,7 +699,8 @@ choice_own_is {choices = choices} {m = m} (inside_at a w) s =
     ∙ way_can_is (low_guards choices) (heads choices (low_guards choices)) (chosen_cells a) (low_neutral choices) w (chosen_index a) s
 
 choice_round_is : {again : Bool} {choices : Choices} {m : Mode} (x : ChoiceAt again choices m) (s : RoundSpot)
-    → one_rule_fires (turning_rule true (heads choices (choice_cells x).guards) (turning_of false (asks m) (choice_leave x) (choice_cells x)) s) ≡ choice_round x s
+    → one_rule_fires (turning_rule true (heads choices (choice_cells x).guards) (turning_of false (asks m) (choice_leave x) (choice_cells x)) s) ≡
+    choice_round x s
 choice_round_is {choices = choices} (control_at c) s = turning_can_is (low_guards choices) (low_choices choices) (low_neutral choices) c s
 choice_round_is {choices = choices} (inside_at a w) s =
     way_turning_is (low_guards choices) (heads choices (low_guards choices)) (chosen_cells a) (low_neutral choices) w (chosen_index a) s
@@ -746,7 +755,8 @@ mutual
   can_is env (at_body {m = m} a) ask = ap (λ d. if asks m then d else not d) (answer_is a)
   can_is env (at_body a) (in_body s) = can_is env a s
   can_is {m = m} env (at_choice {choices = choices} x) (of_core s) =
-      ap (λ v. one_rule_fires (core_rule (asks m) v (heads choices (choice_cells x).guards) (choice_answers choices (choice_cells x).branches) (choice_cells x) s))
+      ap (λ v. one_rule_fires (core_rule (asks m) v (heads choices (choice_cells x).guards) (choice_answers choices (choice_cells x).branches) (choice_cells x)
+      s))
       (sym (no_leave x)) ∙ choice_own_is x s
   can_is env (at_choice x) (of_guard s) = choice_guard_is env x s
   can_is env (at_choice x) (of_choice s) = choice_inner_is env x s
@@ -784,7 +794,8 @@ mutual
   turn_can_is {members = members} env turn_rests s = low_turn_quiet members env s
   turn_can_is env (at_last a) (in_last s) = can_is env a s
   turn_can_is env (at_member g) (in_member s) = guarded_can_is env g s
-  turn_can_is env (at_member {q = q} {more = more} g) (in_later s) = ap (λ b. one_rule_fires (turn_rule (and_member q more) env b (low_turn (and_member q more)) s))
+  turn_can_is env (at_member {q = q} {more = more} g) (in_later s) =
+      ap (λ b. one_rule_fires (turn_rule (and_member q more) env b (low_turn (and_member q more)) s))
       (next_is g) ∙ low_turn_quiet (and_member q more) env s
   turn_can_is env (at_later {p = p} {k = k} {n = n} {m = m} g t h) (in_member s) = ap (λ b. one_rule_fires (guarded_rule p env b (guarded_cells g) s))
       (sym (link_asks m k n h)) ∙ guarded_can_is env g s

@@ -106,7 +106,8 @@ pub low_out : (e : Formula) (i : ℕ) (one : Bool) → out_rail e (low_pairs (ga
 low_out e i one = low_rails (gate_count e) (outs_of e 0) i one
 
 -- no gate beyond the last one moves
-pub gate_there : (e : Formula) (bits : ℕ → Rails) (r : Bool) (u : Pairs (gate_count e)) (k : ℕ) (one : Bool) → one_rule_fires (gate_rule e bits r u k one) ≡ true
+pub gate_there : (e : Formula) (bits : ℕ → Rails) (r : Bool) (u : Pairs (gate_count e)) (k : ℕ) (one : Bool) →
+    one_rule_fires (gate_rule e bits r u k one) ≡ true
     → k < gate_count e
 gate_there e bits r u k one h = there_in r (pair_in (gate_count e) u) bits (parts_of e 0) (gate_count e) u k one h
 
@@ -126,7 +127,8 @@ made_apart true true f = absurd (cc (f refl))
 made_apart true false f = refl
 made_apart false n f = refl
 
-part_apart : (r : Bool) (look : ℕ → RailLevels) (bits : ℕ → Rails) (g : BlockPart) (p : RailLevels) (one : Bool) → is_apart (part_rule r look bits g p one) ≡ true
+part_apart : (r : Bool) (look : ℕ → RailLevels) (bits : ℕ → Rails) (g : BlockPart) (p : RailLevels) (one : Bool) →
+    is_apart (part_rule r look bits g p one) ≡ true
 part_apart r look bits (fixed v) p one = fixed_apart (same_bit v one) r
 part_apart r look bits (read_bit x i) p one = read_apart r (bits x i one)
 part_apart r look bits (made f i more) p one =

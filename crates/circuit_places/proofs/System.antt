@@ -152,7 +152,8 @@ pub record Exchanges (P : TypedProgram) (busy after : ℕ → Bool) (c : ℕ) (w
 
 -- the environment acknowledges, or the program does
 pub data Acks (P : TypedProgram) (busy after : ℕ → Bool) (k : ℕ) (w : Wires) (t y : Term) : Type 0 where
-  taken_out : is_heard (kind_at P.channels k) ≡ false → Passing P (wires_seen P w) busy (of_channel k) (w.ack k) t y → ((z : ℕ) → after z ≡ false → busy z ≡ false)
+  taken_out : is_heard (kind_at P.channels k) ≡ false → Passing P (wires_seen P w) busy (of_channel k) (w.ack k) t y →
+      ((z : ℕ) → after z ≡ false → busy z ≡ false)
       → Acks P busy after k w t y
   taken_in : is_heard (kind_at P.channels k) ≡ true → is_merged P (of_channel k) ≡ false → Arrives P busy after k w t y → Acks P busy after k w t y
   taken_over : is_heard (kind_at P.channels k) ≡ true → is_merged P (of_channel k) ≡ true → Exchanges P busy after k w t y → Acks P busy after k w t y
@@ -312,7 +313,8 @@ module _ (P : TypedProgram) (script : List OfferValue) {m : Mode} {g : GuardedAt
             (λ (e : guarded_writing (line_ack P w) g x ≡ false). e)
 
     own_term : m ≢ returning → Follows (Decided P w.bit (guarded_writing (line_ack P w) g)) (root_left (line_ack P w) g) (root_left (line_ack P w) r.to)
-    own_term ne = here m r.mode g r.to r.way ne (follows_wider (ToldBy (wires_seen P w) (guarded_shown g).read) (Decided P w.bit (guarded_writing (line_ack P w) g))
+    own_term ne = here m r.mode g r.to r.way ne
+        (follows_wider (ToldBy (wires_seen P w) (guarded_shown g).read) (Decided P w.bit (guarded_writing (line_ack P w) g))
         told (guarded_left (line_ack P w) g) (guarded_left (line_ack P w) r.to) r.term)
       where
         here : (m n : Mode) (a : GuardedAt P.body m) (b : GuardedAt P.body n) → goes m n ≡ true → m ≢ returning

@@ -72,7 +72,8 @@ all_low_value n leaf node l b k = here (nat_lt k n)
     here true = l k
     here false = b (k - n)
 
-pub joint_quiet : (n : ℕ) (leaf node : ℕ → Bool) → ((i : ℕ) → leaf i ≡ false) → ((i : ℕ) → node i ≡ false) → (k : ℕ) → one_rule_fires (tree_rule n leaf node k) ≡ false
+pub joint_quiet : (n : ℕ) (leaf node : ℕ → Bool) → ((i : ℕ) → leaf i ≡ false) → ((i : ℕ) → node i ≡ false) → (k : ℕ) →
+    one_rule_fires (tree_rule n leaf node k) ≡ false
 joint_quiet n leaf node l b k = ap (λ z. if z then guard_holds (tree_value n leaf node) (tree_node n k).down else guard_holds (tree_value n leaf node)
     (tree_node n k).up) (b k) ∙ here (node_is n k)
   where

@@ -49,7 +49,7 @@ abbrev pub CellsCarry : TypedProgram → Type 0
 CellsCarry P = (script : List OfferValue) → IsScript P.channels script → (moves : ℕ) (x : Whole P.body)
     → Reaches P script moves x → IsCarried P script moves x
 
--- the circuit of each program carries it that is typed, meets the sharing rule and has no assignment which reads its own
--- target
+-- the circuit of each program carries it that is typed, meets the sharing rule and has no assignment which reads its
+-- own target
 abbrev pub CircuitsCarry : Type 0
 CircuitsCarry = (P : TypedProgram) → IsPlain P → CellsCarry P

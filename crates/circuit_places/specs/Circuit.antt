@@ -6,8 +6,22 @@ use Rattle.prs_core.specs.Nets.{NodeRules}
 use Rattle.prs_core.specs.Moves.{guard_holds}
 use Rattle.cell_parallel.specs.Trees.{tree_rules, tree_top}
 use Rattle.chp_base.specs.declared.span.Span.{Span}
-pub use Rattle.function_blocks.specs.Rails.{RailLevels, levels_of, side_of, Pairs, low_pairs, turned_side, turned_pairs, Rule,
-    rule_of, no_rule, turns, one_rule_fires, is_apart, same_bit}
+pub use Rattle.function_blocks.specs.Rails.{
+  RailLevels,
+  levels_of,
+  side_of,
+  Pairs,
+  low_pairs,
+  turned_side,
+  turned_pairs,
+  Rule,
+  rule_of,
+  no_rule,
+  turns,
+  one_rule_fires,
+  is_apart,
+  same_bit,
+}
 pub use Rattle.function_blocks.specs.Parts.{gate_count}
 pub use Rattle.circuit_places.specs.Heads.{Bits, low_bits}
 pub use Rattle.circuit_places.specs.Cores.{Core, Turning, OwnSpot, RoundSpot}

@@ -3,8 +3,8 @@ use Rattle.std.specs.Prelude.{ℕ, Bool, not, ◌&&◌, ◌||◌}
 use Rattle.function_blocks.specs.Rails.{Pairs, Rule, rule_of}
 use Rattle.circuit_places.specs.Heads.{Index, Bits, bit_of, some_bit, turned_bit, all_neutral, alone, over}
 
--- The core: the branches' answers joined, the guards' request, that a latch is up, the latches and the starts; the nodes of
--- the guards and of the branches.
+-- The core: the branches' answers joined, the guards' request, that a latch is up, the latches and the starts; the
+-- nodes of the guards and of the branches.
 pub record Core (n : ℕ) (G B : Type 0) : Type 0 where
   pub answer : Bool
   pub ask : Bool

@@ -6,9 +6,9 @@ use cell_parallel::tree_settles;
 use function_blocks::laws::expressions_hold;
 
 /// Law: the circuit of each program that is typed, meets the sharing rule and has no assignment which reads its own
-/// target carries it, under every script that fits and in whatever order the nodes switch. Each state that is reached is safe, the values that have passed there are those of a run of the
-/// program with as many steps as moves at most, and where no move is enabled that run goes no further and `done` is high
-/// exactly where it has ended.
+/// target carries it, under every script that fits and in whatever order the nodes switch. Each state that is reached
+/// is safe, the values that have passed there are those of a run of the program with as many steps as moves at most,
+/// and where no move is enabled that run goes no further and `done` is high exactly where it has ended.
 pub fn circuits_carry()
     ensures { CircuitsCarry }
 {

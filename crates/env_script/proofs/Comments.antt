@@ -36,8 +36,8 @@ more_at : (line : List ℕ) (k : ℕ) → k + 1 < length line → (get_or line k
 more_at line k within none so_far =
     let here : k < length line = omega arith in
     so_far ∙ ap (λ xs. take k line ++ xs) (none_at line k within none)
-        ∙ sym (append_assoc (take k line) (get_or line k 0 ∷ []) (uncommented (drop (k + 1) line)))
-        ∙ ap (λ xs. xs ++ uncommented (drop (k + 1) line)) (sym (take_more line k 0 here))
+    ∙ sym (append_assoc (take k line) (get_or line k 0 ∷ []) (uncommented (drop (k + 1) line)))
+    ∙ ap (λ xs. xs ++ uncommented (drop (k + 1) line)) (sym (take_more line k 0 here))
 
 pub no_comment : (line : List ℕ) (at : ℕ) → 1 ≤ at → at < length line → (get_or line (at - 1) 0 == 47 && get_or line at 0 == 47) ≡ false → SoFar line (at - 1) →
     SoFar line (at + 1 - 1)
@@ -45,7 +45,7 @@ no_comment line at some within none so_far =
     let same : at - 1 + 1 ≡ at = omega arith in
     let next : at + 1 - 1 ≡ at - 1 + 1 = omega arith in
     let none_here : (get_or line (at - 1) 0 == 47 && get_or line (at - 1 + 1) 0 == 47) ≡ false =
-        ap (λ i. get_or line (at - 1) 0 == 47 && get_or line i 0 == 47) same ∙ none in
+    ap (λ i. get_or line (at - 1) 0 == 47 && get_or line i 0 == 47) same ∙ none in
     rw next (more_at line (at - 1) (omega arith) none_here so_far)
 
 last_byte : (xs : List ℕ) → length xs ≤ 1 → uncommented xs ≡ xs
@@ -56,4 +56,4 @@ last_byte (x ∷ y ∷ xs) few = absurd (omega arith)
 pub no_more : (line : List ℕ) (at : ℕ) → length line ≤ at → SoFar line (at - 1) → line ≡ uncommented line
 no_more line at past so_far =
     sym (so_far ∙ ap (λ xs. take (at - 1) line ++ xs) (last_byte (drop (at - 1) line) (omega (arith, length-drop (at - 1) line)))
-        ∙ take-append-drop (at - 1) line)
+    ∙ take-append-drop (at - 1) line)

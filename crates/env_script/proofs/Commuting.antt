@@ -69,7 +69,7 @@ no_channel net v script done r low up c [] are = refl
 no_channel net v script done r low up c (w ∷ ws) are =
     let is : IsChannel net w = are 0 w (omega arith) in
     or_from _ _ (not_offered v w (script c) (done c) r low (low_at_first net r up w.rails is.rails_low)
-        (λ same. both_ways (first_at net r) (ap (first_at net) same ∙ is.ack_low) up))
+    (λ same. both_ways (first_at net r) (ap (first_at net) same ∙ is.ack_low) up))
     (no_channel net v script done r low up (suc c) ws (λ k d within. are (suc k) d (omega arith)))
 
 -- the reset node never rises
@@ -113,9 +113,9 @@ alone net script st r m is e up enabled apart =
     let reset = reset_node net is r e in
     let held : in_reset net.reset v ≡ true = ap (λ (o : Option ℕ). in_reset o v) e ∙ up in
     let rests : rules_rest net v ≡ true = falls (rule_enabled net v r) (in_reset net.reset v) (is_reset net.reset r) (rules_rest net v) (raises_go v r
-        || channels_move v (offer_at script) (completed st.histories) 0 net.channels r) (no_rule net v r reset.undriven.up reset.undriven.down) held enabled in
+    || channels_move v (offer_at script) (completed st.histories) 0 net.channels r) (no_rule net v r reset.undriven.up reset.undriven.down) held enabled in
     or_from _ _ (no_rule_rests net v m is rests)
-        (other (in_reset net.reset v) _ _ held (and_left _ _ (ap (λ (o : Option ℕ). is_reset o m) e ∙ ne_eqb m r apart)))
+    (other (in_reset net.reset v) _ _ held (and_left _ _ (ap (λ (o : Option ℕ). is_reset o m) e ∙ ne_eqb m r apart)))
   where
     falls : (a b x y z : Bool) → a ≡ false → b ≡ true → (a || (if b then x && y else z)) ≡ true → y ≡ true
     falls true b x y z off on enabled = absurd (cc off)
@@ -194,9 +194,9 @@ completes_kept v u w a b apart same keeps_a keeps_b agree = rw (eq-eqb a w.ack s
     by_value false is_low =
         let low : v w.ack ≡ false = ap v (sym same) ∙ is_low in
         let rises : ack_keeps v w.ack w.rails ≡ true =
-            told (a == w.ack) (ack_keeps v w.ack w.rails) (eq-eqb a w.ack same) (and_parts (rails_keep v w.ack w.rails a) _ keeps_a).1 in
+        told (a == w.ack) (ack_keeps v w.ack w.rails) (eq-eqb a w.ack same) (and_parts (rails_keep v w.ack w.rails a) _ keeps_a).1 in
         rails_still v u w.ack b w.rails low (and_parts (rails_keep v w.ack w.rails b) _ keeps_b).0
-            (when_low (v w.ack) (neutral v w.rails) (valid v w.rails) low rises) agree
+        (when_low (v w.ack) (neutral v w.rails) (valid v w.rails) low rises) agree
 
 one_channel : (v va vb : ℕ → Bool) (w : Wires) (a b : ℕ) (h : List ℕ) → a ≢ b → phases_keep v w a ≡ true → phases_keep v w b ≡ true →
     ((m : ℕ) → m ≢ a → va m ≡ v m) → ((m : ℕ) → m ≢ b → vb m ≡ v m) →
@@ -237,8 +237,10 @@ each_channel v va vb a b apart agree_a agree_b (w ∷ ws) [] none_a none_b = ref
 each_channel v va vb a b apart agree_a agree_b (w ∷ ws) (h ∷ hs) none_a none_b =
     let keep_a = keeps_each (λ (x : Wires). not (phases_keep v x a)) w ws none_a in
     let keep_b = keeps_each (λ (x : Wires). not (phases_keep v x b)) w ws none_b in
-    rw (one_channel v va vb w a b h apart (not-false _ keep_a.0) (not-false _ keep_b.0) agree_a agree_b,
-        each_channel v va vb a b apart agree_a agree_b ws hs keep_a.1 keep_b.1) refl
+    rw (
+      one_channel v va vb w a b h apart (not-false _ keep_a.0) (not-false _ keep_b.0) agree_a agree_b,
+      each_channel v va vb a b apart agree_a agree_b ws hs keep_a.1 keep_b.1,
+    ) refl
 
 -- in either order the two moves lead to one state
 pub commute : (net : NetValue) (script : List OfferValue) (st : RunState) (a b : ℕ) → IsNet net → a ≢ b → move_enabled net script st a ≡ true →
@@ -250,17 +252,17 @@ commute net script st a b is apart first second phases_a phases_b =
     let vb : ℕ → Bool = high (fired st.values b) in
     let back : b ≢ a = λ e. apart (sym e) in
     let held_a : in_reset net.reset va ≡ in_reset net.reset v =
-        in_reset_kept net.reset v va (λ r e. kept st.values a r (not_reset net script st a b is apart first second r e)) in
+    in_reset_kept net.reset v va (λ r e. kept st.values a r (not_reset net script st a b is apart first second r e)) in
     let held_b : in_reset net.reset vb ≡ in_reset net.reset v =
-        in_reset_kept net.reset v vb (λ r e. kept st.values b r (not_reset net script st b a is back second first r e)) in
+    in_reset_kept net.reset v vb (λ r e. kept st.values b r (not_reset net script st b a is back second first r e)) in
     let values : fired (fired st.values a) b ≡ fired (fired st.values b) a = fired_both st.values a b apart in
     let meet : in_reset net.reset v ≡ false →
-        with_values va b net.channels (with_values v a net.channels st.histories) ≡ with_values vb a net.channels (with_values v b net.channels st.histories) =
-        λ free. each_channel v va vb a b apart (kept st.values a) (kept st.values b) net.channels st.histories (sym (freed (in_reset net.reset v) _ free)
-        ∙ phases_a) (sym (freed (in_reset net.reset v) _ free) ∙ phases_b) in
+    with_values va b net.channels (with_values v a net.channels st.histories) ≡ with_values vb a net.channels (with_values v b net.channels st.histories) =
+    λ free. each_channel v va vb a b apart (kept st.values a) (kept st.values b) net.channels st.histories (sym (freed (in_reset net.reset v) _ free)
+    ∙ phases_a) (sym (freed (in_reset net.reset v) _ free) ∙ phases_b) in
     let histories : histories_after net (moved net st a) b ≡ histories_after net (moved net st b) a =
-        by_reset (in_reset net.reset v) (in_reset net.reset va) (in_reset net.reset vb) held_a held_b (with_values va b net.channels)
-        (with_values vb a net.channels) st.histories (with_values v a net.channels st.histories) (with_values v b net.channels st.histories) meet in
+    by_reset (in_reset net.reset v) (in_reset net.reset va) (in_reset net.reset vb) held_a held_b (with_values va b net.channels)
+    (with_values vb a net.channels) st.histories (with_values v a net.channels st.histories) (with_values v b net.channels st.histories) meet in
     cc
   where
     freed : (t : Bool) (p : Option ℕ) → t ≡ false → (if t then None else p) ≡ p

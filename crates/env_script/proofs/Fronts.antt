@@ -56,7 +56,7 @@ bring_front net script is a (b ∷ ns) st all enabled run rests =
         let one = safe_move net script st a all enabled in
         let two = safe_move net script st b all run.0 in
         let meet : moved net (moved net st a) b ≡ moved net (moved net st b) a =
-            commute net script st a b is (λ e. apart (sym e)) enabled run.0 one.phases two.phases in
+        commute net script st a b is (λ e. apart (sym e)) enabled run.0 one.phases two.phases in
         record {
           rest = b ∷ more.rest;
           run = (one.stable b apart run.0, subst (λ (s : RunState). IsRun net script s more.rest) (sym meet) more.run);

@@ -38,7 +38,7 @@ self_named [] distinct k d within = absurd (omega arith)
 self_named (c ∷ cs) distinct zero d within = rw (same c.name c.name refl) refl
 self_named (c ∷ cs) distinct (suc k) d within =
     rw (differ c.name (get_or cs k d).name (distinct 0 (suc k) d (omega arith) within))
-        (self_named cs (λ i j e less in_range. distinct (suc i) (suc j) e (omega arith) (omega arith)) k d (omega arith))
+    (self_named cs (λ i j e less in_range. distinct (suc i) (suc j) e (omega arith) (omega arith)) k d (omega arith))
 
 said_fits : (channels : List Channel) (ls : List Line) → All (IsLineOf channels) ls → (name : List ℕ) (said : Said) (c : Channel) →
     said_of ls name ≡ Some said → channel_named channels name ≡ Some c → fits c.kind c.width said ≡ true
@@ -60,13 +60,14 @@ said_fits channels (l ∷ ls) each name said c found named =
 script_part : (cs : List Channel) (ls : List Line) → ((k : ℕ) (d : Channel) (said : Said) → k < length cs → said_of ls (get_or cs k d).name ≡ Some said →
     fits (get_or cs k d).kind (get_or cs k d).width said ≡ true) → IsScript cs (script_of cs ls)
 script_part [] ls fitting = tt
-script_part (c ∷ cs) ls fitting =
-    (offer_suits c.kind c.width (said_of ls c.name) (λ said found. fitting 0 c said (omega arith) found),
-        script_part cs ls (λ k d said within found. fitting (suc k) d said (omega arith) found))
+script_part (c ∷ cs) ls fitting = (
+  offer_suits c.kind c.width (said_of ls c.name) (λ said found. fitting 0 c said (omega arith) found),
+  script_part cs ls (λ k d said within found. fitting (suc k) d said (omega arith) found),
+)
 
 pub is_script : (channels : List Channel) (ls : List Line) (script : List OfferValue) → AreDistinct channels → IsGood channels ls →
     script ≡ script_of channels ls → IsScript channels script
 is_script channels ls script distinct good made =
     subst (λ (s : List OfferValue). IsScript channels s) (sym made)
-        (script_part channels ls (λ k d said within found. said_fits channels ls good.each (get_or channels k d).name said (get_or channels k d) found
-        (self_named channels distinct k d within)))
+    (script_part channels ls (λ k d said within found. said_fits channels ls good.each (get_or channels k d).name said (get_or channels k d) found
+    (self_named channels distinct k d within)))

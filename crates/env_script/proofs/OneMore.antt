@@ -38,7 +38,7 @@ map_set {X} f g (b ∷ bs) zero c y within is here others =
 map_set {X} f g (b ∷ bs) (suc k) c y within is here others =
     let head : g b ≡ f b = others 0 b (omega arith) (omega arith) in
     let tail : map g bs ≡ set (map f bs) k y =
-        map_set f g bs k c y (omega arith) is here (λ j d in_range apart. others (suc j) d (omega arith) (λ e. apart (omega arith))) in
+    map_set f g bs k c y (omega arith) is here (λ j d in_range apart. others (suc j) d (omega arith) (λ e. apart (omega arith))) in
     ap (λ (x : X). x ∷ map g bs) head ∙ ap (λ (xs : List X). f b ∷ xs) tail
 
 -- what is said of a name behind one more line
@@ -81,10 +81,10 @@ pub script_more : (channels : List Channel) (ls : List Line) (l : Line) (k : ℕ
     is_told ls l.name ≡ false → script_of channels (ls ++ l ∷ []) ≡ set (script_of channels ls) k (offer_of c.kind (Some l.said))
 script_more channels ls l k c distinct here fresh =
     map_set (λ (x : Channel). offer_of x.kind (said_of ls x.name)) (λ (x : Channel). offer_of x.kind (said_of (ls ++ l ∷ []) x.name)) channels k c
-        (offer_of c.kind (Some l.said)) here.within here.is
+    (offer_of c.kind (Some l.said)) here.within here.is
     (ap (offer_of c.kind) (ap (said_of (ls ++ l ∷ [])) here.named ∙ said_more ls l fresh))
     (λ j d within apart. ap (offer_of (get_or channels j d).kind)
-        (said_other ls l (get_or channels j d).name (others_named channels l.name k c distinct here j d within apart)))
+    (said_other ls l (get_or channels j d).name (others_named channels l.name k c distinct here j d within apart)))
 
 pub flags_more : (channels : List Channel) (ls : List Line) (l : Line) (k : ℕ) (c : Channel) → AreDistinct channels → IsPlace channels l.name k c →
     map (λ (x : Channel). is_told (ls ++ l ∷ []) x.name) channels ≡ set (map (λ (x : Channel). is_told ls x.name) channels) k true
@@ -98,4 +98,4 @@ pub flag_at : (channels : List Channel) (ls : List Line) (told : List Bool) (nam
     told ≡ map (λ (x : Channel). is_told ls x.name) channels → IsPlace channels name k c → told_at told k ≡ is_told ls name
 flag_at channels ls told name k c is here =
     ap (λ (bs : List Bool). told_at bs k) is ∙ get_or-map (λ (x : Channel). is_told ls x.name) channels k c false here.within
-        ∙ ap (λ (x : Channel). is_told ls x.name) (here.is c) ∙ ap (is_told ls) here.named
+    ∙ ap (λ (x : Channel). is_told ls x.name) (here.is c) ∙ ap (is_told ls) here.named

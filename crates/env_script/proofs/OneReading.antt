@@ -102,7 +102,7 @@ not_told : (fs : List Line) (name : List ℕ) → ((k : ℕ) (d : Line) → k < 
 not_told [] name apart = refl
 not_told (f ∷ fs) name apart =
     or_from (bytes_eq f.name name) (is_told fs name) (differ f.name name (apart 0 f (omega arith)))
-        (not_told fs name (λ k d within. apart (suc k) d (omega arith)))
+    (not_told fs name (λ k d within. apart (suc k) d (omega arith)))
 
 at_end : {X : Type 0} (fs : List X) (l : X) (rest : List X) (d : X) → get_or (fs ++ l ∷ rest) (length fs) d ≡ l
 at_end [] l rest d = refl
@@ -127,16 +127,16 @@ faultless channels fs l rest good =
     let here : IsLineOf channels l = subst (IsLineOf channels) (at_end fs l rest l) (good.each (length fs) l (long_enough fs l rest)) in
     let c : Channel = here.channel in
     let fresh : is_told fs l.name ≡ false = not_told fs l.name
-        (λ k d within same. good.once k (length fs) d within (long_enough fs l rest) (ap (λ (m : Line). m.name) (in_front fs (l ∷ rest) k d within) ∙ same
-        ∙ ap (λ (m : Line). m.name) (sym (at_end fs l rest d)))) in
+    (λ k d within same. good.once k (length fs) d within (long_enough fs l rest) (ap (λ (m : Line). m.name) (in_front fs (l ∷ rest) k d within) ∙ same
+    ∙ ap (λ (m : Line). m.name) (sym (at_end fs l rest d)))) in
     let value : Line → ℕ = λ m. values_on (channel_named channels m.name) m.said in
     let parts : values_told channels (fs ++ l ∷ rest) ≡ values_told channels fs + values_told channels (l ∷ rest) =
-        sum_by-append (λ (m : Line). values_on (channel_named channels m.name) m.said) fs (l ∷ rest) in
+    sum_by-append (λ (m : Line). values_on (channel_named channels m.name) m.said) fs (l ∷ rest) in
     let first : values_told channels (l ∷ rest) ≡ values_on (channel_named channels l.name) l.said + values_told channels rest =
-        sum_by-cons (λ (m : Line). values_on (channel_named channels m.name) m.said) l rest in
+    sum_by-cons (λ (m : Line). values_on (channel_named channels m.name) m.said) l rest in
     let own : values_on (channel_named channels l.name) l.said ≡ values_in c.kind l.said = ap (λ (o : Option Channel). values_on o l.said) here.named in
     ap (λ (o : Option Channel). fault_at o (is_told fs l.name) (values_told channels fs) l.said) here.named
-        ∙ no_fault c (is_told fs l.name) (values_told channels fs) l.said fresh here.suited here.fitting (omega (arith, good.few))
+    ∙ no_fault c (is_told fs l.name) (values_told channels fs) l.said fresh here.suited here.fitting (omega (arith, good.few))
 
 -- Lines of a text in front of a line.
 
@@ -179,7 +179,8 @@ no_fault_at channels fs words wss (l ∷ back) fault good all (of_line m says is
     let none : line_fault channels fs m ≡ None = ap (line_fault channels fs) one ∙ faultless channels fs l back good in
     absurd (cc (is, none))
 
-fault_some : (channels : List Channel) (fs : List Line) (words : List (List ℕ)) (fault : ScriptFault) → ScriptLineFault channels fs words fault → 0 < length words
+fault_some : (channels : List Channel) (fs : List Line) (words : List (List ℕ)) (fault : ScriptFault) → ScriptLineFault channels fs words fault →
+    0 < length words
 fault_some channels fs words fault (bad_line some none) = some
 fault_some channels fs words fault (of_line l says is) = says_some words l says
 
@@ -189,7 +190,7 @@ no_fault_within : (channels : List Channel) (lines : List (List ℕ)) (ls : List
     ScriptLineFault channels fs (words_of here) fault → ⊥
 no_fault_within channels lines ls before here behind fs fault told parts front fault_here =
     let cut : worded lines ≡ worded before ++ (words_of here ∷ worded behind) = ap worded parts ∙ worded_parts before here behind
-        ∙ ap (λ (v : List (List (List ℕ))). worded before ++ v) (worded_here here behind (fault_some channels fs (words_of here) fault fault_here)) in
+    ∙ ap (λ (v : List (List (List ℕ))). worded before ++ v) (worded_here here behind (fault_some channels fs (words_of here) fault fault_here)) in
     let two = parted (worded before) (words_of here ∷ worded behind) ls (subst (λ (v : List (List (List ℕ))). AllZip LineSays v ls) cut told.says) in
     let one : two.front ≡ fs = lines_once (worded before) two.front fs two.fronts front.says in
     let good : IsGood channels (fs ++ two.back) = subst (IsGood channels) (two.whole ∙ ap (λ (v : List Line). v ++ two.back) one) told.good in
@@ -199,7 +200,7 @@ pub no_script : (channels : List Channel) (text : List ℕ) (s : List OfferValue
     IsScriptText channels text s → ⊥
 no_script channels text s fault line refused is =
     no_fault_within channels (lines_of text) is.lines refused.before refused.here refused.behind refused.lines fault is.told refused.parts refused.told
-        refused.fault_here
+    refused.fault_here
 
 -- Two refusals are one.
 
@@ -243,7 +244,8 @@ same_front (b ∷ before) here behind (o ∷ others) there rest same count =
     let more = same_front before here behind others there rest tail (omega arith) in
     record { fronts = ap (λ (x : List ℕ). x ∷ before) head ∙ ap (λ (xs : List (List ℕ)). o ∷ xs) more.fronts; heres = more.heres }
 
-pub one_refusal : (channels : List Channel) (text : List ℕ) (f g : ScriptFault) (n m : ℕ) → IsScriptRefused channels text f n → IsScriptRefused channels text g m →
+pub one_refusal : (channels : List Channel) (text : List ℕ) (f g : ScriptFault) (n m : ℕ) → IsScriptRefused channels text f n →
+    IsScriptRefused channels text g m →
     (f ≡ g) × (n ≡ m)
 one_refusal channels text f g n m one two = by_order (cases_order (length one.before) (length two.before))
   where
@@ -256,8 +258,8 @@ one_refusal channels text f g n m one two = by_order (cases_order (length one.be
         let told : IsTold channels two.before one.lines = subst (λ (v : List (List ℕ)). IsTold channels v one.lines) front.fronts one.told in
         let lines : one.lines ≡ two.lines = lines_once (worded two.before) one.lines two.lines told.says two.told.says in
         let moved : ScriptLineFault channels two.lines (words_of two.here) f =
-            subst (λ (v : List ℕ). ScriptLineFault channels two.lines (words_of v) f) front.heres
-            (subst (λ (ls : List Line). ScriptLineFault channels ls (words_of one.here) f) lines one.fault_here) in
+        subst (λ (v : List ℕ). ScriptLineFault channels two.lines (words_of v) f) front.heres
+        (subst (λ (ls : List Line). ScriptLineFault channels ls (words_of one.here) f) lines one.fault_here) in
         (fault_once channels two.lines (words_of two.here) f g moved two.fault_here, omega (arith, one.number, two.number))
     by_order (inr (inl less)) =
         let more = longer one.before one.here one.behind two.before two.here two.behind same less in

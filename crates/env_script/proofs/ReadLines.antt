@@ -64,10 +64,14 @@ skipped : (channels : List Channel) (ws : List (List ℕ)) (line : List ℕ) (ls
     IsReadSoFar channels ws ls offers told values → words_of line ≡ [] → IsReadSoFar channels (ws ++ line ∷ []) ls offers told values
 skipped channels ws line ls offers told values so_far none =
     let still : filter is_some_line (map words_of (ws ++ line ∷ [])) ≡ filter is_some_line (map words_of ws) =
-        lines_more ws line ∙ ap (λ (vs : List (List (List ℕ))). filter is_some_line (map words_of ws) ++ vs) (no_line (words_of line) none)
-        ∙ append-none (filter is_some_line (map words_of ws)) in
+    lines_more ws line ∙ ap (λ (vs : List (List (List ℕ))). filter is_some_line (map words_of ws) ++ vs) (no_line (words_of line) none)
+    ∙ append-none (filter is_some_line (map words_of ws)) in
     record {
-      lines_told = record { says = subst (λ (vs : List (List (List ℕ))). AllZip LineSays vs ls) (sym still) so_far.lines_told.says; good = so_far.lines_told.good };
+      lines_told = record {
+        says = subst (λ (vs : List (List (List ℕ))). AllZip LineSays vs ls) (sym still) so_far.lines_told.says;
+        good =
+            so_far.lines_told.good;
+      };
       made = so_far.made;
       flags = so_far.flags;
       count = so_far.count;
@@ -110,20 +114,24 @@ taken channels ws line ls offers told values t distinct so_far step =
     let is_free : IsFree c (told_at told t.place) values l.said = free c (told_at told t.place) values l.said step.faultless in
     let fresh : is_told ls l.name ≡ false = sym flag ∙ is_free.first_one in
     let more_lines : filter is_some_line (map words_of (ws ++ line ∷ [])) ≡ filter is_some_line (map words_of ws) ++ words_of line ∷ [] =
-        lines_more ws line ∙ ap (λ (vs : List (List (List ℕ))). filter is_some_line (map words_of ws) ++ vs)
-        (one_line (words_of line) _ step.says.behind step.says.spelled) in
+    lines_more ws line ∙ ap (λ (vs : List (List (List ℕ))). filter is_some_line (map words_of ws) ++ vs)
+    (one_line (words_of line) _ step.says.behind step.says.spelled) in
     let count : values_told channels (ls ++ l ∷ []) ≡ values_told channels ls + values_on (channel_named channels l.name) l.said =
-        sum_by_push (λ (m : Line). values_on (channel_named channels m.name) m.said) ls l in
-    let here : values_on (channel_named channels l.name) l.said ≡ values_in c.kind l.said = ap (λ (o : Option Channel). values_on o l.said) step.place.found in
-        (
+    sum_by_push (λ (m : Line). values_on (channel_named channels m.name) m.said) ls l in
+    let here : values_on (channel_named channels l.name) l.said ≡ values_in c.kind l.said =
+    ap (λ (o : Option Channel). values_on o l.said) step.place.found in (
       ls ++ l ∷ [],
       record {
         lines_told = record {
           says = subst (λ (vs : List (List (List ℕ))). AllZip LineSays vs (ls ++ l ∷ [])) (sym more_lines)
               (says_push (filter is_some_line (map words_of ws)) ls (words_of line) l so_far.lines_told.says step.says);
           good = record {
-            each = All-push (IsLineOf channels) ls l so_far.lines_told.good.each (record { channel = c; named = step.place.found; suited = is_free.suited;
-                fitting = is_free.fitting });
+            each = All-push (IsLineOf channels) ls l so_far.lines_told.good.each (record {
+              channel = c;
+              named = step.place.found;
+              suited = is_free.suited;
+              fitting = is_free.fitting;
+            });
             once = all_pairs_push (λ (a b : Line). a.name ≢ b.name) ls l so_far.lines_told.good.once (fresh_each ls l.name fresh);
             few = omega (arith, count, here, is_free.few, so_far.count);
           };
@@ -156,8 +164,8 @@ fault_is channels ws ls offers told values words fault so_far (of_nothing l says
 fault_is channels ws ls offers told values words fault so_far (of_channel l c place says here is) =
     let flag : told_at told place ≡ is_told ls l.name = flag_at channels ls told l.name place c so_far.flags here in
     of_line l says (ap (λ (o : Option Channel). fault_at o (is_told ls l.name) (values_told channels ls) l.said) here.found
-        ∙ ap (λ (b : Bool). fault_on c b (values_told channels ls) l.said) (sym flag)
-        ∙ ap (λ (n : ℕ). fault_on c (told_at told place) n l.said) (sym so_far.count) ∙ is)
+    ∙ ap (λ (b : Bool). fault_on c b (values_told channels ls) l.said) (sym flag)
+    ∙ ap (λ (n : ℕ). fault_on c (told_at told place) n l.said) (sym so_far.count) ∙ is)
 
 texts_append : (vs ws : Words) → texts (vs ++ ws) ≡ texts vs ++ texts ws
 texts_append vs ws = map-append (λ (word : Bor (List ℕ)). word.now) vs ws
@@ -170,7 +178,7 @@ texts_parts : (lines : Words) (at : ℕ) (d : Bor (List ℕ)) → at < length li
     ∷ texts (drop (at + 1) lines)
 texts_parts lines at d within =
     ap texts (sym (take-append-drop at lines)) ∙ texts_append (take at lines) (drop at lines)
-        ∙ ap (λ (ws : Words). texts (take at lines) ++ texts ws) (drop_more lines at d within)
+    ∙ ap (λ (ws : Words). texts (take at lines) ++ texts ws) (drop_more lines at d within)
 
 -- what was read of the lines before this place
 abbrev IsReadTo : List Channel → Words → ℕ → List OfferValue → List Bool → ℕ → Type 0
@@ -182,7 +190,7 @@ pub refused_at : (channels : List Channel) (text : List ℕ) (lines : Words) (at
 refused_at channels text lines at d offers told flags values fault cut within so_far same step =
     let line : List ℕ = (get_or lines at d).now in
     let here : StepFault channels told values (words_of line) fault =
-        subst (λ (bs : List Bool). StepFault channels bs values (words_of line) fault) same step in
+    subst (λ (bs : List Bool). StepFault channels bs values (words_of line) fault) same step in
     record {
       before = texts (take at lines);
       here = line;

@@ -30,7 +30,7 @@ pub numbers_more : (words : Words) (i : ℕ) (d : Bor (List ℕ)) (ns : List ℕ
     IsNumber (get_or words i d).now n → AllZip IsNumber (texts (take (i + 1) words)) (ns ++ n ∷ [])
 numbers_more words i d ns n within all is =
     let more : texts (take (i + 1) words) ≡ texts (take i words) ++ (get_or words i d).now ∷ [] =
-        ap texts (take_more words i d within) ∙ texts_append (take i words) (get_or words i d ∷ []) in
+    ap texts (take_more words i d within) ∙ texts_append (take i words) (get_or words i d ∷ []) in
     subst (λ (ws : List (List ℕ)). AllZip IsNumber ws (ns ++ n ∷ [])) (sym more) (zip_push (texts (take i words)) ns (get_or words i d).now n all is)
 
 pub no_numbers : (words : Words) (i : ℕ) (d : Bor (List ℕ)) → i < length words → ((n : ℕ) → IsNumber (get_or words i d).now n → ⊥) → (ns : List ℕ) →

@@ -56,9 +56,10 @@ apart_from ack (w ∷ ws) apart = (ne_eqb ack w.ack (apart 0 w (omega arith)), a
 all_apart : (ws : List Wires) → ((i j : ℕ) (d : Wires) → i < j → j < length ws → (get_or ws i d).ack ≢ (get_or ws j d).ack) → IsDistinct eqb (acks ws)
 unfolding acks IsDistinct
 all_apart [] apart = tt
-all_apart (w ∷ ws) apart =
-    (apart_from w.ack ws (λ k d within. apart 0 (suc k) d (omega arith) (omega arith)),
-        all_apart ws (λ i j d less within. apart (suc i) (suc j) d (omega arith) (omega arith)))
+all_apart (w ∷ ws) apart = (
+  apart_from w.ack ws (λ k d within. apart 0 (suc k) d (omega arith) (omega arith)),
+  all_apart ws (λ i j d less within. apart (suc i) (suc j) d (omega arith) (omega arith)),
+)
 
 all_under : (count : ℕ) (ws : List Wires) → ((k : ℕ) (d : Wires) → k < length ws → (get_or ws k d).ack < count) → (q : ℕ) → list_any (eqb q) (acks ws) ≡ true →
     q < count
@@ -66,7 +67,7 @@ unfolding acks
 all_under count [] under q among = absurd (cc among)
 all_under count (w ∷ ws) under q among =
     ⊎_elim (λ e. let same = eqb-true q w.ack e in let here = under 0 w (omega arith) in
-        omega arith) (λ e. all_under count ws (λ k d within. under (suc k) d (omega arith)) q e) (or_cases _ _ among)
+    omega arith) (λ e. all_under count ws (λ k d within. under (suc k) d (omega arith)) q e) (or_cases _ _ among)
 
 count_acks : (ws : List Wires) → length (acks ws) ≡ length ws
 unfolding acks
@@ -75,7 +76,7 @@ count_acks ws = length-map ws (λ (w : Wires). w.ack)
 pub few_channels : (net : NetValue) → IsNet net → length net.channels ≤ length net.first
 few_channels net is =
     let most = length-le_from_distinct_below (acks net.channels) (length net.first) (all_apart net.channels (different_acks net is))
-        (all_under (length net.first) net.channels (λ k d within. (is.channels k d within).ack_within)) in
+    (all_under (length net.first) net.channels (λ k d within. (is.channels k d within).ack_within)) in
     omega (arith, count_acks net.channels)
 
 placed : (p : Wires → Bool) (k : ℕ) (ws : List Wires) → position p ws ≡ Some k → k < length ws

@@ -83,4 +83,4 @@ raises_go v n = (n == 0) && not (v 0)
 abbrev pub env_enabled : NetValue → List OfferValue → (ℕ → ℕ) → (ℕ → Bool) → ℕ → Bool
 env_enabled net script done v n =
     if in_reset net.reset v then is_reset net.reset n && rules_rest net v else raises_go v n
-        || channels_move v (offer_at script) done 0 net.channels n
+    || channels_move v (offer_at script) done 0 net.channels n

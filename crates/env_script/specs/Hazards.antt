@@ -31,5 +31,5 @@ first_hazard net st = option_map BothWays (least_below (length net.first) (both_
 abbrev pub hazard_of : NetValue → List OfferValue → RunState → ℕ → Option Hazard
 hazard_of net script st n =
     or_else (first_hazard net (moved net st n))
-        (or_else (option_map Unstable (least_below (length net.first) (takes_away net script st n)))
-        (option_map Protocol (phase_fault net (high st.values) n)))
+    (or_else (option_map Unstable (least_below (length net.first) (takes_away net script st n)))
+    (option_map Protocol (phase_fault net (high st.values) n)))

@@ -33,14 +33,14 @@ pub data StepFault (channels : List Channel) (told : List Bool) (values : ℕ) (
 
 -- the words are a line without a fault, and this is what it changes
 pub record IsStep (channels : List Channel) (told : List Bool) (values : ℕ) (words : List (List ℕ)) (t : Taken) : Type 0
-    where
-  pub line : Line
-  pub channel : Channel
-  pub says : LineSays words line
-  pub place : IsPlace channels line.name t.place channel
-  pub faultless : fault_on channel (told_at told t.place) values line.said ≡ None
-  pub offer : offered t.offer ≡ offer_of channel.kind (Some line.said)
-  pub count : t.values ≡ values_in channel.kind line.said
+  where
+    pub line : Line
+    pub channel : Channel
+    pub says : LineSays words line
+    pub place : IsPlace channels line.name t.place channel
+    pub faultless : fault_on channel (told_at told t.place) values line.said ≡ None
+    pub offer : offered t.offer ≡ offer_of channel.kind (Some line.said)
+    pub count : t.values ≡ values_in channel.kind line.said
 
 abbrev pub IsStepOf : List Channel → List Bool → ℕ → List (List ℕ) → Step → Type 0
 IsStepOf channels told values words Skip = words ≡ []

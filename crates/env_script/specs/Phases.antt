@@ -5,7 +5,8 @@ use Rattle.prs_core.specs.Nets.{NetValue}
 use Rattle.prs_core.specs.Moves.{neutral}
 use Rattle.env_script.specs.Environment.{in_reset, valid}
 
--- a rail rises only where the acknowledge and the bit's other rail are low, and falls only where the acknowledge is high
+-- a rail rises only where the acknowledge and the bit's other rail are low, and falls only where the acknowledge is
+-- high
 abbrev pub rail_keeps : (ℕ → Bool) → (ack rail other : ℕ) → Bool
 rail_keeps v ack rail other = if v rail then v ack else not (v ack) && not (v other)
 

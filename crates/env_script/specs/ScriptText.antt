@@ -133,7 +133,8 @@ abbrev pub line_fault : List Channel → List Line → Line → Option ScriptFau
 line_fault channels before l = fault_at (channel_named channels l.name) (is_told before l.name)
     (values_told channels before) l.said
 
-pub data ScriptLineFault (channels : List Channel) (before : List Line) (words : List (List ℕ)) : ScriptFault → Type 0 where
+pub data ScriptLineFault (channels : List Channel) (before : List Line) (words : List (List ℕ)) : ScriptFault →
+    Type 0 where
   bad_line : 0 < length words → ((l : Line) → ¬ LineSays words l) → ScriptLineFault channels before words BadLine
   of_line : (l : Line) {fault : ScriptFault} → LineSays words l → line_fault channels before l ≡ Some fault →
       ScriptLineFault channels before words fault

@@ -405,7 +405,8 @@ module _ (bits : ℕ → List nodes.Pair) (e : Formula) (request from : ℕ) (ap
   -- no gate moves where a request may
   asks_quiet : (v : ℕ → Bool) → Holds v → may_ask v ≡ true → (k : ℕ) (one : Bool) → rule_fires v k one ≡ false
   asks_quiet v h may k one = cases (v request)
-      (λ z. ap (λ b. one_rule_fires (gate_rule e (now v) b (at v) k one)) z ∙ known.quiet_full (now v) (at v) h.0 (good_at v true z h.1) (asks_full v z may) k one)
+      (λ z. ap (λ b. one_rule_fires (gate_rule e (now v) b (at v) k one)) z ∙ known.quiet_full (now v) (at v) h.0 (good_at v true z h.1) (asks_full v z may) k
+      one)
       (λ z. let low = known.inner_empty (now v) (at v) (good_at v false z h.1) (asks_low v z may).0 in
       ap (λ b. one_rule_fires (gate_rule e (now v) b (at v) k one)) z ∙ (ap (λ (u : Pairs n). one_rule_fires (gate_rule e (now v) false u k one)) low
       ∙ known.quiet_low (now v) k one))

@@ -30,11 +30,13 @@ there_in r look bits (g ∷ gs) (suc n) u (suc k) b m = let e : k < n = there_in
 
 module _ (r : Bool) (look : ℕ → RailLevels) (bits : ℕ → Rails) (s : (k : ℕ) → single (look k) ≡ true) (x : Single bits) where
   -- a move at one place, the inputs as before
-  own_in : (gs : List BlockPart) (n : ℕ) (u : Pairs n) (k : ℕ) (b : Bool) → all_fit r look bits gs n u ≡ true → one_rule_fires (rule_among r look bits gs n u k b) ≡ true
+  own_in : (gs : List BlockPart) (n : ℕ) (u : Pairs n) (k : ℕ) (b : Bool) → all_fit r look bits gs n u ≡ true →
+      one_rule_fires (rule_among r look bits gs n u k b) ≡ true
       → all_fit r look bits gs n (turned_pairs n u k b) ≡ true
   own_in [] n u k b h m = absurd (cc m)
   own_in (g ∷ gs) zero u k b h m = absurd (cc m)
-  own_in (g ∷ gs) (suc n) u zero b h m = both_of _ _ (left_of _ _ (own_one r look bits g b u.0 s x (left_of _ _ h) m)) (right_of (levels_fit r look bits g u.0) _ h)
+  own_in (g ∷ gs) (suc n) u zero b h m = both_of _ _ (left_of _ _ (own_one r look bits g b u.0 s x (left_of _ _ h) m))
+      (right_of (levels_fit r look bits g u.0) _ h)
   own_in (g ∷ gs) (suc n) u (suc k) b h m = both_of _ _ (left_of _ _ h) (own_in gs n u.1 k b (right_of (levels_fit r look bits g u.0) _ h) m)
 
   pub grows_in : (gs : List BlockPart) (n : ℕ) (u : Pairs n) (k : ℕ) (b : Bool) → all_fit r look bits gs n u ≡ true
@@ -46,7 +48,8 @@ module _ (r : Bool) (look : ℕ → RailLevels) (bits : ℕ → Rails) (s : (k :
   grows_in (g ∷ gs) (suc n) u (suc k) b h m zero = grows_self r u.0
   grows_in (g ∷ gs) (suc n) u (suc k) b h m (suc j) = grows_in gs n u.1 k b (right_of (levels_fit r look bits g u.0) _ h) m j
 
-  law_in : (gs : List BlockPart) (n : ℕ) (u : Pairs n) (k : ℕ) (b : Bool) → all_fit r look bits gs n u ≡ true → one_rule_fires (rule_among r look bits gs n u k b) ≡ true
+  law_in : (gs : List BlockPart) (n : ℕ) (u : Pairs n) (k : ℕ) (b : Bool) → all_fit r look bits gs n u ≡ true →
+      one_rule_fires (rule_among r look bits gs n u k b) ≡ true
       → (if side_of (pair_in n u k) b then not r else (r && not (side_of (pair_in n u k) (not b)))) ≡ true
   law_in [] n u k b h m = absurd (cc m)
   law_in (g ∷ gs) zero u k b h m = absurd (cc m)
@@ -80,7 +83,8 @@ module _ (r : Bool) (look see : ℕ → RailLevels) (bits : ℕ → Rails) (w : 
   wire_in (g ∷ gs) zero u h = h
   wire_in (g ∷ gs) (suc n) u h = both_of _ _ (wire_one r look see bits g u.0 w (left_of _ _ h)) (wire_in gs n u.1 (right_of (levels_fit r look bits g u.0) _ h))
 
-  firm_in : ((k : ℕ) → single (look k) ≡ true) → Single bits → (gs : List BlockPart) (n : ℕ) (u : Pairs n) (k : ℕ) (b : Bool) → all_fit r look bits gs n u ≡ true
+  firm_in : ((k : ℕ) → single (look k) ≡ true) → Single bits → (gs : List BlockPart) (n : ℕ) (u : Pairs n) (k : ℕ) (b : Bool) →
+      all_fit r look bits gs n u ≡ true
       → one_rule_fires (rule_among r look bits gs n u k b) ≡ true → one_rule_fires (rule_among r see bits gs n u k b) ≡ true
   firm_in s x [] n u k b h m = absurd (cc m)
   firm_in s x (g ∷ gs) zero u k b h m = absurd (cc m)
@@ -88,7 +92,8 @@ module _ (r : Bool) (look see : ℕ → RailLevels) (bits : ℕ → Rails) (w : 
   firm_in s x (g ∷ gs) (suc n) u (suc k) b h m = firm_in s x gs n u.1 k b (right_of (levels_fit r look bits g u.0) _ h) m
 
 -- each gate's move keeps what holds
-pub own_all : (r : Bool) (bits : ℕ → Rails) (gs : List BlockPart) (n : ℕ) (u : Pairs n) (k : ℕ) (b : Bool) → Single bits → all_fit r (pair_in n u) bits gs n u ≡ true
+pub own_all : (r : Bool) (bits : ℕ → Rails) (gs : List BlockPart) (n : ℕ) (u : Pairs n) (k : ℕ) (b : Bool) → Single bits →
+    all_fit r (pair_in n u) bits gs n u ≡ true
     → one_rule_fires (rule_among r (pair_in n u) bits gs n u k b) ≡ true → all_fit r (pair_in n (turned_pairs n u k b)) bits gs n (turned_pairs n u k b) ≡ true
 own_all r bits gs n u k b x h m =
     let s = singles r (pair_in n u) bits gs n u h in
@@ -100,7 +105,8 @@ pub grows_all : (r : Bool) (bits : ℕ → Rails) (gs : List BlockPart) (n : ℕ
     → grows r (pair_in n u j) (pair_in n (turned_pairs n u k b) j) ≡ true
 grows_all r bits gs n u k b x h m = grows_in r (pair_in n u) bits (singles r (pair_in n u) bits gs n u h) x gs n u k b h m
 
-pub law_all : (r : Bool) (bits : ℕ → Rails) (gs : List BlockPart) (n : ℕ) (u : Pairs n) (k : ℕ) (b : Bool) → Single bits → all_fit r (pair_in n u) bits gs n u ≡ true
+pub law_all : (r : Bool) (bits : ℕ → Rails) (gs : List BlockPart) (n : ℕ) (u : Pairs n) (k : ℕ) (b : Bool) → Single bits →
+    all_fit r (pair_in n u) bits gs n u ≡ true
     → one_rule_fires (rule_among r (pair_in n u) bits gs n u k b) ≡ true → (if side_of (pair_in n u k)
     b then not r else (r && not (side_of (pair_in n u k) (not b)))) ≡ true
 law_all r bits gs n u k b x h m = law_in r (pair_in n u) bits (singles r (pair_in n u) bits gs n u h) x gs n u k b h m
@@ -109,7 +115,8 @@ pub apart_all : (r : Bool) (bits : ℕ → Rails) (gs : List BlockPart) (n : ℕ
     → all_fit r (pair_in n u) bits gs n u ≡ true → is_apart (rule_among r (pair_in n u) bits gs n u k b) ≡ true
 apart_all r bits gs n u k b x h = apart_in r (pair_in n u) bits (singles r (pair_in n u) bits gs n u h) x gs n u k b
 
-pub firm_all : (r : Bool) (bits : ℕ → Rails) (gs : List BlockPart) (n : ℕ) (u : Pairs n) (k : ℕ) (b : Bool) (j : ℕ) (c : Bool) → Single bits → (j ≡ k → c ≡ b → ⊥)
+pub firm_all : (r : Bool) (bits : ℕ → Rails) (gs : List BlockPart) (n : ℕ) (u : Pairs n) (k : ℕ) (b : Bool) (j : ℕ) (c : Bool) → Single bits →
+    (j ≡ k → c ≡ b → ⊥)
     → all_fit r (pair_in n u) bits gs n u ≡ true → one_rule_fires (rule_among r (pair_in n u) bits gs n u k b) ≡ true
     → one_rule_fires (rule_among r (pair_in n u) bits gs n u j c) ≡ true → one_rule_fires
     (rule_among r (pair_in n (turned_pairs n u k b)) bits gs n (turned_pairs n u k b) j c) ≡ true
@@ -197,17 +204,20 @@ dry (p ∷ ps) h =
     let k = implies_at _ _ (at_3 (λ a b n. implies (not ((a || b) || n)) ((not a && not b) && not n)) refl p.t p.f (list_any some ps)) h in
     both_of _ _ (left_of _ _ k) (dry ps (right_of (levels_neutral p) _ k))
 
-needs : (r : Bool) (look : ℕ → RailLevels) (bits : ℕ → Rails) (g : BlockPart) (p : RailLevels) (k : ℕ) → levels_fit r look bits g p ≡ true → arrived r p ≡ true → names g k ≡ true
+needs : (r : Bool) (look : ℕ → RailLevels) (bits : ℕ → Rails) (g : BlockPart) (p : RailLevels) (k : ℕ) → levels_fit r look bits g p ≡ true →
+    arrived r p ≡ true → names g k ≡ true
     → arrived r (look k) ≡ true
 needs r look bits (fixed v) p k h a n = absurd (cc n)
 needs r look bits (read_bit y j) p k h a n = absurd (cc n)
 needs true look bits (made f i ins) p k h a n = named_in true look k (i ∷ ins) n (⊎_elim
     (λ (q : holds f (inputs_taken look (i ∷ ins)) ≡ true). holds_some f (inputs_taken look (i ∷ ins)) q)
     (λ (q : holds (λ bs. not (f bs)) (inputs_taken look (i ∷ ins)) ≡ true). holds_some (λ bs. not (f bs)) (inputs_taken look (i ∷ ins)) q)
-    (or_true _ _ (implies_at _ _ (at_5 (λ ut uf n t f. implies (legal true ut uf n (levels_of t f) && (t || f)) (ut || uf)) refl (holds f (inputs_taken look (i ∷ ins)))
+    (or_true _ _ (implies_at _ _ (at_5 (λ ut uf n t f. implies (legal true ut uf n (levels_of t f) && (t || f)) (ut || uf)) refl
+    (holds f (inputs_taken look (i ∷ ins)))
     (holds (λ bs. not (f bs)) (inputs_taken look (i ∷ ins))) (list_any some (inputs_taken look (i ∷ ins))) p.t p.f) (both_of _ _ h a))))
 needs false look bits (made f i ins) p k h a n = named_in false look k (i ∷ ins) n (dry (inputs_taken look (i ∷ ins))
-    (implies_at _ _ (at_5 (λ ut uf n t f. implies (legal false ut uf n (levels_of t f) && (not t && not f)) (not n)) refl (holds f (inputs_taken look (i ∷ ins)))
+    (implies_at _ _ (at_5 (λ ut uf n t f. implies (legal false ut uf n (levels_of t f) && (not t && not f)) (not n)) refl
+    (holds f (inputs_taken look (i ∷ ins)))
     (holds (λ bs. not (f bs)) (inputs_taken look (i ∷ ins))) (list_any some (inputs_taken look (i ∷ ins))) p.t p.f) (both_of _ _ h a)))
 
 wanted_in : (r : Bool) (look : ℕ → RailLevels) (bits : ℕ → Rails) (gs : List BlockPart) (n : ℕ) (u : Pairs n) (k : ℕ) → all_fit r look bits gs n u ≡ true
@@ -298,14 +308,16 @@ answered_in look bits s x (g ∷ gs) (suc n) u zero b h a = answered_one look bi
 answered_in look bits s x (g ∷ gs) (suc n) u (suc k) b h a =
     answered_in look bits s x gs n u.1 k b (right_of (levels_fit true look bits g u.0) _ h) (right_of (some u.0) _ a)
 
-pub answered_all : (bits : ℕ → Rails) (gs : List BlockPart) (n : ℕ) (u : Pairs n) (k : ℕ) (b : Bool) → Single bits → all_fit true (pair_in n u) bits gs n u ≡ true
+pub answered_all : (bits : ℕ → Rails) (gs : List BlockPart) (n : ℕ) (u : Pairs n) (k : ℕ) (b : Bool) → Single bits →
+    all_fit true (pair_in n u) bits gs n u ≡ true
     → all_arrived true n u ≡ true → one_rule_fires (rule_among true (pair_in n u) bits gs n u k b) ≡ false
 answered_all bits gs n u k b x h a = answered_in (pair_in n u) bits (singles true (pair_in n u) bits gs n u h) x gs n u k b h a
 
 low_taken : (look : ℕ → RailLevels) → ((k : ℕ) → look k ≡ levels_of false false) → (i : Input) → levels_neutral (cross i.crossed (look i.at)) ≡ true
 low_taken look h i = arrived_cross false i.crossed (look i.at) (ap levels_neutral (h i.at))
 
-low_up : (look : ℕ → RailLevels) (bits : ℕ → Rails) (g : BlockPart) (b : Bool) → ((k : ℕ) → look k ≡ levels_of false false) → up_holds false look bits g b ≡ false
+low_up : (look : ℕ → RailLevels) (bits : ℕ → Rails) (g : BlockPart) (b : Bool) → ((k : ℕ) → look k ≡ levels_of false false) →
+    up_holds false look bits g b ≡ false
 low_up look bits (fixed true) true h = refl
 low_up look bits (fixed true) false h = refl
 low_up look bits (fixed false) true h = refl
@@ -336,7 +348,8 @@ low_wet look (fixed v) h = refl
 low_wet look (read_bit y k) h = refl
 low_wet look (made f i ins) h = wet_none (inputs_taken look (i ∷ ins)) (low_all look h (i ∷ ins))
 
-idle_one : (look : ℕ → RailLevels) (bits : ℕ → Rails) (g : BlockPart) → ((k : ℕ) → look k ≡ levels_of false false) → levels_fit false look bits g (levels_of false false) ≡ true
+idle_one : (look : ℕ → RailLevels) (bits : ℕ → Rails) (g : BlockPart) → ((k : ℕ) → look k ≡ levels_of false false) →
+    levels_fit false look bits g (levels_of false false) ≡ true
 idle_one look bits g h =
     implies_at _ _ (at_3 (λ ut uf n. implies (not ut && (not uf && not n)) (legal false ut uf n (levels_of false false))) refl (up_holds false look bits g true)
     (up_holds false look bits g false) (wet look g))

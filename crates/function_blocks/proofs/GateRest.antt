@@ -55,7 +55,8 @@ fit_same r look bits now (read_bit x i ∷ gs) (suc n) u h = ap (λ z. z && all_
     ∙ ap (λ z. levels_fit r look now (read_bit x i) u.0 && z) (fit_same r look bits now gs n u.1 h.1)
 fit_same r look bits now (made f i more ∷ gs) (suc n) u h = ap (λ z. levels_fit r look bits (made f i more) u.0 && z) (fit_same r look bits now gs n u.1 h)
 
-pub rule_same : (r : Bool) (look : ℕ → RailLevels) (bits now : ℕ → Rails) (gs : List BlockPart) (n : ℕ) (u : Pairs n) → Only (Alike r bits now) gs → (k : ℕ) (one : Bool)
+pub rule_same : (r : Bool) (look : ℕ → RailLevels) (bits now : ℕ → Rails) (gs : List BlockPart) (n : ℕ) (u : Pairs n) → Only (Alike r bits now) gs →
+    (k : ℕ) (one : Bool)
     → rule_among r look bits gs n u k one ≡ rule_among r look now gs n u k one
 rule_same r look bits now [] n u h k one = refl
 rule_same r look bits now (g ∷ gs) zero u h k one = refl
@@ -127,7 +128,8 @@ prepared_next false bits (fixed v) gs n u h = right_of (not (side_of u.0 (not v)
 prepared_next false bits (read_bit x i) gs n u h = h
 prepared_next false bits (made f i ins) gs n u h = h
 
-fore : (r : Bool) (look : ℕ → RailLevels) (bits : ℕ → Rails) (gs : List BlockPart) (n : ℕ) (u : Pairs n) (from : ℕ) → ((j : ℕ) → look (from + j) ≡ pair_in n u j)
+fore : (r : Bool) (look : ℕ → RailLevels) (bits : ℕ → Rails) (gs : List BlockPart) (n : ℕ) (u : Pairs n) (from : ℕ) →
+    ((j : ℕ) → look (from + j) ≡ pair_in n u j)
     → ((k : ℕ) → k < from → arrived r (look k) ≡ true) → all_fit r look bits gs n u ≡ true → ordered from gs ≡ true → Prepared r bits gs n u
     → ((k : ℕ) (b : Bool) → one_rule_fires (rule_among r look bits gs n u k b) ≡ false) → all_arrived r n u ≡ true
 fore r look bits [] zero u from see h k o c m = refl
@@ -163,7 +165,8 @@ same_true : (v : Bool) → (same_bit v true && true) ≡ v
 same_true true = refl
 same_true false = refl
 
-pub means_one : (look : ℕ → RailLevels) (bits : ℕ → Rails) (g : BlockPart) (p : RailLevels) → ((k : ℕ) → single (look k) ≡ true) → Single bits → levels_fit true look bits g p ≡ true
+pub means_one : (look : ℕ → RailLevels) (bits : ℕ → Rails) (g : BlockPart) (p : RailLevels) → ((k : ℕ) → single (look k) ≡ true) → Single bits →
+    levels_fit true look bits g p ≡ true
     → some p ≡ true → p.t ≡ means (λ k. (look k).t) bits g
 means_one look bits (fixed v) p s x h a = t_is _ _ false p.t p.f (left_of _ _ (facts true look bits (fixed v) true s x)) h a ∙ same_true v
 means_one look bits (read_bit y k) p s x h a = t_is _ _ false p.t p.f (x y k) h a
@@ -172,10 +175,12 @@ means_one look bits (made f i ins) p s x h a =
     ∙ holds_value f look s (i ∷ ins) (⊎_elim
     (λ (q : holds f (inputs_taken look (i ∷ ins)) ≡ true). holds_some f (inputs_taken look (i ∷ ins)) q)
     (λ (q : holds (λ bs. not (f bs)) (inputs_taken look (i ∷ ins)) ≡ true). holds_some (λ bs. not (f bs)) (inputs_taken look (i ∷ ins)) q)
-    (or_true _ _ (implies_at _ _ (at_5 (λ ut uf n t f. implies (legal true ut uf n (levels_of t f) && (t || f)) (ut || uf)) refl (holds f (inputs_taken look (i ∷ ins)))
+    (or_true _ _ (implies_at _ _ (at_5 (λ ut uf n t f. implies (legal true ut uf n (levels_of t f) && (t || f)) (ut || uf)) refl
+    (holds f (inputs_taken look (i ∷ ins)))
     (holds (λ bs. not (f bs)) (inputs_taken look (i ∷ ins))) (list_any some (inputs_taken look (i ∷ ins))) p.t p.f) (both_of _ _ h a))))
 
-agrees_in : (look : ℕ → RailLevels) (bits : ℕ → Rails) → ((k : ℕ) → single (look k) ≡ true) → Single bits → (gs : List BlockPart) (n : ℕ) (u : Pairs n) (from : ℕ)
+agrees_in : (look : ℕ → RailLevels) (bits : ℕ → Rails) → ((k : ℕ) → single (look k) ≡ true) → Single bits →
+    (gs : List BlockPart) (n : ℕ) (u : Pairs n) (from : ℕ)
     → ((j : ℕ) → look (from + j) ≡ pair_in n u j) → all_fit true look bits gs n u ≡ true → all_arrived true n u ≡ true → Agrees (λ k. (look k).t) bits from gs
 agrees_in look bits s x [] zero u from see h a = tt
 agrees_in look bits s x [] (suc n) u from see h a = absurd (cc h)

@@ -139,7 +139,8 @@ module _ (bits : ℕ → List nodes.Pair) (request base : ℕ) (v : ℕ → Bool
   only_rest (read_bit x i) gs s = s.1
   only_rest (made f i more) gs s = s
 
-  gates_told : (gs : List BlockPart) (m : ℕ) (u : Pairs m) (from : ℕ) → length gs ≡ m → from + m ≤ n → ordered from gs ≡ true → Only Shows gs → (k : ℕ) (one : Bool)
+  gates_told : (gs : List BlockPart) (m : ℕ) (u : Pairs m) (from : ℕ) → length gs ≡ m → from + m ≤ n → ordered from gs ≡ true → Only Shows gs →
+      (k : ℕ) (one : Bool)
       → Guards (get_or (rules_listed bits request base gs) (rail_place k one) nodes.no_rules) (rule_among r look now gs m u k one)
   gates_told [] m u from e l o s k one = (refl, refl)
   gates_told (g ∷ gs) zero u from e l o s k one = absurd (omega (arith, e))

@@ -63,7 +63,8 @@ two_up a x b y c z d w h k l m = implies_at _ _ (at_8 (λ a x b y c z d w.
     implies ((implies a c && implies b d) && (implies x z && (implies y w && two a x b y))) (two c z d w)) refl a x b y c z d w)
     (both_of _ _ h (both_of _ _ k (both_of _ _ l m)))
 
-pub holds_up : (f : List Bool → Bool) (look see : ℕ → RailLevels) → ((k : ℕ) → above (look k) (see k) ≡ true) → (ins : List Input) → holds f (inputs_taken look ins) ≡ true
+pub holds_up : (f : List Bool → Bool) (look see : ℕ → RailLevels) → ((k : ℕ) → above (look k) (see k) ≡ true) → (ins : List Input) →
+    holds f (inputs_taken look ins) ≡ true
     → holds f (inputs_taken see ins) ≡ true
 holds_up f look see h [] m = m
 holds_up f look see h (i ∷ ins) m =
@@ -126,7 +127,8 @@ bits_in v [] = []
 bits_in v (i ∷ more) = bit_in v i ∷ bits_in v more
 
 -- over valid pairs the guard is the function
-pub holds_value : (f : List Bool → Bool) (look : ℕ → RailLevels) → ((k : ℕ) → single (look k) ≡ true) → (ins : List Input) → list_all some (inputs_taken look ins) ≡ true
+pub holds_value : (f : List Bool → Bool) (look : ℕ → RailLevels) → ((k : ℕ) → single (look k) ≡ true) → (ins : List Input) →
+    list_all some (inputs_taken look ins) ≡ true
     → holds f (inputs_taken look ins) ≡ f (bits_in (λ k. (look k).t) ins)
 holds_value f look s [] h = refl
 holds_value f look s (i ∷ ins) h = one (i.crossed) (look i.at).t (look i.at).f (s i.at) (left_of _ _ h)
@@ -152,7 +154,8 @@ wet_none [] h = refl
 wet_none (p ∷ ps) h = not_true _ (implies_at _ _ (at_3 (λ a b n. implies ((not a && not b) && not n) (not ((a || b) || n))) refl p.t p.f (list_any some ps))
     (both_of _ _ (left_of _ _ h) (not_false _ (wet_none ps (right_of (levels_neutral p) _ h)))))
 
-neutral_down : (look see : ℕ → RailLevels) → ((k : ℕ) → above (see k) (look k) ≡ true) → (ins : List Input) → list_all levels_neutral (inputs_taken look ins) ≡ true
+neutral_down : (look see : ℕ → RailLevels) → ((k : ℕ) → above (see k) (look k) ≡ true) → (ins : List Input) →
+    list_all levels_neutral (inputs_taken look ins) ≡ true
     → list_all levels_neutral (inputs_taken see ins) ≡ true
 neutral_down look see h [] m = refl
 neutral_down look see h (i ∷ ins) m =
@@ -190,8 +193,10 @@ facts r look bits (made f i ins) b s x =
 abbrev went : Bool → RailLevels → RailLevels → Bool → Bool
 went r p q one = if side_of p one then not r else (r && not (side_of p (not one)))
 
-pub own_one : (r : Bool) (look : ℕ → RailLevels) (bits : ℕ → Rails) (g : BlockPart) (b : Bool) (p : RailLevels) → ((k : ℕ) → single (look k) ≡ true) → Single bits
-    → levels_fit r look bits g p ≡ true → one_rule_fires (part_rule r look bits g p b) ≡ true → (levels_fit r look bits g (turned_side p b) && grows r p (turned_side p b)) ≡ true
+pub own_one : (r : Bool) (look : ℕ → RailLevels) (bits : ℕ → Rails) (g : BlockPart) (b : Bool) (p : RailLevels) → ((k : ℕ) → single (look k) ≡ true) →
+    Single bits
+    → levels_fit r look bits g p ≡ true → one_rule_fires (part_rule r look bits g p b) ≡ true →
+    (levels_fit r look bits g (turned_side p b) && grows r p (turned_side p b)) ≡ true
 own_one r look bits g true p s x k m =
     implies_at _ _ (at_7 (λ r ut uf d n t f. implies (fact ut uf d n && (legal r ut uf n (levels_of t f) && turns t ut d))
     (legal r ut uf n (turned_side (levels_of t f) true) && grows r (levels_of t f) (turned_side (levels_of t f) true))) refl r (up_holds r look bits g true)
@@ -203,8 +208,10 @@ own_one r look bits g false p s x k m =
     (up_holds r look bits g false) (down_holds r look g false) (wet look g) p.t p.f)
     (both_of _ _ (facts r look bits g false s x) (both_of _ _ k m))
 
-pub law_one : (r : Bool) (look : ℕ → RailLevels) (bits : ℕ → Rails) (g : BlockPart) (b : Bool) (p : RailLevels) → ((k : ℕ) → single (look k) ≡ true) → Single bits
-    → levels_fit r look bits g p ≡ true → one_rule_fires (part_rule r look bits g p b) ≡ true → (if side_of p b then not r else (r && not (side_of p (not b)))) ≡ true
+pub law_one : (r : Bool) (look : ℕ → RailLevels) (bits : ℕ → Rails) (g : BlockPart) (b : Bool) (p : RailLevels) → ((k : ℕ) → single (look k) ≡ true) →
+    Single bits
+    → levels_fit r look bits g p ≡ true → one_rule_fires (part_rule r look bits g p b) ≡ true →
+    (if side_of p b then not r else (r && not (side_of p (not b)))) ≡ true
 law_one r look bits g true p s x k m =
     implies_at _ _ (at_7 (λ r ut uf d n t f. implies (fact ut uf d n && (legal r ut uf n (levels_of t f) && turns t ut d)) (if t then not r else (r && not f)))
     refl r (up_holds r look bits g true) (up_holds r look bits g false) (down_holds r look g true) (wet look g) p.t p.f)
@@ -215,13 +222,15 @@ law_one r look bits g false p s x k m =
     (both_of _ _ (facts r look bits g false s x) (both_of _ _ k m))
 
 -- its inputs go with the request
-up_rises : (look see : ℕ → RailLevels) (bits : ℕ → Rails) (g : BlockPart) (b : Bool) → ((k : ℕ) → above (look k) (see k) ≡ true) → up_holds true look bits g b ≡ true
+up_rises : (look see : ℕ → RailLevels) (bits : ℕ → Rails) (g : BlockPart) (b : Bool) → ((k : ℕ) → above (look k) (see k) ≡ true) →
+    up_holds true look bits g b ≡ true
     → up_holds true see bits g b ≡ true
 up_rises look see bits (fixed v) b h m = m
 up_rises look see bits (read_bit y k) b h m = m
 up_rises look see bits (made f i ins) b h m = holds_up (rows_of b f) look see h (i ∷ ins) m
 
-up_falls : (look see : ℕ → RailLevels) (bits : ℕ → Rails) (g : BlockPart) (b : Bool) → ((k : ℕ) → above (see k) (look k) ≡ true) → up_holds false see bits g b ≡ true
+up_falls : (look see : ℕ → RailLevels) (bits : ℕ → Rails) (g : BlockPart) (b : Bool) → ((k : ℕ) → above (see k) (look k) ≡ true) →
+    up_holds false see bits g b ≡ true
     → up_holds false look bits g b ≡ true
 up_falls look see bits (fixed v) b h m = m
 up_falls look see bits (read_bit y k) b h m = m
@@ -255,7 +264,8 @@ down_stays look see (fixed v) b h m = m
 down_stays look see (read_bit y k) b h m = m
 down_stays look see (made f i ins) b h m = neutral_down look see h (i ∷ ins) m
 
-pub firm_one : (r : Bool) (look see : ℕ → RailLevels) (bits : ℕ → Rails) (g : BlockPart) (b : Bool) (p : RailLevels) → ((k : ℕ) → single (look k) ≡ true) → Single bits
+pub firm_one : (r : Bool) (look see : ℕ → RailLevels) (bits : ℕ → Rails) (g : BlockPart) (b : Bool) (p : RailLevels) → ((k : ℕ) → single (look k) ≡ true) →
+    Single bits
     → ((k : ℕ) → grows r (look k) (see k) ≡ true) → levels_fit r look bits g p ≡ true → one_rule_fires (part_rule r look bits g p b) ≡ true
     → one_rule_fires (part_rule r see bits g p b) ≡ true
 firm_one true look see bits g true p s x h k m =
@@ -282,7 +292,8 @@ firm_one false look see bits g false p s x h k m =
     (both_of _ _ (implies_from _ _ (down_stays look see g false h)) (both_of _ _ k m))
 
 -- no rail is pulled both ways
-pub apart_one : (r : Bool) (look : ℕ → RailLevels) (bits : ℕ → Rails) (g : BlockPart) (b : Bool) (p : RailLevels) → ((k : ℕ) → single (look k) ≡ true) → Single bits
+pub apart_one : (r : Bool) (look : ℕ → RailLevels) (bits : ℕ → Rails) (g : BlockPart) (b : Bool) (p : RailLevels) → ((k : ℕ) → single (look k) ≡ true) →
+    Single bits
     → is_apart (part_rule r look bits g p b) ≡ true
 apart_one r look bits g true p s x = implies_at _ _ (at_4 (λ ut uf d n. implies (fact ut uf d n) (not (ut && d))) refl (up_holds r look bits g true)
     (up_holds r look bits g false) (down_holds r look g true) (wet look g)) (facts r look bits g true s x)
@@ -302,7 +313,8 @@ up_of_valid look bits (fixed false) false m = refl
 up_of_valid look bits (read_bit y k) b m = absurd (cc m)
 up_of_valid look bits (made f i ins) b m = m
 
-pub ease_one : (look : ℕ → RailLevels) (bits : ℕ → Rails) (g : BlockPart) (p : RailLevels) → ((k : ℕ) → single (look k) ≡ true) → Single bits → levels_fit true look bits g p ≡ true
+pub ease_one : (look : ℕ → RailLevels) (bits : ℕ → Rails) (g : BlockPart) (p : RailLevels) → ((k : ℕ) → single (look k) ≡ true) → Single bits →
+    levels_fit true look bits g p ≡ true
     → some p ≡ true → levels_fit false look bits g p ≡ true
 ease_one look bits g p s x h a =
     implies_at _ _ (at_8 (λ ut uf vt vf n t f d. implies ((not (ut && uf) && (implies vt ut && implies vf uf)) && (legal true ut uf n

@@ -76,7 +76,8 @@ above_side : (p q : RailLevels) (one : Bool) → above p q ≡ true → side_of 
 above_side p q true h k = implies_at p.t q.t (left_of _ _ h) k
 above_side p q false h k = implies_at p.f q.f (right_of (implies p.t q.t) _ h) k
 
-pub rails_up : (look see : ℕ → RailLevels) → ((k : ℕ) → above (look k) (see k) ≡ true) → (us : List Input) (i : ℕ) (one : Bool) → input_rails us look i one ≡ true
+pub rails_up : (look see : ℕ → RailLevels) → ((k : ℕ) → above (look k) (see k) ≡ true) → (us : List Input) (i : ℕ) (one : Bool) →
+    input_rails us look i one ≡ true
     → input_rails us see i one ≡ true
 rails_up look see h [] i one m = m
 rails_up look see h (j ∷ us) zero one m =

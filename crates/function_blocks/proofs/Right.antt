@@ -21,7 +21,8 @@ abbrev results : (ℕ → Rails) → List Bool → List BlockPart → List Bool
 results bits done [] = done
 results bits done (g ∷ gs) = results bits (done ++ means (λ k. get_or done k false) bits g ∷ []) gs
 
-results_keep : (bits : ℕ → Rails) (done : List Bool) (gs : List BlockPart) (k : ℕ) → k < length done → get_or (results bits done gs) k false ≡ get_or done k false
+results_keep : (bits : ℕ → Rails) (done : List Bool) (gs : List BlockPart) (k : ℕ) → k < length done →
+    get_or (results bits done gs) k false ≡ get_or done k false
 results_keep bits done [] k l = refl
 results_keep bits done (g ∷ gs) k l =
     let x = means (λ k. get_or done k false) bits g in
@@ -38,7 +39,8 @@ bits_same v w m f (i ∷ ins) h =
     ap (λ b. same_bit (not i.crossed) b ∷ bits_in v ins) (f i.at (is_lt _ _ (left_of _ _ h)))
     ∙ ap (λ (bs : List Bool). bit_in w i ∷ bs) (bits_same v w m f ins (right_of (nat_lt i.at m) _ h))
 
-means_same : (v w : ℕ → Bool) (bits : ℕ → Rails) (m : ℕ) → ((k : ℕ) → k < m → v k ≡ w k) → (g : BlockPart) → ordered_one m g ≡ true → means v bits g ≡ means w bits g
+means_same : (v w : ℕ → Bool) (bits : ℕ → Rails) (m : ℕ) → ((k : ℕ) → k < m → v k ≡ w k) → (g : BlockPart) → ordered_one m g ≡ true →
+    means v bits g ≡ means w bits g
 means_same v w bits m f (fixed b) o = refl
 means_same v w bits m f (read_bit x i) o = refl
 means_same v w bits m f (made g i ins) o = ap g (bits_same v w m f (i ∷ ins) o)
@@ -90,7 +92,8 @@ right_bits v look m f (i ∷ ins) o h =
     ap (λ b. same_bit (not i.crossed) b ∷ bits_in (λ k. (look k).t) ins) (f i.at (is_lt _ _ (left_of _ _ o)) (some_cross i.crossed (look i.at) (left_of _ _ h)))
     ∙ ap (λ (bs : List Bool). bit_in v i ∷ bs) (right_bits v look m f ins (right_of (nat_lt i.at m) _ o) (right_of (some (cross i.crossed (look i.at))) _ h))
 
-right_one : (v : ℕ → Bool) (look : ℕ → RailLevels) (bits : ℕ → Rails) (g : BlockPart) (p : RailLevels) (m : ℕ) → ((k : ℕ) → single (look k) ≡ true) → Single bits
+right_one : (v : ℕ → Bool) (look : ℕ → RailLevels) (bits : ℕ → Rails) (g : BlockPart) (p : RailLevels) (m : ℕ) → ((k : ℕ) → single (look k) ≡ true) →
+    Single bits
     → ((k : ℕ) → k < m → Right v look k) → ordered_one m g ≡ true → levels_fit true look bits g p ≡ true → some p ≡ true → p.t ≡ means v bits g
 right_one v look bits (fixed b) p m s x f o h a = means_one look bits (fixed b) p s x h a
 right_one v look bits (read_bit y i) p m s x f o h a = means_one look bits (read_bit y i) p s x h a
@@ -99,7 +102,8 @@ right_one v look bits (made g i ins) p m s x f o h a =
     ∙ ap g (right_bits v look m f (i ∷ ins) o (⊎_elim
     (λ (q : holds g (inputs_taken look (i ∷ ins)) ≡ true). holds_some g (inputs_taken look (i ∷ ins)) q)
     (λ (q : holds (λ bs. not (g bs)) (inputs_taken look (i ∷ ins)) ≡ true). holds_some (λ bs. not (g bs)) (inputs_taken look (i ∷ ins)) q)
-    (or_true _ _ (implies_at _ _ (at_5 (λ ut uf n t f. implies (legal true ut uf n (levels_of t f) && (t || f)) (ut || uf)) refl (holds g (inputs_taken look (i ∷ ins)))
+    (or_true _ _ (implies_at _ _ (at_5 (λ ut uf n t f. implies (legal true ut uf n (levels_of t f) && (t || f)) (ut || uf)) refl
+    (holds g (inputs_taken look (i ∷ ins)))
     (holds (λ bs. not (g bs)) (inputs_taken look (i ∷ ins))) (wet look (made g i ins)) p.t p.f) (both_of _ _ h a)))))
 
 right_in : (v : ℕ → Bool) (look : ℕ → RailLevels) (bits : ℕ → Rails) → ((k : ℕ) → single (look k) ≡ true) → Single bits
@@ -139,7 +143,8 @@ side_some true false f false h = absurd (cc h)
 side_some false false f true h = absurd (cc h)
 side_some false false f false h = h
 
-pub right_out : (v : ℕ → Bool) (look : ℕ → RailLevels) (m : ℕ) → ((k : ℕ) → single (look k) ≡ true) → ((k : ℕ) → k < m → some (look k) ≡ true → (look k).t ≡ v k)
+pub right_out : (v : ℕ → Bool) (look : ℕ → RailLevels) (m : ℕ) → ((k : ℕ) → single (look k) ≡ true) →
+    ((k : ℕ) → k < m → some (look k) ≡ true → (look k).t ≡ v k)
     → (us : List Input) → list_all (λ (j : Input). nat_lt j.at m) us ≡ true → (i : ℕ) (one : Bool) → input_rails us look i one ≡ true
     → get_or (bits_in v us) i false ≡ one
 right_out v look m s f [] o i one h = absurd (cc h)

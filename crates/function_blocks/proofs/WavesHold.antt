@@ -45,7 +45,8 @@ module _ (e : Formula) (w : IsWellFormed e) where
   empty_at : (u : Pairs n) → empty e u ≡ true → list_all (arrived false) (inputs_taken (pair_in n u) us) ≡ true
   empty_at u f = neutral_arrived (pair_in n u) us (ap (λ k. neutral_on k (out_rail e u)) (outs_length e 0 w) ∙ f)
 
-  inner : (r : Bool) (bits : ℕ → Rails) (u : Pairs n) → good r bits e u ≡ true → list_all (arrived r) (inputs_taken (pair_in n u) us) ≡ true → all_arrived r n u ≡ true
+  inner : (r : Bool) (bits : ℕ → Rails) (u : Pairs n) → good r bits e u ≡ true → list_all (arrived r) (inputs_taken (pair_in n u) us) ≡ true →
+      all_arrived r n u ≡ true
   inner r bits u h o = arrived_all r bits (member us) gs n u (left_of _ _ h) (parts_used e 0 w) (λ k m. named_in r (pair_in n u) k us m o)
 
   outer : (r : Bool) (u : Pairs n) → all_arrived r n u ≡ true → list_all (arrived r) (inputs_taken (pair_in n u) us) ≡ true

@@ -47,7 +47,8 @@ result_inputs [] from = []
 result_inputs (a ∷ us) from = input from ∷ result_inputs us (suc from)
 
 -- for each bit the bit of the result and, below the top bit, what is carried on
-abbrev pub ripple_parts : (List Bool → Bool) → List Input → List Input → (carried : List Input) → (from : ℕ) → List BlockPart
+abbrev pub ripple_parts : (List Bool → Bool) → List Input → List Input → (carried : List Input) → (from : ℕ) →
+    List BlockPart
 ripple_parts carry [] vs carried from = []
 ripple_parts carry (a ∷ us) [] carried from = []
 ripple_parts carry (a ∷ []) (b ∷ vs) carried from = made odd_ones a (b ∷ carried) ∷ []

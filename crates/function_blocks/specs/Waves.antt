@@ -39,7 +39,8 @@ down_holds r look (made f i more) one = list_all levels_neutral (inputs_taken lo
 abbrev pub part_rule : Bool → (look : ℕ → RailLevels) → (bits : ℕ → Rails) → BlockPart → RailLevels → Bool → Rule
 part_rule r look bits g p one = rule_of (side_of p one) (up_holds r look bits g one) (down_holds r look g one)
 
-abbrev pub rule_among : Bool → (look : ℕ → RailLevels) → (bits : ℕ → Rails) → List BlockPart → (n : ℕ) → Pairs n → (gate : ℕ)
+abbrev pub rule_among : Bool → (look : ℕ → RailLevels) → (bits : ℕ → Rails) → List BlockPart → (n : ℕ) → Pairs n →
+    (gate : ℕ)
     → Bool → Rule
 rule_among r look bits [] n u k one = no_rule false
 rule_among r look bits (g ∷ gs) zero u k one = no_rule false
@@ -125,7 +126,8 @@ pub record Waves (e : Formula) : Type 0 where
       → (if side_of (pair_in (gate_count e) u k)
       one then not r else (r && not (side_of (pair_in (gate_count e) u k) (not one)))) ≡ true
   pub firm : (r : Bool) (bits : ℕ → Rails) (u : Pairs (gate_count e)) (k : ℕ) (one : Bool) (j : ℕ) (side : Bool)
-      → Single bits → (j ≡ k → side ≡ one → ⊥) → good r bits e u ≡ true → one_rule_fires (gate_rule e bits r u k one) ≡ true
+      → Single bits → (j ≡ k → side ≡ one → ⊥) → good r bits e u ≡ true →
+      one_rule_fires (gate_rule e bits r u k one) ≡ true
       → one_rule_fires (gate_rule e bits r u j side) ≡ true
       → one_rule_fires (gate_rule e bits r (turned_pairs (gate_count e) u k one) j side) ≡ true
   pub apart : (r : Bool) (bits : ℕ → Rails) (u : Pairs (gate_count e)) (k : ℕ) (one : Bool) → Single bits

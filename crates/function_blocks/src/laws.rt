@@ -40,8 +40,8 @@ pub fn gates_listed()
 {}
 
 /// Law: the circuit of an expression alone keeps its contract, beside every neighbour that raises the request over
-/// valid bits of variables and low rails, lowers it over a whole value, and leaves the bits that are read alone while it
-/// is high. Then each rail that rises is that of the value, and the circuit waits for nobody else.
+/// valid bits of variables and low rails, lowers it over a whole value, and leaves the bits that are read alone while
+/// it is high. Then each rail that rises is that of the value, and the circuit waits for nobody else.
 pub fn expressions_keep()
     ensures { (bits : ℕ → List Pair) (e : Formula) (request from : ℕ)
         → StandsApart bits e request from → Keeps (expression_part bits e request from) }

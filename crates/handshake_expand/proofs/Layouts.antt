@@ -123,8 +123,8 @@ names : node_names named ≡
     codes "go" ∷ codes "done"
     ∷ of_bit (codes "X") 0 (codes ".t") ∷ of_bit (codes "X") 0 (codes ".f") ∷ codes "X.a"
     ∷ of_bit (codes "v") 0 (codes ".t") ∷ of_bit (codes "v") 0 (codes ".f") ∷ of_bit (codes "v") 0 (codes ".wt") ∷ of_bit (codes "v") 0 (codes ".wf")
-        ∷ of_bit (codes "v") 0 (codes ".wa")
+    ∷ of_bit (codes "v") 0 (codes ".wa")
     ∷ of_bit (codes "v") 1 (codes ".t") ∷ of_bit (codes "v") 1 (codes ".f") ∷ of_bit (codes "v") 1 (codes ".wt") ∷ of_bit (codes "v") 1 (codes ".wf")
-        ∷ of_bit (codes "v") 1 (codes ".wa")
+    ∷ of_bit (codes "v") 1 (codes ".wa")
     ∷ numbered 15 ∷ numbered 16 ∷ numbered 17 ∷ numbered 18 ∷ []
 names = refl

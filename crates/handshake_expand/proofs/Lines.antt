@@ -30,7 +30,7 @@ module _ (p : TypedProgram) (level : ℕ) where
       let own = part_line p (indent level) o.kind o.request o.answer o.from o.count in
       ap (λ xs. new ++ child_lines p (suc level) (each_tree xs)) same
       ∙ (ap (λ xs. xs ++ child_lines p (suc level) (each_tree o.children.items)) (line
-          ∙ ap (λ m. old ++ part_line p m o.kind o.request o.answer o.from o.count) is)
+      ∙ ap (λ m. old ++ part_line p m o.kind o.request o.answer o.from o.count) is)
       ∙ (append_assoc old own (child_lines p (suc level) (each_tree o.children.items))
       ∙ ap (λ t. old ++ part_lines p level t) (sym (opened_tree x))))
 

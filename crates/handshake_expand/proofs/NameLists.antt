@@ -22,7 +22,7 @@ module _ {X : Type 0} (f : ℕ → List X) (m : ℕ) (each : (k : ℕ) → lengt
   flat_length from (suc w) =
       let rest : length (flat_map f (range_with_len (from + 1) w)) ≡ w * m = flat_length (from + 1) w in
       let both : length (f from ++ flat_map f (range_with_len (from + 1) w)) ≡ length (f from) + length (flat_map f (range_with_len (from + 1) w)) =
-          length-append (f from) (flat_map f (range_with_len (from + 1) w)) in
+      length-append (f from) (flat_map f (range_with_len (from + 1) w)) in
       omega (arith, both, each from, rest)
 
   flat_at : (from w i j : ℕ) (d : X) → i < w → j < m → get_or (flat_map f (range_with_len from w)) (i * m + j) d ≡ get_or (f (from + i)) j d
@@ -138,7 +138,7 @@ wire_here p cs i place c within is small =
     let more : drop i cs ≡ c ∷ drop (i + 1) cs = drop_more cs i c within ∙ ap (λ x. x ∷ drop (i + 1) cs) (sym is) in
     ap (λ xs. at_place (names_from_wires p xs) place) more
     ∙ (front_named (wires_named c ++ rest) (block_names p.vars (vars_from p) ++ last_names p) place (wires_size c.width + length rest)
-        (length-append (wires_named c) rest ∙ ap (λ n. n + length rest) (wires_length c)) (omega (arith, small))
+    (length-append (wires_named c) rest ∙ ap (λ n. n + length rest) (wires_length c)) (omega (arith, small))
     ∙ front_named (wires_named c) rest place (wires_size c.width) (wires_length c) small)
 
 pub wire_behind : (p : TypedProgram) (cs : List Channel) (i place : ℕ) (c : Channel) → i < length cs → c ≡ get_or cs i c → wires_size c.width ≤ place
@@ -164,7 +164,7 @@ block_length v from some =
     let numbers = numbers_length (from + 5 * v.width) (v.width - 1) in
     let bits = bits_length v in
     let both : length (block_named v from) ≡ length (bits_named v) + length (numbered_from (from + 5 * v.width) (v.width - 1)) =
-        length-append (bits_named v) (numbered_from (from + 5 * v.width) (v.width - 1)) in
+    length-append (bits_named v) (numbered_from (from + 5 * v.width) (v.width - 1)) in
     omega (arith, numbers, bits, both, some)
 
 module _ (p : TypedProgram) (vs : List Var) (i from place : ℕ) (v : Var) (within : i < length vs) (is : v ≡ get_or vs i v) (some : 1 ≤ v.width) where
@@ -182,7 +182,7 @@ module _ (p : TypedProgram) (vs : List Var) (i from place : ℕ) (v : Var) (with
   bit_here small =
       ap (λ xs. at_place xs place) block_first
       ∙ (front_named (block_named v from) (names_from_blocks p (drop (i + 1) vs) (from + block_size v.width)) place (block_size v.width)
-          (block_length v from some) (omega (arith, small, some))
+      (block_length v from some) (omega (arith, small, some))
       ∙ front_named (bits_named v) (numbered_from (from + 5 * v.width) (v.width - 1)) place (v.width * 5) (bits_length v) (omega (arith, small)))
 
   pub tree_here : (node : ℕ) → 5 * v.width ≤ place → place < block_size v.width → from + place ≡ node →
@@ -190,7 +190,7 @@ module _ (p : TypedProgram) (vs : List Var) (i from place : ℕ) (v : Var) (with
   tree_here node over small at =
       ap (λ xs. at_place xs place) block_first
       ∙ (front_named (block_named v from) (names_from_blocks p (drop (i + 1) vs) (from + block_size v.width)) place (block_size v.width)
-          (block_length v from some) small
+      (block_length v from some) small
       ∙ (behind_named (bits_named v) (numbered_from (from + 5 * v.width) (v.width - 1)) place (v.width * 5) (bits_length v) (omega (arith, over))
       ∙ number_named (from + 5 * v.width) (v.width - 1) (place - v.width * 5) node (omega (arith, over, small)) (omega (arith, over, at))))
 
@@ -200,7 +200,7 @@ module _ (p : TypedProgram) (vs : List Var) (i from place : ℕ) (v : Var) (with
   block_behind over =
       ap (λ xs. at_place xs place) block_first
       ∙ behind_named (block_named v from) (names_from_blocks p (drop (i + 1) vs) (from + block_size v.width)) place (block_size v.width)
-          (block_length v from some) over
+      (block_length v from some) over
 
 pub blocks_over : (p : TypedProgram) (vs : List Var) (i from place node : ℕ) → length vs ≤ i → root_request p + place ≡ node → node < nodes_of p →
     from ≡ root_request p
@@ -278,9 +278,9 @@ names_counted p declared =
     let blocks = blocks_all p.vars (vars_from p) declared in
     let last : length (last_names p) ≡ 2 + size_of p p.body = numbers_length (root_request p) (2 + size_of p p.body) in
     let tail : length (block_names p.vars (vars_from p) ++ last_names p) ≡ length (block_names p.vars (vars_from p)) + length (last_names p) =
-        length-append (block_names p.vars (vars_from p)) (last_names p) in
+    length-append (block_names p.vars (vars_from p)) (last_names p) in
     let whole : length (wire_names p.channels ++ (block_names p.vars (vars_from p) ++ last_names p)) ≡ length (wire_names p.channels) +
-        length (block_names p.vars (vars_from p) ++ last_names p) = length-append (wire_names p.channels) (block_names p.vars (vars_from p) ++ last_names p) in
+    length (block_names p.vars (vars_from p) ++ last_names p) = length-append (wire_names p.channels) (block_names p.vars (vars_from p) ++ last_names p) in
     omega (arith, wires, blocks, last, tail, whole)
 
 pub inner_named : (p : TypedProgram) (node : ℕ) → All IsDeclaredVar p.vars → root_request p ≤ node → node < nodes_of p → name_of_node p node ≡ numbered node
@@ -289,8 +289,8 @@ inner_named p node declared low high =
     let place : vars_from p - 2 ≡ wires_before p.channels (length p.channels) = omega arith in
     first_named p node (omega (arith, low))
     ∙ (behind_named (wire_names p.channels) (blocks ++ last_names p) (node - 2) (wires_before p.channels (length p.channels)) (wires_all p.channels)
-        (omega (arith, low))
+    (omega (arith, low))
     ∙ (behind_named blocks (last_names p) (node - 2 - wires_before p.channels (length p.channels)) (blocks_before p.vars (length p.vars))
-        (blocks_all p.vars (vars_from p) declared) (omega (arith, low))
+    (blocks_all p.vars (vars_from p) declared) (omega (arith, low))
     ∙ number_named (root_request p) (2 + size_of p p.body) (node - 2 - wires_before p.channels (length p.channels) - blocks_before p.vars (length p.vars)) node
-        (omega (arith, low, high)) (omega (arith, low))))
+    (omega (arith, low, high)) (omega (arith, low))))

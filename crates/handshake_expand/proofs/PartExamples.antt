@@ -75,7 +75,7 @@ again_parts = refl
 abbrev several : TypedProgram
 several = declares (side_by_side (and_member (receiving 0 at 0 at) (and_member
     (in_turn (and_member (choosing false (and_choice (reading 0 0 0 at) send (and_choice (reading 0 1 1 at) send no_choices)))
-        (and_member (assigning 0 at (chained (reading 0 1 0 at) (and_operation op.Add (constant 2 1) no_operations))) no_members)))
+    (and_member (assigning 0 at (chained (reading 0 1 0 at) (and_operation op.Add (constant 2 1) no_operations))) no_members)))
     no_members)))
 
 sites : (expansion several).channels ≡

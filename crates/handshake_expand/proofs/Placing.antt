@@ -122,11 +122,11 @@ module _ (p : TypedProgram) (before : List SiteNode) (site : SiteNode) where
         (λ m c ne. channel_missed m c (ap (same_kind (Send m)) kind ∙ differ m k ne) (ap (same_kind (Receive m)) kind))
         (λ c at. value
         ∙ (ap (λ (b : BlockValue). record b { sends = b.sends ++ site.node ∷ [] })
-            (value_at (channel_block p before) olds p.channels k old c same inside within is at)
+        (value_at (channel_block p before) olds p.channels k old c same inside within is at)
         ∙ (ap (λ ns. channel_with p k c ns (nodes_at (Receive k) before))
-            (sym (nodes_hit (Send k) site before (ap (same_kind (Send k)) kind ∙ eq-eqb k k refl)))
+        (sym (nodes_hit (Send k) site before (ap (same_kind (Send k)) kind ∙ eq-eqb k k refl)))
         ∙ ap (λ ns. channel_with p k c (nodes_at (Send k) (before ++ site ∷ [])) ns)
-            (sym (nodes_missed (Receive k) site before (ap (same_kind (Receive k)) kind)))))))
+        (sym (nodes_missed (Receive k) site before (ap (same_kind (Receive k)) kind)))))))
 
     pub receive_placed : site.kind ≡ Receive k → block_value new ≡ record (block_value old) { receives = old.receives.items ++ site.node ∷ [] } →
         map block_value olds ≡ channel_blocks p before → map block_value (slice_set olds k new) ≡ channel_blocks p (before ++ site ∷ [])
@@ -138,11 +138,11 @@ module _ (p : TypedProgram) (before : List SiteNode) (site : SiteNode) where
         (λ m c ne. channel_missed m c (ap (same_kind (Send m)) kind) (ap (same_kind (Receive m)) kind ∙ differ m k ne))
         (λ c at. value
         ∙ (ap (λ (b : BlockValue). record b { receives = b.receives ++ site.node ∷ [] })
-            (value_at (channel_block p before) olds p.channels k old c same inside within is at)
+        (value_at (channel_block p before) olds p.channels k old c same inside within is at)
         ∙ (ap (λ ns. channel_with p k c ns (nodes_at (Receive k) before ++ site.node ∷ []))
-            (sym (nodes_missed (Send k) site before (ap (same_kind (Send k)) kind)))
+        (sym (nodes_missed (Send k) site before (ap (same_kind (Send k)) kind)))
         ∙ ap (λ ns. channel_with p k c (nodes_at (Send k) (before ++ site ∷ [])) ns)
-            (sym (nodes_hit (Receive k) site before (ap (same_kind (Receive k)) kind ∙ eq-eqb k k refl)))))))
+        (sym (nodes_hit (Receive k) site before (ap (same_kind (Receive k)) kind ∙ eq-eqb k k refl)))))))
 
     pub write_placed : site.kind ≡ Write k → block_value new ≡ record (block_value old) { writes = old.writes.items ++ site.node ∷ [] } →
         map block_value olds ≡ var_blocks p before → map block_value (slice_set olds k new) ≡ var_blocks p (before ++ site ∷ [])
@@ -154,7 +154,7 @@ module _ (p : TypedProgram) (before : List SiteNode) (site : SiteNode) where
         (λ m v ne. var_missed m v (ap (same_kind (Write m)) kind ∙ differ m k ne))
         (λ v at. value
         ∙ (ap (λ (b : BlockValue). record b { writes = b.writes ++ site.node ∷ [] })
-            (value_at (var_block p before) olds p.vars k old v same inside within is at)
+        (value_at (var_block p before) olds p.vars k old v same inside within is at)
         ∙ ap (var_with p k v) (sym (nodes_hit (Write k) site before (ap (same_kind (Write k)) kind ∙ eq-eqb k k refl))))))
 
   -- or there is no block of this number
@@ -163,14 +163,14 @@ module _ (p : TypedProgram) (before : List SiteNode) (site : SiteNode) where
     send_unplaced kind same =
         let count = values_count (channel_block p before) olds p.channels same in
         channels_missed olds (λ m low. (ap (same_kind (Send m)) kind ∙ differ m k (λ e. omega (arith, e, low, over, count)), ap (same_kind (Receive m)) kind))
-            same
+        same
 
     pub receive_unplaced : site.kind ≡ Receive k → map block_value olds ≡ channel_blocks p before →
         map block_value olds ≡ channel_blocks p (before ++ site ∷ [])
     receive_unplaced kind same =
         let count = values_count (channel_block p before) olds p.channels same in
         channels_missed olds (λ m low. (ap (same_kind (Send m)) kind, ap (same_kind (Receive m)) kind ∙ differ m k (λ e. omega (arith, e, low, over, count))))
-            same
+        same
 
     pub write_unplaced : site.kind ≡ Write k → map block_value olds ≡ var_blocks p before → map block_value olds ≡ var_blocks p (before ++ site ∷ [])
     write_unplaced kind same =

@@ -50,11 +50,11 @@ turn_ordered p no_members request from = omega arith
 turn_ordered p (and_member s no_members) request from = ordered_more p s request from from (from + size_of p s) no_children (omega arith) (omega arith)
 turn_ordered p (and_member s (and_member t more)) request from =
     let rest : Ordered (from + 3 + size_of p s) (from + 3 + size_of p s + turn_size p (and_member t more))
-        (expanded_in_turn p (and_member t more) (from + 2) (from + 3 + size_of p s)) =
+    (expanded_in_turn p (and_member t more) (from + 2) (from + 3 + size_of p s)) =
     turn_ordered p (and_member t more) (from + 2) (from + 3 + size_of p s) in
     let end : from + 3 + size_of p s + turn_size p (and_member t more) ≡ from + turn_size p (and_member s (and_member t more)) = omega arith in
     ordered_more p s from (from + 3) from (from + turn_size p (and_member s (and_member t more)))
-        (expanded_in_turn p (and_member t more) (from + 2) (from + 3 + size_of p s)) (omega arith)
+    (expanded_in_turn p (and_member t more) (from + 2) (from + 3 + size_of p s)) (omega arith)
     (subst (λ n. Ordered (from + 3 + size_of p s) n (expanded_in_turn p (and_member t more) (from + 2) (from + 3 + size_of p s))) end rest)
 
 branches_ordered : (p : TypedProgram) (members : Processes) (from high : ℕ) → from + branches_size p members ≤ high →
@@ -62,14 +62,14 @@ branches_ordered : (p : TypedProgram) (members : Processes) (from high : ℕ) �
 branches_ordered p no_members from high room = omega (arith, room)
 branches_ordered p (and_member s more) from high room =
     ordered_more p s from (from + 3) from high (expanded_branches p more (from + 3 + size_of p s)) (omega arith)
-        (branches_ordered p more (from + 3 + size_of p s) high (omega (arith, room)))
+    (branches_ordered p more (from + 3 + size_of p s) high (omega (arith, room)))
 
 bodies_ordered : (p : TypedProgram) (choices : Choices) (start from low high : ℕ) → low ≤ from → from + bodies_size p choices ≤ high →
     Ordered low high (expanded_bodies p choices start from)
 bodies_ordered p no_choices start from low high first room = omega (arith, first, room)
 bodies_ordered p (and_choice g s more) start from low high first room =
     ordered_more p s start from low high (expanded_bodies p more (start + 1) (from + size_of p s)) first
-        (bodies_ordered p more (start + 1) (from + size_of p s) (from + size_of p s) high (omega arith) (omega (arith, room)))
+    (bodies_ordered p more (start + 1) (from + size_of p s) (from + size_of p s) high (omega arith) (omega (arith, room)))
 
 behind : (low high : ℕ) (trees : PartTrees) → Ordered low high trees → low ≤ high
 behind low high no_children h = h
@@ -82,21 +82,23 @@ all_in : (low high : ℕ) (outer : Range) (trees : PartTrees) → Ordered low hi
     All (λ r. LiesIn r outer) (ranges_of trees)
 all_in low high outer no_children h first last = All-nil (λ r. LiesIn r outer)
 all_in low high outer (and_child child more) h first last =
-    All-cons (λ r. LiesIn r outer) (range_of child) (ranges_of more) (omega (arith, h.0, first),
-        omega (arith, behind ((range_of child).from + (range_of child).count) high more h.1, last))
+    All-cons (λ r. LiesIn r outer) (range_of child) (ranges_of more) (
+      omega (arith, h.0, first),
+      omega (arith, behind ((range_of child).from + (range_of child).count) high more h.1, last),
+    )
     (all_in ((range_of child).from + (range_of child).count) high outer more h.1 (omega (arith, h.0, first)) last)
 
 all_behind : (low high : ℕ) (r : Range) (trees : PartTrees) → Ordered low high trees → r.from + r.count ≤ low → All (LiesBefore r) (ranges_of trees)
 all_behind low high r no_children h first = All-nil (LiesBefore r)
 all_behind low high r (and_child child more) h first =
     All-cons (LiesBefore r) (range_of child) (ranges_of more) (omega (arith, h.0, first))
-        (all_behind ((range_of child).from + (range_of child).count) high r more h.1 (omega (arith, h.0, first)))
+    (all_behind ((range_of child).from + (range_of child).count) high r more h.1 (omega (arith, h.0, first)))
 
 each_before : (low high : ℕ) (trees : PartTrees) → Ordered low high trees → AllPairs LiesBefore (ranges_of trees)
 each_before low high no_children h = λ i j d below within. absurd (omega (arith, within))
 each_before low high (and_child child more) h =
     AllPairs-cons LiesBefore (range_of child) (ranges_of more) (all_behind ((range_of child).from + (range_of child).count) high (range_of child) more h.1
-        (omega arith)) (each_before ((range_of child).from + (range_of child).count) high more h.1)
+    (omega arith)) (each_before ((range_of child).from + (range_of child).count) high more h.1)
 
 -- the part of a statement, and those in it
 nests : (p : TypedProgram) (s : Process) (request from low high : ℕ) (children : PartTrees) → Ordered low high children → from ≤ low →
@@ -116,16 +118,16 @@ mutual
   nested p (receiving chan chan_at x var_at) request from = alone (range from (size_of p (receiving chan chan_at x var_at)))
   nested p (in_turn members) request from =
       nests p (in_turn members) request from from (from + turn_size p members) (expanded_in_turn p members request from) (turn_ordered p members request from)
-          (omega arith) (omega arith) (nested_in_turn p members request from)
+      (omega arith) (omega arith) (nested_in_turn p members request from)
   nested p (side_by_side members) request from =
       nests p (side_by_side members) request from from (from + size_of p (side_by_side members)) (expanded_branches p members from)
-          (branches_ordered p members from (from + size_of p (side_by_side members)) (omega arith)) (omega arith) (omega arith) (nested_branches p members from)
+      (branches_ordered p members from (from + size_of p (side_by_side members)) (omega arith)) (omega arith) (omega arith) (nested_branches p members from)
   nested p (choosing again choices) request from =
       let size = choosing_size p again choices in
       nests p (choosing again choices) request from from (from + size_of p (choosing again choices))
-          (expanded_bodies p choices (from + own_before again + choice_count choices) (bodies_from choices (own_before again) from))
+      (expanded_bodies p choices (from + own_before again + choice_count choices) (bodies_from choices (own_before again) from))
       (bodies_ordered p choices (from + own_before again + choice_count choices) (bodies_from choices (own_before again) from) from
-          (from + size_of p (choosing again choices)) (omega arith) (omega (arith, size)))
+      (from + size_of p (choosing again choices)) (omega arith) (omega (arith, size)))
       (omega arith) (omega arith) (nested_bodies p choices (from + own_before again + choice_count choices) (bodies_from choices (own_before again) from))
   nested p (repeating s) request from =
       nests p (repeating s) request from from (from + size_of p (repeating s)) (and_child (expanded p s (from + 1) (from + 2)) no_children)
@@ -151,9 +153,11 @@ root_nested p =
     let from = root_request p in
     let end = from + (2 + size_of p p.body) in
     let child = and_child (expanded p p.body from (body_from p)) no_children in
-    let ordered = ordered_more p p.body from (body_from p) from end no_children (omega arith) (omega arith) in
-    (all_in from end (range from (2 + size_of p p.body)) child ordered (omega arith) (omega arith), each_before from end child ordered,
-        (nested p p.body from (body_from p), tt))
+    let ordered = ordered_more p p.body from (body_from p) from end no_children (omega arith) (omega arith) in (
+      all_in from end (range from (2 + size_of p p.body)) child ordered (omega arith) (omega arith),
+      each_before from end child ordered,
+      (nested p p.body from (body_from p), tt),
+    )
 
 -- the answer of a statement is one of its nodes
 module _ (p : TypedProgram) where
@@ -166,8 +170,10 @@ module _ (p : TypedProgram) where
     pub answer_within : (s : Process) (from : ℕ) → IsProcess p.channels p.vars s → (from ≤ answer_of p s from) × (answer_of p s from < from + size_of p s)
     answer_within skipping from h = (omega arith, omega arith)
     answer_within (assigning x at e) from h =
-        either (reads x e) from (second_answer p x from (formula_size e)) from (through_size (var_width p.vars x) e) (1 + formula_size e) (omega arith,
-            omega arith) (omega arith, omega arith)
+        either (reads x e) from (second_answer p x from (formula_size e)) from (through_size (var_width p.vars x) e) (1 + formula_size e) (
+          omega arith,
+          omega arith,
+        ) (omega arith, omega arith)
     answer_within (sending chan at e) from h = (omega arith, omega arith)
     answer_within (receiving chan chan_at x var_at) from h = (omega arith, omega arith)
     answer_within (in_turn members) from h = turn_within members from (omega (arith, h.0)) h.1
@@ -181,7 +187,7 @@ module _ (p : TypedProgram) where
     turn_within (and_member s no_members) from some h = answer_within s from h.0
     turn_within (and_member s (and_member t more)) from some h =
         let rest : (from + 3 + size_of p s ≤ turn_answer p (and_member t more) (from + 3 + size_of p s))
-            × (turn_answer p (and_member t more) (from + 3 + size_of p s) < from + 3 + size_of p s + turn_size p (and_member t more)) =
+        × (turn_answer p (and_member t more) (from + 3 + size_of p s) < from + 3 + size_of p s + turn_size p (and_member t more)) =
         turn_within (and_member t more) (from + 3 + size_of p s) (omega arith) h.1 in
         (omega (arith, rest.0), omega (arith, rest.1))
 
@@ -205,9 +211,9 @@ module _ (p : TypedProgram) where
       nodes_below (choosing again choices) request from h asked room =
           let size = choosing_size p again choices in
           below (choosing again choices) request from
-              (expanded_bodies p choices (from + own_before again + choice_count choices) (bodies_from choices (own_before again) from)) h asked room
+          (expanded_bodies p choices (from + own_before again + choice_count choices) (bodies_from choices (own_before again) from)) h asked room
           (bodies_below choices (from + own_before again + choice_count choices) (bodies_from choices (own_before again) from) h.2 (omega (arith, size, room))
-              (omega (arith, size, room)))
+          (omega (arith, size, room)))
       nodes_below (repeating s) request from h asked room =
           below (repeating s) request from (and_child (expanded p s (from + 1) (from + 2)) no_children) h asked room
           (nodes_below s (from + 1) (from + 2) h (omega (arith, room)) (omega (arith, room)), tt)
@@ -216,23 +222,26 @@ module _ (p : TypedProgram) where
           HaveNodesBelow n (expanded_in_turn p members request from)
       turn_below no_members request from h asked room = tt
       turn_below (and_member s no_members) request from h asked room = (nodes_below s request from h.0 asked room, tt)
-      turn_below (and_member s (and_member t more)) request from h asked room =
-          (nodes_below s from (from + 3) h.0 (omega (arith, room)) (omega (arith, room)),
-              turn_below (and_member t more) (from + 2) (from + 3 + size_of p s) h.1 (omega (arith, room)) (omega (arith, room)))
+      turn_below (and_member s (and_member t more)) request from h asked room = (
+        nodes_below s from (from + 3) h.0 (omega (arith, room)) (omega (arith, room)),
+        turn_below (and_member t more) (from + 2) (from + 3 + size_of p s) h.1 (omega (arith, room)) (omega (arith, room)),
+      )
 
       branches_below : (members : Processes) (from : ℕ) → AreProcesses p.channels p.vars members → from + branches_size p members ≤ n →
           HaveNodesBelow n (expanded_branches p members from)
       branches_below no_members from h room = tt
-      branches_below (and_member s more) from h room =
-          (nodes_below s from (from + 3) h.0 (omega (arith, room)) (omega (arith, room)),
-          branches_below more (from + 3 + size_of p s) h.1 (omega (arith, room)))
+      branches_below (and_member s more) from h room = (
+        nodes_below s from (from + 3) h.0 (omega (arith, room)) (omega (arith, room)),
+        branches_below more (from + 3 + size_of p s) h.1 (omega (arith, room)),
+      )
 
       bodies_below : (choices : Choices) (start from : ℕ) → AreChoices p.channels p.vars choices → start + choice_count choices ≤ n →
           from + bodies_size p choices ≤ n → HaveNodesBelow n (expanded_bodies p choices start from)
       bodies_below no_choices start from h starts room = tt
-      bodies_below (and_choice g s more) start from h starts room =
-          (nodes_below s start from h.1 (omega (arith, starts)) (omega (arith, room)),
-              bodies_below more (start + 1) (from + size_of p s) h.2 (omega (arith, starts)) (omega (arith, room)))
+      bodies_below (and_choice g s more) start from h starts room = (
+        nodes_below s start from h.1 (omega (arith, starts)) (omega (arith, room)),
+        bodies_below more (start + 1) (from + size_of p s) h.2 (omega (arith, starts)) (omega (arith, room)),
+      )
 
   pub root_below : IsProcess p.channels p.vars p.body → HasNodesBelow (nodes_of p) (root_part p)
   root_below h = (omega arith, omega arith, (nodes_below (nodes_of p) p.body (root_request p) (body_from p) h (omega arith) (omega arith), tt))
@@ -249,7 +258,7 @@ module _ (p : TypedProgram) (sites : List SiteNode) where
       let end_same : 2 + (w + wires_before (c ∷ cs) (length (c ∷ cs))) ≡ 2 + (w + wires_size c.width + wires_before cs (length cs)) = omega arith in
       let tail : Follow (2 + (w + wires_size c.width)) (map block_range (blocks_from (channel_block p sites) (suc k) cs) ++ rest) end =
       channels_follow cs (suc k) (w + wires_size c.width) end rest (λ m. let place : suc k + m ≡ k + suc m = omega arith in
-          omega (arith, before (suc m), ap (wires_before p.channels) place)) (subst (λ n. Follow n rest end) end_same h) in
+      omega (arith, before (suc m), ap (wires_before p.channels) place)) (subst (λ n. Follow n rest end) end_same h) in
       (first, subst (λ n. Follow n (map block_range (blocks_from (channel_block p sites) (suc k) cs) ++ rest) end) next tail)
 
   vars_follow : (vs : List Var) (k w end : ℕ) (rest : List Range) → ((m : ℕ) → blocks_before p.vars (k + m) ≡ w + blocks_before vs m) →
@@ -260,10 +269,10 @@ module _ (p : TypedProgram) (sites : List SiteNode) where
       let first : var_from p k ≡ vars_from p + w = let place : k + 0 ≡ k = omega arith in omega (arith, before 0, ap (blocks_before p.vars) place) in
       let next : vars_from p + (w + block_size v.width) ≡ var_from p k + block_size v.width = omega (arith, first) in
       let end_same : vars_from p + (w + blocks_before (v ∷ vs) (length (v ∷ vs))) ≡ vars_from p + (w + block_size v.width + blocks_before vs (length vs)) =
-          omega arith in
+      omega arith in
       let tail : Follow (vars_from p + (w + block_size v.width)) (map block_range (blocks_from (var_block p sites) (suc k) vs) ++ rest) end =
       vars_follow vs (suc k) (w + block_size v.width) end rest (λ m. let place : suc k + m ≡ k + suc m = omega arith in
-          omega (arith, before (suc m), ap (blocks_before p.vars) place)) (subst (λ n. Follow n rest end) end_same h) in
+      omega (arith, before (suc m), ap (blocks_before p.vars) place)) (subst (λ n. Follow n rest end) end_same h) in
       (first, subst (λ n. Follow n (map block_range (blocks_from (var_block p sites) (suc k) vs) ++ rest) end) next tail)
 
 pub blocks_follow : (p : TypedProgram) → Follow 2 (outer_ranges (expansion p)) (nodes_of p)
@@ -273,7 +282,7 @@ blocks_follow p =
     let root : Follow (root_request p) (range (root_request p) (2 + size_of p p.body) ∷ []) (nodes_of p) = (refl, omega arith) in
     let vars : Follow (vars_from p + 0) (map block_range (var_blocks p sites) ++ range (root_request p) (2 + size_of p p.body) ∷ []) (nodes_of p) =
     vars_follow p sites p.vars 0 0 (nodes_of p) (range (root_request p) (2 + size_of p p.body) ∷ []) (λ m. ap (blocks_before p.vars) (zero_more m)
-        ∙ sym (zero_more (blocks_before p.vars m)))
+    ∙ sym (zero_more (blocks_before p.vars m)))
     (subst (λ n. Follow n (range (root_request p) (2 + size_of p p.body) ∷ []) (nodes_of p)) (omega arith) root) in
     channels_follow p sites p.channels 0 0 (nodes_of p) (map block_range (var_blocks p sites) ++ range (root_request p) (2 + size_of p p.body) ∷ [])
     (λ m. ap (wires_before p.channels) (zero_more m) ∙ sym (zero_more (wires_before p.channels m)))

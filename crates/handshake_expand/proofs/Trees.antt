@@ -20,7 +20,7 @@ trees_row (more_of-Part child rest) = ap (and_child (tree_of child)) (trees_row 
 -- of a part that is made
 pub made_tree : (kind : PartKind) (request answer from count : ℕ) (children : Vec Part Global)
     → tree_of (roll-Part (record { kind = kind; request = request; answer = answer; from = from; count = count; children = children })) ≡
-        part kind request answer from count (each_tree children.items)
+    part kind request answer from count (each_tree children.items)
 made_tree kind request answer from count children =
     ap tree_of (rolls-Part' (record { kind = kind; request = request; answer = answer; from = from; count = count; children = children }))
     ∙ ap (part kind request answer from count) (trees_row (hidden-the_row-Part-0 children) ∙ ap each_tree (items_hidden-the_row-Part-0 children))
@@ -105,7 +105,7 @@ child_answer x p s request from is = answer_read x ∙ (ap tree_answer is ∙ ex
 pub made_part : (kind k : PartKind) (request answer a from count n : ℕ) (children : Vec Part Global) (trees : PartTrees) → kind ≡ k → answer ≡ a → count ≡ n →
     each_tree children.items ≡ trees
     → tree_of (roll-Part (record { kind = kind; request = request; answer = answer; from = from; count = count; children = children })) ≡
-        part k request a from n trees
+    part k request a from n trees
 made_part kind k request answer a from count n children trees is answers counts all =
     made_tree kind request answer from count children
     ∙ (ap (λ x. part x request answer from count (each_tree children.items)) is

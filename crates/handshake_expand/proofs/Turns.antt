@@ -27,7 +27,7 @@ turn_answer_more p s (and_member t more) from some = refl
 
 pub turn_expanded_more : (p : TypedProgram) (s : Process) (more : Processes) (request from : ℕ) → 0 < member_count more
     → expanded_in_turn p (and_member s more) request from ≡ and_child (expanded p s from (from + 3))
-        (expanded_in_turn p more (from + 2) (from + 3 + size_of p s))
+    (expanded_in_turn p more (from + 2) (from + 3 + size_of p s))
 turn_expanded_more p s no_members request from some = absurd (omega arith)
 turn_expanded_more p s (and_member t more) request from some = refl
 
@@ -70,17 +70,17 @@ module _ (p : TypedProgram) (ss : List TStmt) (i : ℕ) (s : TStmt) (is : s ≡ 
       turn_answer p (members_of (drop i ss)) from ≡ turn_answer p (members_of (drop (i + 1) ss)) (from + 3 + size_of p (process_of s))
   answer_here from within =
       ap (λ ms. turn_answer p ms from) (member_at ss i s (omega (arith, within)) is)
-          ∙ turn_answer_more p (process_of s) (members_of (drop (i + 1) ss)) from (some_behind ss i within)
+      ∙ turn_answer_more p (process_of s) (members_of (drop (i + 1) ss)) from (some_behind ss i within)
 
   pub answer_last : (from : ℕ) → i + 1 ≡ length ss → turn_answer p (members_of (drop i ss)) from ≡ answer_of p (process_of s) from
   answer_last from end = ap (λ ms. turn_answer p ms from) (last_alone ss i s end is)
 
   pub expanded_here : (request from : ℕ) → i + 1 < length ss
       → expanded_in_turn p (members_of (drop i ss)) request from ≡ and_child (expanded p (process_of s) from (from + 3))
-          (expanded_in_turn p (members_of (drop (i + 1) ss)) (from + 2) (from + 3 + size_of p (process_of s)))
+      (expanded_in_turn p (members_of (drop (i + 1) ss)) (from + 2) (from + 3 + size_of p (process_of s)))
   expanded_here request from within =
       ap (λ ms. expanded_in_turn p ms request from) (member_at ss i s (omega (arith, within)) is)
-          ∙ turn_expanded_more p (process_of s) (members_of (drop (i + 1) ss)) request from (some_behind ss i within)
+      ∙ turn_expanded_more p (process_of s) (members_of (drop (i + 1) ss)) request from (some_behind ss i within)
 
   pub expanded_last : (request from : ℕ) → i + 1 ≡ length ss →
       expanded_in_turn p (members_of (drop i ss)) request from ≡ and_child (expanded p (process_of s) request from) no_children
@@ -88,10 +88,10 @@ module _ (p : TypedProgram) (ss : List TStmt) (i : ℕ) (s : TStmt) (is : s ≡ 
 
   pub sites_here : {A : Type 0} (site : Sites A) (from : ℕ) → i + 1 < length ss
       → sites_in_turn p site (members_of (drop i ss)) from ≡ sites_in p site (process_of s) (from + 3)
-          ++ sites_in_turn p site (members_of (drop (i + 1) ss)) (from + 3 + size_of p (process_of s))
+      ++ sites_in_turn p site (members_of (drop (i + 1) ss)) (from + 3 + size_of p (process_of s))
   sites_here site from within =
       ap (λ ms. sites_in_turn p site ms from) (member_at ss i s (omega (arith, within)) is)
-          ∙ turn_sites_more p site (process_of s) (members_of (drop (i + 1) ss)) from (some_behind ss i within)
+      ∙ turn_sites_more p site (process_of s) (members_of (drop (i + 1) ss)) from (some_behind ss i within)
 
   pub sites_last : {A : Type 0} (site : Sites A) (from : ℕ) → i + 1 ≡ length ss →
       sites_in_turn p site (members_of (drop i ss)) from ≡ sites_in p site (process_of s) from

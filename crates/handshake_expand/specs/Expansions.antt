@@ -38,13 +38,25 @@ nodes_at kind (s ∷ more) = if same_kind kind s.kind then s.node ∷ nodes_at k
 
 abbrev pub channel_block : TypedProgram → List SiteNode → ℕ → Channel → BlockValue
 channel_block p sites k c =
-    record { from = channel_from p k; count = wires_size c.width; sends = nodes_at (Send k) sites; receives =
-        nodes_at (Receive k) sites; writes = [] }
+    record {
+      from = channel_from p k;
+      count = wires_size c.width;
+      sends = nodes_at (Send k) sites;
+      receives =
+          nodes_at (Receive k) sites;
+      writes = [];
+    }
 
 abbrev pub var_block : TypedProgram → List SiteNode → ℕ → Var → BlockValue
 var_block p sites x v =
-    record { from = var_from p x; count = block_size v.width; sends = []; receives = []; writes =
-        nodes_at (Write x) sites }
+    record {
+      from = var_from p x;
+      count = block_size v.width;
+      sends = [];
+      receives = [];
+      writes =
+          nodes_at (Write x) sites;
+    }
 
 -- those of some channels or variables from a number on
 abbrev pub blocks_from : {A : Type 0} → (block : ℕ → A → BlockValue) → (number : ℕ) → List A → List BlockValue
@@ -64,10 +76,20 @@ expansion p =
 
 -- what the parts of a program are
 abbrev pub block_value : Block → BlockValue
-block_value b = record { from = b.from; count = b.count; sends = b.sends.items; receives = b.receives.items; writes =
-    b.writes.items }
+block_value b = record {
+  from = b.from;
+  count = b.count;
+  sends = b.sends.items;
+  receives = b.receives.items;
+  writes =
+      b.writes.items;
+}
 
 abbrev pub expansion_of : Parts → Expansion
 expansion_of parts =
-    record { channels = map block_value parts.channels.items; vars = map block_value parts.vars.items; root =
-        tree_of parts.root }
+    record {
+      channels = map block_value parts.channels.items;
+      vars = map block_value parts.vars.items;
+      root =
+          tree_of parts.root;
+    }

@@ -1,5 +1,6 @@
--- How the nodes of a program's circuit are numbered: go and done, the wires of each channel, the block of each variable,
--- the root's child request and latch, and the nodes of the body, each statement's own ones before those of its parts.
+-- How the nodes of a program's circuit are numbered: go and done, the wires of each channel, the block of each
+-- variable, the root's child request and latch, and the nodes of the body, each statement's own ones before those of
+-- its parts.
 use Rattle.std.specs.Prelude.{ℕ, zero, suc, ◌+◌, ◌-◌, ◌*◌, ◌^◌, Bool, true, false, ◌||◌, ◌==◌, if◌then◌else◌, min, List, [], ◌∷◌, length}
 use Rattle.chp_base.specs.declared.channel.Channel.{Channel}
 use Rattle.chp_syntax.specs.declared.tree.Op.{Op}

@@ -40,7 +40,7 @@ block_names (v ∷ vs) from =
 abbrev pub node_names : TypedProgram → List (List ℕ)
 node_names p =
     codes "go" ∷ codes "done" ∷ (wire_names p.channels
-        ++ (block_names p.vars (vars_from p) ++ numbered_from (root_request p) (2 + size_of p p.body)))
+    ++ (block_names p.vars (vars_from p) ++ numbered_from (root_request p) (2 + size_of p p.body)))
 
 -- of one node
 abbrev pub name_of_node : TypedProgram → (node : ℕ) → List ℕ

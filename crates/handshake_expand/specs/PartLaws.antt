@@ -36,7 +36,7 @@ abbrev mutual
   pub IsNested : PartTree → Type 0
   IsNested (part kind request answer from count children) =
       All (λ (r : Range). LiesIn r (range from count)) (ranges_of children) × AllPairs LiesBefore (ranges_of children)
-          × AreNested children
+      × AreNested children
 
   pub AreNested : PartTrees → Type 0
   AreNested no_children = Unit {0}

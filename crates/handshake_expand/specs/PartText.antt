@@ -46,7 +46,7 @@ indent (suc level) = codes "  " ++ indent level
 abbrev pub part_line : TypedProgram → (indent : List ℕ) → PartKind → (request answer from count : ℕ) → List ℕ
 part_line p indent kind request answer from count =
     concat (indent ∷ kind_word kind ∷ codes " " ∷ name_of_node p request ∷ codes " " ∷ name_of_node p answer ∷ codes " "
-        ∷ decimal from ∷ codes " " ∷ decimal count ∷ codes "\n" ∷ [])
+    ∷ decimal from ∷ codes " " ∷ decimal count ∷ codes "\n" ∷ [])
 
 abbrev mutual
   pub part_lines : TypedProgram → (level : ℕ) → PartTree → List ℕ

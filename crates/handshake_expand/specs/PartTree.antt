@@ -48,8 +48,8 @@ abbrev mutual
       part_over p (side_by_side members) request from (expanded_branches p members from)
   expanded p (choosing again choices) request from =
       part_over p (choosing again choices) request from
-          (expanded_bodies p choices (from + own_before again + choice_count choices)
-          (bodies_from choices (own_before again) from))
+      (expanded_bodies p choices (from + own_before again + choice_count choices)
+      (bodies_from choices (own_before again) from))
   expanded p (repeating s) request from =
       part_over p (repeating s) request from (and_child (expanded p s (from + 1) (from + 2)) no_children)
   expanded p s request from = part_over p s request from no_children
@@ -60,7 +60,7 @@ abbrev mutual
   expanded_in_turn p (and_member s no_members) request from = and_child (expanded p s request from) no_children
   expanded_in_turn p (and_member s (and_member t more)) request from =
       and_child (expanded p s from (from + 3))
-          (expanded_in_turn p (and_member t more) (from + 2) (from + 3 + size_of p s))
+      (expanded_in_turn p (and_member t more) (from + 2) (from + 3 + size_of p s))
 
   -- each branch stands behind a Q-element
   pub expanded_branches : TypedProgram → Processes → (from : ℕ) → PartTrees
@@ -78,7 +78,7 @@ abbrev mutual
 abbrev pub root_part : TypedProgram → PartTree
 root_part p =
     part Root go_node done_node (root_request p) (2 + size_of p p.body)
-        (and_child (expanded p p.body (root_request p) (body_from p)) no_children)
+    (and_child (expanded p p.body (root_request p) (body_from p)) no_children)
 
 -- the tree that a part is, and the members and arms of statements as lists
 abbrev mutual

@@ -43,8 +43,9 @@ in_body p site = sites_in p site p.body (body_from p)
 abbrev pub site_node : SiteKind → ℕ → SiteNode
 site_node kind node = record { kind = kind; node = node }
 
--- Each site with the first of its own nodes. A write's is the node that answers it, behind which the rails stand by which
--- the variable is written: that of the second assignment, where there are two, and that of the store, in a receive.
+-- Each site with the first of its own nodes. A write's is the node that answers it, behind which the rails stand by
+-- which the variable is written: that of the second assignment, where there are two, and that of the store, in a
+-- receive.
 abbrev pub own_sites : TypedProgram → Sites SiteNode
 own_sites p (assigning x at e) from = site_node (Write x) (answer_of p (assigning x at e) from) ∷ []
 own_sites p (sending chan at e) from = site_node (Send chan) from ∷ []

@@ -33,8 +33,8 @@ pub struct Part {
     pub children: Vec<Part>,
 }
 
-/// The nodes of a channel's wires or of a variable, and the first own node of each site: of the sends and receives on the
-/// channel, or of the writes of the variable, in text order. A write's first own node is the one that answers it.
+/// The nodes of a channel's wires or of a variable, and the first own node of each site: of the sends and receives on
+/// the channel, or of the writes of the variable, in text order. A write's first own node is the one that answers it.
 #[derive(Debug, Drop)]
 pub struct Block {
     pub from: u32,

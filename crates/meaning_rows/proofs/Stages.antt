@@ -58,8 +58,8 @@ later : (tag : Deed → ℕ) (n : ℕ) (ms : Processes) (o : Occurrence) → Are
 later tag n no_members o tagged there = absurd (none_there o there)
 later tag n (and_member p more) o tagged there =
     ⊎_elim (λ first. let e : tag o.deed ≡ n = All-contains (λ (x : Occurrence). tag x.deed ≡ n) (occurrences p) o tagged.1 first in
-        omega arith) (λ rest. let below : suc n ≤ tag o.deed = later tag (suc n) more o tagged.2 rest in
-        omega arith) (Contains-append_cases (occurrences p) (occurrences_of_each more) o there)
+    omega arith) (λ rest. let below : suc n ≤ tag o.deed = later tag (suc n) more o tagged.2 rest in
+    omega arith) (Contains-append_cases (occurrences p) (occurrences_of_each more) o there)
 
 inside_none : (tag : Deed → ℕ) (n : ℕ) (ms : Processes) (a b : Occurrence) → AreTagged tag n ms → ¬ ParallelInside ms a b
 inside_none tag n no_members a b tagged none = none
@@ -76,7 +76,7 @@ across_differ : (tag : Deed → ℕ) (n : ℕ) (ms : Processes) (a b : Occurrenc
 across_differ tag n no_members a b tagged none same = none
 across_differ tag n (and_member p more) a b tagged across same =
     ⊎_elim (⊎_elim (λ there. let below = apart tag n p more a b tagged there.0 there.1 in absurd (omega arith)) (λ there. let below =
-        apart tag n p more b a tagged there.1 there.0 in absurd (omega arith))) (λ rest. across_differ tag (suc n) more a b tagged.2 rest same) across
+    apart tag n p more b a tagged there.1 there.0 in absurd (omega arith))) (λ rest. across_differ tag (suc n) more a b tagged.2 rest same) across
 
 tagged_differ : (tag : Deed → ℕ) (ms : Processes) (a b : Occurrence) → AreTagged tag 0 ms → Parallel (side_by_side ms) a b → tag a.deed ≢ tag b.deed
 tagged_differ tag ms a b tagged parallel = ⊎_elim (λ inside. absurd (inside_none tag 0 ms a b tagged inside)) (across_differ tag 0 ms a b tagged) parallel
@@ -120,15 +120,17 @@ one_more_stage n (x ∷ ss) s stages alone stage =
 four : {X : Type 0} (P : X → Type 0) (a b c d : X) → P a → P b → P c → P d → All P (a ∷ b ∷ c ∷ d ∷ [])
 four P a b c d p q r s = All-cons P a (b ∷ c ∷ d ∷ []) p (All-cons P b (c ∷ d ∷ []) q (All-cons P c (d ∷ []) r (All-cons P d [] s (All-nil P))))
 
-pub copy_stage : (p : Process) (e : Formula) (from to : ℕ) → p ≡ repeating (both (receiving from place_nowhere from place_nowhere) (sending to place_nowhere e)) →
+pub copy_stage : (p : Process) (e : Formula) (from to : ℕ) →
+    p ≡ repeating (both (receiving from place_nowhere from place_nowhere) (sending to place_nowhere e)) →
     e ≡ reading from 3 0 place_nowhere → to ≡ from + 1 → IsStage from p
 copy_stage p e from to is reads next =
     let sent : to - 1 ≡ from = omega arith in
     let same : p ≡ repeating (both (receiving from place_nowhere from place_nowhere) (sending to place_nowhere (reading from 3 0 place_nowhere))) =
-        is ∙ ap (λ f. repeating (both (receiving from place_nowhere from place_nowhere) (sending to place_nowhere f))) reads in
+    is ∙ ap (λ f. repeating (both (receiving from place_nowhere from place_nowhere) (sending to place_nowhere f))) reads in
     let all : IsStage from (repeating (both (receiving from place_nowhere from place_nowhere) (sending to place_nowhere (reading from 3 0 place_nowhere)))) =
-        four (λ (o : Occurrence). stage_of o.deed ≡ from) (done_at (receives_on from) place_nowhere) (done_at (writes_var from) place_nowhere) (done_at (sends_on to) place_nowhere)
-        (done_at (reads_var from) place_nowhere) refl refl sent refl in
+    four (λ (o : Occurrence). stage_of o.deed ≡ from) (done_at (receives_on from) place_nowhere) (done_at (writes_var from) place_nowhere)
+    (done_at (sends_on to) place_nowhere)
+    (done_at (reads_var from) place_nowhere) refl refl sent refl in
     subst (λ q. IsStage from q) (sym same) all
 
 -- One receives and the other one sends
@@ -151,7 +153,8 @@ receive_end : (d e : Deed) → Clashes code.SharedReceive d e → end_of d ≡ e
 receive_end (receives_on x) (receives_on y) is = refl
 receive_end _ _ clash = absurd clash
 
-pub late_meets : (p q : Process) (e : Formula) → p ≡ alongside_it (both skipping (receiving 0 place_nowhere 0 place_nowhere)) q → q ≡ sending 0 place_nowhere e → reads_of e ≡ [] →
+pub late_meets : (p q : Process) (e : Formula) → p ≡ alongside_it (both skipping (receiving 0 place_nowhere 0 place_nowhere)) q →
+    q ≡ sending 0 place_nowhere e → reads_of e ≡ [] →
     MeetsSharing p
 late_meets p q e is sends reads =
     let P : Occurrence → Type 0 = λ o. end_of o.deed ≡ 0 in
@@ -159,14 +162,21 @@ late_meets p q e is sends reads =
     let receives : IsSequential (receiving 0 place_nowhere 0 place_nowhere) = λ a b none. none in
     let skips : IsSequential skipping = λ a b none. none in
     let first : All P (done_at (receives_on 0) place_nowhere ∷ done_at (writes_var 0) place_nowhere ∷ []) =
-        All-cons P (done_at (receives_on 0) place_nowhere) (done_at (writes_var 0) place_nowhere ∷ []) refl (All-cons P (done_at (writes_var 0) place_nowhere) [] refl (All-nil P)) in
+    All-cons P (done_at (receives_on 0) place_nowhere) (done_at (writes_var 0) place_nowhere ∷ []) refl
+    (All-cons P (done_at (writes_var 0) place_nowhere) [] refl (All-nil P)) in
     let last : All Q (occurrences (sending 0 place_nowhere e)) =
-        subst (λ (xs : List Occurrence). All Q (done_at (sends_on 0) place_nowhere ∷ xs)) (sym reads) (All-cons Q (done_at (sends_on 0) place_nowhere) [] refl (All-nil Q)) in
+    subst (λ (xs : List Occurrence). All Q (done_at (sends_on 0) place_nowhere ∷ xs)) (sym reads)
+    (All-cons Q (done_at (sends_on 0) place_nowhere) [] refl (All-nil Q)) in
     let same : p ≡ alongside_it (both skipping (receiving 0 place_nowhere 0 place_nowhere)) (sending 0 place_nowhere e) =
-        is ∙ ap (alongside_it (both skipping (receiving 0 place_nowhere 0 place_nowhere))) sends in
+    is ∙ ap (alongside_it (both skipping (receiving 0 place_nowhere 0 place_nowhere))) sends in
     subst (λ x. MeetsSharing x) (sym same) (tagged_meets end_of
-        (and_member (both skipping (receiving 0 place_nowhere 0 place_nowhere)) (and_member (sending 0 place_nowhere e) no_members)) (record { var = var_end; send = send_end; receive =
-        receive_end }) (both_sequential skipping (receiving 0 place_nowhere 0 place_nowhere) skips receives, first, (λ a b none. none, last, tt)))
+    (and_member (both skipping (receiving 0 place_nowhere 0 place_nowhere)) (and_member (sending 0 place_nowhere e) no_members))
+    (record {
+      var = var_end;
+      send = send_end;
+      receive =
+          receive_end;
+    }) (both_sequential skipping (receiving 0 place_nowhere 0 place_nowhere) skips receives, first, (λ a b none. none, last, tt)))
 
 pub if_ok_more : {A E : Type 0} (r : Result A E) (P Q : A → Type 0) → ((a : A) → P a → Q a) → IfOk r P → IfOk r Q
 if_ok_more (Ok a) P Q more p = more a p

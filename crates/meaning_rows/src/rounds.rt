@@ -217,8 +217,8 @@ fn meets_in_the_second_round(alloc: Global, page: &mut String) -> Result<(), Sto
     Ok(())
 }
 
-/// `out A : 1; out B : 1; var x : 2; begin [x = 0 -> A!1 [] x < 2 -> B!1] end` with some first value of x, or the guarded
-/// repetition of these arms.
+/// `out A : 1; out B : 1; var x : 2; begin [x = 0 -> A!1 [] x < 2 -> B!1] end` with some first value of x, or the
+/// guarded repetition of these arms.
 fn chooses(alloc: Global, again: bool, x: u64) -> Result<Typed, Stop>
     ensures { IfOk result (λ p. MeetsSharing (process_of p.body)) }
 {
@@ -300,8 +300,8 @@ fn long_script(alloc: Global) -> Result<Vec<u8>, AllocError>
     Ok(text)
 }
 
-// A benchmark. A stage begins again, receives and sends in three rounds, so the value of number n, counted from 0, passes
-// on the channel of number c in round c + 2 + 3 * n.
+// A benchmark. A stage begins again, receives and sends in three rounds, so the value of number n, counted from 0,
+// passes on the channel of number c in round c + 2 + 3 * n.
 fn streams_through_many_stages(alloc: Global, page: &mut String) -> Result<(), Stop> {
     let script = long_script(alloc)?;
     let program = streams(alloc)?;

@@ -33,8 +33,8 @@ element_ports count request child_answer from before behind within = record {
 
 pub element_wrote : (request child_answer from : ℕ) (r : RulesValue)
     → with_q (record { request = request; child_request = from; child_answer = child_answer; latch = from + 1; next = from + 2 }) r ≡
-        with_owned (owned_from from (q_rules request child_answer from)) r
+    with_owned (owned_from from (q_rules request child_answer from)) r
 element_wrote request child_answer from r =
     let e : from + 2 ≡ from + 1 + 1 = omega arith in
     ap (λ k. with_rules k (q_next (from + 1) child_answer)
-        (with_rules (from + 1) (q_latch request child_answer) (with_rules from (q_child request (from + 1)) r))) e
+    (with_rules (from + 1) (q_latch request child_answer) (with_rules from (q_child request (from + 1)) r))) e

@@ -124,10 +124,10 @@ module _ (p : TypedProgram) (vars : List ℕ) (are : vars ≡ var_firsts p) (x :
 pub sent_wrote : (p : TypedProgram) (request ack chan from : ℕ) (at : Span) (e : Formula) (old mid new : RulesValue) → ack ≡ ack_at p chan →
     mid ≡ with_owned (end_owned request ack from) old
     → new ≡ with_owned (owned_from (from + 1) (formula_rules (bits_at p) e request (from + 1))) mid →
-        new ≡ with_owned (owned_from from (rules_of p (sending chan at e) request from)) old
+    new ≡ with_owned (owned_from from (rules_of p (sending chan at e) request from)) old
 sent_wrote p request ack chan from at e old mid new is first then =
     then ∙ ap (with_owned (owned_from (from + 1) (formula_rules (bits_at p) e request (from + 1)))) (first
-        ∙ ap (λ a. with_owned (end_owned request a from) old) is)
+    ∙ ap (λ a. with_owned (end_owned request a from) old) is)
 
 pub assigned_wrote : (p : TypedProgram) (request written x from : ℕ) (e : Formula) (old mid new : RulesValue) → written ≡ written_at p x →
     mid ≡ with_owned (write_owned request written from) old
@@ -135,13 +135,13 @@ pub assigned_wrote : (p : TypedProgram) (request written x from : ℕ) (e : Form
     → new ≡ with_owned (owned_from from (write_answer request (written_at p x) ∷ formula_rules (bits_at p) e request (from + 1))) old
 assigned_wrote p request written x from e old mid new is first then =
     then ∙ ap (with_owned (owned_from (from + 1) (formula_rules (bits_at p) e request (from + 1)))) (first
-        ∙ ap (λ w. with_owned (write_owned request w from) old) is)
+    ∙ ap (λ w. with_owned (write_owned request w from) old) is)
 
 pub received_wrote : (p : TypedProgram) (request ack written chan x from : ℕ) (rails : List ℕ) (chan_at var_at : Span) (old mid next new : RulesValue) →
     ack ≡ ack_at p chan → written ≡ written_at p x
     → rails ≡ rails_of (rails_at p chan) → mid ≡ with_owned (end_owned request ack from) old → next ≡ with_owned (write_owned request written (from + 1)) mid
     → new ≡ with_owned (port_owned request rails (from + 2)) next →
-        new ≡ with_owned (owned_from from (rules_of p (receiving chan chan_at x var_at) request from)) old
+    new ≡ with_owned (owned_from from (rules_of p (receiving chan chan_at x var_at) request from)) old
 received_wrote p request ack written chan x from rails chan_at var_at old mid next new acked stored are first second third =
     let two : from + 2 ≡ from + 1 + 1 = omega arith in
     let ports = taken_rails request (rails_of (rails_at p chan)) in

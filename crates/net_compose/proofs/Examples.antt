@@ -154,8 +154,12 @@ loops_names = refl
 
 -- chan X : 1; var v : 1; begin X!1 || X?v end
 abbrev meets : TypedProgram
-meets = record { channels = channel Chan 1 ∷ []; vars = var 1 0 ∷ []; body =
-    (side_by_side (and_member (sending 0 at (constant 1 1)) (and_member (receiving 0 at 0 at) no_members))) }
+meets = record {
+  channels = channel Chan 1 ∷ [];
+  vars = var 1 0 ∷ [];
+  body =
+      (side_by_side (and_member (sending 0 at (constant 1 1)) (and_member (receiving 0 at 0 at) no_members)));
+}
 
 abbrev meets_rows : List NodeRules
 meets_rows =
@@ -195,9 +199,13 @@ meets_names = refl
 
 -- var x : 1 = 1; begin [x = 0 -> skip [] x = 1 -> skip] end
 abbrev selects : TypedProgram
-selects = record { channels = []; vars = var 1 1 ∷ []; body =
-    (choosing false (and_choice (compared op.Eq (reading 0 0 0 at) (constant 1 0)) skipping
-    (and_choice (compared op.Eq (reading 0 0 0 at) (constant 1 1)) skipping no_choices))) }
+selects = record {
+  channels = [];
+  vars = var 1 1 ∷ [];
+  body =
+      (choosing false (and_choice (compared op.Eq (reading 0 0 0 at) (constant 1 0)) skipping
+      (and_choice (compared op.Eq (reading 0 0 0 at) (constant 1 1)) skipping no_choices)));
+}
 
 abbrev selects_rows : List NodeRules
 selects_rows =
@@ -241,8 +249,12 @@ selects_names = refl
 
 -- var x : 1; begin x := x + 1 end: through a hidden variable
 abbrev increments : TypedProgram
-increments = record { channels = []; vars = var 1 0 ∷ []; body =
-    (assigning 0 at (chained (reading 0 0 0 at) (and_operation op.Add (constant 1 1) no_operations))) }
+increments = record {
+  channels = [];
+  vars = var 1 0 ∷ [];
+  body =
+      (assigning 0 at (chained (reading 0 0 0 at) (and_operation op.Add (constant 1 1) no_operations)));
+}
 
 abbrev increments_rows : List NodeRules
 increments_rows =
@@ -283,8 +295,12 @@ increments_names = refl
 
 -- var x : 1 = 1; begin *[x = 0 -> skip] end
 abbrev repeats : TypedProgram
-repeats = record { channels = []; vars = var 1 1 ∷ []; body =
-    (choosing true (and_choice (compared op.Eq (reading 0 0 0 at) (constant 1 0)) skipping no_choices)) }
+repeats = record {
+  channels = [];
+  vars = var 1 1 ∷ [];
+  body =
+      (choosing true (and_choice (compared op.Eq (reading 0 0 0 at) (constant 1 0)) skipping no_choices));
+}
 
 abbrev repeats_rows : List NodeRules
 repeats_rows =
@@ -354,8 +370,12 @@ three_beside_names = refl
 
 -- in L : 2; var x : 2; begin L?x; x := 2 end: a variable with two write sites
 abbrev two_sites : TypedProgram
-two_sites = record { channels = channel In 2 ∷ []; vars = var 2 0 ∷ []; body =
-    (in_turn (and_member (receiving 0 at 0 at) (and_member (assigning 0 at (constant 2 2)) no_members))) }
+two_sites = record {
+  channels = channel In 2 ∷ [];
+  vars = var 2 0 ∷ [];
+  body =
+      (in_turn (and_member (receiving 0 at 0 at) (and_member (assigning 0 at (constant 2 2)) no_members)));
+}
 
 abbrev two_sites_rows : List NodeRules
 two_sites_rows =
@@ -403,9 +423,13 @@ two_sites_names = refl
 
 -- out X : 1; out Y : 2; var x : 2 = 1; var y : 2; begin X!x < y; Y!x - y end
 abbrev differs : TypedProgram
-differs = record { channels = channel Out 1 ∷ channel Out 2 ∷ []; vars = var 2 1 ∷ var 2 0 ∷ []; body =
-    (in_turn (and_member (sending 0 at (compared op.Lt (reading 0 1 0 at) (reading 1 1 0 at)))
-    (and_member (sending 1 at (chained (reading 0 1 0 at) (and_operation op.Sub (reading 1 1 0 at) no_operations))) no_members))) }
+differs = record {
+  channels = channel Out 1 ∷ channel Out 2 ∷ [];
+  vars = var 2 1 ∷ var 2 0 ∷ [];
+  body =
+      (in_turn (and_member (sending 0 at (compared op.Lt (reading 0 1 0 at) (reading 1 1 0 at)))
+      (and_member (sending 1 at (chained (reading 0 1 0 at) (and_operation op.Sub (reading 1 1 0 at) no_operations))) no_members)));
+}
 
 abbrev differs_rows : List NodeRules
 differs_rows =
@@ -458,9 +482,9 @@ differs_rows =
     ∷ turns (all (hi 39 ∷ hi 42 ∷ [])) (all (lo 38 ∷ lo 39 ∷ lo 42 ∷ lo 43 ∷ []))
     ∷ turns ((hi 39 ∷ hi 43 ∷ []) ∷ (hi 38 ∷ hi 43 ∷ []) ∷ (hi 38 ∷ hi 42 ∷ []) ∷ []) (all (lo 38 ∷ lo 39 ∷ lo 42 ∷ lo 43 ∷ []))
     ∷ turns ((hi 41 ∷ hi 44 ∷ hi 47 ∷ []) ∷ (hi 41 ∷ hi 45 ∷ hi 46 ∷ []) ∷ (hi 41 ∷ hi 44 ∷ hi 46 ∷ []) ∷ (hi 40 ∷ hi 44 ∷ hi 46 ∷ []) ∷ [])
-        (all (lo 40 ∷ lo 41 ∷ lo 44 ∷ lo 45 ∷ lo 46 ∷ lo 47 ∷ []))
+    (all (lo 40 ∷ lo 41 ∷ lo 44 ∷ lo 45 ∷ lo 46 ∷ lo 47 ∷ []))
     ∷ turns ((hi 41 ∷ hi 45 ∷ hi 47 ∷ []) ∷ (hi 40 ∷ hi 45 ∷ hi 47 ∷ []) ∷ (hi 40 ∷ hi 44 ∷ hi 47 ∷ []) ∷ (hi 40 ∷ hi 45 ∷ hi 46 ∷ []) ∷ [])
-        (all (lo 40 ∷ lo 41 ∷ lo 44 ∷ lo 45 ∷ lo 46 ∷ lo 47 ∷ []))
+    (all (lo 40 ∷ lo 41 ∷ lo 44 ∷ lo 45 ∷ lo 46 ∷ lo 47 ∷ []))
     ∷ turns (all (hi 36 ∷ hi 9 ∷ [])) (all (lo 9 ∷ []))
     ∷ turns (all (hi 36 ∷ hi 10 ∷ [])) (all (lo 36 ∷ []))
     ∷ turns (all (hi 36 ∷ hi 11 ∷ [])) (all (lo 36 ∷ []))
@@ -475,9 +499,9 @@ differs_rows =
     ∷ turns (all (hi 52 ∷ hi 55 ∷ [])) (all (lo 51 ∷ lo 52 ∷ lo 55 ∷ lo 56 ∷ []))
     ∷ turns ((hi 52 ∷ hi 56 ∷ []) ∷ (hi 51 ∷ hi 56 ∷ []) ∷ (hi 51 ∷ hi 55 ∷ []) ∷ []) (all (lo 51 ∷ lo 52 ∷ lo 55 ∷ lo 56 ∷ []))
     ∷ turns ((hi 53 ∷ hi 58 ∷ hi 62 ∷ []) ∷ (hi 54 ∷ hi 57 ∷ hi 62 ∷ []) ∷ (hi 54 ∷ hi 58 ∷ hi 61 ∷ []) ∷ (hi 53 ∷ hi 57 ∷ hi 61 ∷ []) ∷ [])
-        (all (lo 53 ∷ lo 54 ∷ lo 57 ∷ lo 58 ∷ lo 61 ∷ lo 62 ∷ []))
+    (all (lo 53 ∷ lo 54 ∷ lo 57 ∷ lo 58 ∷ lo 61 ∷ lo 62 ∷ []))
     ∷ turns ((hi 54 ∷ hi 58 ∷ hi 62 ∷ []) ∷ (hi 53 ∷ hi 57 ∷ hi 62 ∷ []) ∷ (hi 53 ∷ hi 58 ∷ hi 61 ∷ []) ∷ (hi 54 ∷ hi 57 ∷ hi 61 ∷ []) ∷ [])
-        (all (lo 53 ∷ lo 54 ∷ lo 57 ∷ lo 58 ∷ lo 61 ∷ lo 62 ∷ []))
+    (all (lo 53 ∷ lo 54 ∷ lo 57 ∷ lo 58 ∷ lo 61 ∷ lo 62 ∷ []))
     ∷ []
 
 differs_net : nameless (translation differs) ≡ a_net differs_rows (10 ∷ 16 ∷ 22 ∷ 27 ∷ []) (wires (channel Out 1) (2 ∷ 3 ∷ []) 4
@@ -489,8 +513,12 @@ differs_names = refl
 
 -- out X : 3; var x : 2 = 2; begin X!{x[0], ~x} end
 abbrev joins : TypedProgram
-joins = record { channels = channel Out 3 ∷ []; vars = var 2 2 ∷ []; body =
-    (sending 0 at (joined (and_part (reading 0 0 0 at) (and_part (inverted (reading 0 1 0 at)) no_parts)))) }
+joins = record {
+  channels = channel Out 3 ∷ [];
+  vars = var 2 2 ∷ [];
+  body =
+      (sending 0 at (joined (and_part (reading 0 0 0 at) (and_part (inverted (reading 0 1 0 at)) no_parts))));
+}
 
 abbrev joins_rows : List NodeRules
 joins_rows =

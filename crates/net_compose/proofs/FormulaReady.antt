@@ -44,8 +44,11 @@ module _ (p : TypedProgram) (vars : List ℕ) (are : vars ≡ var_firsts p) wher
     pub bits_there : (count request : ℕ) → root_request p ≤ request → request < count → EachRead (HasBit count vars) e
     bits_there count request asked few =
         each_of (HasBit count vars) p.vars e formed read
-        (λ x i l m small. record { entry = (let n = firsts_count in omega (arith, n, l)); within =
-            (let b = bit_before x i l m in omega (arith, b, asked, few)) })
+        (λ x i l m small. record {
+          entry = (let n = firsts_count in omega (arith, n, l));
+          within =
+              (let b = bit_before x i l m in omega (arith, b, asked, few));
+        })
 
     abbrev IsBefore : ℕ → Type 0
     IsBefore rail = rail < root_request p

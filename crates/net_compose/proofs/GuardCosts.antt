@@ -45,9 +45,9 @@ pub net_cost : (rs : List NodeRules) → sum_by guard_literals (map (λ (r : Nod
 net_cost [] = refl
 net_cost (r ∷ rs) =
     let ups : sum_by guard_literals (map (λ (r : NodeRules). r.up) (r ∷ rs)) ≡ 0 + guard_literals r.up +
-        sum_by guard_literals (map (λ (r : NodeRules). r.up) rs) = sum_by-append guard_literals (r.up ∷ []) (map (λ (r : NodeRules). r.up) rs) in
+    sum_by guard_literals (map (λ (r : NodeRules). r.up) rs) = sum_by-append guard_literals (r.up ∷ []) (map (λ (r : NodeRules). r.up) rs) in
     let downs : sum_by guard_literals (map (λ (r : NodeRules). r.down) (r ∷ rs)) ≡ 0 + guard_literals r.down +
-        sum_by guard_literals (map (λ (r : NodeRules). r.down) rs) = sum_by-append guard_literals (r.down ∷ []) (map (λ (r : NodeRules). r.down) rs) in
+    sum_by guard_literals (map (λ (r : NodeRules). r.down) rs) = sum_by-append guard_literals (r.down ∷ []) (map (λ (r : NodeRules). r.down) rs) in
     let up = literals_are r.up in
     let down = literals_are r.down in
     let rest = net_cost rs in
@@ -87,21 +87,21 @@ rows_of_three a b c (row ∷ rows) =
 two_cheap : (a b : Pair) (f : List Bool → Bool) → Cheap (gate (a ∷ b ∷ []) f)
 two_cheap a b f =
     let both : length (filter f (table 2)) + length (filter (λ row. not (f row)) (table 2)) ≡ 4 =
-        length-filter_both f (λ row. not (f row)) (λ row. refl) (table 2) in
+    length-filter_both f (λ row. not (f row)) (λ row. refl) (table 2) in
     let t = rows_of_two a b (filter f (table 2)) in
     let u = rows_of_two a b (filter (λ row. not (f row)) (table 2)) in
     let whole : cost (gate (a ∷ b ∷ []) f) ≡ literals_in (map (minterm (a ∷ b ∷ [])) (filter f (table 2))) + 4 +
-        (literals_in (map (minterm (a ∷ b ∷ [])) (filter (λ row. not (f row)) (table 2))) + 4 + 0) = refl in
+    (literals_in (map (minterm (a ∷ b ∷ [])) (filter (λ row. not (f row)) (table 2))) + 4 + 0) = refl in
     omega (arith, both, t, u, whole)
 
 three_cheap : (a b c : Pair) (f : List Bool → Bool) → Cheap (gate (a ∷ b ∷ c ∷ []) f)
 three_cheap a b c f =
     let both : length (filter f (table 3)) + length (filter (λ row. not (f row)) (table 3)) ≡ 8 =
-        length-filter_both f (λ row. not (f row)) (λ row. refl) (table 3) in
+    length-filter_both f (λ row. not (f row)) (λ row. refl) (table 3) in
     let t = rows_of_three a b c (filter f (table 3)) in
     let u = rows_of_three a b c (filter (λ row. not (f row)) (table 3)) in
     let whole : cost (gate (a ∷ b ∷ c ∷ []) f) ≡ literals_in (map (minterm (a ∷ b ∷ c ∷ [])) (filter f (table 3))) + 6 +
-        (literals_in (map (minterm (a ∷ b ∷ c ∷ [])) (filter (λ row. not (f row)) (table 3))) + 6 + 0) = refl in
+    (literals_in (map (minterm (a ∷ b ∷ c ∷ [])) (filter (λ row. not (f row)) (table 3))) + 6 + 0) = refl in
     omega (arith, both, t, u, whole)
 
 -- of two bits, and of what is carried from below
@@ -122,21 +122,21 @@ ripple_cheap carry (x ∷ w ∷ xs) [] carried from few = omega arith
 ripple_cheap carry (x ∷ []) (y ∷ []) carried from few = carrying_cheap x y carried odd_ones few
 ripple_cheap carry (x ∷ []) (y ∷ z ∷ ys) carried from few =
     cheap-append (gate (x ∷ y ∷ carried) odd_ones) (gate (x ∷ y ∷ carried) carry ++ ripple carry [] (z ∷ ys) (pair_at (from + 2) ∷ []) (from + 4))
-        (carrying_cheap x y carried odd_ones few)
+    (carrying_cheap x y carried odd_ones few)
     (cheap-append (gate (x ∷ y ∷ carried) carry) (ripple carry [] (z ∷ ys) (pair_at (from + 2) ∷ []) (from + 4)) (carrying_cheap x y carried carry few)
-        (ripple_cheap carry [] (z ∷ ys) (pair_at (from + 2) ∷ []) (from + 4) (omega arith)))
+    (ripple_cheap carry [] (z ∷ ys) (pair_at (from + 2) ∷ []) (from + 4) (omega arith)))
 ripple_cheap carry (x ∷ w ∷ xs) (y ∷ ys) carried from few =
     cheap-append (gate (x ∷ y ∷ carried) odd_ones) (gate (x ∷ y ∷ carried) carry ++ ripple carry (w ∷ xs) ys (pair_at (from + 2) ∷ []) (from + 4))
-        (carrying_cheap x y carried odd_ones few)
+    (carrying_cheap x y carried odd_ones few)
     (cheap-append (gate (x ∷ y ∷ carried) carry) (ripple carry (w ∷ xs) ys (pair_at (from + 2) ∷ []) (from + 4)) (carrying_cheap x y carried carry few)
-        (ripple_cheap carry (w ∷ xs) ys (pair_at (from + 2) ∷ []) (from + 4) (omega arith)))
+    (ripple_cheap carry (w ∷ xs) ys (pair_at (from + 2) ∷ []) (from + 4) (omega arith)))
 
 borrows_cheap : (xs ys borrowed : List Pair) (from : ℕ) → length borrowed ≤ 1 → Cheap (borrow_gates xs ys borrowed from)
 borrows_cheap [] ys borrowed from few = omega arith
 borrows_cheap (x ∷ xs) [] borrowed from few = omega arith
 borrows_cheap (x ∷ xs) (y ∷ ys) borrowed from few =
     cheap-append (gate (x ∷ y ∷ borrowed) borrows) (borrow_gates xs ys (pair_at from ∷ []) (from + 2)) (carrying_cheap x y borrowed borrows few)
-        (borrows_cheap xs ys (pair_at from ∷ []) (from + 2) (omega arith))
+    (borrows_cheap xs ys (pair_at from ∷ []) (from + 2) (omega arith))
 
 conjunctions_cheap : (p : Pair) (qs : List Pair) (from : ℕ) → Cheap (conjunctions p qs from)
 conjunctions_cheap p [] from = omega arith
@@ -186,21 +186,21 @@ mutual
   formula_cheap bits (inverted e) request from = formula_cheap bits e request from
   formula_cheap bits (chained e more) request from =
       cheap-append (formula_rules bits e request from) (chained_rules bits (width_of e) (formula_result e from) more request (from + formula_size e))
-          (formula_cheap bits e request from)
+      (formula_cheap bits e request from)
       (chained_cheap bits (width_of e) (formula_result e from) more request (from + formula_size e))
   formula_cheap bits (compared op e f) request from =
       cheap-append (formula_rules bits e request from) (formula_rules bits f request (from + formula_size e)
-          ++ operator_rules op (formula_result e from) (formula_result f (from + formula_size e)) (from + formula_size e + formula_size f))
-          (formula_cheap bits e request from)
+      ++ operator_rules op (formula_result e from) (formula_result f (from + formula_size e)) (from + formula_size e + formula_size f))
+      (formula_cheap bits e request from)
       (cheap-append (formula_rules bits f request (from + formula_size e)) (operator_rules op (formula_result e from) (formula_result f (from + formula_size e))
-          (from + formula_size e + formula_size f)) (formula_cheap bits f request (from + formula_size e))
+      (from + formula_size e + formula_size f)) (formula_cheap bits f request (from + formula_size e))
       (operator_cheap op (formula_result e from) (formula_result f (from + formula_size e)) (from + formula_size e + formula_size f)))
 
   joined_cheap : (bits : ℕ → List Pair) (parts : Formulas) (request from : ℕ) → Cheap (joined_rules bits parts request from)
   joined_cheap bits no_parts request from = omega arith
   joined_cheap bits (and_part e more) request from =
       cheap-append (formula_rules bits e request from) (joined_rules bits more request (from + formula_size e)) (formula_cheap bits e request from)
-          (joined_cheap bits more request (from + formula_size e))
+      (joined_cheap bits more request (from + formula_size e))
 
   chained_cheap : (bits : ℕ → List Pair) (width : ℕ) (left : List Pair) (more : Operations) (request from : ℕ) →
       Cheap (chained_rules bits width left more request from)
@@ -208,10 +208,10 @@ mutual
   chained_cheap bits width left (and_operation op e more) request from =
       cheap-append (formula_rules bits e request from)
       (operator_rules op left (formula_result e from) (from + formula_size e) ++ chained_rules bits width (operator_result op left (from + formula_size e)) more
-          request (from + formula_size e + operator_size op width))
+      request (from + formula_size e + operator_size op width))
       (formula_cheap bits e request from)
       (cheap-append (operator_rules op left (formula_result e from) (from + formula_size e))
-          (chained_rules bits width (operator_result op left (from + formula_size e)) more request (from + formula_size e + operator_size op width))
+      (chained_rules bits width (operator_result op left (from + formula_size e)) more request (from + formula_size e + operator_size op width))
       (operator_cheap op left (formula_result e from) (from + formula_size e))
       (chained_cheap bits width (operator_result op left (from + formula_size e)) more request (from + formula_size e + operator_size op width)))
 

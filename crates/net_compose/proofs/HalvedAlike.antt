@@ -97,7 +97,7 @@ module _ (counted : Counted) (P : TypedProgram) where
   hidden_assign_long x e true wide from =
       let a = length-numbered from (hidden_rules P x e from) in
       let b : length (hidden_rules P x e from) ≡ block_size (var_width P.vars x) =
-          length-variable_rules (var_width P.vars x) from (formula_result e (from + block_size (var_width P.vars x) + 3 + 1) ∷ []) in
+      length-variable_rules (var_width P.vars x) from (formula_result e (from + block_size (var_width P.vars x) + 3 + 1) ∷ []) in
       let c : block_size (width_of e) ≡ block_size (var_width P.vars x) = ap block_size wide in
       omega (arith, a, b, c)
 
@@ -623,7 +623,7 @@ module _ (counted : Counted) (P : TypedProgram) where
           (bodies_from choices select_own from))) l)
           (append_assoc select guards rest)
           (joined (numbered from front) (own_bodies P choices (from + select_own + choice_count choices) (bodies_from choices select_own from)) (select
-              ++ guards) rest
+          ++ guards) rest
           (as_numbered from front (select ++ guards)
           (rules_append v u (select_rules (choosing_at P choices r (from + 2) select_own from)) select
           (guards_rules P choices (from + 1) (guards_from choices select_own from)) guards
@@ -632,7 +632,7 @@ module _ (counted : Counted) (P : TypedProgram) where
           (guards_alike n choices t.2 (from + 1) (to + 1) (guards_from choices select_own from) (guards_from more select_own to) eval
           (in_guards n choices t.2 plain select_own from to block front long where_hidden stored nodes))))
           (bodies_alike n choices t.2 plain (from + select_own + choice_count choices) (bodies_from choices select_own from)
-              (to + select_own + choice_count more)
+          (to + select_own + choice_count more)
           (bodies_from more select_own to) block where_hidden
           (starts_same n choices t.2 plain select_own from to block front long where_hidden stored nodes) stored
           (in_bodies n choices t.2 plain select_own from to block front long where_hidden stored nodes)))
@@ -648,7 +648,7 @@ module _ (counted : Counted) (P : TypedProgram) where
           (bodies_from choices again_own from))) l)
           (append_assoc again guards rest)
           (joined (numbered from front) (own_bodies P choices (from + again_own + choice_count choices) (bodies_from choices again_own from)) (again ++ guards)
-              rest
+          rest
           (as_numbered from front (again ++ guards)
           (rules_append v u (again_rules (repeating_at P choices r from)) again
           (guards_rules P choices (from + 3) (guards_from choices again_own from)) guards
@@ -682,7 +682,7 @@ module _ (counted : Counted) (P : TypedProgram) where
           let at_others = hidden_at_right n (hidden_vars p) (hidden_in_each (and_member q more)) block where_hidden in
           let my_blocks = values_left v u block (hidden P p (from + 3)) (hidden_turn P (and_member q more) (from + 3 + size_of P p)) stored in
           let other_blocks = values_right v u block (blocks (hidden_vars p)) (hidden P p (from + 3))
-              (hidden_turn P (and_member q more) (from + 3 + size_of P p))
+          (hidden_turn P (and_member q more) (from + 3 + size_of P p))
           (hidden_long p t.0 (from + 3)) stored in
           let child : v from ≡ u to = start.0 in
           let d = answers_same n p t.0 plain.0 from (from + 3) to (to + 3) block at_mine child my_blocks mine in
@@ -690,9 +690,9 @@ module _ (counted : Counted) (P : TypedProgram) where
           (rules_of Q (halved n p) to (to + 3) ++ turn_rules Q (halved_each k (and_member q more)) (to + 2) (to + 3 + size_of Q (halved n p)))
           (as_numbered from rules (q_rules s (answer_of Q (halved n p) (to + 3)) to)
           (elements_alike v u r (answer_of P p (from + 3)) from s (answer_of Q (halved n p) (to + 3)) to asked d
-              (values_at v u from to rules start 1 (omega arith))))
+          (values_at v u from to rules start 1 (omega arith))))
           (joined first later (rules_of Q (halved n p) to (to + 3))
-              (turn_rules Q (halved_each k (and_member q more)) (to + 2) (to + 3 + size_of Q (halved n p)))
+          (turn_rules Q (halved_each k (and_member q more)) (to + 2) (to + 3 + size_of Q (halved n p)))
           (own_alike n p t.0 plain.0 from (from + 3) to (to + 3) block at_mine child my_blocks mine)
           (turn_alike k (and_member q more) t.1 plain.1 (from + 2) (from + 3 + size_of P p) (to + 2) (to + 3 + size_of Q (halved n p))
           (block + blocks (hidden_vars p)) at_others (values_at v u from to rules start 2 (omega arith)) other_blocks others))
@@ -723,7 +723,7 @@ module _ (counted : Counted) (P : TypedProgram) where
           (rules_of Q (halved n p) to (to + 3) ++ branches_rules Q (halved_each k more) s (to + 3 + size_of Q (halved n p)))
           (as_numbered from rules (q_rules s (answer_of Q (halved n p) (to + 3)) to)
           (elements_alike v u r (answer_of P p (from + 3)) from s (answer_of Q (halved n p) (to + 3)) to asked d
-              (values_at v u from to rules start 1 (omega arith))))
+          (values_at v u from to rules start 1 (omega arith))))
           (joined first later (rules_of Q (halved n p) to (to + 3)) (branches_rules Q (halved_each k more) s (to + 3 + size_of Q (halved n p)))
           (own_alike n p t.0 plain.0 from (from + 3) to (to + 3) block at_mine child my_blocks mine)
           (branches_alike k more t.1 plain.1 r (from + 3 + size_of P p) s (to + 3 + size_of Q (halved n p))

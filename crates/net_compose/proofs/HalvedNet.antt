@@ -255,10 +255,10 @@ module _ (counted : Counted) (P : TypedProgram) (typed : IsProcess P.channels P.
         let e : w.width ≡ var_width P.vars k = h 0 (omega arith) ∙ ap (var_width P.vars) (let z : k + 0 ≡ k = omega arith in z) in
         let within : k < length P.vars = omega (arith, long) in
         rules_append v u (variable_rules w.width (var_from P k) (in_body P (write_site P k)))
-            (variable_rules w.width (var_from Q k) (in_body Q (write_site Q k)))
+        (variable_rules w.width (var_from Q k) (in_body Q (write_site Q k)))
         (vars_rules P (suc k) vs) (vars_rules Q (suc k) vs)
         (subst (λ n. RulesAlike v u (variable_rules n (var_from P k) (in_body P (write_site P k)))
-            (variable_rules n (var_from Q k) (in_body Q (write_site Q k)))) (sym e)
+        (variable_rules n (var_from Q k) (in_body Q (write_site Q k)))) (sym e)
         (subst (λ b. RulesAlike v u (variable_rules (var_width P.vars k) (var_from P k) (in_body P (write_site P k)))
         (variable_rules (var_width P.vars k) b (in_body Q (write_site Q k)))) (sym (declared_from counted P k (omega (arith, within))))
         (blocks_alike v u (var_width P.vars k) (var_from P k) (var_from P k) (same_block counted P v u low some k within) (in_body P (write_site P k))

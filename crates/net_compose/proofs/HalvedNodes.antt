@@ -153,7 +153,7 @@ module _ (counted : Counted) (P : TypedProgram) where
   assign_all x at e false is request from =
       let rs = write_answer request (written_at P x) ∷ formula_rules (bits_at P) e request (from + 1) in
       let told : rs ≡ rules_of P (assigning x at e) request from =
-          ap (λ (c : Bool). if c then hidden_rules P x e from ++ behind_block P x e request from else rs) (sym is) in
+      ap (λ (c : Bool). if c then hidden_rules P x e from ++ behind_block P x e request from else rs) (sym is) in
       subst (λ l. IsPermutation (numbered from rs ++ []) (numbered from l)) told (nothing_hidden (numbered from rs))
   assign_all x at e true is request from =
       let w = var_width P.vars x in
@@ -162,7 +162,7 @@ module _ (counted : Counted) (P : TypedProgram) where
       let rest = behind_block P x e request from in
       let told : here ++ rest ≡ rules_of P (assigning x at e) request from = ap (λ (c : Bool). if c then here ++ rest else plain) (sym is) in
       let number : from + length here ≡ from + block_size w =
-          ap (λ k. from + k) (length-variable_rules w from (formula_result e (from + block_size w + 3 + 1) ∷ [])) in
+      ap (λ k. from + k) (length-variable_rules w from (formula_result e (from + block_size w + 3 + 1) ∷ [])) in
       let split : numbered from here ++ numbered (from + block_size w) rest ≡ numbered from (rules_of P (assigning x at e) request from) =
       ap (λ n. numbered from here ++ numbered n rest) (sym number) ∙ (sym (numbered_append from here rest) ∙ ap (numbered from) told) in
       subst (λ l. IsPermutation (numbered (from + block_size w) rest ++ numbered from here) l) split
@@ -261,7 +261,7 @@ module _ (counted : Counted) (P : TypedProgram) where
         let q = numbered from (no_rules ∷ loop_request request (answer_of P s (from + 2)) ∷ []) in
         let e : suc (suc from) ≡ from + 2 = omega arith in
         subst (λ l. IsPermutation (q ++ own P s (from + 1) (from + 2) ++ hidden P s (from + 2)) l)
-            (ap (λ n. q ++ numbered n (rules_of P s (from + 1) (from + 2))) (sym e))
+        (ap (λ n. q ++ numbered n (rules_of P s (from + 1) (from + 2))) (sym e))
         (subst (λ l. IsPermutation l (q ++ numbered (from + 2) (rules_of P s (from + 1) (from + 2))))
         (sym (append_assoc q (own P s (from + 1) (from + 2)) (hidden P s (from + 2))))
         (IsPermutation-append_right q (own P s (from + 1) (from + 2) ++ hidden P s (from + 2)) (numbered (from + 2) (rules_of P s (from + 1) (from + 2)))

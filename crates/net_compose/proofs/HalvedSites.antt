@@ -111,7 +111,7 @@ module _ (counted : Counted) (P : TypedProgram) where
             let wide : var_width P.vars x ≡ var_width P.vars z = ap (var_width P.vars) (eqb-true x z q) in
             let other : reads z e ≡ false = ap (λ n. reads n e) (sym (eqb-true x z q)) ∙ none in
             ap (λ b. at_sites v i one ((if b then net.read_back (through_at (var_width P.vars z) (formula_size e) from) else formula_result e (from + 1)) ∷ []))
-                other
+            other
             ∙ (result_here (var_width P.vars x) e t (omega (arith, wide, h)) (from + 1) (to + 1) same
             ∙ ap (λ b. at_sites u i one ((if b then net.read_back (through_at (var_width Q.vars z) (formula_size e) to) else formula_result e (to + 1)) ∷ []))
             (sym other))

@@ -109,7 +109,7 @@ module _ (counted : Counted) (P : TypedProgram) where
       let later = if x == n then assigned_rails Q n (read_through n e at) (to + 3 + size_of Q (assigning n at e)) ∷ [] else [] in
       ap (λ (b : Bool). (if b then assigned_rails Q n e (to + 3) ∷ [] else []) ++ later) (eq-eqb n n refl)
       ∙ (ap (λ (b : Bool). ((if b then read_rails (through_at (var_width Q.vars n) (formula_size e) (to + 3)) else formula_result e (to + 3 + 1)) ∷ [])
-          ++ later)
+      ++ later)
       plain.0
       ∙ ap (λ l. (formula_result e (to + 3 + 1) ∷ []) ++ l)
       (other_target x n to (assigned_rails Q n (read_through n e at) (to + 3 + size_of Q (assigning n at e))) declared above))
@@ -133,13 +133,13 @@ module _ (counted : Counted) (P : TypedProgram) where
         subst (λ l. RulesAlike v u l (vars_rules Q n (hidden_of true e))) (sym (rules_numbered from (hidden_rules P x e from)))
         (subst (λ l. RulesAlike v u (hidden_rules P x e from) l)
         (ap (λ k. variable_rules k block (in_body Q (write_site Q n))) (sym agrees)
-            ∙ (ap (λ k. variable_rules (width_of e) k (in_body Q (write_site Q n))) (sym where_hidden.0)
+        ∙ (ap (λ k. variable_rules (width_of e) k (in_body Q (write_site Q n))) (sym where_hidden.0)
         ∙ sym (append-nil (variable_rules (width_of e) (var_from Q n) (in_body Q (write_site Q n))))))
         (blocks_alike v u (var_width P.vars x) from block
         (λ i h. values_at v u from block (hidden_rules P x e from) stored i (let m =
-            length-variable_rules (var_width P.vars x) from (formula_result e (from + block_size (var_width P.vars x) + 3 + 1) ∷ []) in omega (arith, h, m)))
+        length-variable_rules (var_width P.vars x) from (formula_result e (from + block_size (var_width P.vars x) + 3 + 1) ∷ []) in omega (arith, h, m)))
         (formula_result e (from + block_size (var_width P.vars x) + 3 + 1) ∷ []) (in_body Q (write_site Q n)) (λ i one h. same i one h
-            ∙ ap (λ l. map u (map (at_site i one) l)) (sym sites_are))))
+        ∙ ap (λ l. map u (map (at_site i one) l)) (sym sites_are))))
       where
         agrees : width_of e ≡ var_width P.vars x
         agrees = t.agrees
@@ -208,7 +208,7 @@ module _ (counted : Counted) (P : TypedProgram) where
           subst (λ l. RulesAlike v u (rules_in (mine ++ others)) l) (sym (vars_rules_append Q n (hidden_vars p) (hidden_in_each (and_member q more))))
           (joined mine others (vars_rules Q n (hidden_vars p)) (vars_rules Q k (hidden_in_each (and_member q more)))
           (hidden_alike n p t.0 plain.0 above from (from + 3) (to + 3) block (hidden_at_left counted P n (hidden_vars p) (hidden_in_each (and_member q more))
-              block
+          block
           where_hidden)
           (values_left v u block mine others stored) (values_left v u (to + 3) first later parts)
           (λ y l g. written y l (omega (arith, g, z))
@@ -241,7 +241,7 @@ module _ (counted : Counted) (P : TypedProgram) where
           subst (λ l. RulesAlike v u (rules_in (mine ++ others)) l) (sym (vars_rules_append Q n (hidden_vars p) (hidden_in_each more)))
           (joined mine others (vars_rules Q n (hidden_vars p)) (vars_rules Q k (hidden_in_each more))
           (hidden_alike n p t.0 plain.0 above from (from + 3) (to + 3) block
-              (hidden_at_left counted P n (hidden_vars p) (hidden_in_each more) block where_hidden)
+          (hidden_at_left counted P n (hidden_vars p) (hidden_in_each more) block where_hidden)
           (values_left v u block mine others stored) (values_left v u (to + 3) first later parts)
           (λ y l g. written y l (omega (arith, g, z))
           ∙ (ap (λ s. sites_in Q (write_site Q y) (halved n p) (to + 3) ++ s) (none_in_branches y k more t.1 (omega (arith, above, l))
@@ -257,7 +257,7 @@ module _ (counted : Counted) (P : TypedProgram) where
 
       hidden_bodies_alike : (n : ℕ) (choices : Choices) → AreChoices P.channels P.vars choices
           → ChoicesReadNoTarget (halved_choices n choices) → length P.vars ≤ n → (start from to block : ℕ) →
-              HiddenAt counted P n (hidden_in_choices choices) block
+          HiddenAt counted P n (hidden_in_choices choices) block
           → Values v u block (hidden_bodies P choices from) → Values v u to (own_bodies P choices start from)
           → WrittenIn n (hidden_in_choices choices) (λ y. sites_in_bodies Q (write_site Q y) (halved_choices n choices) to)
           → RulesAlike v u (rules_in (hidden_bodies P choices from)) (vars_rules Q n (hidden_in_choices choices))

@@ -77,7 +77,7 @@ each_at_place P place sites inside h i d within =
 
 pub merges_wrote : (sites : List (List ℕ)) (bit node : ℕ) (trues falses : List ℕ) (old mid new : RulesValue) → All (HasPlace bit) sites
     → trues ≡ rails_at_place (2 * bit) sites → falses ≡ rails_at_place (2 * bit + 1) sites → mid ≡ with_rules node (or_of trues) old →
-        new ≡ with_rules (node + 1) (or_of falses) mid
+    new ≡ with_rules (node + 1) (or_of falses) mid
     → new ≡ with_owned (owned_from node (merged_true (map pairs_of sites) bit ∷ merged_false (map pairs_of sites) bit ∷ [])) old
 merges_wrote sites bit node trues falses old mid new h t f first then =
     then
@@ -95,7 +95,7 @@ rails_step sites bit n left node next now new all more at made so_far =
     ap (λ k. with_owned (owned_from k (rail_rules sites (bit + 1) n)) new) e
     ∙ (ap (with_owned (owned_from (node + 1 + 1) (rail_rules sites (bit + 1) n))) made
     ∙ (ap (λ k. with_owned (owned_from (node + 1 + 1) (rail_rules sites k n))
-        (with_owned (owned_from node (merged_true sites bit ∷ merged_false sites bit ∷ [])) now)) b
+    (with_owned (owned_from node (merged_true sites bit ∷ merged_false sites bit ∷ [])) now)) b
     ∙ (ap (λ k. with_owned (owned_from node (rail_rules sites bit k)) now) (sym more)
     ∙ so_far)))
 
@@ -112,7 +112,7 @@ block_step sites bit n left first next node now new all more at here made so_far
     let b : bit + 1 ≡ suc bit = omega arith in
     let f : node + 1 ≡ first + 3 = omega (arith, here) in
     let both : with_owned (owned_from node (merged_true sites bit ∷ merged_false sites bit ∷ [])) now ≡ with_rules (first + 3) (merged_false sites bit)
-        (with_rules (first + 2) (merged_true sites bit) now) =
+    (with_rules (first + 2) (merged_true sites bit) now) =
     ap (λ k. with_rules k (merged_false sites bit) (with_rules node (merged_true sites bit) now)) f
     ∙ ap (λ k. with_rules (first + 3) (merged_false sites bit) (with_rules k (merged_true sites bit) now)) here in
     ap (λ k. with_owned (merges_owned sites (bit + 1) (bits_from n k)) new) at

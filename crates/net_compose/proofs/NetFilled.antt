@@ -44,7 +44,7 @@ full-append (r ∷ rs) ss h k =
     let a = and_parts (list_all is_filled r.up) (list_all is_filled r.down && full rs) h in
     let b = and_parts (list_all is_filled r.down) (full rs) a.1 in
     and_from (list_all is_filled r.up) (list_all is_filled r.down && full (rs ++ ss)) a.0
-        (and_from (list_all is_filled r.down) (full (rs ++ ss)) b.0 (full-append rs ss b.1 k))
+    (and_from (list_all is_filled r.down) (full (rs ++ ss)) b.0 (full-append rs ss b.1 k))
 
 full-cons : (r : NodeRules) (rs : List NodeRules) → list_all is_filled r.up ≡ true → list_all is_filled r.down ≡ true → full rs ≡ true → full (r ∷ rs) ≡ true
 full-cons r rs up down rest = and_from (list_all is_filled r.up) (list_all is_filled r.down && full rs) up
@@ -66,9 +66,11 @@ rows_filled p ps f [] h = refl
 rows_filled p ps f (row ∷ rows) h =
     let t = and_parts (has_input row) (list_all has_input rows) h in
     let rest = rows_filled p ps f rows t.1 in
-    elim (f row) as (λ b. list_all is_filled (map (minterm (p ∷ ps)) (if b then row ∷ filter f rows else filter f rows)) ≡ true)
-    [ true ↦ and_from (is_filled (minterm (p ∷ ps) row)) (list_all is_filled (map (minterm (p ∷ ps)) (filter f rows))) (row_filled p ps row t.0) rest | false ↦
-        rest ]
+    elim (f row) as (λ b. list_all is_filled (map (minterm (p ∷ ps)) (if b then row ∷ filter f rows else filter f rows)) ≡ true) [
+      | true ↦ and_from (is_filled (minterm (p ∷ ps) row)) (list_all is_filled (map (minterm (p ∷ ps)) (filter f rows))) (row_filled p ps row t.0) rest
+      | false ↦
+          rest
+    ]
 
 two_full : (a b : Pair) (f : List Bool → Bool) → full (gate (a ∷ b ∷ []) f) ≡ true
 two_full a b f =
@@ -99,21 +101,21 @@ ripple_full carry (x ∷ w ∷ xs) [] carried from few = refl
 ripple_full carry (x ∷ []) (y ∷ []) carried from few = carrying_full x y carried odd_ones few
 ripple_full carry (x ∷ []) (y ∷ z ∷ ys) carried from few =
     full-append (gate (x ∷ y ∷ carried) odd_ones) (gate (x ∷ y ∷ carried) carry ++ ripple carry [] (z ∷ ys) (pair_at (from + 2) ∷ []) (from + 4))
-        (carrying_full x y carried odd_ones few)
+    (carrying_full x y carried odd_ones few)
     (full-append (gate (x ∷ y ∷ carried) carry) (ripple carry [] (z ∷ ys) (pair_at (from + 2) ∷ []) (from + 4)) (carrying_full x y carried carry few)
-        (ripple_full carry [] (z ∷ ys) (pair_at (from + 2) ∷ []) (from + 4) (omega arith)))
+    (ripple_full carry [] (z ∷ ys) (pair_at (from + 2) ∷ []) (from + 4) (omega arith)))
 ripple_full carry (x ∷ w ∷ xs) (y ∷ ys) carried from few =
     full-append (gate (x ∷ y ∷ carried) odd_ones) (gate (x ∷ y ∷ carried) carry ++ ripple carry (w ∷ xs) ys (pair_at (from + 2) ∷ []) (from + 4))
-        (carrying_full x y carried odd_ones few)
+    (carrying_full x y carried odd_ones few)
     (full-append (gate (x ∷ y ∷ carried) carry) (ripple carry (w ∷ xs) ys (pair_at (from + 2) ∷ []) (from + 4)) (carrying_full x y carried carry few)
-        (ripple_full carry (w ∷ xs) ys (pair_at (from + 2) ∷ []) (from + 4) (omega arith)))
+    (ripple_full carry (w ∷ xs) ys (pair_at (from + 2) ∷ []) (from + 4) (omega arith)))
 
 borrows_full : (xs ys borrowed : List Pair) (from : ℕ) → length borrowed ≤ 1 → full (borrow_gates xs ys borrowed from) ≡ true
 borrows_full [] ys borrowed from few = refl
 borrows_full (x ∷ xs) [] borrowed from few = refl
 borrows_full (x ∷ xs) (y ∷ ys) borrowed from few =
     full-append (gate (x ∷ y ∷ borrowed) borrows) (borrow_gates xs ys (pair_at from ∷ []) (from + 2)) (carrying_full x y borrowed borrows few)
-        (borrows_full xs ys (pair_at from ∷ []) (from + 2) (omega arith))
+    (borrows_full xs ys (pair_at from ∷ []) (from + 2) (omega arith))
 
 conjunctions_full : (p : Pair) (qs : List Pair) (from : ℕ) → full (conjunctions p qs from) ≡ true
 conjunctions_full p [] from = refl
@@ -163,21 +165,21 @@ mutual
   formula_full bits (inverted e) request from = formula_full bits e request from
   formula_full bits (chained e more) request from =
       full-append (formula_rules bits e request from) (chained_rules bits (width_of e) (formula_result e from) more request (from + formula_size e))
-          (formula_full bits e request from)
+      (formula_full bits e request from)
       (chained_full bits (width_of e) (formula_result e from) more request (from + formula_size e))
   formula_full bits (compared op e f) request from =
       full-append (formula_rules bits e request from) (formula_rules bits f request (from + formula_size e)
-          ++ operator_rules op (formula_result e from) (formula_result f (from + formula_size e)) (from + formula_size e + formula_size f))
-          (formula_full bits e request from)
+      ++ operator_rules op (formula_result e from) (formula_result f (from + formula_size e)) (from + formula_size e + formula_size f))
+      (formula_full bits e request from)
       (full-append (formula_rules bits f request (from + formula_size e)) (operator_rules op (formula_result e from) (formula_result f (from + formula_size e))
-          (from + formula_size e + formula_size f)) (formula_full bits f request (from + formula_size e))
+      (from + formula_size e + formula_size f)) (formula_full bits f request (from + formula_size e))
       (operator_full op (formula_result e from) (formula_result f (from + formula_size e)) (from + formula_size e + formula_size f)))
 
   joined_full : (bits : ℕ → List Pair) (parts : Formulas) (request from : ℕ) → full (joined_rules bits parts request from) ≡ true
   joined_full bits no_parts request from = refl
   joined_full bits (and_part e more) request from =
       full-append (formula_rules bits e request from) (joined_rules bits more request (from + formula_size e)) (formula_full bits e request from)
-          (joined_full bits more request (from + formula_size e))
+      (joined_full bits more request (from + formula_size e))
 
   chained_full : (bits : ℕ → List Pair) (width : ℕ) (left : List Pair) (more : Operations) (request from : ℕ) →
       full (chained_rules bits width left more request from) ≡ true
@@ -185,10 +187,10 @@ mutual
   chained_full bits width left (and_operation op e more) request from =
       full-append (formula_rules bits e request from)
       (operator_rules op left (formula_result e from) (from + formula_size e) ++ chained_rules bits width (operator_result op left (from + formula_size e)) more
-          request (from + formula_size e + operator_size op width))
+      request (from + formula_size e + operator_size op width))
       (formula_full bits e request from)
       (full-append (operator_rules op left (formula_result e from) (from + formula_size e))
-          (chained_rules bits width (operator_result op left (from + formula_size e)) more request (from + formula_size e + operator_size op width))
+      (chained_rules bits width (operator_result op left (from + formula_size e)) more request (from + formula_size e + operator_size op width))
       (operator_full op left (formula_result e from) (from + formula_size e))
       (chained_full bits width (operator_result op left (from + formula_size e)) more request (from + formula_size e + operator_size op width)))
 
@@ -223,7 +225,7 @@ merges_full : (sites : List (List Pair)) (place : ℕ) (rest : List NodeRules) �
     full (merged_true sites place ∷ merged_false sites place ∷ rest) ≡ true
 merges_full sites place rest h =
     or_full (map (λ (site : List Pair). (pair_of site place).t) sites) (merged_false sites place ∷ rest)
-        (or_full (map (λ (site : List Pair). (pair_of site place).f) sites) rest h)
+    (or_full (map (λ (site : List Pair). (pair_of site place).f) sites) rest h)
 
 bits_full : (sites : List (List Pair)) (place : ℕ) (bs : List Bit) → full (bits_rules sites place bs) ≡ true
 bits_full sites place [] = refl
@@ -245,7 +247,7 @@ latches_full request before [] = refl
 latches_full request before (h ∷ behind) =
     let wanted = all_false before ++ is_high h.t ∷ all_false behind in
     full-cons (latched_by request wanted) (map (latched_by request) (only_one_true (before ++ h ∷ []) behind))
-        (and_from (is_filled wanted) true (wanted_filled before h behind) refl) refl
+    (and_from (is_filled wanted) true (wanted_filled before h behind) refl) refl
     (latches_full request (before ++ h ∷ []) behind)
 
 starts_full : (ls : List ℕ) (hs : List Pair) → full (starts ls hs) ≡ true
@@ -257,19 +259,19 @@ select_full c =
     let behind = latches c.request c.guards ++ starts c.latched c.guards in
     full-cons (joined_answer c.any c.answers) (evaluation c.request c.any ∷ or_of c.latched ∷ behind) (singles_filled c.answers) refl
     (or_full c.latched behind (full-append (latches c.request c.guards) (starts c.latched c.guards) (latches_full c.request [] c.guards)
-        (starts_full c.latched c.guards)))
+    (starts_full c.latched c.guards)))
 
 -- it ends where all of at least one guard are false
 again_full : (r : Repeating) → 1 ≤ length r.turn.guards → full (again_rules r) ≡ true
 again_full r some =
     let behind = latches r.turn.request r.turn.guards ++ starts r.turn.latched r.turn.guards in
     full-cons (joined_answer r.turn.any r.turn.answers) (evaluation r.turn.request r.turn.any ∷ or_of (r.leave ∷ r.turn.latched)
-        ∷ leave_latch r.turn.request r.turn.guards ∷ behind) (singles_filled r.turn.answers) refl
+    ∷ leave_latch r.turn.request r.turn.guards ∷ behind) (singles_filled r.turn.answers) refl
     (or_full (r.leave ∷ r.turn.latched) (leave_latch r.turn.request r.turn.guards ∷ behind)
     (full-cons (leave_latch r.turn.request r.turn.guards) behind (and_from (is_filled (all_false r.turn.guards)) true (leave_filled r.turn.guards some) refl)
-        refl
+    refl
     (full-append (latches r.turn.request r.turn.guards) (starts r.turn.latched r.turn.guards) (latches_full r.turn.request [] r.turn.guards)
-        (starts_full r.turn.latched r.turn.guards))))
+    (starts_full r.turn.latched r.turn.guards))))
   where
     leave_filled : (hs : List Pair) → 1 ≤ length hs → is_filled (all_false hs) ≡ true
     leave_filled [] h = absurd (omega (arith, h))
@@ -294,17 +296,17 @@ module _ (p : TypedProgram) (pairs : (choices : Choices) (from : ℕ) → AreCho
       let back = read_bits (h.element + 2) (block_bits h.width h.block) in
       full-append (variable_rules h.width h.block (formula_result e (h.first + 1) ∷ []))
       (q_rules request h.first h.element ++ (write_answer h.element (all_written h.width h.block)
-          ∷ (own ++ (write_answer (h.element + 2) (written_at p x) ∷ back))))
+      ∷ (own ++ (write_answer (h.element + 2) (written_at p x) ∷ back))))
       (block_full h.width h.block (formula_result e (h.first + 1) ∷ []))
       (full-append own (write_answer (h.element + 2) (written_at p x) ∷ back) (formula_full (bits_at p) e h.element (h.first + 1))
-          (reads_full (h.element + 2) (block_bits h.width h.block)))
+      (reads_full (h.element + 2) (block_bits h.width h.block)))
 
   mutual
     statement_full : (s : Process) (request from : ℕ) → IsProcess p.channels p.vars s → full (rules_of p s request from) ≡ true
     statement_full skipping request from h = refl
     statement_full (assigning x at e) request from h =
         either_full (reads x e) (through_rules p x e request from) (write_answer request (written_at p x) ∷ formula_rules (bits_at p) e request (from + 1))
-            (through_full x e request from) (formula_full (bits_at p) e request (from + 1))
+        (through_full x e request from) (formula_full (bits_at p) e request (from + 1))
     statement_full (sending chan at e) request from h = formula_full (bits_at p) e request (from + 1)
     statement_full (receiving chan at x to) request from h = ports_full request (rails_at p chan)
     statement_full (in_turn members) request from h = turn_full members request from h.1
@@ -313,23 +315,23 @@ module _ (p : TypedProgram) (pairs : (choices : Choices) (from : ℕ) → AreCho
         (branches_full members request from h.1) (tree_full (branch_ends p members from) (branches_end p members from))
     statement_full (choosing false choices) request from h =
         full-append (select_rules (choosing_at p choices request (from + 2) select_own from))
-            (guards_rules p choices (from + 1) (guards_from choices select_own from)
-            ++ bodies_rules p choices (from + select_own + choice_count choices) (bodies_from choices select_own from))
+        (guards_rules p choices (from + 1) (guards_from choices select_own from)
+        ++ bodies_rules p choices (from + select_own + choice_count choices) (bodies_from choices select_own from))
         (select_full (choosing_at p choices request (from + 2) select_own from))
         (full-append (guards_rules p choices (from + 1) (guards_from choices select_own from))
-            (bodies_rules p choices (from + select_own + choice_count choices) (bodies_from choices select_own from))
-            (guards_full choices (from + 1) (guards_from choices select_own from))
-            (bodies_full choices (from + select_own + choice_count choices) (bodies_from choices select_own from) h.2))
+        (bodies_rules p choices (from + select_own + choice_count choices) (bodies_from choices select_own from))
+        (guards_full choices (from + 1) (guards_from choices select_own from))
+        (bodies_full choices (from + select_own + choice_count choices) (bodies_from choices select_own from) h.2))
     statement_full (choosing true choices) request from h =
         let count = pairs choices (guards_from choices again_own from) h.2 in
         let some = h.0 in
         full-append (again_rules (repeating_at p choices request from)) (guards_rules p choices (from + 3) (guards_from choices again_own from)
-            ++ bodies_rules p choices (from + again_own + choice_count choices) (bodies_from choices again_own from))
+        ++ bodies_rules p choices (from + again_own + choice_count choices) (bodies_from choices again_own from))
         (again_full (repeating_at p choices request from) (omega (arith, count, some)))
         (full-append (guards_rules p choices (from + 3) (guards_from choices again_own from))
-            (bodies_rules p choices (from + again_own + choice_count choices) (bodies_from choices again_own from))
-            (guards_full choices (from + 3) (guards_from choices again_own from))
-            (bodies_full choices (from + again_own + choice_count choices) (bodies_from choices again_own from) h.2))
+        (bodies_rules p choices (from + again_own + choice_count choices) (bodies_from choices again_own from))
+        (guards_full choices (from + 3) (guards_from choices again_own from))
+        (bodies_full choices (from + again_own + choice_count choices) (bodies_from choices again_own from) h.2))
     statement_full (repeating s) request from h = statement_full s (from + 1) (from + 2) h
 
     turn_full : (members : Processes) (request from : ℕ) → AreProcesses p.channels p.vars members → full (turn_rules p members request from) ≡ true
@@ -337,19 +339,19 @@ module _ (p : TypedProgram) (pairs : (choices : Choices) (from : ℕ) → AreCho
     turn_full (and_member s no_members) request from h = statement_full s request from h.0
     turn_full (and_member s (and_member t more)) request from h =
         full-append (rules_of p s from (from + 3)) (turn_rules p (and_member t more) (from + 2) (from + 3 + size_of p s)) (statement_full s from (from + 3) h.0)
-            (turn_full (and_member t more) (from + 2) (from + 3 + size_of p s) h.1)
+        (turn_full (and_member t more) (from + 2) (from + 3 + size_of p s) h.1)
 
     branches_full : (members : Processes) (request from : ℕ) → AreProcesses p.channels p.vars members → full (branches_rules p members request from) ≡ true
     branches_full no_members request from h = refl
     branches_full (and_member s more) request from h =
         full-append (rules_of p s from (from + 3)) (branches_rules p more request (from + 3 + size_of p s)) (statement_full s from (from + 3) h.0)
-            (branches_full more request (from + 3 + size_of p s) h.1)
+        (branches_full more request (from + 3 + size_of p s) h.1)
 
     bodies_full : (choices : Choices) (start from : ℕ) → AreChoices p.channels p.vars choices → full (bodies_rules p choices start from) ≡ true
     bodies_full no_choices start from h = refl
     bodies_full (and_choice g s more) start from h =
         full-append (rules_of p s start from) (bodies_rules p more (start + 1) (from + size_of p s)) (statement_full s start from h.1)
-            (bodies_full more (start + 1) (from + size_of p s) h.2)
+        (bodies_full more (start + 1) (from + size_of p s) h.2)
 
   rails_full : (sites : List (List Pair)) (place width : ℕ) → full (rail_rules sites place width) ≡ true
   rails_full sites place zero = refl

@@ -119,7 +119,7 @@ module _ (p : TypedProgram) where
       let n : length (replicate (nodes_of p) false) ≡ nodes_of p = length-replicate (nodes_of p) false in
       let out = not_among (vars_from p) m highs
       (from_append (vars_from p) (vars_high p 0 p.vars) (in_body p (hidden_high p)) (vars_high_from 0 p.vars)
-          (from_lower (vars_from p) (body_from p) (in_body p (hidden_high p)) (omega arith) (hidden_from p.body (body_from p)))) lt in
+      (from_lower (vars_from p) (body_from p) (in_body p (hidden_high p)) (omega arith) (hidden_from p.body (body_from p)))) lt in
       raised_is highs (replicate (nodes_of p) false) m (omega (arith, n, lt))
       ∙ (ap (λ b. b || member m highs) (all_low (nodes_of p) m) ∙ out)
 
@@ -127,7 +127,7 @@ module _ (p : TypedProgram) where
 
   channel_rules_at : (k : ℕ) (cs : List Channel) (tail : List NodeRules) (j m : ℕ) → j < length cs → m < wires_size (channel_width cs j)
       → get_or (channels_rules p k cs ++ tail) (wires_before cs j + m) no_rules ≡ get_or (channel_rules p (k + j) (channel_width cs j) (kind_at cs j)) m
-          no_rules
+      no_rules
   channel_rules_at k [] tail j m h lt = absurd (omega (arith, h))
   channel_rules_at k (c ∷ cs) tail zero m h lt =
       let own = channel_rules p k c.width c.kind in
@@ -141,7 +141,7 @@ module _ (p : TypedProgram) where
       let n = wires_length p k c.width c.kind in
       ap (λ xs. get_or xs (wires_size c.width + wires_before cs j + m) no_rules) (append_assoc own (channels_rules p (suc k) cs) tail)
       ∙ (ap (λ i. get_or (own ++ (channels_rules p (suc k) cs ++ tail)) i no_rules) (let e : wires_size c.width + wires_before cs j + m ≡ length own +
-          (wires_before cs j + m) = omega (arith, n) in e)
+      (wires_before cs j + m) = omega (arith, n) in e)
       ∙ (get_or-append-add own (channels_rules p (suc k) cs ++ tail) (wires_before cs j + m) no_rules
       ∙ (channel_rules_at (suc k) cs tail j m (omega (arith, h)) lt
       ∙ ap (λ i. get_or (channel_rules p i (channel_width cs j) (kind_at cs j)) m no_rules) (let e : suc k + j ≡ k + suc j = omega arith in e))))
@@ -172,16 +172,16 @@ rails_all P from (suc n) h =
     All-cons P from ((from + 1) ∷ rails_of (pairs_from n (from + 2))) first
     (All-cons P (from + 1) (rails_of (pairs_from n (from + 2))) second
     (rails_all P (from + 2) n (λ i one lt. subst P (let e : from + suc (suc (rail_place i one)) ≡ from + 2 + rail_place i one = omega arith in
-        e) (h (suc i) one (omega (arith, lt))))))
+    e) (h (suc i) one (omega (arith, lt))))))
 
 rails_named_by : (f : ℕ → List ℕ) (name : List ℕ) (from bit w : ℕ) → ((i : ℕ) (one : Bool) → i < w → f (from + rail_place i one) ≡ rail_text name (bit + i) one)
     → map f (rails_of (pairs_from w from)) ≡ rails_named name bit w
 rails_named_by f name from bit zero h = refl
 rails_named_by f name from bit (suc n) h =
     let first : f from ≡ rail_text name bit true = ap f (let e : from ≡ from + 0 = omega arith in e)
-        ∙ (h 0 true (omega arith) ∙ ap (λ b. rail_text name b true) (let e : bit + 0 ≡ bit = omega arith in e)) in
+    ∙ (h 0 true (omega arith) ∙ ap (λ b. rail_text name b true) (let e : bit + 0 ≡ bit = omega arith in e)) in
     let second : f (from + 1) ≡ rail_text name bit false = h 0 false (omega arith) ∙ ap (λ b. rail_text name b false) (let e : bit + 0 ≡ bit = omega arith in
-        e) in
+    e) in
     let rest = rails_named_by f name (from + 2) (bit + 1) n (λ i one lt.
     ap f (let e : from + 2 + rail_place i one ≡ from + suc (suc (rail_place i one)) = omega arith in e)
     ∙ (h (suc i) one (omega (arith, lt)) ∙ ap (λ b. rail_text name b one) (let e : bit + suc i ≡ bit + 1 + i = omega arith in e))) in
@@ -209,7 +209,7 @@ each_wired P p k (c ∷ cs) h =
     let first : P (wired p k c) = subst (λ i. P (wired p i c)) (let e : k + 0 ≡ k = omega arith in e) (h 0 c (omega arith) refl) in
     All-cons P (wired p k c) (wires_from p (suc k) cs) first
     (each_wired P p (suc k) cs (λ j d lt at. subst (λ i. P (wired p i d)) (let e : k + suc j ≡ suc k + j = omega arith in
-        e) (h (suc j) d (omega (arith, lt)) at)))
+    e) (h (suc j) d (omega (arith, lt)) at)))
 
 module _ (p : TypedProgram) (typed : IsTyped p.channels p.vars p.body) (small : nodes_of p ≤ 65536) where
   abbrev the_net : NetValue
@@ -241,7 +241,7 @@ module _ (p : TypedProgram) (typed : IsTyped p.channels p.vars p.body) (small : 
       let tail = vars_rules p 0 p.vars ++ root_and_body p in
       ap (λ i. get_or (all_rules p) i no_rules) (let e : channel_from p k + m ≡ suc (suc (wires_before p.channels k + m)) = omega arith in e)
       ∙ (channel_rules_at p 0 p.channels tail k m h lt ∙ ap (λ i. get_or (channel_rules p i (channel_width p.channels k) (kind_at p.channels k)) m no_rules)
-          (let e : 0 + k ≡ k = omega arith in e))
+      (let e : 0 + k ≡ k = omega arith in e))
 
   silent : (n : ℕ) → n < length (all_rules p) → get_or (all_rules p) n no_rules ≡ no_rules → IsUndriven the_net n
   silent n lt e = record {
@@ -262,15 +262,15 @@ module _ (p : TypedProgram) (typed : IsTyped p.channels p.vars p.body) (small : 
         let n = rules_count in
         silent (channel_from p k + rail_place i one) (omega (arith, inside, n))
         (rule_at k (rail_place i one) h (omega (arith, below))
-            ∙ (ap (λ x. get_or (channel_rules p k (channel_width p.channels k) x) (rail_place i one) no_rules) is
-            ∙ in_rail p k (channel_width p.channels k) (rail_place i one) below)))
+        ∙ (ap (λ x. get_or (channel_rules p k (channel_width p.channels k) x) (rail_place i one) no_rules) is
+        ∙ in_rail p k (channel_width p.channels k) (rail_place i one) below)))
     outside_of k h Out is =
         let inside = within k (2 * channel_width p.channels k) h (omega arith) in
         let n = rules_count in
         All-cons (IsUndriven the_net) (ack_at p k) []
         (silent (ack_at p k) (omega (arith, inside, n)) (rule_at k (2 * channel_width p.channels k) h (omega arith)
-            ∙ (ap (λ x. get_or (channel_rules p k (channel_width p.channels k) x) (2 * channel_width p.channels k) no_rules) is
-            ∙ out_ack p k (channel_width p.channels k))))
+        ∙ (ap (λ x. get_or (channel_rules p k (channel_width p.channels k) x) (2 * channel_width p.channels k) no_rules) is
+        ∙ out_ack p k (channel_width p.channels k))))
         (All-nil (IsUndriven the_net))
     outside_of k h Chan is = All-nil (IsUndriven the_net)
 
@@ -293,8 +293,8 @@ module _ (p : TypedProgram) (typed : IsTyped p.channels p.vars p.body) (small : 
           count = rails_count (channel_from p k) w ∙ ap (λ n. 2 * n) t.1;
           rails =
               rails_named_by (name_at the_net) name (channel_from p k) 0 w
-                  (λ i one lt. named_at k (rail_place i one) (rail_text name (0 + i) one) (rail_named p typed small k i one h lt
-                  ∙ sym (rail_text_is p typed small name i one)))
+              (λ i one lt. named_at k (rail_place i one) (rail_text name (0 + i) one) (rail_named p typed small k i one h lt
+              ∙ sym (rail_text_is p typed small name i one)))
               ∙ (ap (λ n. rails_named n 0 w) t.0 ∙ ap (rails_named c.name 0) t.1);
           rails_within = rails_all (λ rail. rail < length (first_values p)) (channel_from p k) w (λ i one lt. let below = rail_place_lt i w one lt in
               in_net (channel_from p k + rail_place i one) (within k (rail_place i one) h (omega (arith, below))));
@@ -323,7 +323,7 @@ module _ (p : TypedProgram) (typed : IsTyped p.channels p.vars p.body) (small : 
         let m : length names ≡ length p.channels = length-map p.channels _ in
         sym (get_or-map (λ (w : Wires). w.channel.name) (wires_from p 0 p.channels) i d [] lt)
         ∙ (ap (λ xs. get_or xs i []) (names_of_wires 0 p.channels)
-            ∙ sym (get_or_append_left names (map (λ (v : Var). v.name) p.vars) [] i (omega (arith, lt, n, m))))
+        ∙ sym (get_or_append_left names (map (λ (v : Var). v.name) p.vars) [] i (omega (arith, lt, n, m))))
 
     channels_differ : AllPairs (λ (a b : Wires). a.channel.name ≢ b.channel.name) (wires_from p 0 p.channels)
     channels_differ i j d less lt same =

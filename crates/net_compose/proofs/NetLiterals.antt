@@ -212,7 +212,7 @@ latches_cost request before (h ∷ behind) few =
     let longer : length (before ++ h ∷ []) ≡ length before + 1 = length-append before (h ∷ []) in
     let rest = latches_cost request (before ++ h ∷ []) behind (omega (arith, few, longer)) in
     let wanted : length (all_false before ++ is_high h.t ∷ all_false behind) ≡ length (all_false before) + length (is_high h.t ∷ all_false behind) =
-        length-append (all_false before) (is_high h.t ∷ all_false behind) in
+    length-append (all_false before) (is_high h.t ∷ all_false behind) in
     let front : length (all_false before) ≡ length before = length-map before _ in
     let back : length (all_false behind) ≡ length behind = length-map behind _ in
     omega (arith, few, rest, wanted, front, back)
@@ -277,7 +277,7 @@ module _ (p : TypedProgram) where
   share_both s t r u w z =
       let channels =
       channels_as (λ k. length (s k ++ t k)) (λ k. length (r k ++ u k)) (λ k. length (s k) + length (t k)) (λ k. length (r k) + length (u k))
-          (λ k. length-append (s k) (t k)) (λ k. length-append (r k) (u k)) 0 p.channels
+      (λ k. length-append (s k) (t k)) (λ k. length-append (r k) (u k)) 0 p.channels
       ∙ channels_sum (λ k. length (s k)) (λ k. length (r k)) (λ k. length (t k)) (λ k. length (u k)) 0 p.channels in
       let vars =
       vars_as (λ x. length (w x ++ z x)) (λ x. length (w x) + length (z x)) (λ x. length-append (w x) (z x)) 0 p.vars
@@ -313,7 +313,7 @@ module _ (p : TypedProgram) where
   sends_one : (chan from : ℕ) (at : Span) (e : Formula) → share_of (sending chan at e) from ≡ 4 * channel_width p.channels chan
   sends_one chan from at e =
       let c = channels_as (λ k. length (send_site k (sending chan at e) from)) none (only chan) none (λ k. one_site chan k (formula_result e (from + 1)))
-          (λ k. refl) 0 p.channels ∙ one_send chan p.channels in
+      (λ k. refl) 0 p.channels ∙ one_send chan p.channels in
       let v = vars_none 0 p.vars in
       omega (arith, c, v)
 
@@ -321,16 +321,16 @@ module _ (p : TypedProgram) where
   writes_one x from at e =
       let c = channels_none 0 p.channels in
       let v = vars_as (λ y. length (write_site p y (assigning x at e) from)) (only x) (λ y. one_site x y (assigned_rails p y e from)) 0 p.vars
-          ∙ one_write x p.vars in
+      ∙ one_write x p.vars in
       omega (arith, c, v)
 
   takes_one : (chan x from : ℕ) (at to : Span) → share_of (receiving chan at x to) from ≤ 2 + 4 * var_width p.vars x
   takes_one chan x from at to =
       let c = channels_as none (λ k. length (receive_site k (receiving chan at x to) from)) none (only chan) (λ k. refl) (λ k. one_site chan k (from + 1)) 0
-          p.channels in
+      p.channels in
       let one = one_receive chan p.channels in
       let v = vars_as (λ y. length (write_site p y (receiving chan at x to) from)) (only x)
-          (λ y. one_site x y (pairs_from (channel_width p.channels chan) (from + 2))) 0 p.vars ∙ one_write x p.vars in
+      (λ y. one_site x y (pairs_from (channel_width p.channels chan) (from + 2))) 0 p.vars ∙ one_write x p.vars in
       omega (arith, c, one, v)
 
   either_cost : (b : Bool) (xs ys : List NodeRules) (m n w : ℕ) → cost xs + w ≤ 64 * m → cost ys + w ≤ 64 * n →
@@ -390,7 +390,7 @@ module _ (p : TypedProgram) where
         let once = times_one h.width in
         let behind = cost-append own (write_answer (h.element + 2) (written_at p x) ∷ back) in
         let whole = cost-append block (q_rules request h.first h.element
-            ++ (write_answer h.element (all_written h.width h.block) ∷ (own ++ (write_answer (h.element + 2) (written_at p x) ∷ back)))) in
+        ++ (write_answer h.element (all_written h.width h.block) ∷ (own ++ (write_answer (h.element + 2) (written_at p x) ∷ back)))) in
         omega (arith, last, wide, middle, first, once, behind, whole)
 
     mutual
@@ -403,10 +403,10 @@ module _ (p : TypedProgram) where
           let agrees = h.1.agrees in
           let through = through_cost x e request from h.1 in
           let plain : cost (write_answer request (written_at p x) ∷ formula_rules (bits_at p) e request (from + 1)) +
-              4 * var_width p.vars x ≤ 64 * (1 + formula_size e) = omega (arith, own, wide, agrees) in
+          4 * var_width p.vars x ≤ 64 * (1 + formula_size e) = omega (arith, own, wide, agrees) in
           let both = either_cost (reads x e) (through_rules p x e request from) (write_answer request (written_at p x)
-              ∷ formula_rules (bits_at p) e request (from + 1)) (through_size (var_width p.vars x) e) (1 + formula_size e) (4 * var_width p.vars x) through
-              plain in
+          ∷ formula_rules (bits_at p) e request (from + 1)) (through_size (var_width p.vars x) e) (1 + formula_size e) (4 * var_width p.vars x) through
+          plain in
           omega (arith, one, both)
       fits (sending chan at e) request from h =
           let one = sends_one chan from at e in
@@ -430,23 +430,23 @@ module _ (p : TypedProgram) where
           omega (arith, branches, tree, count, ends, parts)
       fits (choosing false choices) request from h =
           let own = select_cost (choosing_at p choices request (from + 2) select_own from) (choice_count choices)
-              (of_count choices request (from + 2) select_own from h.2) h.1 in
+          (of_count choices request (from + 2) select_own from h.2) h.1 in
           let guards = guards_cost choices (from + 1) (guards_from choices select_own from) h.2 in
           let bodies = fits_bodies choices (from + select_own + choice_count choices) (bodies_from choices select_own from) h.2 in
           let back = cost-append (guards_rules p choices (from + 1) (guards_from choices select_own from))
-              (bodies_rules p choices (from + select_own + choice_count choices) (bodies_from choices select_own from)) in
+          (bodies_rules p choices (from + select_own + choice_count choices) (bodies_from choices select_own from)) in
           let whole = cost-append (select_rules (choosing_at p choices request (from + 2) select_own from))
-              (guards_rules p choices (from + 1) (guards_from choices select_own from)
-              ++ bodies_rules p choices (from + select_own + choice_count choices) (bodies_from choices select_own from)) in
+          (guards_rules p choices (from + 1) (guards_from choices select_own from)
+          ++ bodies_rules p choices (from + select_own + choice_count choices) (bodies_from choices select_own from)) in
           omega (arith, own, guards, bodies, back, whole)
       fits (choosing true choices) request from h =
           let own = again_cost (repeating_at p choices request from) (choice_count choices) (of_count choices (from + 1) (from + 4) again_own from h.2) h.1 in
           let guards = guards_cost choices (from + 3) (guards_from choices again_own from) h.2 in
           let bodies = fits_bodies choices (from + again_own + choice_count choices) (bodies_from choices again_own from) h.2 in
           let back = cost-append (guards_rules p choices (from + 3) (guards_from choices again_own from))
-              (bodies_rules p choices (from + again_own + choice_count choices) (bodies_from choices again_own from)) in
+          (bodies_rules p choices (from + again_own + choice_count choices) (bodies_from choices again_own from)) in
           let whole = cost-append (again_rules (repeating_at p choices request from)) (guards_rules p choices (from + 3) (guards_from choices again_own from)
-              ++ bodies_rules p choices (from + again_own + choice_count choices) (bodies_from choices again_own from)) in
+          ++ bodies_rules p choices (from + again_own + choice_count choices) (bodies_from choices again_own from)) in
           omega (arith, own, guards, bodies, back, whole)
       fits (repeating s) request from h = let e = fits s (from + 1) (from + 2) h in omega (arith, e)
 
@@ -460,7 +460,7 @@ module _ (p : TypedProgram) where
           let rest = fits_turn (and_member t more) (from + 2) (from + 3 + size_of p s) h.1 in
           let parts = cost-append (rules_of p s from (from + 3)) (turn_rules p (and_member t more) (from + 2) (from + 3 + size_of p s)) in
           let shares : share_of_turn (and_member s (and_member t more)) from ≡ share_of s (from + 3) +
-              share_of_turn (and_member t more) (from + 3 + size_of p s) = share_both _ _ _ _ _ _ in
+          share_of_turn (and_member t more) (from + 3 + size_of p s) = share_both _ _ _ _ _ _ in
           omega (arith, one, rest, parts, shares)
 
       fits_branches : (members : Processes) (request from : ℕ) → AreProcesses p.channels p.vars members →
@@ -471,7 +471,7 @@ module _ (p : TypedProgram) where
           let rest = fits_branches more request (from + 3 + size_of p s) h.1 in
           let parts = cost-append (rules_of p s from (from + 3)) (branches_rules p more request (from + 3 + size_of p s)) in
           let shares : share_of_branches (and_member s more) from ≡ share_of s (from + 3) + share_of_branches more (from + 3 + size_of p s) =
-              share_both _ _ _ _ _ _ in
+          share_both _ _ _ _ _ _ in
           omega (arith, one, rest, parts, shares)
 
       fits_bodies : (choices : Choices) (start from : ℕ) → AreChoices p.channels p.vars choices →

@@ -251,7 +251,7 @@ module _ (p : TypedProgram) (typed : IsTyped p.channels p.vars p.body) where
   line_same : (l m : Line) → IsDeclared p l → IsDeclared p m → line_name p l ≡ line_name p m → l ≡ m
   line_same l m h k e =
       let same : get_or (names_of p.channels p.vars) (line_place p l) [] ≡ get_or (names_of p.channels p.vars) (line_place p m) [] =
-          line_name_at p l h ∙ (e ∙ sym (line_name_at p m k)) in
+      line_name_at p l h ∙ (e ∙ sym (line_name_at p m k)) in
       ⊎_elim
       (λ (lt : line_place p l < line_place p m). absurd (typed.distinct (line_place p l) (line_place p m) [] lt (place_within p m k) same))
       (λ (le : line_place p m ≤ line_place p l).
@@ -367,7 +367,7 @@ wire_at (c ∷ cs) more (suc k) m h lt =
     let n = wires_named_length c.name c.width in
     ap (λ xs. get_or xs (wires_size c.width + wires_before cs k + m) []) (append_assoc own (wire_names cs) more)
     ∙ (ap (λ i. get_or (own ++ (wire_names cs ++ more)) i []) (let e : wires_size c.width + wires_before cs k + m ≡ length own + (wires_before cs k + m) =
-        omega (arith, n) in e)
+    omega (arith, n) in e)
     ∙ (get_or-append-add own (wire_names cs ++ more) (wires_before cs k + m) [] ∙ wire_at cs more k m (omega (arith, h)) lt))
 
 wire_names_length : (cs : List Channel) → length (wire_names cs) ≡ wires_before cs (length cs)
@@ -437,7 +437,7 @@ block_at (v ∷ vs) from more (suc x) m h lt =
     ∙ (get_or-append-add own rest (blocks_before vs x + m) []
     ∙ (block_at vs (from + block_size v.width) more x m (omega (arith, h)) lt
     ∙ ap (λ f. get_or (block_named (var_name vs x) (var_width vs x) f) m []) (let e : from + block_size v.width + blocks_before vs x ≡ from +
-        (block_size v.width + blocks_before vs x) = omega arith in e))))
+    (block_size v.width + blocks_before vs x) = omega arith in e))))
 
 block_names_length : (vs : List Var) (from : ℕ) → length (block_names vs from) ≡ blocks_before vs (length vs)
 block_names_length [] from = refl
@@ -528,8 +528,13 @@ module _ (p : TypedProgram) (typed : IsTyped p.channels p.vars p.body) (small : 
           sides false f = f
       by (an_ack k h e) =
           let at : m ≡ wires_before p.channels k + 2 * channel_width p.channels k = omega (arith, e) in
-          record { key = dotted (of_channel k) the_ack; fine = (h, omega arith); text_is = ap (λ n. get_or (wire_names p.channels ++ blocks_and_body) n []) at
-              ∙ ack_named k h; node_is = omega (arith, e) }
+          record {
+            key = dotted (of_channel k) the_ack;
+            fine = (h, omega arith);
+            text_is = ap (λ n. get_or (wire_names p.channels ++ blocks_and_body) n []) at
+                ∙ ack_named k h;
+            node_is = omega (arith, e);
+          }
 
   -- a node of a block
   part_key : (x : ℕ) → Part → Key
@@ -546,7 +551,7 @@ module _ (p : TypedProgram) (typed : IsTyped p.channels p.vars p.body) (small : 
       let w = var_width p.vars x in
       let n = bits_named_length name 0 w in
       get_or_append_left (bits_named name 0 w) (numbered_from (vars_from p + blocks_before p.vars x + 5 * w) (w - 1)) [] (5 * i + r)
-          (omega (arith, n, lt, below))
+      (omega (arith, n, lt, below))
       ∙ (bit_at name 0 w i r lt below ∙ (ap (λ b. get_or (bit_names name b) r []) (let e : 0 + i ≡ i = omega arith in e) ∙ ends name i r below))
     where
       ends : (name : List ℕ) (i r : ℕ) → r < 5 → get_or (bit_names name i) r [] ≡ name ++ 46 ∷ tail_text (a_bit i r)
@@ -578,7 +583,7 @@ module _ (p : TypedProgram) (typed : IsTyped p.channels p.vars p.body) (small : 
 
   found_part : (x m : ℕ) → x < length p.vars → m < block_size (var_width p.vars x)
       → (n : ℕ) → n ≡ var_from p x + m → get_or (node_names p) n [] ≡
-          get_or (block_named (var_name p.vars x) (var_width p.vars x) (vars_from p + blocks_before p.vars x)) m [] → Found p n
+      get_or (block_named (var_name p.vars x) (var_width p.vars x) (vars_from p + blocks_before p.vars x)) m [] → Found p n
   found_part x m h lt n is names = by (part_of (var_width p.vars x) m lt)
     where
       w : ℕ
@@ -618,8 +623,13 @@ module _ (p : TypedProgram) (typed : IsTyped p.channels p.vars p.body) (small : 
 
   found_number : (j : ℕ) → j < 2 + size_of p p.body → get_or (node_names p) (root_request p + j) [] ≡ numbered (root_request p + j) →
       Found p (root_request p + j)
-  found_number j lt names = record { key = plain (root_request p + j); fine = omega (arith, small, lt); text_is =
-      names ∙ plain_text (root_request p + j) (omega arith); node_is = refl }
+  found_number j lt names = record {
+    key = plain (root_request p + j);
+    fine = omega (arith, small, lt);
+    text_is =
+        names ∙ plain_text (root_request p + j) (omega arith);
+    node_is = refl;
+  }
 
   past_wires : (m : ℕ) → get_or (wire_names p.channels ++ blocks_and_body) (wires_before p.channels (length p.channels) + m) [] ≡ get_or blocks_and_body m []
   past_wires m =
@@ -631,7 +641,7 @@ module _ (p : TypedProgram) (typed : IsTyped p.channels p.vars p.body) (small : 
   past_blocks m =
       let n = block_names_length p.vars (vars_from p) in
       ap (λ i. get_or blocks_and_body (i + m) []) (sym n)
-          ∙ get_or-append-add (block_names p.vars (vars_from p)) (numbered_from (root_request p) (2 + size_of p p.body)) m []
+      ∙ get_or-append-add (block_names p.vars (vars_from p)) (numbered_from (root_request p) (2 + size_of p p.body)) m []
 
   found_at : (n : ℕ) → n < nodes_of p → Found p n
   found_at zero lt = record { key = plain 0; fine = lit< tt; text_is = refl; node_is = refl }
@@ -656,7 +666,7 @@ module _ (p : TypedProgram) (typed : IsTyped p.channels p.vars p.body) (small : 
           (λ (block : j < blocks_before p.vars (length p.vars)).
           let o = owner p.vars j block in
           let names : get_or (node_names p) (suc (suc m)) [] ≡
-              get_or (block_named (var_name p.vars o.var) (var_width p.vars o.var) (vars_from p + blocks_before p.vars o.var)) o.place [] =
+          get_or (block_named (var_name p.vars o.var) (var_width p.vars o.var) (vars_from p + blocks_before p.vars o.var)) o.place [] =
           ap (λ i. get_or (wire_names p.channels ++ blocks_and_body) i []) is
           ∙ (past_wires j
           ∙ (ap (λ i. get_or blocks_and_body i []) (sym o.is)

@@ -60,7 +60,7 @@ chained_differ : (width : ℕ) (left : List Pair) (more : Operations) (from : �
 chained_differ width left no_operations from h = h
 chained_differ width left (and_operation op e more) from h =
     chained_differ width (operator_result op left (from + formula_size e)) more (from + formula_size e + operator_size op width)
-        (differ_operator op left (from + formula_size e))
+    (differ_operator op left (from + formula_size e))
 
 mutual
   result_differ : (e : Formula) (from : ℕ) → Differ (formula_result e from)
@@ -102,7 +102,7 @@ module _ (p : TypedProgram) where
       let one : length (formula_result g from) ≡ 1 = result_length g from h.0.formed ∙ h.0.agrees in
       let rest = guards_paired more (from + formula_size g) h.2 in
       let all : length (formula_result g from ++ guard_pairs more (from + formula_size g)) ≡ length (formula_result g from) +
-          length (guard_pairs more (from + formula_size g)) =
+      length (guard_pairs more (from + formula_size g)) =
       length-append (formula_result g from) (guard_pairs more (from + formula_size g)) in
       omega (arith, one, rest, all)
 
@@ -122,6 +122,6 @@ module _ (p : TypedProgram) where
   rails_apart (and_choice g s more) from h =
       let next = from + formula_size g in
       pair_first (formula_result g from) (guard_pairs more next) from next (result_length g from h.0.formed ∙ h.0.agrees) (result_differ g from)
-          (result_own g from h.0.formed)
+      (result_own g from h.0.formed)
       (λ x before. rails_among (λ y. x ≢ y) more next h.2 (λ y low high e. absurd (omega (arith, e, low, before))))
       (rails_apart more next h.2)

@@ -49,8 +49,11 @@ module _ (width block : ℕ) (at : Span) (some : 1 ≤ width) (most : width ≤ 
   back_size = let n : formula_size back ≡ 2 * width = omega (arith, some) in ap formula_size is ∙ n
 
   pub back_there : (count : ℕ) → block + block_size width ≤ count → EachRead (HasBit count (block ∷ [])) e
-  back_there count room = subst (EachRead (HasBit count (block ∷ []))) (sym is) (λ bit low high. record { entry = omega arith; within =
-      omega (arith, high, some, room) })
+  back_there count room = subst (EachRead (HasBit count (block ∷ []))) (sym is) (λ bit low high. record {
+    entry = omega arith;
+    within =
+        omega (arith, high, some, room);
+  })
 
   abbrev IsBefore : ℕ → Type 0
   IsBefore rail = rail < block + block_size width
@@ -58,8 +61,10 @@ module _ (width block : ℕ) (at : Span) (some : 1 ≤ width) (most : width ≤ 
   before_here : All IsBefore (rails_read (block ∷ []) back)
   before_here =
       rails_have IsBefore (bits_in_blocks (block ∷ [])) back formed_here
-      (λ bit low high. subst (λ (q : Pair). IsBefore q.t × IsBefore q.f) (sym (apart_at 5 64 block bit (omega (arith, high, most)))) (omega (arith, high, some),
-          omega (arith, high, some)))
+      (λ bit low high. subst (λ (q : Pair). IsBefore q.t × IsBefore q.f) (sym (apart_at 5 64 block bit (omega (arith, high, most)))) (
+        omega (arith, high, some),
+        omega (arith, high, some),
+      ))
 
   back_before : All IsBefore (rails_read (block ∷ []) e)
   back_before = subst (λ f. All IsBefore (rails_read (block ∷ []) f)) (sym is) before_here
@@ -114,50 +119,58 @@ module _ (p : TypedProgram) (x : ℕ) (e : Formula) (request from element first 
 
   all_as : (b : ℕ) → b ≡ element → (f : ℕ) → f ≡ first →
       variable_rules width from (formula_result e (f + 1) ∷ [])
-          ++ (q_rules request f b ++ (write_answer b (all_written width from)
-          ∷ (formula_rules (bits_at p) e b (f + 1) ++ (write_answer (b + 2) (written_at p x) ∷ read_bits (b + 2) (block_bits width from)))))
+      ++ (q_rules request f b ++ (write_answer b (all_written width from)
+      ∷ (formula_rules (bits_at p) e b (f + 1) ++ (write_answer (b + 2) (written_at p x) ∷ read_bits (b + 2) (block_bits width from)))))
       ≡ Block ++ (Element ++ (FirstAnswer ∷ (Value ++ (SecondAnswer ∷ Back))))
   all_as b e1 f e2 =
       ap (λ k. variable_rules width from (formula_result e (f + 1) ∷ [])
-          ++ (q_rules request f k ++ (write_answer k (all_written width from)
-          ∷ (formula_rules (bits_at p) e k (f + 1) ++ (write_answer (k + 2) (written_at p x) ∷ read_bits (k + 2) (block_bits width from)))))) e1
+      ++ (q_rules request f k ++ (write_answer k (all_written width from)
+      ∷ (formula_rules (bits_at p) e k (f + 1) ++ (write_answer (k + 2) (written_at p x) ∷ read_bits (k + 2) (block_bits width from)))))) e1
       ∙ ap (λ k. variable_rules width from (formula_result e (k + 1) ∷ [])
-          ++ (q_rules request k element ++ (FirstAnswer ∷ (formula_rules (bits_at p) e element (k + 1) ++ (SecondAnswer ∷ Back))))) e2
+      ++ (q_rules request k element ++ (FirstAnswer ∷ (formula_rules (bits_at p) e element (k + 1) ++ (SecondAnswer ∷ Back))))) e2
 
   pub through_wrote : (hidden written : ℕ) (rails : List ℕ) (r0 r1 r2 r3 r4 r5 r6 : RulesValue) → hidden ≡ element - 1 → written ≡ written_at p x →
       rails ≡ rails_of (formula_result e (first + 1))
       → r1 ≡ with_owned (owned_from (first + 1) Value) r0 → r2 ≡ with_owned (write_owned element hidden first) r1 →
-          r3 ≡ with_owned (owned_from element Element) r2
+      r3 ≡ with_owned (owned_from element Element) r2
       → r4 ≡ with_owned (owned_from from (variable_rules width from (pairs_of rails ∷ []))) r3 → r5 ≡ with_owned (write_owned (element + 2) written second) r4
       → r6 ≡ with_owned (owned_from (second + 1) Back) r5 → r6 ≡ with_owned (owned_from from (through_rules p x e request from)) r0
   through_wrote hidden written rails r0 r1 r2 r3 r4 r5 r6 stored kept are w1 w2 w3 w4 w5 w6 =
       let here : hidden ≡ all_written width from = let n = all_written_is width from some in omega (arith, stored, at_element, n, some) in
       let a2 : r2 ≡ with_owned (owned_from first (FirstAnswer ∷ [])) r1 = w2 ∙ ap (λ k. with_owned (write_owned element k first) r1) here in
       let b2 : r2 ≡ with_owned (owned_from first (FirstAnswer ∷ Value)) r0 =
-          before_wrote first (first + 1) (FirstAnswer ∷ []) Value r0 r1 r2 (omega arith) w1 a2 in
+      before_wrote first (first + 1) (FirstAnswer ∷ []) Value r0 r1 r2 (omega arith) w1 a2 in
       let b3 : r3 ≡ with_owned (owned_from element (Element ++ (FirstAnswer ∷ Value))) r0 =
-          before_wrote element first Element (FirstAnswer ∷ Value) r0 r2 r3 (omega (arith, at_first)) b2 w3 in
+      before_wrote element first Element (FirstAnswer ∷ Value) r0 r2 r3 (omega (arith, at_first)) b2 w3 in
       let a4 : r4 ≡ with_owned (owned_from from Block) r3 =
       w4 ∙ ap (λ (ps : List Pair). with_owned (owned_from from (variable_rules width from (ps ∷ []))) r3) (ap pairs_of are
-          ∙ pairs_again (formula_result e (first + 1))) in
+      ∙ pairs_again (formula_result e (first + 1))) in
       let size = length-variable_rules width from (formula_result e (first + 1) ∷ []) in
       let b4 : r4 ≡ with_owned (owned_from from (Block ++ (Element ++ (FirstAnswer ∷ Value)))) r0 =
       before_wrote from element Block (Element ++ (FirstAnswer ∷ Value)) r0 r3 r4 (omega (arith, at_element, size)) b3 a4 in
       let a5 : r5 ≡ with_owned (owned_from second (SecondAnswer ∷ [])) r4 = w5 ∙ ap (λ k. with_owned (write_owned (element + 2) k second) r4) kept in
       let b6 : r6 ≡ with_owned (owned_from second (SecondAnswer ∷ Back)) r4 =
-          then_wrote second (second + 1) (SecondAnswer ∷ []) Back r4 r5 r6 (omega arith) a5 w6 in
+      then_wrote second (second + 1) (SecondAnswer ∷ []) Back r4 r5 r6 (omega arith) a5 w6 in
       let joint : length (Block ++ (Element ++ (FirstAnswer ∷ Value))) ≡ length Block + length (Element ++ (FirstAnswer ∷ Value)) =
-          length-append Block (Element ++ (FirstAnswer ∷ Value)) in
+      length-append Block (Element ++ (FirstAnswer ∷ Value)) in
       let four : length (Element ++ (FirstAnswer ∷ Value)) ≡ suc (suc (suc (suc (length Value)))) = refl in
       let all : r6 ≡ with_owned (owned_from from ((Block ++ (Element ++ (FirstAnswer ∷ Value))) ++ (SecondAnswer ∷ Back))) r0 =
-      then_wrote from second (Block ++ (Element ++ (FirstAnswer ∷ Value))) (SecondAnswer ∷ Back) r0 r4 r6 (omega (arith, at_second, at_first, at_element, joint,
-          four, size, counted)) b4 b6 in
+      then_wrote from second (Block ++ (Element ++ (FirstAnswer ∷ Value))) (SecondAnswer ∷ Back) r0 r4 r6 (omega (
+        arith,
+        at_second,
+        at_first,
+        at_element,
+        joint,
+        four,
+        size,
+        counted,
+      )) b4 b6 in
       all
       ∙ ap (λ rs. with_owned (owned_from from rs) r0)
       (append_assoc Block (Element ++ (FirstAnswer ∷ Value)) (SecondAnswer ∷ Back)
       ∙ (ap (λ rs. Block ++ rs) (append_assoc Element (FirstAnswer ∷ Value) (SecondAnswer ∷ Back))
       ∙ sym (all_as (from + block_size width) (sym at_element) (from + block_size width + 3) (let f : from + block_size width + 3 ≡ first =
-          omega (arith, at_first, at_element) in f))))
+      omega (arith, at_first, at_element) in f))))
 
 -- the rails of an expression's value, as a list
 

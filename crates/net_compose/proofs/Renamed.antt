@@ -198,7 +198,7 @@ module _ (names : List (List ℕ)) (first : List Bool) (rules : RulesValue) (ws 
       ap (λ g. (if high st.values n then guard_holds (high st.values) (down_of net n) else guard_holds (high st.values) g) || env_enabled net script
       (completed st.histories) (high st.values) n) up
       ∙ (ap (λ g. (if high st.values n then guard_holds (high st.values) g else false) || env_enabled net script (completed st.histories) (high st.values) n)
-          down
+      down
       ∙ (none (high st.values n)
       ∙ (ap (λ z. (z && not (high st.values 0)) || channels_move (high st.values) (offer_at script) (completed st.histories) 0 ws n) (beyond 0 some)
       ∙ quiet (high st.values) low n beyond (offer_at script) (completed st.histories) 0 ws wires)))

@@ -38,9 +38,10 @@ lie_exchanged low high (p ∷ ps) h = ((h.0.2, h.0.3, h.0.0, h.0.1), lie_exchang
 
 pub lie_from : (bits from : ℕ) → LieIn from (from + 2 * bits) (pairs_from bits from)
 lie_from zero from = tt
-lie_from (suc n) from =
-    ((omega arith, omega arith, omega arith, omega arith),
-        lie_wider (from + 2) (from + 2 + 2 * n) from (from + 2 * suc n) (pairs_from n (from + 2)) (omega arith) (omega arith) (lie_from n (from + 2)))
+lie_from (suc n) from = (
+  (omega arith, omega arith, omega arith, omega arith),
+  lie_wider (from + 2) (from + 2 + 2 * n) from (from + 2 * suc n) (pairs_from n (from + 2)) (omega arith) (omega arith) (lie_from n (from + 2)),
+)
 
 lie_results : (xs : List Pair) (from : ℕ) → LieIn from (from + 2 * length xs) (result_pairs xs from)
 lie_results [] from = tt
@@ -101,13 +102,13 @@ mutual
   result_own (inverted e) from h = lie_exchanged from (from + formula_size e) (formula_result e from) (result_own e from h)
   result_own (chained e more) from h =
       lie_wider from (from + formula_size e + operations_size (width_of e) more) from (from + formula_size (chained e more))
-          (formula_result (chained e more) from) (omega arith) (omega arith)
+      (formula_result (chained e more) from) (omega arith) (omega arith)
       (chained_own (width_of e) (formula_result e from) more from (from + formula_size e) (result_length e from h.0) (some_bits e h.0) h.2 (omega arith)
-          (result_own e from h.0))
+      (result_own e from h.0))
   result_own (compared op e f) from h =
       let at = from + formula_size e + formula_size f in
       lie_wider at (at + operator_size op (width_of e)) from (from + formula_size (compared op e f)) (operator_result op (formula_result e from) at)
-          (omega arith) (omega arith)
+      (omega arith) (omega arith)
       (lie_operator op (formula_result e from) at (width_of e) (result_length e from h.2) (some_bits e h.2))
 
   joined_own : (parts : Formulas) (from : ℕ) → AreWellFormed parts → LieIn from (from + parts_size parts) (joined_result parts from)
@@ -115,9 +116,9 @@ mutual
   joined_own (and_part e more) from h =
       lie_append from (from + parts_size (and_part e more)) (joined_result more (from + formula_size e)) (formula_result e from)
       (lie_wider (from + formula_size e) (from + formula_size e + parts_size more) from (from + parts_size (and_part e more))
-          (joined_result more (from + formula_size e)) (omega arith) (omega arith) (joined_own more (from + formula_size e) h.1))
+      (joined_result more (from + formula_size e)) (omega arith) (omega arith) (joined_own more (from + formula_size e) h.1))
       (lie_wider from (from + formula_size e) from (from + parts_size (and_part e more)) (formula_result e from) (omega arith) (omega arith)
-          (result_own e from h.0))
+      (result_own e from h.0))
 
   chained_own : (width : ℕ) (left : List Pair) (more : Operations) (low from : ℕ) → length left ≡ width → 1 ≤ width → AreOperations width more → low ≤ from →
       LieIn low from left
@@ -130,7 +131,7 @@ mutual
       let result = operator_result op left at in
       let behind = lie_wider at next low next result (omega (arith, le)) (omega arith) (lie_operator op left at width n some) in
       lie_wider low (next + operations_size width more) low (from + operations_size width (and_operation op e more)) (chained_result width result more next)
-          (omega arith) (omega arith)
+      (omega arith) (omega arith)
       (chained_own width result more low next (each_bit op left at h.0 ∙ n) some h.3 (omega (arith, le)) behind)
 
 -- so are they as a list

@@ -16,7 +16,7 @@ use Rattle.net_compose.specs.Translation.{q_rules, bits_at, rules_of, turn_rules
 -- a member behind which others stand
 turn_rules_more : (p : TypedProgram) (s : Process) (more : Processes) (request from : ℕ) → 0 < member_count more
     → turn_rules p (and_member s more) request from ≡ q_rules request (answer_of p s (from + 3)) from
-        ++ (rules_of p s from (from + 3) ++ turn_rules p more (from + 2) (from + 3 + size_of p s))
+    ++ (rules_of p s from (from + 3) ++ turn_rules p more (from + 2) (from + 3 + size_of p s))
 turn_rules_more p s no_members request from some = absurd (omega arith)
 turn_rules_more p s (and_member t more) request from some = refl
 
@@ -32,17 +32,17 @@ module _ (p : TypedProgram) (ss : List TStmt) (i : ℕ) (s : TStmt) (is : s ≡ 
       ++ (rules_of p (process_of s) from (from + 3) ++ turn_rules p (members_of (drop (i + 1) ss)) (from + 2) (from + 3 + size_of p (process_of s)))
   turn_rules_here request from within =
       ap (λ ms. turn_rules p ms request from) (member_at ss i s (omega (arith, within)) is)
-          ∙ turn_rules_more p (process_of s) (members_of (drop (i + 1) ss)) request from (some_behind ss i within)
+      ∙ turn_rules_more p (process_of s) (members_of (drop (i + 1) ss)) request from (some_behind ss i within)
 
   pub turn_rules_last : (request from : ℕ) → i + 1 ≡ length ss → turn_rules p (members_of (drop i ss)) request from ≡ rules_of p (process_of s) request from
   turn_rules_last request from end = ap (λ ms. turn_rules p ms request from) (last_alone ss i s end is)
 
   pub turn_sites_here : {A : Type 0} (site : Sites A) (from : ℕ) → i + 1 < length ss
       → sites_in_turn p site (members_of (drop i ss)) from ≡ sites_in p site (process_of s) (from + 3)
-          ++ sites_in_turn p site (members_of (drop (i + 1) ss)) (from + 3 + size_of p (process_of s))
+      ++ sites_in_turn p site (members_of (drop (i + 1) ss)) (from + 3 + size_of p (process_of s))
   turn_sites_here site from within =
       ap (λ ms. sites_in_turn p site ms from) (member_at ss i s (omega (arith, within)) is)
-          ∙ turn_sites_more p site (process_of s) (members_of (drop (i + 1) ss)) from (some_behind ss i within)
+      ∙ turn_sites_more p site (process_of s) (members_of (drop (i + 1) ss)) from (some_behind ss i within)
 
   pub turn_sites_last : {A : Type 0} (site : Sites A) (from : ℕ) → i + 1 ≡ length ss →
       sites_in_turn p site (members_of (drop i ss)) from ≡ sites_in p site (process_of s) from
@@ -61,7 +61,7 @@ module _ (p : TypedProgram) (ss : List TStmt) (i : ℕ) (s : TStmt) (within : i 
 
   pub branch_sites_here : {A : Type 0} (site : Sites A) (from : ℕ)
       → sites_in_branches p site (members_of (drop i ss)) from ≡ sites_in p site (process_of s) (from + 3)
-          ++ sites_in_branches p site (members_of (drop (i + 1) ss)) (from + 3 + size_of p (process_of s))
+      ++ sites_in_branches p site (members_of (drop (i + 1) ss)) (from + 3 + size_of p (process_of s))
   branch_sites_here site from = ap (λ ms. sites_in_branches p site ms from) (member_at ss i s within is)
 
 -- no branch is left
@@ -87,12 +87,12 @@ module _ (p : TypedProgram) (arms : List TArm) (i : ℕ) (a : TArm) (within : i 
 
   pub body_sites_here : {A : Type 0} (site : Sites A) (from : ℕ)
       → sites_in_bodies p site (arms_of (drop i arms)) from ≡ sites_in p site (process_of a.body) from
-          ++ sites_in_bodies p site (arms_of (drop (i + 1) arms)) (from + size_of p (process_of a.body))
+      ++ sites_in_bodies p site (arms_of (drop (i + 1) arms)) (from + size_of p (process_of a.body))
   body_sites_here site from = ap (λ cs. sites_in_bodies p site cs from) (arm_at arms i a within is)
 
   pub guard_rules_here : (request from : ℕ) → guards_rules p (arms_of (drop i arms)) request from
       ≡ formula_rules (bits_at p) (formula_of a.guard) request from
-          ++ guards_rules p (arms_of (drop (i + 1) arms)) request (from + formula_size (formula_of a.guard))
+      ++ guards_rules p (arms_of (drop (i + 1) arms)) request (from + formula_size (formula_of a.guard))
   guard_rules_here request from = ap (λ cs. guards_rules p cs request from) (arm_at arms i a within is)
 
   pub guard_pairs_here : (from : ℕ) → guard_pairs (arms_of (drop i arms)) from

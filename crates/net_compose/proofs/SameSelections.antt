@@ -172,9 +172,11 @@ module _ (v u : ℕ → Bool) where
               merges_alike v u (p.leave ∷ c.latched) (q.leave ∷ d.latched)
                   (leave_latch c.request c.guards ∷ (latches c.request c.guards ++ starts c.latched c.guards))
                   (leave_latch d.request d.guards ∷ (latches d.request d.guards ++ starts d.latched d.guards))
-                  (alike_values (p.leave ∷ c.latched) (q.leave ∷ d.latched) (leave, e.latched))
-                  (one_alike (all_false c.guards) (all_false d.guards) (falses_alike c.guards d.guards e.guards), same_low v u c.request d.request e.request,
-                      rest),
+                  (alike_values (p.leave ∷ c.latched) (q.leave ∷ d.latched) (leave, e.latched)) (
+                    one_alike (all_false c.guards) (all_false d.guards) (falses_alike c.guards d.guards e.guards),
+                    same_low v u c.request d.request e.request,
+                    rest,
+                  ),
             ),
           ),
         ),

@@ -97,7 +97,7 @@ through_length k p x e request from formed read =
     let back = reads_length (h.element + 2) (block_bits h.width h.block) in
     let last = both (formula_rules (bits_at p) e h.element (h.first + 1)) (back_rules p x h) _ _ own (ap suc back) in
     let all = both (variable_rules h.width h.block (formula_result e (h.first + 1) ∷ [])) (q_rules request h.first h.element ++ own_rules p x e h) _ _ block
-        (ap (λ n. suc (suc (suc n))) (ap suc last)) in
+    (ap (λ n. suc (suc (suc n))) (ap suc last)) in
     omega (arith, all, bits)
 
 -- selections
@@ -123,14 +123,14 @@ pairs_of_guards k p (and_choice g s more) from h =
 
 pub latches_and_starts : Counted → (p : TypedProgram) (choices : Choices) (request any own from : ℕ) → AreChoices p.channels p.vars choices
     → length (latches request (guard_pairs choices (guards_from choices own from))
-        ++ starts (range_with_len (from + own) (choice_count choices)) (guard_pairs choices (guards_from choices own from))) ≡ 2 * choice_count choices
+    ++ starts (range_with_len (from + own) (choice_count choices)) (guard_pairs choices (guards_from choices own from))) ≡ 2 * choice_count choices
 latches_and_starts k p choices request any own from h =
     let pairs = pairs_of_guards k p choices (guards_from choices own from) h in
     let ls = latches_length request (guard_pairs choices (guards_from choices own from)) in
     let ss = starts_length (range_with_len (from + own) (choice_count choices)) (guard_pairs choices (guards_from choices own from)) in
     let count = length-range_with_len (from + own) (choice_count choices) in
     let all = both (latches request (guard_pairs choices (guards_from choices own from)))
-        (starts (range_with_len (from + own) (choice_count choices)) (guard_pairs choices (guards_from choices own from))) _ _ ls ss in
+    (starts (range_with_len (from + own) (choice_count choices)) (guard_pairs choices (guards_from choices own from))) _ _ ls ss in
     omega (arith, pairs, count, all)
 
 pub guards_length : Counted → (p : TypedProgram) (choices : Choices) (request from : ℕ) → AreChoices p.channels p.vars choices →
@@ -138,7 +138,7 @@ pub guards_length : Counted → (p : TypedProgram) (choices : Choices) (request 
 guards_length k p no_choices request from h = refl
 guards_length k p (and_choice g s more) request from h =
     both (formula_rules (bits_at p) g request from) (guards_rules p more request (from + formula_size g)) _ _
-        (k.rules p.vars (bits_at p) (has_bits p) g request from h.0.formed h.0.reads) (guards_length k p more request (from + formula_size g) h.2)
+    (k.rules p.vars (bits_at p) (has_bits p) g request from h.0.formed h.0.reads) (guards_length k p more request (from + formula_size g) h.2)
 
 -- statements
 
@@ -154,7 +154,7 @@ mutual
       let rules = k.rules p.vars (bits_at p) (has_bits p) e request (from + 1) h.1.formed h.1.reads in
       let plain : length (write_answer request (written_at p x) ∷ formula_rules (bits_at p) e request (from + 1)) ≡ 1 + formula_size e = omega (arith, rules) in
       either (reads x e) (through_rules p x e request from) (write_answer request (written_at p x) ∷ formula_rules (bits_at p) e request (from + 1)) _ _
-          (through_length k p x e request from h.1.formed h.1.reads) plain
+      (through_length k p x e request from h.1.formed h.1.reads) plain
   statement_length k p (sending chan at e) request from h =
       let rules = k.rules p.vars (bits_at p) (has_bits p) e request (from + 1) h.sent.formed h.sent.reads in
       omega (arith, rules)
@@ -174,21 +174,21 @@ mutual
       let guards = guards_length k p choices (from + 1) (guards_from choices select_own from) h.2 in
       let bodies = bodies_length k p choices (from + select_own + choice_count choices) (bodies_from choices select_own from) h.2 in
       let back = both (guards_rules p choices (from + 1) (guards_from choices select_own from))
-          (bodies_rules p choices (from + select_own + choice_count choices) (bodies_from choices select_own from)) _ _ guards bodies in
+      (bodies_rules p choices (from + select_own + choice_count choices) (bodies_from choices select_own from)) _ _ guards bodies in
       let all = both (select_rules (choosing_at p choices request (from + 2) select_own from))
-          (guards_rules p choices (from + 1) (guards_from choices select_own from)
-          ++ bodies_rules p choices (from + select_own + choice_count choices) (bodies_from choices select_own from)) _ _ (ap (λ n. suc (suc (suc n))) own) back
-          in
+      (guards_rules p choices (from + 1) (guards_from choices select_own from)
+      ++ bodies_rules p choices (from + select_own + choice_count choices) (bodies_from choices select_own from)) _ _ (ap (λ n. suc (suc (suc n))) own) back
+      in
       omega (arith, all)
   statement_length k p (choosing true choices) request from h =
       let own = latches_and_starts k p choices (from + 1) (from + 4) again_own from h.2 in
       let guards = guards_length k p choices (from + 3) (guards_from choices again_own from) h.2 in
       let bodies = bodies_length k p choices (from + again_own + choice_count choices) (bodies_from choices again_own from) h.2 in
       let back = both (guards_rules p choices (from + 3) (guards_from choices again_own from))
-          (bodies_rules p choices (from + again_own + choice_count choices) (bodies_from choices again_own from)) _ _ guards bodies in
+      (bodies_rules p choices (from + again_own + choice_count choices) (bodies_from choices again_own from)) _ _ guards bodies in
       let all = both (again_rules (repeating_at p choices request from)) (guards_rules p choices (from + 3) (guards_from choices again_own from)
-          ++ bodies_rules p choices (from + again_own + choice_count choices) (bodies_from choices again_own from)) _ _
-          (ap (λ n. suc (suc (suc (suc (suc (suc n)))))) own) back in
+      ++ bodies_rules p choices (from + again_own + choice_count choices) (bodies_from choices again_own from)) _ _
+      (ap (λ n. suc (suc (suc (suc (suc (suc n)))))) own) back in
       omega (arith, all)
   statement_length k p (repeating s) request from h = let e = statement_length k p s (from + 1) (from + 2) h in omega (arith, e)
 
@@ -216,7 +216,7 @@ mutual
   bodies_length k p no_choices start from h = refl
   bodies_length k p (and_choice g s more) start from h =
       both (rules_of p s start from) (bodies_rules p more (start + 1) (from + size_of p s)) _ _ (statement_length k p s start from h.1)
-          (bodies_length k p more (start + 1) (from + size_of p s) h.2)
+      (bodies_length k p more (start + 1) (from + size_of p s) h.2)
 
 -- all rules
 
@@ -290,15 +290,15 @@ block_names_length (v ∷ vs) from =
     let rest = block_names_length vs (from + block_size v.width) in
     let back = both (numbered_from (from + 5 * v.width) (v.width - 1)) (block_names vs (from + block_size v.width)) _ _ tree rest in
     let all = both (flat_map (bit_names v.name) (range_with_len 0 v.width)) (numbered_from (from + 5 * v.width) (v.width - 1)
-        ++ block_names vs (from + block_size v.width)) _ _ bits back in
+    ++ block_names vs (from + block_size v.width)) _ _ bits back in
     omega (arith, all, count)
 
 names_length : (p : TypedProgram) → length (node_names p) ≡ nodes_of p
 names_length p =
     let vars = both (block_names p.vars (vars_from p)) (numbered_from (root_request p) (2 + size_of p p.body)) _ _ (block_names_length p.vars (vars_from p))
-        (numbers_length (root_request p) (2 + size_of p p.body)) in
+    (numbers_length (root_request p) (2 + size_of p p.body)) in
     let all = both (wire_names p.channels) (block_names p.vars (vars_from p) ++ numbered_from (root_request p) (2 + size_of p p.body)) _ _
-        (wire_names_length p.channels) vars in
+    (wire_names_length p.channels) vars in
     omega (arith, all)
 
 set_length : (highs : List ℕ) (values : List Bool) → length (fold (λ vs node. slice_set vs node true) values highs) ≡ length values

@@ -25,7 +25,7 @@ module _ (p : TypedProgram) (items : List Channel) (same : items ≡ p.channels)
       let at : next ≡ channel_from p i = from ∙ ap (λ cs. 2 + wires_before cs i) same in
       let e : suc i ≡ i + 1 = omega arith in
       let this : w ≡ wires_for c (channel_from p i) (channel_width p.channels i) =
-          made ∙ (ap (wires_for c next) wide ∙ ap (λ n. wires_for c n (channel_width p.channels i)) at) in
+      made ∙ (ap (wires_for c next) wide ∙ ap (λ n. wires_for c n (channel_width p.channels i)) at) in
       let step : wires_from p i (drop i items) ≡ (w ∷ []) ++ wires_from p (i + 1) rest =
       ap (wires_from p i) (drop_more items i c within ∙ ap (λ (x : Channel). x ∷ rest) (sym is))
       ∙ (ap (λ n. wires_for c (channel_from p i) (channel_width p.channels i) ∷ wires_from p n rest) e

@@ -36,10 +36,10 @@ pub out_of_range : (from : ℕ) (rs : List NodeRules) (node : ℕ) → (node < f
 out_of_range from [] node h = All-nil (λ (o : Owned). o.node ≢ node)
 out_of_range from (r ∷ rs) node (inl before) =
     All-cons (λ (o : Owned). o.node ≢ node) (owned from r) (owned_from (from + 1) rs) (λ e. absurd (omega (arith, e, before)))
-        (out_of_range (from + 1) rs node (inl (omega (arith, before))))
+    (out_of_range (from + 1) rs node (inl (omega (arith, before))))
 out_of_range from (r ∷ rs) node (inr behind) =
     All-cons (λ (o : Owned). o.node ≢ node) (owned from r) (owned_from (from + 1) rs) (λ e. absurd (omega (arith, e, behind)))
-        (out_of_range (from + 1) rs node (inr (omega (arith, behind))))
+    (out_of_range (from + 1) rs node (inr (omega (arith, behind))))
 
 -- ranges that are apart may be written in any order
 pub ranges_exchanged : (a b : ℕ) (xs ys : List NodeRules) (r : RulesValue) → a + length xs ≤ b
@@ -69,19 +69,22 @@ wrote_behind (r ∷ rs) n ups downs u d =
     let none : List GuardValue = replicate m [] in
     let up : slice_set (ups ++ [] ∷ none) n r.up ≡ (ups ++ r.up ∷ []) ++ none = set_at ups [] none r.up n u ∙ sym (append_assoc ups (r.up ∷ []) none) in
     let down : slice_set (downs ++ [] ∷ none) n r.down ≡ (downs ++ r.down ∷ []) ++ none =
-        set_at downs [] none r.down n d ∙ sym (append_assoc downs (r.down ∷ []) none) in
+    set_at downs [] none r.down n d ∙ sym (append_assoc downs (r.down ∷ []) none) in
     let u_next : length (ups ++ r.up ∷ []) ≡ n + 1 = length-append ups (r.up ∷ []) ∙ ap (λ k. k + 1) u in
     let d_next : length (downs ++ r.down ∷ []) ≡ n + 1 = length-append downs (r.down ∷ []) ∙ ap (λ k. k + 1) d in
     ap (λ us. with_owned (owned_from (n + 1) rs) (record { up = us; down = slice_set (downs ++ [] ∷ none) n r.down })) up
     ∙ (ap (λ ds. with_owned (owned_from (n + 1) rs) (record { up = (ups ++ r.up ∷ []) ++ none; down = ds })) down
     ∙ (wrote_behind rs (n + 1) (ups ++ r.up ∷ []) (downs ++ r.down ∷ []) u_next d_next
     ∙ (ap (λ us. record { up = us; down = (downs ++ r.down ∷ []) ++ map (λ (x : NodeRules). x.down) rs })
-        (append_assoc ups (r.up ∷ []) (map (λ (x : NodeRules). x.up) rs))
+    (append_assoc ups (r.up ∷ []) (map (λ (x : NodeRules). x.up) rs))
     ∙ ap (λ ds. record { up = ups ++ r.up ∷ map (λ (x : NodeRules). x.up) rs; down = ds })
-        (append_assoc downs (r.down ∷ []) (map (λ (x : NodeRules). x.down) rs)))))
+    (append_assoc downs (r.down ∷ []) (map (λ (x : NodeRules). x.down) rs)))))
 
 pub all_wrote : (rs : List NodeRules) (n : ℕ) → length rs ≡ n
-    → with_owned (owned_from 0 rs) (record { up = replicate n []; down = replicate n [] }) ≡ record { up = map (λ (r : NodeRules). r.up) rs; down =
-        map (λ (r : NodeRules). r.down) rs }
+    → with_owned (owned_from 0 rs) (record { up = replicate n []; down = replicate n [] }) ≡ record {
+      up = map (λ (r : NodeRules). r.up) rs;
+      down =
+          map (λ (r : NodeRules). r.down) rs;
+    }
 all_wrote rs n count =
     ap (λ k. with_owned (owned_from 0 rs) (record { up = replicate k []; down = replicate k [] })) (sym count) ∙ wrote_behind rs 0 [] [] refl refl

@@ -52,7 +52,7 @@ pub record CarriesReset (net : NetValue) (p : TypedProgram) : Type 0 where
       → (values : List Bool) → IsPowered net values
       → (moves : List ℕ) → IsRun net script (begin_at net values) moves
       → IsCarrying net p script values (moves_since_reset net.reset moves) moves
-          × IsOnceEach (until_reset net.reset moves)
+      × IsOnceEach (until_reset net.reset moves)
 
 -- what reset is for: a net that carries a program still does so with a reset node, from every power-up state
 abbrev pub ResetCarries : NetValue → TypedProgram → Type 0

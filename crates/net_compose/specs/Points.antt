@@ -23,13 +23,14 @@ CarriesSafe net p = OfEachRun net p (λ script moves. IsSafeRun net script (begi
 
 -- after k moves each channel has passed a front of what it has after k rounds
 abbrev pub CarriesPrefix : NetValue → TypedProgram → Type 0
-CarriesPrefix net p = OfEachRun net p (λ script moves. IsFollowing (after net (begin_at net net.first) moves) (rounds p script (length moves)))
+CarriesPrefix net p = OfEachRun net p (λ script moves.
+    IsFollowing (after net (begin_at net net.first) moves) (rounds p script (length moves)))
 
 -- at rest it has passed all of it, and the program goes no further
 abbrev pub CarriesRest : NetValue → TypedProgram → Type 0
 CarriesRest net p =
     OfEachRun net p (λ script moves. IsAtRest net script (after net (begin_at net net.first) moves) →
-        IsSettled (after net (begin_at net net.first) moves) (rounds p script (length moves)))
+    IsSettled (after net (begin_at net net.first) moves) (rounds p script (length moves)))
 
 pub record HasPoints (net : NetValue) (p : TypedProgram) : Type 0 where
   pub channels : HasChannels net p

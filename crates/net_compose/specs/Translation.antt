@@ -216,11 +216,14 @@ all_rules p =
     no_rules ∷ q_next (root_latch p) (body_answer p)
     ∷ (channels_rules p 0 p.channels ++ (vars_rules p 0 p.vars
     ++ (q_child go_node (root_latch p) ∷ q_latch go_node (body_answer p)
-        ∷ rules_of p p.body (root_request p) (body_from p))))
+    ∷ rules_of p p.body (root_request p) (body_from p))))
 
 abbrev pub composed : TypedProgram → RulesValue
-composed p = record { up = map (λ (r : NodeRules). r.up) (all_rules p); down =
-    map (λ (r : NodeRules). r.down) (all_rules p) }
+composed p = record {
+  up = map (λ (r : NodeRules). r.up) (all_rules p);
+  down =
+      map (λ (r : NodeRules). r.down) (all_rules p);
+}
 
 -- at first all nodes are low but one rail of each bit of each variable, declared or hidden
 abbrev pub vars_high : TypedProgram → (x : ℕ) → List Var → List ℕ

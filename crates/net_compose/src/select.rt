@@ -32,8 +32,8 @@ fn numbered_nodes(alloc: Global, from: u32, count: u32) -> Result<Vec<u32>, Allo
 }
 
 /// Writes the rules of a selection's own nodes, numbered from `from` on, and of its guards behind them. These are its
-/// answer, the guards' request, the node that says that a latch is up, and a latch and a start for each guard. `answers`
-/// are the nodes that answer the branches, which stand behind the guards.
+/// answer, the guards' request, the node that says that a latch is up, and a latch and a start for each guard.
+/// `answers` are the nodes that answer the branches, which stand behind the guards.
 pub(crate) fn emit_selection(
     alloc: Global,
     program: &Typed,

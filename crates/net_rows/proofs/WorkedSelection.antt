@@ -21,13 +21,13 @@ fresh_by : (n : ℕ) (ns : List ℕ) → list_all (λ m. not (m == n)) ns ≡ tr
 fresh_by n [] h = All-nil (λ m. n ≢ m)
 fresh_by n (m ∷ ns) h =
     All-cons (λ m. n ≢ m) m ns (differ n m (and_left (not (m == n)) (list_all (λ m. not (m == n)) ns) h))
-        (fresh_by n ns (and_right (not (m == n)) (list_all (λ m. not (m == n)) ns) h))
+    (fresh_by n ns (and_right (not (m == n)) (list_all (λ m. not (m == n)) ns) h))
 
 apart_by : (ns : List ℕ) → all_apart ns ≡ true → AreApart ns
 apart_by [] h = λ i j d less lt. absurd (omega (arith, lt))
 apart_by (n ∷ ns) h =
     AllPairs-cons (λ (a b : ℕ). a ≢ b) n ns (fresh_by n ns (and_left (list_all (λ m. not (m == n)) ns) (all_apart ns) h))
-        (apart_by ns (and_right (list_all (λ m. not (m == n)) ns) (all_apart ns) h))
+    (apart_by ns (and_right (list_all (λ m. not (m == n)) ns) (all_apart ns) h))
 
 abbrev two_below : (count a b : ℕ) → a < count → b < count → All (λ n. n < count) (a ∷ b ∷ [])
 two_below count a b h k = All-cons (λ n. n < count) a (b ∷ []) h (All-cons (λ n. n < count) b [] k (All-nil (λ n. n < count)))
@@ -45,10 +45,10 @@ pub selection_is : (p : SelectPorts) → p.request ≡ 19 → p.answer ≡ 21 �
     p.starts.items ≡ 26 ∷ 27 ∷ [] → p.answers.items ≡ 54 ∷ 57 ∷ [] → p.guard_rails.items ≡ 40 ∷ 41 ∷ 52 ∷ 53 ∷ [] → IsSelect 60 p
 selection_is p r a e m ls ss ans rails =
     let within : All (λ n. n < 60) (40 ∷ 41 ∷ 52 ∷ 53 ∷ []) =
-        All-cons (λ n. n < 60) 40 (41 ∷ 52 ∷ 53 ∷ []) (omega arith)
-        (All-cons (λ n. n < 60) 41 (52 ∷ 53 ∷ []) (omega arith) (two_below 60 52 53 (omega arith) (omega arith))) in
+    All-cons (λ n. n < 60) 40 (41 ∷ 52 ∷ 53 ∷ []) (omega arith)
+    (All-cons (λ n. n < 60) 41 (52 ∷ 53 ∷ []) (omega arith) (two_below 60 52 53 (omega arith) (omega arith))) in
     let nodes : select_nodes (select_of p) ≡ 19 ∷ 21 ∷ 22 ∷ 23 ∷ 24 ∷ 26 ∷ 54 ∷ 25 ∷ 27 ∷ 57 ∷ 40 ∷ 41 ∷ 52 ∷ 53 ∷ [] =
-        rw (r, a, e, m, ls, ss, ans, rails) refl in
+    rw (r, a, e, m, ls, ss, ans, rails) refl in
     record {
       branches = branches_are p.latches.items p.starts.items p.answers.items p.guard_rails.items ls ss ans rails;
       request = omega (arith, r);

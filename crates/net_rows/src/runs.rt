@@ -68,8 +68,8 @@ fn least(alloc: Global, run: &Run) -> Result<Option<u32>, AllocError>
     }
 }
 
-/// How a run went: the nodes that moved, the hazard at which it ended, whether `done` is high, and what has passed on each
-/// channel.
+/// How a run went: the nodes that moved, the hazard at which it ended, whether `done` is high, and what has passed on
+/// each channel.
 #[derive(Drop)]
 struct Outcome {
     moves: Vec<u32>,

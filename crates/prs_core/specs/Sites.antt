@@ -6,7 +6,10 @@ use Rattle.prs_core.specs.Parts.{Part, Moment, Wire, wire, owned, all_low, never
 
 -- the acknowledge under the site's own request: r & A -> k+, ~A -> k-
 abbrev pub site_answer : (request ack : ℕ) → NodeRules
-site_answer request ack = record { up = one_term (is_high request ∷ is_high ack ∷ []); down = one_term (is_low ack ∷ []) }
+site_answer request ack = record {
+  up = one_term (is_high request ∷ is_high ack ∷ []);
+  down = one_term (is_low ack ∷ []);
+}
 
 -- A request may rise once the whole handshake before it is over: where all requests, the acknowledge and the answer are
 -- low.

@@ -24,25 +24,28 @@ whole_at : (pieces : List (Bor (List ℕ))) (i : ℕ) → i < length pieces →
     joined pieces ≡ joined (take i pieces) ++ ((get_or pieces i no_piece).now ++ joined (drop (i + 1) pieces))
 whole_at pieces i within =
     ap joined (sym (take-append-drop i pieces)) ∙ joined_append (take i pieces) (drop i pieces)
-        ∙ ap (λ xs. joined (take i pieces) ++ xs) (at_drop_more joined pieces i no_piece within)
+    ∙ ap (λ xs. joined (take i pieces) ++ xs) (at_drop_more joined pieces i no_piece within)
 
 rest_is : (line rest : List ℕ) (pieces : List (Bor (List ℕ))) (i : ℕ) → i < length pieces → line ≡ joined (take i pieces) ++ rest → line ≡ joined pieces →
     rest ≡ (get_or pieces i no_piece).now ++ joined (drop (i + 1) pieces)
 rest_is line rest pieces i within so_far whole =
     append_cancel_left (joined (take i pieces)) rest ((get_or pieces i no_piece).now ++ joined (drop (i + 1) pieces)) (sym so_far ∙ whole
-        ∙ whole_at pieces i within)
+    ∙ whole_at pieces i within)
 
 pub too_short : (line rest : List ℕ) (pieces : List (Bor (List ℕ))) (i : ℕ) → i < length pieces → line ≡ joined (take i pieces) ++ rest →
     length rest < length (get_or pieces i no_piece).now → false ≡ bytes_eq line (joined pieces)
 too_short line rest pieces i within so_far short =
-    not_same line (joined pieces) (λ whole. omega (arith, ap length (rest_is line rest pieces i within so_far whole),
-        length-append (get_or pieces i no_piece).now (joined (drop (i + 1) pieces))))
+    not_same line (joined pieces) (λ whole. omega (
+      arith,
+      ap length (rest_is line rest pieces i within so_far whole),
+      length-append (get_or pieces i no_piece).now (joined (drop (i + 1) pieces)),
+    ))
 
 pub other_front : (line rest front : List ℕ) (pieces : List (Bor (List ℕ))) (i : ℕ) → i < length pieces → line ≡ joined (take i pieces) ++ rest →
     front ≡ take (length (get_or pieces i no_piece).now) rest → (front ≡ (get_or pieces i no_piece).now → ⊥) → false ≡ bytes_eq line (joined pieces)
 other_front line rest front pieces i within so_far is apart =
     not_same line (joined pieces) (λ whole. apart (is ∙ ap (take (length (get_or pieces i no_piece).now)) (rest_is line rest pieces i within so_far whole)
-        ∙ take_at (get_or pieces i no_piece).now (joined (drop (i + 1) pieces)) _ refl))
+    ∙ take_at (get_or pieces i no_piece).now (joined (drop (i + 1) pieces)) _ refl))
 
 pub one_piece_more : (line rest front back : List ℕ) (pieces : List (Bor (List ℕ))) (i : ℕ) → i < length pieces → line ≡ joined (take i pieces) ++ rest →
     front ≡ take (length (get_or pieces i no_piece).now) rest → back ≡ drop (length (get_or pieces i no_piece).now) rest →
@@ -50,9 +53,9 @@ pub one_piece_more : (line rest front back : List ℕ) (pieces : List (Bor (List
 one_piece_more line rest front back pieces i within so_far front_is back_is same_front =
     let piece = (get_or pieces i no_piece).now in
     let parts : rest ≡ piece ++ back = sym (take-append-drop (length piece) rest) ∙ ap (λ xs. xs ++ drop (length piece) rest) (sym front_is ∙ same_front)
-        ∙ ap (λ xs. piece ++ xs) (sym back_is) in
+    ∙ ap (λ xs. piece ++ xs) (sym back_is) in
     let more : joined (take (i + 1) pieces) ≡ joined (take i pieces) ++ piece = ap joined (take_more pieces i no_piece within)
-        ∙ joined_append (take i pieces) (get_or pieces i no_piece ∷ []) ∙ ap (λ xs. joined (take i pieces) ++ xs) (append-nil piece) in
+    ∙ joined_append (take i pieces) (get_or pieces i no_piece ∷ []) ∙ ap (λ xs. joined (take i pieces) ++ xs) (append-nil piece) in
     so_far ∙ ap (λ xs. joined (take i pieces) ++ xs) parts ∙ sym (append_assoc (joined (take i pieces)) piece back) ∙ ap (λ xs. xs ++ back) (sym more)
 
 pub nothing_more : (line rest : List ℕ) (pieces : List (Bor (List ℕ))) (i : ℕ) → length pieces ≤ i → line ≡ joined (take i pieces) ++ rest →
@@ -60,8 +63,12 @@ pub nothing_more : (line rest : List ℕ) (pieces : List (Bor (List ℕ))) (i : 
 nothing_more line [] pieces i over so_far =
     same line (joined pieces) (so_far ∙ append-nil (joined (take i pieces)) ∙ ap joined (take_all i pieces over))
 nothing_more line (b ∷ rest) pieces i over so_far =
-    eqb_suc (length rest) ∙ not_same line (joined pieces) (λ whole. omega (arith, ap length (sym so_far ∙ whole),
-        ap (λ xs. length (joined xs)) (take_all i pieces over), length-append (joined (take i pieces)) (b ∷ rest)))
+    eqb_suc (length rest) ∙ not_same line (joined pieces) (λ whole. omega (
+      arith,
+      ap length (sym so_far ∙ whole),
+      ap (λ xs. length (joined xs)) (take_all i pieces over),
+      length-append (joined (take i pieces)) (b ∷ rest),
+    ))
   where
     eqb_suc : (n : ℕ) → (suc n == 0) ≡ false
     eqb_suc n = ne_eqb (suc n) 0 (omega arith)

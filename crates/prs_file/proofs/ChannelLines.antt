@@ -46,7 +46,7 @@ pub no_channel : (line : List ℕ) (word : List ℕ) (k : Kind) → k ≡ kind_b
 no_channel line word k kind_told word_told none c is e =
     let kind : k ≡ c.kind = kind_told ∙ ap kind_by_letter e ∙ kind_is c.kind c.name c.width in
     let named : word ≡ c.name = word_told ∙ ap (word_behind k) e ∙ ap (λ j. word_behind j (line_of c.kind c.name c.width)) kind
-        ∙ word_is c.kind c.name c.width is.name.parts in
+    ∙ word_is c.kind c.name c.width is.name.parts in
     none c.width is.some is.most (e ∙ ap (λ j. line_of j c.name c.width) (sym kind) ∙ ap (λ n. line_of k n c.width) (sym named))
 
 pub no_channel_name : (line : List ℕ) (word : List ℕ) (k : Kind) → k ≡ kind_by_letter line → word ≡ word_behind k line → (IsName word → ⊥) → (c : Channel) →
@@ -54,5 +54,5 @@ pub no_channel_name : (line : List ℕ) (word : List ℕ) (k : Kind) → k ≡ k
 no_channel_name line word k kind_told word_told none c is e =
     let kind : k ≡ c.kind = kind_told ∙ ap kind_by_letter e ∙ kind_is c.kind c.name c.width in
     let named : word ≡ c.name = word_told ∙ ap (word_behind k) e ∙ ap (λ j. word_behind j (line_of c.kind c.name c.width)) kind
-        ∙ word_is c.kind c.name c.width is.name.parts in
+    ∙ word_is c.kind c.name c.width is.name.parts in
     none (subst IsName (sym named) is.name)

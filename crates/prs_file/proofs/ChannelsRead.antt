@@ -68,39 +68,43 @@ unknown_so names first (w ∷ wires) count = rw (number_is names first w count, 
 abbrev by_parts : List (List ℕ × Bool) → List Channel → Channel → Option NetFault
 by_parts nodes cs c =
     if list_any (λ (d : Channel). bytes_eq d.name c.name) cs then Some DoubleName else
-        (if list_any (λ w. is_none (position (λ (n : List ℕ × Bool). bytes_eq n.0 w) nodes)) (wires_of c) then Some UnknownNode else
-        (if list_any (λ w. list_any (λ (n : List ℕ × Bool). bytes_eq n.0 w && n.1) nodes) (wires_of c) then Some BadFirst else None))
+    (if list_any (λ w. is_none (position (λ (n : List ℕ × Bool). bytes_eq n.0 w) nodes)) (wires_of c) then Some UnknownNode else
+    (if list_any (λ w. list_any (λ (n : List ℕ × Bool). bytes_eq n.0 w && n.1) nodes) (wires_of c) then Some BadFirst else None))
 
 pub channel_fault_is : (version : ℕ) (names : List (List ℕ)) (first : List Bool) (ws : List Wires) (c : Channel) → length first ≡ length names →
     form_fault (channels_told version names first ws) (channel c) ≡ channel_fault_of names first ws c
 channel_fault_is version names first ws c count =
     let nodes = told_nodes (node_forms names first) in
     let one : by_parts (filter_map node_in (node_forms names first ++ channel_forms ws)) (filter_map channel_in (node_forms names first ++ channel_forms ws)) c
-        ≡ by_parts nodes (filter_map channel_in (node_forms names first ++ channel_forms ws)) c =
-        ap (λ ns. by_parts ns (filter_map channel_in (node_forms names first ++ channel_forms ws)) c) (nodes_are names first ws) in
+    ≡ by_parts nodes (filter_map channel_in (node_forms names first ++ channel_forms ws)) c =
+    ap (λ ns. by_parts ns (filter_map channel_in (node_forms names first ++ channel_forms ws)) c) (nodes_are names first ws) in
     let two : by_parts nodes (filter_map channel_in (node_forms names first ++ channel_forms ws)) c ≡ by_parts nodes (map (λ (w : Wires). w.channel) ws) c =
-        ap (λ cs. by_parts nodes cs c) (channels_are names first ws) in
+    ap (λ cs. by_parts nodes cs c) (channels_are names first ws) in
     one ∙ two ∙ rw (named_so ws c.name, unknown_so names first (wires_of c) count) refl
 
 told_push : (version : ℕ) (names : List (List ℕ)) (first : List Bool) (ws : List Wires) (w : Wires) →
     channels_told version names first (ws ++ w ∷ []) ≡ channels_told version names first ws ++ channel w.channel ∷ []
 told_push version names first ws w =
     ap (λ fs. nodes_told version names first ++ fs) (map_push (λ (w : Wires). channel w.channel) ws w)
-        ∙ sym (append_assoc (nodes_told version names first) (channel_forms ws) (channel w.channel ∷ []))
+    ∙ sym (append_assoc (nodes_told version names first) (channel_forms ws) (channel w.channel ∷ []))
 
 pub count_told : (version : ℕ) (names : List (List ℕ)) (first : List Bool) (ws : List Wires) → IsNodes version names first →
     length (channels_told version names first ws) ≡ length names + length ws + 1
 count_told version names first ws nodes =
-    omega (arith, length-append (nodes_told version names first) (channel_forms ws), length-map ws (λ (w : Wires). channel w.channel),
-        told_length version names first nodes)
+    omega (
+      arith,
+      length-append (nodes_told version names first) (channel_forms ws),
+      length-map ws (λ (w : Wires). channel w.channel),
+      told_length version names first nodes,
+    )
 
 pub channel_refused : (version : ℕ) (names : List (List ℕ)) (first : List Bool) (ws : List Wires) (text rest : List ℕ) (c : Channel) (fault : NetFault)
     (line : ℕ) → IsNodes version names first → IsChannelsRead version names first ws text rest → 0 < length rest → first_line rest ≡ channel_spelling c →
     IsChannelForm c → channel_fault_of names first ws c ≡ Some fault → line ≡ length names + length ws + 2 → IsRefused text fault line
 channel_refused version names first ws text rest c fault line nodes read some says form bad number =
     refused_here text (channels_told version names first ws) rest fault line read.taken
-        (fault_here (channels_told version names first ws) (channel c) rest fault some says form (read.late (channel c) refl)
-        (channel_fault_is version names first ws c nodes.count ∙ bad)) (omega (arith, count_told version names first ws nodes))
+    (fault_here (channels_told version names first ws) (channel c) rest fault some says form (read.late (channel c) refl)
+    (channel_fault_is version names first ws c nodes.count ∙ bad)) (omega (arith, count_told version names first ws nodes))
 
 -- what may stand behind a channel
 behind_channel : (before : List Form) (c : Channel) → 2 < length before → ((f : Form) → stands_late f ≡ false → may_stand (before ++ channel c ∷ []) f ≡ false)
@@ -133,7 +137,7 @@ pub channels_more : (version : ℕ) (names : List (List ℕ)) (first : List Bool
 channels_more version names first ws w text rest behind nodes read says whole form wired fresh =
     let before = channels_told version names first ws in
     let good : form_fault before (channel w.channel) ≡ None = channel_fault_is version names first ws w.channel nodes.count
-        ∙ ap (λ o. cond (is_some o) (Some DoubleName) (wires_fault_of names first w.channel)) fresh ∙ wired.sound in
+    ∙ ap (λ o. cond (is_some o) (Some DoubleName) (wires_fault_of names first w.channel)) fresh ∙ wired.sound in
     let now = behind_channel before w.channel (omega (arith, count_told version names first ws nodes, nodes.some)) in
     let e = told_push version names first ws w in
     record {
@@ -160,8 +164,14 @@ channels_begin version names first ws text rest none read over = subst (λ ws. I
   distinct = λ i j d below within. absurd (omega arith);
   early = λ f says is. ap (λ b. may_stand b f) e ∙ early f says is;
   late = λ f is. ap (λ b. may_stand b f) e ∙ late f is;
-  ends = ap may_end e ∙ rw (read.last.2, lt-ltb 2 (length (nodes_told version names first)) (omega (arith, told_length version names first read.nodes,
-      read.nodes.some))) shut;
+  ends = ap may_end e ∙ rw (
+    read.last.2,
+    lt-ltb 2 (length (nodes_told version names first)) (omega (
+      arith,
+      told_length version names first read.nodes,
+      read.nodes.some,
+    )),
+  ) shut;
   last = ap (λ b. last_place b (last_of b)) e ∙ rw read.last.2 refl;
 })
   where

@@ -104,7 +104,7 @@ driven_push : (reset : Bool) (cs : List Channel) (c : Channel) (name : List ℕ)
 driven_push reset cs c name =
     let p : Channel → Bool = λ c. list_any (bytes_eq name) (outside_of c) in
     ap (λ b. bytes_eq name (codes "go") || ((reset && bytes_eq name (codes "reset")) || b)) (list_any-append p cs (c ∷ [])
-        ∙ ap (λ b. list_any p cs || b) (or_nothing (p c)))
+    ∙ ap (λ b. list_any p cs || b) (or_nothing (p c)))
     ∙ sym (or_more (bytes_eq name (codes "go")) (reset && bytes_eq name (codes "reset")) (list_any p cs) (p c))
 
 -- one channel more
@@ -117,7 +117,7 @@ driven_more reset names first ws w old new all wired driven same more = record {
   each = λ n within.
       more n ∙ ap (λ b. b || list_any (λ k. k == n) (wires_from_outside w.channel.kind w.rails w.ack)) (driven.each n within)
       ∙ ap (λ b. is_driven reset (map (λ (w : Wires). w.channel) ws) (get_or names n []) || b)
-          (sym (same_wires names (outside_of w.channel) (wires_from_outside w.channel.kind w.rails w.ack) n all within (outside_found names first w wired)))
+      (sym (same_wires names (outside_of w.channel) (wires_from_outside w.channel.kind w.rails w.ack) n all within (outside_found names first w wired)))
       ∙ sym (driven_push reset (map (λ (w : Wires). w.channel) ws) w.channel (get_or names n []))
       ∙ ap (λ cs. is_driven reset cs (get_or names n [])) (sym (map_push (λ (w : Wires). w.channel) ws w));
 }
@@ -158,7 +158,7 @@ mark_more old now nodes i node n within is below so_far =
     let more : list_any p (take (i + 1) nodes) ≡ (list_any p (take i nodes) || (p node || false)) =
     ap (list_any p) (take_more nodes i 0 within ∙ ap (λ k. take i nodes ++ k ∷ []) (sym is)) ∙ list_any-append p (take i nodes) (node ∷ []) in
     set_true now node n below ∙ ap (λ b. p node || b) so_far ∙ swap_or (p node) (get_or old n false) (list_any p (take i nodes))
-        ∙ ap (λ b. get_or old n false || b) (sym more)
+    ∙ ap (λ b. get_or old n false || b) (sym more)
 
 -- the nodes of the file itself
 pub name_at_is : (names : List (List ℕ)) (m n : ℕ) (name : List ℕ) → Distinct names → m < length names → n < length names → get_or names m [] ≡ name →
@@ -179,7 +179,7 @@ name_at_is names m n name all below within is = by_order (cases_lt m n) (cases_l
 go_alone : (names : List (List ℕ)) (n : ℕ) → n < length names → get_or (set (replicate (length names) false) 0 true) n false ≡ (0 == n)
 go_alone names n within =
     set_true (replicate (length names) false) 0 n (omega (arith, length-replicate (length names) false))
-        ∙ ap (λ b. (0 == n) || b) (get_or-replicate (length names) n false false within) ∙ or_nothing (0 == n)
+    ∙ ap (λ b. (0 == n) || b) (get_or-replicate (length names) n false false within) ∙ or_nothing (0 == n)
 
 pub own_plain : (version : ℕ) (names : List (List ℕ)) (first driven : List Bool) → IsNodes version names first → (version == 2) ≡ false →
     driven ≡ set (replicate (length names) false) 0 true → AreDriven (version == 2) [] names driven
@@ -187,8 +187,8 @@ own_plain version names first driven nodes plain is = subst (AreDriven (version 
   count = omega (arith, length-set (replicate (length names) false) 0 true, length-replicate (length names) false);
   each = λ n within.
       go_alone names n within ∙ sym (name_at_is names 0 n (codes "go") nodes.distinct (omega (arith, nodes.some)) within nodes.go)
-          ∙ sym (ap (λ b. bytes_eq (get_or names n []) (codes "go") || ((b && bytes_eq (get_or names n []) (codes "reset")) || false)) plain
-          ∙ or_nothing (bytes_eq (get_or names n []) (codes "go")));
+      ∙ sym (ap (λ b. bytes_eq (get_or names n []) (codes "go") || ((b && bytes_eq (get_or names n []) (codes "reset")) || false)) plain
+      ∙ or_nothing (bytes_eq (get_or names n []) (codes "go")));
 })
 
 swap_two : (a b : Bool) → (a || b) ≡ (b || (a || false))
@@ -200,16 +200,24 @@ swap_two false false = refl
 pub own_reset : (version : ℕ) (names : List (List ℕ)) (first driven : List Bool) → IsNodes version names first → HasItsReset version names first →
     (version == 2) ≡ true → driven ≡ set (set (replicate (length names) false) 0 true) (length names - 1) true → AreDriven (version == 2) [] names driven
 own_reset version names first driven nodes reset with is = subst (AreDriven (version == 2) [] names) (sym is) (record {
-  count = omega (arith, length-set (set (replicate (length names) false) 0 true) (length names - 1) true, length-set (replicate (length names) false) 0 true,
-      length-replicate (length names) false);
+  count = omega (
+    arith,
+    length-set (set (replicate (length names) false) 0 true) (length names - 1) true,
+    length-set (replicate (length names) false) 0 true,
+    length-replicate (length names) false,
+  );
   each = λ n within.
-      set_true (set (replicate (length names) false) 0 true) (length names - 1) n (omega (arith, nodes.some, length-set (replicate (length names) false) 0 true,
-          length-replicate (length names) false))
+      set_true (set (replicate (length names) false) 0 true) (length names - 1) n (omega (
+        arith,
+        nodes.some,
+        length-set (replicate (length names) false) 0 true,
+        length-replicate (length names) false,
+      ))
       ∙ ap (λ b. (length names - 1 == n) || b) (go_alone names n within)
       ∙ swap_two (length names - 1 == n) (0 == n)
       ∙ ap (λ b. b || ((length names - 1 == n) || false)) (sym (name_at_is names 0 n (codes "go") nodes.distinct (omega (arith, nodes.some)) within nodes.go))
       ∙ ap (λ b. bytes_eq (get_or names n []) (codes "go") || (b || false))
-          (sym (name_at_is names (length names - 1) n (codes "reset") nodes.distinct (omega (arith, nodes.some)) within (reset with).name))
+      (sym (name_at_is names (length names - 1) n (codes "reset") nodes.distinct (omega (arith, nodes.some)) within (reset with).name))
       ∙ sym (ap (λ b. bytes_eq (get_or names n []) (codes "go") || ((b && bytes_eq (get_or names n []) (codes "reset")) || false)) with);
 })
 

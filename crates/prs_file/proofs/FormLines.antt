@@ -97,37 +97,37 @@ more_plain : {X : Type 0} (f : X → List ℕ) (sep : List ℕ) (xs : List X) �
 more_plain f sep [] free each = refl
 more_plain f sep (x ∷ xs) free each =
     plain_append (sep ++ f x) (flat_map (λ x. sep ++ f x) xs) (plain_append sep (f x) free (each x (Contains-get_or (x ∷ xs) 0 x (omega arith))))
-        (more_plain f sep xs free (λ y in'. each y (Contains-append_right (x ∷ []) xs y in')))
+    (more_plain f sep xs free (λ y in'. each y (Contains-append_right (x ∷ []) xs y in')))
 
 joined_plain : {X : Type 0} (f : X → List ℕ) (sep : List ℕ) (xs : List X) → plain sep ≡ true → ((x : X) → Contains xs x → plain (f x) ≡ true) →
     plain (join_by f sep xs) ≡ true
 joined_plain f sep [] free each = refl
 joined_plain f sep (x ∷ xs) free each =
     plain_append (f x) (flat_map (λ x. sep ++ f x) xs) (each x (Contains-get_or (x ∷ xs) 0 x (omega arith)))
-        (more_plain f sep xs free (λ y in'. each y (Contains-append_right (x ∷ []) xs y in')))
+    (more_plain f sep xs free (λ y in'. each y (Contains-append_right (x ∷ []) xs y in')))
 
 guard_plain : (g : List (List Signed)) → All IsTermForm g → plain (join_by (join_by signed_spelling (codes " & ")) (codes " | ") g) ≡ true
 guard_plain g all = joined_plain (join_by signed_spelling (codes " & ")) (codes " | ") g refl (λ t in'.
     joined_plain signed_spelling (codes " & ") t refl
-        (λ s here. signed_plain s (All-contains (λ (s : Signed). IsNodeName s.name) t s (All-contains IsTermForm g t all in').names here)))
+    (λ s here. signed_plain s (All-contains (λ (s : Signed). IsNodeName s.name) t s (All-contains IsTermForm g t all in').names here)))
 
 pub line_of_form : (f : Form) → IsForm f → IsLine (form_spelling f)
 line_of_form (head version) form =
     line_by (form_spelling (head version)) (codes "prs " ++ decimal version) (sym (append_assoc (codes "prs ") (decimal version) (10 ∷ [])))
-        (plain_append (codes "prs ") (decimal version) refl (plain_decimal version (omega (arith, form.1))))
+    (plain_append (codes "prs ") (decimal version) refl (plain_decimal version (omega (arith, form.1))))
 line_of_form (node name true) form =
     line_by (form_spelling (node name true)) (codes "node " ++ (name ++ codes " 1"))
-        (ap (λ t. codes "node " ++ t) (sym (append_assoc name (codes " 1") (10 ∷ [])))) (plain_append name (codes " 1") (plain_name name form.parts) refl)
+    (ap (λ t. codes "node " ++ t) (sym (append_assoc name (codes " 1") (10 ∷ [])))) (plain_append name (codes " 1") (plain_name name form.parts) refl)
 line_of_form (node name false) form =
     line_by (form_spelling (node name false)) (codes "node " ++ (name ++ codes " 0"))
-        (ap (λ t. codes "node " ++ t) (sym (append_assoc name (codes " 0") (10 ∷ [])))) (plain_append name (codes " 0") (plain_name name form.parts) refl)
+    (ap (λ t. codes "node " ++ t) (sym (append_assoc name (codes " 0") (10 ∷ [])))) (plain_append name (codes " 0") (plain_name name form.parts) refl)
 line_of_form (channel c) form =
     line_by (form_spelling (channel c)) (kind_spelling c.kind ++ (c.name ++ (codes " " ++ decimal c.width)))
     (sym (append_assoc (kind_spelling c.kind) (c.name ++ (codes " " ++ decimal c.width)) (10 ∷ [])
-        ∙ ap (λ t. kind_spelling c.kind ++ t) (append_assoc c.name (codes " " ++ decimal c.width) (10 ∷ []))))
+    ∙ ap (λ t. kind_spelling c.kind ++ t) (append_assoc c.name (codes " " ++ decimal c.width) (10 ∷ []))))
     (plain_append (kind_spelling c.kind) (c.name ++ (codes " " ++ decimal c.width)) (plain_kind c.kind)
-        (plain_append c.name (codes " " ++ decimal c.width) (plain_name c.name (wider c.name form.name.parts))
-        (plain_decimal c.width (omega (arith, form.most)))))
+    (plain_append c.name (codes " " ++ decimal c.width) (plain_name c.name (wider c.name form.name.parts))
+    (plain_decimal c.width (omega (arith, form.most)))))
   where
     plain_kind : (k : Kind) → plain (kind_spelling k) ≡ true
     plain_kind In = refl

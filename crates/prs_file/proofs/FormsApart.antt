@@ -56,12 +56,12 @@ same_channel : (c d : Channel) → IsChannelForm c → IsChannelForm d → chann
 same_channel c d one two e =
     let kind : c.kind ≡ d.kind = sym (kind_is c.kind c.name c.width) ∙ ap kind_by_letter e ∙ kind_is d.kind d.name d.width in
     let name : c.name ≡ d.name = sym (word_of_channel c.kind c.name c.width one.name.parts) ∙ ap (word_behind c.kind) e
-        ∙ ap (λ k. word_behind k (line_of d.kind d.name d.width)) kind ∙ word_of_channel d.kind d.name d.width two.name.parts in
+    ∙ ap (λ k. word_behind k (line_of d.kind d.name d.width)) kind ∙ word_of_channel d.kind d.name d.width two.name.parts in
     let tails : c.name ++ (32 ∷ (decimal c.width ++ (10 ∷ []))) ≡ d.name ++ (32 ∷ (decimal d.width ++ (10 ∷ []))) =
     sym (behind_kind c.kind c.name c.width) ∙ ap (λ k. drop (length (kind_spelling k)) (line_of c.kind c.name c.width)) kind
-        ∙ ap (drop (length (kind_spelling d.kind))) e ∙ behind_kind d.kind d.name d.width in
+    ∙ ap (drop (length (kind_spelling d.kind))) e ∙ behind_kind d.kind d.name d.width in
     let ends : decimal c.width ++ (10 ∷ []) ≡ decimal d.width ++ (10 ∷ []) =
-        ap (drop 1) (append_cancel_left d.name _ _ (ap (λ n. n ++ (32 ∷ (decimal c.width ++ (10 ∷ [])))) (sym name) ∙ tails)) in
+    ap (drop 1) (append_cancel_left d.name _ _ (ap (λ n. n ++ (32 ∷ (decimal c.width ++ (10 ∷ [])))) (sym name) ∙ tails)) in
     let width = same_width c.width d.width one.most two.most (append_cancel_right (decimal c.width) (decimal d.width) (10 ∷ []) ends) in
     λ i. record { name = name i; kind = kind i; width = width i }
 
@@ -105,7 +105,7 @@ same_rest (l ∷ ms) [] n m u v f g a b e =
     absurd (sign_no_end l.lead (body l ++ rule_line_of ms n u) m v (All-head Further l ms f) (sym (more_is l ms n u) ∙ e))
 same_rest (l ∷ ms) (k ∷ ks) n m u v f g a b e =
     let signs = same_sign l.lead k.lead (body l ++ rule_line_of ms n u) (body k ++ rule_line_of ks m v) (All-head Further l ms f) (All-head Further k ks g)
-        (sym (more_is l ms n u) ∙ e ∙ more_is k ks m v) in
+    (sym (more_is l ms n u) ∙ e ∙ more_is k ks m v) in
     let parts = same_body l k ms ks n m u v (All-tail Further l ms f) (All-tail Further k ks g) (All-head Named l ms a) (All-head Named k ks b) signs.1 in
     let rest = same_rest ms ks n m u v (All-tail Further l ms f) (All-tail Further k ks g) (All-tail Named l ms a) (All-tail Named k ks b) parts.2 in
     (ap (λ x. x ∷ ms) (same_led l k signs.0 parts.0 parts.1) ∙ ap (λ xs. k ∷ xs) rest.0, rest.1, rest.2)
@@ -117,7 +117,7 @@ same_line (l ∷ ms) [] n m u v one two e = absurd two.leads
 same_line (l ∷ ms) (k ∷ ks) n m u v one two e =
     let at : body l ++ rule_line_of ms n u ≡ body k ++ rule_line_of ks m v =
     append_cancel_left (codes "rule ") _ _ (sym (more_is l ms n u ∙ ap (λ j. lead_spelling j ++ (body l ++ rule_line_of ms n u)) one.leads.0) ∙ e
-        ∙ more_is k ks m v ∙ ap (λ j. lead_spelling j ++ (body k ++ rule_line_of ks m v)) two.leads.0) in
+    ∙ more_is k ks m v ∙ ap (λ j. lead_spelling j ++ (body k ++ rule_line_of ks m v)) two.leads.0) in
     let parts = same_body l k ms ks n m u v one.leads.1 two.leads.1 (All-head Named l ms one.names) (All-head Named k ks two.names) at in
     let rest = same_rest ms ks n m u v one.leads.1 two.leads.1 (All-tail Named l ms one.names) (All-tail Named k ks two.names) parts.2 in
     (ap (λ x. x ∷ ms) (same_led l k (one.leads.0 ∙ sym two.leads.0) parts.0 parts.1) ∙ ap (λ xs. k ∷ xs) rest.0, rest.1, rest.2)
@@ -143,7 +143,7 @@ same_rule [] h n m u v one two e = absurd (omega (arith, one.0))
 same_rule (t ∷ ts) [] n m u v one two e = absurd (omega (arith, two.0))
 same_rule (t ∷ ts) (s ∷ ss) n m u v one two e =
     let same = same_line (leds_by Rule (t ∷ ts)) (leds_by Rule (s ∷ ss)) n m u v (leds_form t ts n u one) (leds_form s ss m v two)
-        (sym (line_told t ts n u one.1) ∙ e ∙ line_told s ss m v two.1) in
+    (sym (line_told t ts n u one.1) ∙ e ∙ line_told s ss m v two.1) in
     let guard : t ∷ ts ≡ s ∷ ss = sym (terms_back Rule (t ∷ ts) one.1) ∙ ap terms_of same.0 ∙ terms_back Rule (s ∷ ss) two.1 in
     λ i. rule (guard i) (same.1 i) (same.2 i)
 
@@ -201,10 +201,18 @@ some_line f form = let line = line_of_form f form in omega (arith, ap length lin
 
 pub same_forms : (fs gs : List Form) → All IsForm fs → All IsForm gs → flat_map form_spelling fs ≡ flat_map form_spelling gs → fs ≡ gs
 same_forms [] [] one two e = refl
-same_forms [] (g ∷ gs) one two e = absurd (omega (arith, ap length e, length-append (form_spelling g) (flat_map form_spelling gs),
-    some_line g (All-head IsForm g gs two)))
-same_forms (f ∷ fs) [] one two e = absurd (omega (arith, ap length e, length-append (form_spelling f) (flat_map form_spelling fs),
-    some_line f (All-head IsForm f fs one)))
+same_forms [] (g ∷ gs) one two e = absurd (omega (
+  arith,
+  ap length e,
+  length-append (form_spelling g) (flat_map form_spelling gs),
+  some_line g (All-head IsForm g gs two),
+))
+same_forms (f ∷ fs) [] one two e = absurd (omega (
+  arith,
+  ap length e,
+  length-append (form_spelling f) (flat_map form_spelling fs),
+  some_line f (All-head IsForm f fs one),
+))
 same_forms (f ∷ fs) (g ∷ gs) one two e =
     let cut_f = cut_at (form_spelling f) (flat_map form_spelling fs) (line_of_form f (All-head IsForm f fs one)) in
     let cut_g = cut_at (form_spelling g) (flat_map form_spelling gs) (line_of_form g (All-head IsForm g gs two)) in

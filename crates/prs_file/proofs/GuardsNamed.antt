@@ -52,7 +52,7 @@ pub named_more : (names : List (List ℕ)) (ls : List Led) (led : Led) (l : Lite
     place_in names led.name ≡ Some l.node → guard_named names g ≡ terms_of ls → now ≡ add_by led.lead l g → guard_named names now ≡ terms_of (ls ++ led ∷ [])
 named_more names ls led l g now some high at is more =
     ap (guard_named names) more ∙ add_named names led.lead l g ∙ ap (λ s. add_by led.lead s (guard_named names g)) (signed_is names led l high at)
-        ∙ ap (add_by led.lead (signed_of led)) is ∙ sym (terms_more ls led some)
+    ∙ ap (add_by led.lead (signed_of led)) is ∙ sym (terms_more ls led some)
 
 end_below : (n : ℕ) (l : Literal) (g : GuardValue) → l.node < n → IsBelow n g → IsBelow n (at_end l g)
 end_below n l [] below all = All-cons (All (λ (l : Literal). l.node < n)) (l ∷ []) []

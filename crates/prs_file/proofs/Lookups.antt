@@ -24,7 +24,7 @@ pub found_more : (names wires : List (List ℕ)) (numbers : List ℕ) (w : List 
     AreFound names (wires ++ w ∷ []) (numbers ++ n ∷ [])
 found_more names wires numbers w n found is =
     map-append (place_in names) wires (w ∷ []) ∙ ap (λ xs. xs ++ place_in names w ∷ []) found ∙ ap (λ o. map (λ n. Some n) numbers ++ o ∷ []) is
-        ∙ sym (map-append (λ n. Some n) numbers (n ∷ []))
+    ∙ sym (map-append (λ n. Some n) numbers (n ∷ []))
 
 -- two rails more
 pub rails_found : (names : List (List ℕ)) (channel : List ℕ) (bit t f : ℕ) (numbers : List ℕ) → AreFound names (rail_names channel bit) numbers →
@@ -32,9 +32,9 @@ pub rails_found : (names : List (List ℕ)) (channel : List ℕ) (bit t f : ℕ)
     AreFound names (rail_names channel (bit + 1)) ((numbers ++ t ∷ []) ++ f ∷ [])
 rails_found names channel bit t f numbers found at af =
     let both = found_more names (rail_names channel bit ++ true_rail channel bit ∷ []) (numbers ++ t ∷ []) (false_rail channel bit) f
-        (found_more names (rail_names channel bit) numbers (true_rail channel bit) t found at) af in
+    (found_more names (rail_names channel bit) numbers (true_rail channel bit) t found at) af in
     subst (λ ws. AreFound names ws ((numbers ++ t ∷ []) ++ f ∷ [])) (append_assoc (rail_names channel bit) (true_rail channel bit ∷ []) (false_rail channel bit
-        ∷ []) ∙ sym (rails_more channel bit)) both
+    ∷ []) ∙ sym (rails_more channel bit)) both
 
 unknown_right : (names xs ys : List (List ℕ)) → some_unknown names ys ≡ true → some_unknown names (xs ++ ys) ≡ true
 unknown_right names xs ys is = list_any-append (λ w. is_none (place_in names w)) xs ys ∙ or_right (some_unknown names xs) (some_unknown names ys) is
@@ -50,7 +50,7 @@ pub rail_unknown : (names : List (List ℕ)) (channel : List ℕ) (bit : ℕ) (o
     place_in names (false_rail channel bit) ≡ p → (is_none o || is_none p) ≡ true → some_unknown names (rail_names channel (bit + 1)) ≡ true
 rail_unknown names channel bit o p at af none =
     subst (λ ws. some_unknown names ws ≡ true) (sym (rails_more channel bit))
-        (unknown_right names (rail_names channel bit) (true_rail channel bit ∷ false_rail channel bit ∷ []) (two o p at af none))
+    (unknown_right names (rail_names channel bit) (true_rail channel bit ∷ false_rail channel bit ∷ []) (two o p at af none))
   where
     two : (o p : Option ℕ) → place_in names (true_rail channel bit) ≡ o → place_in names (false_rail channel bit) ≡ p → (is_none o || is_none p) ≡ true →
         some_unknown names (true_rail channel bit ∷ false_rail channel bit ∷ []) ≡ true
@@ -66,7 +66,7 @@ wider_unknown names channel bits (suc more) is =
     let less = wider_unknown names channel bits more is in
     let e : (bits + more) + 1 ≡ bits + suc more = omega arith in
     subst (λ n. some_unknown names (rail_names channel n) ≡ true) e (subst (λ ws. some_unknown names ws ≡ true) (sym (rails_more channel (bits + more)))
-        (unknown_left names (rail_names channel (bits + more)) (true_rail channel (bits + more) ∷ false_rail channel (bits + more) ∷ []) less))
+    (unknown_left names (rail_names channel (bits + more)) (true_rail channel (bits + more) ∷ false_rail channel (bits + more) ∷ []) less))
 
 pub within_unknown : (names : List (List ℕ)) (channel : List ℕ) (bit width : ℕ) → bit < width → some_unknown names (rail_names channel (bit + 1)) ≡ true →
     some_unknown names (rail_names channel width) ≡ true

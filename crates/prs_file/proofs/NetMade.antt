@@ -36,7 +36,7 @@ last_form f (n ∷ m ∷ names) (v ∷ w ∷ first) same some =
     let e : length (m ∷ names) ≡ suc (length (m ∷ names) - 1) = omega arith in
     let at : suc (length (m ∷ names) - 1) ≡ length (n ∷ m ∷ names) - 1 = omega arith in
     last_form (node n v) (m ∷ names) (w ∷ first) (omega arith) (omega arith)
-        ∙ ap (λ k. Some (node (get_or (n ∷ m ∷ names) k []) (get_or (v ∷ w ∷ first) k false))) at
+    ∙ ap (λ k. Some (node (get_or (n ∷ m ∷ names) k []) (get_or (v ∷ w ∷ first) k false))) at
 
 ends_in_reset : (b : Bool) (name : List ℕ) (high : Bool) → b ≡ true → (not b || (bytes_eq name (codes "reset") && high)) ≡ true →
     (name ≡ codes "reset") × (high ≡ true)
@@ -50,7 +50,7 @@ pub reset_told : (version : ℕ) (names : List (List ℕ)) (first : List Bool) (
 reset_told version names first text rest read = λ is.
     let last = last_form (head version) names first read.nodes.count (omega (arith, read.nodes.some)) in
     let ends = ends_in_reset (version == 2) (get_or names (length names - 1) []) (get_or first (length names - 1) false) is
-        (sym (ap (ends_nodes (version == 2)) last) ∙ read.ends) in
+    (sym (ap (ends_nodes (version == 2)) last) ∙ read.ends) in
     record { name = ends.0; high = ends.1 }
 
 -- wires by number and by name
@@ -59,8 +59,13 @@ rails_count : (channel : List ℕ) (width : ℕ) → length (rail_names channel 
 rails_count channel zero = refl
 rails_count channel (suc width) =
     let e : suc width ≡ width + 1 = omega arith in
-    omega (arith, ap (λ n. length (rail_names channel n)) e, ap length (rails_more channel width),
-        length-append (rail_names channel width) (true_rail channel width ∷ false_rail channel width ∷ []), rails_count channel width)
+    omega (
+      arith,
+      ap (λ n. length (rail_names channel n)) e,
+      ap length (rails_more channel width),
+      length-append (rail_names channel width) (true_rail channel width ∷ false_rail channel width ∷ []),
+      rails_count channel width,
+    )
 
 found_count : (names wires : List (List ℕ)) (numbers : List ℕ) → AreFound names wires numbers → length numbers ≡ length wires
 found_count names [] [] found = refl
@@ -122,15 +127,15 @@ all_channels n [] same wired forms moved = All-nil (IsChannel n)
 all_channels n (w ∷ ws) same wired forms moved =
     All-cons (IsChannel n) w ws
     (channel_is n w same (All-head (IsWiredAmong n.names n.first) w ws wired) (All-head (λ (w : Wires). IsChannelForm w.channel) w ws forms)
-        (λ k within is. moved k within (or_left (list_any (bytes_eq (get_or n.names k [])) (outside_of w.channel)) _ is)))
+    (λ k within is. moved k within (or_left (list_any (bytes_eq (get_or n.names k [])) (outside_of w.channel)) _ is)))
     (all_channels n ws same (All-tail (IsWiredAmong n.names n.first) w ws wired) (All-tail (λ (w : Wires). IsChannelForm w.channel) w ws forms)
-        (λ k within is. moved k within (or_right (list_any (bytes_eq (get_or n.names k [])) (outside_of w.channel)) _ is)))
+    (λ k within is. moved k within (or_right (list_any (bytes_eq (get_or n.names k [])) (outside_of w.channel)) _ is)))
 
 apart_channels : (ws : List Wires) → AllPairs (λ (a b : List ℕ). a ≢ b) (channel_names ws) → AllPairs (λ (a b : Wires). a.channel.name ≢ b.channel.name) ws
 apart_channels ws all = λ i j d below within e.
     all i j d.channel.name below (omega (arith, length-map ws (λ (w : Wires). w.channel.name)))
-        (get_or-map (λ (w : Wires). w.channel.name) ws i d d.channel.name (omega arith) ∙ e
-        ∙ sym (get_or-map (λ (w : Wires). w.channel.name) ws j d d.channel.name within))
+    (get_or-map (λ (w : Wires). w.channel.name) ws i d d.channel.name (omega arith) ∙ e
+    ∙ sym (get_or-map (λ (w : Wires). w.channel.name) ws j d d.channel.name within))
 
 -- a net of a version
 most_is : (version : ℕ) (first : List Bool) → node_most version ≡ most_nodes (reset_by (version == 2) first)

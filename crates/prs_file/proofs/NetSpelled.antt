@@ -35,7 +35,7 @@ nodes_spelled : (names : List (List ℕ)) (first : List Bool) → length first �
 nodes_spelled names first same =
     let f : ℕ → Form = λ k. node (get_or names k []) (get_or first k false) in
     ap (flat_map form_spelling) (fill_by_all f (node_forms names first) (length first) (head 1) (omega (arith, count_forms names first same))
-        (λ k within. form_at names first k (head 1) same (omega arith))) ∙ flat_map-map form_spelling f (range_with_len 0 (length first))
+    (λ k within. form_at names first k (head 1) same (omega arith))) ∙ flat_map-map form_spelling f (range_with_len 0 (length first))
 
 -- the lines of rules
 
@@ -53,14 +53,14 @@ guard_spelled n [] = refl
 guard_spelled n (t ∷ g) =
     ap (λ x. x ++ flat_map (λ (s : List Signed). codes " | " ++ join_by signed_spelling (codes " & ") s) (guard_named n.names g)) (term_spelled n t)
     ∙ ap (λ x. term_spelling n t ++ x) (flat_map-map (λ (s : List Signed). codes " | " ++ join_by signed_spelling (codes " & ") s) (map (signed_by n.names)) g
-        ∙ each_same (λ t. codes " | " ++ join_by signed_spelling (codes " & ") (map (signed_by n.names) t)) (λ t. codes " | " ++ term_spelling n t) g
-        (λ t. ap (λ x. codes " | " ++ x) (term_spelled n t)))
+    ∙ each_same (λ t. codes " | " ++ join_by signed_spelling (codes " & ") (map (signed_by n.names) t)) (λ t. codes " | " ++ term_spelling n t) g
+    (λ t. ap (λ x. codes " | " ++ x) (term_spelled n t)))
 
 rule_spelled : (n : NetValue) (g : GuardValue) (k : ℕ) (up : Bool) → flat_map form_spelling (guard_forms n.names g k up) ≡ rule_spelling n g k up
 rule_spelled n [] k up = refl
 rule_spelled n (t ∷ g) k up =
     append-nil (form_spelling (rule (guard_named n.names (t ∷ g)) (get_or n.names k []) up))
-        ∙ ap (λ x. concat (codes "rule " ∷ x ∷ end_spelling (get_or n.names k []) up ∷ [])) (guard_spelled n (t ∷ g))
+    ∙ ap (λ x. concat (codes "rule " ∷ x ∷ end_spelling (get_or n.names k []) up ∷ [])) (guard_spelled n (t ∷ g))
 
 node_spelled : (n : NetValue) (k : ℕ) → flat_map form_spelling (node_rules n.names (record { up = n.up; down = n.down }) k) ≡ rules_spelling n k
 node_spelled n k =
@@ -99,14 +99,14 @@ net_spelled version names first ws rules same some most =
     ∙ ap (λ t. t ++ flat_map form_spelling (rule_forms names rules)) (ap (λ t. head_spelling version ++ t) (flat_map-append form_spelling nodes channels))
     ∙ ap (λ t. (head_spelling version ++ (flat_map form_spelling nodes ++ flat_map form_spelling channels)) ++ t) (rules_spelled n same)
     ∙ ap (λ t. (head_spelling version ++ (t ++ flat_map form_spelling channels)) ++ flat_map (rules_spelling n) (range_with_len 0 (length first)))
-        (nodes_spelled names first same)
+    (nodes_spelled names first same)
     ∙ ap (λ t. (head_spelling version ++ (flat_map (λ k. node_spelling (name_at n k) (first_at n k)) (range_with_len 0 (length first)) ++ t))
-        ++ flat_map (rules_spelling n) (range_with_len 0 (length first))) (flat_map-map form_spelling (λ (w : Wires). channel w.channel) ws)
+    ++ flat_map (rules_spelling n) (range_with_len 0 (length first))) (flat_map-map form_spelling (λ (w : Wires). channel w.channel) ws)
     ∙ whole (head_spelling version) (flat_map (λ k. node_spelling (name_at n k) (first_at n k)) (range_with_len 0 (length first)))
-        (flat_map (λ (w : Wires). channel_spelling w.channel) ws) (flat_map (rules_spelling n) (range_with_len 0 (length first)))
+    (flat_map (λ (w : Wires). channel_spelling w.channel) ws) (flat_map (rules_spelling n) (range_with_len 0 (length first)))
     ∙ ap (λ h. concat (h ∷ flat_map (λ k. node_spelling (name_at n k) (first_at n k)) (range_with_len 0 (length first))
-        ∷ flat_map (λ (w : Wires). channel_spelling w.channel) ws ∷ flat_map (rules_spelling n) (range_with_len 0 (length first)) ∷ []))
-        (head_spelled version first some most)
+    ∷ flat_map (λ (w : Wires). channel_spelling w.channel) ws ∷ flat_map (rules_spelling n) (range_with_len 0 (length first)) ∷ []))
+    (head_spelled version first some most)
   where
     whole : (a b d e : List ℕ) → (a ++ (b ++ d)) ++ e ≡ a ++ (b ++ (d ++ (e ++ [])))
     whole a b d e = append_assoc a (b ++ d) e ∙ ap (λ t. a ++ t) (append_assoc b d e ∙ ap (λ t. b ++ (d ++ t)) (sym (append-nil e)))

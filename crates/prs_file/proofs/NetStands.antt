@@ -54,14 +54,14 @@ place_at_name [] k all within = absurd (omega arith)
 place_at_name (m ∷ names) zero all within = rw ((bytes_decides m m).1 refl) refl
 place_at_name (m ∷ names) (suc k) all within =
     let other : bytes_eq m (get_or names k []) ≡ false =
-        false_from_ne_true (bytes_eq m (get_or names k [])) (λ e. all 0 (suc k) [] (omega arith) (omega arith) ((bytes_decides m (get_or names k [])).0 e)) in
+    false_from_ne_true (bytes_eq m (get_or names k [])) (λ e. all 0 (suc k) [] (omega arith) (omega arith) ((bytes_decides m (get_or names k [])).0 e)) in
     rw (other, place_at_name names k (λ i j d below within. all (suc i) (suc j) d (omega arith) (omega arith)) (omega arith)) refl
 
 -- the names before one among distinct ones
 fresh_name : (pre : List (List ℕ)) (n : List ℕ) (suf : List (List ℕ)) → Distinct (pre ++ n ∷ suf) → place_in pre n ≡ None
 fresh_name pre n suf all = not_before pre n (λ k below e.
     all k (length pre) [] (omega arith) (omega (arith, length-append pre (n ∷ suf))) (get_or_append_left pre (n ∷ suf) [] k below ∙ e
-        ∙ sym (get_or_here pre n suf)))
+    ∙ sym (get_or_here pre n suf)))
   where
     get_or_here : (pre : List (List ℕ)) (n : List ℕ) (suf : List (List ℕ)) → get_or (pre ++ n ∷ suf) (length pre) [] ≡ n
     get_or_here [] n suf = refl
@@ -82,8 +82,11 @@ nodes_walk : (version : ℕ) (pre : List (List ℕ)) (pf : List Bool) (suf : Lis
     IsNodesRead version pre pf ends text (flat_map form_spelling (node_forms suf sf) ++ rest) → length sf ≡ length suf → All IsNodeName suf →
     Distinct (pre ++ suf) → length (pre ++ suf) ≤ node_most version → Walked version (pre ++ suf) (pf ++ sf) text rest
 nodes_walk version pre pf [] [] ends text rest read same named all most =
-    record { ends = ends; read = subst (λ ns. IsNodesRead version ns (pf ++ []) ends text rest) (sym (append-nil pre))
-        (subst (λ fs. IsNodesRead version pre fs ends text rest) (sym (append-nil pf)) read) }
+    record {
+      ends = ends;
+      read = subst (λ ns. IsNodesRead version ns (pf ++ []) ends text rest) (sym (append-nil pre))
+          (subst (λ fs. IsNodesRead version pre fs ends text rest) (sym (append-nil pf)) read);
+    }
 nodes_walk version pre pf [] (v ∷ sf) ends text rest read same named all most = absurd (omega arith)
 nodes_walk version pre pf (n ∷ suf) [] ends text rest read same named all most = absurd (omega arith)
 nodes_walk version pre pf (n ∷ suf) (v ∷ sf) ends text rest read same named all most =
@@ -91,18 +94,21 @@ nodes_walk version pre pf (n ∷ suf) (v ∷ sf) ends text rest read same named 
     let is = All-head IsNodeName n suf named in
     let line = front_line (node n v) behind is in
     let read' = subst (λ t. IsNodesRead version pre pf ends text t) (append_assoc (form_spelling (node n v)) (flat_map form_spelling (node_forms suf sf)) rest)
-        read in
+    read in
     let fresh = fresh_name pre n suf all in
     let few : nat_lt (node_most version) (length pre + 1) ≡ false = le-ltb _ _ (omega (arith, most, length-append pre (n ∷ suf))) in
     let good : node_fault_of version pre n ≡ None = rw (fresh, few) refl in
     let more = nodes_more version pre pf ends (ends_nodes (version == 2) (Some (node n v))) text (form_spelling (node n v) ++ behind) n behind v read' line.0
-        line.1 is good refl in
+    line.1 is good refl in
     let e : (pre ++ n ∷ []) ++ suf ≡ pre ++ (n ∷ suf) = append_assoc pre (n ∷ []) suf in
     let f : (pf ++ v ∷ []) ++ sf ≡ pf ++ (v ∷ sf) = append_assoc pf (v ∷ []) sf in
     let walked = nodes_walk version (pre ++ n ∷ []) (pf ++ v ∷ []) suf sf (ends_nodes (version == 2) (Some (node n v))) text rest more (omega arith)
-        (All-tail IsNodeName n suf named) (subst Distinct (sym e) all) (omega (arith, most, ap length e)) in
-    record { ends = walked.ends; read = subst (λ ns. IsNodesRead version ns (pf ++ (v ∷ sf)) walked.ends text rest) e
-        (subst (λ fs. IsNodesRead version ((pre ++ n ∷ []) ++ suf) fs walked.ends text rest) f walked.read) }
+    (All-tail IsNodeName n suf named) (subst Distinct (sym e) all) (omega (arith, most, ap length e)) in
+    record {
+      ends = walked.ends;
+      read = subst (λ ns. IsNodesRead version ns (pf ++ (v ∷ sf)) walked.ends text rest) e
+          (subst (λ fs. IsNodesRead version ((pre ++ n ∷ []) ++ suf) fs walked.ends text rest) f walked.read);
+    }
 
 split_names : (names : List (List ℕ)) → 2 ≤ length names → get_or names 0 [] ≡ codes "go" → get_or names 1 [] ≡ codes "done" →
     (ns : List (List ℕ)) × (names ≡ codes "go" ∷ codes "done" ∷ ns)
@@ -130,9 +136,12 @@ two_more o ns fs rest same named all most =
     let walked = nodes_walk version names first ns fs ends (text_behind (opening version) behind) rest begin same named all (omega arith) in
     let e : text_behind (opening version) behind ≡ flat_map form_spelling (nodes_told version (codes "go" ∷ codes "done" ∷ ns) (false ∷ false ∷ fs)) ++ rest =
     sym (append_assoc (flat_map form_spelling (opening version)) (flat_map form_spelling (node_forms ns fs)) rest)
-        ∙ ap (λ t. t ++ rest) (sym (flat_map-append form_spelling (opening version) (node_forms ns fs))) in
-    record { ends = walked.ends; read = subst (λ t. IsNodesRead version (codes "go" ∷ codes "done" ∷ ns) (false ∷ false ∷ fs) walked.ends t rest) e
-        walked.read }
+    ∙ ap (λ t. t ++ rest) (sym (flat_map-append form_spelling (opening version) (node_forms ns fs))) in
+    record {
+      ends = walked.ends;
+      read = subst (λ t. IsNodesRead version (codes "go" ∷ codes "done" ∷ ns) (false ∷ false ∷ fs) walked.ends t rest) e
+          walked.read;
+    }
 
 most_is : (o : Option ℕ) → most_nodes o ≡ node_most (version_of o)
 most_is None = refl
@@ -148,10 +157,10 @@ all_walked o names first rest same some most named all go done go_low done_low =
     let named' = subst (All IsNodeName) ns.1 named in
     let tail = All-tail IsNodeName (codes "done") ns.0 (All-tail IsNodeName (codes "go") (codes "done" ∷ ns.0) named') in
     let walked = two_more o ns.0 fs.0 rest (omega (arith, same, ap length ns.1, ap length fs.1)) tail (subst Distinct ns.1 all)
-        (omega (arith, most, ap length ns.1)) in
+    (omega (arith, most, ap length ns.1)) in
     subst (λ xs. Walked (version_of o) xs first (flat_map form_spelling (nodes_told (version_of o) xs first) ++ rest) rest) (sym ns.1)
     (subst (λ ys. Walked (version_of o) (codes "go" ∷ codes "done" ∷ ns.0) ys
-        (flat_map form_spelling (nodes_told (version_of o) (codes "go" ∷ codes "done" ∷ ns.0) ys) ++ rest) rest) (sym fs.1) walked)
+    (flat_map form_spelling (nodes_told (version_of o) (codes "go" ∷ codes "done" ∷ ns.0) ys) ++ rest) rest) (sym fs.1) walked)
 
 -- in version 2 the last node is the reset node
 reset_ends : (n : NetValue) (o : Option ℕ) → IsReset n o → length n.names ≡ length n.first → 0 < length n.names →
@@ -160,7 +169,7 @@ reset_ends n None is same some = refl
 reset_ends n (Some k) is same some =
     let at : k ≡ length n.names - 1 = omega (arith, is.last, same) in
     let named : bytes_eq (get_or n.names (length n.names - 1) []) (codes "reset") ≡ true =
-        (bytes_decides (get_or n.names (length n.names - 1) []) (codes "reset")).1 (ap (λ j. get_or n.names j []) (sym at) ∙ is.name) in
+    (bytes_decides (get_or n.names (length n.names - 1) []) (codes "reset")).1 (ap (λ j. get_or n.names j []) (sym at) ∙ is.name) in
     ap (λ b. b && get_or n.first (length n.names - 1) false) named ∙ ap (λ j. get_or n.first j false) (sym at) ∙ is.high
 
 pub net_nodes : (n : NetValue) (rest : List ℕ) → IsNet n →
@@ -168,10 +177,10 @@ pub net_nodes : (n : NetValue) (rest : List ℕ) → IsNet n →
 net_nodes n rest is =
     let version = version_of n.reset in
     let walked = all_walked n.reset n.names n.first rest (sym is.named) (omega (arith, is.some, is.named)) (omega (arith, is.most, is.named, most_is n.reset))
-        is.names is.distinct is.go is.done is.go_low is.done_low in
+    is.names is.distinct is.go is.done is.go_low is.done_low in
     let last = last_form (head version) n.names n.first (sym is.named) (omega (arith, is.some, is.named)) in
     let ends : walked.ends ≡ true = sym walked.read.ends ∙ ap (ends_nodes (version == 2)) last
-        ∙ reset_ends n n.reset is.reset is.named (omega (arith, is.some, is.named)) in
+    ∙ reset_ends n n.reset is.reset is.named (omega (arith, is.some, is.named)) in
     subst (λ b. IsNodesRead version n.names n.first b (flat_map form_spelling (nodes_told version n.names n.first) ++ rest) rest) ends walked.read
 
 -- the channels
@@ -181,20 +190,24 @@ found_map : (names : List (List ℕ)) (numbers : List ℕ) → Distinct names �
 found_map names [] all within = refl
 found_map names (k ∷ numbers) all within =
     ap (λ o. o ∷ map (place_in names) (map (λ k. get_or names k []) numbers)) (place_at_name names k all (All-head (λ k. k < length names) k numbers within))
-        ∙ ap (λ os. Some k ∷ os) (found_map names numbers all (All-tail (λ k. k < length names) k numbers within))
+    ∙ ap (λ os. Some k ∷ os) (found_map names numbers all (All-tail (λ k. k < length names) k numbers within))
 
 pub wired_in : (n : NetValue) (w : Wires) → IsNet n → IsChannel n w → IsWiredAmong n.names n.first w
 wired_in n w net is =
     let c = w.channel in
     let within = subst (λ count. All (λ k. k < count) w.rails) (sym net.named) is.rails_within in
     let rails : AreFound n.names (rail_names c.name c.width) w.rails =
-        subst (λ xs. AreFound n.names xs w.rails) is.rails (found_map n.names w.rails net.distinct within) in
+    subst (λ xs. AreFound n.names xs w.rails) is.rails (found_map n.names w.rails net.distinct within) in
     let ack : place_in n.names (ack_name c.name) ≡ Some w.ack =
-        ap (place_in n.names) (sym is.ack) ∙ place_at_name n.names w.ack net.distinct (omega (arith, is.ack_within, net.named)) in
+    ap (place_in n.names) (sym is.ack) ∙ place_at_name n.names w.ack net.distinct (omega (arith, is.ack_within, net.named)) in
     let found = found_more n.names (rail_names c.name c.width) w.rails (ack_name c.name) w.ack rails ack in
     let low = All-push (λ k. get_or n.first k false ≡ false) w.rails w.ack is.rails_low is.ack_low in
-    record { found = found; low = low; sound =
-        fault_none n.names n.first c (wire_numbers w) (sym net.named) net.distinct found (list_any_none (λ k. get_or n.first k false) (wire_numbers w) low) }
+    record {
+      found = found;
+      low = low;
+      sound =
+          fault_none n.names n.first c (wire_numbers w) (sym net.named) net.distinct found (list_any_none (λ k. get_or n.first k false) (wire_numbers w) low);
+    }
 
 abbrev pub channel_form : Wires → Form
 channel_form w = channel w.channel
@@ -209,14 +222,14 @@ channels_walk version names first pre (w ∷ suf) text rest nodes read wired for
     let form = All-head (λ (w : Wires). IsChannelForm w.channel) w suf forms in
     let line = front_line (channel w.channel) behind form in
     let read' = subst (λ t. IsChannelsRead version names first pre text t)
-        (append_assoc (form_spelling (channel w.channel)) (flat_map form_spelling (map channel_form suf)) rest) read in
+    (append_assoc (form_spelling (channel w.channel)) (flat_map form_spelling (map channel_form suf)) rest) read in
     let apart = subst Distinct (map-append (λ (w : Wires). w.channel.name) pre (w ∷ suf)) all in
     let more = channels_more version names first pre w text (form_spelling (channel w.channel) ++ behind) behind nodes read' line.0 line.1 form
-        (All-head (IsWiredAmong names first) w suf wired) (fresh_name (channel_names pre) w.channel.name (channel_names suf) apart) in
+    (All-head (IsWiredAmong names first) w suf wired) (fresh_name (channel_names pre) w.channel.name (channel_names suf) apart) in
     let e : (pre ++ w ∷ []) ++ suf ≡ pre ++ (w ∷ suf) = append_assoc pre (w ∷ []) suf in
     subst (λ ws. IsChannelsRead version names first ws text rest) e
     (channels_walk version names first (pre ++ w ∷ []) suf text rest nodes more (All-tail (IsWiredAmong names first) w suf wired)
-        (All-tail (λ (w : Wires). IsChannelForm w.channel) w suf forms) (subst (λ ws. Distinct (channel_names ws)) (sym e) all))
+    (All-tail (λ (w : Wires). IsChannelForm w.channel) w suf forms) (subst (λ ws. Distinct (channel_names ws)) (sym e) all))
 
 pub apart_names : (ws : List Wires) → AllPairs (λ (a b : Wires). a.channel.name ≢ b.channel.name) ws → Distinct (channel_names ws)
 apart_names [] all = λ i j d below within. absurd (omega arith)
@@ -224,7 +237,7 @@ apart_names (w ∷ ws) all = λ i j d below within e.
     let count = length-map (w ∷ ws) (λ (w : Wires). w.channel.name) in
     all i j w below (omega (arith, count))
     (sym (get_or-map (λ (w : Wires). w.channel.name) (w ∷ ws) i w d (omega (arith, count))) ∙ e
-        ∙ get_or-map (λ (w : Wires). w.channel.name) (w ∷ ws) j w d (omega (arith, count)))
+    ∙ get_or-map (λ (w : Wires). w.channel.name) (w ∷ ws) j w d (omega (arith, count)))
 
 -- the first of these lines isn't this one
 pub other_line : (fs : List Form) (g : Form) → All IsForm fs → IsForm g → ((f : Form) → Contains fs f → f ≢ g) →
@@ -234,7 +247,7 @@ other_line (f ∷ fs) g forms form apart e =
     let is = All-head IsForm f fs forms in
     let line = front_line f (flat_map form_spelling fs ++ []) is in
     apart f (Contains-get_or (f ∷ fs) 0 f (omega arith))
-        (same_form f g is form (sym line.0 ∙ sym (ap first_line (append_assoc (form_spelling f) (flat_map form_spelling fs) [])) ∙ e))
+    (same_form f g is form (sym line.0 ∙ sym (ap first_line (append_assoc (form_spelling f) (flat_map form_spelling fs) [])) ∙ e))
 
 abbrev pub is_node : Form → Bool
 is_node (head v) = false
@@ -247,8 +260,8 @@ pub all_rules : (P : Form → Type 0) (names : List (List ℕ)) (r : RulesValue)
 all_rules P names r [] each = All-nil P
 all_rules P names r (k ∷ ks) each =
     All-append P (node_rules names r k) (flat_map (node_rules names r) ks)
-        (All-append P (guard_forms names (get_or r.up k []) k true) (guard_forms names (get_or r.down k []) k false) (one (get_or r.up k []) true)
-        (one (get_or r.down k []) false)) (all_rules P names r ks each)
+    (All-append P (guard_forms names (get_or r.up k []) k true) (guard_forms names (get_or r.down k []) k false) (one (get_or r.up k []) true)
+    (one (get_or r.down k []) false)) (all_rules P names r ks each)
   where
     one : (g : GuardValue) (u : Bool) → All P (guard_forms names g k u)
     one [] u = All-nil P

@@ -44,7 +44,7 @@ term_known : (names : List (List ℕ)) (t : List Literal) → Distinct names →
 term_known names [] all within = refl
 term_known names (l ∷ t) all within =
     or_from _ _ (ap (λ o. is_none o) (place_at_name names l.node all (All-head (λ (l : Literal). l.node < length names) l t within)))
-        (term_known names t all (All-tail (λ (l : Literal). l.node < length names) l t within))
+    (term_known names t all (All-tail (λ (l : Literal). l.node < length names) l t within))
 
 terms_known : (names : List (List ℕ)) (g : GuardValue) → Distinct names → IsBelow (length names) g →
     list_any (list_any (λ (s : Signed). is_none (place_in names s.name))) (guard_named names g) ≡ false
@@ -72,7 +72,7 @@ rule_good names channels reset last count g k up all within below free behind fe
     let same : same_place last (rule_place names (get_or names k []) up) ≡ false = ap (same_place last) place ∙ not_same last (place_at k up) behind in
     let above : stands_above last (rule_place names (get_or names k []) up) ≡ false = ap (stands_above last) place ∙ not_above last (place_at k up) behind in
     let many : nat_lt (literals_allowed reset) (count + sum_by (λ (t : List Signed). length t) (guard_named names g)) ≡ false =
-        le-ltb (literals_allowed reset) (count + sum_by (λ (t : List Signed). length t) (guard_named names g)) (omega (arith, few, named_literals names g)) in
+    le-ltb (literals_allowed reset) (count + sum_by (λ (t : List Signed). length t) (guard_named names g)) (omega (arith, few, named_literals names g)) in
     rw (known, free, same, above, many) refl
 
 -- a node that the environment moves has no rules
@@ -116,7 +116,7 @@ channel_undriven n net (w ∷ ws) k all within is =
         (list_any (λ (c : Channel). list_any (bytes_eq (get_or n.names k [])) (outside_of c)) (channels_of ws) ≡ true → IsUndriven n k) → IsUndriven n k
     by_case (inl here) more =
         wire_undriven n n.names k (outside_of w.channel) (wires_from_outside w.channel.kind w.rails w.ack) (place_at_name n.names k net.distinct within)
-            (outside_found n.names n.first w (wired_in n w net this)) this.outside here
+        (outside_found n.names n.first w (wired_in n w net this)) this.outside here
     by_case (inr other) more = more other
 
 reset_undriven : (n : NetValue) (o : Option ℕ) (k : ℕ) → IsReset n o → Distinct n.names → length n.names ≡ length n.first → k < length n.names →
@@ -142,7 +142,7 @@ undriven_at n net k within is = by_first (or_cases (bytes_eq (get_or n.names k [
         || list_any (λ (c : Channel). list_any (bytes_eq (get_or n.names k [])) (outside_of c)) (channels_of n.channels)) ≡ true) → IsUndriven n k
     by_first (inl same) =
         let first : 0 ≡ k = same_number n.names 0 k net.distinct (omega (arith, net.some, net.named)) within (net.go
-            ∙ sym ((bytes_decides (get_or n.names k []) (codes "go")).0 same)) in
+        ∙ sym ((bytes_decides (get_or n.names k []) (codes "go")).0 same)) in
         subst (IsUndriven n) first net.go_undriven
     by_first (inr other) = by_second (or_cases ((version_of n.reset == 2) && bytes_eq (get_or n.names k []) (codes "reset")) _ other)
 
@@ -182,7 +182,7 @@ one_rule version names first channels before text rest (t ∷ ts) k up room same
     let read' = subst (λ x. IsRulesRead before version names first channels at.last at.count text x) shape at.read in
     let good = rule_good names channels (version == 2) at.last at.count g k up all within below free at.behind (omega (arith, at.few)) in
     let more = rules_more before version names first channels at.last at.count text (form_spelling f ++ rest) rest (guard_named names g) (get_or names k []) up
-        same read' line.0 line.1 form good in
+    same read' line.0 line.1 form good in
     let place : rule_place names (get_or names k []) up ≡ place_at k up = ap (λ o. place_at (unwrap_or o 0) up) (place_at_name names k all within) in
     record {
       last = Some (rule_place names (get_or names k []) up);
@@ -230,12 +230,12 @@ rules_walk version names first channels r before text rest (suc j) m walk here a
     let behind = flat_map form_spelling more ++ rest in
     let split : flat_map form_spelling ((ups ++ downs) ++ more) ++ rest ≡ flat_map form_spelling ups ++ (flat_map form_spelling downs ++ behind) =
     ap (λ x. x ++ rest) (flat_map-append form_spelling (ups ++ downs) more
-        ∙ ap (λ x. x ++ flat_map form_spelling more) (flat_map-append form_spelling ups downs))
+    ∙ ap (λ x. x ++ flat_map form_spelling more) (flat_map-append form_spelling ups downs))
     ∙ append_assoc (flat_map form_spelling ups ++ flat_map form_spelling downs) (flat_map form_spelling more) rest
-        ∙ append_assoc (flat_map form_spelling ups) (flat_map form_spelling downs) behind in
+    ∙ append_assoc (flat_map form_spelling ups) (flat_map form_spelling downs) behind in
     let total = sum_by-cons (literals_at r) m (range_with_len (m + 1) j) in
     let start : At version names first channels before text (flat_map form_spelling ups ++ (flat_map form_spelling downs ++ behind)) (place_at m true)
-        (guard_literals up + (guard_literals down + literals_from r (m + 1) j)) = record {
+    (guard_literals up + (guard_literals down + literals_from r (m + 1) j)) = record {
       last = at.last;
       count = at.count;
       read = subst (λ x. IsRulesRead before version names first channels at.last at.count text x) split at.read;
@@ -244,10 +244,10 @@ rules_walk version names first channels r before text rest (suc j) m walk here a
     } in
     let forms = walk.forms m within in
     let one = one_rule version names first channels before text (flat_map form_spelling downs ++ behind) up m true
-        (guard_literals down + literals_from r (m + 1) j) walk.same walk.distinct within
-        (All-get_or (IsBelow (length names)) r.up m [] (omega (arith, walk.ups)) walk.up_within) forms.0 (walk.up_moved m within) start in
+    (guard_literals down + literals_from r (m + 1) j) walk.same walk.distinct within
+    (All-get_or (IsBelow (length names)) r.up m [] (omega (arith, walk.ups)) walk.up_within) forms.0 (walk.up_moved m within) start in
     let middle : At version names first channels (before ++ ups) text (flat_map form_spelling downs ++ behind) (place_at m false)
-        (guard_literals down + literals_from r (m + 1) j) = record {
+    (guard_literals down + literals_from r (m + 1) j) = record {
       last = one.last;
       count = one.count;
       read = one.read;
@@ -255,7 +255,7 @@ rules_walk version names first channels r before text rest (suc j) m walk here a
       few = one.few;
     } in
     let two = one_rule version names first channels (before ++ ups) text behind down m false (literals_from r (m + 1) j) walk.same walk.distinct within
-        (All-get_or (IsBelow (length names)) r.down m [] (omega (arith, walk.downs)) walk.down_within) forms.1 (walk.down_moved m within) middle in
+    (All-get_or (IsBelow (length names)) r.down m [] (omega (arith, walk.downs)) walk.down_within) forms.1 (walk.down_moved m within) middle in
     let next : At version names first channels ((before ++ ups) ++ downs) text behind (2 * (m + 1)) (literals_from r (m + 1) j) = record {
       last = two.last;
       count = two.count;
@@ -265,7 +265,7 @@ rules_walk version names first channels r before text rest (suc j) m walk here a
     } in
     let done = rules_walk version names first channels r ((before ++ ups) ++ downs) text rest j (m + 1) walk (omega (arith, here)) next in
     let joined : ((before ++ ups) ++ downs) ++ more ≡ before ++ ((ups ++ downs) ++ more) =
-        append_assoc (before ++ ups) downs more ∙ append_assoc before ups (downs ++ more) ∙ ap (λ x. before ++ x) (sym (append_assoc ups downs more)) in
+    append_assoc (before ++ ups) downs more ∙ append_assoc before ups (downs ++ more) ∙ ap (λ x. before ++ x) (sym (append_assoc ups downs more)) in
     record {
       last = done.last;
       count = done.count;
@@ -280,8 +280,13 @@ sum_both : (r : RulesValue) (ks : List ℕ) → sum_by (literals_at r) ks ≡ su
     sum_by (λ i. guard_literals (get_or r.down i [])) ks
 sum_both r [] = refl
 sum_both r (k ∷ ks) =
-    omega (arith, sum_both r ks, sum_by-cons (literals_at r) k ks, sum_by-cons (λ i. guard_literals (get_or r.up i [])) k ks,
-        sum_by-cons (λ i. guard_literals (get_or r.down i [])) k ks)
+    omega (
+      arith,
+      sum_both r ks,
+      sum_by-cons (literals_at r) k ks,
+      sum_by-cons (λ i. guard_literals (get_or r.up i [])) k ks,
+      sum_by-cons (λ i. guard_literals (get_or r.down i [])) k ks,
+    )
 
 sum_map : (f : ℕ → GuardValue) (ks : List ℕ) → sum_by guard_literals (map f ks) ≡ sum_by (λ i. guard_literals (f i)) ks
 sum_map f [] = refl
@@ -291,7 +296,7 @@ sum_all : (gs : List GuardValue) (count : ℕ) → length gs ≡ count →
     sum_by (λ i. guard_literals (get_or gs i [])) (range_with_len 0 count) ≡ sum_by guard_literals gs
 sum_all gs count same =
     sym (sum_map (λ i. get_or gs i []) (range_with_len 0 count))
-        ∙ ap (sum_by guard_literals) (sym (fill_by_all (λ i. get_or gs i []) gs count [] same (λ k within. refl)))
+    ∙ ap (sum_by guard_literals) (sym (fill_by_all (λ i. get_or gs i []) gs count [] same (λ k within. refl)))
 
 most_same : (o : Option ℕ) → most_of_net o ≡ literals_allowed (version_of o == 2)
 most_same None = refl
@@ -301,7 +306,7 @@ guard_forms_say : (n : NetValue) → IsNet n → (k : ℕ) → k < length n.name
     × All IsForm (guard_forms n.names (get_or n.down k []) k false)
 guard_forms_say n is k within =
     let below : (gs : List GuardValue) → All (IsBelow (length n.first)) gs → All (IsBelow (length n.names)) gs =
-        λ gs all. subst (λ c. All (IsBelow c) gs) (sym is.named) all in (
+    λ gs all. subst (λ c. All (IsBelow c) gs) (sym is.named) all in (
       guard_line n.names (get_or n.up k []) k true is.names within (All-get_or (IsBelow (length n.names)) n.up k [] (omega (arith, is.ups, is.named))
           (below n.up is.up_within)) (All-get_or IsFilled n.up k [] (omega (arith, is.ups, is.named)) is.up_filled),
       guard_line n.names (get_or n.down k []) k false is.names within (All-get_or (IsBelow (length n.names)) n.down k [] (omega (arith, is.downs, is.named))
@@ -326,7 +331,7 @@ channels_say n [] all = All-nil (λ (w : Wires). IsChannelForm w.channel)
 channels_say n (w ∷ ws) all =
     let is = All-head (IsChannel n) w ws all in
     All-cons (λ (w : Wires). IsChannelForm w.channel) w ws (record { name = is.name; some = is.some; most = is.most })
-        (channels_say n ws (All-tail (IsChannel n) w ws all))
+    (channels_say n ws (All-tail (IsChannel n) w ws all))
 
 all_wired : (n : NetValue) → IsNet n → (ws : List Wires) → All (IsChannel n) ws → All (IsWiredAmong n.names n.first) ws
 all_wired n net [] all = All-nil (IsWiredAmong n.names n.first)
@@ -372,8 +377,8 @@ never_refused n text fault line is spelled refused =
     over_nodes : (name : List ℕ) (value : Bool) → IsNodeName name → first_line behind_nodes ≡ node_spelling name value → ⊥
     over_nodes name value named e =
         other_line (lines ++ rules) (node name value) late named
-            (λ f in' same. absurd (cc (All-contains (λ f. is_node f ≡ false) (lines ++ rules) f no_nodes in', ap is_node same))) (sym (ap first_line joined)
-            ∙ e)
+        (λ f in' same. absurd (cc (All-contains (λ f. is_node f ≡ false) (lines ++ rules) f no_nodes in', ap is_node same))) (sym (ap first_line joined)
+        ∙ e)
 
     begun : IsChannelsRead version n.names n.first [] whole behind_nodes
     begun = channels_begin version n.names n.first [] whole behind_nodes refl nodes over_nodes
@@ -388,11 +393,17 @@ never_refused n text fault line is spelled refused =
     over_channels : (c : Channel) → IsChannelForm c → first_line behind_channels ≡ channel_spelling c → ⊥
     over_channels c form e =
         other_line rules (channel c) (rules_say n is) form
-            (λ f in' same. absurd (cc (All-contains (λ f. is_rule f ≡ true) rules f all_are_rules in', ap is_rule same))) e
+        (λ f in' same. absurd (cc (All-contains (λ f. is_rule f ≡ true) rules f all_are_rules in', ap is_rule same))) e
 
     few : 0 + literals_from (rules_of n) 0 (length n.names) ≤ literals_allowed (version == 2)
-    few = omega (arith, sum_both (rules_of n) (range_with_len 0 (length n.names)), sum_all n.up (length n.names) (is.ups ∙ sym is.named),
-        sum_all n.down (length n.names) (is.downs ∙ sym is.named), is.literals, most_same n.reset)
+    few = omega (
+      arith,
+      sum_both (rules_of n) (range_with_len 0 (length n.names)),
+      sum_all n.up (length n.names) (is.ups ∙ sym is.named),
+      sum_all n.down (length n.names) (is.downs ∙ sym is.named),
+      is.literals,
+      most_same n.reset,
+    )
 
     begin : At version n.names n.first (channels_of n.channels) (channels_told version n.names n.first n.channels) whole behind_channels (2 * 0)
         (literals_from (rules_of n) 0 (length n.names))

@@ -48,7 +48,7 @@ filter_two : {Z : Type 0} (h : Form → Option Z) (names : List (List ℕ)) (r :
     filter_map h (node_rules names r k) ≡ one ++ two
 filter_two h names r k one two up down =
     filter_map-append h (guard_forms names (get_or r.up k []) k true) (guard_forms names (get_or r.down k []) k false)
-        ∙ ap (λ t. t ++ filter_map h (guard_forms names (get_or r.down k []) k false)) up ∙ ap (λ t. one ++ t) down
+    ∙ ap (λ t. t ++ filter_map h (guard_forms names (get_or r.down k []) k false)) up ∙ ap (λ t. one ++ t) down
 
 no_node : (names : List (List ℕ)) (g : GuardValue) (k : ℕ) (up : Bool) → filter_map node_in (guard_forms names g k up) ≡ []
 no_node names [] k up = refl
@@ -62,27 +62,27 @@ nodes_in_rules : (names : List (List ℕ)) (r : RulesValue) → filter_map node_
 nodes_in_rules names r =
     filter_flat node_in (node_rules names r) (range_with_len 0 (length names))
     ∙ flat_none (λ k. filter_map node_in (node_rules names r k)) (range_with_len 0 (length names))
-        (λ k. filter_two node_in names r k [] [] (no_node names (get_or r.up k []) k true) (no_node names (get_or r.down k []) k false))
+    (λ k. filter_two node_in names r k [] [] (no_node names (get_or r.up k []) k true) (no_node names (get_or r.down k []) k false))
 
 channels_in_rules : (names : List (List ℕ)) (r : RulesValue) → filter_map channel_in (rule_forms names r) ≡ []
 channels_in_rules names r =
     filter_flat channel_in (node_rules names r) (range_with_len 0 (length names))
     ∙ flat_none (λ k. filter_map channel_in (node_rules names r k)) (range_with_len 0 (length names))
-        (λ k. filter_two channel_in names r k [] [] (no_channel names (get_or r.up k []) k true) (no_channel names (get_or r.down k []) k false))
+    (λ k. filter_two channel_in names r k [] [] (no_channel names (get_or r.up k []) k true) (no_channel names (get_or r.down k []) k false))
 
 nodes_in_net : (version : ℕ) (names : List (List ℕ)) (first : List Bool) (ws : List Wires) (r : RulesValue) →
     filter_map node_in (net_forms version names first ws r) ≡ told_nodes (node_forms names first)
 nodes_in_net version names first ws r =
     filter_map-append node_in (channels_told version names first ws) (rule_forms names r)
-        ∙ ap (λ t. filter_map node_in (channels_told version names first ws) ++ t) (nodes_in_rules names r)
-        ∙ append-nil (filter_map node_in (channels_told version names first ws)) ∙ nodes_are names first ws
+    ∙ ap (λ t. filter_map node_in (channels_told version names first ws) ++ t) (nodes_in_rules names r)
+    ∙ append-nil (filter_map node_in (channels_told version names first ws)) ∙ nodes_are names first ws
 
 channels_in_net : (version : ℕ) (names : List (List ℕ)) (first : List Bool) (ws : List Wires) (r : RulesValue) →
     filter_map channel_in (net_forms version names first ws r) ≡ channels_of ws
 channels_in_net version names first ws r =
     filter_map-append channel_in (channels_told version names first ws) (rule_forms names r)
-        ∙ ap (λ t. filter_map channel_in (channels_told version names first ws) ++ t) (channels_in_rules names r)
-        ∙ append-nil (filter_map channel_in (channels_told version names first ws)) ∙ channels_are names first ws
+    ∙ ap (λ t. filter_map channel_in (channels_told version names first ws) ++ t) (channels_in_rules names r)
+    ∙ append-nil (filter_map channel_in (channels_told version names first ws)) ∙ channels_are names first ws
 
 pair_names : (names : List (List ℕ)) (first : List Bool) → length first ≡ length names →
     map (λ (p : List ℕ × Bool). p.0) (told_nodes (node_forms names first)) ≡ names
@@ -132,14 +132,14 @@ pick_here names (t ∷ ts) k up =
     let same : bytes_eq (get_or names k []) (get_or names k []) ≡ true = (bytes_decides (get_or names k []) (get_or names k [])).1 refl in
     let both : (bytes_eq (get_or names k []) (get_or names k []) && agree up up) ≡ true = ap (λ b. b && agree up up) same ∙ agree_same up in
     filter_one (pick (get_or names k []) up) (rule (guard_named names (t ∷ ts)) (get_or names k []) up) (Some (guard_named names (t ∷ ts)))
-        (guard_named names (t ∷ ts) ∷ []) (ap (λ b. cond b (Some (guard_named names (t ∷ ts))) None) both) (λ z e. ap (λ x. x ∷ []) (cc e)) (λ e. absurd (cc e))
+    (guard_named names (t ∷ ts) ∷ []) (ap (λ b. cond b (Some (guard_named names (t ∷ ts))) None) both) (λ z e. ap (λ x. x ∷ []) (cc e)) (λ e. absurd (cc e))
 
 pick_not : (names : List (List ℕ)) (g : GuardValue) (name : List ℕ) (j : ℕ) (u up : Bool) → (bytes_eq (get_or names j []) name && agree u up) ≡ false →
     filter_map (pick name up) (guard_forms names g j u) ≡ []
 pick_not names [] name j u up other = refl
 pick_not names (t ∷ ts) name j u up other =
     filter_one (pick name up) (rule (guard_named names (t ∷ ts)) (get_or names j []) u) None []
-        (ap (λ b. cond b (Some (guard_named names (t ∷ ts))) None) other) (λ z e. absurd (cc e)) (λ e. refl)
+    (ap (λ b. cond b (Some (guard_named names (t ∷ ts))) None) other) (λ z e. absurd (cc e)) (λ e. refl)
 
 abbrev guard_at : RulesValue → ℕ → Bool → GuardValue
 guard_at r k up = cond up (get_or r.up k []) (get_or r.down k [])
@@ -153,12 +153,12 @@ pick_node : (names : List (List ℕ)) (r : RulesValue) (k : ℕ) (up : Bool) →
     filter_map (pick (get_or names k []) up) (node_rules names r k) ≡ as_list names (guard_at r k up)
 pick_node names r k true =
     filter_two (pick (get_or names k []) true) names r k (as_list names (get_or r.up k [])) [] (pick_here names (get_or r.up k []) k true)
-        (pick_not names (get_or r.down k []) (get_or names k []) k false true (wrong_way (bytes_eq (get_or names k []) (get_or names k [])) false))
-        ∙ append-nil (as_list names (get_or r.up k []))
+    (pick_not names (get_or r.down k []) (get_or names k []) k false true (wrong_way (bytes_eq (get_or names k []) (get_or names k [])) false))
+    ∙ append-nil (as_list names (get_or r.up k []))
 pick_node names r k false =
     filter_two (pick (get_or names k []) false) names r k [] (as_list names (get_or r.down k []))
-        (pick_not names (get_or r.up k []) (get_or names k []) k true false (wrong_way (bytes_eq (get_or names k []) (get_or names k [])) true))
-        (pick_here names (get_or r.down k []) k false)
+    (pick_not names (get_or r.up k []) (get_or names k []) k true false (wrong_way (bytes_eq (get_or names k []) (get_or names k [])) true))
+    (pick_here names (get_or r.down k []) k false)
 
 pick_other : (names : List (List ℕ)) (r : RulesValue) (k j : ℕ) (up : Bool) → Distinct names → length r.up ≡ length names → length r.down ≡ length names →
     k < length names → j ≢ k → filter_map (pick (get_or names k []) up) (node_rules names r j) ≡ []
@@ -167,9 +167,9 @@ pick_other names r k j up all ups downs within apart = by_order (cases_lt j (len
     by_order : (j < length names) ⊎ (length names ≤ j) → filter_map (pick (get_or names k []) up) (node_rules names r j) ≡ []
     by_order (inl below) =
         let other : bytes_eq (get_or names j []) (get_or names k []) ≡ false = name_at_is names k j (get_or names k []) all within below refl
-            ∙ ne_eqb k j (λ e. apart (sym e)) in
+        ∙ ne_eqb k j (λ e. apart (sym e)) in
         filter_two (pick (get_or names k []) up) names r j [] [] (pick_not names (get_or r.up j []) (get_or names k []) j true up (and_left _ _ other))
-            (pick_not names (get_or r.down j []) (get_or names k []) j false up (and_left _ _ other))
+        (pick_not names (get_or r.down j []) (get_or names k []) j false up (and_left _ _ other))
     by_order (inr past) =
         filter_two (pick (get_or names k []) up) names r j [] []
         (ap (λ g. filter_map (pick (get_or names k []) up) (guard_forms names g j true)) (get_or_past r.up j [] (omega (arith, ups))))
@@ -208,11 +208,11 @@ picked_in_net : (version : ℕ) (names : List (List ℕ)) (first : List Bool) (w
 picked_in_net version names first ws r k up all ups downs within =
     let p = pick (get_or names k []) up in
     let early : filter_map p (channels_told version names first ws) ≡ [] =
-        filter_map-append p (node_forms names first) (map (λ (w : Wires). channel w.channel) ws)
-        ∙ ap (λ t. t ++ filter_map p (map (λ (w : Wires). channel w.channel) ws)) (pick_early (get_or names k []) up names first)
-        ∙ pick_channels (get_or names k []) up ws in
+    filter_map-append p (node_forms names first) (map (λ (w : Wires). channel w.channel) ws)
+    ∙ ap (λ t. t ++ filter_map p (map (λ (w : Wires). channel w.channel) ws)) (pick_early (get_or names k []) up names first)
+    ∙ pick_channels (get_or names k []) up ws in
     filter_map-append p (channels_told version names first ws) (rule_forms names r) ∙ ap (λ t. t ++ filter_map p (rule_forms names r)) early
-        ∙ picked names r k up all ups downs within
+    ∙ picked names r k up all ups downs within
 
 -- numbers by names
 
@@ -233,7 +233,7 @@ same_numbers names (i ∷ is) (j ∷ js) all one two e =
     let here : get_or names i [] ≡ get_or names j [] = cc e in
     let rest : map (λ k. get_or names k []) is ≡ map (λ k. get_or names k []) js = cc e in
     ap (λ x. x ∷ is) (same_number names i j all (All-head (λ k. k < length names) i is one) (All-head (λ k. k < length names) j js two) here)
-        ∙ ap (λ xs. j ∷ xs) (same_numbers names is js all (All-tail (λ k. k < length names) i is one) (All-tail (λ k. k < length names) j js two) rest)
+    ∙ ap (λ xs. j ∷ xs) (same_numbers names is js all (All-tail (λ k. k < length names) i is one) (All-tail (λ k. k < length names) j js two) rest)
 
 abbrev Within : ℕ → Literal → Type 0
 Within count l = l.node < count
@@ -247,11 +247,11 @@ same_term names (l ∷ t) (k ∷ s) all one two e =
     let here : signed_by names l ≡ signed_by names k = cc e in
     let rest : map (signed_by names) t ≡ map (signed_by names) s = cc e in
     let node : l.node ≡ k.node = same_number names l.node k.node all (All-head (Within (length names)) l t one) (All-head (Within (length names)) k s two)
-        (ap (λ (x : Signed). x.name) here) in
+    (ap (λ (x : Signed). x.name) here) in
     let high : l.high ≡ k.high = ap (λ (x : Signed). x.high) here in
     let same : l ≡ k = λ i. record { node = node i; high = high i } in
     ap (λ x. x ∷ t) same ∙ ap (λ xs. k ∷ xs) (same_term names t s all (All-tail (Within (length names)) l t one) (All-tail (Within (length names)) k s two)
-        rest)
+    rest)
 
 same_guard : (names : List (List ℕ)) (g h : GuardValue) → Distinct names → IsBelow (length names) g → IsBelow (length names) h →
     guard_named names g ≡ guard_named names h → g ≡ h
@@ -263,7 +263,7 @@ same_guard names (t ∷ g) (s ∷ h) all one two e =
     let rest : guard_named names g ≡ guard_named names h = cc e in
     let P : List Literal → Type 0 = All (Within (length names)) in
     ap (λ x. x ∷ g) (same_term names t s all (All-head P t g one) (All-head P s h two) here)
-        ∙ ap (λ xs. s ∷ xs) (same_guard names g h all (All-tail P t g one) (All-tail P s h two) rest)
+    ∙ ap (λ xs. s ∷ xs) (same_guard names g h all (All-tail P t g one) (All-tail P s h two) rest)
 
 same_listed : (names : List (List ℕ)) (g h : GuardValue) → Distinct names → IsBelow (length names) g → IsBelow (length names) h →
     as_list names g ≡ as_list names h → g ≡ h
@@ -300,7 +300,7 @@ same_wires names (w ∷ ws) (v ∷ vs) all one two e =
     let a = All-head (IsWiresOf names) w ws one in
     let b = All-head (IsWiresOf names) v vs two in
     let rails : w.rails ≡ v.rails = same_numbers names w.rails v.rails all a.rails_within b.rails_within (a.rails
-        ∙ ap (λ (c : Channel). rail_names c.name c.width) here ∙ sym b.rails) in
+    ∙ ap (λ (c : Channel). rail_names c.name c.width) here ∙ sym b.rails) in
     let ack : w.ack ≡ v.ack = same_number names w.ack v.ack all a.ack_within b.ack_within (a.ack ∙ ap (λ (c : Channel). ack_name c.name) here ∙ sym b.ack) in
     let same : w ≡ v = λ i. record { channel = here i; rails = rails i; ack = ack i } in
     ap (λ x. x ∷ ws) same ∙ ap (λ xs. v ∷ xs) (same_wires names ws vs all (All-tail (IsWiresOf names) w ws one) (All-tail (IsWiresOf names) v vs two) rest)
@@ -310,8 +310,13 @@ wires_of_net n [] same all = All-nil (IsWiresOf n.names)
 wires_of_net n (w ∷ ws) same all =
     let is = All-head (IsChannel n) w ws all in
     All-cons (IsWiresOf n.names) w ws
-    (record { rails = is.rails; rails_within = subst (λ c. All (λ k. k < c) w.rails) (sym same) is.rails_within; ack = is.ack; ack_within =
-        omega (arith, is.ack_within, same) })
+    (record {
+      rails = is.rails;
+      rails_within = subst (λ c. All (λ k. k < c) w.rails) (sym same) is.rails_within;
+      ack = is.ack;
+      ack_within =
+          omega (arith, is.ack_within, same);
+    })
     (wires_of_net n ws same (All-tail (IsChannel n) w ws all))
 
 -- the lines of a net say something
@@ -327,31 +332,37 @@ channel_lines n [] all = All-nil IsForm
 channel_lines n (w ∷ ws) all =
     let is = All-head (IsChannel n) w ws all in
     All-cons IsForm (channel w.channel) (map (λ (w : Wires). channel w.channel) ws) (record { name = is.name; some = is.some; most = is.most })
-        (channel_lines n ws (All-tail (IsChannel n) w ws all))
+    (channel_lines n ws (All-tail (IsChannel n) w ws all))
 
 term_named : (names : List (List ℕ)) (t : List Literal) → All IsNodeName names → All (Within (length names)) t →
     All (λ (s : Signed). IsNodeName s.name) (map (signed_by names) t)
 term_named names [] named within = All-nil (λ (s : Signed). IsNodeName s.name)
 term_named names (l ∷ t) named within =
     All-cons (λ (s : Signed). IsNodeName s.name) (signed_by names l) (map (signed_by names) t)
-        (All-get_or IsNodeName names l.node [] (All-head (Within (length names)) l t within) named)
-        (term_named names t named (All-tail (Within (length names)) l t within))
+    (All-get_or IsNodeName names l.node [] (All-head (Within (length names)) l t within) named)
+    (term_named names t named (All-tail (Within (length names)) l t within))
 
 terms_ok : (names : List (List ℕ)) (g : GuardValue) → All IsNodeName names → IsBelow (length names) g → IsFilled g → All IsTermForm (guard_named names g)
 terms_ok names [] named below filled = All-nil IsTermForm
 terms_ok names (t ∷ g) named below filled =
     let P : List Literal → Type 0 = All (Within (length names)) in
     All-cons IsTermForm (map (signed_by names) t) (guard_named names g)
-    (record { some = omega (arith, length-map t (signed_by names), All-head (λ (t : List Literal). 0 < length t) t g filled); names =
-        term_named names t named (All-head P t g below) })
+    (record {
+      some = omega (arith, length-map t (signed_by names), All-head (λ (t : List Literal). 0 < length t) t g filled);
+      names =
+          term_named names t named (All-head P t g below);
+    })
     (terms_ok names g named (All-tail P t g below) (All-tail (λ (t : List Literal). 0 < length t) t g filled))
 
 pub guard_line : (names : List (List ℕ)) (g : GuardValue) (k : ℕ) (up : Bool) → All IsNodeName names → k < length names → IsBelow (length names) g →
     IsFilled g → All IsForm (guard_forms names g k up)
 guard_line names [] k up named within below filled = All-nil IsForm
 guard_line names (t ∷ g) k up named within below filled =
-    All-cons IsForm (rule (guard_named names (t ∷ g)) (get_or names k []) up) [] (omega arith, terms_ok names (t ∷ g) named below filled,
-        All-get_or IsNodeName names k [] within named) (All-nil IsForm)
+    All-cons IsForm (rule (guard_named names (t ∷ g)) (get_or names k []) up) [] (
+      omega arith,
+      terms_ok names (t ∷ g) named below filled,
+      All-get_or IsNodeName names k [] within named,
+    ) (All-nil IsForm)
 
 rule_lines : (names : List (List ℕ)) (r : RulesValue) (m : ℕ) → All IsNodeName names → m ≤ length names → length r.up ≡ length names →
     length r.down ≡ length names → All (IsBelow (length names)) r.up → All (IsBelow (length names)) r.down → All IsFilled r.up → All IsFilled r.down →
@@ -360,13 +371,13 @@ rule_lines names r zero named most ups downs ub db uf df = All-nil IsForm
 rule_lines names r (suc m) named most ups downs ub db uf df =
     let e : suc m ≡ m + 1 = omega arith in
     let up = guard_line names (get_or r.up m []) m true named (omega arith) (All-get_or (IsBelow (length names)) r.up m [] (omega (arith, ups)) ub)
-        (All-get_or IsFilled r.up m [] (omega (arith, ups)) uf) in
+    (All-get_or IsFilled r.up m [] (omega (arith, ups)) uf) in
     let down = guard_line names (get_or r.down m []) m false named (omega arith) (All-get_or (IsBelow (length names)) r.down m [] (omega (arith, downs)) db)
-        (All-get_or IsFilled r.down m [] (omega (arith, downs)) df) in
+    (All-get_or IsFilled r.down m [] (omega (arith, downs)) df) in
     subst (All IsForm) (sym (ap (λ n. flat_map (node_rules names r) (range_with_len 0 n)) e ∙ flat_more (node_rules names r) m))
     (All-append IsForm (flat_map (node_rules names r) (range_with_len 0 m)) (node_rules names r m)
-        (rule_lines names r m named (omega arith) ups downs ub db uf df)
-        (All-append IsForm (guard_forms names (get_or r.up m []) m true) (guard_forms names (get_or r.down m []) m false) up down))
+    (rule_lines names r m named (omega arith) ups downs ub db uf df)
+    (All-append IsForm (guard_forms names (get_or r.up m []) m true) (guard_forms names (get_or r.down m []) m false) up down))
 
 version_known : (o : Option ℕ) → (1 ≤ version_of o) × (version_of o ≤ 2)
 version_known None = (omega arith, omega arith)
@@ -379,15 +390,15 @@ pub rules_say : (n : NetValue) → IsNet n → All IsForm (rule_forms n.names (r
 rules_say n is =
     let count = is.named in
     rule_lines n.names (rules_of n) (length n.names) is.names (omega arith) (is.ups ∙ sym count) (is.downs ∙ sym count)
-        (subst (λ c. All (IsBelow c) n.up) (sym count) is.up_within) (subst (λ c. All (IsBelow c) n.down) (sym count) is.down_within) is.up_filled
-        is.down_filled
+    (subst (λ c. All (IsBelow c) n.up) (sym count) is.up_within) (subst (λ c. All (IsBelow c) n.down) (sym count) is.down_within) is.up_filled
+    is.down_filled
 
 pub lines_say : (n : NetValue) → IsNet n → All IsForm (all_forms n)
 lines_say n is =
     All-append IsForm (channels_told (version_of n.reset) n.names n.first n.channels) (rule_forms n.names (rules_of n))
     (All-cons IsForm (head (version_of n.reset)) (node_forms n.names n.first ++ map (λ (w : Wires). channel w.channel) n.channels) (version_known n.reset)
-        (All-append IsForm (node_forms n.names n.first) (map (λ (w : Wires). channel w.channel) n.channels) (node_lines n.names n.first is.names)
-        (channel_lines n n.channels is.channels)))
+    (All-append IsForm (node_forms n.names n.first) (map (λ (w : Wires). channel w.channel) n.channels) (node_lines n.names n.first is.names)
+    (channel_lines n n.channels is.channels)))
     (rules_say n is)
 
 reset_back : (n : NetValue) (o : Option ℕ) → IsReset n o → reset_by (version_of o == 2) n.first ≡ o
@@ -399,7 +410,7 @@ pub lines_spell : (n : NetValue) → IsNet n → flat_map form_spelling (all_for
 lines_spell n is =
     let known = version_known n.reset in
     let same : net_read (version_of n.reset) n.names n.first (rules_of n) n.channels ≡ n =
-        λ i. record { names = n.names; first = n.first; up = n.up; down = n.down; channels = n.channels; reset = reset_back n n.reset is.reset i } in
+    λ i. record { names = n.names; first = n.first; up = n.up; down = n.down; channels = n.channels; reset = reset_back n n.reset is.reset i } in
     net_spelled (version_of n.reset) n.names n.first n.channels (rules_of n) (sym is.named) known.0 known.1 ∙ ap spelling same
 
 pub one_spelled : (a b : NetValue) → IsNet a → IsNet b → spelling a ≡ spelling b → a ≡ b
@@ -421,13 +432,13 @@ one_spelled a b ia ib e = λ i. record { names = names i; first = first i; up = 
     guard : (k : ℕ) (way : Bool) → k < length a.names → guard_at (rules_of a) k way ≡ guard_at (rules_of b) k way
     guard k way within =
         same_listed a.names (guard_at (rules_of a) k way) (guard_at (rules_of b) k way) ia.distinct (below a ia way k within)
-            (subst (λ c. IsBelow c (guard_at (rules_of b) k way)) (sym (ap length names)) (below b ib way k (omega (arith, ap length names))))
+        (subst (λ c. IsBelow c (guard_at (rules_of b) k way)) (sym (ap length names)) (below b ib way k (omega (arith, ap length names))))
         (sym (picked_in_net (version_of a.reset) a.names a.first a.channels (rules_of a) k way ia.distinct (ia.ups ∙ sym ia.named) (ia.downs ∙ sym ia.named)
-            within)
+        within)
         ∙ ap (filter_map (pick (get_or a.names k []) way)) forms
         ∙ ap (λ ns. filter_map (pick (get_or ns k []) way) (all_forms b)) names
         ∙ picked_in_net (version_of b.reset) b.names b.first b.channels (rules_of b) k way ib.distinct (ib.ups ∙ sym ib.named) (ib.downs ∙ sym ib.named)
-            (omega (arith, ap length names))
+        (omega (arith, ap length names))
         ∙ ap (λ ns. as_list ns (guard_at (rules_of b) k way)) (sym names))
       where
         below : (n : NetValue) → IsNet n → (way : Bool) (k : ℕ) → k < length n.names → IsBelow (length n.names) (guard_at (rules_of n) k way)

@@ -37,7 +37,7 @@ number_is [] first name count = refl
 number_is (n ∷ names) [] name count = absurd (omega arith)
 number_is (n ∷ names) (v ∷ first) name count =
     position_cases (λ (n : List ℕ × Bool). bytes_eq n.0 name) (n, v) (told_nodes (node_forms names first)) (bytes_eq n name) refl
-        ∙ ap (λ o. cond (bytes_eq n name) (Some 0) (option_map (λ k. suc k) o)) (number_is names first name (omega arith))
+    ∙ ap (λ o. cond (bytes_eq n name) (Some 0) (option_map (λ k. suc k) o)) (number_is names first name (omega arith))
 
 pub forms_push : (names : List (List ℕ)) (first : List Bool) (n : List ℕ) (v : Bool) → length first ≡ length names →
     node_forms (names ++ n ∷ []) (first ++ v ∷ []) ≡ node_forms names first ++ node n v ∷ []
@@ -104,9 +104,9 @@ pub node_refused : (version : ℕ) (names : List (List ℕ)) (first : List Bool)
     node_fault_of version names name ≡ Some fault → line ≡ length names + 2 → IsRefused text fault line
 node_refused version names first ends text rest name value fault line read says named bad number =
     refused_here text (nodes_told version names first) rest fault line read.taken
-        (fault_here (nodes_told version names first) (node name value) rest fault (node_long name value rest says) says named
-        (node_stands version names first ends text rest name value read) (node_fault_is version names first name value read.nodes.count ∙ bad))
-        (omega (arith, told_length version names first read.nodes))
+    (fault_here (nodes_told version names first) (node name value) rest fault (node_long name value rest says) says named
+    (node_stands version names first ends text rest name value read) (node_fault_is version names first name value read.nodes.count ∙ bad))
+    (omega (arith, told_length version names first read.nodes))
 
 no_fault : (version : ℕ) (names : List (List ℕ)) (name : List ℕ) → node_fault_of version names name ≡ None →
     (place_in names name ≡ None) × (length names + 1 ≤ node_most version)
@@ -126,9 +126,9 @@ pub nodes_more : (version : ℕ) (names : List (List ℕ)) (first : List Bool) (
 nodes_more version names first ends now text rest name behind value read says whole named good is =
     let parts = no_fault version names name good in
     let told : nodes_told version (names ++ name ∷ []) (first ++ value ∷ []) ≡ nodes_told version names first ++ node name value ∷ [] =
-        ap (λ fs. head version ∷ fs) (forms_push names first name value read.nodes.count) in
+    ap (λ fs. head version ∷ fs) (forms_push names first name value read.nodes.count) in
     let last : last_of (nodes_told version (names ++ name ∷ []) (first ++ value ∷ [])) ≡ Some (node name value) =
-        ap last_of told ∙ last_push (nodes_told version names first) (node name value) in
+    ap last_of told ∙ last_push (nodes_told version names first) (node name value) in
     let some = read.nodes.some in
     record {
       taken = rw told (taken_more text (nodes_told version names first) (node name value) rest (first_line rest) behind read.taken whole says named
@@ -171,8 +171,8 @@ pub nodes_refused : (version : ℕ) (names : List (List ℕ)) (first : List Bool
     IsRefused text BadLine line
 nodes_refused version names first text rest line read over number =
     refused_here text (nodes_told version names first) rest BadLine line read.taken
-        (not_here (nodes_told version names first) rest (λ at. absurd (cc at.0)) (not_ended version names first text rest read over)
-        (may_not_end version names first text rest read)) (omega (arith, told_length version names first read.nodes))
+    (not_here (nodes_told version names first) rest (λ at. absurd (cc at.0)) (not_ended version names first text rest read over)
+    (may_not_end version names first text rest read)) (omega (arith, told_length version names first read.nodes))
 
 -- the first two nodes
 pub nodes_begin : (version : ℕ) (names : List (List ℕ)) (first : List Bool) (ends : Bool) (text : List ℕ) → names ≡ codes "go" ∷ codes "done" ∷ [] →

@@ -34,7 +34,7 @@ no_bad_head v digits some most bad = by_end bad.spelled
     by_end (inl e) =
         let is : digits ≡ (48 + v) ∷ 10 ∷ [] = append_cancel_left (codes "prs ") digits ((48 + v) ∷ 10 ∷ []) (sym e ∙ line) in
         let last : digit 10 ≡ true = All-head (λ b. digit b ≡ true) 10 []
-            (All-tail (λ b. digit b ≡ true) (48 + v) (10 ∷ []) (subst (All (λ b. digit b ≡ true)) is bad.numeral)) in
+        (All-tail (λ b. digit b ≡ true) (48 + v) (10 ∷ []) (subst (All (λ b. digit b ≡ true)) is bad.numeral)) in
         absurd (cc last)
     by_end (inr e) =
         let is : digits ++ 10 ∷ [] ≡ ((48 + v) ∷ []) ++ 10 ∷ [] = append_cancel_left (codes "prs ") (digits ++ 10 ∷ []) ((48 + v) ∷ 10 ∷ []) (sym e ∙ line) in
@@ -75,12 +75,17 @@ no_refusal start [] [] rest fault all other e ends (at_end over stops) = absurd 
 no_refusal start (f ∷ F) [] rest fault all other e ends (at_line some bad) =
     let cut = cut_at (form_spelling f) (flat_map form_spelling F) (line_of_form f all.0) in
     good_line start f (first_line rest) fault all.0 all.1 all.2 (ap first_line (sym e) ∙ cut.0)
-        (subst (λ s. LineFault s (first_line rest) fault) (append-nil start) bad)
+    (subst (λ s. LineFault s (first_line rest) fault) (append-nil start) bad)
 no_refusal start (f ∷ F) [] rest fault all other e ends (at_end over stops) =
     omega (arith, ap length (e ∙ over), length-append (form_spelling f) (flat_map form_spelling F), some_line f all.0)
 no_refusal start [] (g ∷ G) rest fault all other e ends refused =
-    omega (arith, ap length e, length-append (form_spelling g ++ flat_map form_spelling G) rest, length-append (form_spelling g) (flat_map form_spelling G),
-        some_line g other.0)
+    omega (
+      arith,
+      ap length e,
+      length-append (form_spelling g ++ flat_map form_spelling G) rest,
+      length-append (form_spelling g) (flat_map form_spelling G),
+      some_line g other.0,
+    )
 no_refusal start (f ∷ F) (g ∷ G) rest fault all other e ends refused =
     let cut_f = cut_at (form_spelling f) (flat_map form_spelling F) (line_of_form f all.0) in
     let cut_g = cut_at (form_spelling g) (flat_map form_spelling G ++ rest) (line_of_form g other.0) in
@@ -94,7 +99,7 @@ no_refusal start (f ∷ F) (g ∷ G) rest fault all other e ends refused =
 pub not_refused : (text : List ℕ) (F : List Form) (fault : NetFault) (line : ℕ) → IsTaken text F [] → may_end F ≡ true → IsRefused text fault line → ⊥
 not_refused text F fault line taken ends refused =
     no_refusal [] F refused.before refused.rest fault taken.stand refused.taken.stand (sym (append-nil (flat_map form_spelling F)) ∙ sym taken.told
-        ∙ refused.taken.told) ends refused.here
+    ∙ refused.taken.told) ends refused.here
 
 -- a text is refused for one cause at one line
 
@@ -132,17 +137,17 @@ same_refusal : (start F G : List Form) (r s : List ℕ) (f g : NetFault) → All
 same_refusal start [] [] r s f g one two e a b = (same_here (start ++ []) r f g a (subst (λ t. RefusedBehind (start ++ []) t g) (sym e) b), refl)
 same_refusal start (h ∷ F) [] r s f g one two e a b =
     absurd (no_refusal_here start h (flat_map form_spelling F ++ r) s g one.0 one.1 one.2 (sym e ∙ append_assoc (form_spelling h) (flat_map form_spelling F) r)
-        (subst (λ t. RefusedBehind t s g) (append-nil start) b))
+    (subst (λ t. RefusedBehind t s g) (append-nil start) b))
 same_refusal start [] (k ∷ G) r s f g one two e a b =
     absurd (no_refusal_here start k (flat_map form_spelling G ++ s) r f two.0 two.1 two.2 (e ∙ append_assoc (form_spelling k) (flat_map form_spelling G) s)
-        (subst (λ t. RefusedBehind t r f) (append-nil start) a))
+    (subst (λ t. RefusedBehind t r f) (append-nil start) a))
 same_refusal start (h ∷ F) (k ∷ G) r s f g one two e a b =
     let cut_h = cut_at (form_spelling h) (flat_map form_spelling F ++ r) (line_of_form h one.0) in
     let cut_k = cut_at (form_spelling k) (flat_map form_spelling G ++ s) (line_of_form k two.0) in
     let e' = sym (append_assoc (form_spelling h) (flat_map form_spelling F) r) ∙ e ∙ append_assoc (form_spelling k) (flat_map form_spelling G) s in
     let same : k ≡ h = same_form k h two.0 one.0 (sym cut_k.0 ∙ sym (ap first_line e') ∙ cut_h.0) in
     let rest = same_refusal (start ++ h ∷ []) F G r s f g one.3 (subst (λ x. AllStand (start ++ x ∷ []) G) same two.3) (sym cut_h.1 ∙ ap behind_line e'
-        ∙ cut_k.1)
+    ∙ cut_k.1)
     (subst (λ t. RefusedBehind t r f) (sym (append_assoc start (h ∷ []) F)) a)
     (subst (λ t. RefusedBehind t s g) (sym (append_assoc start (h ∷ []) G ∙ ap (λ x. start ++ (x ∷ G)) (sym same))) b) in
     (rest.0, omega (arith, rest.1))
@@ -150,5 +155,5 @@ same_refusal start (h ∷ F) (k ∷ G) r s f g one two e a b =
 pub one_cause : (text : List ℕ) (f g : NetFault) (l m : ℕ) → IsRefused text f l → IsRefused text g m → (f ≡ g) × (l ≡ m)
 one_cause text f g l m one two =
     let same = same_refusal [] one.before two.before one.rest two.rest f g one.taken.stand two.taken.stand (sym one.taken.told ∙ two.taken.told) one.here
-        two.here in
+    two.here in
     (same.0, omega (arith, same.1, one.number, two.number))

@@ -54,9 +54,12 @@ pub digit_more : (digits : List ℕ) (i : ℕ) (b : ℕ) → Digits digits → i
     (digits_value 10 (take (i + 1) digits) ≡ digits_value 10 (take i digits) * 10 + (b - 48)) × (48 ≤ b) × (b ≤ 57)
 digit_more digits i b all within is =
     let at : b ≡ get_or digits i 0 = is ∙ get_or_default digits i b 0 within in
-    let range = digit_range b (subst (λ x. digit x ≡ true) (sym at) (all i 0 within)) in
-    (digits_value_more 10 digits i within ∙ ap (λ v. digits_value 10 (take i digits) * 10 + v) (ap digit_value (sym at)
-        ∙ digit_number b (subst (λ x. digit x ≡ true) (sym at) (all i 0 within))), range.0, range.1)
+    let range = digit_range b (subst (λ x. digit x ≡ true) (sym at) (all i 0 within)) in (
+      digits_value_more 10 digits i within ∙ ap (λ v. digits_value 10 (take i digits) * 10 + v) (ap digit_value (sym at)
+          ∙ digit_number b (subst (λ x. digit x ≡ true) (sym at) (all i 0 within))),
+      range.0,
+      range.1,
+    )
 
 -- the end of a line isn't a digit
 no_digit_end : (xs : List ℕ) → All (λ b. digit b ≡ true) (xs ++ 10 ∷ []) → ⊥
@@ -123,8 +126,10 @@ pub first_refused : (text : List ℕ) (fault : NetFault) → ((version : ℕ) �
 first_refused text fault none bad known two = refused_here text [] text fault 1 (none_taken text) (first_here text fault none bad known two) refl
 
 pub head_taken : (text : List ℕ) (v : ℕ) → 1 ≤ v → v ≤ 2 → first_line text ≡ head_spelling v → IsTaken text (head v ∷ []) (behind_line text)
-head_taken text v some most says = taken_more text [] (head v) text (first_line text) (behind_line text) (none_taken text) (line_and_rest text) says (some,
-    most) refl refl
+head_taken text v some most says = taken_more text [] (head v) text (first_line text) (behind_line text) (none_taken text) (line_and_rest text) says (
+  some,
+  most,
+) refl refl
 
 abbrev go_line : Form
 go_line = node (codes "go") false
@@ -154,13 +159,13 @@ pub go_taken : (text rest : List ℕ) (v : ℕ) → 1 ≤ v → v ≤ 2 → IsTa
     IsTaken text (head v ∷ go_line ∷ []) (behind_line rest)
 go_taken text rest v some most taken says =
     taken_more text (head v ∷ []) go_line rest (first_line rest) (behind_line rest) taken (line_and_rest rest) ((bytes_decides _ _).0 says) go_name refl
-        (go_good v some most)
+    (go_good v some most)
 
 pub done_taken : (text rest : List ℕ) (v : ℕ) → 1 ≤ v → v ≤ 2 → IsTaken text (head v ∷ go_line ∷ []) rest →
     bytes_eq (first_line rest) (codes "node done 0\n") ≡ true → IsTaken text (opening v) (behind_line rest)
 done_taken text rest v some most taken says =
     taken_more text (head v ∷ go_line ∷ []) done_line rest (first_line rest) (behind_line rest) taken (line_and_rest rest) ((bytes_decides _ _).0 says)
-        done_name refl (done_good v some most)
+    done_name refl (done_good v some most)
 
 -- a line of another node than the one that is asked for
 other_node : (line name asked : List ℕ) (first : Bool) → bytes_eq line (node_spelling asked false) ≡ false → line ≡ node_spelling name first →
@@ -168,8 +173,11 @@ other_node : (line name asked : List ℕ) (first : Bool) → bytes_eq line (node
 other_node line name asked true apart says = and_right (bytes_eq name asked) false refl
 other_node line name asked false apart says =
     and_left (bytes_eq name asked) true (false_from_ne_true (bytes_eq name asked)
-        (λ same. absurd (cc (apart, (bytes_decides line (node_spelling asked false)).1 (says
-        ∙ ap (λ n. node_spelling n false) ((bytes_decides name asked).0 same))))))
+    (λ same. absurd (cc (
+      apart,
+      (bytes_decides line (node_spelling asked false)).1 (says
+          ∙ ap (λ n. node_spelling n false) ((bytes_decides name asked).0 same)),
+    ))))
 
 not_go : (rest : List ℕ) (v : ℕ) → bytes_eq (first_line rest) (codes "node go 0\n") ≡ false → (f : Form) → Says (first_line rest) f →
     may_stand (head v ∷ []) f ≡ false
@@ -194,4 +202,4 @@ pub done_refused : (text rest : List ℕ) (v : ℕ) → IsTaken text (head v ∷
     IsRefused text BadLine 3
 done_refused text rest v taken apart =
     refused_here text (head v ∷ go_line ∷ []) rest BadLine 3 taken (not_here (head v ∷ go_line ∷ []) rest (λ at. absurd (cc at.0)) (not_done rest v apart) refl)
-        refl
+    refl

@@ -22,10 +22,10 @@ abbrev by_parts : List Node → List Channel → Bool → Option ℕ → ℕ →
 by_parts nodes channels reset last count g name up =
     let place = 2 * unwrap_or (number_in nodes name) 0 + (if up then 0 else 1) in
     if is_none (number_in nodes name) || list_any (list_any (λ (s : Signed). is_none (number_in nodes s.name))) g then Some UnknownNode else
-        (if is_driven reset channels name then Some DrivenWire else
-        (if same_place last place then Some DoubleRule else
-        (if stands_above last place then Some OutOfOrder else (if nat_lt (literals_allowed reset) (count + sum_by (λ (t : List Signed). length t) g) then Some
-        TooMany else None))))
+    (if is_driven reset channels name then Some DrivenWire else
+    (if same_place last place then Some DoubleRule else
+    (if stands_above last place then Some OutOfOrder else (if nat_lt (literals_allowed reset) (count + sum_by (λ (t : List Signed). length t) g) then Some
+    TooMany else None))))
 
 term_unknown : (names : List (List ℕ)) (first : List Bool) (t : List Signed) → length first ≡ length names →
     list_any (λ (s : Signed). is_none (number_in (told_nodes (node_forms names first)) s.name)) t ≡ list_any (λ (s : Signed). is_none (place_in names s.name)) t
@@ -44,6 +44,7 @@ pub rule_fault_is : (before : List Form) (names : List (List ℕ)) (first : List
     (sum_by literals_in before) g name up
 rule_fault_is before names first g name up count told =
     let parts : form_fault before (rule g name up) ≡ by_parts (told_nodes (node_forms names first)) (told_channels before) (has_reset before)
-        (last_place before (last_of before)) (sum_by literals_in before) g name up =
-        ap (λ nodes. by_parts nodes (told_channels before) (has_reset before) (last_place before (last_of before)) (sum_by literals_in before) g name up) told in
+    (last_place before (last_of before)) (sum_by literals_in before) g name up =
+    ap (λ nodes. by_parts nodes (told_channels before) (has_reset before) (last_place before (last_of before)) (sum_by literals_in before) g name up) told
+    in
     parts ∙ rw (number_is names first name count, terms_unknown names first g count) refl

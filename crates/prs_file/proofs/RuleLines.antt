@@ -23,7 +23,7 @@ led_is l = ap (λ xs. (lead_spelling l.lead ++ sign_spelling l.high) ++ xs) (app
 pub more_is : (l : Led) (more : List Led) (n : List ℕ) (u : Bool) → rule_line_of (l ∷ more) n u ≡ lead_spelling l.lead ++ (body l ++ rule_line_of more n u)
 more_is l more n u =
     append_assoc (led_spelling l) (leds_spelling more) (end_spelling n u) ∙ ap (λ xs. xs ++ rule_line_of more n u) (led_is l)
-        ∙ append_assoc (lead_spelling l.lead) (body l) (rule_line_of more n u)
+    ∙ append_assoc (lead_spelling l.lead) (body l) (rule_line_of more n u)
 
 -- behind a literal stands a space
 pub starts_space : (more : List Led) (n : List ℕ) (u : Bool) → All (λ (k : Led). k.lead ≢ Rule) more → (tail : List ℕ) × (rule_line_of more n u ≡ 32 ∷ tail)
@@ -131,7 +131,7 @@ pub read_first : (line text rest : List ℕ) (l : Led) → line ≡ codes "rule 
 read_first line text rest l begins lead high name named behind = record {
   told =
       begins ∙ ap (λ xs. codes "rule " ++ xs) (front_told text l high name ∙ ap (λ xs. body l ++ xs) (sym behind))
-          ∙ sym (append_assoc (codes "rule ") (body l) rest)
+      ∙ sym (append_assoc (codes "rule ") (body l) rest)
       ∙ ap (λ xs. xs ++ rest) (sym (append-nil (led_spelling l) ∙ led_is l ∙ ap (λ k. lead_spelling k ++ body l) lead));
   leads = (lead, All-nil (λ (k : Led). k.lead ≢ Rule));
   names = All-cons (λ (l : Led). IsNodeName l.name) l [] named (All-nil (λ (l : Led). IsNodeName l.name));
@@ -143,9 +143,9 @@ read_first line text rest l begins lead high name named behind = record {
     only_first (k ∷ more) n u form e =
         let at : text ≡ body k ++ rule_line_of more n u =
         append_cancel_left (codes "rule ") text (body k ++ rule_line_of more n u) (sym begins ∙ e ∙ more_is k more n u
-            ∙ ap (λ j. lead_spelling j ++ (body k ++ rule_line_of more n u)) form.leads.0) in
+        ∙ ap (λ j. lead_spelling j ++ (body k ++ rule_line_of more n u)) form.leads.0) in
         let front = front_is text l k more n u (lead ∙ sym form.leads.0) high name (All-head (λ (l : Led). IsNodeName l.name) k more form.names) form.leads.1 at
-            in
+        in
         record { more = more; all = ap (λ x. x ∷ more) (sym front.0); left = behind ∙ front.1 }
 
 second : List ℕ → ℕ
@@ -188,7 +188,7 @@ next_of line leds rest behind next read sign apart ls n u form e = by_more left.
         let further = further_of leds (k ∷ more) read.leads (subst AllLed all form.leads) in
         let names = all_right (λ (l : Led). IsNodeName l.name) leds (k ∷ more) (subst (All (λ (l : Led). IsNodeName l.name)) all form.names) in
         let same = same_sign next k.lead behind (body k ++ rule_line_of more n u) apart (All-head (λ (k : Led). k.lead ≢ Rule) k more further) (sym sign ∙ over
-            ∙ more_is k more n u) in
+        ∙ more_is k more n u) in
         record {
           one = k;
           more = more;
@@ -206,8 +206,8 @@ pub read_more : (line : List ℕ) (leds : List Led) (rest behind after : List �
 read_more line leds rest behind after next l read sign apart lead high name named goes_on = record {
   told =
       read.told ∙ ap (λ xs. leds_spelling leds ++ xs) (sign
-          ∙ ap (λ xs. lead_spelling next ++ xs) (front_told behind l high name ∙ ap (λ xs. body l ++ xs) (sym goes_on))
-          ∙ sym (append_assoc (lead_spelling next) (body l) after)
+      ∙ ap (λ xs. lead_spelling next ++ xs) (front_told behind l high name ∙ ap (λ xs. body l ++ xs) (sym goes_on))
+      ∙ sym (append_assoc (lead_spelling next) (body l) after)
       ∙ ap (λ xs. xs ++ after) (ap (λ k. lead_spelling k ++ body l) (sym lead) ∙ sym (led_is l)))
       ∙ sym (append_assoc (leds_spelling leds) (led_spelling l) after) ∙ ap (λ xs. xs ++ after) (sym (leds_push leds l));
   leads = leads_push leds l read.leads (λ is. apart (sym lead ∙ is));
@@ -239,7 +239,7 @@ no_first line text begins none [] n u form e = form.leads
 no_first line text begins none (k ∷ more) n u form e =
     let at : text ≡ body k ++ rule_line_of more n u =
     append_cancel_left (codes "rule ") text (body k ++ rule_line_of more n u) (sym begins ∙ e ∙ more_is k more n u
-        ∙ ap (λ j. lead_spelling j ++ (body k ++ rule_line_of more n u)) form.leads.0) in
+    ∙ ap (λ j. lead_spelling j ++ (body k ++ rule_line_of more n u)) form.leads.0) in
     let named = All-head (λ (l : Led). IsNodeName l.name) k more form.names in
     let space = starts_space more n u form.leads.1 in
     none (subst IsNodeName (sym (ap word_in (at ∙ ap (λ xs. body k ++ xs) space.1) ∙ word_is k.high k.name space.0 named)) named)

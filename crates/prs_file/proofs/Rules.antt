@@ -59,8 +59,8 @@ pub term_is : (net : NetValue) (lead : Lead) (t : List Literal) → 0 < length t
 term_is net lead [] some = absurd (omega arith)
 term_is net lead (l ∷ ls) some =
     ap (λ xs. xs ++ literals_behind net And ls) (literal_is net lead l)
-        ∙ append_assoc (lead_spelling lead) (literal_spelling net l) (literals_behind net And ls)
-        ∙ ap (λ xs. lead_spelling lead ++ (literal_spelling net l ++ xs)) (literals_and net ls)
+    ∙ append_assoc (lead_spelling lead) (literal_spelling net l) (literals_behind net And ls)
+    ∙ ap (λ xs. lead_spelling lead ++ (literal_spelling net l ++ xs)) (literals_and net ls)
 
 terms_or : (net : NetValue) (ts : GuardValue) → terms_behind net Or ts ≡ flat_map (λ y. codes " | " ++ term_spelling net y) ts
 terms_or net [] = refl
@@ -93,8 +93,8 @@ pub rule_is : (net : NetValue) (g : GuardValue) (node : ℕ) (up : Bool) (before
 rule_is net [] node up before some = absurd (omega arith)
 rule_is net (t ∷ ts) node up before some =
     append_assoc before (codes "rule " ++ guard_spelling net (t ∷ ts)) (end_spelling (name_at net node) up)
-        ∙ ap (λ xs. before ++ xs) (append_assoc (codes "rule ") (guard_spelling net (t ∷ ts)) (end_spelling (name_at net node) up)
-        ∙ ap (λ xs. codes "rule " ++ (guard_spelling net (t ∷ ts) ++ xs)) (sym (append-nil (end_spelling (name_at net node) up))))
+    ∙ ap (λ xs. before ++ xs) (append_assoc (codes "rule ") (guard_spelling net (t ∷ ts)) (end_spelling (name_at net node) up)
+    ∙ ap (λ xs. codes "rule " ++ (guard_spelling net (t ∷ ts) ++ xs)) (sym (append-nil (end_spelling (name_at net node) up))))
 
 pub no_rule_is : (net : NetValue) (g : GuardValue) (node : ℕ) (up : Bool) → length g ≡ 0 → rule_spelling net g node up ≡ []
 no_rule_is net [] node up none = refl
@@ -105,6 +105,6 @@ pub whole_text : (head nodes channels rules t0 t1 t2 t3 t4 : List ℕ) → t0 �
     t4 ≡ concat (head ∷ nodes ∷ channels ∷ rules ∷ [])
 whole_text head nodes channels rules t0 t1 t2 t3 t4 e0 e1 e2 e3 e4 =
     let all : t4 ≡ ((head ++ nodes) ++ channels) ++ rules =
-        e4 ∙ ap (λ t. t ++ rules) (e3 ∙ ap (λ t. t ++ channels) (e2 ∙ ap (λ t. t ++ nodes) (e1 ∙ ap (λ t. t ++ head) e0))) in
+    e4 ∙ ap (λ t. t ++ rules) (e3 ∙ ap (λ t. t ++ channels) (e2 ∙ ap (λ t. t ++ nodes) (e1 ∙ ap (λ t. t ++ head) e0))) in
     all ∙ append_assoc (head ++ nodes) channels rules ∙ append_assoc head nodes (channels ++ rules)
-        ∙ ap (λ t. head ++ (nodes ++ (channels ++ t))) (sym (append-nil rules))
+    ∙ ap (λ t. head ++ (nodes ++ (channels ++ t))) (sym (append-nil rules))

@@ -24,8 +24,13 @@ none_in_channels (w ∷ ws) =
 
 none_told : (version : ℕ) (names : List (List ℕ)) (first : List Bool) (ws : List Wires) → sum_by literals_in (channels_told version names first ws) ≡ 0
 none_told version names first ws =
-    omega (arith, sum_by-cons literals_in (head version) (node_forms names first ++ map (λ (w : Wires). channel w.channel) ws),
-        sum_by-append literals_in (node_forms names first) (map (λ (w : Wires). channel w.channel) ws), none_in_nodes names first, none_in_channels ws)
+    omega (
+      arith,
+      sum_by-cons literals_in (head version) (node_forms names first ++ map (λ (w : Wires). channel w.channel) ws),
+      sum_by-append literals_in (node_forms names first) (map (λ (w : Wires). channel w.channel) ws),
+      none_in_nodes names first,
+      none_in_channels ws,
+    )
 
 pub rules_begin : (version : ℕ) (names : List (List ℕ)) (first : List Bool) (ws : List Wires) (text rest : List ℕ) → IsNodes version names first →
     IsChannelsRead version names first ws text rest → ((c : _) → IsChannelForm c → first_line rest ≡ channel_spelling c → ⊥) →

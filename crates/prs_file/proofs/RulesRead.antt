@@ -44,7 +44,7 @@ pub rule_refused : (before : List Form) (version : ℕ) (names : List (List ℕ)
     IsRefused text fault line
 rule_refused before version names first channels place count text rest g name up fault line same read some says form bad number =
     refused_here text before rest fault line read.taken (fault_here before (rule g name up) rest fault some says form (read.late g name up)
-        (fault_told before version names first channels place count text rest g name up same read ∙ bad)) number
+    (fault_told before version names first channels place count text rest g name up same read ∙ bad)) number
 
 -- a line that is no rule's
 pub line_refused : (before : List Form) (version : ℕ) (names : List (List ℕ)) (first : List Bool) (channels : List Channel) (place : Option ℕ) (count : ℕ)

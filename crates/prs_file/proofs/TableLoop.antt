@@ -42,7 +42,7 @@ pub loop_begin : (version : ℕ) (names : List (List ℕ)) (first : List Bool) (
     IsRulesRead (net_forms version names first ws r) version names first (channels_of ws) None 0 text rest
 loop_begin version names first ws r text rest nodes read over is =
     subst (λ b. IsRulesRead b version names first (channels_of ws) None 0 text rest) (sym (begin_forms version names first ws r is))
-        (rules_begin version names first ws text rest nodes read over)
+    (rules_begin version names first ws text rest nodes read over)
 
 pub begin_count : (version : ℕ) (names : List (List ℕ)) (first : List Bool) (ws : List Wires) (r : RulesValue) →
     r ≡ record { up = replicate (length names) []; down = replicate (length names) [] } →
@@ -52,8 +52,13 @@ begin_count version names first ws r is = ap length (begin_forms version names f
 pub named_literals : (names : List (List ℕ)) (g : GuardValue) → sum_by (λ (t : List Signed). length t) (guard_named names g) ≡ guard_literals g
 named_literals names [] = refl
 named_literals names (t ∷ g) =
-    omega (arith, sum_by-cons (λ (t : List Signed). length t) (map (signed_by names) t) (guard_named names g), sum_by-cons (λ (t : List Literal). length t) t g,
-        named_literals names g, length-map t (signed_by names))
+    omega (
+      arith,
+      sum_by-cons (λ (t : List Signed). length t) (map (signed_by names) t) (guard_named names g),
+      sum_by-cons (λ (t : List Literal). length t) t g,
+      named_literals names g,
+      length-map t (signed_by names),
+    )
 
 -- what a rule of a line and a table makes of the table
 pub record IsMore (version : ℕ) (names : List (List ℕ)) (first : List Bool) (ws : List Wires) (now : RulesValue) (place count line : ℕ)
@@ -72,17 +77,18 @@ pub loop_more : (version : ℕ) (names : List (List ℕ)) (first : List Bool) (w
     literals ≡ length leds → IsMore version names first ws now place (count + literals) (line + 1) text behind
 loop_more version names first ws last count line r now text rest behind leds name up node g place literals same read table number says whole form at named below
     good is is_place is_count = record {
-  read = subst (λ b. IsRulesRead b version names first (channels_of ws) (Some place) (count + literals) text behind) (sym forms)
-      (subst (λ p. IsRulesRead (before ++ rule ts name up ∷ []) version names first (channels_of ws) (Some p) (count + literals) text behind) (places
-      ∙ sym is_place) (subst (λ k. IsRulesRead (before ++ rule ts name up ∷ []) version names first (channels_of ws) (Some (rule_place names name up))
-      (count + k) text behind) (count_terms leds ∙ sym is_count) (rules_more before version names first (channels_of ws) last count text rest behind ts name up
-      same read says whole form good)));
-  table = subst (λ t. IsTable (version == 2) (channels_of ws) names (Some place) (count + literals) t) (sym is)
-      (subst (λ p. IsTable (version == 2) (channels_of ws) names (Some p) (count + literals) (with_guard node up g r)) (sym is_place)
-      (subst (λ k. IsTable (version == 2) (channels_of ws) names (Some (place_at node up)) (count + k) (with_guard node up g r)) count_same
-      (table_more (version == 2) (channels_of ws) names last count r node up g table found.0 free behind_last below (filled names g ts named form.1) few)));
-  number = omega (arith, number, ap length forms, length-append before (rule ts name up ∷ []));
-}
+      read = subst (λ b. IsRulesRead b version names first (channels_of ws) (Some place) (count + literals) text behind) (sym forms)
+          (subst (λ p. IsRulesRead (before ++ rule ts name up ∷ []) version names first (channels_of ws) (Some p) (count + literals) text behind) (places
+          ∙ sym is_place) (subst (λ k. IsRulesRead (before ++ rule ts name up ∷ []) version names first (channels_of ws) (Some (rule_place names name up))
+          (count + k) text behind) (count_terms leds ∙ sym is_count)
+          (rules_more before version names first (channels_of ws) last count text rest behind ts name up
+          same read says whole form good)));
+      table = subst (λ t. IsTable (version == 2) (channels_of ws) names (Some place) (count + literals) t) (sym is)
+          (subst (λ p. IsTable (version == 2) (channels_of ws) names (Some p) (count + literals) (with_guard node up g r)) (sym is_place)
+          (subst (λ k. IsTable (version == 2) (channels_of ws) names (Some (place_at node up)) (count + k) (with_guard node up g r)) count_same
+          (table_more (version == 2) (channels_of ws) names last count r node up g table found.0 free behind_last below (filled names g ts named form.1) few)));
+      number = omega (arith, number, ap length forms, length-append before (rule ts name up ∷ []));
+    }
   where
     ts : List (List Signed)
     ts = terms_of leds
@@ -119,7 +125,7 @@ loop_more version names first ws last count line r now text rest behind leds nam
     forms =
         ap (net_forms version names first ws) is
         ∙ ap (λ fs. channels_told version names first ws ++ fs) (forms_more (version == 2) (channels_of ws) names last count r node up g table found.0
-            behind_last some ∙ ap (λ f. rule_forms names r ++ f ∷ []) (ap (λ t. rule t (get_or names node []) up) named ∙ ap (λ n. rule ts n up) found.1))
+        behind_last some ∙ ap (λ f. rule_forms names r ++ f ∷ []) (ap (λ t. rule t (get_or names node []) up) named ∙ ap (λ n. rule ts n up) found.1))
         ∙ sym (append_assoc (channels_told version names first ws) (rule_forms names r) (rule ts name up ∷ []))
 
 pub some_left : (rest : List ℕ) (empty : Bool) → empty ≡ (length rest == 0) → empty ≡ false → 0 < length rest

@@ -88,14 +88,14 @@ flat_above f m zero none = ap (λ n. flat_map f (range_with_len 0 n)) (omega ari
 flat_above f m (suc k) none =
     let e : m + suc k ≡ (m + k) + 1 = omega arith in
     ap (λ n. flat_map f (range_with_len 0 n)) e ∙ flat_more f (m + k) ∙ ap (λ xs. flat_map f (range_with_len 0 (m + k)) ++ xs) (none (m + k) (omega arith))
-        ∙ append-nil (flat_map f (range_with_len 0 (m + k))) ∙ flat_above f m k none
+    ∙ append-nil (flat_map f (range_with_len 0 (m + k))) ∙ flat_above f m k none
 
 pub flat_same : {X : Type 0} (f g : ℕ → List X) (m : ℕ) → ((i : ℕ) → i < m → f i ≡ g i) → flat_map f (range_with_len 0 m) ≡ flat_map g (range_with_len 0 m)
 flat_same f g zero same = refl
 flat_same f g (suc m) same =
     let e : suc m ≡ m + 1 = omega arith in
     ap (λ n. flat_map f (range_with_len 0 n)) e ∙ flat_more f m ∙ ap (λ xs. xs ++ f m) (flat_same f g m (λ i below. same i (omega arith)))
-        ∙ ap (λ xs. flat_map g (range_with_len 0 m) ++ xs) (same m (omega arith)) ∙ sym (flat_more g m) ∙ sym (ap (λ n. flat_map g (range_with_len 0 n)) e)
+    ∙ ap (λ xs. flat_map g (range_with_len 0 m) ++ xs) (same m (omega arith)) ∙ sym (flat_more g m) ∙ sym (ap (λ n. flat_map g (range_with_len 0 n)) e)
 
 no_rules : (names : List (List ℕ)) (r : RulesValue) (node : ℕ) → get_or r.up node [] ≡ [] → get_or r.down node [] ≡ [] → node_rules names r node ≡ []
 no_rules names r node up down = rw (up, down) refl
@@ -125,7 +125,7 @@ node_more reset channels names last count r node false g table within behind som
     ap (λ g. ups ++ guard_forms names g node false) now
     ∙ ap (λ fs. ups ++ fs) (some_form names g node false some)
     ∙ sym (ap (λ fs. fs ++ rule (guard_named names g) (get_or names node []) false ∷ []) (ap (λ d. ups ++ guard_forms names d node false) down
-        ∙ append-nil ups))
+    ∙ append-nil ups))
 
 node_other : (names : List (List ℕ)) (r : RulesValue) (node n : ℕ) (up : Bool) (g : GuardValue) → n ≢ node →
     node_rules names (with_guard node up g r) n ≡ node_rules names r n
@@ -155,10 +155,10 @@ forms_more reset channels names last count r node up g table within behind some 
     let e : length names ≡ (node + 1) + (length names - (node + 1)) = omega arith in
     let old_end : rule_forms names r ≡ flat_map f (range_with_len 0 node) ++ f node =
     ap (λ n. flat_map f (range_with_len 0 n)) e
-        ∙ flat_above f (node + 1) (length names - (node + 1)) (λ i past. none_past reset channels names last count r node i up table behind past)
-        ∙ flat_more f node in
+    ∙ flat_above f (node + 1) (length names - (node + 1)) (λ i past. none_past reset channels names last count r node i up table behind past)
+    ∙ flat_more f node in
     let past : (i : ℕ) → node + 1 ≤ i → h i ≡ [] = λ i past. node_other names r node i up g (λ is. absurd (omega arith))
-        ∙ none_past reset channels names last count r node i up table behind past in
+    ∙ none_past reset channels names last count r node i up table behind past in
     let new_end : rule_forms names (with_guard node up g r) ≡ flat_map h (range_with_len 0 node) ++ h node =
     ap (λ n. flat_map h (range_with_len 0 n)) e ∙ flat_above h (node + 1) (length names - (node + 1)) past ∙ flat_more h node in
     new_end
@@ -209,7 +209,7 @@ pub forms_begin : (names : List (List ℕ)) (r : RulesValue) → r ≡ record { 
     rule_forms names r ≡ []
 forms_begin names r is =
     ap (rule_forms names) is ∙ ap (λ n. flat_map (node_rules names (record { up = replicate (length names) []; down = replicate (length names) [] }))
-        (range_with_len 0 n)) (all_above (length names))
-        ∙ flat_above (node_rules names (record { up = replicate (length names) []; down = replicate (length names) [] })) 0 (length names)
-        (λ i past. no_rules names (record { up = replicate (length names) []; down = replicate (length names) [] }) i (at_replicate (length names) i)
-        (at_replicate (length names) i))
+    (range_with_len 0 n)) (all_above (length names))
+    ∙ flat_above (node_rules names (record { up = replicate (length names) []; down = replicate (length names) [] })) 0 (length names)
+    (λ i past. no_rules names (record { up = replicate (length names) []; down = replicate (length names) [] }) i (at_replicate (length names) i)
+    (at_replicate (length names) i))

@@ -26,9 +26,9 @@ pub told_more : (before : List Form) (f : Form) (rest line behind : List ℕ) �
     text_behind before rest ≡ text_behind (before ++ f ∷ []) behind
 told_more before f rest line behind whole says =
     ap (λ r. flat_map form_spelling before ++ r) (whole ∙ ap (λ l. l ++ behind) says)
-        ∙ sym (append_assoc (flat_map form_spelling before) (form_spelling f) behind)
+    ∙ sym (append_assoc (flat_map form_spelling before) (form_spelling f) behind)
     ∙ ap (λ t. t ++ behind) (ap (λ x. flat_map form_spelling before ++ x) (sym (append-nil (form_spelling f)))
-        ∙ sym (flat_map-append form_spelling before (f ∷ [])))
+    ∙ sym (flat_map-append form_spelling before (f ∷ [])))
 
 -- one line more
 pub taken_more : (text : List ℕ) (before : List Form) (f : Form) (rest line behind : List ℕ) → IsTaken text before rest → rest ≡ line ++ behind →

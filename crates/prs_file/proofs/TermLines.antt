@@ -51,8 +51,8 @@ and_front : (s x : Signed) (xs : List Signed) (ts : List (List Signed)) →
     signed_spelling s ++ (codes " & " ++ guard_text ((x ∷ xs) ∷ ts)) ≡ guard_text ((s ∷ x ∷ xs) ∷ ts)
 and_front s x xs ts =
     sym (append_assoc (signed_spelling s) ((codes " & " ++ signed_spelling x) ++ and_texts xs) (or_texts ts)
-        ∙ ap (λ t. signed_spelling s ++ t) (append_assoc (codes " & " ++ signed_spelling x) (and_texts xs) (or_texts ts)
-        ∙ ap (λ t. codes " & " ++ t) (sym (append_assoc (signed_spelling x) (and_texts xs) (or_texts ts)))))
+    ∙ ap (λ t. signed_spelling s ++ t) (append_assoc (codes " & " ++ signed_spelling x) (and_texts xs) (or_texts ts)
+    ∙ ap (λ t. codes " & " ++ t) (sym (append_assoc (signed_spelling x) (and_texts xs) (or_texts ts)))))
 
 or_front : (s : Signed) (t : List Signed) (ts : List (List Signed)) → signed_spelling s ++ (codes " | " ++ guard_text (t ∷ ts)) ≡ guard_text ((s ∷ []) ∷ t ∷ ts)
 or_front s t ts = ap (λ xs. xs ++ (codes " | " ++ guard_text (t ∷ ts))) (sym (append-nil (signed_spelling s)))
@@ -80,8 +80,8 @@ pub line_is : (ls : List Led) (name : List ℕ) (up : Bool) → AllLed ls → ru
 line_is [] name up some = absurd some
 line_is (l ∷ ls) name up leads =
     let front : leds_spelling (l ∷ ls) ≡ codes "rule " ++ guard_text (terms_of (l ∷ ls)) =
-        ap (λ t. t ++ leds_spelling ls) (led_is l ∙ ap (λ k. lead_spelling k ++ body l) leads.0) ∙ append_assoc (codes "rule ") (body l) (leds_spelling ls)
-        ∙ ap (λ t. codes "rule " ++ t) (guard_told l ls leads.1) in
+    ap (λ t. t ++ leds_spelling ls) (led_is l ∙ ap (λ k. lead_spelling k ++ body l) leads.0) ∙ append_assoc (codes "rule ") (body l) (leds_spelling ls)
+    ∙ ap (λ t. codes "rule " ++ t) (guard_told l ls leads.1) in
     ap (λ t. t ++ end_spelling name up) front ∙ whole_line (guard_text (terms_of (l ∷ ls))) name up
 
 abbrev Named : Signed → Type 0
@@ -96,10 +96,10 @@ put_form Rule s [] named all = All-cons IsTermForm (s ∷ []) [] (one_term s nam
 put_form And s [] named all = All-cons IsTermForm (s ∷ []) [] (one_term s named) (All-nil IsTermForm)
 put_form Rule s (t ∷ ts) named all =
     All-cons IsTermForm (s ∷ t) ts (record { some = omega arith; names = All-cons Named s t named (All-head IsTermForm t ts all).names })
-        (All-tail IsTermForm t ts all)
+    (All-tail IsTermForm t ts all)
 put_form And s (t ∷ ts) named all =
     All-cons IsTermForm (s ∷ t) ts (record { some = omega arith; names = All-cons Named s t named (All-head IsTermForm t ts all).names })
-        (All-tail IsTermForm t ts all)
+    (All-tail IsTermForm t ts all)
 
 terms_form : (ls : List Led) → All (λ (l : Led). IsNodeName l.name) ls → All IsTermForm (terms_of ls)
 terms_form [] all = All-nil IsTermForm
@@ -107,7 +107,7 @@ terms_form (l ∷ []) all = All-cons IsTermForm (signed_of l ∷ []) [] (one_ter
     (All-nil IsTermForm)
 terms_form (l ∷ k ∷ ks) all =
     put_form k.lead (signed_of l) (terms_of (k ∷ ks)) (All-head (λ (l : Led). IsNodeName l.name) l (k ∷ ks) all)
-        (terms_form (k ∷ ks) (All-tail (λ (l : Led). IsNodeName l.name) l (k ∷ ks) all))
+    (terms_form (k ∷ ks) (All-tail (λ (l : Led). IsNodeName l.name) l (k ∷ ks) all))
 
 some_terms : (ls : List Led) → AllLed ls → 0 < length (terms_of ls)
 some_terms [] some = absurd some
@@ -129,21 +129,21 @@ term_told : (lead : Lead) (t : List Signed) → 0 < length t → leds_spelling (
 term_told lead [] some = absurd (omega arith)
 term_told lead (s ∷ ss) some =
     ap (λ t. t ++ leds_spelling (term_leds And ss)) (led_is (led_by lead s)) ∙ ap (λ t. (lead_spelling lead ++ signed_spelling s) ++ t) (ands_told ss)
-        ∙ append_assoc (lead_spelling lead) (signed_spelling s) (and_texts ss)
+    ∙ append_assoc (lead_spelling lead) (signed_spelling s) (and_texts ss)
 
 ors_told : (ts : List (List Signed)) → All IsTermForm ts → leds_spelling (leds_by Or ts) ≡ or_texts ts
 ors_told [] all = refl
 ors_told (t ∷ ts) all =
     flat_map-append led_spelling (term_leds Or t) (leds_by Or ts)
-        ∙ ap (λ x. x ++ leds_spelling (leds_by Or ts)) (term_told Or t (All-head IsTermForm t ts all).some)
-        ∙ ap (λ x. (codes " | " ++ term_text t) ++ x) (ors_told ts (All-tail IsTermForm t ts all))
+    ∙ ap (λ x. x ++ leds_spelling (leds_by Or ts)) (term_told Or t (All-head IsTermForm t ts all).some)
+    ∙ ap (λ x. (codes " | " ++ term_text t) ++ x) (ors_told ts (All-tail IsTermForm t ts all))
 
 guard_spelled : (t : List Signed) (ts : List (List Signed)) → All IsTermForm (t ∷ ts) → leds_spelling (leds_by Rule (t ∷ ts)) ≡ codes "rule "
     ++ guard_text (t ∷ ts)
 guard_spelled t ts all =
     flat_map-append led_spelling (term_leds Rule t) (leds_by Or ts)
-        ∙ ap (λ x. x ++ leds_spelling (leds_by Or ts)) (term_told Rule t (All-head IsTermForm t ts all).some)
-        ∙ ap (λ x. (codes "rule " ++ term_text t) ++ x) (ors_told ts (All-tail IsTermForm t ts all)) ∙ append_assoc (codes "rule ") (term_text t) (or_texts ts)
+    ∙ ap (λ x. x ++ leds_spelling (leds_by Or ts)) (term_told Rule t (All-head IsTermForm t ts all).some)
+    ∙ ap (λ x. (codes "rule " ++ term_text t) ++ x) (ors_told ts (All-tail IsTermForm t ts all)) ∙ append_assoc (codes "rule ") (term_text t) (or_texts ts)
 
 and_no_rule : And ≢ Rule
 and_no_rule e = absurd (cc e)
@@ -170,7 +170,7 @@ terms_named : (lead : Lead) (ts : List (List Signed)) → All IsTermForm ts → 
 terms_named lead [] all = All-nil NamedLed
 terms_named lead (t ∷ ts) all =
     All-append NamedLed (term_leds lead t) (leds_by Or ts) (term_named lead t (All-head IsTermForm t ts all).names)
-        (terms_named Or ts (All-tail IsTermForm t ts all))
+    (terms_named Or ts (All-tail IsTermForm t ts all))
 
 leads_of : (t : List Signed) (ts : List (List Signed)) → 0 < length t → AllLed (leds_by Rule (t ∷ ts))
 leads_of [] ts some = absurd (omega arith)

@@ -50,5 +50,5 @@ terms_push l [] k = two_terms k.lead (signed_of l) (signed_of k)
 terms_push l (m ∷ ms) k =
     let some = some_terms m ms in
     ap (put_by m.lead (signed_of l)) (terms_push m ms k)
-        ∙ subst (λ g. put_by m.lead (signed_of l) (add_by k.lead (signed_of k) g) ≡ add_by k.lead (signed_of k) (put_by m.lead (signed_of l) g)) (sym some.is)
-        (put_add m.lead k.lead (signed_of l) (signed_of k) some.first some.others)
+    ∙ subst (λ g. put_by m.lead (signed_of l) (add_by k.lead (signed_of k) g) ≡ add_by k.lead (signed_of k) (put_by m.lead (signed_of l) g)) (sym some.is)
+    (put_add m.lead k.lead (signed_of l) (signed_of k) some.first some.others)

@@ -67,7 +67,8 @@ fine names channels reset last count g name up none =
     literals = sum_by (λ (t : List Signed). length t) g
 
     by_cases : (unknown b : Bool) → is_driven reset channels name ≡ b → (same : Bool) → same_place last (rule_place names name up) ≡ same → (above : Bool) →
-        stands_above last (rule_place names name up) ≡ above → (many : Bool) → nat_lt (literals_allowed reset) (count + sum_by (λ (t : List Signed). length t) g) ≡
+        stands_above last (rule_place names name up) ≡ above → (many : Bool) →
+        nat_lt (literals_allowed reset) (count + sum_by (λ (t : List Signed). length t) g) ≡
         many → cond unknown (Some UnknownNode) (cond b (Some DrivenWire)
         (cond same (Some DoubleRule) (cond above (Some OutOfOrder) (cond many (Some TooMany) None)))) ≡ None →
         Fine reset (is_driven reset channels name) last count (rule_place names name up) (sum_by (λ (t : List Signed). length t) g)
@@ -76,5 +77,9 @@ fine names channels reset last count g name up none =
     by_cases false false is true e above e' many e'' none = absurd (cc none)
     by_cases false false is false e true e' many e'' none = absurd (cc none)
     by_cases false false is false e false e' true e'' none = absurd (cc none)
-    by_cases false false is false e false e' false e'' none = record { free = is; behind = behind_is last (rule_place names name up) e e'; few =
-        ltb-false _ _ e'' }
+    by_cases false false is false e false e' false e'' none = record {
+      free = is;
+      behind = behind_is last (rule_place names name up) e e';
+      few =
+          ltb-false _ _ e'';
+    }

@@ -33,7 +33,7 @@ pub place_found : (names : List (List ℕ)) (name : List ℕ) (n : ℕ) → plac
 place_found [] name n is = absurd (cc is)
 place_found (m ∷ names) name n is =
     place_cases m names name n is (λ same at. (omega arith, ap (λ k. get_or (m ∷ names) k []) at ∙ same)) (λ k at next other. let rest =
-        place_found names name k at in (omega (arith, rest.0), ap (λ k. get_or (m ∷ names) k []) next ∙ rest.1))
+    place_found names name k at in (omega (arith, rest.0), ap (λ k. get_or (m ∷ names) k []) next ∙ rest.1))
 
 none_high : (names : List (List ℕ)) (first : List Bool) (name : List ℕ) → ((k : ℕ) → k < length names → get_or names k [] ≢ name) →
     is_high_named names first name ≡ false
@@ -41,7 +41,7 @@ none_high [] first name apart = refl
 none_high (m ∷ names) [] name apart = refl
 none_high (m ∷ names) (v ∷ first) name apart =
     or_from _ _ (and_left (bytes_eq m name) v (false_from_ne_true (bytes_eq m name) (λ same. apart 0 (omega arith) ((bytes_decides m name).0 same))))
-        (none_high names first name (λ k below. apart (suc k) (omega arith)))
+    (none_high names first name (λ k below. apart (suc k) (omega arith)))
 
 pub high_is : (names : List (List ℕ)) (first : List Bool) (name : List ℕ) (n : ℕ) → length first ≡ length names → Distinct names →
     place_in names name ≡ Some n → is_high_named names first name ≡ get_or first n false
@@ -52,7 +52,7 @@ high_is (m ∷ names) (v ∷ first) name n count apart is =
     (λ same at.
     let here : bytes_eq m name ≡ true = (bytes_decides m name).1 same in
     let rest : is_high_named names first name ≡ false =
-        none_high names first name (λ k below e. apart 0 (suc k) [] (omega arith) (omega arith) (same ∙ sym e)) in
+    none_high names first name (λ k below e. apart 0 (suc k) [] (omega arith) (omega arith) (same ∙ sym e)) in
     rw (at, here, rest) (by_value v))
     (λ k at next other. rw (next, other) (high_is names first name k (omega arith) (distinct_tail m names apart) at))
   where

@@ -33,7 +33,7 @@ pub record IsNodes (version : ℕ) (names : List (List ℕ)) (first : List Bool)
 abbrev pub node_fault_of : ℕ → List (List ℕ) → List ℕ → Option NetFault
 node_fault_of version names name =
     if is_some (place_in names name) then Some DoubleName else
-        (if nat_lt (node_most version) (length names + 1) then Some TooMany else None)
+    (if nat_lt (node_most version) (length names + 1) then Some TooMany else None)
 
 -- the nodes of a text up to what is left of it, and whether the node lines may end there
 pub record IsNodesRead (version : ℕ) (names : List (List ℕ)) (first : List Bool) (shut : Bool)

@@ -166,7 +166,7 @@ outside_of c = wires_from_outside' c.kind c
 abbrev pub driven_wire : List Form → Form → Bool
 driven_wire before (rule g name up) =
     bytes_eq name (codes "go") || ((has_reset before && bytes_eq name (codes "reset"))
-        || list_any (λ (c : Channel). list_any (bytes_eq name) (outside_of c)) (told_channels before))
+    || list_any (λ (c : Channel). list_any (bytes_eq name) (outside_of c)) (told_channels before))
 driven_wire before _ = false
 
 -- the place of a rule in the order of rules: by its node, up before down

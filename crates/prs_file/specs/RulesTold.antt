@@ -15,7 +15,7 @@ use Rattle.prs_file.specs.Terms.{rule_unknown}
 abbrev pub is_driven : Bool → List Channel → List ℕ → Bool
 is_driven reset channels name =
     bytes_eq name (codes "go") || ((reset && bytes_eq name (codes "reset"))
-        || list_any (λ (c : Channel). list_any (bytes_eq name) (outside_of c)) channels)
+    || list_any (λ (c : Channel). list_any (bytes_eq name) (outside_of c)) channels)
 
 abbrev pub rule_place : List (List ℕ) → List ℕ → Bool → ℕ
 rule_place names name up = 2 * unwrap_or (place_in names name) 0 + (if up then 0 else 1)
@@ -28,11 +28,11 @@ abbrev pub rule_fault_of : List (List ℕ) → List Channel → Bool → Option 
     Option NetFault
 rule_fault_of names channels reset last count g name up =
     if rule_unknown names g name then Some UnknownNode else
-        (if is_driven reset channels name then Some DrivenWire else
-        (if same_place last (rule_place names name up) then Some DoubleRule else
-        (if stands_above last (rule_place names name up) then Some OutOfOrder else
-        (if nat_lt (literals_allowed reset) (count + sum_by (λ (t : List Signed). length t) g) then Some TooMany else
-        None))))
+    (if is_driven reset channels name then Some DrivenWire else
+    (if same_place last (rule_place names name up) then Some DoubleRule else
+    (if stands_above last (rule_place names name up) then Some OutOfOrder else
+    (if nat_lt (literals_allowed reset) (count + sum_by (λ (t : List Signed). length t) g) then Some TooMany else
+    None))))
 
 abbrev pub order_fault_of : Option ℕ → ℕ → Option NetFault
 order_fault_of last place =

@@ -20,7 +20,7 @@ guard_forms names (t ∷ ts) node up = rule (guard_named names (t ∷ ts)) (slic
 abbrev pub node_rules : List (List ℕ) → RulesValue → ℕ → List Form
 node_rules names r node =
     guard_forms names (slice_index_or r.up node []) node true
-        ++ guard_forms names (slice_index_or r.down node []) node false
+    ++ guard_forms names (slice_index_or r.down node []) node false
 
 -- the lines of rules, in order of their nodes, up before down
 abbrev pub rule_forms : List (List ℕ) → RulesValue → List Form
@@ -34,8 +34,10 @@ abbrev pub place_at : ℕ → Bool → ℕ
 place_at node up = 2 * node + (if up then 0 else 1)
 
 abbrev pub with_guard : ℕ → Bool → GuardValue → RulesValue → RulesValue
-with_guard node up g r = if up then record r { up = slice_set r.up node g } else record r { down =
-    slice_set r.down node g }
+with_guard node up g r = if up then record r { up = slice_set r.up node g } else record r {
+  down =
+      slice_set r.down node g;
+}
 
 -- a place behind the last one
 abbrev pub IsBeyond : Option ℕ → ℕ → Type 0
@@ -46,9 +48,9 @@ IsBeyond (Some last) place = last < place
 abbrev pub known_fault_of : Bool → Bool → Option ℕ → ℕ → ℕ → ℕ → Option NetFault
 known_fault_of reset driven last count place literals =
     if driven then Some DrivenWire else
-        (if same_place last place then Some DoubleRule else
-        (if stands_above last place then Some OutOfOrder else
-        (if nat_lt (literals_allowed reset) (count + literals) then Some TooMany else None)))
+    (if same_place last place then Some DoubleRule else
+    (if stands_above last place then Some OutOfOrder else
+    (if nat_lt (literals_allowed reset) (count + literals) then Some TooMany else None)))
 
 -- the guards up to a place, with so many literals
 pub record IsTable (reset : Bool) (channels : List Channel) (names : List (List ℕ)) (last : Option ℕ) (count : ℕ)

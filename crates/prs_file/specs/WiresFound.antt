@@ -25,7 +25,7 @@ is_high_named names first name =
 abbrev pub wires_fault_of : List (List ℕ) → List Bool → Channel → Option NetFault
 wires_fault_of names first c =
     if some_unknown names (wires_of c) then Some UnknownNode else
-        (if list_any (is_high_named names first) (wires_of c) then Some BadFirst else None)
+    (if list_any (is_high_named names first) (wires_of c) then Some BadFirst else None)
 
 abbrev pub wire_numbers : Wires → List ℕ
 wire_numbers w = w.rails ++ w.ack ∷ []

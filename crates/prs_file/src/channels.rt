@@ -49,13 +49,13 @@ pub fn read_channels<'a>(
     requires over { (name : List ℕ) (first : Bool) → IsNodeName name → first_line text.now ≢ node_spelling name first }
     ensures read { IfOk result
         (λ r. IsChannelsRead nodes.now.version nodes.now.index nodes.now.first.items r.0.items
-            (text_behind (nodes_told nodes.now.version nodes.now.index nodes.now.first.items) text.now) r.1.now) }
+        (text_behind (nodes_told nodes.now.version nodes.now.index nodes.now.first.items) text.now) r.1.now) }
     ensures over { IfOk result
         (λ r. (c : ChannelValue) → IsChannelForm c → first_line r.1.now ≢ channel_spelling c) }
     ensures room { IfOk result (λ r. length r.0.items + length r.1.now ≤ length text.now) }
     ensures refused { IfErr result
         (OfRefusal (λ fault line. IsRefused
-            (text_behind (nodes_told nodes.now.version nodes.now.index nodes.now.first.items) text.now) fault line)) }
+        (text_behind (nodes_told nodes.now.version nodes.now.index nodes.now.first.items) text.now) fault line)) }
 {
     let mut channels: Vec<Wires> = Vec::new(alloc);
     let mut names = NodeIndex::new(alloc);

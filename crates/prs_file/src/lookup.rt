@@ -37,11 +37,11 @@ fn find_pair(
 ) -> Result<Option<(u32, u32)>, AllocError>
     ensures rails { IfOk result
         (λ o. IfSome o (λ pair. (place_in index.now (true_rail channel.now bit) ≡ Some pair.0)
-            × (place_in index.now (false_rail channel.now bit) ≡ Some pair.1))) }
+        × (place_in index.now (false_rail channel.now bit) ≡ Some pair.1))) }
     ensures none { IfOk result
         (λ o. IfNone o
         ((is_none (place_in index.now (true_rail channel.now bit))
-            || is_none (place_in index.now (false_rail channel.now bit))) ≡ true)) }
+        || is_none (place_in index.now (false_rail channel.now bit))) ≡ true)) }
 {
     let Some(t) = find_rail(alloc, index, channel, bit, b".t")? else {
         return Ok(None);

@@ -91,7 +91,7 @@ fn node_lines(net: &Net, to: &mut Vec<u8>) -> Result<(), AllocError>
     ensures { OnOk result (to.new.items
         ≡ to.old.items
         ++ flat_map (λ node. node_spelling (name_at net.now node) (first_at net.now node))
-            (range_with_len 0 (length net.now.first))) }
+        (range_with_len 0 (length net.now.first))) }
 {
     for node in 0..net.first().len() {
         numbered_line(net, node, to)?;

@@ -49,15 +49,15 @@ pub fn read_rules(
     requires over { (c : ChannelValue) → IsChannelForm c → first_line text.now ≢ channel_spelling c }
     ensures table { IfOk result
         (λ rules. IsWholeTable (nodes.now.version == 2) (map (λ (w : WiresValue). w.channel) channels.now)
-            nodes.now.index rules) }
+        nodes.now.index rules) }
     ensures taken { IfOk result
         (λ rules. IsTaken (text_behind (channels_told nodes.now.version nodes.now.index nodes.now.first.items
-            channels.now) text.now) (net_forms nodes.now.version nodes.now.index nodes.now.first.items channels.now
-            rules) []) }
+        channels.now) text.now) (net_forms nodes.now.version nodes.now.index nodes.now.first.items channels.now
+        rules) []) }
     ensures refused { IfErr result
         (OfRefusal (λ fault line. IsRefused
-            (text_behind (channels_told nodes.now.version nodes.now.index nodes.now.first.items channels.now) text.now)
-            fault line)) }
+        (text_behind (channels_told nodes.now.version nodes.now.index nodes.now.first.items channels.now) text.now)
+        fault line)) }
 {
     let driven = driven_nodes(alloc, nodes, channels)?;
     let mut rules = Rules::new(alloc, nodes.index.len() as u32)?;

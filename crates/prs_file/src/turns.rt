@@ -129,13 +129,13 @@ pub fn turn_of(
         (λ _t. (channels : List ChannelValue)
         → AreDriven (nodes.now.version == 2) channels nodes.now.index driven.now
         → rule_fault_of nodes.now.index channels (nodes.now.version == 2) so_far.place so_far.literals
-            (terms_of form.now.leds.items) form.now.node form.now.up ≡ None)) }
+        (terms_of form.now.leds.items) form.now.node form.now.up ≡ None)) }
     ensures fault { IfOk result
         (λ r. IfErr r
         (λ fault. (channels : List ChannelValue)
         → AreDriven (nodes.now.version == 2) channels nodes.now.index driven.now
         → rule_fault_of nodes.now.index channels (nodes.now.version == 2) so_far.place so_far.literals
-            (terms_of form.now.leds.items) form.now.node form.now.up ≡ Some fault)) }
+        (terms_of form.now.leds.items) form.now.node form.now.up ≡ Some fault)) }
 {
     let Some(node) = nodes.index.find(form.node.bytes()) else {
         return Ok(Err(NetFault::UnknownNode));

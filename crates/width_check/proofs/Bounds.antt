@@ -69,7 +69,7 @@ mutual
   chained_fits store w v no_operations small formed = small
   chained_fits store w v (and_operation op e more) small formed =
       chained_fits store w (operated op w v (value store e)) more
-          (operated_fits op w v (value store e) formed.0 small (subst (λ n. value store e < 2 ^ n) formed.1 (value_fits store e formed.2))) formed.3
+      (operated_fits op w v (value store e) formed.0 small (subst (λ n. value store e < 2 ^ n) formed.1 (value_fits store e formed.2))) formed.3
 
 -- a well-formed expression has 1 to 64 bits
 mutual
@@ -115,7 +115,7 @@ pub part_joins : (store : ℕ → ℕ) (es : List TExpr) (i : ℕ) (e : TExpr) (
     (n * 2 ^ w + v) * 2 ^ widths_of (parts_of (drop (i + 1) es)) + joined_value store (parts_of (drop (i + 1) es))
 part_joins store es i e n w v within is wide here =
     rw (part_at es i e within is, ← wide, ← here, pow-add 2 w (widths_of (parts_of (drop (i + 1) es))))
-        (join_shift n (2 ^ w) (2 ^ widths_of (parts_of (drop (i + 1) es))) v (joined_value store (parts_of (drop (i + 1) es))))
+    (join_shift n (2 ^ w) (2 ^ widths_of (parts_of (drop (i + 1) es))) v (joined_value store (parts_of (drop (i + 1) es))))
 
 pub no_more_than : (n q j whole : ℕ) → n * q + j ≡ whole → 0 < q → n ≤ whole
 no_more_than n q j whole is some = let grows : n * 1 ≤ n * q = mul-le-mul_left n some in omega (arith, grows)

@@ -26,7 +26,8 @@ members_free ss i b over so_far = ap some_has_call (sym (members_end ss i over))
 pub then_calls : (s : Stmt) (v : Vec Stmt Global) (ss : List Stmt) → s ≡ Then v → ss ≡ v.items → some_has_call (statements_in ss) ≡ has_call (statement_of s)
 then_calls s v ss is same = ap (λ (xs : List Stmt). some_has_call (statements_in xs)) same ∙ sym (ap has_call (then_is s v is))
 
-pub beside_calls : (s : Stmt) (v : Vec Stmt Global) (ss : List Stmt) → s ≡ Beside v → ss ≡ v.items → some_has_call (statements_in ss) ≡ has_call (statement_of s)
+pub beside_calls : (s : Stmt) (v : Vec Stmt Global) (ss : List Stmt) → s ≡ Beside v → ss ≡ v.items →
+    some_has_call (statements_in ss) ≡ has_call (statement_of s)
 beside_calls s v ss is same = ap (λ (xs : List Stmt). some_has_call (statements_in xs)) same ∙ sym (ap has_call (beside_is s v is))
 
 at_arm : (xs : List Arm) (i : ℕ) (a : Arm) (b : Bool) → i < length xs → a ≡ get_or xs i a → arm_has_call (arms_in (drop i xs)) ≡ b →

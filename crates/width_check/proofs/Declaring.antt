@@ -72,8 +72,8 @@ pub among : (name : List ℕ) (cs : List Channel) (vs : List Var) →
     list_any (bytes_eq name) (names_of cs vs) ≡ (list_any (λ (c : Channel). bytes_eq name c.name) cs || list_any (λ (v : Var). bytes_eq name v.name) vs)
 among name cs vs =
     list_any-append (bytes_eq name) (map (λ (c : Channel). c.name) cs) (map (λ (v : Var). v.name) vs)
-        ∙ ap (λ b. b || list_any (bytes_eq name) (map (λ (v : Var). v.name) vs)) (any_mapped (λ (c : Channel). c.name) (bytes_eq name) cs)
-        ∙ ap (λ b. list_any (λ (c : Channel). bytes_eq name c.name) cs || b) (any_mapped (λ (v : Var). v.name) (bytes_eq name) vs)
+    ∙ ap (λ b. b || list_any (bytes_eq name) (map (λ (v : Var). v.name) vs)) (any_mapped (λ (c : Channel). c.name) (bytes_eq name) cs)
+    ∙ ap (λ b. list_any (λ (c : Channel). bytes_eq name c.name) cs || b) (any_mapped (λ (v : Var). v.name) (bytes_eq name) vs)
 
 -- no name stands twice
 
@@ -135,8 +135,10 @@ pub name_long : (bs : List ℕ) (v : Bool) → 24 < length bs → v ≡ false �
 name_long bs v long is = (λ e. absurd (true_false v e is), λ name. absurd (omega (arith, name.short)))
 
 pub name_dotted : (bs : List ℕ) (v : Bool) → list_any (λ b. nat_eq b 46) bs ≡ true → v ≡ false → Decides v (IsName bs)
-name_dotted bs v dotted is = (λ e. absurd (true_false v e is),
-    λ name. absurd (true_false (list_any (λ b. nat_eq b 46) bs) dotted (words_no_dots bs name.parts)))
+name_dotted bs v dotted is = (
+  λ e. absurd (true_false v e is),
+  λ name. absurd (true_false (list_any (λ b. nat_eq b 46) bs) dotted (words_no_dots bs name.parts)),
+)
 
 pub turned_true : (v r : Bool) → v ≡ not r → v ≡ true → r ≡ false
 turned_true v true is so = absurd (true_false v so is)

@@ -37,9 +37,10 @@ either_false false b h = (refl, h)
 pub assign_sound : (ds : List Decl) (target : Ident) (e : Expression) → IsSound ds (met_of ds (assigns target e)) →
     (is_var_in ds target.name ≡ Some true) × IsSound ds (met_in ds (declared_width ds target.name) e)
 assign_sound ds target e s =
-    let pieces = subst (λ (m : Met). IsSound ds m) (sym (assign_pieces ds target e)) s in
-    (s.uses (use_of target written) (0, omega arith, refl),
-        sound_right ds (met_use (use_of target written)) (met_in ds (declared_width ds target.name) e) pieces)
+    let pieces = subst (λ (m : Met). IsSound ds m) (sym (assign_pieces ds target e)) s in (
+      s.uses (use_of target written) (0, omega arith, refl),
+      sound_right ds (met_use (use_of target written)) (met_in ds (declared_width ds target.name) e) pieces,
+    )
 
 pub send_sound : (ds : List Decl) (chan : Ident) (e : Expression) → IsSound ds (met_of ds (sends chan e)) →
     (is_var_in ds chan.name ≡ Some false) × IsSound ds (met_in ds (declared_width ds chan.name) e)
@@ -87,8 +88,12 @@ member_ready ds ss i s within is left =
     let here = members_here ds ss i s within is left in
     let rest = statements_in (drop (i + 1) ss) in
     let pieces = subst (λ (m : Met). IsSound ds m) (sym (each_pieces ds (statement_of s) rest)) here.sound in
-    record { shaped = here.shaped.0; free = (either_false (has_call (statement_of s)) (some_has_call rest) here.free).0; sound =
-        sound_left ds (met_of ds (statement_of s)) (met_of_each ds rest) pieces }
+    record {
+      shaped = here.shaped.0;
+      free = (either_false (has_call (statement_of s)) (some_has_call rest) here.free).0;
+      sound =
+          sound_left ds (met_of ds (statement_of s)) (met_of_each ds rest) pieces;
+    }
 
 pub members_next : (ds : List Decl) (ss : List Stmt) (i : ℕ) (s : Stmt) → i < length ss → s ≡ get_or ss i s → AreMembersLeft ds (statements_in (drop i ss)) →
     AreMembersLeft ds (statements_in (drop (i + 1) ss))
@@ -96,17 +101,22 @@ members_next ds ss i s within is left =
     let here = members_here ds ss i s within is left in
     let rest = statements_in (drop (i + 1) ss) in
     let pieces = subst (λ (m : Met). IsSound ds m) (sym (each_pieces ds (statement_of s) rest)) here.sound in
-    record { shaped = here.shaped.1; free = (either_false (has_call (statement_of s)) (some_has_call rest) here.free).1; sound =
-        sound_right ds (met_of ds (statement_of s)) (met_of_each ds rest) pieces }
+    record {
+      shaped = here.shaped.1;
+      free = (either_false (has_call (statement_of s)) (some_has_call rest) here.free).1;
+      sound =
+          sound_right ds (met_of ds (statement_of s)) (met_of_each ds rest) pieces;
+    }
 
 pub member_made : (ds : List Decl) (ss : List Stmt) (i : ℕ) (s : Stmt) (made new : List TStmt) (t : TStmt) (total : Processes) → i < length ss →
     s ≡ get_or ss i s → process_of t ≡ process_form ds (statement_of s) → new ≡ made ++ t ∷ [] →
-    before_members made (processes_form ds (statements_in (drop i ss))) ≡ total → before_members new (processes_form ds (statements_in (drop (i + 1) ss))) ≡ total
+    before_members made (processes_form ds (statements_in (drop i ss))) ≡ total →
+    before_members new (processes_form ds (statements_in (drop (i + 1) ss))) ≡ total
 member_made ds ss i s made new t total within is is_made pushed so_far =
     let rest = processes_form ds (statements_in (drop (i + 1) ss)) in
     let begun = ap (λ (us : Statements). before_members made (processes_form ds us)) (sym (members_more ss i s within is)) ∙ so_far in
     ap (λ (ts : List TStmt). before_members ts rest) pushed ∙ one_member made t rest
-        ∙ ap (λ (p : Process). before_members made (typed.and_member p rest)) is_made ∙ begun
+    ∙ ap (λ (p : Process). before_members made (typed.and_member p rest)) is_made ∙ begun
 
 pub then_made : (ds : List Decl) (s : Stmt) (v : Vec Stmt Global) (ss : List Stmt) (i : ℕ) (t : Vec TStmt Global) → s ≡ Then v → ss ≡ v.items → length ss ≤ i →
     before_members t.items (processes_form ds (statements_in (drop i ss))) ≡ processes_form ds (statements_in ss) →
@@ -158,8 +168,12 @@ arm_ready ds xs i a within is left =
     record {
       guard_shaped = here.shaped.0;
       guard_sound = sound_left ds (met_in ds 1 g) (met_both (met_of ds s) (met_of_arms ds rest)) pieces;
-      body = record { shaped = here.shaped.1; free = (either_false (has_call s) (arm_has_call rest) here.free).0; sound =
-          sound_left ds (met_of ds s) (met_of_arms ds rest) others };
+      body = record {
+        shaped = here.shaped.1;
+        free = (either_false (has_call s) (arm_has_call rest) here.free).0;
+        sound =
+            sound_left ds (met_of ds s) (met_of_arms ds rest) others;
+      };
     }
 
 pub arms_next : (ds : List Decl) (xs : List Arm) (i : ℕ) (a : Arm) → i < length xs → a ≡ get_or xs i a → AreArmsLeft ds (arms_in (drop i xs)) →
@@ -171,8 +185,12 @@ arms_next ds xs i a within is left =
     let s = statement_of a.body in
     let pieces = subst (λ (m : Met). IsSound ds m) (sym (arm_pieces ds g s rest)) here.sound in
     let others = sound_right ds (met_in ds 1 g) (met_both (met_of ds s) (met_of_arms ds rest)) pieces in
-    record { shaped = here.shaped.2; free = (either_false (has_call s) (arm_has_call rest) here.free).1; sound =
-        sound_right ds (met_of ds s) (met_of_arms ds rest) others }
+    record {
+      shaped = here.shaped.2;
+      free = (either_false (has_call s) (arm_has_call rest) here.free).1;
+      sound =
+          sound_right ds (met_of ds s) (met_of_arms ds rest) others;
+    }
 
 pub arm_made : (ds : List Decl) (xs : List Arm) (i : ℕ) (a : Arm) (made new : List TArm) (f : TExpr) (t : TStmt) (total : Choices) → i < length xs →
     a ≡ get_or xs i a → formula_of f ≡ formula_form ds 1 (expression_of a.guard) → process_of t ≡ process_form ds (statement_of a.body) →
@@ -183,7 +201,7 @@ arm_made ds xs i a made new f t total within is is_guard is_body pushed so_far =
     let begun = ap (λ (us : Arms). before_arms made (choices_form ds us)) (sym (arms_more xs i a within is)) ∙ so_far in
     ap (λ (ts : List TArm). before_arms ts rest) pushed ∙ one_arm made (record { guard = f; body = t }) rest
     ∙ ap (λ (g : Formula). before_arms made (typed.and_choice g (process_of t) rest)) is_guard
-        ∙ ap (λ (p : Process). before_arms made (typed.and_choice (formula_form ds 1 (expression_of a.guard)) p rest)) is_body ∙ begun
+    ∙ ap (λ (p : Process). before_arms made (typed.and_choice (formula_form ds 1 (expression_of a.guard)) p rest)) is_body ∙ begun
 
 pub select_made : (ds : List Decl) (s : Stmt) (again : Bool) (v : Vec Arm Global) (xs : List Arm) (i : ℕ) (t : Vec TArm Global) → s ≡ Select again v →
     xs ≡ v.items → length xs ≤ i → before_arms t.items (choices_form ds (arms_in (drop i xs))) ≡ choices_form ds (arms_in xs) →

@@ -113,9 +113,15 @@ shifted ns ms d ds s move h = record {
   before =
       ⊎_elim
       (λ c. ⊎_elim (λ there. inl there) (λ (same : d.name.name ≡ h.second.name.name).
-          inr (record { earlier = 0; order = omega arith; first = d; first_is = refl; same = same })) (move h.second.name.name c))
-      (λ (g : Again ds h.later h.second.name.name). inr (record { earlier = suc g.earlier; order = omega (arith, g.order); first = g.first; first_is =
-          g.first_is; same = g.same }))
+      inr (record { earlier = 0; order = omega arith; first = d; first_is = refl; same = same })) (move h.second.name.name c))
+      (λ (g : Again ds h.later h.second.name.name). inr (record {
+        earlier = suc g.earlier;
+        order = omega (arith, g.order);
+        first = g.first;
+        first_is =
+            g.first_is;
+        same = g.same;
+      }))
       h.before;
   at = h.at;
 }
@@ -142,10 +148,16 @@ unshifted ns ms d ds s move here h = by_place h.later h.second h.second_is h.bef
     by_place zero second is before at =
         let one : d ≡ second = cc is in
         ⊎_elim (λ c. inl (at ∙ ap (λ (x : Decl). x.name.at) (sym one), subst (λ (x : Decl). Contains ns x.name.name) (sym one) c))
-            (λ (g : Again (d ∷ ds) 0 second.name.name). absurd (let o = g.order in omega arith)) before
+        (λ (g : Again (d ∷ ds) 0 second.name.name). absurd (let o = g.order in omega arith)) before
     by_place (suc k) second is before at =
-        inr (record { later = k; second = second; second_is = is; before = ⊎_elim (λ c. inl (move second.name.name c)) (λ g. again k second is g) before; at =
-            at })
+        inr (record {
+          later = k;
+          second = second;
+          second_is = is;
+          before = ⊎_elim (λ c. inl (move second.name.name c)) (λ g. again k second is g) before;
+          at =
+              at;
+        })
 
 behind : (ns : List (List ℕ)) (m n : List ℕ) → Contains (ns ++ m ∷ []) n → Contains ns n ⊎ (m ≡ n)
 behind ns m n c = ⊎_elim (λ l. inl l) (λ r. ⊎_elim (λ (e : m ≡ n). inr e) (λ k. absurd (no_item n k)) (front_or_rest m n [] r))
@@ -164,7 +176,7 @@ double_of P ns o (d ∷ ds) least = by_test (list_any (bytes_eq d.name.name) ns)
         let here = there_any d.name.name ns is in
         least_same (λ s. (P s ⊎ (s ≡ d.name.at)) ⊎ DoubleIn ns ds s) (λ s. P s ⊎ DoubleIn ns (d ∷ ds) s) (first_double ns (earlier o d.name.at) ds)
         (λ s h. ⊎_elim (λ k. ⊎_elim (λ p. inl p) (λ (e : s ≡ d.name.at). inr (record { later = 0; second = d; second_is = refl; before = inl here; at = e })) k)
-            (λ q. inr (shifted ns ns d ds s (λ n c. inl c) q)) h)
+        (λ q. inr (shifted ns ns d ds s (λ n c. inl c) q)) h)
         (λ s h. ⊎_elim (λ p. inl (inl p)) (λ q. ⊎_elim (λ e. inl (inr e.0)) (λ r. inr r) (unshifted ns ns d ds s (λ n c. c) here q)) h)
         (rest (λ s. P s ⊎ (s ≡ d.name.at)) ns (earlier o d.name.at) (least_more P o d.name.at least))
     by_test false is rest =
@@ -174,8 +186,11 @@ double_of P ns o (d ∷ ds) least = by_test (list_any (bytes_eq d.name.name) ns)
         (λ s h.
         ⊎_elim (λ p. inl p)
         (λ q. ⊎_elim (λ e. absurd (let t : true ≡ false = sym (any_there d.name.name ns e.1) ∙ is in cc t)) (λ r. inr r)
-            (unshifted ns ms d ds s (λ n c. Contains-append_left ns (d.name.name ∷ []) n c) (Contains-append_right ns (d.name.name ∷ []) d.name.name (0,
-            omega arith, refl)) q))
+        (unshifted ns ms d ds s (λ n c. Contains-append_left ns (d.name.name ∷ []) n c) (Contains-append_right ns (d.name.name ∷ []) d.name.name (
+          0,
+          omega arith,
+          refl,
+        )) q))
         h)
         (rest P ms o least)
 
@@ -183,8 +198,23 @@ pub double_least : (p : ProgramTree) → IsLeast (λ s. IsDouble p s) (first_dou
 double_least p =
     least_same (λ s. ⊥ ⊎ DoubleIn [] p.decls s) (λ s. IsDouble p s) (first_double [] None p.decls)
     (λ s h. ⊎_elim (λ n. absurd n) (λ (d : DoubleIn [] p.decls s). ⊎_elim (λ c. absurd (no_item d.second.name.name c))
-        (λ (g : Again p.decls d.later d.second.name.name). record { earlier = g.earlier; later = d.later; order = g.order; first = g.first; second = d.second;
-        first_is = g.first_is; second_is = d.second_is; same = g.same; at = d.at }) d.before) h)
-    (λ s h. inr (record { later = h.later; second = h.second; second_is = h.second_is; before =
-        inr (record { earlier = h.earlier; order = h.order; first = h.first; first_is = h.first_is; same = h.same }); at = h.at }))
+    (λ (g : Again p.decls d.later d.second.name.name). record {
+      earlier = g.earlier;
+      later = d.later;
+      order = g.order;
+      first = g.first;
+      second = d.second;
+      first_is = g.first_is;
+      second_is = d.second_is;
+      same = g.same;
+      at = d.at;
+    }) d.before) h)
+    (λ s h. inr (record {
+      later = h.later;
+      second = h.second;
+      second_is = h.second_is;
+      before =
+          inr (record { earlier = h.earlier; order = h.order; first = h.first; first_is = h.first_is; same = h.same });
+      at = h.at;
+    }))
     (double_of (λ s. ⊥) [] None p.decls (λ s n. n))

@@ -93,8 +93,15 @@ no_channel = record { usage = use_of (named x 30) sent_on; among = (0, omega ari
 
 -- A!1
 against_direction : FaultAt (does (sends (named a 30) (number 1 (place 31)))) code.Direction (place 30)
-against_direction = record { usage = use_of (named a 30) sent_on; among = (0, omega arith, refl); decl = _; declared = refl; wrong = inl (refl, refl); at =
-    refl }
+against_direction = record {
+  usage = use_of (named a 30) sent_on;
+  among = (0, omega arith, refl);
+  decl = _;
+  declared = refl;
+  wrong = inl (refl, refl);
+  at =
+      refl;
+}
 
 -- g := x[2]
 no_such_bit : FaultAt (does (assigns (named g 30) (bit (named x 31) 2 (place 31)))) code.BadSlice (place 31)
@@ -103,18 +110,32 @@ no_such_bit = record { expression = bit (named x 31) 2 (place 31); among = (0, o
 -- g := 1 = 0
 widthless : FaultAt (does (assigns (named g 30) (chain (number 1 (place 31)) (and_link Eq (number 0 (place 32)) no_links) (place 33)))) code.UnknownWidth
     (place 33)
-widthless = record { expression = chain (number 1 (place 31)) (and_link Eq (number 0 (place 32)) no_links) (place 33); among = (0, omega arith, refl); lacks =
-    (refl, refl, refl) }
+widthless = record {
+  expression = chain (number 1 (place 31)) (and_link Eq (number 0 (place 32)) no_links) (place 33);
+  among = (0, omega arith, refl);
+  lacks =
+      (refl, refl, refl);
+}
 
 -- x := g
 narrow : FaultAt (does (assigns (named x 30) (whole (named g 31)))) code.Width (place 31)
-narrow = inl (record { leaf = expect (whole (named g 31)) 2; among = (0, omega arith, refl); misfit = inl (1, refl, λ (e : 1 ≡ 2). absurd (omega arith)); at =
-    refl })
+narrow = inl (record {
+  leaf = expect (whole (named g 31)) 2;
+  among = (0, omega arith, refl);
+  misfit = inl (1, refl, λ (e : 1 ≡ 2). absurd (omega arith));
+  at =
+      refl;
+})
 
 -- A?g
 narrow_target : FaultAt (does (receives (named a 30) (named g 31))) code.Width (place 31)
-narrow_target = inr (record { receive = record { chan = named a 30; target = named g 31 }; among = (0, omega arith, refl); misfit =
-    λ (e : 1 ≡ 2). absurd (omega arith); at = refl })
+narrow_target = inr (record {
+  receive = record { chan = named a 30; target = named g 31 };
+  among = (0, omega arith, refl);
+  misfit =
+      λ (e : 1 ≡ 2). absurd (omega arith);
+  at = refl;
+})
 
 -- g := x = 4: what is compared with x has its two bits
 too_great : FaultAt (does (assigns (named g 30) (chain (whole (named x 31)) (and_link Eq (number 4 (place 32)) no_links) (place 33)))) code.ConstantTooWide

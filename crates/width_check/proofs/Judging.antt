@@ -110,7 +110,7 @@ ChainLeaves ds w e more = leaves ds w e ++ leaves_of_links ds w more
 
 chain_own : (ds : List Decl) (w : ℕ) (e : Expression) (more : Links) (at : Span) (v : ℕ) (b : Bool) → compares more ≡ b
     → ((u : ℕ) → AreFit ds (leaves ds w e) → own_width ds e ≡ Some u → u ≤ 64) →
-        ((u : ℕ) → AreFit ds (leaves_of_links ds w more) → first_width ds more ≡ Some u → u ≤ 64)
+    ((u : ℕ) → AreFit ds (leaves_of_links ds w more) → first_width ds more ≡ Some u → u ≤ 64)
     → AreFit ds (leaves ds w (chain e more at)) → own_width ds (chain e more at) ≡ Some v → v ≤ 64
 chain_own ds w e more at v true is first rest fit own = let h = rw is at own in let e : 1 ≡ v = cc h in omega arith
 chain_own ds w e more at v false is first rest fit own = by_own (own_width ds e) refl (rw is at own)
@@ -141,7 +141,7 @@ mutual
   first_most ds w no_links v fit is = absurd (cc is)
   first_most ds w (and_link op e more) v fit is =
       either_most (own_width ds e) (first_width ds more) v (λ u h. own_most ds w e u (fit_left ds (leaves ds w e) (leaves_of_links ds w more) fit) h)
-          (λ u h. first_most ds w more u (fit_right ds (leaves ds w e) (leaves_of_links ds w more) fit) h) is
+      (λ u h. first_most ds w more u (fit_right ds (leaves ds w e) (leaves_of_links ds w more) fit) h) is
 
 pub or_zero_most : (o : Option ℕ) → ((u : ℕ) → o ≡ Some u → u ≤ 64) → unwrap_or o 0 ≤ 64
 or_zero_most None h = omega arith
@@ -152,7 +152,7 @@ pub side_most : (ds : List Decl) (w : ℕ) (e : Expression) (more : Links) → A
 side_most ds w e more fit =
     or_zero_most (side_width ds e more)
     (λ u h. either_most (own_width ds e) (first_width ds more) u (λ v k. own_most ds w e v (fit_left ds (leaves ds w e) (leaves_of_links ds w more) fit) k)
-        (λ v k. first_most ds w more v (fit_right ds (leaves ds w e) (leaves_of_links ds w more) fit) k) h)
+    (λ v k. first_most ds w more v (fit_right ds (leaves ds w e) (leaves_of_links ds w more) fit) k) h)
 
 abbrev AreNarrow : List Expected → Type 0
 AreNarrow ls = (l : Expected) → Contains ls l → l.width ≤ 64
@@ -169,19 +169,19 @@ narrow_both xs ys left right l c = ⊎_elim (λ k. left l k) (λ k. right l k) (
 
 chain_narrow : (ds : List Decl) (w : ℕ) (e : Expression) (more : Links) (at : Span) (b : Bool) → compares more ≡ b → w ≤ 64
     → ((v : ℕ) → v ≤ 64 → AreFit ds (leaves ds v e) → AreNarrow (leaves ds v e)) →
-        ((v : ℕ) → v ≤ 64 → AreFit ds (leaves_of_links ds v more) → AreNarrow (leaves_of_links ds v more))
+    ((v : ℕ) → v ≤ 64 → AreFit ds (leaves_of_links ds v more) → AreNarrow (leaves_of_links ds v more))
     → AreFit ds (leaves ds w (chain e more at)) → AreNarrow (leaves ds w (chain e more at))
 chain_narrow ds w e more at true is most first rest fit =
     let v = unwrap_or (side_width ds e more) 0 in
     let inner : AreFit ds (ChainLeaves ds v e more) = fit_rest ds (expect (chain e more at) w) (ChainLeaves ds v e more) (rw is at fit) in
     let bits : v ≤ 64 = side_most ds v e more inner in
     rw is (narrow_one (chain e more at) w (ChainLeaves ds v e more) most
-        (narrow_both (leaves ds v e) (leaves_of_links ds v more) (first v bits (fit_left ds (leaves ds v e) (leaves_of_links ds v more) inner))
-        (rest v bits (fit_right ds (leaves ds v e) (leaves_of_links ds v more) inner))))
+    (narrow_both (leaves ds v e) (leaves_of_links ds v more) (first v bits (fit_left ds (leaves ds v e) (leaves_of_links ds v more) inner))
+    (rest v bits (fit_right ds (leaves ds v e) (leaves_of_links ds v more) inner))))
 chain_narrow ds w e more at false is most first rest fit =
     let inner : AreFit ds (ChainLeaves ds w e more) = rw is at fit in
     rw is (narrow_both (leaves ds w e) (leaves_of_links ds w more) (first w most (fit_left ds (leaves ds w e) (leaves_of_links ds w more) inner))
-        (rest w most (fit_right ds (leaves ds w e) (leaves_of_links ds w more) inner)))
+    (rest w most (fit_right ds (leaves ds w e) (leaves_of_links ds w more) inner)))
 
 mutual
   leaves_narrow : (ds : List Decl) (w : ℕ) (e : Expression) → w ≤ 64 → AreFit ds (leaves ds w e) → AreNarrow (leaves ds w e)
@@ -202,13 +202,13 @@ mutual
       let w = unwrap_or (own_width ds e) 0 in
       let here = fit_left ds (leaves ds w e) (leaves_of_parts ds more) fit in
       narrow_both (leaves ds w e) (leaves_of_parts ds more) (leaves_narrow ds w e (or_zero_most (own_width ds e) (λ u h. own_most ds w e u here h)) here)
-          (parts_narrow ds more (fit_right ds (leaves ds w e) (leaves_of_parts ds more) fit))
+      (parts_narrow ds more (fit_right ds (leaves ds w e) (leaves_of_parts ds more) fit))
 
   links_narrow : (ds : List Decl) (w : ℕ) (more : Links) → w ≤ 64 → AreFit ds (leaves_of_links ds w more) → AreNarrow (leaves_of_links ds w more)
   links_narrow ds w no_links most fit = narrow_none
   links_narrow ds w (and_link op e more) most fit =
       narrow_both (leaves ds w e) (leaves_of_links ds w more) (leaves_narrow ds w e most (fit_left ds (leaves ds w e) (leaves_of_links ds w more) fit))
-          (links_narrow ds w more most (fit_right ds (leaves ds w e) (leaves_of_links ds w more) fit))
+      (links_narrow ds w more most (fit_right ds (leaves ds w e) (leaves_of_links ds w more) fit))
 
 mutual
   wanted_narrow : (ds : List Decl) → AreRanged ds → (s : Statement) → AreNarrow (expressions_in ds s)
@@ -231,14 +231,14 @@ mutual
   wanted_narrow_arms ds ranged no_arms = narrow_none
   wanted_narrow_arms ds ranged (and_arm g s more) =
       narrow_one g 1 (expressions_in ds s ++ expressions_in_arms ds more) (omega arith)
-          (narrow_both (expressions_in ds s) (expressions_in_arms ds more) (wanted_narrow ds ranged s) (wanted_narrow_arms ds ranged more))
+      (narrow_both (expressions_in ds s) (expressions_in_arms ds more) (wanted_narrow ds ranged s) (wanted_narrow_arms ds ranged more))
 
 all_narrow : (p : ProgramTree) → AreRanged p.decls → AreFit p.decls (all_leaves p) → AreNarrow (all_leaves p)
 all_narrow p ranged fit l c =
     let f = λ (x : Expected). leaves p.decls x.width x.expression in
     let e = in_flat_map f (expressions_in p.decls p.body) l c in
     leaves_narrow p.decls e.0.width e.0.expression (wanted_narrow p.decls ranged p.body e.0 e.1)
-        (λ k among. fit k (flat_map_in f (expressions_in p.decls p.body) e.0 k e.1 among)) l e.2
+    (λ k among. fit k (flat_map_in f (expressions_in p.decls p.body) e.0 k e.1 among)) l e.2
 
 -- a number that is too great
 
@@ -276,8 +276,13 @@ number_least p ranged fit =
     })
     (λ s h.
     let most = all_narrow p ranged fit (expect (number h.value s) h.width) h.among in
-    record { item = expect (number h.value s) h.width; among = h.among; passed = let same = capped_narrow h.width most in
-        rw same (le_test (2 ^ h.width) h.value h.wide); place = refl })
+    record {
+      item = expect (number h.value s) h.width;
+      among = h.among;
+      passed = let same = capped_narrow h.width most in
+          rw same (le_test (2 ^ h.width) h.value h.wide);
+      place = refl;
+    })
     (least_in is_wide_number place_of (all_leaves p))
 
 -- a first value that is too great
@@ -345,13 +350,13 @@ facts p double range f wide found = record {
   width = λ none good.
       let ranged = ranged_by p range found.ranges none in
       let slices = λ (x : Expression) (c : Contains (all_expressions p) x). none_pass (is_bad_part p.decls) span_of (all_expressions p)
-          (sym (ap (λ (g : Findings). g.slice) found.findings) ∙ good) x c in
+      (sym (ap (λ (g : Findings). g.slice) found.findings) ∙ good) x c in
       subst (λ (g : Findings). IsLeast (FaultAt p code.Width) (earlier_of g.leaf g.target)) (sym found.findings)
       (least_either (λ s. IsMisfitLeaf p s) (λ s. IsMisfitReceive p s) _ _ (leaf_least p ranged slices) (target_least p));
   constant = λ none fit.
       let ranged = ranged_by p range found.ranges none in
       let fits = λ (l : Expected) (c : Contains (all_leaves p) l). none_pass (is_misfit p.decls) place_of (all_leaves p)
-          (sym (ap (λ (g : Findings). g.leaf) found.findings) ∙ fit) l c in
+      (sym (ap (λ (g : Findings). g.leaf) found.findings) ∙ fit) l c in
       let first = subst (λ (o : Option Span). IsLeast (λ s. IsWideFirst p s) o) (sym found.firsts) (first_least p ranged) in
       subst (λ (g : Findings). IsLeast (FaultAt p code.ConstantTooWide) (earlier_of g.number wide)) (sym found.findings)
       (least_either (λ s. IsWideNumber p s) (λ s. IsWideFirst p s) _ _ (number_least p ranged fits) first);
@@ -388,22 +393,22 @@ pub judged : (p : ProgramTree) (double range : Option Span) (f : Findings) (wide
 judged p double range f wide c s found first =
     let known = facts p double range f wide found in
     first_cause p code.DoubleName from_range double _ c s (subst (λ (o : Option Span). IsLeast (FaultAt p code.DoubleName) o) (sym found.doubles)
-        (double_least p))
+    (double_least p))
     (λ none1 rest1. first_cause p code.WidthRange from_names range _ c s (subst (λ (o : Option Span). IsLeast (FaultAt p code.WidthRange) o) (sym found.ranges)
-        (range_least p))
+    (range_least p))
     (λ none2 rest2. first_cause p code.Undeclared from_kinds f.undeclared _ c s
-        (subst (λ (g : Findings). IsLeast (FaultAt p code.Undeclared) g.undeclared) (sym found.findings) (undeclared_least p))
+    (subst (λ (g : Findings). IsLeast (FaultAt p code.Undeclared) g.undeclared) (sym found.findings) (undeclared_least p))
     (λ none3 rest3. first_cause p code.WrongKind from_directions f.wrong_kind _ c s
-        (subst (λ (g : Findings). IsLeast (FaultAt p code.WrongKind) g.wrong_kind) (sym found.findings) (wrong_kind_least p))
+    (subst (λ (g : Findings). IsLeast (FaultAt p code.WrongKind) g.wrong_kind) (sym found.findings) (wrong_kind_least p))
     (λ none4 rest4. first_cause p code.Direction from_slices f.direction _ c s
-        (subst (λ (g : Findings). IsLeast (FaultAt p code.Direction) g.direction) (sym found.findings) (direction_least p))
+    (subst (λ (g : Findings). IsLeast (FaultAt p code.Direction) g.direction) (sym found.findings) (direction_least p))
     (λ none5 rest5. first_cause p code.BadSlice from_widthless f.slice _ c s
-        (subst (λ (g : Findings). IsLeast (FaultAt p code.BadSlice) g.slice) (sym found.findings) (slice_least p))
+    (subst (λ (g : Findings). IsLeast (FaultAt p code.BadSlice) g.slice) (sym found.findings) (slice_least p))
     (λ none6 rest6. first_cause p code.UnknownWidth from_widths f.widthless _ c s
-        (subst (λ (g : Findings). IsLeast (FaultAt p code.UnknownWidth) g.widthless) (sym found.findings) (widthless_least p))
+    (subst (λ (g : Findings). IsLeast (FaultAt p code.UnknownWidth) g.widthless) (sym found.findings) (widthless_least p))
     (λ none7 rest7. first_cause p code.Width from_constants (earlier_of f.leaf f.target) _ c s (known.width none2 none6)
     (λ none8 rest8. first_cause p code.ConstantTooWide [] (earlier_of f.number wide) _ c s (known.constant none2 (left_none f.leaf f.target none8))
-        (λ none9 rest9. absurd rest9) rest8)
+    (λ none9 rest9. absurd rest9) rest8)
     rest7)
     rest6)
     rest5)
@@ -443,8 +448,11 @@ unjudged p double range f wide found none =
                       (subst (λ (g : Findings). IsLeast (FaultAt p code.UnknownWidth) g.widthless) (sym found.findings) (widthless_least p)),
                   (
                     nowhere p code.Width (earlier_of f.leaf f.target) widths (known.width ranges slices),
-                    (nowhere p code.ConstantTooWide (earlier_of f.number wide) none.1.1.1.1.1.1.1.1.0
-                        (known.constant ranges (left_none f.leaf f.target widths)), tt),
+                    (
+                      nowhere p code.ConstantTooWide (earlier_of f.number wide) none.1.1.1.1.1.1.1.1.0
+                          (known.constant ranges (left_none f.leaf f.target widths)),
+                      tt,
+                    ),
                   ),
                 ),
               ),

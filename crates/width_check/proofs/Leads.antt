@@ -75,7 +75,7 @@ pub lead_rest : (ds : List Decl) (wanted : Option ℕ) (e : Expression) (more : 
 lead_rest ds wanted e more at lead own (inl h) owned = rw (h.3, h.2, h.1) refl
 lead_rest ds wanted e more at lead own (inr h) owned =
     ap (λ (o : Option ℕ). capped_width (unwrap_or o 0)) (rest_wanted ds e more lead own h.1 owned) ∙ capped_or (side_width ds e more)
-        ∙ sym (ap capped_width (of_sides ds wanted e more at h.0))
+    ∙ sym (ap capped_width (of_sides ds wanted e more at h.0))
 
 own_of : (ds : List Decl) (e : Expression) (more : Links) (at : Span) (b : Bool) → b ≡ compares more →
     (if b then Some 1 else option_map capped_width (side_width ds e more)) ≡ option_map capped_width (own_width ds (chain e more at))

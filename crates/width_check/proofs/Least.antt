@@ -53,16 +53,25 @@ no_later_chain s t u (inr a) (inr b) = inr (a.0 ∙ b.0, omega (arith, a.1, b.1)
 
 -- one more place
 pub least_more : (P : Span → Type 0) (o : Option Span) (t : Span) → IsLeast P o → IsLeast (λ s. P s ⊎ (s ≡ t)) (earlier o t)
-least_more P None t nowhere = record { there = inr refl; first =
-    λ s h. ⊎_elim (λ p. absurd (nowhere s p)) (λ (e : s ≡ t). subst (λ (u : Span). IsNoLater t u) (sym e) (no_later_self t)) h }
+least_more P None t nowhere = record {
+  there = inr refl;
+  first =
+      λ s h. ⊎_elim (λ p. absurd (nowhere s p)) (λ (e : s ≡ t). subst (λ (u : Span). IsNoLater t u) (sym e) (no_later_self t)) h;
+}
 least_more P (Some r) t first = by_order (is_earlier t r) refl
   where
     by_order : (b : Bool) → is_earlier t r ≡ b → IsLeast (λ s. P s ⊎ (s ≡ t)) (if b then Some t else Some r)
-    by_order true is = record { there = inr refl; first =
-        λ s h. ⊎_elim (λ p. no_later_chain t r s (no_later_than t r is) (first.first s p))
-        (λ (e : s ≡ t). subst (λ (u : Span). IsNoLater t u) (sym e) (no_later_self t)) h }
-    by_order false is = record { there = inl first.there; first =
-        λ s h. ⊎_elim (λ p. first.first s p) (λ (e : s ≡ t). subst (λ (u : Span). IsNoLater r u) (sym e) (no_earlier_than t r is)) h }
+    by_order true is = record {
+      there = inr refl;
+      first =
+          λ s h. ⊎_elim (λ p. no_later_chain t r s (no_later_than t r is) (first.first s p))
+          (λ (e : s ≡ t). subst (λ (u : Span). IsNoLater t u) (sym e) (no_later_self t)) h;
+    }
+    by_order false is = record {
+      there = inl first.there;
+      first =
+          λ s h. ⊎_elim (λ p. first.first s p) (λ (e : s ≡ t). subst (λ (u : Span). IsNoLater r u) (sym e) (no_earlier_than t r is)) h;
+    }
 
 -- the same places
 pub least_same : (P Q : Span → Type 0) (o : Option Span) → ((s : Span) → P s → Q s) → ((s : Span) → Q s → P s) → IsLeast P o → IsLeast Q o
@@ -94,7 +103,7 @@ passes_front : {X : Type 0} {test : X → Bool} {at : X → Span} (x : X) (xs : 
     ((test x ≡ true) × (s ≡ at x)) ⊎ Passes test at xs s
 passes_front {X} {test} {at} x xs s h =
     ⊎_elim (λ (e : x ≡ h.item). inl (subst (λ (y : X). (test y ≡ true) × (s ≡ at y)) (sym e) (h.passed, h.place)))
-        (λ c. inr (record { item = h.item; among = c; passed = h.passed; place = h.place })) (front_or_rest x h.item xs h.among)
+    (λ c. inr (record { item = h.item; among = c; passed = h.passed; place = h.place })) (front_or_rest x h.item xs h.among)
 
 pub least_of : {X : Type 0} (test : X → Bool) (at : X → Span) (P : Span → Type 0) (o : Option Span) (xs : List X) → IsLeast P o →
     IsLeast (λ s. P s ⊎ Passes test at xs s) (first_of test at o xs)
@@ -107,7 +116,7 @@ least_of {X} test at P o (x ∷ xs) least = by_test (test x) refl (λ q Q first.
     by_test true is rest =
         least_same (λ s. (P s ⊎ (s ≡ at x)) ⊎ Passes test at xs s) (λ s. P s ⊎ Passes test at (x ∷ xs) s) (first_of test at (earlier o (at x)) xs)
         (λ s h. ⊎_elim (λ k. ⊎_elim (λ p. inl p) (λ (e : s ≡ at x). inr (record { item = x; among = in_front x xs; passed = is; place = e })) k)
-            (λ q. inr (passes_rest x xs s q)) h)
+        (λ q. inr (passes_rest x xs s q)) h)
         (λ s h. ⊎_elim (λ p. inl (inl p)) (λ q. ⊎_elim (λ e. inl (inr e.1)) (λ r. inr r) (passes_front x xs s q)) h)
         (rest (earlier o (at x)) (λ s. P s ⊎ (s ≡ at x)) (least_more P o (at x) least))
     by_test false is rest =

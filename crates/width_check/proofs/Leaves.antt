@@ -23,8 +23,11 @@ pub record IsLeafOf (es : List Expression) (l : Expected) : Type 0 where
   pub leaf : is_leaf l.expression ≡ true
 
 alone : (e : Expression) (w : ℕ) (l : Expected) → is_leaf e ≡ true → Contains (expect e w ∷ []) l → IsLeafOf (e ∷ []) l
-alone e w l leaf c = ⊎_elim (λ (same : expect e w ≡ l). subst (λ (x : Expected). IsLeafOf (e ∷ []) x) same (record { among = (0, omega arith, refl); leaf =
-    leaf })) (λ r. absurd (no_item l r)) (front_or_rest (expect e w) l [] c)
+alone e w l leaf c = ⊎_elim (λ (same : expect e w ≡ l). subst (λ (x : Expected). IsLeafOf (e ∷ []) x) same (record {
+  among = (0, omega arith, refl);
+  leaf =
+      leaf;
+})) (λ r. absurd (no_item l r)) (front_or_rest (expect e w) l [] c)
 
 wider : (es fs : List Expression) (l : Expected) → ((x : Expression) → Contains es x → Contains fs x) → IsLeafOf es l → IsLeafOf fs l
 wider es fs l move h = record { among = move l.expression h.among; leaf = h.leaf }
@@ -41,9 +44,9 @@ chain_leaf decls w e more at l b is first rest c = by_test b is (rw is at c)
     both v among =
         ⊎_elim
         (λ here. wider (inside e) (inside (chain e more at)) l
-            (λ x k. in_rest (chain e more at) x (inside e ++ inside_links more) (Contains-append_left (inside e) (inside_links more) x k)) (first v here))
+        (λ x k. in_rest (chain e more at) x (inside e ++ inside_links more) (Contains-append_left (inside e) (inside_links more) x k)) (first v here))
         (λ there. wider (inside_links more) (inside (chain e more at)) l
-            (λ x k. in_rest (chain e more at) x (inside e ++ inside_links more) (Contains-append_right (inside e) (inside_links more) x k)) (rest v there))
+        (λ x k. in_rest (chain e more at) x (inside e ++ inside_links more) (Contains-append_right (inside e) (inside_links more) x k)) (rest v there))
         (Contains-append_cases (leaves decls v e) (leaves_of_links decls v more) l among)
 
     by_test : (d : Bool) → compares more ≡ d →
@@ -62,8 +65,8 @@ mutual
   leaf_inside decls w (bit of place at) l c = alone (bit of place at) w l refl c
   leaf_inside decls w (join parts at) l c =
       ⊎_elim (λ same. front_leaf (join parts at) w l (inside_parts parts) refl same)
-          (λ k. wider (inside_parts parts) (inside (join parts at)) l (λ x m. in_rest (join parts at) x (inside_parts parts) m)
-          (part_leaf_inside decls parts l k)) (front_or_rest (expect (join parts at) w) l (leaves_of_parts decls parts) c)
+      (λ k. wider (inside_parts parts) (inside (join parts at)) l (λ x m. in_rest (join parts at) x (inside_parts parts) m)
+      (part_leaf_inside decls parts l k)) (front_or_rest (expect (join parts at) w) l (leaves_of_parts decls parts) c)
   leaf_inside decls w (negation e at) l c =
       wider (inside e) (inside (negation e at)) l (λ x m. in_rest (negation e at) x (inside e) m) (leaf_inside decls w e l c)
   leaf_inside decls w (chain e more at) l c =
@@ -74,9 +77,9 @@ mutual
   part_leaf_inside decls (and_part e more) l c =
       ⊎_elim
       (λ here. wider (inside e) (inside_parts (and_part e more)) l (λ x k. Contains-append_left (inside e) (inside_parts more) x k)
-          (leaf_inside decls (unwrap_or (own_width decls e) 0) e l here))
+      (leaf_inside decls (unwrap_or (own_width decls e) 0) e l here))
       (λ there. wider (inside_parts more) (inside_parts (and_part e more)) l (λ x k. Contains-append_right (inside e) (inside_parts more) x k)
-          (part_leaf_inside decls more l there))
+      (part_leaf_inside decls more l there))
       (Contains-append_cases (leaves decls (unwrap_or (own_width decls e) 0) e) (leaves_of_parts decls more) l c)
 
   link_leaf_inside : (decls : List Decl) (w : ℕ) (more : Links) (l : Expected) → Contains (leaves_of_links decls w more) l → IsLeafOf (inside_links more) l
@@ -84,16 +87,16 @@ mutual
   link_leaf_inside decls w (and_link op e more) l c =
       ⊎_elim
       (λ here. wider (inside e) (inside_links (and_link op e more)) l (λ x k. Contains-append_left (inside e) (inside_links more) x k)
-          (leaf_inside decls w e l here))
+      (leaf_inside decls w e l here))
       (λ there. wider (inside_links more) (inside_links (and_link op e more)) l (λ x k. Contains-append_right (inside e) (inside_links more) x k)
-          (link_leaf_inside decls w more l there))
+      (link_leaf_inside decls w more l there))
       (Contains-append_cases (leaves decls w e) (leaves_of_links decls w more) l c)
 
 pub leaf_of_program : (p : ProgramTree) (l : Expected) → Contains (all_leaves p) l → IsLeafOf (all_expressions p) l
 leaf_of_program p l c =
     let e = in_flat_map (λ (x : Expected). leaves p.decls x.width x.expression) (expressions_in p.decls p.body) l c in
     wider (inside e.0.expression) (all_expressions p) l (λ x k. flat_map_in (λ (y : Expected). inside y.expression) (expressions_in p.decls p.body) e.0 x e.1 k)
-        (leaf_inside p.decls e.0.width e.0.expression l e.2)
+    (leaf_inside p.decls e.0.width e.0.expression l e.2)
 
 -- declared widths
 
@@ -142,7 +145,7 @@ wide_leaf ds ranged (whole of) v leaf good is wide = absurd (let e : declared_wi
     omega arith)
 wide_leaf ds ranged (slice of high low at) v leaf good is wide =
     absurd (let e : high + 1 - low ≡ v = cc is in let most = declared_most ds ranged of.name in let bits =
-        good_slice (declared_width ds of.name) high low good in omega (arith, bits.0, bits.1))
+    good_slice (declared_width ds of.name) high low good in omega (arith, bits.0, bits.1))
 wide_leaf ds ranged (bit of place at) v leaf good is wide = absurd (let e : 1 ≡ v = cc is in omega arith)
 wide_leaf ds ranged (join parts at) v leaf good is wide = let e : own_widths ds parts ≡ v = cc is in omega (arith, e)
 wide_leaf ds ranged (negation e at) v leaf good is wide = absurd (cc leaf)

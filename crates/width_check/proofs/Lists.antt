@@ -49,7 +49,8 @@ links_end ls i all = ap links_of (drop_all i ls all)
 
 pub members_more : (ss : List Stmt) (i : ℕ) (s : Stmt) → i < length ss → s ≡ get_or ss i s →
     statements_in (drop i ss) ≡ and_member (statement_of s) (statements_in (drop (i + 1) ss))
-members_more ss i s within is = ap statements_in (drop_more ss i s within) ∙ ap (λ (x : Stmt). and_member (statement_of x) (statements_in (drop (i + 1) ss))) (sym is)
+members_more ss i s within is = ap statements_in (drop_more ss i s within) ∙ ap (λ (x : Stmt). and_member (statement_of x) (statements_in (drop (i + 1) ss)))
+    (sym is)
 
 pub members_end : (ss : List Stmt) (i : ℕ) → length ss ≤ i → statements_in (drop i ss) ≡ no_members
 members_end ss i all = ap statements_in (drop_all i ss all)

@@ -41,7 +41,8 @@ join_whole decls e v at es i n is same all so_far most =
 
 -- one part more in a sum that is taken to the end
 pub part_summed : (decls : List Decl) (es : List Expr) (i : ℕ) (part : Expr) (n u r whole : ℕ) (o : Option ℕ) → i < length es → part ≡ get_or es i part →
-    capped_width (n + own_widths decls (join_parts (drop i es))) ≡ whole → o ≡ option_map capped_width (own_width decls (expression_of part)) → u ≡ unwrap_or o 0 →
+    capped_width (n + own_widths decls (join_parts (drop i es))) ≡ whole → o ≡ option_map capped_width (own_width decls (expression_of part)) →
+    u ≡ unwrap_or o 0 →
     r ≡ capped_width (n + u) → capped_width (r + own_widths decls (join_parts (drop (i + 1) es))) ≡ whole
 part_summed decls es i part n u r whole o within here so_far own unwrapped new =
     let begun = ap (λ ps. capped_width (n + own_widths decls ps)) (sym (parts_more es i part within here)) ∙ so_far in
@@ -50,9 +51,11 @@ part_summed decls es i part n u r whole o within here so_far own unwrapped new =
 sum_all : (decls : List Decl) (n whole : ℕ) → capped_width (n + own_widths decls no_parts) ≡ whole → n ≤ 65 → n ≡ whole
 sum_all decls n whole so_far most = grind arith
 
-pub sum_done : (decls : List Decl) (es : List Expr) (i n whole : ℕ) → length es ≤ i → capped_width (n + own_widths decls (join_parts (drop i es))) ≡ whole → n ≤ 65 →
+pub sum_done : (decls : List Decl) (es : List Expr) (i n whole : ℕ) → length es ≤ i → capped_width (n + own_widths decls (join_parts (drop i es))) ≡ whole →
+    n ≤ 65 →
     n ≡ whole
-sum_done decls es i n whole over so_far most = sum_all decls n whole (ap (λ ps. capped_width (n + own_widths decls ps)) (sym (parts_end es i over)) ∙ so_far) most
+sum_done decls es i n whole over so_far most =
+    sum_all decls n whole (ap (λ ps. capped_width (n + own_widths decls ps)) (sym (parts_end es i over)) ∙ so_far) most
 
 pub join_own : (decls : List Decl) (e : Expr) (v : Vec Expr Global) (at : Span) (es : List Expr) (n : ℕ) → e ≡ Join v at → es ≡ v.items →
     n ≡ capped_width (own_widths decls (join_parts es)) → Some n ≡ option_map capped_width (own_width decls (expression_of e))
@@ -68,7 +71,7 @@ pub comparison_one : (decls : List Decl) (e : Expr) (first : Box Expr Global) (v
     ls ≡ v.items → compares (links_of ls) ≡ true → Some 1 ≡ option_map capped_width (own_width decls (expression_of e))
 comparison_one decls e first v at ls is same compared =
     sym (ap (λ x. option_map capped_width (own_width decls x)) (chain_of e first v at ls is same)
-        ∙ ap (option_map capped_width) (own_of_comparison decls (expression_of first.value) (links_of ls) at compared))
+    ∙ ap (option_map capped_width) (own_of_comparison decls (expression_of first.value) (links_of ls) at compared))
 
 -- a chain that doesn't compare has the width of its sides
 chain_side : (decls : List Decl) (e : Expr) (first : Box Expr Global) (v : Vec Link Global) (at : Span) (ls : List Link) → e ≡ Chain first v at → ls ≡ v.items →
@@ -76,7 +79,7 @@ chain_side : (decls : List Decl) (e : Expr) (first : Box Expr Global) (v : Vec L
     option_map capped_width (side_width decls (expression_of first.value) (links_of ls))
 chain_side decls e first v at ls is same not_compared =
     ap (λ x. option_map capped_width (own_width decls x)) (chain_of e first v at ls is same)
-        ∙ ap (option_map capped_width) (own_of_chain decls (expression_of first.value) (links_of ls) at not_compared)
+    ∙ ap (option_map capped_width) (own_of_chain decls (expression_of first.value) (links_of ls) at not_compared)
 
 pub chain_left : (decls : List Decl) (e : Expr) (first : Box Expr Global) (v : Vec Link Global) (at : Span) (ls : List Link) (w : ℕ) → e ≡ Chain first v at →
     ls ≡ v.items → compares (links_of ls) ≡ false → Some w ≡ option_map capped_width (own_width decls (expression_of first.value)) →
@@ -93,8 +96,8 @@ chain_link decls e first v at all ls i l w is same here not_compared none within
     let same_links : ls ≡ all = here ∙ sym same in
     let begun = ap (λ us. option_map capped_width (first_width decls us)) (sym (links_more ls i l within at_i)) ∙ so_far in
     link_first decls l.op (expression_of l.right) (links_of (drop (i + 1) ls)) w _ begun found
-        ∙ ap (λ us. option_map capped_width (first_width decls (links_of us))) same_links ∙ left_none decls (expression_of first.value) (links_of all) none
-        ∙ sym (chain_side decls e first v at all is same not_compared)
+    ∙ ap (λ us. option_map capped_width (first_width decls (links_of us))) same_links ∙ left_none decls (expression_of first.value) (links_of all) none
+    ∙ sym (chain_side decls e first v at all is same not_compared)
 
 pub chain_none : (decls : List Decl) (e : Expr) (first : Box Expr Global) (v : Vec Link Global) (at : Span) (all ls : List Link) (i : ℕ) →
     e ≡ Chain first v at → all ≡ v.items → ls ≡ v.items → compares (links_of all) ≡ false →
@@ -103,10 +106,11 @@ pub chain_none : (decls : List Decl) (e : Expr) (first : Box Expr Global) (v : V
     None ≡ option_map capped_width (own_width decls (expression_of e))
 chain_none decls e first v at all ls i is same here not_compared none over so_far =
     let same_links : ls ≡ all = here ∙ sym same in
-    let done : None ≡ option_map capped_width (first_width decls (links_of ls)) = ap (λ us. option_map capped_width (first_width decls us)) (sym (links_end ls i over))
-        ∙ so_far in
+    let done : None ≡ option_map capped_width (first_width decls (links_of ls)) =
+    ap (λ us. option_map capped_width (first_width decls us)) (sym (links_end ls i over))
+    ∙ so_far in
     done ∙ ap (λ us. option_map capped_width (first_width decls (links_of us))) same_links ∙ left_none decls (expression_of first.value) (links_of all) none
-        ∙ sym (chain_side decls e first v at all is same not_compared)
+    ∙ sym (chain_side decls e first v at all is same not_compared)
 
 -- expressions that are made of numbers alone
 
@@ -114,14 +118,14 @@ pub widthless_comparison : (decls : List Decl) (e : Expr) (first : Box Expr Glob
     ls ≡ v.items → compares (links_of ls) ≡ true → false ≡ is_none (own_width decls (expression_of e))
 widthless_comparison decls e first v at ls is same compared =
     sym (ap (λ x. is_none (own_width decls x)) (chain_of e first v at ls is same)
-        ∙ ap (λ (o : Option ℕ). is_none o) (own_of_comparison decls (expression_of first.value) (links_of ls) at compared))
+    ∙ ap (λ (o : Option ℕ). is_none o) (own_of_comparison decls (expression_of first.value) (links_of ls) at compared))
 
 none_of_chain : (decls : List Decl) (e : Expr) (first : Box Expr Global) (v : Vec Link Global) (at : Span) (ls : List Link) → e ≡ Chain first v at →
     ls ≡ v.items → compares (links_of ls) ≡ false →
     is_none (own_width decls (expression_of e)) ≡ is_none (side_width decls (expression_of first.value) (links_of ls))
 none_of_chain decls e first v at ls is same not_compared =
     ap (λ x. is_none (own_width decls x)) (chain_of e first v at ls is same)
-        ∙ ap (λ (o : Option ℕ). is_none o) (own_of_chain decls (expression_of first.value) (links_of ls) at not_compared)
+    ∙ ap (λ (o : Option ℕ). is_none o) (own_of_chain decls (expression_of first.value) (links_of ls) at not_compared)
 
 none_first : (o p : Option ℕ) → false ≡ is_none o → false ≡ is_none (or_width o p)
 none_first None p h = absurd (cc h)
@@ -139,9 +143,9 @@ widthless_link decls e first v at all ls i l is same here not_compared none with
     let same_links : ls ≡ all = here ∙ sym same in
     let begun = ap (λ us. is_none (first_width decls us)) (sym (links_more ls i l within at_i)) ∙ so_far in
     let later : false ≡ is_none (first_width decls (links_of ls)) =
-        none_first (own_width decls (expression_of l.right)) (first_width decls (links_of (drop (i + 1) ls))) found ∙ begun in
+    none_first (own_width decls (expression_of l.right)) (first_width decls (links_of (drop (i + 1) ls))) found ∙ begun in
     none_later (own_width decls (expression_of first.value)) (first_width decls (links_of all)) false none (later
-        ∙ ap (λ us. is_none (first_width decls (links_of us))) same_links) ∙ sym (none_of_chain decls e first v at all is same not_compared)
+    ∙ ap (λ us. is_none (first_width decls (links_of us))) same_links) ∙ sym (none_of_chain decls e first v at all is same not_compared)
 
 pub widthless_all : (decls : List Decl) (e : Expr) (first : Box Expr Global) (v : Vec Link Global) (at : Span) (all ls : List Link) (i : ℕ) →
     e ≡ Chain first v at → all ≡ v.items → ls ≡ v.items → compares (links_of all) ≡ false → true ≡ is_none (own_width decls (expression_of first.value)) →
@@ -151,4 +155,4 @@ widthless_all decls e first v at all ls i is same here not_compared none over so
     let same_links : ls ≡ all = here ∙ sym same in
     let later : true ≡ is_none (first_width decls (links_of ls)) = ap (λ us. is_none (first_width decls us)) (sym (links_end ls i over)) ∙ so_far in
     none_later (own_width decls (expression_of first.value)) (first_width decls (links_of all)) true none (later
-        ∙ ap (λ us. is_none (first_width decls (links_of us))) same_links) ∙ sym (none_of_chain decls e first v at all is same not_compared)
+    ∙ ap (λ us. is_none (first_width decls (links_of us))) same_links) ∙ sym (none_of_chain decls e first v at all is same not_compared)

@@ -57,11 +57,16 @@ pub parts_next : (ds : List Decl) (es : List Expr) (i : ℕ) (e : Expr) → i < 
     ArePartsLeft ds (join_parts (drop (i + 1) es))
 parts_next ds es i e within is left =
     let here = parts_here ds es i e within is left in
-    record { shaped = here.shaped.1; full = parts_full ds (expression_of e) (join_parts (drop (i + 1) es)) here.full; sound =
-        sound_parts ds (expression_of e) (join_parts (drop (i + 1) es)) here.sound }
+    record {
+      shaped = here.shaped.1;
+      full = parts_full ds (expression_of e) (join_parts (drop (i + 1) es)) here.full;
+      sound =
+          sound_parts ds (expression_of e) (join_parts (drop (i + 1) es)) here.sound;
+    }
 
 own_of : (o own : Option ℕ) (v w : ℕ) → own ≡ Some v → v ≤ 64 → o ≡ option_map capped_width own → w ≡ unwrap_or o 0 → w ≡ v
-own_of o own v w is most found wanted = let same : w ≡ capped_width v = wanted ∙ ap (λ (p : Option ℕ). unwrap_or p 0) (found ∙ ap (option_map capped_width) is) in
+own_of o own v w is most found wanted = let same : w ≡ capped_width v =
+    wanted ∙ ap (λ (p : Option ℕ). unwrap_or p 0) (found ∙ ap (option_map capped_width) is) in
     grind arith
 
 pub part_ready : (ds : List Decl) → AreRanged ds → (es : List Expr) (i : ℕ) (e : Expr) (o : Option ℕ) (w : ℕ) → i < length es → e ≡ get_or es i e →
@@ -82,7 +87,7 @@ pub part_made : (ds : List Decl) → AreRanged ds →
     (es : List Expr) (i : ℕ) (e : Expr) (o : Option ℕ) (w : ℕ) (made new : List TExpr) (t : TExpr) (total : Formulas) → i < length es → e ≡ get_or es i e →
     ArePartsLeft ds (join_parts (drop i es)) → o ≡ option_map capped_width (own_width ds (expression_of e)) → w ≡ unwrap_or o 0
     → formula_of t ≡ formula_form ds w (expression_of e) → new ≡ made ++ t ∷ [] → before_parts made (parts_form ds (join_parts (drop i es))) ≡ total →
-        before_parts new (parts_form ds (join_parts (drop (i + 1) es))) ≡ total
+    before_parts new (parts_form ds (join_parts (drop (i + 1) es))) ≡ total
 part_made ds ranged es i e o w made new t total within is left found wanted is_made pushed so_far =
     let here = parts_here ds es i e within is left in
     let own = part_width ds ranged (expression_of e) (join_parts (drop (i + 1) es)) here.shaped.0 here.full here.sound in
@@ -91,7 +96,7 @@ part_made ds ranged es i e o w made new t total within is left found wanted is_m
     let rest = parts_form ds (join_parts (drop (i + 1) es)) in
     let begun = ap (λ (ps : Expressions). before_parts made (parts_form ds ps)) (sym (parts_more es i e within is)) ∙ so_far in
     ap (λ (ts : List TExpr). before_parts ts rest) pushed ∙ one_part made t rest
-        ∙ ap (λ (f : Formula). before_parts made (typed.and_part f rest)) (is_made ∙ ap (λ (u : ℕ). formula_form ds u (expression_of e)) (sym zero)) ∙ begun
+    ∙ ap (λ (f : Formula). before_parts made (typed.and_part f rest)) (is_made ∙ ap (λ (u : ℕ). formula_form ds u (expression_of e)) (sym zero)) ∙ begun
 
 pub join_made : (ds : List Decl) (w : ℕ) (e : Expr) (v : Vec Expr Global) (at : Span) (es : List Expr) (i : ℕ) (t : Vec TExpr Global) → e ≡ Join v at →
     es ≡ v.items → length es ≤ i → before_parts t.items (parts_form ds (join_parts (drop i es))) ≡ parts_form ds (join_parts es) →
@@ -125,7 +130,7 @@ first_ready ds w e first v at ls f is same here plain some most shaped sound =
     let shape = subst (λ (x : Expression). IsShapedExpression x) tree shaped in
     let s = subst (λ (x : Expression). IsSound ds (met_in ds w x)) tree sound in
     let front = subst (λ (u : ℕ). IsSound ds (met_in ds u (expression_of first.value))) (plain_wanted ds w (expression_of first.value) (links_of ls) plain)
-        (sound_first ds w (expression_of first.value) (links_of ls) at s) in
+    (sound_first ds w (expression_of first.value) (links_of ls) at s) in
     subst (λ (x : Expr). IsReady ds w (expression_of x)) (sym here) (record { some = some; most = most; shaped = shape.2; sound = front })
 
 pub links_left : (ds : List Decl) (w : ℕ) (e : Expr) (first : Box Expr Global) (v : Vec Link Global) (at : Span) (all ls : List Link) → e ≡ Chain first v at →
@@ -165,7 +170,7 @@ link_made ds w ls i l made new t total within is is_made pushed so_far =
     let rest = operations_form ds w (links_of (drop (i + 1) ls)) in
     let begun = ap (λ (us : Links). before_links made (operations_form ds w us)) (sym (links_more ls i l within is)) ∙ so_far in
     ap (λ (ts : List TLink). before_links ts rest) pushed ∙ one_link made (record { op = l.op; right = t }) rest
-        ∙ ap (λ (f : Formula). before_links made (typed.and_operation l.op f rest)) is_made ∙ begun
+    ∙ ap (λ (f : Formula). before_links made (typed.and_operation l.op f rest)) is_made ∙ begun
 
 plain_form : (ds : List Decl) (w : ℕ) (e : Expression) (more : Links) (at : Span) → compares more ≡ false →
     formula_form ds w (chain e more at) ≡ chained (formula_form ds w e) (operations_form ds w more)
@@ -175,7 +180,7 @@ pub chain_made : (ds : List Decl) (w : ℕ) (e : Expr) (first : Box Expr Global)
     (front : Box TExpr Global) (t : Vec TLink Global) → e ≡ Chain first v at → all ≡ v.items → ls ≡ v.items → compares (links_of all) ≡ false →
     f ≡ first.value → formula_of front.value ≡ formula_form ds w (expression_of f)
     → length ls ≤ i → before_links t.items (operations_form ds w (links_of (drop i ls))) ≡ operations_form ds w (links_of ls) →
-        formula_of (made.Chain front t) ≡ formula_form ds w (expression_of e)
+    formula_of (made.Chain front t) ≡ formula_form ds w (expression_of e)
 chain_made ds w e first v at all ls i f front t is whole same plain here is_front over so_far =
     let done = ap (λ (us : Links). before_links t.items (operations_form ds w us)) (sym (links_end ls i over)) ∙ so_far in
     let tree = the_chain e first v at ls is same in
@@ -220,14 +225,19 @@ comparison_ready ds ranged w e first v at l o u is so here shaped sound found wa
     let most : u ≤ 64 = omega (arith, side.1.most, same) in
     let links = one_more v.items l so here in
     let rest : IsSound ds (met_in_links ds u (and_link l.op (expression_of l.right) (links_of (drop 1 v.items)))) =
-        subst (λ (us : Links). IsSound ds (met_in_links ds u us)) links
-        (subst (λ (n : ℕ). IsSound ds (met_in_links ds n more)) wanted_is (sound_rest ds w f more at s)) in
+    subst (λ (us : Links). IsSound ds (met_in_links ds u us)) links
+    (subst (λ (n : ℕ). IsSound ds (met_in_links ds n more)) wanted_is (sound_rest ds w f more at s)) in
     let shapes : AreShapedLinks (and_link l.op (expression_of l.right) (links_of (drop 1 v.items))) = subst (λ (us : Links). AreShapedLinks us) links shape.3 in
     record {
       side = is_side;
       links = links;
-      left = record { some = some; most = most; shaped = shape.2; sound =
-          subst (λ (n : ℕ). IsSound ds (met_in ds n f)) wanted_is (sound_first ds w f more at s) };
+      left = record {
+        some = some;
+        most = most;
+        shaped = shape.2;
+        sound =
+            subst (λ (n : ℕ). IsSound ds (met_in ds n f)) wanted_is (sound_first ds w f more at s);
+      };
       right = record { some = some; most = most; shaped = shapes.0; sound = sound_link ds u l.op (expression_of l.right) (links_of (drop 1 v.items)) rest };
     }
 
@@ -241,5 +251,5 @@ pub comparison_made : (ds : List Decl) (w u : ℕ) (e : Expr) (first : Box Expr 
 comparison_made ds w u e first v at l x y is so facts left right =
     ap (λ (g : Formula). compared l.op g y) left ∙ ap (λ (g : Formula). compared l.op (formula_form ds u (expression_of first.value)) g) right
     ∙ sym (compared_form ds w u (expression_of first.value) l.op (expression_of l.right) (links_of (drop 1 v.items)) (links_of v.items) at so facts.side
-        facts.links)
+    facts.links)
     ∙ ap (formula_form ds w) (sym (chain_is e first v at is))

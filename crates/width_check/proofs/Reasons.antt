@@ -61,7 +61,7 @@ pub wrong_kind_least : (p : ProgramTree) → IsLeast (λ s. IsOfWrongKind p s) (
 wrong_kind_least p =
     least_same (λ s. Passes (has_wrong_kind p.decls) (λ (u : Use). u.at) (uses_in p.body) s) (λ s. IsOfWrongKind p s) _
     (λ s h. let w = wrong_of (declaration p.decls h.item.name) h.item.role h.passed in
-        record { usage = h.item; among = h.among; decl = w.0; declared = w.1; wrong = w.2; at = h.place })
+    record { usage = h.item; among = h.among; decl = w.0; declared = w.1; wrong = w.2; at = h.place })
     (λ s h. record { item = h.usage; among = h.among; passed = rw h.declared (is_differ (is_var h.decl.kind) (wants_var h.usage.role) h.wrong); place = h.at })
     (least_in (has_wrong_kind p.decls) (λ (u : Use). u.at) (uses_in p.body))
 
@@ -98,7 +98,7 @@ pub direction_least : (p : ProgramTree) → IsLeast (λ s. IsMisdirected p s) (f
 direction_least p =
     least_same (λ s. Passes (is_misdirected p.decls) (λ (u : Use). u.at) (uses_in p.body) s) (λ s. IsMisdirected p s) _
     (λ s h. let w = misdirected_of (declaration p.decls h.item.name) h.item.role h.passed in
-        record { usage = h.item; among = h.among; decl = w.0; declared = w.1; wrong = w.2; at = h.place })
+    record { usage = h.item; among = h.among; decl = w.0; declared = w.1; wrong = w.2; at = h.place })
     (λ s h. record { item = h.usage; among = h.among; passed = rw h.declared (is_against_of h.usage.role h.decl.kind h.wrong); place = h.at })
     (least_in (is_misdirected p.decls) (λ (u : Use). u.at) (uses_in p.body))
 
@@ -144,13 +144,13 @@ pub in_flat_map : {X A : Type 0} (f : X → List A) (xs : List X) (a : A) → Co
 in_flat_map f [] a c = absurd (no_item a c)
 in_flat_map f (x ∷ xs) a c =
     ⊎_elim (λ here. (x, (0, omega arith, refl), here)) (λ rest. let r = in_flat_map f xs a rest in
-        (r.0, in_rest x r.0 xs r.1, r.2)) (Contains-append_cases (f x) (flat_map f xs) a c)
+    (r.0, in_rest x r.0 xs r.1, r.2)) (Contains-append_cases (f x) (flat_map f xs) a c)
 
 pub flat_map_in : {X A : Type 0} (f : X → List A) (xs : List X) (x : X) (a : A) → Contains xs x → Contains (f x) a → Contains (flat_map f xs) a
 flat_map_in f [] x a c here = absurd (no_item x c)
 flat_map_in {X} {A} f (y ∷ ys) x a c here =
     ⊎_elim (λ (e : y ≡ x). Contains-append_left (f y) (flat_map f ys) a (subst (λ (z : X). Contains (f z) a) (sym e) here))
-        (λ rest. Contains-append_right (f y) (flat_map f ys) a (flat_map_in f ys x a rest here)) (front_or_rest y x ys c)
+    (λ rest. Contains-append_right (f y) (flat_map f ys) a (flat_map_in f ys x a rest here)) (front_or_rest y x ys c)
 
 some_not_none : {A : Type 0} (o : Option A) → is_none o ≡ true → o ≡ None
 some_not_none None h = refl
@@ -210,8 +210,12 @@ widthless_least p =
     (λ s h.
     let e = in_flat_map (lacking p.decls) (all_expressions p) h.item h.among in
     record { expression = e.0; among = e.1; lacks = subst (λ (t : Span). LacksWidth p.decls e.0 t) (sym h.place) (lacks_is p.decls e.0 h.item e.2) })
-    (λ s h. record { item = s; among = flat_map_in (lacking p.decls) (all_expressions p) h.expression s h.among (is_lacking p.decls h.expression s h.lacks);
-        passed = refl; place = refl })
+    (λ s h. record {
+      item = s;
+      among = flat_map_in (lacking p.decls) (all_expressions p) h.expression s h.among (is_lacking p.decls h.expression s h.lacks);
+      passed = refl;
+      place = refl;
+    })
     (least_in (λ (s : Span). true) (λ (s : Span). s) (flat_map (lacking p.decls) (all_expressions p)))
 
 -- the variable of a receive
@@ -226,10 +230,20 @@ pub target_least : (p : ProgramTree) → IsLeast (λ s. IsMisfitReceive p s)
     (first_of (is_misfit_target p.decls) (λ (r : Reception). r.target.at) None (receptions_in p.body))
 target_least p =
     least_same (λ s. Passes (is_misfit_target p.decls) (λ (r : Reception). r.target.at) (receptions_in p.body) s) (λ s. IsMisfitReceive p s) _
-    (λ s h. record { receive = h.item; among = h.among; misfit =
-        equal_not (declared_width p.decls h.item.target.name) (declared_width p.decls h.item.chan.name) h.passed; at = h.place })
-    (λ s h. record { item = h.receive; among = h.among; passed =
-        not_equal (declared_width p.decls h.receive.target.name) (declared_width p.decls h.receive.chan.name) h.misfit; place = h.at })
+    (λ s h. record {
+      receive = h.item;
+      among = h.among;
+      misfit =
+          equal_not (declared_width p.decls h.item.target.name) (declared_width p.decls h.item.chan.name) h.passed;
+      at = h.place;
+    })
+    (λ s h. record {
+      item = h.receive;
+      among = h.among;
+      passed =
+          not_equal (declared_width p.decls h.receive.target.name) (declared_width p.decls h.receive.chan.name) h.misfit;
+      place = h.at;
+    })
     (least_in (is_misfit_target p.decls) (λ (r : Reception). r.target.at) (receptions_in p.body))
 
 -- a declared width

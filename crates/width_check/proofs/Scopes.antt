@@ -63,7 +63,8 @@ pub part_sum : (decls : List Decl) (e : Expression) (more : Expressions) (n r wh
     capped_width (r + own_widths decls more) ≡ whole
 part_sum decls e more n r whole o so_far is new = step (own_width decls e) so_far is
   where
-    step : (w : Option ℕ) → capped_width (n + (unwrap_or w 0 + own_widths decls more)) ≡ whole → o ≡ option_map capped_width w → capped_width (r + own_widths decls more) ≡ whole
+    step : (w : Option ℕ) → capped_width (n + (unwrap_or w 0 + own_widths decls more)) ≡ whole → o ≡ option_map capped_width w →
+        capped_width (r + own_widths decls more) ≡ whole
     step None so is = rw (new, is) (grind arith)
     step (Some w) so is = rw (new, is) (grind arith)
 
@@ -92,7 +93,8 @@ pub left_none : (decls : List Decl) (e : Expression) (more : Links) → None ≡
     option_map capped_width (first_width decls more) ≡ option_map capped_width (side_width decls e more)
 left_none decls e more is = step (own_width decls e) is
   where
-    step : (o : Option ℕ) → None ≡ option_map capped_width o → option_map capped_width (first_width decls more) ≡ option_map capped_width (or_width o (first_width decls more))
+    step : (o : Option ℕ) → None ≡ option_map capped_width o →
+        option_map capped_width (first_width decls more) ≡ option_map capped_width (or_width o (first_width decls more))
     step None here = refl
     step (Some v) here = absurd (cc here)
 

@@ -57,8 +57,15 @@ same_place = record {
 
 -- [G -> x := 1 || R!x]
 in_selection : SharedAt (choosing false (and_choice (constant 1 1) (both (writes 5) (reads 8)) no_choices)) code.SharedVariable (place 5) (place 8)
-in_selection = record { a = write_first.a; b = write_first.b; parallel = inl write_first.parallel; clash = write_first.clash; at_first = write_first.at_first;
-    at_second = write_first.at_second; order = write_first.order }
+in_selection = record {
+  a = write_first.a;
+  b = write_first.b;
+  parallel = inl write_first.parallel;
+  clash = write_first.clash;
+  at_first = write_first.at_first;
+  at_second = write_first.at_second;
+  order = write_first.order;
+}
 
 -- x := 1 || [x -> skip]
 in_guard : SharedAt (both (writes 5) (choosing false (and_choice (reading 0 0 0 (place 8)) skipping no_choices))) code.SharedVariable (place 5) (place 8)
@@ -144,8 +151,12 @@ itself : (s t : Span) → t ≡ s → IsNoLater s t
 itself s t same = inr (ap (λ (u : Span). u.from) (sym same), let ends = ap (λ (u : Span). u.to) same in omega arith)
 
 sends_first : IsFirstShared two_sends code.SharedSend (place 3) (place 7)
-sends_first = record { shared = sends_at; least_second = λ s t h. itself (place 7) t (the_places s t h).1; least_first =
-    λ s h. itself (place 3) s (the_places s (place 7) h).0 }
+sends_first = record {
+  shared = sends_at;
+  least_second = λ s t h. itself (place 7) t (the_places s t h).1;
+  least_first =
+      λ s h. itself (place 3) s (the_places s (place 7) h).0;
+}
 
 sends_told : IsFirstSharedFault two_sends sharing_faults code.SharedSend (place 3) (place 7)
 sends_told = inr (no_variable, inl (refl, sends_first))

@@ -82,7 +82,7 @@ sound_members : (ds : List Decl) (w : ℕ) (e : Expression) (more : Links) (at :
 sound_members ds w e more at s =
     let v = wanted_of ds w e more in
     sound_right ds (met_chain w e more at) (met_both (met_in ds v e) (met_in_links ds v more))
-        (subst (λ (m : Met). IsSound ds m) (sym (chain_pieces ds w e more at (compares more) refl)) s)
+    (subst (λ (m : Met). IsSound ds m) (sym (chain_pieces ds w e more at (compares more) refl)) s)
 
 pub sound_first : (ds : List Decl) (w : ℕ) (e : Expression) (more : Links) (at : Span) → IsSound ds (met_in ds w (chain e more at)) →
     IsSound ds (met_in ds (wanted_of ds w e more) e)
@@ -194,11 +194,11 @@ mutual
   own_some ds ranged w (join parts at) v shaped s is =
       let e : own_widths ds parts ≡ v = cc is in
       let some = parts_some ds ranged parts shaped.0 shaped.1 (λ t. s.widths (join parts at) t (0, omega arith, refl)) (sound_join ds w parts at s) in
-          omega (arith, some)
+      omega (arith, some)
   own_some ds ranged w (negation e at) v shaped s is = own_some ds ranged w e v shaped (sound_inner ds w e at s) is
   own_some ds ranged w (chain e more at) v shaped s is =
       chain_own_some ds e more at v (compares more) refl (λ u h. own_some ds ranged (wanted_of ds w e more) e u shaped.2 (sound_first ds w e more at s) h)
-          (λ u h. first_some ds ranged (wanted_of ds w e more) more u shaped.3 (sound_rest ds w e more at s) h) is
+      (λ u h. first_some ds ranged (wanted_of ds w e more) more u shaped.3 (sound_rest ds w e more at s) h) is
 
   pub parts_some : (ds : List Decl) → AreRanged ds → (parts : Expressions) → 1 ≤ expression_count parts → AreShapedParts parts →
       ((s : Span) → ¬ Contains (lacking_parts ds parts) s) → IsSound ds (met_in_parts ds parts) → 1 ≤ own_widths ds parts
@@ -213,7 +213,7 @@ mutual
   first_some ds ranged w no_links v shaped s is = absurd (cc is)
   first_some ds ranged w (and_link op e more) v shaped s is =
       or_some (own_width ds e) (first_width ds more) v (λ u h. own_some ds ranged w e u shaped.0 (sound_link ds w op e more s) h)
-          (λ u h. first_some ds ranged w more u shaped.1 (sound_links ds w op e more s) h) is
+      (λ u h. first_some ds ranged w more u shaped.1 (sound_links ds w op e more s) h) is
 
 -- the width of a part
 pub record IsPartWidth (ds : List Decl) (e : Expression) (v : ℕ) : Type 0 where
@@ -225,9 +225,15 @@ pub part_width : (ds : List Decl) → AreRanged ds → (e : Expression) (more : 
     ((s : Span) → ¬ Contains (lacking_parts ds (and_part e more)) s) → IsSound ds (met_in_parts ds (and_part e more)) → (v : ℕ) × IsPartWidth ds e v
 part_width ds ranged e more shaped full s =
     let own = part_own ds e more full in
-    let here = sound_part ds e more s in
-    (own.0, record { own = own.1; some = own_some ds ranged (unwrap_or (own_width ds e) 0) e own.0 shaped here own.1; most =
-        own_most ds (unwrap_or (own_width ds e) 0) e own.0 here.leaves own.1 })
+    let here = sound_part ds e more s in (
+      own.0,
+      record {
+        own = own.1;
+        some = own_some ds ranged (unwrap_or (own_width ds e) 0) e own.0 shaped here own.1;
+        most =
+            own_most ds (unwrap_or (own_width ds e) 0) e own.0 here.leaves own.1;
+      },
+    )
 
 -- the width of both sides of a comparison
 pub record IsSideWidth (ds : List Decl) (e : Expression) (more : Links) (v : ℕ) : Type 0 where
@@ -324,14 +330,14 @@ chain_typed : (ds : List Decl) → AreRanged ds → (w : ℕ) (e : Expression) (
     → ((v : ℕ) → 1 ≤ v → v ≤ 64 → IsSound ds (met_in ds v e) → IsOfWidth (vars_of ds) v (formula_form ds v e))
     → ((v : ℕ) → 1 ≤ v → v ≤ 64 → some_compares more ≡ false → IsSound ds (met_in_links ds v more) → AreLinks (vars_of ds) v (operations_form ds v more))
     → ((v : ℕ) → 1 ≤ v → v ≤ 64 → IsSound ds (met_in_links ds v more) → (op : Op) (f : Expression) (rest : Links) → more ≡ and_link op f rest →
-        IsOfWidth (vars_of ds) v (formula_form ds v f))
+    IsOfWidth (vars_of ds) v (formula_form ds v f))
     → IsOfWidth (vars_of ds) w (formula_form ds w (chain e more at))
 chain_typed ds ranged w e more at some most shaped s true is first rest right =
     let side = side_width_of ds ranged w e more at is shaped s in
     let v = side.0 in
     let wanted : wanted_of ds w e more ≡ v = rw (is, side.1.side) refl in
     let one : 1 ≡ w = leaf_fits ds w 1 (chain e more at) (met_in ds w (chain e more at)) (leaves ds v e ++ leaves_of_links ds v more) s
-        (rw (is, side.1.side) refl) (rw is refl) in
+    (rw (is, side.1.side) refl) (rw is refl) in
     let here = subst (λ (u : ℕ). IsSound ds (met_in ds u e)) wanted (sound_first ds w e more at s) in
     let there = subst (λ (u : ℕ). IsSound ds (met_in_links ds u more)) wanted (sound_rest ds w e more at s) in
     one_typed ds w v e more at is (sym one) side.1.side (first v side.1.some side.1.most here) shaped.3 (right v side.1.some side.1.most there)
@@ -342,7 +348,7 @@ chain_typed ds ranged w e more at some most shaped s false is first rest right =
     let links = rest w some most (plain_links more is shaped.1) there in
     let count = operations_counted ds w more in
     rw is (chain_done (vars_of ds) w (formula_form ds w e) (operations_form ds w more)
-        (record { whole = λ done. links; rest = λ all. record { formed = tt; read = tt } }) (first w some most here) (omega (arith, shaped.0, count)))
+    (record { whole = λ done. links; rest = λ all. record { formed = tt; read = tt } }) (first w some most here) (omega (arith, shaped.0, count)))
 
 mutual
   pub expression_typed : (ds : List Decl) → AreRanged ds → (w : ℕ) (e : Expression) → 1 ≤ w → w ≤ 64 → IsShapedExpression e → IsSound ds (met_in ds w e) →
@@ -357,7 +363,7 @@ mutual
       let var = s.uses (use_of of read) (0, omega arith, refl) in
       let bits = good_slice (declared_width ds of.name) high low (s.parts (slice of high low at) (0, omega arith, refl)) in
       reading_of ds of high low w var bits.0 bits.1 ranged (leaf_fits ds w (high + 1 - low) (slice of high low at) (met_in ds w (slice of high low at)) [] s
-          refl refl)
+      refl refl)
   expression_typed ds ranged w (bit of place at) some most shaped s =
       let var = s.uses (use_of of read) (0, omega arith, refl) in
       let here = bit_within (declared_width ds of.name) place (s.parts (bit of place at) (0, omega arith, refl)) in
@@ -371,7 +377,7 @@ mutual
       inverted_over (vars_of ds) w (formula_form ds w e) (expression_typed ds ranged w e some most shaped (sound_inner ds w e at s))
   expression_typed ds ranged w (chain e more at) some most shaped s =
       chain_typed ds ranged w e more at some most shaped s (compares more) refl (λ v a b t. expression_typed ds ranged v e a b shaped.2 t)
-          (λ v a b plain t. links_typed ds ranged v more a b shaped.3 plain t) (λ v a b t. one_link_typed ds ranged v more a b shaped.3 t)
+      (λ v a b plain t. links_typed ds ranged v more a b shaped.3 plain t) (λ v a b t. one_link_typed ds ranged v more a b shaped.3 t)
 
   pub parts_typed : (ds : List Decl) → AreRanged ds → (parts : Expressions) → AreShapedParts parts → ((s : Span) → ¬ Contains (lacking_parts ds parts) s) →
       IsSound ds (met_in_parts ds parts) → AreJoined ds parts
@@ -384,8 +390,11 @@ mutual
       let most : unwrap_or (own_width ds e) 0 ≤ 64 = omega (arith, e_is, w.most) in
       let here = expression_typed ds ranged (unwrap_or (own_width ds e) 0) e some most shaped.0 (sound_part ds e more s) in
       let rest = parts_typed ds ranged more shaped.1 (parts_full ds e more full) (sound_parts ds e more s) in
-      record { over = record { formed = (here.formed, rest.over.formed); read = (here.reads, rest.over.read) }; sum = omega (arith, here.agrees, rest.sum);
-          count = ap suc rest.count }
+      record {
+        over = record { formed = (here.formed, rest.over.formed); read = (here.reads, rest.over.read) };
+        sum = omega (arith, here.agrees, rest.sum);
+        count = ap suc rest.count;
+      }
 
   pub links_typed : (ds : List Decl) → AreRanged ds → (w : ℕ) (more : Links) → 1 ≤ w → w ≤ 64 → AreShapedLinks more → some_compares more ≡ false →
       IsSound ds (met_in_links ds w more) → AreLinks (vars_of ds) w (operations_form ds w more)
@@ -402,4 +411,4 @@ mutual
   one_link_typed ds ranged w (and_link o g ls) some most shaped s op f rest is =
       let same : g ≡ f = cc is in
       subst (λ (x : Expression). IsOfWidth (vars_of ds) w (formula_form ds w x)) same
-          (expression_typed ds ranged w g some most shaped.0 (sound_link ds w o g ls s))
+      (expression_typed ds ranged w g some most shaped.0 (sound_link ds w o g ls s))

@@ -123,31 +123,31 @@ pub then_no : (channels : List Channel) (vars : List Var) (s : TStmt) (v : Vec T
     ¬ AreProcesses channels vars (members_of ss) → Decides false (IsProcess channels vars (process_of s))
 then_no channels vars s v ss is items wrong =
     same_answer false (IsProcess channels vars) _ (in_turn (members_of ss)) (then_is s v is ∙ ap (λ xs. in_turn (members_of xs)) (sym items))
-        (fails _ (λ whole. wrong whole.1))
+    (fails _ (λ whole. wrong whole.1))
 
 pub beside_no : (channels : List Channel) (vars : List Var) (s : TStmt) (v : Vec TStmt Global) (ss : List TStmt) → s ≡ Beside v → ss ≡ v.items →
     ¬ AreProcesses channels vars (members_of ss) → Decides false (IsProcess channels vars (process_of s))
 beside_no channels vars s v ss is items wrong =
     same_answer false (IsProcess channels vars) _ (side_by_side (members_of ss)) (beside_is s v is ∙ ap (λ xs. side_by_side (members_of xs)) (sym items))
-        (fails _ (λ whole. wrong whole.1))
+    (fails _ (λ whole. wrong whole.1))
 
 pub select_no : (channels : List Channel) (vars : List Var) (s : TStmt) (again : Bool) (v : Vec TArm Global) (arms : List TArm) → s ≡ Select again v →
     arms ≡ v.items → ¬ AreChoices channels vars (arms_of arms) → Decides false (IsProcess channels vars (process_of s))
 select_no channels vars s again v arms is items wrong =
     same_answer false (IsProcess channels vars) _ (choosing again (arms_of arms)) (select_is s again v is ∙ ap (λ xs. choosing again (arms_of xs)) (sym items))
-        (fails _ (λ whole. wrong whole.2))
+    (fails _ (λ whole. wrong whole.2))
 
 pub then_so : (channels : List Channel) (vars : List Var) (s : TStmt) (v : Vec TStmt Global) (ss : List TStmt) (r : Bool) → s ≡ Then v → ss ≡ v.items →
     AreProcesses channels vars (members_of ss) → Decides r (2 ≤ length ss) → Decides r (IsProcess channels vars (process_of s))
 then_so channels vars s v ss r is items all decides =
     same_answer r (IsProcess channels vars) _ (in_turn (members_of ss)) (then_is s v is ∙ ap (λ xs. in_turn (members_of xs)) (sym items))
-        (two r _ (subst (λ n. Decides r (2 ≤ n)) (sym (members_counted ss)) decides) _ all)
+    (two r _ (subst (λ n. Decides r (2 ≤ n)) (sym (members_counted ss)) decides) _ all)
 
 pub beside_so : (channels : List Channel) (vars : List Var) (s : TStmt) (v : Vec TStmt Global) (ss : List TStmt) (r : Bool) → s ≡ Beside v → ss ≡ v.items →
     AreProcesses channels vars (members_of ss) → Decides r (2 ≤ length ss) → Decides r (IsProcess channels vars (process_of s))
 beside_so channels vars s v ss r is items all decides =
     same_answer r (IsProcess channels vars) _ (side_by_side (members_of ss)) (beside_is s v is ∙ ap (λ xs. side_by_side (members_of xs)) (sym items))
-        (two r _ (subst (λ n. Decides r (2 ≤ n)) (sym (members_counted ss)) decides) _ all)
+    (two r _ (subst (λ n. Decides r (2 ≤ n)) (sym (members_counted ss)) decides) _ all)
 
 pub select_so : (channels : List Channel) (vars : List Var) (s : TStmt) (again : Bool) (v : Vec TArm Global) (arms : List TArm) (r : Bool) →
     s ≡ Select again v → arms ≡ v.items → AreChoices channels vars (arms_of arms) → Decides r ((1 ≤ length arms) × (length arms ≤ 16)) →
@@ -155,7 +155,7 @@ pub select_so : (channels : List Channel) (vars : List Var) (s : TStmt) (again :
 select_so channels vars s again v arms r is items all decides =
     let counted = subst (λ n. Decides r ((1 ≤ n) × (n ≤ 16))) (sym (arms_counted arms)) decides in
     same_answer r (IsProcess channels vars) _ (choosing again (arms_of arms)) (select_is s again v is ∙ ap (λ xs. choosing again (arms_of xs)) (sym items))
-        (λ so. let count = counted.0 so in (count.0, count.1, all), λ whole. counted.1 (whole.0, whole.1))
+    (λ so. let count = counted.0 so in (count.0, count.1, all), λ whole. counted.1 (whole.0, whole.1))
 
 pub at_least : (k r n : ℕ) → r ≡ n → Decides (leb k r) (k ≤ n)
 at_least k r n is = (λ so. let below = leb-true k r so in omega arith, λ below. le-leb k r (omega arith))
@@ -182,9 +182,10 @@ pub send_decided : (channels : List Channel) (vars : List Var) (c : ℕ) (channe
 send_decided channels vars c channel e r there is sends decides =
     let within = ltb-true c (length channels) (sym there) in
     let same = channel_found channels c channel within is in
-    let kind = kind_found channels c channel within is in
-    (λ so. record { within = within; direction = subst (λ k. k ≢ In) kind sends; sent = subst (λ n. IsOfWidth vars n e) same (decides.0 so) },
-        λ whole. decides.1 (subst (λ n. IsOfWidth vars n e) (sym same) whole.sent))
+    let kind = kind_found channels c channel within is in (
+      λ so. record { within = within; direction = subst (λ k. k ≢ In) kind sends; sent = subst (λ n. IsOfWidth vars n e) same (decides.0 so) },
+      λ whole. decides.1 (subst (λ n. IsOfWidth vars n e) (sym same) whole.sent),
+    )
 
 pub send_refused : (channels : List Channel) (vars : List Var) (c : ℕ) (channel : Channel) (e : Formula) (r : Bool) → true ≡ ltb c (length channels) →
     channel ≡ get_or channels c channel → Decides r (channel.kind ≢ In) → r ≡ false → Decides r (IsSend channels vars c e)
@@ -202,9 +203,10 @@ receive_decided channels vars c var channel v there is target declared receives 
     let wide = channel_found channels c channel within is in
     let same = var_found vars var v owned declared in
     let kind = kind_found channels c channel within is in
-    let test = Decides-eqb v.width channel.width in
-    (λ so. record { within = within; direction = subst (λ k. k ≢ Out) kind receives; target = owned; widths = sym same ∙ (test.0 so ∙ wide) },
-        λ whole. test.1 (same ∙ (whole.widths ∙ sym wide)))
+    let test = Decides-eqb v.width channel.width in (
+      λ so. record { within = within; direction = subst (λ k. k ≢ Out) kind receives; target = owned; widths = sym same ∙ (test.0 so ∙ wide) },
+      λ whole. test.1 (same ∙ (whole.widths ∙ sym wide)),
+    )
 
 pub receive_refused : (channels : List Channel) (vars : List Var) (c var : ℕ) (channel : Channel) (r : Bool) → true ≡ ltb c (length channels) →
     channel ≡ get_or channels c channel → Decides r (channel.kind ≢ Out) → r ≡ false → Decides r (IsReceive channels vars c var)

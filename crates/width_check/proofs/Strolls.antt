@@ -32,9 +32,9 @@ part_step ds es i e f g h total own place within is so_far found here new noted_
     let more = join_parts (drop (i + 1) es) in
     let begun = ap (noted_parts ds f) (sym (parts_more es i e within is)) ∙ so_far in
     let lacks : is_none own ≡ is_none (own_width ds (expression_of e)) =
-        ap (λ (o : Option ℕ). is_none o) found ∙ none_capped (own_width ds (expression_of e)) in
+    ap (λ (o : Option ℕ). is_none o) found ∙ none_capped (own_width ds (expression_of e)) in
     ap (λ (x : Findings). noted_parts ds x more) (noted_it ∙ ap (λ (b : Bool). with_part g b place) lacks
-        ∙ ap (λ (s : Span). with_part g (is_none (own_width ds (expression_of e))) s) here)
+    ∙ ap (λ (s : Span). with_part g (is_none (own_width ds (expression_of e))) s) here)
     ∙ parts_step ds f g total (expression_of e) more begun new
 
 pub part_done : (ds : List Decl) (e : Expr) (v : Vec Expr Global) (at : Span) (es : List Expr) (i : ℕ) (f g h : Findings) (n w : ℕ) (wanted : Option ℕ) →
@@ -57,7 +57,7 @@ pub link_step : (decls : List Decl) (w : ℕ) (ls : List Link) (i : ℕ) (l : Li
     noted decls g (met_in_links decls w (links_of (drop (i + 1) ls))) ≡ whole
 link_step decls w ls i l f g whole within is so_far new =
     noted_link decls f g whole w l.op (expression_of l.right) (links_of (drop (i + 1) ls))
-        (ap (λ us. noted decls f (met_in_links decls w us)) (sym (links_more ls i l within is)) ∙ so_far) new
+    (ap (λ us. noted decls f (met_in_links decls w us)) (sym (links_more ls i l within is)) ∙ so_far) new
 
 pub link_done : (ds : List Decl) (e : Expr) (first : Box Expr Global) (v : Vec Link Global) (at : Span) (a b : Expr) (k l m : List Link) (i : ℕ)
     (f g h r : Findings) (width : ℕ) (wanted own members : Option ℕ) (lead : Lead) (comparing : Bool) → e ≡ Chain first v at
@@ -65,10 +65,10 @@ pub link_done : (ds : List Decl) (e : Expr) (first : Box Expr Global) (v : Vec L
     → a ≡ first.value → l ≡ v.items → IsLeadTo ds wanted (expression_of a) (links_of l) lead
     → g ≡ (if comparing then with_leaf (with_part f (lacks lead) at) 1 (unwrap_or wanted 1) at else f)
     → b ≡ first.value → h ≡ noted ds g (met_in ds (own_or ds (known lead) (expression_of b)) (expression_of b)) →
-        (known lead ≡ None → own ≡ option_map capped_width (own_width ds (expression_of b)))
+    (known lead ≡ None → own ≡ option_map capped_width (own_width ds (expression_of b)))
     → members ≡ lead_width lead own → width ≡ unwrap_or members 0
     → m ≡ v.items → length m ≤ i → noted ds r (met_in_links ds width (links_of (drop i m))) ≡ noted ds h (met_in_links ds width (links_of m)) →
-        r ≡ noted ds f (met_in ds (own_or ds wanted (expression_of e)) (expression_of e))
+    r ≡ noted ds f (met_in ds (own_or ds wanted (expression_of e)) (expression_of e))
 link_done ds e first v at a b k l m i f g h r width wanted own members lead comparing is ek comp ea el leads node eb front owned member_width all em over so_far
     =
     let done : r ≡ noted ds h (met_in_links ds width (links_of m)) = ap (λ us. noted ds r (met_in_links ds width us)) (sym (links_end m i over)) ∙ so_far in
@@ -77,18 +77,19 @@ link_done ds e first v at a b k l m i f g h r width wanted own members lead comp
     let w = own_or ds wanted (chain x more at) in
     let comp' : comparing ≡ compares more = comp ∙ ap (λ (xs : List Link). compares (links_of xs)) ek in
     let leads' : IsLeadTo ds wanted x more lead =
-        subst (λ (xs : List Link). IsLeadTo ds wanted x (links_of xs) lead) el (subst (λ (y : Expr). IsLeadTo ds wanted (expression_of y) (links_of l) lead) ea
-        leads) in
+    subst (λ (xs : List Link). IsLeadTo ds wanted x (links_of xs) lead) el (subst (λ (y : Expr). IsLeadTo ds wanted (expression_of y) (links_of l) lead) ea
+    leads) in
     let front' : h ≡ noted ds g (met_in ds (own_or ds (known lead) x) x) =
-        front ∙ ap (λ (y : Expr). noted ds g (met_in ds (own_or ds (known lead) (expression_of y)) (expression_of y))) eb in
+    front ∙ ap (λ (y : Expr). noted ds g (met_in ds (own_or ds (known lead) (expression_of y)) (expression_of y))) eb in
     let owned' : known lead ≡ None → own ≡ option_map capped_width (own_width ds x) =
-        λ none. owned none ∙ ap (λ (y : Expr). option_map capped_width (own_width ds (expression_of y))) eb in
+    λ none. owned none ∙ ap (λ (y : Expr). option_map capped_width (own_width ds (expression_of y))) eb in
     let node' : g ≡ noted ds f (met_chain w x more at) = node ∙ chain_node ds f wanted x more at lead comparing comp' leads' in
     let same = lead_first ds wanted x more at lead leads' in
     let others = lead_rest ds wanted x more at lead own leads' owned' in
     done ∙ ap (λ (xs : List Link). noted ds h (met_in_links ds width (links_of xs))) em
-    ∙ noted_chain ds f g h w (own_or ds (known lead) x) width x more at same (ap capped_width (all ∙ ap (λ (o : Option ℕ). unwrap_or o 0) member_width) ∙ others)
-        node' front'
+    ∙ noted_chain ds f g h w (own_or ds (known lead) x) width x more at same (ap capped_width (all ∙ ap (λ (o : Option ℕ). unwrap_or o 0) member_width)
+    ∙ others)
+    node' front'
     ∙ ap (λ (y : Expression). noted ds f (met_in ds (own_or ds wanted y) y)) (sym (chain_is e first v at is))
 
 -- the own width of a chain, where none is wanted
@@ -102,10 +103,10 @@ chain_own ds e first v at a b k l wanted own members lead comparing is ek comp e
     let more = links_of v.items in
     let comp' : comparing ≡ compares more = comp ∙ ap (λ (xs : List Link). compares (links_of xs)) ek in
     let leads' : IsLeadTo ds wanted x more lead =
-        subst (λ (xs : List Link). IsLeadTo ds wanted x (links_of xs) lead) el (subst (λ (y : Expr). IsLeadTo ds wanted (expression_of y) (links_of l) lead) ea
-        leads) in
+    subst (λ (xs : List Link). IsLeadTo ds wanted x (links_of xs) lead) el (subst (λ (y : Expr). IsLeadTo ds wanted (expression_of y) (links_of l) lead) ea
+    leads) in
     let owned' : known lead ≡ None → own ≡ option_map capped_width (own_width ds x) =
-        λ n. owned n ∙ ap (λ (y : Expr). option_map capped_width (own_width ds (expression_of y))) eb in
+    λ n. owned n ∙ ap (λ (y : Expr). option_map capped_width (own_width ds (expression_of y))) eb in
     ap (λ (o : Option ℕ). let y : Option ℕ = if comparing then Some 1 else o in y) member_width
     ∙ lead_own ds wanted x more at lead own comparing comp' leads' owned' none
     ∙ sym (ap (λ (y : Expression). option_map capped_width (own_width ds y)) (chain_is e first v at is))
@@ -115,7 +116,7 @@ pub member_step : (decls : List Decl) (ss : List Stmt) (i : ℕ) (s : Stmt) (f g
     noted decls g (met_of_each decls (statements_in (drop (i + 1) ss))) ≡ whole
 member_step decls ss i s f g whole within is so_far new =
     noted_member decls f g whole (statement_of s) (statements_in (drop (i + 1) ss))
-        (ap (λ us. noted decls f (met_of_each decls us)) (sym (members_more ss i s within is)) ∙ so_far) new
+    (ap (λ us. noted decls f (met_of_each decls us)) (sym (members_more ss i s within is)) ∙ so_far) new
 
 members_done : (decls : List Decl) (ss : List Stmt) (i : ℕ) (f g : Findings) → length ss ≤ i →
     noted decls f (met_of_each decls (statements_in (drop i ss))) ≡ noted decls g (met_of_each decls (statements_in ss)) →
@@ -127,25 +128,25 @@ pub then_done : (decls : List Decl) (s : Stmt) (v : Vec Stmt Global) (ss : List 
     f ≡ noted decls g (met_of decls (statement_of s))
 then_done decls s v ss i f g is same over so_far =
     members_done decls ss i f g over so_far ∙ ap (λ x. noted decls g (met_of decls x)) (ap (λ (xs : List Stmt). follows (statements_in xs)) same
-        ∙ sym (then_is s v is))
+    ∙ sym (then_is s v is))
 
 pub beside_done : (decls : List Decl) (s : Stmt) (v : Vec Stmt Global) (ss : List Stmt) (i : ℕ) (f g : Findings) → s ≡ Beside v → ss ≡ v.items → length ss ≤ i →
     noted decls f (met_of_each decls (statements_in (drop i ss))) ≡ noted decls g (met_of_each decls (statements_in ss)) →
     f ≡ noted decls g (met_of decls (statement_of s))
 beside_done decls s v ss i f g is same over so_far =
     members_done decls ss i f g over so_far ∙ ap (λ x. noted decls g (met_of decls x)) (ap (λ (xs : List Stmt). besides (statements_in xs)) same
-        ∙ sym (beside_is s v is))
+    ∙ sym (beside_is s v is))
 
 pub arm_step : (decls : List Decl) (xs : List Arm) (i : ℕ) (a : Arm) (f g h whole : Findings) → i < length xs → a ≡ get_or xs i a →
     noted decls f (met_of_arms decls (arms_in (drop i xs))) ≡ whole → g ≡ noted decls f (met_in decls 1 (expression_of a.guard)) →
     h ≡ noted decls g (met_of decls (statement_of a.body)) → noted decls h (met_of_arms decls (arms_in (drop (i + 1) xs))) ≡ whole
 arm_step decls xs i a f g h whole within is so_far first second =
     noted_arm decls f g h whole (expression_of a.guard) (statement_of a.body) (arms_in (drop (i + 1) xs))
-        (ap (λ us. noted decls f (met_of_arms decls us)) (sym (arms_more xs i a within is)) ∙ so_far) first second
+    (ap (λ us. noted decls f (met_of_arms decls us)) (sym (arms_more xs i a within is)) ∙ so_far) first second
 
 pub arms_done : (decls : List Decl) (s : Stmt) (again : Bool) (v : Vec Arm Global) (xs : List Arm) (i : ℕ) (f g : Findings) → s ≡ Select again v →
     xs ≡ v.items → length xs ≤ i → noted decls f (met_of_arms decls (arms_in (drop i xs))) ≡ noted decls g (met_of_arms decls (arms_in xs)) →
     f ≡ noted decls g (met_of decls (statement_of s))
 arms_done decls s again v xs i f g is same over so_far =
     ap (λ us. noted decls f (met_of_arms decls us)) (sym (arms_end xs i over)) ∙ so_far
-        ∙ ap (λ x. noted decls g (met_of decls x)) (ap (λ (ys : List Arm). plain.selects again (arms_in ys)) same ∙ sym (select_is s again v is))
+    ∙ ap (λ x. noted decls g (met_of decls x)) (ap (λ (ys : List Arm). plain.selects again (arms_in ys)) same ∙ sym (select_is s again v is))

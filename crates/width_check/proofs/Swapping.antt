@@ -81,12 +81,13 @@ join_alone : (ds : List Decl) (f : Findings) (w : ℕ) (parts : Expressions) (at
     noted ds f (met_join w parts at) ≡ with_leaf (with_parts ds f parts) (own_widths ds parts) w at
 join_alone ds f w parts at = rw (append-nil (lacking_parts ds parts)) refl
 
-pub join_whole : (ds : List Decl) (f g : Findings) (n w : ℕ) (parts : Expressions) (at : Span) → n ≡ capped_width (own_widths ds parts) → g ≡ noted_parts ds f parts →
+pub join_whole : (ds : List Decl) (f g : Findings) (n w : ℕ) (parts : Expressions) (at : Span) → n ≡ capped_width (own_widths ds parts) →
+    g ≡ noted_parts ds f parts →
     with_leaf g n w at ≡ noted ds f (met_in ds w (join parts at))
 join_whole ds f g n w parts at own is =
     ap (λ (x : Findings). with_leaf x n w at) is
     ∙ ap (λ (b : Bool). let x : Findings = noted_parts ds f parts in let y : Findings = record x { leaf = (if b then earlier x.leaf at else x.leaf) } in
-        y) (ap (λ (k : ℕ). nat_lt 64 k || not (k == w)) own ∙ misfit_capped (own_widths ds parts) w)
+    y) (ap (λ (k : ℕ). nat_lt 64 k || not (k == w)) own ∙ misfit_capped (own_widths ds parts) w)
     ∙ sym (leaf_later ds (with_parts ds f parts) (own_widths ds parts) w at (met_in_parts ds parts))
     ∙ ap (λ (x : Findings). noted ds x (met_in_parts ds parts)) (sym (join_alone ds f w parts at))
     ∙ noted_both ds f (met_join w parts at) (met_in_parts ds parts)

@@ -49,15 +49,23 @@ channel_at (d ∷ ds) name is = by_test (bytes_eq d.name.name name) refl (is_var
     by_test true same false chan so rest =
         let cs = one_channel d d.kind (channels_of ds) chan in
         let n = channel_first d ds name same chan in
-        record { within = rw (n, cs) (omega arith); width = rw (n, cs, same) refl; kind =
-            λ e found. rw (n, cs) (let one : d ≡ e = let x = rw same at found in cc x in ap (λ (x : Decl). kind_of x.kind) one) }
+        record {
+          within = rw (n, cs) (omega arith);
+          width = rw (n, cs, same) refl;
+          kind =
+              λ e found. rw (n, cs) (let one : d ≡ e = let x = rw same at found in cc x in ap (λ (x : Decl). kind_of x.kind) one);
+        }
     by_test true same true var so rest = absurd (let k = rw (same, var) at so in cc k)
     by_test false other false chan so rest =
         let cs = one_channel d d.kind (channels_of ds) chan in
         let n = channel_behind d ds name other chan in
         let at = rest (rw other at so) in
-        record { within = rw (n, cs) (let w = at.within in omega arith); width = rw (n, cs, other) at.width; kind =
-            λ e found. rw (n, cs) (at.kind e (rw other at found)) }
+        record {
+          within = rw (n, cs) (let w = at.within in omega arith);
+          width = rw (n, cs, other) at.width;
+          kind =
+              λ e found. rw (n, cs) (at.kind e (rw other at found));
+        }
     by_test false other true var so rest =
         let cs = no_channel d d.kind (channels_of ds) var in
         let n = channel_apart d ds name var in
@@ -106,9 +114,11 @@ mutual
   statement_typed ds ranged (assigns target e) shaped sound =
       let so = assign_sound ds target e sound in
       let at = var_at ds target.name so.0 in
-      let some = declared_some ds target.name ranged (is_declared ds target.name true so.0) in
-      (at.within, subst (λ (w : ℕ). IsOfWidth (vars_of ds) w (formula_form ds (declared_width ds target.name) e)) (sym at.width)
-          (expression_typed ds ranged (declared_width ds target.name) e some (declared_most ds ranged target.name) shaped so.1))
+      let some = declared_some ds target.name ranged (is_declared ds target.name true so.0) in (
+        at.within,
+        subst (λ (w : ℕ). IsOfWidth (vars_of ds) w (formula_form ds (declared_width ds target.name) e)) (sym at.width)
+            (expression_typed ds ranged (declared_width ds target.name) e some (declared_most ds ranged target.name) shaped so.1),
+      )
   statement_typed ds ranged (sends chan e) shaped sound =
       let so = send_sound ds chan e sound in
       let at = channel_at ds chan.name so.0 in
@@ -127,8 +137,11 @@ mutual
       let var = var_at ds target.name so.1 in
       let d = decl_of ds chan.name false so.0 in
       let free : is_against received_on d.0.kind ≡ false = let h = sound.ends (use_of chan received_on) (0, omega arith, refl) in rw d.1 at h in
-      let same = equal_widths (declared_width ds target.name) (declared_width ds chan.name) (sound.targets (record { chan = chan; target = target }) (0,
-          omega arith, refl)) in
+      let same = equal_widths (declared_width ds target.name) (declared_width ds chan.name) (sound.targets (record { chan = chan; target = target }) (
+        0,
+        omega arith,
+        refl,
+      )) in
       record {
         within = at.within;
         direction = λ (is : kind_at (channels_of ds) (channel_number ds chan.name) ≡ kind.Out). receives_in d.0.kind d.2 free (sym (at.kind d.0 d.1) ∙ is);
@@ -148,20 +161,22 @@ mutual
       AreProcesses (channels_of ds) (vars_of ds) (processes_form ds members)
   members_typed ds ranged no_members shaped sound = tt
   members_typed ds ranged (and_member s more) shaped sound =
-      let pieces = subst (λ (m : Met). IsSound ds m) (sym (each_pieces ds s more)) sound in
-      (statement_typed ds ranged s shaped.0 (sound_left ds (met_of ds s) (met_of_each ds more) pieces),
-          members_typed ds ranged more shaped.1 (sound_right ds (met_of ds s) (met_of_each ds more) pieces))
+      let pieces = subst (λ (m : Met). IsSound ds m) (sym (each_pieces ds s more)) sound in (
+        statement_typed ds ranged s shaped.0 (sound_left ds (met_of ds s) (met_of_each ds more) pieces),
+        members_typed ds ranged more shaped.1 (sound_right ds (met_of ds s) (met_of_each ds more) pieces),
+      )
 
   arms_typed : (ds : List Decl) → AreRanged ds → (arms : Arms) → AreShapedArms arms → IsSound ds (met_of_arms ds arms) →
       AreChoices (channels_of ds) (vars_of ds) (choices_form ds arms)
   arms_typed ds ranged no_arms shaped sound = tt
   arms_typed ds ranged (and_arm g s more) shaped sound =
       let pieces = subst (λ (m : Met). IsSound ds m) (sym (arm_pieces ds g s more)) sound in
-      let others = sound_right ds (met_in ds 1 g) (met_both (met_of ds s) (met_of_arms ds more)) pieces in
-      (expression_typed ds ranged 1 g (omega arith) (omega arith) shaped.0
-          (sound_left ds (met_in ds 1 g) (met_both (met_of ds s) (met_of_arms ds more)) pieces),
-          statement_typed ds ranged s shaped.1 (sound_left ds (met_of ds s) (met_of_arms ds more) others),
-          arms_typed ds ranged more shaped.2 (sound_right ds (met_of ds s) (met_of_arms ds more) others))
+      let others = sound_right ds (met_in ds 1 g) (met_both (met_of ds s) (met_of_arms ds more)) pieces in (
+        expression_typed ds ranged 1 g (omega arith) (omega arith) shaped.0
+            (sound_left ds (met_in ds 1 g) (met_both (met_of ds s) (met_of_arms ds more)) pieces),
+        statement_typed ds ranged s shaped.1 (sound_left ds (met_of ds s) (met_of_arms ds more) others),
+        arms_typed ds ranged more shaped.2 (sound_right ds (met_of ds s) (met_of_arms ds more) others),
+      )
 
 -- where none of the causes holds anywhere, nothing that is met is wrong
 
@@ -188,12 +203,12 @@ pub program_sound : (p : ProgramTree) → HasNone p naming_faults → IsSound p.
 program_sound p none =
     let ranged = program_ranged p none in
     let undeclared = none_pass (is_undeclared p.decls) (λ (u : Use). u.at) (uses_in p.body)
-        (no_place (FaultAt p code.Undeclared) _ (undeclared_least p) none.1.1.0) in
+    (no_place (FaultAt p code.Undeclared) _ (undeclared_least p) none.1.1.0) in
     let kinds = none_pass (has_wrong_kind p.decls) (λ (u : Use). u.at) (uses_in p.body)
-        (no_place (FaultAt p code.WrongKind) _ (wrong_kind_least p) none.1.1.1.0) in
+    (no_place (FaultAt p code.WrongKind) _ (wrong_kind_least p) none.1.1.1.0) in
     let parts = none_pass (is_bad_part p.decls) span_of (all_expressions p) (no_place (FaultAt p code.BadSlice) _ (slice_least p) none.1.1.1.1.1.0) in
     let leaves = none_pass (is_misfit p.decls) (λ (l : Expected). span_of l.expression) (all_leaves p)
-        (no_place (λ s. IsMisfitLeaf p s) _ (leaf_least p ranged parts) (λ s h. none.1.1.1.1.1.1.1.0 s (inl h))) in
+    (no_place (λ s. IsMisfitLeaf p s) _ (leaf_least p ranged parts) (λ s h. none.1.1.1.1.1.1.1.0 s (inl h))) in
     record {
       uses = λ u c. use_kind (declaration p.decls u.name) u.role (undeclared u c) (kinds u c);
       ends = none_pass (is_misdirected p.decls) (λ (u : Use). u.at) (uses_in p.body) (no_place (FaultAt p code.Direction) _ (direction_least p) none.1.1.1.1.0);
@@ -222,11 +237,16 @@ each_channel (d ∷ ds) ranged shaped = by_kind (is_var d.kind) refl (each_chann
     by_kind true var rest = rw (no_channel d d.kind (channels_of ds) var) rest
     by_kind false chan rest =
         rw (one_channel d d.kind (channels_of ds) chan)
-        (All-cons IsDeclaredChannel (channel_of d (kind_of d.kind)) (channels_of ds) (record { name = (shaped d here).name; some =
-            ranged_some d (ranged d here); most = ranged_most d (ranged d here) }) rest)
+        (All-cons IsDeclaredChannel (channel_of d (kind_of d.kind)) (channels_of ds) (record {
+          name = (shaped d here).name;
+          some =
+              ranged_some d (ranged d here);
+          most = ranged_most d (ranged d here);
+        }) rest)
 
 below_power : (d : Decl) → is_out_of_range d ≡ false → is_wide_first d ≡ false → d.first < 2 ^ d.width
-below_power d ranged h = let most = ranged_most d ranged in let same : capped_width d.width ≡ d.width = grind arith in below (2 ^ d.width) d.first (rw same at h)
+below_power d ranged h = let most = ranged_most d ranged in let same : capped_width d.width ≡ d.width = grind arith in
+    below (2 ^ d.width) d.first (rw same at h)
   where
     below : (k n : ℕ) → nat_le k n ≡ false → n < k
     below k n h = grind (arith, nat_tests)
@@ -244,8 +264,13 @@ each_var (d ∷ ds) ranged shaped firsts = by_kind (is_var d.kind) refl (each_va
     by_kind false chan rest = rw (no_var d d.kind (vars_of ds) chan) rest
     by_kind true var rest =
         rw (one_var d d.kind (vars_of ds) var)
-        (All-cons IsDeclaredVar (var_of d) (vars_of ds) (record { name = (shaped d here).name; some = ranged_some d (ranged d here); most =
-            ranged_most d (ranged d here); first = below_power d (ranged d here) (firsts d here) }) rest)
+        (All-cons IsDeclaredVar (var_of d) (vars_of ds) (record {
+          name = (shaped d here).name;
+          some = ranged_some d (ranged d here);
+          most =
+              ranged_most d (ranged d here);
+          first = below_power d (ranged d here) (firsts d here);
+        }) rest)
 
 -- no name twice
 
@@ -299,8 +324,8 @@ among_names (d ∷ ds) n c = by_kind (is_var d.kind) refl (λ k. among_names ds 
         let vs = var_names ds in
         let k = subst (λ (ns : List (List ℕ)). Contains ns n) (names_var d ds var) c in
         ⊎_elim (λ l. in_rest d.name.name n (names ds) (rest (Contains-append_left cs vs n l)))
-            (λ r. ⊎_elim (λ (e : d.name.name ≡ n). (0, omega arith, e)) (λ m. in_rest d.name.name n (names ds) (rest (Contains-append_right cs vs n m)))
-            (front_or_rest d.name.name n vs r)) (Contains-append_cases cs (d.name.name ∷ vs) n k)
+        (λ r. ⊎_elim (λ (e : d.name.name ≡ n). (0, omega arith, e)) (λ m. in_rest d.name.name n (names ds) (rest (Contains-append_right cs vs n m)))
+        (front_or_rest d.name.name n vs r)) (Contains-append_cases cs (d.name.name ∷ vs) n k)
     by_kind false chan rest =
         let k = subst (λ (ns : List (List ℕ)). Contains ns n) (names_channel d ds chan) c in
         ⊎_elim (λ (e : d.name.name ≡ n). (0, omega arith, e)) (λ m. in_rest d.name.name n (names ds) (rest m)) (front_or_rest d.name.name n (all_names ds) k)
@@ -326,18 +351,28 @@ get_name (d ∷ ds) n (suc k) within is = get_name ds n k (omega (arith, within)
 
 no_pair : (ds : List Decl) → NoPair ds → AreApart (names ds)
 no_pair [] none = tt
-no_pair (d ∷ ds) none =
-    (λ c. let e = get_name ds d.name.name c.0 c.1 c.2 in none 0 (suc c.0) d e.0 (omega arith) refl e.1 (sym e.2),
-        no_pair ds (λ i j x y less one other. none (suc i) (suc j) x y (omega (arith, less)) one other))
+no_pair (d ∷ ds) none = (
+  λ c. let e = get_name ds d.name.name c.0 c.1 c.2 in none 0 (suc c.0) d e.0 (omega arith) refl e.1 (sym e.2),
+  no_pair ds (λ i j x y less one other. none (suc i) (suc j) x y (omega (arith, less)) one other),
+)
 
 pub program_typed : (p : ProgramTree) → IsShaped p → HasNone p naming_faults → IsTyped (channels_of p.decls) (vars_of p.decls) (process_form p.decls p.body)
 program_typed p shaped none =
     let ranged = program_ranged p none in
     let shapes = shaped_at p.decls shaped.decls in
     let firsts = none_pass is_wide_first (λ (d : Decl). d.first_at) p.decls
-        (no_place (λ s. IsWideFirst p s) _ (first_least p ranged) (λ s h. none.1.1.1.1.1.1.1.1.0 s (inr h))) in
-    let pairs : NoPair p.decls = λ i j d e less one other same. none.0 e.name.at (record { earlier = i; later = j; order = less; first = d; second = e;
-        first_is = one; second_is = other; same = same; at = refl }) in
+    (no_place (λ s. IsWideFirst p s) _ (first_least p ranged) (λ s h. none.1.1.1.1.1.1.1.1.0 s (inr h))) in
+    let pairs : NoPair p.decls = λ i j d e less one other same. none.0 e.name.at (record {
+      earlier = i;
+      later = j;
+      order = less;
+      first = d;
+      second = e;
+      first_is = one;
+      second_is = other;
+      same = same;
+      at = refl;
+    }) in
     record {
       each_channel = each_channel p.decls ranged shapes;
       each_var = each_var p.decls ranged shapes firsts;

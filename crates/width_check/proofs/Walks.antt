@@ -113,12 +113,13 @@ wanted_of decls w e more = if compares more then unwrap_or (side_width decls e m
 
 pub chain_pieces : (decls : List Decl) (w : ℕ) (e : Expression) (more : Links) (at : Span) (b : Bool) → compares more ≡ b
     → met_both (met_chain w e more at) (met_both (met_in decls (wanted_of decls w e more) e) (met_in_links decls (wanted_of decls w e more) more)) ≡
-        met_in decls w (chain e more at)
+    met_in decls w (chain e more at)
 chain_pieces decls w e more at true is = rw is refl
 chain_pieces decls w e more at false is = rw is refl
 
 -- a chain, of whose members widths are wanted that count as the same
-pub noted_chain : (ds : List Decl) (f g h : Findings) (w u v : ℕ) (e : Expression) (more : Links) (at : Span) → capped_width u ≡ capped_width (wanted_of ds w e more) →
+pub noted_chain : (ds : List Decl) (f g h : Findings) (w u v : ℕ) (e : Expression) (more : Links) (at : Span) →
+    capped_width u ≡ capped_width (wanted_of ds w e more) →
     capped_width v ≡ capped_width (wanted_of ds w e more) → g ≡ noted ds f (met_chain w e more at) → h ≡ noted ds g (met_in ds u e) →
     noted ds h (met_in_links ds v more) ≡ noted ds f (met_in ds w (chain e more at))
 noted_chain ds f g h w u v e more at same others node first =
@@ -154,7 +155,7 @@ pub noted_member : (decls : List Decl) (f g total : Findings) (s : Statement) (m
     noted decls f (met_of_each decls (and_member s more)) ≡ total → g ≡ noted decls f (met_of decls s) → noted decls g (met_of_each decls more) ≡ total
 noted_member decls f g total s more so_far new =
     ap (λ (h : Findings). noted decls h (met_of_each decls more)) new ∙ noted_both decls f (met_of decls s) (met_of_each decls more)
-        ∙ ap (λ (m : Met). noted decls f m) (each_pieces decls s more) ∙ so_far
+    ∙ ap (λ (m : Met). noted decls f m) (each_pieces decls s more) ∙ so_far
 
 pub arm_pieces : (decls : List Decl) (g : Expression) (s : Statement) (more : Arms) →
     met_both (met_in decls 1 g) (met_both (met_of decls s) (met_of_arms decls more)) ≡ met_of_arms decls (and_arm g s more)

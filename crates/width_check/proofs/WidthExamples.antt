@@ -131,9 +131,9 @@ a_body =
     (plain.and_member
     (selects false
     (and_arm (equals (whole (named x 12)) (number 7 (span 16 17)) (span 12 17))
-        (sends (named r 21) (join (two (whole (named g 24)) (whole (named y 27))) (span 23 29)))
+    (sends (named r 21) (join (two (whole (named g 24)) (whole (named y 27))) (span 23 29)))
     (and_arm (negation (equals (slice (named x 34) 3 1 (span 34 40)) (whole (named y 43)) (span 34 44)) (span 32 45))
-        (assigns (named z 49) (chain (whole (named x 54)) (and_link Add (number 1 (span 58 59)) no_links) (span 54 59)))
+    (assigns (named z 49) (chain (whole (named x 54)) (and_link Add (number 1 (span 58 59)) no_links) (span 54 59)))
     no_arms)))
     plain.no_members))
 
@@ -151,9 +151,9 @@ a_typed_program = record {
       (and_member
       (choosing false
       (and_choice (compared Eq (reading 0 7 0 (span 12 13)) (constant 8 7))
-          (sending 1 (span 21 22) (joined (and_part (reading 3 0 0 (span 24 25)) (and_part (reading 1 2 0 (span 27 28)) no_parts))))
+      (sending 1 (span 21 22) (joined (and_part (reading 3 0 0 (span 24 25)) (and_part (reading 1 2 0 (span 27 28)) no_parts))))
       (and_choice (inverted (compared Eq (reading 0 3 1 (span 34 35)) (reading 1 2 0 (span 43 44))))
-          (assigning 2 (span 49 50) (chained (reading 0 7 0 (span 54 55)) (and_operation Add (constant 8 1) no_operations)))
+      (assigning 2 (span 49 50) (chained (reading 0 7 0 (span 54 55)) (and_operation Add (constant 8 1) no_operations)))
       no_choices)))
       no_members));
 }

@@ -195,8 +195,12 @@ chain_other vars w v u first links op e left same is right differ =
 
 pub compared_over : (vars : List Var) (w v : ℕ) (op : Op) (e f : Formula) → IsOfWidth vars w e → IsOfWidth vars v f → w ≡ v → is_comparison op ≡ true →
     IsOfWidth vars 1 (compared op e f)
-compared_over vars w v op e f left right same is = record { formed = (is, right.agrees ∙ sym (left.agrees ∙ same), left.formed, right.formed); reads =
-    (left.reads, right.reads); agrees = refl }
+compared_over vars w v op e f left right same is = record {
+  formed = (is, right.agrees ∙ sym (left.agrees ∙ same), left.formed, right.formed);
+  reads =
+      (left.reads, right.reads);
+  agrees = refl;
+}
 
 pub record IsComparing (vars : List Var) (op : Op) (e f : Formula) : Type 0 where
   pub compares : is_comparison op ≡ true

@@ -58,8 +58,8 @@ abbrev mutual
   formula_form decls w (negation e at) = inverted (formula_form decls w e)
   formula_form decls w (chain e more at) =
       if compares more then compared_with
-          (formula_form decls (unwrap_or (or_width (own_width decls e) (first_width decls more)) 0) e)
-          (operations_form decls (unwrap_or (or_width (own_width decls e) (first_width decls more)) 0) more)
+      (formula_form decls (unwrap_or (or_width (own_width decls e) (first_width decls more)) 0) e)
+      (operations_form decls (unwrap_or (or_width (own_width decls e) (first_width decls more)) 0) more)
       else chained (formula_form decls w e) (operations_form decls w more)
 
   pub parts_form : List Decl → Expressions → Formulas

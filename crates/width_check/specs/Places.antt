@@ -127,8 +127,8 @@ abbrev mutual
   leaves decls w (negation e at) = leaves decls w e
   leaves decls w (chain e more at) =
       if compares more then expect (chain e more at) w
-          ∷ (leaves decls (unwrap_or (or_width (own_width decls e) (first_width decls more)) 0) e
-          ++ leaves_of_links decls (unwrap_or (or_width (own_width decls e) (first_width decls more)) 0) more)
+      ∷ (leaves decls (unwrap_or (or_width (own_width decls e) (first_width decls more)) 0) e
+      ++ leaves_of_links decls (unwrap_or (or_width (own_width decls e) (first_width decls more)) 0) more)
       else leaves decls w e ++ leaves_of_links decls w more
   leaves decls w e = expect e w ∷ []
 

@@ -55,8 +55,13 @@ pub record Met : Type 0 where
   pub receptions : List Reception
 
 abbrev pub met_both : Met → Met → Met
-met_both m n = record { uses = m.uses ++ n.uses; expressions = m.expressions ++ n.expressions; leaves =
-    m.leaves ++ n.leaves; receptions = m.receptions ++ n.receptions }
+met_both m n = record {
+  uses = m.uses ++ n.uses;
+  expressions = m.expressions ++ n.expressions;
+  leaves =
+      m.leaves ++ n.leaves;
+  receptions = m.receptions ++ n.receptions;
+}
 
 abbrev pub met_use : Use → Met
 met_use u = record { uses = u ∷ []; expressions = []; leaves = []; receptions = [] }
@@ -66,20 +71,39 @@ met_in decls w e = record { uses = reads_in e; expressions = inside e; leaves = 
 
 -- a join and a chain alone, without their members
 abbrev pub met_join : ℕ → Expressions → Span → Met
-met_join w parts at = record { uses = []; expressions = join parts at ∷ []; leaves = expect (join parts at) w ∷ [];
-    receptions = [] }
+met_join w parts at = record {
+  uses = [];
+  expressions = join parts at ∷ [];
+  leaves = expect (join parts at) w ∷ [];
+  receptions = [];
+}
 
 abbrev pub met_chain : ℕ → Expression → Links → Span → Met
-met_chain w e more at = record { uses = []; expressions = chain e more at ∷ []; leaves =
-    if compares more then expect (chain e more at) w ∷ [] else []; receptions = [] }
+met_chain w e more at = record {
+  uses = [];
+  expressions = chain e more at ∷ [];
+  leaves =
+      if compares more then expect (chain e more at) w ∷ [] else [];
+  receptions = [];
+}
 
 abbrev pub met_in_parts : List Decl → Expressions → Met
-met_in_parts decls parts = record { uses = reads_in_parts parts; expressions = inside_parts parts; leaves =
-    leaves_of_parts decls parts; receptions = [] }
+met_in_parts decls parts = record {
+  uses = reads_in_parts parts;
+  expressions = inside_parts parts;
+  leaves =
+      leaves_of_parts decls parts;
+  receptions = [];
+}
 
 abbrev pub met_in_links : List Decl → ℕ → Links → Met
-met_in_links decls w links = record { uses = reads_in_links links; expressions = inside_links links; leaves =
-    leaves_of_links decls w links; receptions = [] }
+met_in_links decls w links = record {
+  uses = reads_in_links links;
+  expressions = inside_links links;
+  leaves =
+      leaves_of_links decls w links;
+  receptions = [];
+}
 
 abbrev pub all_inside : List Expected → List Expression
 all_inside es = flat_map (λ (e : Expected). inside e.expression) es
@@ -88,17 +112,30 @@ abbrev pub leaves_of_all : List Decl → List Expected → List Expected
 leaves_of_all decls es = flat_map (λ (e : Expected). leaves decls e.width e.expression) es
 
 abbrev pub met_of : List Decl → Statement → Met
-met_of decls s = record { uses = uses_in s; expressions = all_inside (expressions_in decls s); leaves =
-    leaves_of_all decls (expressions_in decls s); receptions = receptions_in s }
+met_of decls s = record {
+  uses = uses_in s;
+  expressions = all_inside (expressions_in decls s);
+  leaves =
+      leaves_of_all decls (expressions_in decls s);
+  receptions = receptions_in s;
+}
 
 abbrev pub met_of_each : List Decl → Statements → Met
-met_of_each decls members = record { uses = uses_in_each members; expressions =
-    all_inside (expressions_in_each decls members); leaves = leaves_of_all decls (expressions_in_each decls members);
-    receptions = receptions_in_each members }
+met_of_each decls members = record {
+  uses = uses_in_each members;
+  expressions =
+      all_inside (expressions_in_each decls members);
+  leaves = leaves_of_all decls (expressions_in_each decls members);
+  receptions = receptions_in_each members;
+}
 
 abbrev pub met_of_arms : List Decl → Arms → Met
-met_of_arms decls arms = record { uses = uses_in_arms arms; expressions = all_inside (expressions_in_arms decls arms);
-    leaves = leaves_of_all decls (expressions_in_arms decls arms); receptions = receptions_in_arms arms }
+met_of_arms decls arms = record {
+  uses = uses_in_arms arms;
+  expressions = all_inside (expressions_in_arms decls arms);
+  leaves = leaves_of_all decls (expressions_in_arms decls arms);
+  receptions = receptions_in_arms arms;
+}
 
 -- what is wrong, as tests
 
@@ -199,12 +236,23 @@ abbrev pub with_part : Findings → Bool → Span → Findings
 with_part f lacks s = record f { widthless = (if lacks then earlier f.widthless s else f.widthless) }
 
 abbrev pub with_leaf : Findings → (own wanted : ℕ) → Span → Findings
-with_leaf f own wanted s = record f { leaf =
-    (if nat_lt 64 own || not (own == wanted) then earlier f.leaf s else f.leaf) }
+with_leaf f own wanted s = record f {
+  leaf =
+      (if nat_lt 64 own || not (own == wanted) then earlier f.leaf s else f.leaf);
+}
 
 abbrev pub no_findings : Findings
-no_findings = record { undeclared = None; wrong_kind = None; direction = None; slice = None; widthless = None; leaf =
-    None; target = None; number = None }
+no_findings = record {
+  undeclared = None;
+  wrong_kind = None;
+  direction = None;
+  slice = None;
+  widthless = None;
+  leaf =
+      None;
+  target = None;
+  number = None;
+}
 
 -- declarations
 

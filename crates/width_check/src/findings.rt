@@ -72,8 +72,10 @@ impl Findings {
 
     /// A number stands at this place, where a width is wanted.
     pub fn with_number(mut self, value: u64, wanted: u8, place: Span) -> Findings
-        ensures { result ≡ record self { number =
-            (if nat_le (2 ^ walk.capped_width wanted) value then walk.earlier self.number place else self.number) } }
+        ensures { result ≡ record self {
+          number =
+              (if nat_le (2 ^ walk.capped_width wanted) value then walk.earlier self.number place else self.number);
+        } }
     {
         self.number = earlier_if(is_wide(value, wanted), self.number, place);
         self

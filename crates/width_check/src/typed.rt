@@ -145,8 +145,8 @@ impl Typed {
     ghost use Rattle.width_check.specs.View.{process_of};
     ghost use Rattle.width_check.specs.Typing.{IsTyped};
 
-    /// The program of these parts, or None where they don't meet what the type keeps. So a program can be made without a
-    /// text, as by a tool that writes programs, or by a test. Each name is compared with each other one.
+    /// The program of these parts, or None where they don't meet what the type keeps. So a program can be made without
+    /// a text, as by a tool that writes programs, or by a test. Each name is compared with each other one.
     pub fn new(channels: Vec<Channel>, vars: Vec<Var>, body: TStmt) -> Option<Typed>
         ensures some { IfSome result (λ t. t ≡ typed_value channels.items vars.items body) }
         ensures none { IfNone result (¬ IsTyped channels.items vars.items (process_of body)) }

@@ -15,31 +15,31 @@ returns-clause-made c =
     let p = c.args.p.now in
     let hs = pairs_of p.guard_rails.items in
     let ends : c.deref-4.result.now ≡ p.leave ∷ p.latches.items = c.deref-4.ensures.value ∙ c.in_ok-extend_from_slice.ensures.items
-        ∙ ap (λ (xs : List ℕ). xs ++ c.deref.result.now) (c.in_ok-push.ensures.items ∙ ap (λ (xs : List ℕ). xs ++ p.leave ∷ []) c.new-ends.ensures.items)
-        ∙ ap (λ (ns : List ℕ). p.leave ∷ ns) c.deref.ensures.value in
+    ∙ ap (λ (xs : List ℕ). xs ++ c.deref.result.now) (c.in_ok-push.ensures.items ∙ ap (λ (xs : List ℕ). xs ++ p.leave ∷ []) c.new-ends.ensures.items)
+    ∙ ap (λ (ns : List ℕ). p.leave ∷ ns) c.deref.ensures.value in
     let b = with_rules p.answer (leave_answer p.leave p.any hs) c.args.rules.now in
     let first : c.emit_end.new.rules ≡ b = subst (λ ns. c.emit_end.new.rules ≡ with_rules p.answer (leave_answer p.leave p.any (pairs_of ns)) c.args.rules.now)
-        c.deref-2.ensures.value c.in_ok-emit_end.ensures.made in
+    c.deref-2.ensures.value c.in_ok-emit_end.ensures.made in
     let d = with_rules p.loop_request (turn_request p.request p.joined) b in
     let second : c.emit_turn.new.rules ≡ d = c.in_ok-emit_turn.ensures.made ∙ ap (with_rules p.loop_request (turn_request p.request p.joined)) first in
     let e = with_rules p.joined (joined_answer p.any p.answers.items) d in
     let third : c.emit_joined.new.rules ≡ e =
-        c.in_ok-emit_joined.ensures.made ∙ ap (λ ns. with_rules p.joined (joined_answer p.any ns) c.emit_turn.new.rules) c.deref-3.ensures.value
-        ∙ ap (with_rules p.joined (joined_answer p.any p.answers.items)) second in
+    c.in_ok-emit_joined.ensures.made ∙ ap (λ ns. with_rules p.joined (joined_answer p.any ns) c.emit_turn.new.rules) c.deref-3.ensures.value
+    ∙ ap (with_rules p.joined (joined_answer p.any p.answers.items)) second in
     let f = with_rules p.eval (evaluation p.loop_request p.any) e in
     let fourth : c.emit_evaluation.new.rules ≡ f = c.in_ok-emit_evaluation.ensures.made ∙ ap (with_rules p.eval (evaluation p.loop_request p.any)) third in
     let g = with_rules p.any (or_of (p.leave ∷ p.latches.items)) f in
     let fifth : c.emit_any.new.rules ≡ g = c.in_ok-emit_any.ensures.made ∙ ap (λ ns. with_rules p.any (or_of ns) c.emit_evaluation.new.rules) ends
-        ∙ ap (with_rules p.any (or_of (p.leave ∷ p.latches.items))) fourth in
+    ∙ ap (with_rules p.any (or_of (p.leave ∷ p.latches.items))) fourth in
     let sixth : c.emit_leave.new.rules ≡ again_first p c.args.rules.now =
-        c.in_ok-emit_leave.ensures.made ∙ ap (λ ns. with_rules p.leave (leave_latch p.loop_request (pairs_of ns)) c.emit_any.new.rules) c.deref-5.ensures.value
-        ∙ ap (with_rules p.leave (leave_latch p.loop_request hs)) fifth in
+    c.in_ok-emit_leave.ensures.made ∙ ap (λ ns. with_rules p.leave (leave_latch p.loop_request (pairs_of ns)) c.emit_any.new.rules) c.deref-5.ensures.value
+    ∙ ap (with_rules p.leave (leave_latch p.loop_request hs)) fifth in
     let seventh = c.in_ok-emit_latches.ensures.made
-        ∙ ap (λ ns. with_owned (owned_at ns (latches p.loop_request (pairs_of c.deref-7.result.now))) c.emit_leave.new.rules) c.deref-6.ensures.value
-        ∙ ap (λ ns. with_owned (owned_at p.latches.items (latches p.loop_request (pairs_of ns))) c.emit_leave.new.rules) c.deref-7.ensures.value in
+    ∙ ap (λ ns. with_owned (owned_at ns (latches p.loop_request (pairs_of c.deref-7.result.now))) c.emit_leave.new.rules) c.deref-6.ensures.value
+    ∙ ap (λ ns. with_owned (owned_at p.latches.items (latches p.loop_request (pairs_of ns))) c.emit_leave.new.rules) c.deref-7.ensures.value in
     let eighth =
     c.in_ok-emit_starts.ensures.made ∙ ap (λ ns. with_owned (owned_at ns (starts c.deref-9.result.now (pairs_of c.deref-10.result.now)))
-        c.emit_latches.new.rules) c.deref-8.ensures.value
+    c.emit_latches.new.rules) c.deref-8.ensures.value
     ∙ ap (λ ns. with_owned (owned_at p.starts.items (starts ns (pairs_of c.deref-10.result.now))) c.emit_latches.new.rules) c.deref-9.ensures.value
     ∙ ap (λ ns. with_owned (owned_at p.starts.items (starts p.latches.items (pairs_of ns))) c.emit_latches.new.rules) c.deref-10.ensures.value in
     again_made p c.args.rules.now c.emit_leave.new.rules c.emit_latches.new.rules c.emit_starts.new.rules c.requires.branches sixth seventh eighth
@@ -58,64 +58,64 @@ pub returns-in_err-emit_joined-clause-others : goal.returns-in_err-emit_joined-c
 returns-in_err-emit_joined-clause-others c node h =
     let apart = again_apart node c.args.p.now c.requires.branches h in
     alone_then _ _ _ node (alone_then _ _ _ node (c.emit_end.ensures.others node apart.answer) (c.emit_turn.ensures.others node apart.turn))
-        (c.emit_joined.ensures.others node apart.joined)
+    (c.emit_joined.ensures.others node apart.joined)
 
 pub returns-in_err-emit_evaluation-clause-others : goal.returns-in_err-emit_evaluation-clause-others
 returns-in_err-emit_evaluation-clause-others c node h =
     let apart = again_apart node c.args.p.now c.requires.branches h in
     alone_then _ _ _ node (alone_then _ _ _ node
-        (alone_then _ _ _ node (c.emit_end.ensures.others node apart.answer) (c.emit_turn.ensures.others node apart.turn))
-        (c.emit_joined.ensures.others node apart.joined)) (c.emit_evaluation.ensures.others node apart.eval)
+    (alone_then _ _ _ node (c.emit_end.ensures.others node apart.answer) (c.emit_turn.ensures.others node apart.turn))
+    (c.emit_joined.ensures.others node apart.joined)) (c.emit_evaluation.ensures.others node apart.eval)
 
 pub returns-in_err-emit_any-clause-others : goal.returns-in_err-emit_any-clause-others
 returns-in_err-emit_any-clause-others c node h =
     let apart = again_apart node c.args.p.now c.requires.branches h in
     alone_then _ _ _ node (alone_then _ _ _ node
-        (alone_then _ _ _ node (alone_then _ _ _ node (c.emit_end.ensures.others node apart.answer) (c.emit_turn.ensures.others node apart.turn))
-        (c.emit_joined.ensures.others node apart.joined)) (c.emit_evaluation.ensures.others node apart.eval)) (c.emit_any.ensures.others node apart.any)
+    (alone_then _ _ _ node (alone_then _ _ _ node (c.emit_end.ensures.others node apart.answer) (c.emit_turn.ensures.others node apart.turn))
+    (c.emit_joined.ensures.others node apart.joined)) (c.emit_evaluation.ensures.others node apart.eval)) (c.emit_any.ensures.others node apart.any)
 
 pub returns-in_err-emit_leave-clause-others : goal.returns-in_err-emit_leave-clause-others
 returns-in_err-emit_leave-clause-others c node h =
     let apart = again_apart node c.args.p.now c.requires.branches h in
     alone_then _ _ _ node (alone_then _ _ _ node
-        (alone_then _ _ _ node (alone_then _ _ _ node
-        (alone_then _ _ _ node (c.emit_end.ensures.others node apart.answer) (c.emit_turn.ensures.others node apart.turn))
-        (c.emit_joined.ensures.others node apart.joined)) (c.emit_evaluation.ensures.others node apart.eval)) (c.emit_any.ensures.others node apart.any))
-        (c.emit_leave.ensures.others node apart.leave)
+    (alone_then _ _ _ node (alone_then _ _ _ node
+    (alone_then _ _ _ node (c.emit_end.ensures.others node apart.answer) (c.emit_turn.ensures.others node apart.turn))
+    (c.emit_joined.ensures.others node apart.joined)) (c.emit_evaluation.ensures.others node apart.eval)) (c.emit_any.ensures.others node apart.any))
+    (c.emit_leave.ensures.others node apart.leave)
 
 pub returns-in_err-emit_latches-clause-others : goal.returns-in_err-emit_latches-clause-others
 returns-in_err-emit_latches-clause-others c node h =
     let apart = again_apart node c.args.p.now c.requires.branches h in
     alone_then _ _ _ node (alone_then _ _ _ node
-        (alone_then _ _ _ node (alone_then _ _ _ node
-        (alone_then _ _ _ node (alone_then _ _ _ node (c.emit_end.ensures.others node apart.answer) (c.emit_turn.ensures.others node apart.turn))
-        (c.emit_joined.ensures.others node apart.joined)) (c.emit_evaluation.ensures.others node apart.eval)) (c.emit_any.ensures.others node apart.any))
-        (c.emit_leave.ensures.others node apart.leave))
-        (c.emit_latches.ensures.others node (subst (All (λ n. n ≢ node)) (sym c.deref-6.ensures.value) apart.branches.latches))
+    (alone_then _ _ _ node (alone_then _ _ _ node
+    (alone_then _ _ _ node (alone_then _ _ _ node (c.emit_end.ensures.others node apart.answer) (c.emit_turn.ensures.others node apart.turn))
+    (c.emit_joined.ensures.others node apart.joined)) (c.emit_evaluation.ensures.others node apart.eval)) (c.emit_any.ensures.others node apart.any))
+    (c.emit_leave.ensures.others node apart.leave))
+    (c.emit_latches.ensures.others node (subst (All (λ n. n ≢ node)) (sym c.deref-6.ensures.value) apart.branches.latches))
 
 pub returns-in_err-emit_starts-clause-others : goal.returns-in_err-emit_starts-clause-others
 returns-in_err-emit_starts-clause-others c node h =
     let apart = again_apart node c.args.p.now c.requires.branches h in
     alone_then _ _ _ node (alone_then _ _ _ node
-        (alone_then _ _ _ node (alone_then _ _ _ node
-        (alone_then _ _ _ node (alone_then _ _ _ node
-        (alone_then _ _ _ node (c.emit_end.ensures.others node apart.answer) (c.emit_turn.ensures.others node apart.turn))
-        (c.emit_joined.ensures.others node apart.joined)) (c.emit_evaluation.ensures.others node apart.eval)) (c.emit_any.ensures.others node apart.any))
-        (c.emit_leave.ensures.others node apart.leave))
-        (c.emit_latches.ensures.others node (subst (All (λ n. n ≢ node)) (sym c.deref-6.ensures.value) apart.branches.latches)))
-        (c.emit_starts.ensures.others node (subst (All (λ n. n ≢ node)) (sym c.deref-8.ensures.value) apart.branches.started))
+    (alone_then _ _ _ node (alone_then _ _ _ node
+    (alone_then _ _ _ node (alone_then _ _ _ node
+    (alone_then _ _ _ node (c.emit_end.ensures.others node apart.answer) (c.emit_turn.ensures.others node apart.turn))
+    (c.emit_joined.ensures.others node apart.joined)) (c.emit_evaluation.ensures.others node apart.eval)) (c.emit_any.ensures.others node apart.any))
+    (c.emit_leave.ensures.others node apart.leave))
+    (c.emit_latches.ensures.others node (subst (All (λ n. n ≢ node)) (sym c.deref-6.ensures.value) apart.branches.latches)))
+    (c.emit_starts.ensures.others node (subst (All (λ n. n ≢ node)) (sym c.deref-8.ensures.value) apart.branches.started))
 
 pub returns-clause-others : goal.returns-clause-others
 returns-clause-others c node h =
     let apart = again_apart node c.args.p.now c.requires.branches h in
     alone_then _ _ _ node (alone_then _ _ _ node
-        (alone_then _ _ _ node (alone_then _ _ _ node
-        (alone_then _ _ _ node (alone_then _ _ _ node
-        (alone_then _ _ _ node (c.emit_end.ensures.others node apart.answer) (c.emit_turn.ensures.others node apart.turn))
-        (c.emit_joined.ensures.others node apart.joined)) (c.emit_evaluation.ensures.others node apart.eval)) (c.emit_any.ensures.others node apart.any))
-        (c.emit_leave.ensures.others node apart.leave))
-        (c.emit_latches.ensures.others node (subst (All (λ n. n ≢ node)) (sym c.deref-6.ensures.value) apart.branches.latches)))
-        (c.emit_starts.ensures.others node (subst (All (λ n. n ≢ node)) (sym c.deref-8.ensures.value) apart.branches.started))
+    (alone_then _ _ _ node (alone_then _ _ _ node
+    (alone_then _ _ _ node (alone_then _ _ _ node
+    (alone_then _ _ _ node (c.emit_end.ensures.others node apart.answer) (c.emit_turn.ensures.others node apart.turn))
+    (c.emit_joined.ensures.others node apart.joined)) (c.emit_evaluation.ensures.others node apart.eval)) (c.emit_any.ensures.others node apart.any))
+    (c.emit_leave.ensures.others node apart.leave))
+    (c.emit_latches.ensures.others node (subst (All (λ n. n ≢ node)) (sym c.deref-6.ensures.value) apart.branches.latches)))
+    (c.emit_starts.ensures.others node (subst (All (λ n. n ≢ node)) (sym c.deref-8.ensures.value) apart.branches.started))
 
 pub returns-in_err-push-clause-partly : goal.returns-in_err-push-clause-partly
 returns-in_err-push-clause-partly c = partly_none (again_owned (again_of c.args.p.now)) c.args.rules.now c.args.rules.now refl
@@ -126,188 +126,188 @@ returns-in_err-extend_from_slice-clause-partly c = partly_none (again_owned (aga
 pub returns-in_err-emit_end-clause-partly : goal.returns-in_err-emit_end-clause-partly
 returns-in_err-emit_end-clause-partly c =
     then_none (again_owned (again_of c.args.p.now)) c.args.rules.now c.args.rules.now c.emit_end.new.rules
-        (partly_none (again_owned (again_of c.args.p.now)) c.args.rules.now c.args.rules.now refl) c.in_err-emit_end.ensures.kept
+    (partly_none (again_owned (again_of c.args.p.now)) c.args.rules.now c.args.rules.now refl) c.in_err-emit_end.ensures.kept
 
 pub returns-in_err-emit_turn-clause-partly : goal.returns-in_err-emit_turn-clause-partly
 returns-in_err-emit_turn-clause-partly c =
     let own = again_owns c.args.p.now c.requires.branches in
     let upto1 : IsPartly (again_owned (again_of c.args.p.now)) c.args.rules.now c.emit_end.new.rules =
-        then_one (again_owned (again_of c.args.p.now)) c.args.rules.now c.args.rules.now c.emit_end.new.rules
-        (owned c.args.p.now.answer (leave_answer c.args.p.now.leave c.args.p.now.any (pairs_of c.args.p.now.guard_rails.items)))
-        (partly_none (again_owned (again_of c.args.p.now)) c.args.rules.now c.args.rules.now refl) own.answer (c.in_ok-emit_end.ensures.made
-        ∙ ap (λ ns. with_rules c.args.p.now.answer (leave_answer c.args.p.now.leave c.args.p.now.any (pairs_of ns)) c.args.rules.now) c.deref-2.ensures.value)
-        in
+    then_one (again_owned (again_of c.args.p.now)) c.args.rules.now c.args.rules.now c.emit_end.new.rules
+    (owned c.args.p.now.answer (leave_answer c.args.p.now.leave c.args.p.now.any (pairs_of c.args.p.now.guard_rails.items)))
+    (partly_none (again_owned (again_of c.args.p.now)) c.args.rules.now c.args.rules.now refl) own.answer (c.in_ok-emit_end.ensures.made
+    ∙ ap (λ ns. with_rules c.args.p.now.answer (leave_answer c.args.p.now.leave c.args.p.now.any (pairs_of ns)) c.args.rules.now) c.deref-2.ensures.value)
+    in
     then_none (again_owned (again_of c.args.p.now)) c.args.rules.now c.emit_end.new.rules c.emit_turn.new.rules upto1 c.in_err-emit_turn.ensures.kept
 
 pub returns-in_err-emit_joined-clause-partly : goal.returns-in_err-emit_joined-clause-partly
 returns-in_err-emit_joined-clause-partly c =
     let own = again_owns c.args.p.now c.requires.branches in
     let upto1 : IsPartly (again_owned (again_of c.args.p.now)) c.args.rules.now c.emit_end.new.rules =
-        then_one (again_owned (again_of c.args.p.now)) c.args.rules.now c.args.rules.now c.emit_end.new.rules
-        (owned c.args.p.now.answer (leave_answer c.args.p.now.leave c.args.p.now.any (pairs_of c.args.p.now.guard_rails.items)))
-        (partly_none (again_owned (again_of c.args.p.now)) c.args.rules.now c.args.rules.now refl) own.answer (c.in_ok-emit_end.ensures.made
-        ∙ ap (λ ns. with_rules c.args.p.now.answer (leave_answer c.args.p.now.leave c.args.p.now.any (pairs_of ns)) c.args.rules.now) c.deref-2.ensures.value)
-        in
+    then_one (again_owned (again_of c.args.p.now)) c.args.rules.now c.args.rules.now c.emit_end.new.rules
+    (owned c.args.p.now.answer (leave_answer c.args.p.now.leave c.args.p.now.any (pairs_of c.args.p.now.guard_rails.items)))
+    (partly_none (again_owned (again_of c.args.p.now)) c.args.rules.now c.args.rules.now refl) own.answer (c.in_ok-emit_end.ensures.made
+    ∙ ap (λ ns. with_rules c.args.p.now.answer (leave_answer c.args.p.now.leave c.args.p.now.any (pairs_of ns)) c.args.rules.now) c.deref-2.ensures.value)
+    in
     let upto2 : IsPartly (again_owned (again_of c.args.p.now)) c.args.rules.now c.emit_turn.new.rules =
-        then_one (again_owned (again_of c.args.p.now)) c.args.rules.now c.emit_end.new.rules c.emit_turn.new.rules
-        (owned c.args.p.now.loop_request (turn_request c.args.p.now.request c.args.p.now.joined)) upto1 own.turn (c.in_ok-emit_turn.ensures.made) in
+    then_one (again_owned (again_of c.args.p.now)) c.args.rules.now c.emit_end.new.rules c.emit_turn.new.rules
+    (owned c.args.p.now.loop_request (turn_request c.args.p.now.request c.args.p.now.joined)) upto1 own.turn (c.in_ok-emit_turn.ensures.made) in
     then_none (again_owned (again_of c.args.p.now)) c.args.rules.now c.emit_turn.new.rules c.emit_joined.new.rules upto2 c.in_err-emit_joined.ensures.kept
 
 pub returns-in_err-emit_evaluation-clause-partly : goal.returns-in_err-emit_evaluation-clause-partly
 returns-in_err-emit_evaluation-clause-partly c =
     let own = again_owns c.args.p.now c.requires.branches in
     let upto1 : IsPartly (again_owned (again_of c.args.p.now)) c.args.rules.now c.emit_end.new.rules =
-        then_one (again_owned (again_of c.args.p.now)) c.args.rules.now c.args.rules.now c.emit_end.new.rules
-        (owned c.args.p.now.answer (leave_answer c.args.p.now.leave c.args.p.now.any (pairs_of c.args.p.now.guard_rails.items)))
-        (partly_none (again_owned (again_of c.args.p.now)) c.args.rules.now c.args.rules.now refl) own.answer (c.in_ok-emit_end.ensures.made
-        ∙ ap (λ ns. with_rules c.args.p.now.answer (leave_answer c.args.p.now.leave c.args.p.now.any (pairs_of ns)) c.args.rules.now) c.deref-2.ensures.value)
-        in
+    then_one (again_owned (again_of c.args.p.now)) c.args.rules.now c.args.rules.now c.emit_end.new.rules
+    (owned c.args.p.now.answer (leave_answer c.args.p.now.leave c.args.p.now.any (pairs_of c.args.p.now.guard_rails.items)))
+    (partly_none (again_owned (again_of c.args.p.now)) c.args.rules.now c.args.rules.now refl) own.answer (c.in_ok-emit_end.ensures.made
+    ∙ ap (λ ns. with_rules c.args.p.now.answer (leave_answer c.args.p.now.leave c.args.p.now.any (pairs_of ns)) c.args.rules.now) c.deref-2.ensures.value)
+    in
     let upto2 : IsPartly (again_owned (again_of c.args.p.now)) c.args.rules.now c.emit_turn.new.rules =
-        then_one (again_owned (again_of c.args.p.now)) c.args.rules.now c.emit_end.new.rules c.emit_turn.new.rules
-        (owned c.args.p.now.loop_request (turn_request c.args.p.now.request c.args.p.now.joined)) upto1 own.turn (c.in_ok-emit_turn.ensures.made) in
+    then_one (again_owned (again_of c.args.p.now)) c.args.rules.now c.emit_end.new.rules c.emit_turn.new.rules
+    (owned c.args.p.now.loop_request (turn_request c.args.p.now.request c.args.p.now.joined)) upto1 own.turn (c.in_ok-emit_turn.ensures.made) in
     let upto3 : IsPartly (again_owned (again_of c.args.p.now)) c.args.rules.now c.emit_joined.new.rules =
-        then_one (again_owned (again_of c.args.p.now)) c.args.rules.now c.emit_turn.new.rules c.emit_joined.new.rules
-        (owned c.args.p.now.joined (joined_answer c.args.p.now.any c.args.p.now.answers.items)) upto2 own.joined (c.in_ok-emit_joined.ensures.made
-        ∙ ap (λ ns. with_rules c.args.p.now.joined (joined_answer c.args.p.now.any ns) c.emit_turn.new.rules) c.deref-3.ensures.value) in
+    then_one (again_owned (again_of c.args.p.now)) c.args.rules.now c.emit_turn.new.rules c.emit_joined.new.rules
+    (owned c.args.p.now.joined (joined_answer c.args.p.now.any c.args.p.now.answers.items)) upto2 own.joined (c.in_ok-emit_joined.ensures.made
+    ∙ ap (λ ns. with_rules c.args.p.now.joined (joined_answer c.args.p.now.any ns) c.emit_turn.new.rules) c.deref-3.ensures.value) in
     then_none (again_owned (again_of c.args.p.now)) c.args.rules.now c.emit_joined.new.rules c.emit_evaluation.new.rules upto3
-        c.in_err-emit_evaluation.ensures.kept
+    c.in_err-emit_evaluation.ensures.kept
 
 pub returns-in_err-emit_any-clause-partly : goal.returns-in_err-emit_any-clause-partly
 returns-in_err-emit_any-clause-partly c =
     let own = again_owns c.args.p.now c.requires.branches in
     let upto1 : IsPartly (again_owned (again_of c.args.p.now)) c.args.rules.now c.emit_end.new.rules =
-        then_one (again_owned (again_of c.args.p.now)) c.args.rules.now c.args.rules.now c.emit_end.new.rules
-        (owned c.args.p.now.answer (leave_answer c.args.p.now.leave c.args.p.now.any (pairs_of c.args.p.now.guard_rails.items)))
-        (partly_none (again_owned (again_of c.args.p.now)) c.args.rules.now c.args.rules.now refl) own.answer (c.in_ok-emit_end.ensures.made
-        ∙ ap (λ ns. with_rules c.args.p.now.answer (leave_answer c.args.p.now.leave c.args.p.now.any (pairs_of ns)) c.args.rules.now) c.deref-2.ensures.value)
-        in
+    then_one (again_owned (again_of c.args.p.now)) c.args.rules.now c.args.rules.now c.emit_end.new.rules
+    (owned c.args.p.now.answer (leave_answer c.args.p.now.leave c.args.p.now.any (pairs_of c.args.p.now.guard_rails.items)))
+    (partly_none (again_owned (again_of c.args.p.now)) c.args.rules.now c.args.rules.now refl) own.answer (c.in_ok-emit_end.ensures.made
+    ∙ ap (λ ns. with_rules c.args.p.now.answer (leave_answer c.args.p.now.leave c.args.p.now.any (pairs_of ns)) c.args.rules.now) c.deref-2.ensures.value)
+    in
     let upto2 : IsPartly (again_owned (again_of c.args.p.now)) c.args.rules.now c.emit_turn.new.rules =
-        then_one (again_owned (again_of c.args.p.now)) c.args.rules.now c.emit_end.new.rules c.emit_turn.new.rules
-        (owned c.args.p.now.loop_request (turn_request c.args.p.now.request c.args.p.now.joined)) upto1 own.turn (c.in_ok-emit_turn.ensures.made) in
+    then_one (again_owned (again_of c.args.p.now)) c.args.rules.now c.emit_end.new.rules c.emit_turn.new.rules
+    (owned c.args.p.now.loop_request (turn_request c.args.p.now.request c.args.p.now.joined)) upto1 own.turn (c.in_ok-emit_turn.ensures.made) in
     let upto3 : IsPartly (again_owned (again_of c.args.p.now)) c.args.rules.now c.emit_joined.new.rules =
-        then_one (again_owned (again_of c.args.p.now)) c.args.rules.now c.emit_turn.new.rules c.emit_joined.new.rules
-        (owned c.args.p.now.joined (joined_answer c.args.p.now.any c.args.p.now.answers.items)) upto2 own.joined (c.in_ok-emit_joined.ensures.made
-        ∙ ap (λ ns. with_rules c.args.p.now.joined (joined_answer c.args.p.now.any ns) c.emit_turn.new.rules) c.deref-3.ensures.value) in
+    then_one (again_owned (again_of c.args.p.now)) c.args.rules.now c.emit_turn.new.rules c.emit_joined.new.rules
+    (owned c.args.p.now.joined (joined_answer c.args.p.now.any c.args.p.now.answers.items)) upto2 own.joined (c.in_ok-emit_joined.ensures.made
+    ∙ ap (λ ns. with_rules c.args.p.now.joined (joined_answer c.args.p.now.any ns) c.emit_turn.new.rules) c.deref-3.ensures.value) in
     let upto4 : IsPartly (again_owned (again_of c.args.p.now)) c.args.rules.now c.emit_evaluation.new.rules =
-        then_one (again_owned (again_of c.args.p.now)) c.args.rules.now c.emit_joined.new.rules c.emit_evaluation.new.rules
-        (owned c.args.p.now.eval (evaluation c.args.p.now.loop_request c.args.p.now.any)) upto3 own.eval (c.in_ok-emit_evaluation.ensures.made) in
+    then_one (again_owned (again_of c.args.p.now)) c.args.rules.now c.emit_joined.new.rules c.emit_evaluation.new.rules
+    (owned c.args.p.now.eval (evaluation c.args.p.now.loop_request c.args.p.now.any)) upto3 own.eval (c.in_ok-emit_evaluation.ensures.made) in
     then_none (again_owned (again_of c.args.p.now)) c.args.rules.now c.emit_evaluation.new.rules c.emit_any.new.rules upto4 c.in_err-emit_any.ensures.kept
 
 pub returns-in_err-emit_leave-clause-partly : goal.returns-in_err-emit_leave-clause-partly
 returns-in_err-emit_leave-clause-partly c =
     let own = again_owns c.args.p.now c.requires.branches in
     let upto1 : IsPartly (again_owned (again_of c.args.p.now)) c.args.rules.now c.emit_end.new.rules =
-        then_one (again_owned (again_of c.args.p.now)) c.args.rules.now c.args.rules.now c.emit_end.new.rules
-        (owned c.args.p.now.answer (leave_answer c.args.p.now.leave c.args.p.now.any (pairs_of c.args.p.now.guard_rails.items)))
-        (partly_none (again_owned (again_of c.args.p.now)) c.args.rules.now c.args.rules.now refl) own.answer (c.in_ok-emit_end.ensures.made
-        ∙ ap (λ ns. with_rules c.args.p.now.answer (leave_answer c.args.p.now.leave c.args.p.now.any (pairs_of ns)) c.args.rules.now) c.deref-2.ensures.value)
-        in
+    then_one (again_owned (again_of c.args.p.now)) c.args.rules.now c.args.rules.now c.emit_end.new.rules
+    (owned c.args.p.now.answer (leave_answer c.args.p.now.leave c.args.p.now.any (pairs_of c.args.p.now.guard_rails.items)))
+    (partly_none (again_owned (again_of c.args.p.now)) c.args.rules.now c.args.rules.now refl) own.answer (c.in_ok-emit_end.ensures.made
+    ∙ ap (λ ns. with_rules c.args.p.now.answer (leave_answer c.args.p.now.leave c.args.p.now.any (pairs_of ns)) c.args.rules.now) c.deref-2.ensures.value)
+    in
     let upto2 : IsPartly (again_owned (again_of c.args.p.now)) c.args.rules.now c.emit_turn.new.rules =
-        then_one (again_owned (again_of c.args.p.now)) c.args.rules.now c.emit_end.new.rules c.emit_turn.new.rules
-        (owned c.args.p.now.loop_request (turn_request c.args.p.now.request c.args.p.now.joined)) upto1 own.turn (c.in_ok-emit_turn.ensures.made) in
+    then_one (again_owned (again_of c.args.p.now)) c.args.rules.now c.emit_end.new.rules c.emit_turn.new.rules
+    (owned c.args.p.now.loop_request (turn_request c.args.p.now.request c.args.p.now.joined)) upto1 own.turn (c.in_ok-emit_turn.ensures.made) in
     let upto3 : IsPartly (again_owned (again_of c.args.p.now)) c.args.rules.now c.emit_joined.new.rules =
-        then_one (again_owned (again_of c.args.p.now)) c.args.rules.now c.emit_turn.new.rules c.emit_joined.new.rules
-        (owned c.args.p.now.joined (joined_answer c.args.p.now.any c.args.p.now.answers.items)) upto2 own.joined (c.in_ok-emit_joined.ensures.made
-        ∙ ap (λ ns. with_rules c.args.p.now.joined (joined_answer c.args.p.now.any ns) c.emit_turn.new.rules) c.deref-3.ensures.value) in
+    then_one (again_owned (again_of c.args.p.now)) c.args.rules.now c.emit_turn.new.rules c.emit_joined.new.rules
+    (owned c.args.p.now.joined (joined_answer c.args.p.now.any c.args.p.now.answers.items)) upto2 own.joined (c.in_ok-emit_joined.ensures.made
+    ∙ ap (λ ns. with_rules c.args.p.now.joined (joined_answer c.args.p.now.any ns) c.emit_turn.new.rules) c.deref-3.ensures.value) in
     let upto4 : IsPartly (again_owned (again_of c.args.p.now)) c.args.rules.now c.emit_evaluation.new.rules =
-        then_one (again_owned (again_of c.args.p.now)) c.args.rules.now c.emit_joined.new.rules c.emit_evaluation.new.rules
-        (owned c.args.p.now.eval (evaluation c.args.p.now.loop_request c.args.p.now.any)) upto3 own.eval (c.in_ok-emit_evaluation.ensures.made) in
+    then_one (again_owned (again_of c.args.p.now)) c.args.rules.now c.emit_joined.new.rules c.emit_evaluation.new.rules
+    (owned c.args.p.now.eval (evaluation c.args.p.now.loop_request c.args.p.now.any)) upto3 own.eval (c.in_ok-emit_evaluation.ensures.made) in
     let upto5 : IsPartly (again_owned (again_of c.args.p.now)) c.args.rules.now c.emit_any.new.rules =
-        then_one (again_owned (again_of c.args.p.now)) c.args.rules.now c.emit_evaluation.new.rules c.emit_any.new.rules
-        (owned c.args.p.now.any (or_of (c.args.p.now.leave ∷ c.args.p.now.latches.items))) upto4 own.any (c.in_ok-emit_any.ensures.made
-        ∙ ap (λ ns. with_rules c.args.p.now.any (or_of ns) c.emit_evaluation.new.rules) (c.deref-4.ensures.value ∙ c.in_ok-extend_from_slice.ensures.items
-        ∙ ap (λ (xs : List ℕ). xs ++ c.deref.result.now) (c.in_ok-push.ensures.items
-        ∙ ap (λ (xs : List ℕ). xs ++ c.args.p.now.leave ∷ []) c.new-ends.ensures.items) ∙ ap (λ (ns : List ℕ). c.args.p.now.leave ∷ ns) c.deref.ensures.value))
-        in
+    then_one (again_owned (again_of c.args.p.now)) c.args.rules.now c.emit_evaluation.new.rules c.emit_any.new.rules
+    (owned c.args.p.now.any (or_of (c.args.p.now.leave ∷ c.args.p.now.latches.items))) upto4 own.any (c.in_ok-emit_any.ensures.made
+    ∙ ap (λ ns. with_rules c.args.p.now.any (or_of ns) c.emit_evaluation.new.rules) (c.deref-4.ensures.value ∙ c.in_ok-extend_from_slice.ensures.items
+    ∙ ap (λ (xs : List ℕ). xs ++ c.deref.result.now) (c.in_ok-push.ensures.items
+    ∙ ap (λ (xs : List ℕ). xs ++ c.args.p.now.leave ∷ []) c.new-ends.ensures.items) ∙ ap (λ (ns : List ℕ). c.args.p.now.leave ∷ ns) c.deref.ensures.value))
+    in
     then_none (again_owned (again_of c.args.p.now)) c.args.rules.now c.emit_any.new.rules c.emit_leave.new.rules upto5 c.in_err-emit_leave.ensures.kept
 
 pub returns-in_err-emit_latches-clause-partly : goal.returns-in_err-emit_latches-clause-partly
 returns-in_err-emit_latches-clause-partly c =
     let own = again_owns c.args.p.now c.requires.branches in
     let upto1 : IsPartly (again_owned (again_of c.args.p.now)) c.args.rules.now c.emit_end.new.rules =
-        then_one (again_owned (again_of c.args.p.now)) c.args.rules.now c.args.rules.now c.emit_end.new.rules
-        (owned c.args.p.now.answer (leave_answer c.args.p.now.leave c.args.p.now.any (pairs_of c.args.p.now.guard_rails.items)))
-        (partly_none (again_owned (again_of c.args.p.now)) c.args.rules.now c.args.rules.now refl) own.answer (c.in_ok-emit_end.ensures.made
-        ∙ ap (λ ns. with_rules c.args.p.now.answer (leave_answer c.args.p.now.leave c.args.p.now.any (pairs_of ns)) c.args.rules.now) c.deref-2.ensures.value)
-        in
+    then_one (again_owned (again_of c.args.p.now)) c.args.rules.now c.args.rules.now c.emit_end.new.rules
+    (owned c.args.p.now.answer (leave_answer c.args.p.now.leave c.args.p.now.any (pairs_of c.args.p.now.guard_rails.items)))
+    (partly_none (again_owned (again_of c.args.p.now)) c.args.rules.now c.args.rules.now refl) own.answer (c.in_ok-emit_end.ensures.made
+    ∙ ap (λ ns. with_rules c.args.p.now.answer (leave_answer c.args.p.now.leave c.args.p.now.any (pairs_of ns)) c.args.rules.now) c.deref-2.ensures.value)
+    in
     let upto2 : IsPartly (again_owned (again_of c.args.p.now)) c.args.rules.now c.emit_turn.new.rules =
-        then_one (again_owned (again_of c.args.p.now)) c.args.rules.now c.emit_end.new.rules c.emit_turn.new.rules
-        (owned c.args.p.now.loop_request (turn_request c.args.p.now.request c.args.p.now.joined)) upto1 own.turn (c.in_ok-emit_turn.ensures.made) in
+    then_one (again_owned (again_of c.args.p.now)) c.args.rules.now c.emit_end.new.rules c.emit_turn.new.rules
+    (owned c.args.p.now.loop_request (turn_request c.args.p.now.request c.args.p.now.joined)) upto1 own.turn (c.in_ok-emit_turn.ensures.made) in
     let upto3 : IsPartly (again_owned (again_of c.args.p.now)) c.args.rules.now c.emit_joined.new.rules =
-        then_one (again_owned (again_of c.args.p.now)) c.args.rules.now c.emit_turn.new.rules c.emit_joined.new.rules
-        (owned c.args.p.now.joined (joined_answer c.args.p.now.any c.args.p.now.answers.items)) upto2 own.joined (c.in_ok-emit_joined.ensures.made
-        ∙ ap (λ ns. with_rules c.args.p.now.joined (joined_answer c.args.p.now.any ns) c.emit_turn.new.rules) c.deref-3.ensures.value) in
+    then_one (again_owned (again_of c.args.p.now)) c.args.rules.now c.emit_turn.new.rules c.emit_joined.new.rules
+    (owned c.args.p.now.joined (joined_answer c.args.p.now.any c.args.p.now.answers.items)) upto2 own.joined (c.in_ok-emit_joined.ensures.made
+    ∙ ap (λ ns. with_rules c.args.p.now.joined (joined_answer c.args.p.now.any ns) c.emit_turn.new.rules) c.deref-3.ensures.value) in
     let upto4 : IsPartly (again_owned (again_of c.args.p.now)) c.args.rules.now c.emit_evaluation.new.rules =
-        then_one (again_owned (again_of c.args.p.now)) c.args.rules.now c.emit_joined.new.rules c.emit_evaluation.new.rules
-        (owned c.args.p.now.eval (evaluation c.args.p.now.loop_request c.args.p.now.any)) upto3 own.eval (c.in_ok-emit_evaluation.ensures.made) in
+    then_one (again_owned (again_of c.args.p.now)) c.args.rules.now c.emit_joined.new.rules c.emit_evaluation.new.rules
+    (owned c.args.p.now.eval (evaluation c.args.p.now.loop_request c.args.p.now.any)) upto3 own.eval (c.in_ok-emit_evaluation.ensures.made) in
     let upto5 : IsPartly (again_owned (again_of c.args.p.now)) c.args.rules.now c.emit_any.new.rules =
-        then_one (again_owned (again_of c.args.p.now)) c.args.rules.now c.emit_evaluation.new.rules c.emit_any.new.rules
-        (owned c.args.p.now.any (or_of (c.args.p.now.leave ∷ c.args.p.now.latches.items))) upto4 own.any (c.in_ok-emit_any.ensures.made
-        ∙ ap (λ ns. with_rules c.args.p.now.any (or_of ns) c.emit_evaluation.new.rules) (c.deref-4.ensures.value ∙ c.in_ok-extend_from_slice.ensures.items
-        ∙ ap (λ (xs : List ℕ). xs ++ c.deref.result.now) (c.in_ok-push.ensures.items
-        ∙ ap (λ (xs : List ℕ). xs ++ c.args.p.now.leave ∷ []) c.new-ends.ensures.items) ∙ ap (λ (ns : List ℕ). c.args.p.now.leave ∷ ns) c.deref.ensures.value))
-        in
+    then_one (again_owned (again_of c.args.p.now)) c.args.rules.now c.emit_evaluation.new.rules c.emit_any.new.rules
+    (owned c.args.p.now.any (or_of (c.args.p.now.leave ∷ c.args.p.now.latches.items))) upto4 own.any (c.in_ok-emit_any.ensures.made
+    ∙ ap (λ ns. with_rules c.args.p.now.any (or_of ns) c.emit_evaluation.new.rules) (c.deref-4.ensures.value ∙ c.in_ok-extend_from_slice.ensures.items
+    ∙ ap (λ (xs : List ℕ). xs ++ c.deref.result.now) (c.in_ok-push.ensures.items
+    ∙ ap (λ (xs : List ℕ). xs ++ c.args.p.now.leave ∷ []) c.new-ends.ensures.items) ∙ ap (λ (ns : List ℕ). c.args.p.now.leave ∷ ns) c.deref.ensures.value))
+    in
     let upto6 : IsPartly (again_owned (again_of c.args.p.now)) c.args.rules.now c.emit_leave.new.rules =
-        then_one (again_owned (again_of c.args.p.now)) c.args.rules.now c.emit_any.new.rules c.emit_leave.new.rules
-        (owned c.args.p.now.leave (leave_latch c.args.p.now.loop_request (pairs_of c.args.p.now.guard_rails.items))) upto5 own.leave
-        (c.in_ok-emit_leave.ensures.made ∙ ap (λ ns. with_rules c.args.p.now.leave (leave_latch c.args.p.now.loop_request (pairs_of ns)) c.emit_any.new.rules)
-        c.deref-5.ensures.value) in
+    then_one (again_owned (again_of c.args.p.now)) c.args.rules.now c.emit_any.new.rules c.emit_leave.new.rules
+    (owned c.args.p.now.leave (leave_latch c.args.p.now.loop_request (pairs_of c.args.p.now.guard_rails.items))) upto5 own.leave
+    (c.in_ok-emit_leave.ensures.made ∙ ap (λ ns. with_rules c.args.p.now.leave (leave_latch c.args.p.now.loop_request (pairs_of ns)) c.emit_any.new.rules)
+    c.deref-5.ensures.value) in
     partly_on (again_owned (again_of c.args.p.now)) c.args.rules.now c.emit_leave.new.rules c.emit_latches.new.rules upto6
-        (partly_of (owned_at c.args.p.now.latches.items (latches c.args.p.now.loop_request (pairs_of c.args.p.now.guard_rails.items)))
-        (again_owned (again_of c.args.p.now)) c.emit_leave.new.rules c.emit_latches.new.rules own.latched
-        (subst (λ ns. IsPartly (owned_at c.args.p.now.latches.items (latches c.args.p.now.loop_request (pairs_of ns))) c.emit_leave.new.rules
-        c.emit_latches.new.rules) c.deref-7.ensures.value
-        (subst (λ ns. IsPartly (owned_at ns (latches c.args.p.now.loop_request (pairs_of c.deref-7.result.now))) c.emit_leave.new.rules
-        c.emit_latches.new.rules) c.deref-6.ensures.value c.emit_latches.ensures.partly)))
+    (partly_of (owned_at c.args.p.now.latches.items (latches c.args.p.now.loop_request (pairs_of c.args.p.now.guard_rails.items)))
+    (again_owned (again_of c.args.p.now)) c.emit_leave.new.rules c.emit_latches.new.rules own.latched
+    (subst (λ ns. IsPartly (owned_at c.args.p.now.latches.items (latches c.args.p.now.loop_request (pairs_of ns))) c.emit_leave.new.rules
+    c.emit_latches.new.rules) c.deref-7.ensures.value
+    (subst (λ ns. IsPartly (owned_at ns (latches c.args.p.now.loop_request (pairs_of c.deref-7.result.now))) c.emit_leave.new.rules
+    c.emit_latches.new.rules) c.deref-6.ensures.value c.emit_latches.ensures.partly)))
 
 pub returns-in_err-emit_starts-clause-partly : goal.returns-in_err-emit_starts-clause-partly
 returns-in_err-emit_starts-clause-partly c =
     let own = again_owns c.args.p.now c.requires.branches in
     let upto1 : IsPartly (again_owned (again_of c.args.p.now)) c.args.rules.now c.emit_end.new.rules =
-        then_one (again_owned (again_of c.args.p.now)) c.args.rules.now c.args.rules.now c.emit_end.new.rules
-        (owned c.args.p.now.answer (leave_answer c.args.p.now.leave c.args.p.now.any (pairs_of c.args.p.now.guard_rails.items)))
-        (partly_none (again_owned (again_of c.args.p.now)) c.args.rules.now c.args.rules.now refl) own.answer (c.in_ok-emit_end.ensures.made
-        ∙ ap (λ ns. with_rules c.args.p.now.answer (leave_answer c.args.p.now.leave c.args.p.now.any (pairs_of ns)) c.args.rules.now) c.deref-2.ensures.value)
-        in
+    then_one (again_owned (again_of c.args.p.now)) c.args.rules.now c.args.rules.now c.emit_end.new.rules
+    (owned c.args.p.now.answer (leave_answer c.args.p.now.leave c.args.p.now.any (pairs_of c.args.p.now.guard_rails.items)))
+    (partly_none (again_owned (again_of c.args.p.now)) c.args.rules.now c.args.rules.now refl) own.answer (c.in_ok-emit_end.ensures.made
+    ∙ ap (λ ns. with_rules c.args.p.now.answer (leave_answer c.args.p.now.leave c.args.p.now.any (pairs_of ns)) c.args.rules.now) c.deref-2.ensures.value)
+    in
     let upto2 : IsPartly (again_owned (again_of c.args.p.now)) c.args.rules.now c.emit_turn.new.rules =
-        then_one (again_owned (again_of c.args.p.now)) c.args.rules.now c.emit_end.new.rules c.emit_turn.new.rules
-        (owned c.args.p.now.loop_request (turn_request c.args.p.now.request c.args.p.now.joined)) upto1 own.turn (c.in_ok-emit_turn.ensures.made) in
+    then_one (again_owned (again_of c.args.p.now)) c.args.rules.now c.emit_end.new.rules c.emit_turn.new.rules
+    (owned c.args.p.now.loop_request (turn_request c.args.p.now.request c.args.p.now.joined)) upto1 own.turn (c.in_ok-emit_turn.ensures.made) in
     let upto3 : IsPartly (again_owned (again_of c.args.p.now)) c.args.rules.now c.emit_joined.new.rules =
-        then_one (again_owned (again_of c.args.p.now)) c.args.rules.now c.emit_turn.new.rules c.emit_joined.new.rules
-        (owned c.args.p.now.joined (joined_answer c.args.p.now.any c.args.p.now.answers.items)) upto2 own.joined (c.in_ok-emit_joined.ensures.made
-        ∙ ap (λ ns. with_rules c.args.p.now.joined (joined_answer c.args.p.now.any ns) c.emit_turn.new.rules) c.deref-3.ensures.value) in
+    then_one (again_owned (again_of c.args.p.now)) c.args.rules.now c.emit_turn.new.rules c.emit_joined.new.rules
+    (owned c.args.p.now.joined (joined_answer c.args.p.now.any c.args.p.now.answers.items)) upto2 own.joined (c.in_ok-emit_joined.ensures.made
+    ∙ ap (λ ns. with_rules c.args.p.now.joined (joined_answer c.args.p.now.any ns) c.emit_turn.new.rules) c.deref-3.ensures.value) in
     let upto4 : IsPartly (again_owned (again_of c.args.p.now)) c.args.rules.now c.emit_evaluation.new.rules =
-        then_one (again_owned (again_of c.args.p.now)) c.args.rules.now c.emit_joined.new.rules c.emit_evaluation.new.rules
-        (owned c.args.p.now.eval (evaluation c.args.p.now.loop_request c.args.p.now.any)) upto3 own.eval (c.in_ok-emit_evaluation.ensures.made) in
+    then_one (again_owned (again_of c.args.p.now)) c.args.rules.now c.emit_joined.new.rules c.emit_evaluation.new.rules
+    (owned c.args.p.now.eval (evaluation c.args.p.now.loop_request c.args.p.now.any)) upto3 own.eval (c.in_ok-emit_evaluation.ensures.made) in
     let upto5 : IsPartly (again_owned (again_of c.args.p.now)) c.args.rules.now c.emit_any.new.rules =
-        then_one (again_owned (again_of c.args.p.now)) c.args.rules.now c.emit_evaluation.new.rules c.emit_any.new.rules
-        (owned c.args.p.now.any (or_of (c.args.p.now.leave ∷ c.args.p.now.latches.items))) upto4 own.any (c.in_ok-emit_any.ensures.made
-        ∙ ap (λ ns. with_rules c.args.p.now.any (or_of ns) c.emit_evaluation.new.rules) (c.deref-4.ensures.value ∙ c.in_ok-extend_from_slice.ensures.items
-        ∙ ap (λ (xs : List ℕ). xs ++ c.deref.result.now) (c.in_ok-push.ensures.items
-        ∙ ap (λ (xs : List ℕ). xs ++ c.args.p.now.leave ∷ []) c.new-ends.ensures.items) ∙ ap (λ (ns : List ℕ). c.args.p.now.leave ∷ ns) c.deref.ensures.value))
-        in
+    then_one (again_owned (again_of c.args.p.now)) c.args.rules.now c.emit_evaluation.new.rules c.emit_any.new.rules
+    (owned c.args.p.now.any (or_of (c.args.p.now.leave ∷ c.args.p.now.latches.items))) upto4 own.any (c.in_ok-emit_any.ensures.made
+    ∙ ap (λ ns. with_rules c.args.p.now.any (or_of ns) c.emit_evaluation.new.rules) (c.deref-4.ensures.value ∙ c.in_ok-extend_from_slice.ensures.items
+    ∙ ap (λ (xs : List ℕ). xs ++ c.deref.result.now) (c.in_ok-push.ensures.items
+    ∙ ap (λ (xs : List ℕ). xs ++ c.args.p.now.leave ∷ []) c.new-ends.ensures.items) ∙ ap (λ (ns : List ℕ). c.args.p.now.leave ∷ ns) c.deref.ensures.value))
+    in
     let upto6 : IsPartly (again_owned (again_of c.args.p.now)) c.args.rules.now c.emit_leave.new.rules =
-        then_one (again_owned (again_of c.args.p.now)) c.args.rules.now c.emit_any.new.rules c.emit_leave.new.rules
-        (owned c.args.p.now.leave (leave_latch c.args.p.now.loop_request (pairs_of c.args.p.now.guard_rails.items))) upto5 own.leave
-        (c.in_ok-emit_leave.ensures.made ∙ ap (λ ns. with_rules c.args.p.now.leave (leave_latch c.args.p.now.loop_request (pairs_of ns)) c.emit_any.new.rules)
-        c.deref-5.ensures.value) in
+    then_one (again_owned (again_of c.args.p.now)) c.args.rules.now c.emit_any.new.rules c.emit_leave.new.rules
+    (owned c.args.p.now.leave (leave_latch c.args.p.now.loop_request (pairs_of c.args.p.now.guard_rails.items))) upto5 own.leave
+    (c.in_ok-emit_leave.ensures.made ∙ ap (λ ns. with_rules c.args.p.now.leave (leave_latch c.args.p.now.loop_request (pairs_of ns)) c.emit_any.new.rules)
+    c.deref-5.ensures.value) in
     let all_latched : IsPartly (again_owned (again_of c.args.p.now)) c.args.rules.now c.emit_latches.new.rules =
-        partly_on (again_owned (again_of c.args.p.now)) c.args.rules.now c.emit_leave.new.rules c.emit_latches.new.rules upto6
-        (partly_of (owned_at c.args.p.now.latches.items (latches c.args.p.now.loop_request (pairs_of c.args.p.now.guard_rails.items)))
-        (again_owned (again_of c.args.p.now)) c.emit_leave.new.rules c.emit_latches.new.rules own.latched
-        (subst (λ ns. IsPartly (owned_at c.args.p.now.latches.items (latches c.args.p.now.loop_request (pairs_of ns))) c.emit_leave.new.rules
-        c.emit_latches.new.rules) c.deref-7.ensures.value
-        (subst (λ ns. IsPartly (owned_at ns (latches c.args.p.now.loop_request (pairs_of c.deref-7.result.now))) c.emit_leave.new.rules
-        c.emit_latches.new.rules) c.deref-6.ensures.value c.emit_latches.ensures.partly))) in
+    partly_on (again_owned (again_of c.args.p.now)) c.args.rules.now c.emit_leave.new.rules c.emit_latches.new.rules upto6
+    (partly_of (owned_at c.args.p.now.latches.items (latches c.args.p.now.loop_request (pairs_of c.args.p.now.guard_rails.items)))
+    (again_owned (again_of c.args.p.now)) c.emit_leave.new.rules c.emit_latches.new.rules own.latched
+    (subst (λ ns. IsPartly (owned_at c.args.p.now.latches.items (latches c.args.p.now.loop_request (pairs_of ns))) c.emit_leave.new.rules
+    c.emit_latches.new.rules) c.deref-7.ensures.value
+    (subst (λ ns. IsPartly (owned_at ns (latches c.args.p.now.loop_request (pairs_of c.deref-7.result.now))) c.emit_leave.new.rules
+    c.emit_latches.new.rules) c.deref-6.ensures.value c.emit_latches.ensures.partly))) in
     partly_on (again_owned (again_of c.args.p.now)) c.args.rules.now c.emit_latches.new.rules c.emit_starts.new.rules all_latched
-        (partly_of (owned_at c.args.p.now.starts.items (starts c.args.p.now.latches.items (pairs_of c.args.p.now.guard_rails.items)))
-        (again_owned (again_of c.args.p.now)) c.emit_latches.new.rules c.emit_starts.new.rules own.started
-        (subst (λ ns. IsPartly (owned_at c.args.p.now.starts.items (starts c.args.p.now.latches.items (pairs_of ns))) c.emit_latches.new.rules
-        c.emit_starts.new.rules) c.deref-10.ensures.value
-        (subst (λ ns. IsPartly (owned_at c.args.p.now.starts.items (starts ns (pairs_of c.deref-10.result.now))) c.emit_latches.new.rules
-        c.emit_starts.new.rules) c.deref-9.ensures.value
-        (subst (λ ns. IsPartly (owned_at ns (starts c.deref-9.result.now (pairs_of c.deref-10.result.now))) c.emit_latches.new.rules c.emit_starts.new.rules)
-        c.deref-8.ensures.value c.emit_starts.ensures.partly))))
+    (partly_of (owned_at c.args.p.now.starts.items (starts c.args.p.now.latches.items (pairs_of c.args.p.now.guard_rails.items)))
+    (again_owned (again_of c.args.p.now)) c.emit_latches.new.rules c.emit_starts.new.rules own.started
+    (subst (λ ns. IsPartly (owned_at c.args.p.now.starts.items (starts c.args.p.now.latches.items (pairs_of ns))) c.emit_latches.new.rules
+    c.emit_starts.new.rules) c.deref-10.ensures.value
+    (subst (λ ns. IsPartly (owned_at c.args.p.now.starts.items (starts ns (pairs_of c.deref-10.result.now))) c.emit_latches.new.rules
+    c.emit_starts.new.rules) c.deref-9.ensures.value
+    (subst (λ ns. IsPartly (owned_at ns (starts c.deref-9.result.now (pairs_of c.deref-10.result.now))) c.emit_latches.new.rules c.emit_starts.new.rules)
+    c.deref-8.ensures.value c.emit_starts.ensures.partly))))
 
 pub returns-clause-partly : goal.returns-clause-partly
 returns-clause-partly c = partly_all (again_owned (again_of c.args.p.now)) c.args.rules.now c.emit_starts.new.rules (returns-clause-made c)

@@ -9,4 +9,4 @@ set_both-requires-clause-up c = some_within (length c.args.rules.now.up) c.args.
 pub set_both-requires-clause-down : goal.set_both-requires-clause-down
 set_both-requires-clause-down c =
     with_lows_within (length c.args.rules.now.up) c.low.result c.args.answers.now _ c.in_ok-down.ensures
-        (subst (λ (l : Literal). l.node < length c.args.rules.now.up) (sym c.low.ensures) c.requires.any) c.requires.answers
+    (subst (λ (l : Literal). l.node < length c.args.rules.now.up) (sym c.low.ensures) c.requires.any) c.requires.answers

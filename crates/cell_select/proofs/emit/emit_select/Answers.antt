@@ -13,21 +13,21 @@ use Rattle.cell_select.proofs.emit.emit_select.Goals as goal
 pub returns-clause-made : goal.returns-clause-made
 returns-clause-made c =
     let first = subst (λ ns. c.emit_joined.new.rules ≡ with_rules c.args.p.now.answer (joined_answer c.args.p.now.any ns) c.args.rules.now)
-        c.deref.ensures.value c.in_ok-emit_joined.ensures.made in
+    c.deref.ensures.value c.in_ok-emit_joined.ensures.made in
     let third = subst (λ ns. c.emit_any.new.rules ≡ with_rules c.args.p.now.any (or_of ns) c.emit_evaluation.new.rules) c.deref-2.ensures.value
-        c.in_ok-emit_any.ensures.made in
+    c.in_ok-emit_any.ensures.made in
     let fourth = c.in_ok-emit_latches.ensures.made
-        ∙ ap (λ ns. with_owned (owned_at ns (latches c.args.p.now.request (pairs_of c.deref-4.result.now))) c.emit_any.new.rules) c.deref-3.ensures.value
-        ∙ ap (λ ns. with_owned (owned_at c.args.p.now.latches.items (latches c.args.p.now.request (pairs_of ns))) c.emit_any.new.rules) c.deref-4.ensures.value
-        in
+    ∙ ap (λ ns. with_owned (owned_at ns (latches c.args.p.now.request (pairs_of c.deref-4.result.now))) c.emit_any.new.rules) c.deref-3.ensures.value
+    ∙ ap (λ ns. with_owned (owned_at c.args.p.now.latches.items (latches c.args.p.now.request (pairs_of ns))) c.emit_any.new.rules) c.deref-4.ensures.value
+    in
     let fifth =
     c.in_ok-emit_starts.ensures.made ∙ ap (λ ns. with_owned (owned_at ns (starts c.deref-6.result.now (pairs_of c.deref-7.result.now)))
-        c.emit_latches.new.rules) c.deref-5.ensures.value
+    c.emit_latches.new.rules) c.deref-5.ensures.value
     ∙ ap (λ ns. with_owned (owned_at c.args.p.now.starts.items (starts ns (pairs_of c.deref-7.result.now))) c.emit_latches.new.rules) c.deref-6.ensures.value
     ∙ ap (λ ns. with_owned (owned_at c.args.p.now.starts.items (starts c.args.p.now.latches.items (pairs_of ns))) c.emit_latches.new.rules)
-        c.deref-7.ensures.value in
+    c.deref-7.ensures.value in
     select_made c.args.p.now c.args.rules.now c.emit_joined.new.rules c.emit_evaluation.new.rules c.emit_any.new.rules c.emit_latches.new.rules
-        c.emit_starts.new.rules c.requires.branches
+    c.emit_starts.new.rules c.requires.branches
     first c.in_ok-emit_evaluation.ensures.made third fourth fifth
 
 pub returns-in_err-emit_joined-clause-others : goal.returns-in_err-emit_joined-clause-others
@@ -44,116 +44,116 @@ pub returns-in_err-emit_any-clause-others : goal.returns-in_err-emit_any-clause-
 returns-in_err-emit_any-clause-others c node h =
     let apart = select_apart node c.args.p.now c.requires.branches h in
     alone_then _ _ _ node (alone_then _ _ _ node (c.emit_joined.ensures.others node apart.answer) (c.emit_evaluation.ensures.others node apart.eval))
-        (c.emit_any.ensures.others node apart.any)
+    (c.emit_any.ensures.others node apart.any)
 
 pub returns-in_err-emit_latches-clause-others : goal.returns-in_err-emit_latches-clause-others
 returns-in_err-emit_latches-clause-others c node h =
     let apart = select_apart node c.args.p.now c.requires.branches h in
     alone_then _ _ _ node (alone_then _ _ _ node
-        (alone_then _ _ _ node (c.emit_joined.ensures.others node apart.answer) (c.emit_evaluation.ensures.others node apart.eval))
-        (c.emit_any.ensures.others node apart.any))
-        (c.emit_latches.ensures.others node (subst (All (λ n. n ≢ node)) (sym c.deref-3.ensures.value) apart.branches.latches))
+    (alone_then _ _ _ node (c.emit_joined.ensures.others node apart.answer) (c.emit_evaluation.ensures.others node apart.eval))
+    (c.emit_any.ensures.others node apart.any))
+    (c.emit_latches.ensures.others node (subst (All (λ n. n ≢ node)) (sym c.deref-3.ensures.value) apart.branches.latches))
 
 pub returns-in_err-emit_starts-clause-others : goal.returns-in_err-emit_starts-clause-others
 returns-in_err-emit_starts-clause-others c node h =
     let apart = select_apart node c.args.p.now c.requires.branches h in
     alone_then _ _ _ node (alone_then _ _ _ node
-        (alone_then _ _ _ node (alone_then _ _ _ node (c.emit_joined.ensures.others node apart.answer) (c.emit_evaluation.ensures.others node apart.eval))
-        (c.emit_any.ensures.others node apart.any))
-        (c.emit_latches.ensures.others node (subst (All (λ n. n ≢ node)) (sym c.deref-3.ensures.value) apart.branches.latches)))
-        (c.emit_starts.ensures.others node (subst (All (λ n. n ≢ node)) (sym c.deref-5.ensures.value) apart.branches.started))
+    (alone_then _ _ _ node (alone_then _ _ _ node (c.emit_joined.ensures.others node apart.answer) (c.emit_evaluation.ensures.others node apart.eval))
+    (c.emit_any.ensures.others node apart.any))
+    (c.emit_latches.ensures.others node (subst (All (λ n. n ≢ node)) (sym c.deref-3.ensures.value) apart.branches.latches)))
+    (c.emit_starts.ensures.others node (subst (All (λ n. n ≢ node)) (sym c.deref-5.ensures.value) apart.branches.started))
 
 pub returns-clause-others : goal.returns-clause-others
 returns-clause-others c node h =
     let apart = select_apart node c.args.p.now c.requires.branches h in
     alone_then _ _ _ node (alone_then _ _ _ node
-        (alone_then _ _ _ node (alone_then _ _ _ node (c.emit_joined.ensures.others node apart.answer) (c.emit_evaluation.ensures.others node apart.eval))
-        (c.emit_any.ensures.others node apart.any))
-        (c.emit_latches.ensures.others node (subst (All (λ n. n ≢ node)) (sym c.deref-3.ensures.value) apart.branches.latches)))
-        (c.emit_starts.ensures.others node (subst (All (λ n. n ≢ node)) (sym c.deref-5.ensures.value) apart.branches.started))
+    (alone_then _ _ _ node (alone_then _ _ _ node (c.emit_joined.ensures.others node apart.answer) (c.emit_evaluation.ensures.others node apart.eval))
+    (c.emit_any.ensures.others node apart.any))
+    (c.emit_latches.ensures.others node (subst (All (λ n. n ≢ node)) (sym c.deref-3.ensures.value) apart.branches.latches)))
+    (c.emit_starts.ensures.others node (subst (All (λ n. n ≢ node)) (sym c.deref-5.ensures.value) apart.branches.started))
 
 pub returns-in_err-emit_joined-clause-partly : goal.returns-in_err-emit_joined-clause-partly
 returns-in_err-emit_joined-clause-partly c =
     then_none (select_owned (select_of c.args.p.now)) c.args.rules.now c.args.rules.now c.emit_joined.new.rules
-        (partly_none (select_owned (select_of c.args.p.now)) c.args.rules.now c.args.rules.now refl) c.in_err-emit_joined.ensures.kept
+    (partly_none (select_owned (select_of c.args.p.now)) c.args.rules.now c.args.rules.now refl) c.in_err-emit_joined.ensures.kept
 
 pub returns-in_err-emit_evaluation-clause-partly : goal.returns-in_err-emit_evaluation-clause-partly
 returns-in_err-emit_evaluation-clause-partly c =
     let own = select_owns c.args.p.now c.requires.branches in
     let upto1 : IsPartly (select_owned (select_of c.args.p.now)) c.args.rules.now c.emit_joined.new.rules =
-        then_one (select_owned (select_of c.args.p.now)) c.args.rules.now c.args.rules.now c.emit_joined.new.rules
-        (owned c.args.p.now.answer (joined_answer c.args.p.now.any c.args.p.now.answers.items))
-        (partly_none (select_owned (select_of c.args.p.now)) c.args.rules.now c.args.rules.now refl) own.answer (c.in_ok-emit_joined.ensures.made
-        ∙ ap (λ ns. with_rules c.args.p.now.answer (joined_answer c.args.p.now.any ns) c.args.rules.now) c.deref.ensures.value) in
+    then_one (select_owned (select_of c.args.p.now)) c.args.rules.now c.args.rules.now c.emit_joined.new.rules
+    (owned c.args.p.now.answer (joined_answer c.args.p.now.any c.args.p.now.answers.items))
+    (partly_none (select_owned (select_of c.args.p.now)) c.args.rules.now c.args.rules.now refl) own.answer (c.in_ok-emit_joined.ensures.made
+    ∙ ap (λ ns. with_rules c.args.p.now.answer (joined_answer c.args.p.now.any ns) c.args.rules.now) c.deref.ensures.value) in
     then_none (select_owned (select_of c.args.p.now)) c.args.rules.now c.emit_joined.new.rules c.emit_evaluation.new.rules upto1
-        c.in_err-emit_evaluation.ensures.kept
+    c.in_err-emit_evaluation.ensures.kept
 
 pub returns-in_err-emit_any-clause-partly : goal.returns-in_err-emit_any-clause-partly
 returns-in_err-emit_any-clause-partly c =
     let own = select_owns c.args.p.now c.requires.branches in
     let upto1 : IsPartly (select_owned (select_of c.args.p.now)) c.args.rules.now c.emit_joined.new.rules =
-        then_one (select_owned (select_of c.args.p.now)) c.args.rules.now c.args.rules.now c.emit_joined.new.rules
-        (owned c.args.p.now.answer (joined_answer c.args.p.now.any c.args.p.now.answers.items))
-        (partly_none (select_owned (select_of c.args.p.now)) c.args.rules.now c.args.rules.now refl) own.answer (c.in_ok-emit_joined.ensures.made
-        ∙ ap (λ ns. with_rules c.args.p.now.answer (joined_answer c.args.p.now.any ns) c.args.rules.now) c.deref.ensures.value) in
+    then_one (select_owned (select_of c.args.p.now)) c.args.rules.now c.args.rules.now c.emit_joined.new.rules
+    (owned c.args.p.now.answer (joined_answer c.args.p.now.any c.args.p.now.answers.items))
+    (partly_none (select_owned (select_of c.args.p.now)) c.args.rules.now c.args.rules.now refl) own.answer (c.in_ok-emit_joined.ensures.made
+    ∙ ap (λ ns. with_rules c.args.p.now.answer (joined_answer c.args.p.now.any ns) c.args.rules.now) c.deref.ensures.value) in
     let upto2 : IsPartly (select_owned (select_of c.args.p.now)) c.args.rules.now c.emit_evaluation.new.rules =
-        then_one (select_owned (select_of c.args.p.now)) c.args.rules.now c.emit_joined.new.rules c.emit_evaluation.new.rules
-        (owned c.args.p.now.eval (evaluation c.args.p.now.request c.args.p.now.any)) upto1 own.eval (c.in_ok-emit_evaluation.ensures.made) in
+    then_one (select_owned (select_of c.args.p.now)) c.args.rules.now c.emit_joined.new.rules c.emit_evaluation.new.rules
+    (owned c.args.p.now.eval (evaluation c.args.p.now.request c.args.p.now.any)) upto1 own.eval (c.in_ok-emit_evaluation.ensures.made) in
     then_none (select_owned (select_of c.args.p.now)) c.args.rules.now c.emit_evaluation.new.rules c.emit_any.new.rules upto2 c.in_err-emit_any.ensures.kept
 
 pub returns-in_err-emit_latches-clause-partly : goal.returns-in_err-emit_latches-clause-partly
 returns-in_err-emit_latches-clause-partly c =
     let own = select_owns c.args.p.now c.requires.branches in
     let upto1 : IsPartly (select_owned (select_of c.args.p.now)) c.args.rules.now c.emit_joined.new.rules =
-        then_one (select_owned (select_of c.args.p.now)) c.args.rules.now c.args.rules.now c.emit_joined.new.rules
-        (owned c.args.p.now.answer (joined_answer c.args.p.now.any c.args.p.now.answers.items))
-        (partly_none (select_owned (select_of c.args.p.now)) c.args.rules.now c.args.rules.now refl) own.answer (c.in_ok-emit_joined.ensures.made
-        ∙ ap (λ ns. with_rules c.args.p.now.answer (joined_answer c.args.p.now.any ns) c.args.rules.now) c.deref.ensures.value) in
+    then_one (select_owned (select_of c.args.p.now)) c.args.rules.now c.args.rules.now c.emit_joined.new.rules
+    (owned c.args.p.now.answer (joined_answer c.args.p.now.any c.args.p.now.answers.items))
+    (partly_none (select_owned (select_of c.args.p.now)) c.args.rules.now c.args.rules.now refl) own.answer (c.in_ok-emit_joined.ensures.made
+    ∙ ap (λ ns. with_rules c.args.p.now.answer (joined_answer c.args.p.now.any ns) c.args.rules.now) c.deref.ensures.value) in
     let upto2 : IsPartly (select_owned (select_of c.args.p.now)) c.args.rules.now c.emit_evaluation.new.rules =
-        then_one (select_owned (select_of c.args.p.now)) c.args.rules.now c.emit_joined.new.rules c.emit_evaluation.new.rules
-        (owned c.args.p.now.eval (evaluation c.args.p.now.request c.args.p.now.any)) upto1 own.eval (c.in_ok-emit_evaluation.ensures.made) in
+    then_one (select_owned (select_of c.args.p.now)) c.args.rules.now c.emit_joined.new.rules c.emit_evaluation.new.rules
+    (owned c.args.p.now.eval (evaluation c.args.p.now.request c.args.p.now.any)) upto1 own.eval (c.in_ok-emit_evaluation.ensures.made) in
     let upto3 : IsPartly (select_owned (select_of c.args.p.now)) c.args.rules.now c.emit_any.new.rules =
-        then_one (select_owned (select_of c.args.p.now)) c.args.rules.now c.emit_evaluation.new.rules c.emit_any.new.rules
-        (owned c.args.p.now.any (or_of c.args.p.now.latches.items)) upto2 own.any (c.in_ok-emit_any.ensures.made
-        ∙ ap (λ ns. with_rules c.args.p.now.any (or_of ns) c.emit_evaluation.new.rules) c.deref-2.ensures.value) in
+    then_one (select_owned (select_of c.args.p.now)) c.args.rules.now c.emit_evaluation.new.rules c.emit_any.new.rules
+    (owned c.args.p.now.any (or_of c.args.p.now.latches.items)) upto2 own.any (c.in_ok-emit_any.ensures.made
+    ∙ ap (λ ns. with_rules c.args.p.now.any (or_of ns) c.emit_evaluation.new.rules) c.deref-2.ensures.value) in
     partly_on (select_owned (select_of c.args.p.now)) c.args.rules.now c.emit_any.new.rules c.emit_latches.new.rules upto3
-        (partly_of (owned_at c.args.p.now.latches.items (latches c.args.p.now.request (pairs_of c.args.p.now.guard_rails.items)))
-        (select_owned (select_of c.args.p.now)) c.emit_any.new.rules c.emit_latches.new.rules own.latched
-        (subst (λ ns. IsPartly (owned_at c.args.p.now.latches.items (latches c.args.p.now.request (pairs_of ns))) c.emit_any.new.rules c.emit_latches.new.rules)
-        c.deref-4.ensures.value (subst (λ ns. IsPartly (owned_at ns (latches c.args.p.now.request (pairs_of c.deref-4.result.now))) c.emit_any.new.rules
-        c.emit_latches.new.rules) c.deref-3.ensures.value c.emit_latches.ensures.partly)))
+    (partly_of (owned_at c.args.p.now.latches.items (latches c.args.p.now.request (pairs_of c.args.p.now.guard_rails.items)))
+    (select_owned (select_of c.args.p.now)) c.emit_any.new.rules c.emit_latches.new.rules own.latched
+    (subst (λ ns. IsPartly (owned_at c.args.p.now.latches.items (latches c.args.p.now.request (pairs_of ns))) c.emit_any.new.rules c.emit_latches.new.rules)
+    c.deref-4.ensures.value (subst (λ ns. IsPartly (owned_at ns (latches c.args.p.now.request (pairs_of c.deref-4.result.now))) c.emit_any.new.rules
+    c.emit_latches.new.rules) c.deref-3.ensures.value c.emit_latches.ensures.partly)))
 
 pub returns-in_err-emit_starts-clause-partly : goal.returns-in_err-emit_starts-clause-partly
 returns-in_err-emit_starts-clause-partly c =
     let own = select_owns c.args.p.now c.requires.branches in
     let upto1 : IsPartly (select_owned (select_of c.args.p.now)) c.args.rules.now c.emit_joined.new.rules =
-        then_one (select_owned (select_of c.args.p.now)) c.args.rules.now c.args.rules.now c.emit_joined.new.rules
-        (owned c.args.p.now.answer (joined_answer c.args.p.now.any c.args.p.now.answers.items))
-        (partly_none (select_owned (select_of c.args.p.now)) c.args.rules.now c.args.rules.now refl) own.answer (c.in_ok-emit_joined.ensures.made
-        ∙ ap (λ ns. with_rules c.args.p.now.answer (joined_answer c.args.p.now.any ns) c.args.rules.now) c.deref.ensures.value) in
+    then_one (select_owned (select_of c.args.p.now)) c.args.rules.now c.args.rules.now c.emit_joined.new.rules
+    (owned c.args.p.now.answer (joined_answer c.args.p.now.any c.args.p.now.answers.items))
+    (partly_none (select_owned (select_of c.args.p.now)) c.args.rules.now c.args.rules.now refl) own.answer (c.in_ok-emit_joined.ensures.made
+    ∙ ap (λ ns. with_rules c.args.p.now.answer (joined_answer c.args.p.now.any ns) c.args.rules.now) c.deref.ensures.value) in
     let upto2 : IsPartly (select_owned (select_of c.args.p.now)) c.args.rules.now c.emit_evaluation.new.rules =
-        then_one (select_owned (select_of c.args.p.now)) c.args.rules.now c.emit_joined.new.rules c.emit_evaluation.new.rules
-        (owned c.args.p.now.eval (evaluation c.args.p.now.request c.args.p.now.any)) upto1 own.eval (c.in_ok-emit_evaluation.ensures.made) in
+    then_one (select_owned (select_of c.args.p.now)) c.args.rules.now c.emit_joined.new.rules c.emit_evaluation.new.rules
+    (owned c.args.p.now.eval (evaluation c.args.p.now.request c.args.p.now.any)) upto1 own.eval (c.in_ok-emit_evaluation.ensures.made) in
     let upto3 : IsPartly (select_owned (select_of c.args.p.now)) c.args.rules.now c.emit_any.new.rules =
-        then_one (select_owned (select_of c.args.p.now)) c.args.rules.now c.emit_evaluation.new.rules c.emit_any.new.rules
-        (owned c.args.p.now.any (or_of c.args.p.now.latches.items)) upto2 own.any (c.in_ok-emit_any.ensures.made
-        ∙ ap (λ ns. with_rules c.args.p.now.any (or_of ns) c.emit_evaluation.new.rules) c.deref-2.ensures.value) in
+    then_one (select_owned (select_of c.args.p.now)) c.args.rules.now c.emit_evaluation.new.rules c.emit_any.new.rules
+    (owned c.args.p.now.any (or_of c.args.p.now.latches.items)) upto2 own.any (c.in_ok-emit_any.ensures.made
+    ∙ ap (λ ns. with_rules c.args.p.now.any (or_of ns) c.emit_evaluation.new.rules) c.deref-2.ensures.value) in
     let all_latched : IsPartly (select_owned (select_of c.args.p.now)) c.args.rules.now c.emit_latches.new.rules =
-        partly_on (select_owned (select_of c.args.p.now)) c.args.rules.now c.emit_any.new.rules c.emit_latches.new.rules upto3
-        (partly_of (owned_at c.args.p.now.latches.items (latches c.args.p.now.request (pairs_of c.args.p.now.guard_rails.items)))
-        (select_owned (select_of c.args.p.now)) c.emit_any.new.rules c.emit_latches.new.rules own.latched
-        (subst (λ ns. IsPartly (owned_at c.args.p.now.latches.items (latches c.args.p.now.request (pairs_of ns))) c.emit_any.new.rules c.emit_latches.new.rules)
-        c.deref-4.ensures.value (subst (λ ns. IsPartly (owned_at ns (latches c.args.p.now.request (pairs_of c.deref-4.result.now))) c.emit_any.new.rules
-        c.emit_latches.new.rules) c.deref-3.ensures.value c.emit_latches.ensures.partly))) in
+    partly_on (select_owned (select_of c.args.p.now)) c.args.rules.now c.emit_any.new.rules c.emit_latches.new.rules upto3
+    (partly_of (owned_at c.args.p.now.latches.items (latches c.args.p.now.request (pairs_of c.args.p.now.guard_rails.items)))
+    (select_owned (select_of c.args.p.now)) c.emit_any.new.rules c.emit_latches.new.rules own.latched
+    (subst (λ ns. IsPartly (owned_at c.args.p.now.latches.items (latches c.args.p.now.request (pairs_of ns))) c.emit_any.new.rules c.emit_latches.new.rules)
+    c.deref-4.ensures.value (subst (λ ns. IsPartly (owned_at ns (latches c.args.p.now.request (pairs_of c.deref-4.result.now))) c.emit_any.new.rules
+    c.emit_latches.new.rules) c.deref-3.ensures.value c.emit_latches.ensures.partly))) in
     partly_on (select_owned (select_of c.args.p.now)) c.args.rules.now c.emit_latches.new.rules c.emit_starts.new.rules all_latched
-        (partly_of (owned_at c.args.p.now.starts.items (starts c.args.p.now.latches.items (pairs_of c.args.p.now.guard_rails.items)))
-        (select_owned (select_of c.args.p.now)) c.emit_latches.new.rules c.emit_starts.new.rules own.started
-        (subst (λ ns. IsPartly (owned_at c.args.p.now.starts.items (starts c.args.p.now.latches.items (pairs_of ns))) c.emit_latches.new.rules
-        c.emit_starts.new.rules) c.deref-7.ensures.value
-        (subst (λ ns. IsPartly (owned_at c.args.p.now.starts.items (starts ns (pairs_of c.deref-7.result.now))) c.emit_latches.new.rules
-        c.emit_starts.new.rules) c.deref-6.ensures.value
-        (subst (λ ns. IsPartly (owned_at ns (starts c.deref-6.result.now (pairs_of c.deref-7.result.now))) c.emit_latches.new.rules c.emit_starts.new.rules)
-        c.deref-5.ensures.value c.emit_starts.ensures.partly))))
+    (partly_of (owned_at c.args.p.now.starts.items (starts c.args.p.now.latches.items (pairs_of c.args.p.now.guard_rails.items)))
+    (select_owned (select_of c.args.p.now)) c.emit_latches.new.rules c.emit_starts.new.rules own.started
+    (subst (λ ns. IsPartly (owned_at c.args.p.now.starts.items (starts c.args.p.now.latches.items (pairs_of ns))) c.emit_latches.new.rules
+    c.emit_starts.new.rules) c.deref-7.ensures.value
+    (subst (λ ns. IsPartly (owned_at c.args.p.now.starts.items (starts ns (pairs_of c.deref-7.result.now))) c.emit_latches.new.rules
+    c.emit_starts.new.rules) c.deref-6.ensures.value
+    (subst (λ ns. IsPartly (owned_at ns (starts c.deref-6.result.now (pairs_of c.deref-7.result.now))) c.emit_latches.new.rules c.emit_starts.new.rules)
+    c.deref-5.ensures.value c.emit_starts.ensures.partly))))
 
 pub returns-clause-partly : goal.returns-clause-partly
 returns-clause-partly c = partly_all (select_owned (select_of c.args.p.now)) c.args.rules.now c.emit_starts.new.rules (returns-clause-made c)

@@ -9,6 +9,6 @@ pub returns : goal.returns
 returns c =
     let made : c.deref.result.now ≡ all_false (pairs_of c.args.rails.now) =
     c.deref.ensures.value ∙ c.in_ok-want_false.ensures
-        ∙ ap (λ (xs : List Literal). xs ++ all_false (take (length c.args.rails.now / 2 - 0) (drop 0 (pairs_of c.args.rails.now)))) c.new-literals.ensures.items
-        ∙ falses_all c.args.rails.now c.requires.pairs.0 c.requires.pairs.1 in
+    ∙ ap (λ (xs : List Literal). xs ++ all_false (take (length c.args.rails.now / 2 - 0) (drop 0 (pairs_of c.args.rails.now)))) c.new-literals.ensures.items
+    ∙ falses_all c.args.rails.now c.requires.pairs.0 c.requires.pairs.1 in
     subst (λ (xs : List Literal). IfOk c.all_of.result (λ g. g ≡ xs ∷ [])) made c.all_of.ensures

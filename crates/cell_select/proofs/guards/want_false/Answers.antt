@@ -7,4 +7,4 @@ pub loop-guard-preserved : goal.loop-guard-preserved
 loop-guard-preserved c =
     c.in_ok-push.ensures.items ∙ ap (λ (l : Literal). c.loop-guard.literals.items ++ l ∷ []) c.high.ensures
     ∙ falses_step c.args.rails.now c.args.from c.loop-guard.guard c.args.literals.now.items c.loop-guard.literals.items (omega arith) (omega arith)
-        c.loop-guard.invariant
+    c.loop-guard.invariant

@@ -11,14 +11,14 @@ pub returns-in_err-emit_rail-2-clause-others : goal.returns-in_err-emit_rail-2-c
 returns-in_err-emit_rail-2-clause-others c = λ k o.
     let other = are_other c.args.bit k o in
     alone_on c.args.rules.now c.emit_rail.new.rules c.emit_rail-2.new.rules k (c.emit_rail.ensures.others k other.rail_t)
-        (c.emit_rail-2.ensures.others k other.rail_f)
+    (c.emit_rail-2.ensures.others k other.rail_f)
 
 pub returns-clause-others : goal.returns-clause-others
 returns-clause-others c = λ k o.
     let other = are_other c.args.bit k o in
     alone_on c.args.rules.now c.emit_rail.new.rules c.emit_written.new.rules k (c.emit_rail.ensures.others k other.rail_t)
     (alone_on c.emit_rail.new.rules c.emit_rail-2.new.rules c.emit_written.new.rules k (c.emit_rail-2.ensures.others k other.rail_f)
-        (c.emit_written.ensures.others k other.written))
+    (c.emit_written.ensures.others k other.written))
 
 pub returns-in_err-emit_rail-clause-partly : goal.returns-in_err-emit_rail-clause-partly
 returns-in_err-emit_rail-clause-partly c = partly_none (bit_owned (bit_at c.args.bit)) c.args.rules.now c.emit_rail.new.rules c.in_err-emit_rail.ensures.kept

@@ -15,4 +15,4 @@ returns-in-Ok-clause-stopped c =
 pub returns-in-Err-clause-stopped : goal.returns-in-Err-clause-stopped
 returns-in-Err-clause-stopped c =
     halts_in (FromProgram c.args.text.now Never) (FromProgram c.args.text.now ChecksProgram) (λ answer is. program_goes is) c.in-Err.stop
-        c.in-Err.ensures.stopped
+    c.in-Err.ensures.stopped

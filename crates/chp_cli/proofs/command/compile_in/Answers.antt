@@ -39,9 +39,9 @@ returns-in-Some c =
     let taken = rw c.in-Ok-Some.field-0-is at c.in-Ok-Some.ensures.taken in
     let is = rw c.in-Ok-Some.field-0-is at c.in-Ok-Some.ensures.matches in
     let file : first_of (codes "FILE") rows ≡ Some c.in-Some.file.now = sym (first_value-rows found (codes "FILE")) ∙ sym c.get_str.ensures
-        ∙ ap (option_map (λ (s : Bor Text). s.now)) c.in-Some.is in
+    ∙ ap (option_map (λ (s : Bor Text). s.now)) c.in-Some.is in
     let set : c.is_set.result ≡ is_set (first_of (codes "reset") rows) =
-        c.is_set.ensures ∙ ap is_set (c.get_str-in-Some.ensures ∙ first_value-rows found (codes "reset")) in
+    c.is_set.ensures ∙ ap is_set (c.get_str-in-Some.ensures ∙ first_value-rows found (codes "reset")) in
     let given : Some (compiles c.in-Some.file.now c.is_set.result) ≡ compile_of name (texts_of words) =
     with_file (first_of (codes "FILE") rows) (first_of (codes "reset") rows) c.in-Some.file.now c.is_set.result file set
     ∙ taken_compile _ _ (texts_of words) rows (form_is (goal.at.returns-in-Some c).In_ok-form) taken is in
@@ -56,7 +56,7 @@ returns-in-Ok-Some c =
     let taken = rw c.in-Ok-Some.field-0-is at c.in-Ok-Some.ensures.taken in
     let is = rw c.in-Ok-Some.field-0-is at c.in-Ok-Some.ensures.matches in
     let file : first_of (codes "FILE") rows ≡ None = sym (first_value-rows found (codes "FILE")) ∙ sym c.get_str.ensures
-        ∙ ap (option_map (λ (s : Bor Text). s.now)) c.in-None.is in
+    ∙ ap (option_map (λ (s : Bor Text). s.now)) c.in-None.is in
     let given : ◌≡◌ {A = Option Asked} None (compile_of name (texts_of words)) =
     without_file (first_of (codes "FILE") rows) (first_of (codes "reset") rows) file
     ∙ taken_compile _ _ (texts_of words) rows (form_is (goal.at.returns-in-Ok-Some c).In_ok-form) taken is in

@@ -14,7 +14,7 @@ without_help s = record s { no_binary_name = true; disable_help_flag = true }
 
 plain_app : (new nameless flagless : Command) (name : Text) → app_of new ≡ new_app name
     → out-Command nameless ≡ record (out-Command new) { no_binary_name = true } →
-        out-Command flagless ≡ record (out-Command nameless) { disable_help_flag = true }
+    out-Command flagless ≡ record (out-Command nameless) { disable_help_flag = true }
     → app_of flagless ≡ on_top without_help (new_app name)
 plain_app new nameless flagless name is first second =
     ap app_of_fields second ∙ ap (λ (f : Command-F Command). app_of_fields (record f { disable_help_flag = true })) first ∙ ap (on_top without_help) is

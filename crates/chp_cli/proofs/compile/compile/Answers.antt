@@ -10,7 +10,7 @@ returns-in-Ok-clause-answered g c =
     let S = g.S.Shelf in
     let given = given_by (S.tells c.args.shelf.now) (S.holds c.args.shelf.now) in
     file_answers given c.args.file.now most_of_text c.in-Ok.text.items (λ text. FromProgram text (CompilesProgram c.args.reset)) c.in-Ok.ensures.read
-        c.in-Ok.ensures.short c.compile_text.result
+    c.in-Ok.ensures.short c.compile_text.result
     (rw c.deref.ensures.value at c.compile_text.ensures.answered)
 
 pub returns-in-Ok-clause-stopped : goal.returns-in-Ok-clause-stopped
@@ -18,7 +18,7 @@ returns-in-Ok-clause-stopped g c =
     let S = g.S.Shelf in
     let given = given_by (S.tells c.args.shelf.now) (S.holds c.args.shelf.now) in
     file_stops given c.args.file.now most_of_text c.in-Ok.text.items (λ text. FromProgram text (CompilesProgram c.args.reset)) c.in-Ok.ensures.read
-        c.in-Ok.ensures.short c.compile_text.result
+    c.in-Ok.ensures.short c.compile_text.result
     (c.args.file.now ∷ []) _ _ (rw c.deref.ensures.value at c.compile_text.ensures.stopped)
 
 pub returns-in-Err-clause-stopped : goal.returns-in-Err-clause-stopped
@@ -28,4 +28,4 @@ returns-in-Err-clause-stopped g c =
     let before = S.faults c.args.shelf.now in
     stops_in (FromFile given c.args.file.now most_of_text Never) (Compiles c.args.reset given c.args.file.now) (λ answer is. file_goes is)
     (c.args.file.now ∷ []) (c.args.file.now ∷ []) given before before (S.faults c.text_of_file.new.shelf) (λ name own. own) (omega arith) c.in-Err.stop
-        c.in-Err.ensures.stopped
+    c.in-Err.ensures.stopped

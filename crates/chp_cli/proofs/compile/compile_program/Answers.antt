@@ -10,13 +10,13 @@ pub returns-in-Ok-clause-answered : goal.returns-in-Ok-clause-answered
 returns-in-Ok-clause-answered c =
     let program = program_tree c.args.program.now in
     form_answers program (typed_of c.in-Ok.disjoint) (typed_form program) (λ p. FromNodes p (CompilesNet c.args.reset)) c.in-Ok.ensures.form
-        c.in-Ok.ensures.accepted c.compile_accepted.result c.compile_accepted.ensures.answered
+    c.in-Ok.ensures.accepted c.compile_accepted.result c.compile_accepted.ensures.answered
 
 pub returns-in-Ok-clause-stopped : goal.returns-in-Ok-clause-stopped
 returns-in-Ok-clause-stopped c =
     let program = program_tree c.args.program.now in
     form_stops program (typed_of c.in-Ok.disjoint) (typed_form program) (λ p. FromNodes p (CompilesNet c.args.reset)) c.in-Ok.ensures.form
-        c.in-Ok.ensures.accepted c.compile_accepted.result c.compile_accepted.ensures.stopped
+    c.in-Ok.ensures.accepted c.compile_accepted.result c.compile_accepted.ensures.stopped
 
 pub returns-in-Err-clause-stopped : goal.returns-in-Err-clause-stopped
 returns-in-Err-clause-stopped c =

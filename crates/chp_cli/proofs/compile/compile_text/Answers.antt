@@ -7,14 +7,14 @@ use Rattle.chp_cli.proofs.compile.compile_text.Goals as goal
 pub returns-in-Ok-clause-answered : goal.returns-in-Ok-clause-answered
 returns-in-Ok-clause-answered c =
     program_answers c.args.text.now (program_tree c.in-Ok.program) (CompilesProgram c.args.reset) c.in-Ok.ensures.read c.compile_program.result
-        c.compile_program.ensures.answered
+    c.compile_program.ensures.answered
 
 pub returns-in-Ok-clause-stopped : goal.returns-in-Ok-clause-stopped
 returns-in-Ok-clause-stopped c =
     program_stops c.args.text.now (program_tree c.in-Ok.program) (CompilesProgram c.args.reset) c.in-Ok.ensures.read c.compile_program.result
-        c.compile_program.ensures.stopped
+    c.compile_program.ensures.stopped
 
 pub returns-in-Err-clause-stopped : goal.returns-in-Err-clause-stopped
 returns-in-Err-clause-stopped c =
     halts_in (FromProgram c.args.text.now Never) (FromProgram c.args.text.now (CompilesProgram c.args.reset)) (λ answer is. program_goes is) c.in-Err.stop
-        c.in-Err.ensures.stopped
+    c.in-Err.ensures.stopped

@@ -11,13 +11,13 @@ pub returns-in-Ok-clause-answered : goal.returns-in-Ok-clause-answered
 returns-in-Ok-clause-answered c =
     let program = program_tree c.args.program.now in
     form_answers program (typed_of c.typed.result.now) (typed_form program) (λ p. FromNodes p TreeReport) (ap typed_of c.typed.ensures.program
-        ∙ c.in-Ok.ensures.form) c.in-Ok.ensures.accepted c.expand_accepted.result c.expand_accepted.ensures.answered
+    ∙ c.in-Ok.ensures.form) c.in-Ok.ensures.accepted c.expand_accepted.result c.expand_accepted.ensures.answered
 
 pub returns-in-Ok-clause-stopped : goal.returns-in-Ok-clause-stopped
 returns-in-Ok-clause-stopped c =
     let program = program_tree c.args.program.now in
     form_stops program (typed_of c.typed.result.now) (typed_form program) (λ p. FromNodes p TreeReport) (ap typed_of c.typed.ensures.program
-        ∙ c.in-Ok.ensures.form) c.in-Ok.ensures.accepted c.expand_accepted.result c.expand_accepted.ensures.stopped
+    ∙ c.in-Ok.ensures.form) c.in-Ok.ensures.accepted c.expand_accepted.result c.expand_accepted.ensures.stopped
 
 pub returns-in-Err-clause-stopped : goal.returns-in-Err-clause-stopped
 returns-in-Err-clause-stopped c =

@@ -20,4 +20,4 @@ returns-in-Err-Refused-share-clause-stopped c =
     let free = c.if-not-is_call_free.ensures.0 refl in
     let place = rw c.in-Err-Refused-share.field-0-is at c.in-Err-Refused-share.ensures.place in
     faulty free (rw c.in-Err-Refused-share.fault-is (shared_fault (program_tree c.args.program.now) (typed_of c.in-Ok.typed) _ c.in-Ok.ensures.form
-        c.in-Ok.ensures.accepted place))
+    c.in-Ok.ensures.accepted place))

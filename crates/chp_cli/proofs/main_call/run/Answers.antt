@@ -33,7 +33,7 @@ returns-clause-ended g c =
     let named : asked_by c.args.words.now ≡ Some (asked c.in-Ok-Some.command) = search rules in
     let output = c.in-Ok.output in
     let front = front_of (K.tells c.args.out.now) (K.written c.args.out.now) (K.written c.write_all.new.sink) output.text.items
-        (rw c.deref.ensures.value at c.in-Err-write_all.ensures.prefix) in (
+    (rw c.deref.ensures.value at c.in-Err-write_all.ensures.prefix) in (
       take front.0 output.text.items,
       cut_off output.end output.text.items front.0 (answers_of _ _ (asked c.in-Ok-Some.command) (told_answer output) named c.in-Ok.ensures.answered)
           c.in-Err-write_all.ensures.failed,

@@ -15,9 +15,16 @@ returns-clause-standing c =
 
 pub returns-clause-start : goal.returns-clause-start
 returns-clause-start c =
-    first_is (process_of c.args.body.now) c.args.channels c.args.script.now (record { left = c.in_ok-opened.field-0; store = c.args.store; rests =
-        c.in_ok-whole_script.field-0; histories = c.in_ok-no_values.field-0; sends = c.in_ok-no_sends.field-0; receives = c.in_ok-no_receives.field-0 })
-        (record {
+    first_is (process_of c.args.body.now) c.args.channels c.args.script.now (record {
+      left = c.in_ok-opened.field-0;
+      store = c.args.store;
+      rests =
+          c.in_ok-whole_script.field-0;
+      histories = c.in_ok-no_values.field-0;
+      sends = c.in_ok-no_sends.field-0;
+      receives = c.in_ok-no_receives.field-0;
+    })
+    (record {
       runnable = c.requires.numbers;
       left_is = c.in_ok-opened.ensures;
       rests = c.in_ok-whole_script.ensures;

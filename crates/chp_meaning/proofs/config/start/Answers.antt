@@ -10,7 +10,7 @@ begun-requires-clause-numbers c =
     let t = c.args.program.now in
     rw c.body.ensures.body (program_runs t _ _ c.body.ensures.typed.body_is (ap (λ (xs : List Channel). length xs) c.channels.ensures)
     (ap (λ (xs : List ℕ). length xs) c.in_ok-first_values.ensures
-        ∙ (length-map c.vars.result.now (λ (v : Var). v.first) ∙ ap (λ (xs : List Var). length xs) c.vars.ensures)))
+    ∙ (length-map c.vars.result.now (λ (v : Var). v.first) ∙ ap (λ (xs : List Var). length xs) c.vars.ensures)))
 
 pub begun-requires-clause-script : goal.begun-requires-clause-script
 begun-requires-clause-script c = rw c.channels.ensures (script_length c.args.program.now.channels c.args.script.now c.requires)
@@ -19,4 +19,4 @@ pub returns-clause-of : goal.returns-clause-of
 returns-clause-of c =
     let made = rw c.body.ensures.body at c.begun.ensures in
     all_begun c.args.program.now c.args.script.now c.in_ok-first_values.field-0.items (length c.channels.result.now) c.begun.result c.requires
-        (rw c.vars.ensures at c.in_ok-first_values.ensures) (ap (λ (xs : List Channel). length xs) c.channels.ensures) made.standing made.start
+    (rw c.vars.ensures at c.in_ok-first_values.ensures) (ap (λ (xs : List Channel). length xs) c.channels.ensures) made.standing made.start

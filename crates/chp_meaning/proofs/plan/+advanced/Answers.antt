@@ -11,18 +11,23 @@ use Rattle.chp_meaning.proofs.plan.+advanced.Goals as goal
 
 pub advanced-requires : goal.advanced-requires
 advanced-requires t c =
-    let r = inner_remains c.args.left.now c.in-Inside.index c.in-Inside.inner _ c.in-Inside.is c.requires.remains in
-    (search (rules, the_lemmas, get_or_read),
-        (rw (c.part.ensures, c.deref.ensures) r.1, rw c.part.ensures (carries_part c.args.config.now _ c.in-Inside.index r.0 c.requires.numbers)))
+    let r = inner_remains c.args.left.now c.in-Inside.index c.in-Inside.inner _ c.in-Inside.is c.requires.remains in (
+      search (rules, the_lemmas, get_or_read),
+      (rw (c.part.ensures, c.deref.ensures) r.1, rw c.part.ensures (carries_part c.args.config.now _ c.in-Inside.index r.0 c.requires.numbers)),
+    )
 
 pub advanced-requires-in-loop-index : goal.advanced-requires-in-loop-index
 advanced-requires-in-loop-index t c =
     let p = process_of c.args.stmt.now in
     let xs = c.deref-left-items.result.now in
-    let more = remains_more p xs c.loop-index.index _ c.loop-index-test.true c.left-item.is c.loop-index.invariant.remains in
-    (search (rules, the_lemmas, get_or_read),
-        (rw c.part-in-loop-index.ensures more.0, rw c.part-in-loop-index.ensures
-        (carries_part c.args.config.now p c.loop-index.index (omega (arith, c.loop-index-test.true, c.loop-index.invariant.count)) c.requires.numbers)))
+    let more = remains_more p xs c.loop-index.index _ c.loop-index-test.true c.left-item.is c.loop-index.invariant.remains in (
+      search (rules, the_lemmas, get_or_read),
+      (
+        rw c.part-in-loop-index.ensures more.0,
+        rw c.part-in-loop-index.ensures
+            (carries_part c.args.config.now p c.loop-index.index (omega (arith, c.loop-index-test.true, c.loop-index.invariant.count)) c.requires.numbers),
+      ),
+    )
 
 pub loop-index-init : goal.loop-index-init
 loop-index-init t c =
@@ -57,4 +62,4 @@ loop-index-preserved t c =
 pub returns-after-loop-index-clause-left : goal.returns-after-loop-index-clause-left
 returns-after-loop-index-clause-left t c =
     c.together.ensures ∙ lefts_end (outset_of c.args.config.now) (process_of c.args.stmt.now) c.args.left.now c.in-Branches.lefts c.deref-left-items.result.now
-        c.loop-index.index c.loop-index.next.items c.in-Branches.is c.deref-left-items.ensures.value c.loop-index-test.false c.loop-index.invariant.lefts
+    c.loop-index.index c.loop-index.next.items c.in-Branches.is c.deref-left-items.ensures.value c.loop-index-test.false c.loop-index.invariant.lefts

@@ -8,9 +8,10 @@ use Rattle.chp_meaning.proofs.plan.+note.Goals as goal
 
 pub note-requires : goal.note-requires
 note-requires t c =
-    let r = inner_remains c.args.left.now c.in-Inside.index c.in-Inside.inner _ c.in-Inside.is c.requires.remains in
-    (search (rules, the_lemmas, get_or_read),
-        (rw (c.part.ensures, c.deref.ensures) r.1, (rw c.part.ensures (runs_part _ _ c.in-Inside.index r.0 c.requires.channels), c.requires.tables)))
+    let r = inner_remains c.args.left.now c.in-Inside.index c.in-Inside.inner _ c.in-Inside.is c.requires.remains in (
+      search (rules, the_lemmas, get_or_read),
+      (rw (c.part.ensures, c.deref.ensures) r.1, (rw c.part.ensures (runs_part _ _ c.in-Inside.index r.0 c.requires.channels), c.requires.tables)),
+    )
 
 pub loop-index-init : goal.loop-index-init
 loop-index-init t c =
@@ -31,8 +32,14 @@ pub note-requires-in-loop-index : goal.note-requires-in-loop-index
 note-requires-in-loop-index t c =
     let p = process_of c.args.stmt.now in
     let xs = c.deref-left-items.result.now in
-    let more = remains_more p xs c.loop-index.index _ c.loop-index-test.true c.left-item.is c.loop-index.invariant.remains in
-    (search (rules, the_lemmas, get_or_read),
-        (rw c.part-in-loop-index.ensures more.0, (rw c.part-in-loop-index.ensures
-        (runs_part _ p c.loop-index.index (omega (arith, c.loop-index-test.true, c.loop-index.invariant.count)) c.loop-index.invariant.channels),
-        c.loop-index.invariant.tables)))
+    let more = remains_more p xs c.loop-index.index _ c.loop-index-test.true c.left-item.is c.loop-index.invariant.remains in (
+      search (rules, the_lemmas, get_or_read),
+      (
+        rw c.part-in-loop-index.ensures more.0,
+        (
+          rw c.part-in-loop-index.ensures
+              (runs_part _ p c.loop-index.index (omega (arith, c.loop-index-test.true, c.loop-index.invariant.count)) c.loop-index.invariant.channels),
+          c.loop-index.invariant.tables,
+        ),
+      ),
+    )

@@ -18,65 +18,71 @@ entered-requires-clause-within c = one_within c.deref-in-Select.result.now c.arg
 pub returns-in_ok-push-in-One-clause-left : goal.returns-in_ok-push-in-One-clause-left
 returns-in_ok-push-in-One-clause-left c =
     let found : One c.in-One.index ≡ guards_counted (true_guards c.args.config.now.store.items 0 (choices_of c.deref.result.now)) =
-        sym c.in-One.is ∙ (c.chosen.ensures ∙ ap (λ (xs : List ℕ). guards_counted (true_guards xs 0 (choices_of c.deref.result.now))) c.deref-in-Select.ensures.value)
-        in
+    sym c.in-One.is ∙ (c.chosen.ensures ∙ ap (λ (xs : List ℕ). guards_counted (true_guards xs 0 (choices_of c.deref.result.now)))
+    c.deref-in-Select.ensures.value)
+    in
     rw (select_remains (outset_of c.args.config.now) c.args.stmt.now c.in-Select.again c.in-Select.arms _ _ c.in-Select.is c.deref.ensures.value found)
-        c.entered.ensures
+    c.entered.ensures
 
 pub returns-in_ok-push-in-One-clause-moves : goal.returns-in_ok-push-in-One-clause-moves
 returns-in_ok-push-in-One-clause-moves c =
     let found : One c.in-One.index ≡ guards_counted (true_guards c.args.config.now.store.items 0 (choices_of c.deref.result.now)) =
-        sym c.in-One.is ∙ (c.chosen.ensures ∙ ap (λ (xs : List ℕ). guards_counted (true_guards xs 0 (choices_of c.deref.result.now))) c.deref-in-Select.ensures.value)
-        in
+    sym c.in-One.is ∙ (c.chosen.ensures ∙ ap (λ (xs : List ℕ). guards_counted (true_guards xs 0 (choices_of c.deref.result.now)))
+    c.deref-in-Select.ensures.value)
+    in
     whatever _ _ (one_more (outset_of c.args.config.now) c.args.stmt.now c.in-Select.again c.in-One.index c.args.moves.now.items _ _
-        (select_move (outset_of c.args.config.now) c.args.stmt.now c.in-Select.again c.in-Select.arms _ _ c.in-Select.is c.deref.ensures.value found)
-        c.plain_move.ensures c.in_ok-push-in-One.ensures.items)
+    (select_move (outset_of c.args.config.now) c.args.stmt.now c.in-Select.again c.in-Select.arms _ _ c.in-Select.is c.deref.ensures.value found)
+    c.plain_move.ensures c.in_ok-push-in-One.ensures.items)
 
 pub returns-in_ok-push-in-Zero-clause-left : goal.returns-in_ok-push-in-Zero-clause-left
 returns-in_ok-push-in-Zero-clause-left c =
     let found : Zero ≡ guards_counted (true_guards c.args.config.now.store.items 0 (choices_of c.deref.result.now)) =
-        sym c.in-Zero.is ∙ (c.chosen.ensures ∙ ap (λ (xs : List ℕ). guards_counted (true_guards xs 0 (choices_of c.deref.result.now))) c.deref-in-Select.ensures.value)
-        in
+    sym c.in-Zero.is ∙ (c.chosen.ensures ∙ ap (λ (xs : List ℕ). guards_counted (true_guards xs 0 (choices_of c.deref.result.now)))
+    c.deref-in-Select.ensures.value)
+    in
     ends_over (process_of c.args.stmt.now) c.in-Select.again c.if-again.true
-        ∙ sym (select_remains (outset_of c.args.config.now) c.args.stmt.now c.in-Select.again c.in-Select.arms _ _ c.in-Select.is c.deref.ensures.value found)
+    ∙ sym (select_remains (outset_of c.args.config.now) c.args.stmt.now c.in-Select.again c.in-Select.arms _ _ c.in-Select.is c.deref.ensures.value found)
 
 pub returns-in_ok-push-in-Zero-clause-moves : goal.returns-in_ok-push-in-Zero-clause-moves
 returns-in_ok-push-in-Zero-clause-moves c =
     let found : Zero ≡ guards_counted (true_guards c.args.config.now.store.items 0 (choices_of c.deref.result.now)) =
-        sym c.in-Zero.is ∙ (c.chosen.ensures ∙ ap (λ (xs : List ℕ). guards_counted (true_guards xs 0 (choices_of c.deref.result.now))) c.deref-in-Select.ensures.value)
-        in
+    sym c.in-Zero.is ∙ (c.chosen.ensures ∙ ap (λ (xs : List ℕ). guards_counted (true_guards xs 0 (choices_of c.deref.result.now)))
+    c.deref-in-Select.ensures.value)
+    in
     end_more (outset_of c.args.config.now) c.args.stmt.now c.in-Select.again c.args.moves.now.items _ _
-        (select_move (outset_of c.args.config.now) c.args.stmt.now c.in-Select.again c.in-Select.arms _ _ c.in-Select.is c.deref.ensures.value found)
-        c.if-again.true c.plain_move-then-again.ensures c.in_ok-push-in-Zero.ensures.items
+    (select_move (outset_of c.args.config.now) c.args.stmt.now c.in-Select.again c.in-Select.arms _ _ c.in-Select.is c.deref.ensures.value found)
+    c.if-again.true c.plain_move-then-again.ensures c.in_ok-push-in-Zero.ensures.items
 
 pub returns-else-again-clause-left : goal.returns-else-again-clause-left
 returns-else-again-clause-left c =
     let found : Zero ≡ guards_counted (true_guards c.args.config.now.store.items 0 (choices_of c.deref.result.now)) =
-        sym c.in-Zero.is ∙ (c.chosen.ensures ∙ ap (λ (xs : List ℕ). guards_counted (true_guards xs 0 (choices_of c.deref.result.now))) c.deref-in-Select.ensures.value)
-        in
+    sym c.in-Zero.is ∙ (c.chosen.ensures ∙ ap (λ (xs : List ℕ). guards_counted (true_guards xs 0 (choices_of c.deref.result.now)))
+    c.deref-in-Select.ensures.value)
+    in
     stays_whole (process_of c.args.stmt.now) c.in-Select.again c.if-again.false
-        ∙ sym (select_remains (outset_of c.args.config.now) c.args.stmt.now c.in-Select.again c.in-Select.arms _ _ c.in-Select.is c.deref.ensures.value found)
+    ∙ sym (select_remains (outset_of c.args.config.now) c.args.stmt.now c.in-Select.again c.in-Select.arms _ _ c.in-Select.is c.deref.ensures.value found)
 
 pub returns-else-again-clause-moves : goal.returns-else-again-clause-moves
 returns-else-again-clause-moves c =
     let found : Zero ≡ guards_counted (true_guards c.args.config.now.store.items 0 (choices_of c.deref.result.now)) =
-        sym c.in-Zero.is ∙ (c.chosen.ensures ∙ ap (λ (xs : List ℕ). guards_counted (true_guards xs 0 (choices_of c.deref.result.now))) c.deref-in-Select.ensures.value)
-        in
+    sym c.in-Zero.is ∙ (c.chosen.ensures ∙ ap (λ (xs : List ℕ). guards_counted (true_guards xs 0 (choices_of c.deref.result.now)))
+    c.deref-in-Select.ensures.value)
+    in
     none_more c.args.moves.now.items _ (select_move (outset_of c.args.config.now) c.args.stmt.now c.in-Select.again c.in-Select.arms _ _ c.in-Select.is
-        c.deref.ensures.value found ∙ stays_put c.in-Select.again c.if-again.false)
+    c.deref.ensures.value found ∙ stays_put c.in-Select.again c.if-again.false)
 
 pub returns-in-Several-clause-left : goal.returns-in-Several-clause-left
 returns-in-Several-clause-left c =
     let found : Many ≡ guards_counted (true_guards c.args.config.now.store.items 0 (choices_of c.deref.result.now)) =
-        sym c.in-Several.is ∙ (c.chosen.ensures ∙ ap (λ (xs : List ℕ). guards_counted (true_guards xs 0 (choices_of c.deref.result.now)))
-        c.deref-in-Select.ensures.value) in
+    sym c.in-Several.is ∙ (c.chosen.ensures ∙ ap (λ (xs : List ℕ). guards_counted (true_guards xs 0 (choices_of c.deref.result.now)))
+    c.deref-in-Select.ensures.value) in
     torn_whole (process_of c.args.stmt.now) c.in-Select.again
-        ∙ sym (select_remains (outset_of c.args.config.now) c.args.stmt.now c.in-Select.again c.in-Select.arms _ _ c.in-Select.is c.deref.ensures.value found)
+    ∙ sym (select_remains (outset_of c.args.config.now) c.args.stmt.now c.in-Select.again c.in-Select.arms _ _ c.in-Select.is c.deref.ensures.value found)
 
 pub returns-in-Several-clause-moves : goal.returns-in-Several-clause-moves
 returns-in-Several-clause-moves c =
     let found : Many ≡ guards_counted (true_guards c.args.config.now.store.items 0 (choices_of c.deref.result.now)) =
-        sym c.in-Several.is ∙ (c.chosen.ensures ∙ ap (λ (xs : List ℕ). guards_counted (true_guards xs 0 (choices_of c.deref.result.now)))
-        c.deref-in-Select.ensures.value) in
+    sym c.in-Several.is ∙ (c.chosen.ensures ∙ ap (λ (xs : List ℕ). guards_counted (true_guards xs 0 (choices_of c.deref.result.now)))
+    c.deref-in-Select.ensures.value) in
     none_more c.args.moves.now.items _ (select_move (outset_of c.args.config.now) c.args.stmt.now c.in-Select.again c.in-Select.arms _ _ c.in-Select.is
-        c.deref.ensures.value found ∙ torn_put c.in-Select.again)
+    c.deref.ensures.value found ∙ torn_put c.in-Select.again)

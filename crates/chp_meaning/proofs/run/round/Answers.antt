@@ -12,7 +12,7 @@ returns-clause-of c =
     let fits = reached_fits t (seen t c.args.config.now) c.requires.sharing c.requires.of.reached in
     let made = rw c.body.ensures.body at c.round_of.ensures in
     let there = round_reached t (seen t c.args.config.now) (seen t c.round_of.new.config) c.round_of.result fits c.requires.of.reached (made.round fits)
-        made.err in
+    made.err in
     record { standing = made.standing; reached = there; channels = reached_channels t (seen t c.round_of.new.config) there }
 
 pub returns-clause-round : goal.returns-clause-round
@@ -25,7 +25,7 @@ returns-clause-took c =
     let t = c.args.program.now in
     let fits = reached_fits t (seen t c.args.config.now) c.requires.sharing c.requires.of.reached in
     IfOk-weaker c.round_of.result _ _ (λ took e. took_is (process_of t.body) c.args.config.now took c.requires.of.standing fits e)
-        (rw c.body.ensures.body at c.round_of.ensures.took)
+    (rw c.body.ensures.body at c.round_of.ensures.took)
 
 pub returns-clause-one_history : goal.returns-clause-one_history
 returns-clause-one_history c = λ script. one_history (program_of c.args.program.now) script c.requires.sharing

@@ -11,10 +11,10 @@ pub returns-clause-standing : goal.returns-clause-standing
 returns-clause-standing c =
     let plan = planned_of (process_of c.args.body.now) c.args.config.now _ _ _ c.deref.ensures.value c.in_ok-left.ensures.plan in
     settled_stands (process_of c.args.body.now) c.args.config.now _ _ _ c.requires plan
-        (settled_after c.args.config.now _ _ _ _ c.in_ok-left.ensures.unchanged c.in_ok-settled.ensures.ok)
+    (settled_after c.args.config.now _ _ _ _ c.in_ok-left.ensures.unchanged c.in_ok-settled.ensures.ok)
 
 pub returns-clause-round : goal.returns-clause-round
 returns-clause-round c = λ fits.
     let plan = planned_of (process_of c.args.body.now) c.args.config.now _ _ _ c.deref.ensures.value c.in_ok-left.ensures.plan in
     settled_round (process_of c.args.body.now) c.args.config.now _ _ _ c.requires fits plan
-        (settled_after c.args.config.now _ _ _ _ c.in_ok-left.ensures.unchanged c.in_ok-settled.ensures.ok)
+    (settled_after c.args.config.now _ _ _ _ c.in_ok-left.ensures.unchanged c.in_ok-settled.ensures.ok)

@@ -10,7 +10,7 @@ returns-clause-of c =
     let fits = reached_fits t (seen t c.args.config.now) c.requires.sharing c.requires.of.reached in
     let made = rw c.body.ensures.body at c.run_of.ensures in
     let there = run_reached t c.args.n c.args.most (seen t c.args.config.now) (seen t c.run_of.new.config) c.run_of.result fits c.requires.of.reached
-        (made.end fits) (made.err fits) in
+    (made.end fits) (made.err fits) in
     record { standing = made.standing; reached = there; channels = reached_channels t (seen t c.run_of.new.config) there }
 
 pub returns-clause-end : goal.returns-clause-end

@@ -7,4 +7,4 @@ pub loop-number-preserved : goal.loop-number-preserved
 loop-number-preserved c = λ before start.
     withdrawn_more before _ _ c.args.moves.now c.loop-number.number (length c.args.histories.now) _ c.loop-number-test.true c.loop-number.auto.number
     (length-map c.loop-number.histories (λ h. h.items) ∙ c.loop-number.auto.histories)
-        (c.requires _ _ (omega (arith, c.loop-number-test.true, c.loop-number.auto.number))) c.withdraw.ensures (c.loop-number.invariant before start)
+    (c.requires _ _ (omega (arith, c.loop-number-test.true, c.loop-number.auto.number))) c.withdraw.ensures (c.loop-number.invariant before start)

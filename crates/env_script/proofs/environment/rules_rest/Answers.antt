@@ -8,4 +8,4 @@ returns-then-enabled c =
     let net = c.args.net.now in
     let within : c.loop-node.node < length net.first = omega (arith, ap length c.first.ensures.first) in
     sym (all_below_fails (length net.first) c.loop-node.node (λ n. not (rule_enabled net (high c.args.state.now) n)) within
-        (ap not (sym c.enabled.ensures ∙ c.if-enabled.true)))
+    (ap not (sym c.enabled.ensures ∙ c.if-enabled.true)))

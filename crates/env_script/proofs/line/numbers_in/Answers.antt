@@ -7,4 +7,4 @@ returns-in_default-clause-none c = no_numbers c.args.words.now c.loop-word.word-
 pub loop-word-preserved : goal.loop-word-preserved
 loop-word-preserved c =
     rw c.in_ok-push.ensures.items (numbers_more c.args.words.now c.loop-word.word-index _ _ _ c.loop-word-test.true c.loop-word.invariant
-        c.in-Some.ensures.some)
+    c.in-Some.ensures.some)

@@ -9,4 +9,4 @@ returns-in_err-shifted-clause-none c =
 pub returns-in_err-value-clause-none : goal.returns-in_err-value-clause-none
 returns-in_err-value-clause-none c =
     rw c.from_residual-in_err-value.ensures (too_large _ _ _ _ c.requires.base c.loop-digit-test.true c.loop-digit.invariant
-        (λ h. c.in_err-value.ensures (omega (arith, c.in_ok-shifted.ensures, c.from.ensures, c.value_of_digit.ensures))))
+    (λ h. c.in_err-value.ensures (omega (arith, c.in_ok-shifted.ensures, c.from.ensures, c.value_of_digit.ensures))))

@@ -14,14 +14,14 @@ loop-at-init c = ([], begun c.args.channels.now _ _ c.in_ok-offers.ensures c.in_
 pub overflow_cast-line : goal.overflow_cast-line
 overflow_cast-line c =
     let few : length c.deref-line-items.result.now ≤ 2097153 =
-        few_lines c.args.text.now _ c.requires.size (ap texts c.deref-line-items.ensures.value ∙ c.in_ok-lines.ensures) in
+    few_lines c.args.text.now _ c.requires.size (ap texts c.deref-line-items.ensures.value ∙ c.in_ok-lines.ensures) in
     let small : c.loop-at.at < 2097153 = omega arith in
     search rules
 
 pub overflow_add-line : goal.overflow_add-line
 overflow_add-line c =
     let few : length c.deref-line-items.result.now ≤ 2097153 =
-        few_lines c.args.text.now _ c.requires.size (ap texts c.deref-line-items.ensures.value ∙ c.in_ok-lines.ensures) in
+    few_lines c.args.text.now _ c.requires.size (ap texts c.deref-line-items.ensures.value ∙ c.in_ok-lines.ensures) in
     let small : c.loop-at.at < 2097153 = omega arith in
     search rules
 
@@ -29,7 +29,7 @@ pub returns-in-Refused-clause-refused : goal.returns-in-Refused-clause-refused
 returns-in-Refused-clause-refused c =
     refused_at c.args.channels.now c.args.text.now c.deref-line-items.result.now c.loop-at.at _ _ c.loop-at.told.items _ _ c.in-Refused.fault
     (ap texts c.deref-line-items.ensures.value ∙ c.in_ok-lines.ensures) c.loop-at-test.true c.loop-at.invariant c.deref.ensures.value
-        (rw c.in-Refused.is at c.in_ok-step_of.ensures)
+    (rw c.in-Refused.is at c.in_ok-step_of.ensures)
 
 pub note-requires-clause-offers : goal.note-requires-clause-offers
 note-requires-clause-offers c =
@@ -40,19 +40,22 @@ note-requires-clause-offers c =
 pub loop-at-preserved : goal.loop-at-preserved
 loop-at-preserved c =
     elim c.match-branch-5.branch [
-      | in-Skip w ↦ rw (w.offers-is, w.told-is,
-          w.values-is) (skip_line c.args.channels.now c.deref-line-items.result.now c.loop-at.at _ _ _ _ c.loop-at-test.true c.loop-at.invariant
+      | in-Skip w ↦ rw (
+        w.offers-is,
+        w.told-is,
+        w.values-is,
+      ) (skip_line c.args.channels.now c.deref-line-items.result.now c.loop-at.at _ _ _ _ c.loop-at-test.true c.loop-at.invariant
           (rw w.in-Skip.is at c.in_ok-step_of.ensures))
       | in-Take w ↦
           let offers_kept : length w.note.new.offers ≡ c.loop-at.offers.len = search rules in
           let told_kept : length w.note.new.told ≡ c.loop-at.told.len = search rules in
           rw (w.offers-is, w.told-is, w.values-is) (take_line c.args.channels.now c.deref-line-items.result.now c.loop-at.at _ _ _ c.loop-at.told.items _ _
-              c.loop-at.values w.in-Take.taken c.requires.distinct c.loop-at-test.true c.loop-at.invariant c.deref.ensures.value
-              (rw w.in-Take.is at c.in_ok-step_of.ensures)
+          c.loop-at.values w.in-Take.taken c.requires.distinct c.loop-at-test.true c.loop-at.invariant c.deref.ensures.value
+          (rw w.in-Take.is at c.in_ok-step_of.ensures)
           (ap (map offered) (with_items_is c.loop-at.offers w.note.new.offers offers_kept) ∙ w.note.ensures.offers
-              ∙ ap (λ os. slice_set (map offered os) w.in-Take.taken.place (offered w.in-Take.taken.offer)) w.deref_mut.ensures.value)
+          ∙ ap (λ os. slice_set (map offered os) w.in-Take.taken.place (offered w.in-Take.taken.offer)) w.deref_mut.ensures.value)
           (with_items_is c.loop-at.told w.note.new.told told_kept ∙ w.note.ensures.told
-              ∙ ap (λ bs. slice_set bs w.in-Take.taken.place true) w.deref_mut-in-Take.ensures.value))
+          ∙ ap (λ bs. slice_set bs w.in-Take.taken.place true) w.deref_mut-in-Take.ensures.value))
     ]
 
 pub returns-clause-script : goal.returns-clause-script
@@ -62,7 +65,7 @@ returns-clause-script c =
 pub returns-clause-read : goal.returns-clause-read
 returns-clause-read c =
     rw c.new.ensures (all_read c.args.channels.now c.args.text.now c.deref-line-items.result.now c.loop-at.at c.loop-at.invariant.0 _ _ _
-        (ap texts c.deref-line-items.ensures.value ∙ c.in_ok-lines.ensures) c.loop-at-test.false c.loop-at.invariant.1)
+    (ap texts c.deref-line-items.ensures.value ∙ c.in_ok-lines.ensures) c.loop-at-test.false c.loop-at.invariant.1)
 
 pub returns-clause-only : goal.returns-clause-only
 returns-clause-only c = λ t is. one_script c.args.channels.now c.args.text.now t _ is (returns-clause-read c)

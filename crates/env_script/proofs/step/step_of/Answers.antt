@@ -21,7 +21,7 @@ returns-in-Some-fault_on c =
     of_channel c.in-Some.line c.index-channels-place.result c.in-Some-place_of.place
     (said_so c.in_ok-words.words.items _ _ c.in-Some.line _ c.deref.ensures.value c.in_ok-words.ensures c.in_ok-line.ensures.some c.in-Some.is)
     (is_place c.args.channels.now _ c.in-Some.line.name _ c.in-Some-place_of.place c.index-channels-place.result c.bytes.ensures.bytes c.place_of.ensures
-        c.in-Some-place_of.is c.index-channels-place.is)
+    c.in-Some-place_of.is c.index-channels-place.is)
     (sym c.fault_on.ensures ∙ c.in-Some-fault_on.is)
 
 pub returns : goal.returns

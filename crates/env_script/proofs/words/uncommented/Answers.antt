@@ -10,8 +10,10 @@ returns-then-line-at-eq47-2 c =
 pub loop-at-preserved : goal.loop-at-preserved
 loop-at-preserved c =
     no_comment c.args.line.now c.loop-at.at c.loop-at.auto.at c.loop-at-test.true
-    (elim c.else-line-at-eq47.branch [ else-line-at-eq47-via-then-line-at-eq47+else-line-at-eq47-2 w ↦ and_right _ _ (ne_eqb _ 47 w.if-line-at-eq47-2.false) |
-        else-line-at-eq47-via-else-line-at-eq47 w ↦ and_left _ _ (ne_eqb _ 47 w.if-line-at-eq47.false) ])
+    (elim c.else-line-at-eq47.branch [
+      | else-line-at-eq47-via-then-line-at-eq47+else-line-at-eq47-2 w ↦ and_right _ _ (ne_eqb _ 47 w.if-line-at-eq47-2.false)
+      | else-line-at-eq47-via-else-line-at-eq47 w ↦ and_left _ _ (ne_eqb _ 47 w.if-line-at-eq47.false)
+    ])
     c.loop-at.invariant
 
 pub returns : goal.returns

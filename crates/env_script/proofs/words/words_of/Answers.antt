@@ -9,6 +9,6 @@ returns c =
     map_from_collect _ c.collect.ensures.ran
     (YieldsList-from_filter _ is_some_word
     (YieldsList-at c.filter.ensures.source (YieldsList-from_slice_split _ is_blank (uncommented c.args.line.now) (c.split.ensures.rest ∙ c.uncommented.ensures)
-        c.split.ensures.done c.split.ensures.closure (λ x r q k. search (rules, tests))))
+    c.split.ensures.done c.split.ensures.closure (λ x r q k. search (rules, tests))))
     c.filter.ensures.closure
     (λ x r q k. search (rules, tests)))

@@ -28,13 +28,13 @@ loop-place-init t c =
 pub overflow_add-next : goal.overflow_add-next
 overflow_add-next t c =
     let size = size_here (program_of c.args.program.now) c.in-Then.parts.items c.loop-place.place c.index.result.now c.index.ensures
-        (omega (arith, c.in-Then.parts.ok.0)) in
+    (omega (arith, c.in-Then.parts.ok.0)) in
     omega (arith, size, c.loop-place.invariant.room, c.statement_nodes.ensures)
 
 pub overflow_add-next-in-loop-place : goal.overflow_add-next-in-loop-place
 overflow_add-next-in-loop-place t c =
     let size = size_here (program_of c.args.program.now) c.in-Then.parts.items c.loop-place.place c.index.result.now c.index.ensures
-        (omega (arith, c.in-Then.parts.ok.0)) in
+    (omega (arith, c.in-Then.parts.ok.0)) in
     omega (arith, size, c.loop-place.invariant.room, c.statement_nodes.ensures)
 
 pub loop-place-preserved : goal.loop-place-preserved
@@ -45,7 +45,7 @@ loop-place-preserved t c =
     let within : i + 1 < length items = omega (arith, c.in-Then.parts.ok.0) in
     let size = size_here p items i c.index.result.now c.index.ensures within in
     let next : c.loop-place.next + (3 + c.statement_nodes.result) ≡ c.loop-place.next + 3 + size_of p (process_of c.index.result.now) =
-        omega (arith, size, c.loop-place.invariant.room, c.statement_nodes.ensures) in
+    omega (arith, size, c.loop-place.invariant.room, c.statement_nodes.ensures) in
     record {
       answer = ap (turn_answer p (members_of (drop (i + 1) items))) next
           ∙ (sym (answer_here p items i c.index.result.now c.index.ensures c.loop-place.next within) ∙ c.loop-place.invariant.answer);
@@ -67,9 +67,13 @@ answer_node-requires t c =
     let end : c.len-last.result - 1 ≡ i = omega arith in
     let whole : i + 1 ≡ length items = omega (arith, typed.0, end, c.len-last.ensures, c.in-Then.parts.ok.0) in
     let last = c.index-in-Then.result.now in
-    let at : last ≡ get_or items i last = c.index-in-Then.ensures ∙ ap (λ n. get_or items n last) end in
-    (search (rules, the_lemmas, get_or_read), ((this_typed _ _ items i last at (omega (arith, whole)) c.loop-place.invariant.formed).0,
-        omega (arith, size_last p items i last at whole, c.loop-place.invariant.room)))
+    let at : last ≡ get_or items i last = c.index-in-Then.ensures ∙ ap (λ n. get_or items n last) end in (
+      search (rules, the_lemmas, get_or_read),
+      (
+        (this_typed _ _ items i last at (omega (arith, whole)) c.loop-place.invariant.formed).0,
+        omega (arith, size_last p items i last at whole, c.loop-place.invariant.room),
+      ),
+    )
 
 pub returns-in-Assign : goal.returns-in-Assign
 returns-in-Assign t c = c.assign_answer.ensures c.in-Assign.at ∙ ap (λ s. answer_of (program_of c.args.program.now) (process_of s) c.args.from)

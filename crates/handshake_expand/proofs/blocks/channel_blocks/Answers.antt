@@ -20,7 +20,7 @@ overflow_add-next c =
     let p = program_of c.args.program.now in
     let step = next_wires items c.loop-channel.channel-index _ c.loop-channel-test.true c.channel-item.is in
     let whole : wires_before items (length items) ≡ wires_before p.channels (length p.channels) =
-        ap (λ cs. wires_before cs (length cs)) c.channels-channel-items.ensures in
+    ap (λ cs. wires_before cs (length cs)) c.channels-channel-items.ensures in
     omega (arith, step, whole, wires_within items (c.loop-channel.channel-index + 1), c.loop-channel.invariant.next, c.from.ensures, c.requires)
 
 pub loop-channel-preserved : goal.loop-channel-preserved
@@ -37,7 +37,7 @@ loop-channel-preserved c =
     record {
       blocks = ap (λ bs. map block_value bs ++ blocks_from (channel_block p []) (i + 1) (drop (i + 1) items)) c.in_ok-push.ensures.items
           ∙ next_block (channel_block p []) c.loop-channel.blocks.items c.empty_block.result i items _ _ c.loop-channel-test.true c.channel-item.is value
-              c.loop-channel.invariant.blocks;
+          c.loop-channel.invariant.blocks;
       next = omega (arith, step, c.loop-channel.invariant.next, c.from.ensures);
     }
 
@@ -45,7 +45,7 @@ pub returns-clause-blocks : goal.returns-clause-blocks
 returns-clause-blocks c =
     let p = program_of c.args.program.now in
     all_blocks_made (channel_block p []) c.loop-channel.blocks.items c.loop-channel.channel-index c.channels-channel-items.result.now _
-        c.loop-channel-test.false c.loop-channel.invariant.blocks
+    c.loop-channel-test.false c.loop-channel.invariant.blocks
     ∙ ap (blocks_from (channel_block p []) 0) c.channels-channel-items.ensures
 
 pub returns-clause-next : goal.returns-clause-next

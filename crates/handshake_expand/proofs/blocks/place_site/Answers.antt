@@ -8,8 +8,8 @@ pub returns-in_ok-push-in-Send-clause-channels : goal.returns-in_ok-push-in-Send
 returns-in_ok-push-in-Send-clause-channels c p before same =
     let old = get_or c.args.channels.now c.in-Send.chan c.index-channels-chan.result in
     send_placed p before c.args.site c.args.channels.now c.in-Send.chan old _ c.if-chan-channels.true
-        (ap (λ d. get_or c.args.channels.now c.in-Send.chan d) c.index-channels-chan.is) c.in-Send.is
-        (ap (λ ns. record (block_value old) { sends = ns }) c.in_ok-push-in-Send.ensures.items) same
+    (ap (λ d. get_or c.args.channels.now c.in-Send.chan d) c.index-channels-chan.is) c.in-Send.is
+    (ap (λ ns. record (block_value old) { sends = ns }) c.in_ok-push-in-Send.ensures.items) same
 
 pub returns-in_ok-push-in-Send-clause-vars : goal.returns-in_ok-push-in-Send-clause-vars
 returns-in_ok-push-in-Send-clause-vars c p before same = vars_missed p before c.args.site c.args.vars.now (λ m low. ap (same_kind (Write m)) c.in-Send.is) same
@@ -25,8 +25,8 @@ pub returns-in_ok-push-in-Receive-clause-channels : goal.returns-in_ok-push-in-R
 returns-in_ok-push-in-Receive-clause-channels c p before same =
     let old = get_or c.args.channels.now c.in-Receive.chan c.index-channels-chan-then-chan-channels-2.result in
     receive_placed p before c.args.site c.args.channels.now c.in-Receive.chan old _ c.if-chan-channels-2.true
-        (ap (λ d. get_or c.args.channels.now c.in-Receive.chan d) c.index-channels-chan-then-chan-channels-2.is) c.in-Receive.is
-        (ap (λ ns. record (block_value old) { receives = ns }) c.in_ok-push-in-Receive.ensures.items) same
+    (ap (λ d. get_or c.args.channels.now c.in-Receive.chan d) c.index-channels-chan-then-chan-channels-2.is) c.in-Receive.is
+    (ap (λ ns. record (block_value old) { receives = ns }) c.in_ok-push-in-Receive.ensures.items) same
 
 pub returns-in_ok-push-in-Receive-clause-vars : goal.returns-in_ok-push-in-Receive-clause-vars
 returns-in_ok-push-in-Receive-clause-vars c p before same =
@@ -44,8 +44,8 @@ pub returns-in_ok-push-in-Write-clause-vars : goal.returns-in_ok-push-in-Write-c
 returns-in_ok-push-in-Write-clause-vars c p before same =
     let old = get_or c.args.vars.now c.in-Write.var c.index-vars-var.result in
     write_placed p before c.args.site c.args.vars.now c.in-Write.var old _ c.if-var-vars.true
-        (ap (λ d. get_or c.args.vars.now c.in-Write.var d) c.index-vars-var.is) c.in-Write.is
-        (ap (λ ns. record (block_value old) { writes = ns }) c.in_ok-push-in-Write.ensures.items) same
+    (ap (λ d. get_or c.args.vars.now c.in-Write.var d) c.index-vars-var.is) c.in-Write.is
+    (ap (λ ns. record (block_value old) { writes = ns }) c.in_ok-push-in-Write.ensures.items) same
 
 pub returns-in_ok-push-in-Write-clause-channels : goal.returns-in_ok-push-in-Write-clause-channels
 returns-in_ok-push-in-Write-clause-channels c p before same =

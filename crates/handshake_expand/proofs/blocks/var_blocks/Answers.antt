@@ -36,7 +36,7 @@ loop-var-preserved c =
     record {
       blocks = ap (λ bs. map block_value bs ++ blocks_from (var_block p []) (i + 1) (drop (i + 1) items)) c.in_ok-push.ensures.items
           ∙ next_block (var_block p []) c.loop-var.blocks.items c.empty_block.result i items _ _ c.loop-var-test.true c.var-item.is value
-              c.loop-var.invariant.blocks;
+          c.loop-var.invariant.blocks;
       next = omega (arith, step, c.loop-var.invariant.next, c.block_nodes-nodes.ensures);
     }
 
@@ -44,7 +44,7 @@ pub returns-clause-blocks : goal.returns-clause-blocks
 returns-clause-blocks c =
     let p = program_of c.args.program.now in
     all_blocks_made (var_block p []) c.loop-var.blocks.items c.loop-var.var-index c.vars-var-items.result.now _ c.loop-var-test.false
-        c.loop-var.invariant.blocks
+    c.loop-var.invariant.blocks
     ∙ ap (blocks_from (var_block p []) 0) c.vars-var-items.ensures
 
 pub returns-clause-next : goal.returns-clause-next
@@ -53,4 +53,4 @@ returns-clause-next c =
     let items = c.vars-var-items.result.now in
     let end : c.loop-var.var-index ≡ length items = omega (arith, c.loop-var-test.false, c.loop-var.auto.var-index-end) in
     c.loop-var.invariant.next ∙ (ap (λ n. vars_from p + blocks_before items n) end
-        ∙ ap (λ vs. vars_from p + blocks_before vs (length vs)) c.vars-var-items.ensures)
+    ∙ ap (λ vs. vars_from p + blocks_before vs (length vs)) c.vars-var-items.ensures)

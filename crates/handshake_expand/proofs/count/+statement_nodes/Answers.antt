@@ -29,8 +29,16 @@ loop-branch-init t c =
     let branches = branches_are p (members_of c.in-Beside.parts.items) in
     let count = members_counted c.in-Beside.parts.items in
     rw c.deref-branch-items.ensures.value (record {
-      counted = omega (arith, size, branches, count, c.len-branches.ensures, c.saturating_mul.ensures, c.saturating_sub-in-Beside.ensures,
-          c.saturating_add-count-in-Beside.ensures);
+      counted = omega (
+        arith,
+        size,
+        branches,
+        count,
+        c.len-branches.ensures,
+        c.saturating_mul.ensures,
+        c.saturating_sub-in-Beside.ensures,
+        c.saturating_add-count-in-Beside.ensures,
+      );
       formed = facts.1;
       most = omega (arith, c.saturating_add-count-in-Beside.ensures);
     })
@@ -43,8 +51,15 @@ loop-arm-init t c =
     let size = ap (size_of p) is ∙ choosing_is p c.in-Select.again (arms_of c.in-Select.arms.items) in
     let count = arms_counted c.in-Select.arms.items in
     rw c.deref-arm-items.ensures.value (record {
-      counted = omega (arith, size, count, c.len-in-Select.ensures, c.saturating_mul-in-Select.ensures, c.own_nodes.ensures,
-          c.saturating_add-count-in-Select.ensures);
+      counted = omega (
+        arith,
+        size,
+        count,
+        c.len-in-Select.ensures,
+        c.saturating_mul-in-Select.ensures,
+        c.own_nodes.ensures,
+        c.saturating_add-count-in-Select.ensures,
+      );
       formed = facts.2;
       most = omega (arith, c.saturating_add-count-in-Select.ensures);
     })
@@ -53,19 +68,19 @@ pub returns-after-loop-part : goal.returns-after-loop-part
 returns-after-loop-part t c =
     let none = no_more_members c.deref-part-items.result.now c.loop-part.part-index c.loop-part-test.false in
     let left : members_size (program_of c.args.program.now) (members_of (drop c.loop-part.part-index c.deref-part-items.result.now)) ≡ 0 =
-        ap (members_size (program_of c.args.program.now)) none in
+    ap (members_size (program_of c.args.program.now)) none in
     omega (arith, c.loop-part.invariant.counted, c.loop-part.invariant.most, left)
 
 pub returns-after-loop-branch : goal.returns-after-loop-branch
 returns-after-loop-branch t c =
     let none = no_more_members c.deref-branch-items.result.now c.loop-branch.branch-index c.loop-branch-test.false in
     let left : members_size (program_of c.args.program.now) (members_of (drop c.loop-branch.branch-index c.deref-branch-items.result.now)) ≡ 0 =
-        ap (members_size (program_of c.args.program.now)) none in
+    ap (members_size (program_of c.args.program.now)) none in
     omega (arith, c.loop-branch.invariant.counted, c.loop-branch.invariant.most, left)
 
 pub returns-after-loop-arm : goal.returns-after-loop-arm
 returns-after-loop-arm t c =
     let none = no_more_arms c.deref-arm-items.result.now c.loop-arm.arm-index c.loop-arm-test.false in
     let left : arms_size (program_of c.args.program.now) (arms_of (drop c.loop-arm.arm-index c.deref-arm-items.result.now)) ≡ 0 =
-        ap (arms_size (program_of c.args.program.now)) none in
+    ap (arms_size (program_of c.args.program.now)) none in
     omega (arith, c.loop-arm.invariant.counted, c.loop-arm.invariant.most, left)

@@ -37,5 +37,5 @@ pub returns-after-loop-link : goal.returns-after-loop-link
 returns-after-loop-link t c =
     let none = no_more_links c.deref-link-items.result.now c.loop-link.link-index c.loop-link-test.false in
     let left : operations_size c.width_of-width.result (links_of (drop c.loop-link.link-index c.deref-link-items.result.now)) ≡ 0 =
-        ap (operations_size c.width_of-width.result) none in
+    ap (operations_size c.width_of-width.result) none in
     omega (arith, c.loop-link.invariant.counted, c.loop-link.invariant.most, left)

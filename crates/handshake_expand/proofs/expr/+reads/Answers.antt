@@ -11,6 +11,6 @@ loop-part-init t c = rw c.deref-part-items.ensures.value (ap (reads c.args.var) 
 pub loop-link-init : goal.loop-link-init
 loop-link-init t c =
     let first : reads c.args.var (formula_of c.in-Chain.first.value) ≡ false = sym (rw c.deref-in-Chain.ensures at c.reads-in-Chain.ensures)
-        ∙ c.if-reads-2.false in
+    ∙ c.if-reads-2.false in
     rw c.deref-link-items.ensures.value (ap (reads c.args.var) (chain_is _ _ _ c.in-Chain.is)
-        ∙ ap (λ b. b || reads_in_operations c.args.var (links_of c.in-Chain.rest.items)) first)
+    ∙ ap (λ b. b || reads_in_operations c.args.var (links_of c.in-Chain.rest.items)) first)

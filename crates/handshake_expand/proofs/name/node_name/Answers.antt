@@ -17,14 +17,14 @@ pub returns-then-place-wires-clause-name : goal.returns-then-place-wires-clause-
 returns-then-place-wires-clause-name c =
     c.wire_name.ensures.name
     ∙ (sym (wire_here (program_of c.args.program.now) c.channels-channel-items.result.now c.loop-channel.channel-index c.loop-channel.place _
-        c.loop-channel-test.true c.channel-item.is (omega (arith, c.if-place-wires.true, c.from.ensures)))
+    c.loop-channel-test.true c.channel-item.is (omega (arith, c.if-place-wires.true, c.from.ensures)))
     ∙ c.loop-channel.invariant.name)
 
 pub returns-then-place-wires-clause-length : goal.returns-then-place-wires-clause-length
 returns-then-place-wires-clause-length c =
     c.wire_name.ensures.length
     ∙ ap length (sym (wire_here (program_of c.args.program.now) c.channels-channel-items.result.now c.loop-channel.channel-index c.loop-channel.place _
-        c.loop-channel-test.true c.channel-item.is (omega (arith, c.if-place-wires.true, c.from.ensures)))
+    c.loop-channel-test.true c.channel-item.is (omega (arith, c.if-place-wires.true, c.from.ensures)))
     ∙ c.loop-channel.invariant.name)
 
 pub loop-channel-preserved : goal.loop-channel-preserved
@@ -67,7 +67,7 @@ returns-then-place-width-clause-name c =
     let some = some_width p.vars items i _ c.vars-var-items.ensures c.loop-var-test.true c.var-item.is c.body-body.ensures.typed.each_var in
     c.var_name.ensures.name
     ∙ (sym (bit_here p items i (vars_from p + blocks_before items i) c.loop-var.place _ c.loop-var-test.true c.var-item.is some
-        (omega (arith, c.if-place-width.true, c.from-width.ensures)))
+    (omega (arith, c.if-place-width.true, c.from-width.ensures)))
     ∙ c.loop-var.invariant.name)
 
 pub returns-then-place-width-clause-length : goal.returns-then-place-width-clause-length
@@ -78,7 +78,7 @@ returns-then-place-width-clause-length c =
     let some = some_width p.vars items i _ c.vars-var-items.ensures c.loop-var-test.true c.var-item.is c.body-body.ensures.typed.each_var in
     c.var_name.ensures.length
     ∙ ap length (sym (bit_here p items i (vars_from p + blocks_before items i) c.loop-var.place _ c.loop-var-test.true c.var-item.is some
-        (omega (arith, c.if-place-width.true, c.from-width.ensures)))
+    (omega (arith, c.if-place-width.true, c.from-width.ensures)))
     ∙ c.loop-var.invariant.name)
 
 pub returns-then-place-width-2-clause-name : goal.returns-then-place-width-2-clause-name
@@ -89,7 +89,7 @@ returns-then-place-width-2-clause-name c =
     let some = some_width p.vars items i _ c.vars-var-items.ensures c.loop-var-test.true c.var-item.is c.body-body.ensures.typed.each_var in
     c.numbered_name.ensures.name
     ∙ (sym (tree_here p items i (vars_from p + blocks_before items i) c.loop-var.place _ c.loop-var-test.true c.var-item.is some c.args.node
-        (omega (arith, c.if-place-width.false, c.from-width.ensures)) (omega (arith, c.if-place-width-2.true, c.from-width.ensures)) c.loop-var.invariant.at)
+    (omega (arith, c.if-place-width.false, c.from-width.ensures)) (omega (arith, c.if-place-width-2.true, c.from-width.ensures)) c.loop-var.invariant.at)
     ∙ c.loop-var.invariant.name)
 
 pub returns-then-place-width-2-clause-length : goal.returns-then-place-width-2-clause-length
@@ -100,7 +100,7 @@ returns-then-place-width-2-clause-length c =
     let some = some_width p.vars items i _ c.vars-var-items.ensures c.loop-var-test.true c.var-item.is c.body-body.ensures.typed.each_var in
     c.numbered_name.ensures.length
     ∙ ap length (sym (tree_here p items i (vars_from p + blocks_before items i) c.loop-var.place _ c.loop-var-test.true c.var-item.is some c.args.node
-        (omega (arith, c.if-place-width.false, c.from-width.ensures)) (omega (arith, c.if-place-width-2.true, c.from-width.ensures)) c.loop-var.invariant.at)
+    (omega (arith, c.if-place-width.false, c.from-width.ensures)) (omega (arith, c.if-place-width-2.true, c.from-width.ensures)) c.loop-var.invariant.at)
     ∙ c.loop-var.invariant.name)
 
 pub loop-var-preserved : goal.loop-var-preserved
@@ -132,11 +132,11 @@ returns-clause-name c =
     let i = c.loop-var.var-index in
     let end : i ≡ length items = omega (arith, c.loop-var-test.false, c.loop-var.auto.var-index-end) in
     let whole : blocks_before items i ≡ blocks_before p.vars (length p.vars) =
-        ap (blocks_before items) end ∙ ap (λ vs. blocks_before vs (length vs)) c.vars-var-items.ensures in
+    ap (blocks_before items) end ∙ ap (λ vs. blocks_before vs (length vs)) c.vars-var-items.ensures in
     let from : vars_from p + blocks_before items i ≡ root_request p = omega (arith, whole) in
     c.numbered_name-2.ensures.name
     ∙ (sym (blocks_over p items i (vars_from p + blocks_before items i) c.loop-var.place c.args.node c.loop-var-test.false
-        (omega (arith, whole, c.loop-var.invariant.at)) c.requires from)
+    (omega (arith, whole, c.loop-var.invariant.at)) c.requires from)
     ∙ c.loop-var.invariant.name)
 
 pub returns-clause-length : goal.returns-clause-length
@@ -146,9 +146,9 @@ returns-clause-length c =
     let i = c.loop-var.var-index in
     let end : i ≡ length items = omega (arith, c.loop-var-test.false, c.loop-var.auto.var-index-end) in
     let whole : blocks_before items i ≡ blocks_before p.vars (length p.vars) =
-        ap (blocks_before items) end ∙ ap (λ vs. blocks_before vs (length vs)) c.vars-var-items.ensures in
+    ap (blocks_before items) end ∙ ap (λ vs. blocks_before vs (length vs)) c.vars-var-items.ensures in
     let from : vars_from p + blocks_before items i ≡ root_request p = omega (arith, whole) in
     c.numbered_name-2.ensures.length
     ∙ ap length (sym (blocks_over p items i (vars_from p + blocks_before items i) c.loop-var.place c.args.node c.loop-var-test.false
-        (omega (arith, whole, c.loop-var.invariant.at)) c.requires from)
+    (omega (arith, whole, c.loop-var.invariant.at)) c.requires from)
     ∙ c.loop-var.invariant.name)

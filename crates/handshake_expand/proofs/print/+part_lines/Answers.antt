@@ -29,10 +29,14 @@ loop-child-init t c =
     }
 
 pub part_lines-requires : goal.part_lines-requires
-part_lines-requires t c =
-    (search (rules, the_lemmas, get_or_read),
-        (c.requires.root, (child_below (nodes_of (program_of c.args.program.now)) c.deref-child-items.result.now c.loop-child.child-index c.child-item.result
-        c.loop-child-test.true c.child-item.is c.loop-child.invariant.nodes).0))
+part_lines-requires t c = (
+  search (rules, the_lemmas, get_or_read),
+  (
+    c.requires.root,
+    (child_below (nodes_of (program_of c.args.program.now)) c.deref-child-items.result.now c.loop-child.child-index c.child-item.result
+        c.loop-child-test.true c.child-item.is c.loop-child.invariant.nodes).0,
+  ),
+)
 
 pub loop-child-preserved : goal.loop-child-preserved
 loop-child-preserved t c =
@@ -54,8 +58,13 @@ returns-clause-lines t c level is = last_lines (program_of c.args.program.now) (
 pub returns-clause-margin : goal.returns-clause-margin
 returns-clause-margin t c =
     let old = c.args.margin.now.items in
-    let count : c.len.result - 2 ≡ length old = omega (arith, c.len.ensures, c.loop-child.margin.ok.0, ap length c.loop-child.invariant.margin,
-        length-append old (codes "  ")) in
+    let count : c.len.result - 2 ≡ length old = omega (
+      arith,
+      c.len.ensures,
+      c.loop-child.margin.ok.0,
+      ap length c.loop-child.invariant.margin,
+      length-append old (codes "  "),
+    ) in
     c.truncate.ensures.items
     ∙ (ap (take (c.len.result - 2)) c.loop-child.invariant.margin
     ∙ (ap (λ n. take n (old ++ codes "  ")) count

@@ -6,4 +6,4 @@ use Rattle.handshake_expand.proofs.print.channel_lines.Given as goal
 abbrev pub invariant-loop-place : goal.invariant-loop-place
 invariant-loop-place l =
     l.to.items ++ channel_lines (drop l.place l.channel-items) (map block_value (drop l.place l.blocks)) ≡ l.initial.to.items
-        ++ channel_lines l.channel-items (map block_value l.blocks)
+    ++ channel_lines l.channel-items (map block_value l.blocks)

@@ -5,4 +5,4 @@ use Rattle.handshake_expand.proofs.print.part_line.Goals as goal
 pub returns : goal.returns
 returns c =
     on_ok_weaker c.named_line.result (λ lines. lines (program_of c.args.program.now) c.name_from-request_end.ensures.name c.name_from-answer_end.ensures.name)
-        c.named_line.ensures
+    c.named_line.ensures

@@ -13,13 +13,13 @@ pub channel_lines-requires : goal.channel_lines-requires
 channel_lines-requires c =
     let p = program_of c.args.program.now in
     ap length c.deref.ensures.value ∙ values_count (channel_block p (in_body p (own_sites p))) c.args.parts.now.channels.items p.channels
-        (ap (λ (x : Expansion). x.channels) c.requires)
+    (ap (λ (x : Expansion). x.channels) c.requires)
 
 pub var_lines-requires : goal.var_lines-requires
 var_lines-requires c =
     let p = program_of c.args.program.now in
     ap length c.deref-2.ensures.value ∙ values_count (var_block p (in_body p (own_sites p))) c.args.parts.now.vars.items p.vars
-        (ap (λ (x : Expansion). x.vars) c.requires)
+    (ap (λ (x : Expansion). x.vars) c.requires)
 
 pub part_lines-requires-clause-root : goal.part_lines-requires-clause-root
 part_lines-requires-clause-root c = from_read c.args.parts.now.root ∙ ap (λ (x : Expansion). tree_from x.root) c.requires

@@ -6,4 +6,4 @@ use Rattle.handshake_expand.proofs.print.var_lines.Given as goal
 abbrev pub invariant-loop-place : goal.invariant-loop-place
 invariant-loop-place l =
     l.to.items ++ var_lines (drop l.place l.var-items) (map block_value (drop l.place l.blocks)) ≡ l.initial.to.items
-        ++ var_lines l.var-items (map block_value l.blocks)
+    ++ var_lines l.var-items (map block_value l.blocks)

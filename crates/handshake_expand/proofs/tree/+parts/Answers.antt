@@ -28,10 +28,13 @@ sequence-overflow_add-next t c =
 
 pub sequence-part-requires : goal.sequence-part-requires
 sequence-part-requires t c =
-    let size = size_here (program_of c.args.program.now) c.args.members.now c.loop-place.place _ c.index-members-place.is (omega arith) in
-    (search (rules, the_lemmas, get_or_read),
-        ((this_typed _ _ c.args.members.now c.loop-place.place _ c.index-members-place.is (omega arith) c.loop-place.invariant.formed).0,
-        omega (arith, size, c.loop-place.invariant.size, c.requires.room)))
+    let size = size_here (program_of c.args.program.now) c.args.members.now c.loop-place.place _ c.index-members-place.is (omega arith) in (
+      search (rules, the_lemmas, get_or_read),
+      (
+        (this_typed _ _ c.args.members.now c.loop-place.place _ c.index-members-place.is (omega arith) c.loop-place.invariant.formed).0,
+        omega (arith, size, c.loop-place.invariant.size, c.requires.room),
+      ),
+    )
 
 pub sequence-overflow_add-asked : goal.sequence-overflow_add-asked
 sequence-overflow_add-asked t c =
@@ -70,11 +73,11 @@ sequence-loop-place-preserved t c =
       children = front_more c.loop-place.children.items c.push.new.self.items child (expanded p (process_of s) next (next + 3)) _ _ _ c.in_ok-push.ensures.items
           c.in_ok-child.ensures.part
           (expanded_here p members i s at c.loop-place.asked next within
-              ∙ ap (λ n. and_child (expanded p (process_of s) next (next + 3)) (expanded_in_turn p behind (next + 2) n)) step)
+          ∙ ap (λ n. and_child (expanded p (process_of s) next (next + 3)) (expanded_in_turn p behind (next + 2) n)) step)
           c.loop-place.invariant.children;
       sites = sites_more c.loop-place.sites.items c.part.new.sites.items (sites_in p (own_sites p) (process_of s) (next + 3)) _ _ _ c.in_ok-child.ensures.sites
           (sites_here p members i s at (own_sites p) next within
-              ∙ ap (λ n. sites_in p (own_sites p) (process_of s) (next + 3) ++ sites_in_turn p (own_sites p) behind n) step)
+          ∙ ap (λ n. sites_in p (own_sites p) (process_of s) (next + 3) ++ sites_in_turn p (own_sites p) behind n) step)
           c.loop-place.invariant.sites;
       size = omega (arith, size, step, c.loop-place.invariant.size);
       answer = ap (turn_answer p behind) (sym step) ∙ (sym (answer_here p members i s at next within) ∙ c.loop-place.invariant.answer);
@@ -107,15 +110,15 @@ sequence-returns-clause-part t c =
     let child = c.in_ok-child-2.child in
     let count = child_count child p (process_of s) c.loop-place.asked next c.in_ok-child-2.ensures.part in
     let counts : next - c.args.from + (out-Part child).count ≡ turn_size p (members_of members) =
-        omega (arith, size_last p members i s at whole, count, c.loop-place.invariant.size, c.loop-place.invariant.low) in
+    omega (arith, size_last p members i s at whole, count, c.loop-place.invariant.size, c.loop-place.invariant.low) in
     made_part Sequence Sequence c.args.request _ _ c.args.from _ _ c.push-2.new.self _ refl
     (child_answer child p (process_of s) c.loop-place.asked next c.in_ok-child-2.ensures.part
-        ∙ (sym (answer_last p members i s at next whole) ∙ c.loop-place.invariant.answer))
+    ∙ (sym (answer_last p members i s at next whole) ∙ c.loop-place.invariant.answer))
     counts
     (front_done c.push-2.new.self.items no_children _ refl
     (front_more c.loop-place.children.items c.push-2.new.self.items child (expanded p (process_of s) c.loop-place.asked next) _ no_children _
-        c.in_ok-push-2.ensures.items c.in_ok-child-2.ensures.part (expanded_last p members i s at c.loop-place.asked next whole)
-        c.loop-place.invariant.children))
+    c.in_ok-push-2.ensures.items c.in_ok-child-2.ensures.part (expanded_last p members i s at c.loop-place.asked next whole)
+    c.loop-place.invariant.children))
 
 pub sequence-returns-clause-sites : goal.sequence-returns-clause-sites
 sequence-returns-clause-sites t c =
@@ -127,7 +130,7 @@ sequence-returns-clause-sites t c =
     let whole : i + 1 ≡ length members = omega (arith, end, c.requires.process.0, members_counted members) in
     let at : s ≡ get_or members i s = c.index-members-last.is ∙ ap (λ n. get_or members n s) end in
     c.in_ok-child-2.ensures.sites ∙ (ap (λ xs. c.loop-place.sites.items ++ xs) (sym (sites_last p members i s at (own_sites p) c.loop-place.next whole))
-        ∙ c.loop-place.invariant.sites)
+    ∙ c.loop-place.invariant.sites)
 
 -- parallel compositions
 
@@ -163,11 +166,11 @@ parallel-loop-branch-preserved t c =
       children = front_more c.loop-branch.children.items c.push.new.self.items child (expanded p (process_of s) next (next + 3)) _ _ _
           c.in_ok-push.ensures.items c.in_ok-child.ensures.part
           (branch_expanded_here p branches i s within at next ∙ ap (λ n. and_child (expanded p (process_of s) next (next + 3)) (expanded_branches p behind n))
-              step)
+          step)
           c.loop-branch.invariant.children;
       sites = sites_more c.loop-branch.sites.items c.part.new.sites.items (sites_in p (own_sites p) (process_of s) (next + 3)) _ _ _ c.in_ok-child.ensures.sites
           (branch_sites_here p branches i s within at (own_sites p) next
-              ∙ ap (λ n. sites_in p (own_sites p) (process_of s) (next + 3) ++ sites_in_branches p (own_sites p) behind n) step)
+          ∙ ap (λ n. sites_in p (own_sites p) (process_of s) (next + 3) ++ sites_in_branches p (own_sites p) behind n) step)
           c.loop-branch.invariant.sites;
       size = omega (arith, size, step, c.loop-branch.invariant.size);
       formed = (this_typed _ _ branches i s at within c.loop-branch.invariant.formed).1;
@@ -181,14 +184,24 @@ parallel-overflow_cast-count t c =
 pub parallel-overflow_add-count : goal.parallel-overflow_add-count
 parallel-overflow_add-count t c =
     let p = program_of c.args.program.now in
-    omega (arith, branch_size_end p c.args.branches.now c.loop-branch.branch-index c.loop-branch-test.false, members_counted c.args.branches.now,
-        c.loop-branch.invariant.size, c.requires.room)
+    omega (
+      arith,
+      branch_size_end p c.args.branches.now c.loop-branch.branch-index c.loop-branch-test.false,
+      members_counted c.args.branches.now,
+      c.loop-branch.invariant.size,
+      c.requires.room,
+    )
 
 pub parallel-overflow_add-result : goal.parallel-overflow_add-result
 parallel-overflow_add-result t c =
     let p = program_of c.args.program.now in
-    omega (arith, branch_size_end p c.args.branches.now c.loop-branch.branch-index c.loop-branch-test.false, members_counted c.args.branches.now,
-        c.loop-branch.invariant.size, c.requires.room)
+    omega (
+      arith,
+      branch_size_end p c.args.branches.now c.loop-branch.branch-index c.loop-branch-test.false,
+      members_counted c.args.branches.now,
+      c.loop-branch.invariant.size,
+      c.requires.room,
+    )
 
 pub parallel-returns-clause-part : goal.parallel-returns-clause-part
 parallel-returns-clause-part t c =
@@ -198,12 +211,12 @@ parallel-returns-clause-part t c =
     let from = c.args.from in
     let end = branch_size_end p branches i c.loop-branch-test.false in
     let counts : c.loop-branch.next - from + (length branches - 1) ≡ size_of p (side_by_side (members_of branches)) =
-        omega (arith, end, members_counted branches, c.loop-branch.invariant.size) in
+    omega (arith, end, members_counted branches, c.loop-branch.invariant.size) in
     made_part Parallel Parallel c.args.request _ _ from _ _ c.loop-branch.children _ refl
     (ap (λ n. from + n - 1) counts)
     counts
     (front_done c.loop-branch.children.items _ _ (branch_expanded_end p branches i c.loop-branch-test.false c.loop-branch.next)
-        c.loop-branch.invariant.children)
+    c.loop-branch.invariant.children)
 
 -- selections
 
@@ -212,21 +225,37 @@ selection-overflow_cast-guards t c = omega (arith, c.requires.process.1, arms_co
 
 pub selection-overflow_add-start-2 : goal.selection-overflow_add-start-2
 selection-overflow_add-start-2 t c =
-    omega (arith, choosing_size (program_of c.args.program.now) c.args.again (arms_of c.args.arms.now), arms_counted c.args.arms.now, c.own_nodes.ensures,
-        c.requires.room)
+    omega (
+      arith,
+      choosing_size (program_of c.args.program.now) c.args.again (arms_of c.args.arms.now),
+      arms_counted c.args.arms.now,
+      c.own_nodes.ensures,
+      c.requires.room,
+    )
 
 pub selection-overflow_add-next : goal.selection-overflow_add-next
 selection-overflow_add-next t c =
-    omega (arith, choosing_size (program_of c.args.program.now) c.args.again (arms_of c.args.arms.now), arms_counted c.args.arms.now, c.own_nodes.ensures,
-        c.requires.room)
+    omega (
+      arith,
+      choosing_size (program_of c.args.program.now) c.args.again (arms_of c.args.arms.now),
+      arms_counted c.args.arms.now,
+      c.own_nodes.ensures,
+      c.requires.room,
+    )
 
 pub selection-guard_nodes-requires : goal.selection-guard_nodes-requires
 selection-guard_nodes-requires t c = guards_formed _ _ (arms_of c.args.arms.now) c.requires.process.2
 
 pub selection-overflow_add-next-2 : goal.selection-overflow_add-next-2
 selection-overflow_add-next-2 t c =
-    omega (arith, choosing_size (program_of c.args.program.now) c.args.again (arms_of c.args.arms.now), arms_counted c.args.arms.now, c.own_nodes.ensures,
-        c.guard_nodes.ensures, c.requires.room)
+    omega (
+      arith,
+      choosing_size (program_of c.args.program.now) c.args.again (arms_of c.args.arms.now),
+      arms_counted c.args.arms.now,
+      c.own_nodes.ensures,
+      c.guard_nodes.ensures,
+      c.requires.room,
+    )
 
 pub selection-loop-arm-init : goal.selection-loop-arm-init
 selection-loop-arm-init t c =
@@ -237,9 +266,9 @@ selection-loop-arm-init t c =
     let from = c.args.from in
     let size = choosing_size p again choices in
     let start : from + c.own_nodes.result + length arms ≡ from + own_before again + choice_count choices =
-        omega (arith, arms_counted arms, c.own_nodes.ensures) in
+    omega (arith, arms_counted arms, c.own_nodes.ensures) in
     let next : from + c.own_nodes.result + length arms + length arms + c.guard_nodes.result ≡ bodies_from choices (own_before again) from =
-        omega (arith, size, arms_counted arms, c.own_nodes.ensures, c.guard_nodes.ensures, c.requires.room) in
+    omega (arith, size, arms_counted arms, c.own_nodes.ensures, c.guard_nodes.ensures, c.requires.room) in
     record {
       children = ap (λ xs. in_front xs (expanded_bodies p choices (from + c.own_nodes.result + length arms) (from + c.own_nodes.result + length arms +
           length arms + c.guard_nodes.result))) c.new-children.ensures.items
@@ -277,11 +306,11 @@ selection-loop-arm-preserved t c =
       children = front_more c.loop-arm.children.items c.push.new.self.items child (expanded p (process_of a.body) start next) _ _ _ c.in_ok-push.ensures.items
           c.in_ok-child.ensures.part
           (body_expanded_here p arms i a within at start next
-              ∙ ap (λ n. and_child (expanded p (process_of a.body) start next) (expanded_bodies p behind (start + 1) n)) step)
+          ∙ ap (λ n. and_child (expanded p (process_of a.body) start next) (expanded_bodies p behind (start + 1) n)) step)
           c.loop-arm.invariant.children;
       sites = sites_more c.loop-arm.sites.items c.part.new.sites.items (sites_in p (own_sites p) (process_of a.body) next) _ _ _ c.in_ok-child.ensures.sites
           (body_sites_here p arms i a within at (own_sites p) next
-              ∙ ap (λ n. sites_in p (own_sites p) (process_of a.body) next ++ sites_in_bodies p (own_sites p) behind n) step)
+          ∙ ap (λ n. sites_in p (own_sites p) (process_of a.body) next ++ sites_in_bodies p (own_sites p) behind n) step)
           c.loop-arm.invariant.sites;
       size = omega (arith, size, step, c.loop-arm.invariant.size);
       starts = omega (arith, c.loop-arm.invariant.starts, within);
@@ -299,7 +328,7 @@ selection-returns-clause-part t c =
       | selection-else-again w ↦ w.result-is ∙ ap (λ (b : Bool). if b then Again else Select) (sym w.if-again.false)
     ] in
     let counts : c.loop-arm.next - c.args.from ≡ size_of p (choosing again (arms_of arms)) =
-        omega (arith, body_size_end p arms i c.loop-arm-test.false, c.loop-arm.invariant.size) in
+    omega (arith, body_size_end p arms i c.loop-arm-test.false, c.loop-arm.invariant.size) in
     made_part _ _ c.args.request _ _ c.args.from _ _ c.loop-arm.children _ kind refl counts
     (front_done c.loop-arm.children.items _ _ (body_expanded_end p arms i c.loop-arm-test.false c.loop-arm.start c.loop-arm.next) c.loop-arm.invariant.children)
 
@@ -308,7 +337,7 @@ selection-returns-clause-sites t c =
     let p = program_of c.args.program.now in
     let arms = c.args.arms.now in
     sites_done c.loop-arm.sites.items _ _ (body_sites_end p arms c.loop-arm.arm-index c.loop-arm-test.false (own_sites p) c.loop-arm.next)
-        c.loop-arm.invariant.sites
+    c.loop-arm.invariant.sites
     ∙ ap (λ xs. c.args.sites.now.items ++ xs) (sym (choosing_sites p (own_sites p) c.args.again (arms_of arms) c.args.from))
 
 -- all statements
@@ -317,29 +346,29 @@ pub part-sequence-requires : goal.part-sequence-requires
 part-sequence-requires t c =
     let p = program_of c.args.program.now in
     let is : process_of c.args.s.now ≡ in_turn (members_of c.deref.result.now) =
-        then_is _ c.in-Then.parts c.in-Then.is ∙ ap (λ xs. in_turn (members_of xs)) (sym c.deref.ensures.value) in
+    then_is _ c.in-Then.parts c.in-Then.is ∙ ap (λ xs. in_turn (members_of xs)) (sym c.deref.ensures.value) in
     (search (rules, the_lemmas, get_or_read), (subst (IsProcess p.channels p.vars) is c.requires.process, omega (arith, ap (size_of p) is, c.requires.room)))
 
 pub part-parallel-requires : goal.part-parallel-requires
 part-parallel-requires t c =
     let p = program_of c.args.program.now in
     let is : process_of c.args.s.now ≡ side_by_side (members_of c.deref-in-Beside.result.now) = beside_is _ c.in-Beside.parts c.in-Beside.is
-        ∙ ap (λ xs. side_by_side (members_of xs)) (sym c.deref-in-Beside.ensures.value) in
+    ∙ ap (λ xs. side_by_side (members_of xs)) (sym c.deref-in-Beside.ensures.value) in
     (search (rules, the_lemmas, get_or_read), (subst (IsProcess p.channels p.vars) is c.requires.process, omega (arith, ap (size_of p) is, c.requires.room)))
 
 pub part-selection-requires : goal.part-selection-requires
 part-selection-requires t c =
     let p = program_of c.args.program.now in
     let is : process_of c.args.s.now ≡ choosing c.in-Select.again (arms_of c.deref-in-Select.result.now) =
-        select_is _ c.in-Select.again c.in-Select.arms c.in-Select.is ∙ ap (λ xs. choosing c.in-Select.again (arms_of xs)) (sym c.deref-in-Select.ensures.value)
-        in
+    select_is _ c.in-Select.again c.in-Select.arms c.in-Select.is ∙ ap (λ xs. choosing c.in-Select.again (arms_of xs)) (sym c.deref-in-Select.ensures.value)
+    in
     (search (rules, the_lemmas, get_or_read), (subst (IsProcess p.channels p.vars) is c.requires.process, omega (arith, ap (size_of p) is, c.requires.room)))
 
 pub part-overflow_add-result : goal.part-overflow_add-result
 part-overflow_add-result t c =
     let p = program_of c.args.program.now in
     let is : process_of c.args.s.now ≡ repeating (process_of c.deref-in-Repeat.result.now) =
-        ap process_of c.in-Repeat.is ∙ ap (λ s. repeating (process_of s)) (sym c.deref-in-Repeat.ensures) in
+    ap process_of c.in-Repeat.is ∙ ap (λ s. repeating (process_of s)) (sym c.deref-in-Repeat.ensures) in
     let count = child_count c.in_ok-child-in-Repeat.child p _ _ _ c.in_ok-child-in-Repeat.ensures.part in
     omega (arith, ap (size_of p) is, count, c.requires.room)
 
@@ -347,48 +376,48 @@ pub part-returns-in-Then-clause-part : goal.part-returns-in-Then-clause-part
 part-returns-in-Then-clause-part t c =
     let p = program_of c.args.program.now in
     let is : process_of c.args.s.now ≡ in_turn (members_of c.deref.result.now) =
-        then_is _ c.in-Then.parts c.in-Then.is ∙ ap (λ xs. in_turn (members_of xs)) (sym c.deref.ensures.value) in
+    then_is _ c.in-Then.parts c.in-Then.is ∙ ap (λ xs. in_turn (members_of xs)) (sym c.deref.ensures.value) in
     subst (λ (q : Process). IfOk c.sequence.result (λ (x : Part). tree_of x ≡ expanded p q c.args.request c.args.from)) (sym is) c.sequence.ensures.part
 
 pub part-returns-in-Then-clause-sites : goal.part-returns-in-Then-clause-sites
 part-returns-in-Then-clause-sites t c =
     let p = program_of c.args.program.now in
     let is : process_of c.args.s.now ≡ in_turn (members_of c.deref.result.now) =
-        then_is _ c.in-Then.parts c.in-Then.is ∙ ap (λ xs. in_turn (members_of xs)) (sym c.deref.ensures.value) in
+    then_is _ c.in-Then.parts c.in-Then.is ∙ ap (λ xs. in_turn (members_of xs)) (sym c.deref.ensures.value) in
     subst (λ (q : Process). OnOk c.sequence.result (c.sequence.new.sites.items ≡ c.args.sites.now.items ++ sites_in p (own_sites p) q c.args.from)) (sym is)
-        c.sequence.ensures.sites
+    c.sequence.ensures.sites
 
 pub part-returns-in-Beside-clause-part : goal.part-returns-in-Beside-clause-part
 part-returns-in-Beside-clause-part t c =
     let p = program_of c.args.program.now in
     let is : process_of c.args.s.now ≡ side_by_side (members_of c.deref-in-Beside.result.now) = beside_is _ c.in-Beside.parts c.in-Beside.is
-        ∙ ap (λ xs. side_by_side (members_of xs)) (sym c.deref-in-Beside.ensures.value) in
+    ∙ ap (λ xs. side_by_side (members_of xs)) (sym c.deref-in-Beside.ensures.value) in
     subst (λ (q : Process). IfOk c.parallel.result (λ (x : Part). tree_of x ≡ expanded p q c.args.request c.args.from)) (sym is) c.parallel.ensures.part
 
 pub part-returns-in-Beside-clause-sites : goal.part-returns-in-Beside-clause-sites
 part-returns-in-Beside-clause-sites t c =
     let p = program_of c.args.program.now in
     let is : process_of c.args.s.now ≡ side_by_side (members_of c.deref-in-Beside.result.now) = beside_is _ c.in-Beside.parts c.in-Beside.is
-        ∙ ap (λ xs. side_by_side (members_of xs)) (sym c.deref-in-Beside.ensures.value) in
+    ∙ ap (λ xs. side_by_side (members_of xs)) (sym c.deref-in-Beside.ensures.value) in
     subst (λ (q : Process). OnOk c.parallel.result (c.parallel.new.sites.items ≡ c.args.sites.now.items ++ sites_in p (own_sites p) q c.args.from)) (sym is)
-        c.parallel.ensures.sites
+    c.parallel.ensures.sites
 
 pub part-returns-in-Select-clause-part : goal.part-returns-in-Select-clause-part
 part-returns-in-Select-clause-part t c =
     let p = program_of c.args.program.now in
     let is : process_of c.args.s.now ≡ choosing c.in-Select.again (arms_of c.deref-in-Select.result.now) =
-        select_is _ c.in-Select.again c.in-Select.arms c.in-Select.is ∙ ap (λ xs. choosing c.in-Select.again (arms_of xs)) (sym c.deref-in-Select.ensures.value)
-        in
+    select_is _ c.in-Select.again c.in-Select.arms c.in-Select.is ∙ ap (λ xs. choosing c.in-Select.again (arms_of xs)) (sym c.deref-in-Select.ensures.value)
+    in
     subst (λ (q : Process). IfOk c.selection.result (λ (x : Part). tree_of x ≡ expanded p q c.args.request c.args.from)) (sym is) c.selection.ensures.part
 
 pub part-returns-in-Select-clause-sites : goal.part-returns-in-Select-clause-sites
 part-returns-in-Select-clause-sites t c =
     let p = program_of c.args.program.now in
     let is : process_of c.args.s.now ≡ choosing c.in-Select.again (arms_of c.deref-in-Select.result.now) =
-        select_is _ c.in-Select.again c.in-Select.arms c.in-Select.is ∙ ap (λ xs. choosing c.in-Select.again (arms_of xs)) (sym c.deref-in-Select.ensures.value)
-        in
+    select_is _ c.in-Select.again c.in-Select.arms c.in-Select.is ∙ ap (λ xs. choosing c.in-Select.again (arms_of xs)) (sym c.deref-in-Select.ensures.value)
+    in
     subst (λ (q : Process). OnOk c.selection.result (c.selection.new.sites.items ≡ c.args.sites.now.items ++ sites_in p (own_sites p) q c.args.from)) (sym is)
-        c.selection.ensures.sites
+    c.selection.ensures.sites
 
 pub part-returns-in_ok-vec-in-Repeat-clause-part : goal.part-returns-in_ok-vec-in-Repeat-clause-part
 part-returns-in_ok-vec-in-Repeat-clause-part t c =
@@ -400,6 +429,6 @@ part-returns-in_ok-vec-in-Repeat-clause-part t c =
     made_part Loop Loop c.args.request _ _ from _ _ c.in_ok-vec-in-Repeat.field-0 _ refl refl (ap (λ n. 2 + n) count)
     (front_done c.in_ok-vec-in-Repeat.field-0.items no_children _ refl
     (front_more [] c.in_ok-vec-in-Repeat.field-0.items c.in_ok-child-in-Repeat.child (expanded p s (from + 1) (from + 2))
-        (and_child (expanded p s (from + 1) (from + 2)) no_children) no_children _ c.in_ok-vec-in-Repeat.ensures.items c.in_ok-child-in-Repeat.ensures.part refl
-        refl))
+    (and_child (expanded p s (from + 1) (from + 2)) no_children) no_children _ c.in_ok-vec-in-Repeat.ensures.items c.in_ok-child-in-Repeat.ensures.part refl
+    refl))
     ∙ ap (λ q. expanded p q c.args.request from) (sym is)

@@ -19,13 +19,21 @@ returns c =
     let p = program_of c.args.program.now in
     let noted = in_body p (own_sites p) in
     let sites : c.deref.result.now ≡ noted = c.deref.ensures.value
-        ∙ (c.in_ok-root.ensures.sites ∙ ap (λ (xs : List SiteNode). xs ++ noted) c.new-sites.ensures.items) in
+    ∙ (c.in_ok-root.ensures.sites ∙ ap (λ (xs : List SiteNode). xs ++ noted) c.new-sites.ensures.items) in
     let channels =
-    ap (map block_value) (with_items_is c.in_ok-channels.channels c.place_sites.new.channels (omega (arith, c.place_sites.auto.channels,
-        c.deref_mut.ensures.len, ap length c.deref_mut.ensures.value)))
+    ap (map block_value) (with_items_is c.in_ok-channels.channels c.place_sites.new.channels (omega (
+      arith,
+      c.place_sites.auto.channels,
+      c.deref_mut.ensures.len,
+      ap length c.deref_mut.ensures.value,
+    )))
     ∙ c.in_ok-place_sites.ensures.channels p (ap (map block_value) c.deref_mut.ensures.value ∙ c.in_ok-channels.ensures.blocks) ∙ ap (channel_blocks p) sites in
     let vars =
-    ap (map block_value) (with_items_is c.in_ok-vars.vars c.place_sites.new.vars (omega (arith, c.place_sites.auto.vars, c.deref_mut-2.ensures.len,
-        ap length c.deref_mut-2.ensures.value)))
+    ap (map block_value) (with_items_is c.in_ok-vars.vars c.place_sites.new.vars (omega (
+      arith,
+      c.place_sites.auto.vars,
+      c.deref_mut-2.ensures.len,
+      ap length c.deref_mut-2.ensures.value,
+    )))
     ∙ c.in_ok-place_sites.ensures.vars p (ap (map block_value) c.deref_mut-2.ensures.value ∙ c.in_ok-vars.ensures.blocks) ∙ ap (var_blocks p) sites in
     alike _ _ _ _ _ _ channels vars c.in_ok-root.ensures.part

@@ -33,7 +33,7 @@ returns-clause-part c =
     made_part Root Root 0 1 1 from _ _ c.in_ok-vec.field-0 _ refl refl (ap (λ n. 2 + n) count)
     (front_done c.in_ok-vec.field-0.items no_children _ refl
     (front_more [] c.in_ok-vec.field-0.items c.in_ok-body.body (expanded p s from (from + 2)) (and_child (expanded p s from (from + 2)) no_children) no_children
-        _ c.in_ok-vec.ensures.items c.in_ok-body.ensures.part refl refl))
+    _ c.in_ok-vec.ensures.items c.in_ok-body.ensures.part refl refl))
     ∙ (ap (λ q. part Root 0 1 from (2 + size_of p q) (and_child (expanded p q from (from + 2)) no_children)) (ap process_of c.body.ensures.body)
     ∙ ap (λ n. part Root 0 1 n (2 + size_of p p.body) (and_child (expanded p p.body n (n + 2)) no_children)) c.requires.from)
 

@@ -10,7 +10,7 @@ pub returns : goal.returns
 returns c =
     let one = c.in_ok-push.ensures.items ∙ ap (λ (xs : List TStmt). xs ++ c.args.first ∷ []) c.new-parts.ensures.items in
     let made = two_in_turn c.push-2.new.self c.args.first c.args.second (c.in_ok-push-2.ensures.items ∙ ap (λ (xs : List TStmt). xs ++ c.args.second ∷ []) one)
-        in
+    in
     record {
       made = made;
       sequential = λ first second. subst (λ (p : Process). IsSequential p) (sym made)

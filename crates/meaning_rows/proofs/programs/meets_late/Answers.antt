@@ -9,4 +9,4 @@ pub returns : goal.returns
 returns c =
     let late = c.in_ok-late.ensures.made ∙ ap (both skipping) c.receive.ensures.made in
     if_ok_more _ _ _ (λ s made. late_meets (process_of s) (process_of c.send.result) (formula_of c.number.result) (made
-        ∙ ap (λ p. alongside_it p (process_of c.send.result)) late) c.send.ensures.made c.number.ensures) c.beside.ensures
+    ∙ ap (λ p. alongside_it p (process_of c.send.result)) late) c.send.ensures.made c.number.ensures) c.beside.ensures

@@ -11,12 +11,16 @@ pub loop-stage-preserved : goal.loop-stage-preserved
 loop-stage-preserved c =
     let s = c.in_ok-copies.field-0 in
     let stage : IsStage (0 + length c.loop-stage.parts.items) (process_of s) =
-        subst (λ n. IsStage n (process_of s)) (omega (arith, c.loop-stage.invariant.count)) (c.in_ok-copies.ensures.stage refl) in
+    subst (λ n. IsStage n (process_of s)) (omega (arith, c.loop-stage.invariant.count)) (c.in_ok-copies.ensures.stage refl) in
     let more = one_more_stage 0 c.loop-stage.parts.items s c.loop-stage.invariant.stages c.in_ok-copies.ensures.sequential stage in
     record {
       stages = subst (λ (ss : List TStmt). AreStages 0 (statement_processes ss)) (sym c.in_ok-push.ensures.items) more;
-      count = omega (arith, ap (λ (ss : List TStmt). length ss) c.in_ok-push.ensures.items, length_push c.loop-stage.parts.items s,
-          c.loop-stage.invariant.count);
+      count = omega (
+        arith,
+        ap (λ (ss : List TStmt). length ss) c.in_ok-push.ensures.items,
+        length_push c.loop-stage.parts.items s,
+        c.loop-stage.invariant.count,
+      );
     }
 
 pub returns : goal.returns

@@ -10,4 +10,4 @@ pub returns : goal.returns
 returns c =
     let meets = sequential_meets (process_of c.args.body) c.requires in
     if_ok_more _ (λ (p : TypedValue). p.body ≡ c.args.body) (λ (p : TypedValue). MeetsSharing (process_of p.body))
-        (λ p same. subst (λ (s : TStmt). MeetsSharing (process_of s)) (sym same) meets) c.program.ensures
+    (λ p same. subst (λ (s : TStmt). MeetsSharing (process_of s)) (sym same) meets) c.program.ensures

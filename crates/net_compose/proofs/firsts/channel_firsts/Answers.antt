@@ -16,7 +16,7 @@ overflow_add-next c =
     let p = program_of c.args.program.now in
     let step = next_wires items c.loop-channel.channel-index _ c.loop-channel-test.true c.channel-item.is in
     let whole : wires_before items (length items) ≡ wires_before p.channels (length p.channels) =
-        ap (λ cs. wires_before cs (length cs)) c.channels-channel-items.ensures in
+    ap (λ cs. wires_before cs (length cs)) c.channels-channel-items.ensures in
     omega (arith, step, whole, wires_within items (c.loop-channel.channel-index + 1), c.loop-channel.invariant.next, c.from.ensures, c.requires)
 
 pub overflow_add-next-in-loop-channel : goal.overflow_add-next-in-loop-channel
@@ -25,7 +25,7 @@ overflow_add-next-in-loop-channel c =
     let p = program_of c.args.program.now in
     let step = next_wires items c.loop-channel.channel-index _ c.loop-channel-test.true c.channel-item.is in
     let whole : wires_before items (length items) ≡ wires_before p.channels (length p.channels) =
-        ap (λ cs. wires_before cs (length cs)) c.channels-channel-items.ensures in
+    ap (λ cs. wires_before cs (length cs)) c.channels-channel-items.ensures in
     omega (arith, step, whole, wires_within items (c.loop-channel.channel-index + 1), c.loop-channel.invariant.next, c.from.ensures, c.requires)
 
 pub loop-channel-preserved : goal.loop-channel-preserved

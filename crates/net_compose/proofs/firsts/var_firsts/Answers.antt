@@ -25,7 +25,7 @@ loop-var-preserved c =
     let i = c.loop-var.var-index in
     let step = next_blocks items i _ c.loop-var-test.true c.var-item.is in
     let from : c.loop-var.next ≡ var_from p i =
-        c.loop-var.invariant.next ∙ ap (λ vs. vars_from (program_of c.args.program.now) + blocks_before vs i) c.vars-var-items.ensures in
+    c.loop-var.invariant.next ∙ ap (λ vs. vars_from (program_of c.args.program.now) + blocks_before vs i) c.vars-var-items.ensures in
     record {
       firsts = one_more (var_from p) _ _ i _ c.loop-var.invariant.firsts from c.in_ok-push.ensures.items;
       next = omega (arith, step, c.loop-var.invariant.next, c.block_nodes-next.ensures);
@@ -43,4 +43,4 @@ returns-clause-next c =
     let items = c.vars-var-items.result.now in
     let end : c.loop-var.var-index ≡ length items = omega (arith, c.loop-var-test.false, c.loop-var.auto.var-index-end) in
     c.loop-var.invariant.next ∙ (ap (λ n. vars_from (program_of c.args.program.now) + blocks_before items n) end
-        ∙ ap (λ vs. vars_from (program_of c.args.program.now) + blocks_before vs (length vs)) c.vars-var-items.ensures)
+    ∙ ap (λ vs. vars_from (program_of c.args.program.now) + blocks_before vs (length vs)) c.vars-var-items.ensures)

@@ -22,7 +22,7 @@ loop-arm-init c = record {
 pub expr_nodes-size-requires : goal.expr_nodes-size-requires
 expr_nodes-size-requires c =
     (guard_typed (program_of c.args.program.now) c.args.arms.now c.loop-arm.arm-index _ c.loop-arm-test.true c.arm-item.is _ _
-        c.loop-arm.invariant.formed).0.formed
+    c.loop-arm.invariant.formed).0.formed
 
 pub overflow_cast-size : goal.overflow_cast-size
 overflow_cast-size c =
@@ -32,12 +32,12 @@ overflow_cast-size c =
 pub emit_formula-requires-clause-formed : goal.emit_formula-requires-clause-formed
 emit_formula-requires-clause-formed c =
     (guard_typed (program_of c.args.program.now) c.args.arms.now c.loop-arm.arm-index _ c.loop-arm-test.true c.arm-item.is _ _
-        c.loop-arm.invariant.formed).0.formed
+    c.loop-arm.invariant.formed).0.formed
 
 pub emit_formula-requires-clause-reads : goal.emit_formula-requires-clause-reads
 emit_formula-requires-clause-reads c =
     (guard_typed (program_of c.args.program.now) c.args.arms.now c.loop-arm.arm-index _ c.loop-arm-test.true c.arm-item.is _ _
-        c.loop-arm.invariant.formed).0.reads
+    c.loop-arm.invariant.formed).0.reads
 
 pub emit_formula-requires-clause-before : goal.emit_formula-requires-clause-before
 emit_formula-requires-clause-before c = omega (arith, c.loop-arm.invariant.low, c.requires.before)
@@ -67,7 +67,7 @@ loop-arm-preserved c =
     record {
       rules = guards_step p arms i a c.loop-arm-test.true c.arm-item.is c.args.request next (next + c.expr_nodes-size.result) c.loop-arm.rules _ _ at
           (c.rules_counted.ensures p.vars (bits_at p) (has_bits p) (formula_of a.guard) c.args.request next typed.0.formed typed.0.reads)
-              c.in_ok-pair.ensures.made c.loop-arm.invariant.rules;
+          c.in_ok-pair.ensures.made c.loop-arm.invariant.rules;
       rails = pairs_step p arms i a c.loop-arm-test.true c.arm-item.is next (next + c.expr_nodes-size.result) c.loop-arm.rails.items _ _ _ at
           (c.deref.ensures.value ∙ c.in_ok-pair.ensures.rails) c.in_ok-extend_from_slice.ensures.items c.loop-arm.invariant.rails;
       count = omega (arith, c.emit_formula.ensures.nodes, c.loop-arm.invariant.count);

@@ -21,21 +21,21 @@ pub emit_or-requires-clause-inputs : goal.emit_or-requires-clause-inputs
 emit_or-requires-clause-inputs c =
     subst (λ (ns : List ℕ). All (λ input. input < length c.args.rules.now.up) ns) (sym (c.deref.ensures.value ∙ c.in_ok-trues.ensures))
     (each_at_place (λ rail. rail < length c.args.rules.now.up) _ (rails_in c.args.sites.now)
-        (low_place c.args.bit _ (rails_in c.args.sites.now) (omega (arith, c.from-place.ensures)) c.requires.bit) c.requires.within)
+    (low_place c.args.bit _ (rails_in c.args.sites.now) (omega (arith, c.from-place.ensures)) c.requires.bit) c.requires.within)
 
 pub emit_or-requires-clause-apart : goal.emit_or-requires-clause-apart
 emit_or-requires-clause-apart c =
     subst (λ (ns : List ℕ). All (λ input. input ≢ c.args.node) ns) (sym (c.deref.ensures.value ∙ c.in_ok-trues.ensures))
     (apart_inputs c.args.node _ (each_at_place (λ rail. c.args.node < rail) _ (rails_in c.args.sites.now)
     (low_place c.args.bit _ (rails_in c.args.sites.now) (omega (arith, c.from-place.ensures)) c.requires.bit)
-        (lower c.args.node (c.args.node + 1) (rails_in c.args.sites.now) (omega arith) c.requires.behind)))
+    (lower c.args.node (c.args.node + 1) (rails_in c.args.sites.now) (omega arith) c.requires.behind)))
 
 pub emit_or-requires-2-clause-inputs : goal.emit_or-requires-2-clause-inputs
 emit_or-requires-2-clause-inputs c =
     subst (λ (ns : List ℕ). All (λ input. input < length c.emit_or.new.rules.up) ns) (sym (c.deref-2.ensures.value ∙ c.in_ok-falses.ensures))
     (subst (λ n. All (λ input. input < n) (rails_at_place (2 * c.from-place.result + 1) (rails_in c.args.sites.now))) (sym c.emit_or.ensures.nodes)
     (each_at_place (λ rail. rail < length c.args.rules.now.up) _ (rails_in c.args.sites.now)
-        (low_place c.args.bit _ (rails_in c.args.sites.now) (omega (arith, c.from-place.ensures)) c.requires.bit) c.requires.within))
+    (low_place c.args.bit _ (rails_in c.args.sites.now) (omega (arith, c.from-place.ensures)) c.requires.bit) c.requires.within))
 
 pub emit_or-requires-2-clause-apart : goal.emit_or-requires-2-clause-apart
 emit_or-requires-2-clause-apart c =

@@ -19,8 +19,11 @@ emit_merges-requires-clause-bit c = wide_enough (rails_in c.args.sites.now) c.lo
 
 pub emit_merges-requires-clause-behind : goal.emit_merges-requires-clause-behind
 emit_merges-requires-clause-behind c =
-    each_behind (rails_in c.args.sites.now) (c.loop-bit.node + 1) (c.args.from + 2 * c.args.width) (omega (arith, c.loop-bit.invariant.node,
-        c.loop-bit-test.true)) c.requires.behind
+    each_behind (rails_in c.args.sites.now) (c.loop-bit.node + 1) (c.args.from + 2 * c.args.width) (omega (
+      arith,
+      c.loop-bit.invariant.node,
+      c.loop-bit-test.true,
+    )) c.requires.behind
 
 pub emit_merges-requires-clause-within : goal.emit_merges-requires-clause-within
 emit_merges-requires-clause-within c = each_within (rails_in c.args.sites.now) (length c.args.rules.now.up) (length c.loop-bit.rules.up)

@@ -14,7 +14,7 @@ pub loop-rails-preserved : goal.loop-rails-preserved
 loop-rails-preserved c =
     let inside = place_within c.args.sites.now c.loop-rails.rails-index c.rails-item.result c.loop-rails-test.true c.rails-item.is c.args.place c.requires in
     inputs_more c.args.sites.now c.loop-rails.rails-index c.rails-item.result c.loop-rails-test.true c.rails-item.is c.args.place c.index.result.now
-        c.loop-rails.inputs.items _ inside c.index.ensures c.loop-rails.invariant c.in_ok-push.ensures.items
+    c.loop-rails.inputs.items _ inside c.index.ensures c.loop-rails.invariant c.in_ok-push.ensures.items
 
 pub returns : goal.returns
 returns c = inputs_done c.args.sites.now c.loop-rails.rails-index c.args.place c.loop-rails.inputs.items c.loop-rails-test.false c.loop-rails.invariant

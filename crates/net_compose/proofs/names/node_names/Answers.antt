@@ -10,11 +10,11 @@ loop-node-preserved c =
     let p = program_of c.args.program.now in
     let size : length (node_names p) ≡ nodes_of p = (c.all_counted.ensures p c.body-kept.ensures.typed).names in
     names_more p c.loop-node.names.items _ _ c.loop-node.node (omega (arith, size, c.loop-node-test.true, c.count_nodes-count.ensures, c.requires))
-        c.loop-node.invariant c.in_ok-named.ensures c.in_ok-push.ensures.items
+    c.loop-node.invariant c.in_ok-named.ensures c.in_ok-push.ensures.items
 
 pub returns : goal.returns
 returns c =
     let p = program_of c.args.program.now in
     let size : length (node_names p) ≡ nodes_of p = (c.all_counted.ensures p c.body-kept.ensures.typed).names in
     names_done p c.loop-node.names.items c.loop-node.node (omega (arith, size, c.loop-node-test.false, c.count_nodes-count.ensures, c.requires))
-        c.loop-node.invariant
+    c.loop-node.invariant

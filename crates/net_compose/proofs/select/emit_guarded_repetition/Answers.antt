@@ -49,7 +49,7 @@ emit_again-requires c =
     let count : length c.args.arms.now ≡ choice_count cs = sym (arms_counted c.args.arms.now) in
     let at : c.args.from + 6 + length c.args.arms.now + length c.args.arms.now ≡ guards_from cs again_own c.args.from = omega (arith, count) in
     again_ready p cs c.args.request c.args.from c.requires.before _ refl refl refl refl refl refl refl (c.in_ok-latches.ensures
-        ∙ ap (range_with_len (c.args.from + 6)) count)
+    ∙ ap (range_with_len (c.args.from + 6)) count)
     (c.in_ok-starts.ensures ∙ ap (λ n. range_with_len (c.args.from + 6 + n) n) count)
     (c.in_ok-extend_from_slice.ensures.items ∙ (ap (λ ns. ns ++ c.args.answers.now) c.new-branches.ensures.items ∙ c.requires.answers))
     (c.in_ok-rails.ensures.rails ∙ ap (λ n. rails_of (guard_pairs cs n)) at)

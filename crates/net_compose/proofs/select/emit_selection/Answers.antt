@@ -65,4 +65,4 @@ returns-clause-made c =
     (c.in_ok-extend_from_slice.ensures.items ∙ (ap (λ ns. ns ++ c.args.answers.now) c.new-branches.ensures.items ∙ c.requires.answers))
     (c.in_ok-rails.ensures.rails ∙ ap (λ n. rails_of (guard_pairs cs n)) at)
     (c.args.from + 3 + length c.args.arms.now + length c.args.arms.now) _ _ _ c.requires.process.2 at c.in_ok-rails.ensures.made
-        c.in_ok-emit_select.ensures.made
+    c.in_ok-emit_select.ensures.made

@@ -10,7 +10,7 @@ emit_expr-requires-clause-formed c = back_formed c.args.width c.args.block c.arg
 pub emit_expr-requires-clause-vars : goal.emit_expr-requires-clause-vars
 emit_expr-requires-clause-vars c =
     back_there c.args.width c.args.block c.args.at c.requires.some c.requires.most (formula_of c.whole_of-read.result) c.whole_of-read.ensures
-        (length c.args.rules.now.up)
+    (length c.args.rules.now.up)
     (omega (arith, c.requires.block, c.requires.before, c.requires.own))
 
 pub emit_expr-requires-clause-own : goal.emit_expr-requires-clause-own
@@ -21,20 +21,20 @@ emit_expr-requires-clause-own c =
 pub emit_expr-requires-clause-apart : goal.emit_expr-requires-clause-apart
 emit_expr-requires-clause-apart c =
     back_apart c.args.width c.args.block c.args.at c.requires.some c.requires.most (formula_of c.whole_of-read.result) c.whole_of-read.ensures c.args.request
-        c.args.from c.requires.block c.requires.before
+    c.args.from c.requires.block c.requires.before
 
 pub emit_expr-requires-clause-unasked : goal.emit_expr-requires-clause-unasked
 emit_expr-requires-clause-unasked c =
     back_unasked c.args.width c.args.block c.args.at c.requires.some c.requires.most (formula_of c.whole_of-read.result) c.whole_of-read.ensures c.args.request
-        c.requires.block
+    c.requires.block
 
 pub returns-clause-made : goal.returns-clause-made
 returns-clause-made c =
     c.in_ok-rails.ensures.made
     ∙ back_wrote c.args.width c.args.block c.args.at c.requires.some c.requires.most (formula_of c.whole_of-read.result) c.whole_of-read.ensures c.args.request
-        c.args.from c.args.rules.now
+    c.args.from c.args.rules.now
 
 pub returns-clause-rails : goal.returns-clause-rails
 returns-clause-rails c =
     back_rails c.args.width c.args.block c.args.at c.requires.some c.requires.most (formula_of c.whole_of-read.result) c.whole_of-read.ensures c.args.from _
-        c.in_ok-rails.ensures.rails
+    c.in_ok-rails.ensures.rails

@@ -34,18 +34,25 @@ pub emit_hidden-requires-clause-wide : goal.emit_hidden-requires-clause-wide
 emit_hidden-requires-clause-wide c =
     rails_wide (formula_of c.args.value.now) _ c.var_bits-width.result _
     (c.bits_counted.ensures (formula_of c.args.value.now) _ c.requires.width.formed ∙ (c.requires.width.agrees ∙ sym c.var_bits-width.ensures))
-        c.in_ok-rails.ensures.rails
+    c.in_ok-rails.ensures.rails
 
 pub emit_hidden-requires-clause-behind : goal.emit_hidden-requires-clause-behind
 emit_hidden-requires-clause-behind c =
     rails_behind (formula_of c.args.value.now) _ (c.args.from + block_size c.var_bits-width.result) _ c.requires.width.formed
-        (omega (arith, c.block_nodes-block.ensures)) c.in_ok-rails.ensures.rails
+    (omega (arith, c.block_nodes-block.ensures)) c.in_ok-rails.ensures.rails
 
 pub emit_hidden-requires-clause-within : goal.emit_hidden-requires-clause-within
 emit_hidden-requires-clause-within c =
     rails_within (formula_of c.args.value.now) _ (length c.emit_element.new.rules.up) _ c.requires.width.formed
-    (omega (arith, c.block_nodes-block.ensures, c.var_bits-width.ensures, c.requires.own, c.emit_element.ensures.nodes, c.emit_write_site.ensures.nodes,
-        c.emit_formula.ensures.nodes)) c.in_ok-rails.ensures.rails
+    (omega (
+      arith,
+      c.block_nodes-block.ensures,
+      c.var_bits-width.ensures,
+      c.requires.own,
+      c.emit_element.ensures.nodes,
+      c.emit_write_site.ensures.nodes,
+      c.emit_formula.ensures.nodes,
+    )) c.in_ok-rails.ensures.rails
 
 pub emit_read_back-requires-clause-some : goal.emit_read_back-requires-clause-some
 emit_read_back-requires-clause-some c =
@@ -68,18 +75,23 @@ returns-clause-made c =
     let second = first + 1 + c.expr_nodes-size.result in
     let wide : c.var_bits-width.result ≡ var_width p.vars x = c.var_bits-width.ensures in
     let at_element : element ≡ from + block_size (var_width p.vars x) = ap (λ n. from + n) (c.block_nodes-block.ensures ∙ ap block_size wide) in
-    let size : c.expr_nodes-size.result ≡ formula_size e = omega (arith, c.expr_nodes-size.ensures, c.requires.own, c.nodes-count.ensures,
-        c.nodes-count.type_inv) in
+    let size : c.expr_nodes-size.result ≡ formula_size e = omega (
+      arith,
+      c.expr_nodes-size.ensures,
+      c.requires.own,
+      c.nodes-count.ensures,
+      c.nodes-count.type_inv,
+    ) in
     let some = var_some p.vars x c.body-kept.ensures.typed.each_var c.requires.within in
     through_wrote p x e c.args.request from element first second at_element refl (ap (λ n. first + 1 + n) size) some
     (c.rules_counted.ensures p.vars (bits_at p) (has_bits p) e element (first + 1) c.requires.width.formed c.requires.width.reads)
     (element - 1) c.written_node-written.result _ _ _ _ _ _ _ _ refl c.written_node-written.ensures.written c.in_ok-rails.ensures.rails
     c.in_ok-rails.ensures.made c.in_ok-emit_write_site.ensures.made c.in_ok-emit_element.ensures.made
     (c.in_ok-emit_hidden.ensures.made ∙ ap (λ w. with_owned (owned_from from (variable_rules w from (pairs_of c.in_ok-rails.rails.items ∷ [])))
-        c.emit_element.new.rules) wide)
+    c.emit_element.new.rules) wide)
     c.in_ok-emit_write_site-2.ensures.made
     (c.in_ok-back.ensures.made ∙ ap (λ w. with_owned (owned_from (second + 1) (read_bits (element + 2) (block_bits w from))) c.emit_write_site-2.new.rules)
-        wide)
+    wide)
 
 pub returns-clause-rails : goal.returns-clause-rails
 returns-clause-rails c =
@@ -87,10 +99,15 @@ returns-clause-rails c =
     let e = formula_of c.args.value.now in
     let from = c.args.from in
     let wide : c.var_bits-width.result ≡ var_width p.vars c.args.var = c.var_bits-width.ensures in
-    let size : c.expr_nodes-size.result ≡ formula_size e = omega (arith, c.expr_nodes-size.ensures, c.requires.own, c.nodes-count.ensures,
-        c.nodes-count.type_inv) in
+    let size : c.expr_nodes-size.result ≡ formula_size e = omega (
+      arith,
+      c.expr_nodes-size.ensures,
+      c.requires.own,
+      c.nodes-count.ensures,
+      c.nodes-count.type_inv,
+    ) in
     let last : from + c.block_nodes-block.result + 3 + 1 + c.expr_nodes-size.result + 1 ≡ from + block_size (var_width p.vars c.args.var) + 4 + formula_size e +
-        1 =
+    1 =
     omega (arith, size, c.block_nodes-block.ensures, wide) in
     c.in_ok-back.ensures.rails
     ∙ (ap (λ w. rails_of (pairs_from w (from + c.block_nodes-block.result + 3 + 1 + c.expr_nodes-size.result + 1))) wide

@@ -5,4 +5,4 @@ use Rattle.net_rows.proofs.cells.selection.Goals as goal
 pub returns : goal.returns
 returns c =
     selection_is _ refl refl refl refl c.in_ok-from_slice.ensures.items c.in_ok-from_slice-2.ensures.items c.in_ok-from_slice-3.ensures.items
-        c.in_ok-from_slice-4.ensures.items
+    c.in_ok-from_slice-4.ensures.items

@@ -8,4 +8,4 @@ returns-in_default-clause-none c =
 pub returns-in_default-2-clause-none : goal.returns-in_default-2-clause-none
 returns-in_default-2-clause-none c =
     no_channel_name c.args.line.now c.word_of-word.result.now c.kind_of-kind.result c.kind_of-kind.ensures c.word_of-word.ensures
-        (rw c.in_default-2.is at c.in_ok-name.ensures.none)
+    (rw c.in_default-2.is at c.in_ok-name.ensures.none)

@@ -30,12 +30,12 @@ returns-then-is_some-clause-refused c =
     let l = c.loop-names in
     let ch = c.in-Some.channel in
     let is : is_some (place_in (channel_names l.channels.items) ch.name) ≡ true = ap (λ ns. is_some (place_in ns ch.name)) (sym l.invariant.named)
-        ∙ ap (λ b. is_some (place_in l.names b)) (sym c.bytes.ensures.bytes) ∙ ap is_some (sym c.find.ensures) ∙ sym c.is_some.ensures ∙ c.if-is_some.true in
+    ∙ ap (λ b. is_some (place_in l.names b)) (sym c.bytes.ensures.bytes) ∙ ap is_some (sym c.find.ensures) ∙ sym c.is_some.ensures ∙ c.if-is_some.true in
     let some = rw c.in-Some.is at c.in_ok-channel.ensures.some in
     channel_refused n.version n.index n.first.items l.channels.items (text_behind (nodes_told n.version n.index n.first.items) c.args.text.now) l.rest.now ch
-        DoubleName _ c.requires.read.nodes l.invariant.read (omega (arith, some)) (rw c.in-Some.is at c.in_ok-channel.ensures.line)
-        (rw c.in-Some.is at c.in_ok-channel.ensures.form) (ap (λ b. cond b (Some DoubleName) (wires_fault_of n.index n.first.items ch)) is)
-        (omega (arith, c.len.ensures, c.len-in-Some.ensures, l.channels.ok.0))
+    DoubleName _ c.requires.read.nodes l.invariant.read (omega (arith, some)) (rw c.in-Some.is at c.in_ok-channel.ensures.line)
+    (rw c.in-Some.is at c.in_ok-channel.ensures.form) (ap (λ b. cond b (Some DoubleName) (wires_fault_of n.index n.first.items ch)) is)
+    (omega (arith, c.len.ensures, c.len-in-Some.ensures, l.channels.ok.0))
 
 pub returns-in-Err-clause-refused : goal.returns-in-Err-clause-refused
 returns-in-Err-clause-refused c =
@@ -43,12 +43,12 @@ returns-in-Err-clause-refused c =
     let l = c.loop-names in
     let ch = c.in-Some.channel in
     let is : is_some (place_in (channel_names l.channels.items) ch.name) ≡ false = ap (λ ns. is_some (place_in ns ch.name)) (sym l.invariant.named)
-        ∙ ap (λ b. is_some (place_in l.names b)) (sym c.bytes.ensures.bytes) ∙ ap is_some (sym c.find.ensures) ∙ sym c.is_some.ensures ∙ c.if-is_some.false in
+    ∙ ap (λ b. is_some (place_in l.names b)) (sym c.bytes.ensures.bytes) ∙ ap is_some (sym c.find.ensures) ∙ sym c.is_some.ensures ∙ c.if-is_some.false in
     let some = rw c.in-Some.is at c.in_ok-channel.ensures.some in
     channel_refused n.version n.index n.first.items l.channels.items (text_behind (nodes_told n.version n.index n.first.items) c.args.text.now) l.rest.now ch
-        c.in-Err.fault _ c.requires.read.nodes l.invariant.read (omega (arith, some)) (rw c.in-Some.is at c.in_ok-channel.ensures.line)
-        (rw c.in-Some.is at c.in_ok-channel.ensures.form) (ap (λ b. cond b (Some DoubleName) (wires_fault_of n.index n.first.items ch)) is
-        ∙ rw c.in-Err.is at c.in_ok-wires.ensures.fault) (omega (arith, c.len.ensures, c.len-in-Some.ensures, l.channels.ok.0))
+    c.in-Err.fault _ c.requires.read.nodes l.invariant.read (omega (arith, some)) (rw c.in-Some.is at c.in_ok-channel.ensures.line)
+    (rw c.in-Some.is at c.in_ok-channel.ensures.form) (ap (λ b. cond b (Some DoubleName) (wires_fault_of n.index n.first.items ch)) is
+    ∙ rw c.in-Err.is at c.in_ok-wires.ensures.fault) (omega (arith, c.len.ensures, c.len-in-Some.ensures, l.channels.ok.0))
 
 pub loop-names-preserved : goal.loop-names-preserved
 loop-names-preserved c =
@@ -58,9 +58,9 @@ loop-names-preserved c =
     let w = c.in-Ok.wires in
     let same = rw c.in-Ok.is at c.in_ok-wires.ensures.channel in
     let is : is_some (place_in (channel_names l.channels.items) ch.name) ≡ false = ap (λ ns. is_some (place_in ns ch.name)) (sym l.invariant.named)
-        ∙ ap (λ b. is_some (place_in l.names b)) (sym c.bytes.ensures.bytes) ∙ ap is_some (sym c.find.ensures) ∙ sym c.is_some.ensures ∙ c.if-is_some.false in
+    ∙ ap (λ b. is_some (place_in l.names b)) (sym c.bytes.ensures.bytes) ∙ ap is_some (sym c.find.ensures) ∙ sym c.is_some.ensures ∙ c.if-is_some.false in
     let fresh : place_in (channel_names l.channels.items) w.channel.name ≡ None = ap (λ k. place_in (channel_names l.channels.items) k.name) same
-        ∙ none_is (place_in (channel_names l.channels.items) ch.name) is in
+    ∙ none_is (place_in (channel_names l.channels.items) ch.name) is in
     let some = rw c.in-Some.is at c.in_ok-channel.ensures.some in
     record {
       read = rw c.in_ok-push-in-Ok.ensures.items

@@ -16,4 +16,4 @@ loop-node-preserved c n =
 pub returns : goal.returns
 returns c n =
     c.loop-node.invariant n ∙ ap (λ ks. get_or c.args.driven.now n false || list_any (λ k. k == n) ks)
-        (take_all c.loop-node.node-index c.args.nodes.now c.loop-node-test.false)
+    (take_all c.loop-node.node-index c.args.nodes.now c.loop-node-test.false)

@@ -13,8 +13,8 @@ returns c =
       | then-nodes-eq2 w ↦
           own_reset n.version n.index n.first.items c.if-nodes-eq2.driven.items c.requires.nodes c.requires.reset (eq-eqb n.version 2 w.if-nodes-eq2.true)
           (ap (λ v. v.items) w.driven-is ∙ ap (λ xs. set (set xs 0 true) (c.len-count.result - 1) true) none
-              ∙ ap (λ k. set (set (replicate (length n.index) false) 0 true) (k - 1) true) c.len-count.ensures)
+          ∙ ap (λ k. set (set (replicate (length n.index) false) 0 true) (k - 1) true) c.len-count.ensures)
       | else-nodes-eq2 w ↦
           own_plain n.version n.index n.first.items c.if-nodes-eq2.driven.items c.requires.nodes (ne_eqb n.version 2 w.if-nodes-eq2.false)
-              (ap (λ v. v.items) w.driven-is ∙ ap (λ xs. set xs 0 true) none)
+          (ap (λ v. v.items) w.driven-is ∙ ap (λ xs. set xs 0 true) none)
     ]

@@ -13,7 +13,7 @@ pub returns-then-is_empty-clause-no : goal.returns-then-is_empty-clause-no
 returns-then-is_empty-clause-no c = λ e digits is.
     let bare = c.bare-digits.result.now in
     let same : bare ≡ digits = digits_are c.in-Some.text.now bare digits c.bare-digits.ensures.two c.bare-digits.ensures.ended is.numeral
-        (behind_word c.args.line.now c.in-Some.text.now digits c.in-Some.ensures.some is.spelled) in
+    (behind_word c.args.line.now c.in-Some.text.now digits c.in-Some.ensures.some is.spelled) in
     let some : 1 ≤ length bare = rw same is.some in
     let most : length bare ≤ 9 = rw same is.most in
     let all : list_all digit bare ≡ true = rw same (list_all-from_AllPass digit digits is.numeral) in

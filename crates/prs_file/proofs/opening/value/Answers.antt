@@ -11,13 +11,13 @@ overflow_mul-number c =
 pub overflow_add-number : goal.overflow_add-number
 overflow_add-number c =
     let here = digit_more c.args.digits.now c.loop-byte.byte-index (get_or c.args.digits.now c.loop-byte.byte-index 0) c.requires.digits c.loop-byte-test.true
-        (get_or_default _ _ 0 _ c.loop-byte-test.true) in
+    (get_or_default _ _ 0 _ c.loop-byte-test.true) in
     let fits = digit_fits c.loop-byte.byte-index c.loop-byte.number c.from.result (omega arith) c.loop-byte.invariant.small (omega arith) in
     omega arith
 
 pub loop-byte-preserved : goal.loop-byte-preserved
 loop-byte-preserved c =
     let here = digit_more c.args.digits.now c.loop-byte.byte-index (get_or c.args.digits.now c.loop-byte.byte-index 0) c.requires.digits c.loop-byte-test.true
-        (get_or_default _ _ 0 _ c.loop-byte-test.true) in
+    (get_or_default _ _ 0 _ c.loop-byte-test.true) in
     let fits = digit_fits c.loop-byte.byte-index c.loop-byte.number c.from.result (omega arith) c.loop-byte.invariant.small (omega arith) in
     record { number = omega arith; small = fits.0 }

@@ -4,4 +4,4 @@ use Rattle.prs_file.proofs.print.guard_text.Goals as goal
 pub returns : goal.returns
 returns c =
     rw (← c.terms-term-items.ensures) (guard_over c.args.net.now c.loop-term.next c.terms-term-items.result.now c.loop-term.term-index c.args.to.now.items
-        c.loop-term.to.items (rw c.terms-term-items.ensures c.requires.some) c.loop-term-test.false c.loop-term.invariant)
+    c.loop-term.to.items (rw c.terms-term-items.ensures c.requires.some) c.loop-term-test.false c.loop-term.invariant)

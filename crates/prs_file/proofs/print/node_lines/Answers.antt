@@ -8,7 +8,7 @@ pub loop-node-preserved : goal.loop-node-preserved
 loop-node-preserved c =
     let net = c.args.net.now in
     c.in_ok-numbered_line.ensures ∙ lines_more (λ node. node_spelling (name_at net node) (first_at net node)) c.loop-node.node c.args.to.now.items
-        c.loop-node.to.items c.loop-node.invariant
+    c.loop-node.to.items c.loop-node.invariant
 
 pub returns : goal.returns
 returns c =

@@ -10,5 +10,5 @@ pub returns : goal.returns
 returns c =
     let some : 0 < length c.args.guard.now = grind (arith, nat_tests, ap length c.terms.ensures) in
     on_ok_weaker c.rule_end.result (λ e. e ∙ ap (λ name. c.guard_text.new.to.items ++ end_spelling name c.args.up) c.node_name.ensures.value
-        ∙ ap (λ t. t ++ end_spelling (name_at c.args.net.now c.args.node) c.args.up) c.in_ok-guard_text.ensures
-        ∙ rule_is c.args.net.now c.args.guard.now c.args.node c.args.up c.args.to.now.items some) c.rule_end.ensures.ok
+    ∙ ap (λ t. t ++ end_spelling (name_at c.args.net.now c.args.node) c.args.up) c.in_ok-guard_text.ensures
+    ∙ rule_is c.args.net.now c.args.guard.now c.args.node c.args.up c.args.to.now.items some) c.rule_end.ensures.ok

@@ -12,7 +12,7 @@ read_rules-requires-clause-reset c =
     let version = c.in_ok-version.version in
     let whole = text_behind (opening version) c.in_ok-version.behind_opening.now in
     let read = subst (λ v. IsNodesRead v n.index n.first.items true whole c.in_ok-nodes.behind_nodes.now) (sym c.in_ok-nodes.ensures.version)
-        c.in_ok-nodes.ensures.read in
+    c.in_ok-nodes.ensures.read in
     reset_told n.version n.index n.first.items whole c.in_ok-nodes.behind_nodes.now read
 
 pub made-requires : goal.made-requires
@@ -21,10 +21,10 @@ made-requires c =
     let version = c.in_ok-version.version in
     let whole = text_behind (opening version) c.in_ok-version.behind_opening.now in
     let read = subst (λ v. IsNodesRead v n.index n.first.items true whole c.in_ok-nodes.behind_nodes.now) (sym c.in_ok-nodes.ensures.version)
-        c.in_ok-nodes.ensures.read in
+    c.in_ok-nodes.ensures.read in
     let table = rw c.deref.ensures.value at c.in_ok-rules.ensures.table in
     is_net n.version n.index n.first.items c.in_ok-channels.channels.items c.in_ok-rules.rules _ c.in_ok-channels.behind_channels.now read.nodes
-        (reset_told n.version n.index n.first.items whole c.in_ok-nodes.behind_nodes.now read) c.in_ok-channels.ensures.read table
+    (reset_told n.version n.index n.first.items whole c.in_ok-nodes.behind_nodes.now read) c.in_ok-channels.ensures.read table
 
 pub returns-clause-text : goal.returns-clause-text
 returns-clause-text c =
@@ -42,4 +42,4 @@ returns-clause-text c =
     let e2 = ap (λ v. text_behind (opening v) t1) same ∙ read.taken.told in
     let taken = rw c.deref.ensures.value at c.in_ok-rules.ensures.taken in
     text_is n.version n.index n.first.items ws rules c.args.text.now t1 t2 t3 e1 e2 c.in_ok-channels.ensures.read.taken.told taken.told read.nodes.count
-        (omega (arith, same, c.in_ok-version.ensures.known)) (omega (arith, same, c.in_ok-version.ensures.known)) ∙ ap spelling (sym c.made.ensures)
+    (omega (arith, same, c.in_ok-version.ensures.known)) (omega (arith, same, c.in_ok-version.ensures.known)) ∙ ap spelling (sym c.made.ensures)

@@ -13,7 +13,7 @@ invariant-loop-rest l =
     record {
       read :
           IsRulesRead (net_forms n.version n.index n.first.items l.channels l.rules) n.version n.index n.first.items (map (λ (w : Wires). w.channel) l.channels)
-              l.so_far.place l.so_far.literals (text_behind (channels_told n.version n.index n.first.items l.channels) l.text) l.rest;
+          l.so_far.place l.so_far.literals (text_behind (channels_told n.version n.index n.first.items l.channels) l.text) l.rest;
       table : IsTable (n.version == 2) (map (λ (w : Wires). w.channel) l.channels) n.index l.so_far.place l.so_far.literals l.rules;
       line : l.line ≡ length (net_forms n.version n.index n.first.items l.channels l.rules) + 1;
       room : l.line + length l.rest ≤ 268435456 + 65539;

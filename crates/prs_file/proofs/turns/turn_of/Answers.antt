@@ -9,7 +9,7 @@ pub returns-in_default-2-clause-fault : goal.returns-in_default-2-clause-fault
 returns-in_default-2-clause-fault c channels are =
     let form = c.args.form.now in
     unknown_literal c.args.nodes.now.index channels (c.args.nodes.now.version == 2) c.args.so_far.place c.args.so_far.literals form.leds.items form.node form.up
-        (rw c.deref.ensures.value at (rw c.in_default-2.is at c.in_ok-guard.ensures.none))
+    (rw c.deref.ensures.value at (rw c.in_default-2.is at c.in_ok-guard.ensures.none))
 
 pub bounds-driven-node : goal.bounds-driven-node
 bounds-driven-node c =
@@ -34,7 +34,7 @@ returns-in-Some-known_fault-clause-fault c channels are =
     let b = get_or c.args.driven.now c.in-Some.node false in
     known_is names channels reset c.args.driven.now so_far.place so_far.literals form.leds.items form.node form.up c.in-Some.node b are at some refl
     ∙ ap (λ p. known_fault_of reset b so_far.place so_far.literals p (length form.leds.items)) (sym c.place_of-place.ensures)
-        ∙ ap (λ n. known_fault_of reset b so_far.place so_far.literals c.place_of-place.result n) (sym (c.len.ensures ∙ form.leds.ok.0))
+    ∙ ap (λ n. known_fault_of reset b so_far.place so_far.literals c.place_of-place.result n) (sym (c.len.ensures ∙ form.leds.ok.0))
     ∙ sym c.known_fault.ensures ∙ c.in-Some-known_fault.is
 
 pub returns-in-None-clause-sound : goal.returns-in-None-clause-sound
@@ -48,5 +48,5 @@ returns-in-None-clause-sound c channels are =
     let b = get_or c.args.driven.now c.in-Some.node false in
     known_is names channels reset c.args.driven.now so_far.place so_far.literals form.leds.items form.node form.up c.in-Some.node b are at some refl
     ∙ ap (λ p. known_fault_of reset b so_far.place so_far.literals p (length form.leds.items)) (sym c.place_of-place.ensures)
-        ∙ ap (λ n. known_fault_of reset b so_far.place so_far.literals c.place_of-place.result n) (sym (c.len.ensures ∙ form.leds.ok.0))
+    ∙ ap (λ n. known_fault_of reset b so_far.place so_far.literals c.place_of-place.result n) (sym (c.len.ensures ∙ form.leds.ok.0))
     ∙ sym c.known_fault.ensures ∙ c.in-None.is

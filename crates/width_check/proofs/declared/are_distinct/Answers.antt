@@ -32,5 +32,5 @@ pub returns : goal.returns
 returns c =
     let none = drop_all c.loop-place-2.place c.args.vars.now c.loop-place-2-test.false in
     let same = subst (λ (vs : List Var). Alike (IsDistinct bytes_eq (names_of c.args.channels.now c.args.vars.now)) (IsDistinct bytes_eq (names_of [] vs))) none
-        c.loop-place-2.invariant in
+    c.loop-place-2.invariant in
     holds _ (no_name_twice _ same)

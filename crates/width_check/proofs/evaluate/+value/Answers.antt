@@ -19,12 +19,12 @@ loop-part-init t c =
 pub appended-number-requires-clause-back : goal.appended-number-requires-clause-back
 appended-number-requires-clause-back t c =
     part_fits (slice_index c.args.store.now) c.deref-part-items.result.now c.loop-part.part-index _ _ _ c.loop-part-test.true c.part-item.is
-        c.loop-part.invariant.formed c.width_of.ensures c.value-in-loop-part.ensures
+    c.loop-part.invariant.formed c.width_of.ensures c.value-in-loop-part.ensures
 
 pub appended-number-requires-clause-fits : goal.appended-number-requires-clause-fits
 appended-number-requires-clause-fits t c =
     let joins = part_joins (slice_index c.args.store.now) c.deref-part-items.result.now c.loop-part.part-index _ c.loop-part.number _ _ c.loop-part-test.true
-        c.part-item.is c.width_of.ensures c.value-in-loop-part.ensures in
+    c.part-item.is c.width_of.ensures c.value-in-loop-part.ensures in
     let below = no_more_than _ _ _ _ (sym joins ∙ c.loop-part.invariant.joined) (some_power _) in
     omega (arith, below, c.loop-part.invariant.most)
 
@@ -33,7 +33,7 @@ loop-part-preserved t c =
     let e = part_at c.deref-part-items.result.now c.loop-part.part-index _ c.loop-part-test.true c.part-item.is in
     let rest = subst (λ (ps : Formulas). AreWellFormed ps) e c.loop-part.invariant.formed in
     let joins = part_joins (slice_index c.args.store.now) c.deref-part-items.result.now c.loop-part.part-index _ c.loop-part.number _ _ c.loop-part-test.true
-        c.part-item.is c.width_of.ensures c.value-in-loop-part.ensures in
+    c.part-item.is c.width_of.ensures c.value-in-loop-part.ensures in
     record {
       joined = rw c.appended-number.ensures (sym joins ∙ c.loop-part.invariant.joined);
       formed = rest.1;
@@ -46,7 +46,7 @@ returns-after-loop-part t c =
     let none = no_more_parts c.deref-part-items.result.now c.loop-part.part-index c.loop-part-test.false in
     let store = slice_index c.args.store.now in
     let whole : value store (formula_of c.args.e.now) ≡ joined_value store (parts_of c.deref-part-items.result.now) =
-        ap (value store) (joined_parts _ _ c.in-Join.is) ∙ ap (λ es. joined_value store (parts_of es)) (sym c.deref-part-items.ensures.value) in
+    ap (value store) (joined_parts _ _ c.in-Join.is) ∙ ap (λ es. joined_value store (parts_of es)) (sym c.deref-part-items.ensures.value) in
     let last = rw none at c.loop-part.invariant.joined in
     omega (arith, last, whole)
 
@@ -66,13 +66,13 @@ loop-link-init t c =
 pub operated-number-requires-clause-right : goal.operated-number-requires-clause-right
 operated-number-requires-clause-right t c =
     link_fits (slice_index c.args.store.now) c.deref-link-items.result.now c.loop-link.link-index _ _ _ c.loop-link-test.true c.link-item.is
-        c.loop-link.invariant.formed c.value-in-loop-link.ensures
+    c.loop-link.invariant.formed c.value-in-loop-link.ensures
 
 pub loop-link-preserved : goal.loop-link-preserved
 loop-link-preserved t c =
     let more = link_more (slice_index c.args.store.now) c.deref-link-items.result.now c.loop-link.link-index _ _ c.loop-link.number _ _ _ c.loop-link-test.true
-        c.link-item.is c.value-in-loop-link.ensures c.operated-number.ensures c.loop-link.invariant.chained c.loop-link.invariant.formed
-        c.loop-link.invariant.small in
+    c.link-item.is c.value-in-loop-link.ensures c.operated-number.ensures c.loop-link.invariant.chained c.loop-link.invariant.formed
+    c.loop-link.invariant.small in
     record {
       chained = more.chained;
       formed = more.formed;

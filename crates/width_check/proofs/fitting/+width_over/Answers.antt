@@ -42,7 +42,7 @@ returns-in_err-right-in-Chain-clause-none t c =
     let is = chained_links _ _ _ c.in-Chain.is ∙ ap (λ ls. chained (formula_of c.in-Chain.first.value) (links_of ls)) (sym c.deref-link-items.ensures.value) in
     let left = links_at _ _ _ c.loop-link.link-index _ c.loop-link-test.true c.link-item.is c.loop-link.invariant in
     let first : IsOfWidth c.args.vars.now c.in_ok-width-in-Chain.width (formula_of c.in-Chain.first.value) =
-        rw (← c.deref-in-Chain.ensures) c.in_ok-width-in-Chain.ensures.some in
+    rw (← c.deref-in-Chain.ensures) c.in_ok-width-in-Chain.ensures.some in
     if_none _ _ (not_over _ _ _ is (λ u. chain_none _ _ u _ _ _ _ _ left first c.in_err-right-in-Chain.ensures.none))
 
 pub returns-then-is_comparison-clause-none : goal.returns-then-is_comparison-clause-none
@@ -50,7 +50,7 @@ returns-then-is_comparison-clause-none t c =
     let is = chained_links _ _ _ c.in-Chain.is ∙ ap (λ ls. chained (formula_of c.in-Chain.first.value) (links_of ls)) (sym c.deref-link-items.ensures.value) in
     let left = links_at _ _ _ c.loop-link.link-index _ c.loop-link-test.true c.link-item.is c.loop-link.invariant in
     let first : IsOfWidth c.args.vars.now c.in_ok-width-in-Chain.width (formula_of c.in-Chain.first.value) =
-        rw (← c.deref-in-Chain.ensures) c.in_ok-width-in-Chain.ensures.some in
+    rw (← c.deref-in-Chain.ensures) c.in_ok-width-in-Chain.ensures.some in
     elim c.then-is_comparison.branch [
       | then-is_comparison-via-then-is_comparison w ↦ not_over _ _ _ is
           (λ u. chain_compares _ _ u _ _ _ _ _ left first (sym c.is_comparison.ensures ∙ w.if-is_comparison.true))
@@ -63,7 +63,7 @@ returns-then-is_empty-clause-none t c =
     let is = chained_links _ _ _ c.in-Chain.is in
     let count = links_counted c.in-Chain.rest.items in
     not_over _ _ _ is (λ u h. let some = h.formed.1 in
-        absurd (omega (arith, count, some, (Decides-eqb (vec_len c.in-Chain.rest) 0).0 (sym c.is_empty.ensures ∙ c.if-is_empty.true))))
+    absurd (omega (arith, count, some, (Decides-eqb (vec_len c.in-Chain.rest) 0).0 (sym c.is_empty.ensures ∙ c.if-is_empty.true))))
 
 pub returns-else-is_empty-clause-some : goal.returns-else-is_empty-clause-some
 returns-else-is_empty-clause-some t c =
@@ -71,7 +71,7 @@ returns-else-is_empty-clause-some t c =
     let count = links_counted c.deref-link-items.result.now in
     let all = links_end _ _ _ c.loop-link.link-index c.loop-link-test.false c.loop-link.invariant in
     let first : IsOfWidth c.args.vars.now c.in_ok-width-in-Chain.width (formula_of c.in-Chain.first.value) =
-        rw (← c.deref-in-Chain.ensures) c.in_ok-width-in-Chain.ensures.some in
+    rw (← c.deref-in-Chain.ensures) c.in_ok-width-in-Chain.ensures.some in
     subst (λ f. IsOfWidth c.args.vars.now c.in_ok-width-in-Chain.width f) (sym is) (chain_done _ _ _ _ all first (let some =
-        not_zero (vec_len c.in-Chain.rest) (sym c.if-is_empty.false ∙ c.is_empty.ensures) in
-        omega (arith, count, some, ap length c.deref-link-items.ensures.value)))
+    not_zero (vec_len c.in-Chain.rest) (sym c.if-is_empty.false ∙ c.is_empty.ensures) in
+    omega (arith, count, some, ap length c.deref-link-items.ensures.value)))

@@ -26,7 +26,7 @@ pub overflow_cast-high : goal.overflow_cast-high
 overflow_cast-high t c =
     let s = rw c.in-Slice.is at c.requires.sound in
     let bits = good_slice (declared_width c.args.scope.now.decls.now c.in-Slice.of.name) c.in-Slice.high c.in-Slice.low
-        (s.parts (slice c.in-Slice.of c.in-Slice.high c.in-Slice.low c.in-Slice.at) (0, omega arith, refl)) in
+    (s.parts (slice c.in-Slice.of c.in-Slice.high c.in-Slice.low c.in-Slice.at) (0, omega arith, refl)) in
     let most = declared_most c.args.scope.now.decls.now c.requires.ranged c.in-Slice.of.name in
     omega (arith, bits.1, most)
 
@@ -34,7 +34,7 @@ pub overflow_cast-low : goal.overflow_cast-low
 overflow_cast-low t c =
     let s = rw c.in-Slice.is at c.requires.sound in
     let bits = good_slice (declared_width c.args.scope.now.decls.now c.in-Slice.of.name) c.in-Slice.high c.in-Slice.low
-        (s.parts (slice c.in-Slice.of c.in-Slice.high c.in-Slice.low c.in-Slice.at) (0, omega arith, refl)) in
+    (s.parts (slice c.in-Slice.of c.in-Slice.high c.in-Slice.low c.in-Slice.at) (0, omega arith, refl)) in
     let most = declared_most c.args.scope.now.decls.now c.requires.ranged c.in-Slice.of.name in
     omega (arith, bits.0, bits.1, most)
 
@@ -46,16 +46,22 @@ read-requires t c =
 pub overflow_cast-place : goal.overflow_cast-place
 overflow_cast-place t c =
     let s = rw c.in-Bit.is at c.requires.sound in
-    let here = bit_within (declared_width c.args.scope.now.decls.now c.in-Bit.of.name) c.in-Bit.place (s.parts (bit c.in-Bit.of c.in-Bit.place c.in-Bit.at) (0,
-        omega arith, refl)) in
+    let here = bit_within (declared_width c.args.scope.now.decls.now c.in-Bit.of.name) c.in-Bit.place (s.parts (bit c.in-Bit.of c.in-Bit.place c.in-Bit.at) (
+      0,
+      omega arith,
+      refl,
+    )) in
     let most = declared_most c.args.scope.now.decls.now c.requires.ranged c.in-Bit.of.name in
     omega (arith, here, most)
 
 pub overflow_cast-place-in-Bit : goal.overflow_cast-place-in-Bit
 overflow_cast-place-in-Bit t c =
     let s = rw c.in-Bit.is at c.requires.sound in
-    let here = bit_within (declared_width c.args.scope.now.decls.now c.in-Bit.of.name) c.in-Bit.place (s.parts (bit c.in-Bit.of c.in-Bit.place c.in-Bit.at) (0,
-        omega arith, refl)) in
+    let here = bit_within (declared_width c.args.scope.now.decls.now c.in-Bit.of.name) c.in-Bit.place (s.parts (bit c.in-Bit.of c.in-Bit.place c.in-Bit.at) (
+      0,
+      omega arith,
+      refl,
+    )) in
     let most = declared_most c.args.scope.now.decls.now c.requires.ranged c.in-Bit.of.name in
     omega (arith, here, most)
 
@@ -67,22 +73,26 @@ read-requires-in-Bit t c =
 pub loop-part-init : goal.loop-part-init
 loop-part-init t c =
     let left = join_left c.args.scope.now.decls.now c.args.width c.args.e.now c.in-Join.parts c.in-Join.at c.deref-part-items.result.now c.in-Join.is
-        c.deref-part-items.ensures.value c.requires.shaped c.requires.sound in
+    c.deref-part-items.ensures.value c.requires.shaped c.requires.sound in
     record { made = rw c.new-made.ensures.items refl; shaped = left.shaped; full = left.full; sound = left.sound }
 
 pub make_expression-requires : goal.make_expression-requires
 make_expression-requires t c =
     let r = part_ready c.args.scope.now.decls.now c.requires.ranged c.deref-part-items.result.now c.loop-part.part-index c.part-item.result c.own_width.result
-        c.unwrap_or-own.result c.loop-part-test.true c.part-item.is (record { shaped = c.loop-part.invariant.shaped; full = c.loop-part.invariant.full; sound =
-        c.loop-part.invariant.sound }) c.own_width.ensures c.unwrap_or-own.ensures in
+    c.unwrap_or-own.result c.loop-part-test.true c.part-item.is (record {
+      shaped = c.loop-part.invariant.shaped;
+      full = c.loop-part.invariant.full;
+      sound =
+          c.loop-part.invariant.sound;
+    }) c.own_width.ensures c.unwrap_or-own.ensures in
     (search (rules, the_lemmas, get_or_read), (r.some, (r.most, (c.requires.ranged, (r.shaped, r.sound)))))
 
 pub loop-part-preserved : goal.loop-part-preserved
 loop-part-preserved t c =
     let here : ArePartsLeft c.args.scope.now.decls.now (join_parts (drop c.loop-part.part-index c.deref-part-items.result.now)) =
-        (record { shaped = c.loop-part.invariant.shaped; full = c.loop-part.invariant.full; sound = c.loop-part.invariant.sound }) in
+    (record { shaped = c.loop-part.invariant.shaped; full = c.loop-part.invariant.full; sound = c.loop-part.invariant.sound }) in
     let left = parts_next c.args.scope.now.decls.now c.deref-part-items.result.now c.loop-part.part-index c.part-item.result c.loop-part-test.true
-        c.part-item.is here in
+    c.part-item.is here in
     record {
       made = part_made c.args.scope.now.decls.now c.requires.ranged c.deref-part-items.result.now c.loop-part.part-index c.part-item.result c.own_width.result
           c.unwrap_or-own.result c.loop-part.made.items c.push.new.self.items c.in_ok-make_expression-in-Join.field-0 _ c.loop-part-test.true c.part-item.is
@@ -96,23 +106,35 @@ loop-part-preserved t c =
 pub make_expression-requires-in-Not : goal.make_expression-requires-in-Not
 make_expression-requires-in-Not t c =
     let s = rw c.in-Not.is at c.requires.sound in
-    let shaped = rw c.in-Not.is at c.requires.shaped in
-    (search (rules, the_lemmas, get_or_read),
-        (c.requires.some, (c.requires.most, (c.requires.ranged,
-        (rw c.deref.ensures shaped, rw c.deref.ensures (sound_inner c.args.scope.now.decls.now c.args.width (expression_of c.in-Not.inner.value) c.in-Not.at
-        s))))))
+    let shaped = rw c.in-Not.is at c.requires.shaped in (
+      search (rules, the_lemmas, get_or_read),
+      (
+        c.requires.some,
+        (
+          c.requires.most,
+          (
+            c.requires.ranged,
+            (
+              rw c.deref.ensures shaped,
+              rw c.deref.ensures (sound_inner c.args.scope.now.decls.now c.args.width (expression_of c.in-Not.inner.value) c.in-Not.at
+                  s),
+            ),
+          ),
+        ),
+      ),
+    )
 
 pub make_expression-requires-in-Chain : goal.make_expression-requires-in-Chain
 make_expression-requires-in-Chain t c =
     let r = first_ready c.args.scope.now.decls.now c.args.width c.args.e.now c.in-Chain.first c.in-Chain.rest c.in-Chain.at c.deref-in-Chain.result.now
-        c.deref-in-Chain-2.result.now c.in-Chain.is c.deref-in-Chain.ensures.value c.deref-in-Chain-2.ensures (sym c.if-compares.ensures) c.requires.some
-        c.requires.most c.requires.shaped c.requires.sound in
+    c.deref-in-Chain-2.result.now c.in-Chain.is c.deref-in-Chain.ensures.value c.deref-in-Chain-2.ensures (sym c.if-compares.ensures) c.requires.some
+    c.requires.most c.requires.shaped c.requires.sound in
     (search (rules, the_lemmas, get_or_read), (r.some, (r.most, (c.requires.ranged, (r.shaped, r.sound)))))
 
 pub make_expression-requires-in-loop-link : goal.make_expression-requires-in-loop-link
 make_expression-requires-in-loop-link t c =
     let r = link_ready c.args.scope.now.decls.now c.args.width c.deref-link-items.result.now c.loop-link.link-index c.link-item.result c.loop-link-test.true
-        c.link-item.is c.requires.some c.requires.most (record { shaped = c.loop-link.invariant.shaped; sound = c.loop-link.invariant.sound }) in
+    c.link-item.is c.requires.some c.requires.most (record { shaped = c.loop-link.invariant.shaped; sound = c.loop-link.invariant.sound }) in
     (search (rules, the_lemmas, get_or_read), (r.some, (r.most, (c.requires.ranged, (r.shaped, r.sound)))))
 
 pub make_expression-requires-then-compares : goal.make_expression-requires-then-compares
@@ -120,19 +142,28 @@ make_expression-requires-then-compares t c =
     let so = rw c.deref-in-Chain.ensures.value at (sym c.if-compares.ensures) in
     let found = rw (c.deref-then-compares.ensures, c.deref-then-compares-2.ensures.value) at c.side_width.ensures in
     let facts = comparison_ready c.args.scope.now.decls.now c.requires.ranged c.args.width c.args.e.now c.in-Chain.first c.in-Chain.rest c.in-Chain.at
-        c.index-link.result.now c.side_width.result c.unwrap_or-side.result c.in-Chain.is so c.index-link.ensures c.requires.shaped c.requires.sound found
-        c.unwrap_or-side.ensures in
-    (search (rules, the_lemmas, get_or_read),
-        (facts.left.some, (facts.left.most, (c.requires.ranged,
-        (rw c.deref-then-compares-3.ensures facts.left.shaped, rw c.deref-then-compares-3.ensures facts.left.sound)))))
+    c.index-link.result.now c.side_width.result c.unwrap_or-side.result c.in-Chain.is so c.index-link.ensures c.requires.shaped c.requires.sound found
+    c.unwrap_or-side.ensures in (
+      search (rules, the_lemmas, get_or_read),
+      (
+        facts.left.some,
+        (
+          facts.left.most,
+          (
+            c.requires.ranged,
+            (rw c.deref-then-compares-3.ensures facts.left.shaped, rw c.deref-then-compares-3.ensures facts.left.sound),
+          ),
+        ),
+      ),
+    )
 
 pub make_expression-requires-then-compares-2 : goal.make_expression-requires-then-compares-2
 make_expression-requires-then-compares-2 t c =
     let so = rw c.deref-in-Chain.ensures.value at (sym c.if-compares.ensures) in
     let found = rw (c.deref-then-compares.ensures, c.deref-then-compares-2.ensures.value) at c.side_width.ensures in
     let facts = comparison_ready c.args.scope.now.decls.now c.requires.ranged c.args.width c.args.e.now c.in-Chain.first c.in-Chain.rest c.in-Chain.at
-        c.index-link.result.now c.side_width.result c.unwrap_or-side.result c.in-Chain.is so c.index-link.ensures c.requires.shaped c.requires.sound found
-        c.unwrap_or-side.ensures in
+    c.index-link.result.now c.side_width.result c.unwrap_or-side.result c.in-Chain.is so c.index-link.ensures c.requires.shaped c.requires.sound found
+    c.unwrap_or-side.ensures in
     (search (rules, the_lemmas, get_or_read), (facts.right.some, (facts.right.most, (c.requires.ranged, (facts.right.shaped, facts.right.sound)))))
 
 pub returns-then-compares : goal.returns-then-compares
@@ -140,25 +171,25 @@ returns-then-compares t c =
     let so = rw c.deref-in-Chain.ensures.value at (sym c.if-compares.ensures) in
     let found = rw (c.deref-then-compares.ensures, c.deref-then-compares-2.ensures.value) at c.side_width.ensures in
     let facts = comparison_ready c.args.scope.now.decls.now c.requires.ranged c.args.width c.args.e.now c.in-Chain.first c.in-Chain.rest c.in-Chain.at
-        c.index-link.result.now c.side_width.result c.unwrap_or-side.result c.in-Chain.is so c.index-link.ensures c.requires.shaped c.requires.sound found
-        c.unwrap_or-side.ensures in
+    c.index-link.result.now c.side_width.result c.unwrap_or-side.result c.in-Chain.is so c.index-link.ensures c.requires.shaped c.requires.sound found
+    c.unwrap_or-side.ensures in
     comparison_made c.args.scope.now.decls.now c.args.width c.unwrap_or-side.result c.args.e.now c.in-Chain.first c.in-Chain.rest c.in-Chain.at
-        c.index-link.result.now _ _ c.in-Chain.is so facts
+    c.index-link.result.now _ _ c.in-Chain.is so facts
     (ap formula_of c.in_ok-new-in-Chain.ensures.ok ∙ c.in_ok-left-in-Chain.ensures
-        ∙ ap (λ (x : Expr). formula_form c.args.scope.now.decls.now c.unwrap_or-side.result (expression_of x)) c.deref-then-compares-3.ensures)
+    ∙ ap (λ (x : Expr). formula_form c.args.scope.now.decls.now c.unwrap_or-side.result (expression_of x)) c.deref-then-compares-3.ensures)
     (ap formula_of c.in_ok-new-in-Chain-2.ensures.ok ∙ c.in_ok-right-in-Chain.ensures)
 
 pub loop-link-init : goal.loop-link-init
 loop-link-init t c =
     let left = links_left c.args.scope.now.decls.now c.args.width c.args.e.now c.in-Chain.first c.in-Chain.rest c.in-Chain.at c.deref-in-Chain.result.now
-        c.deref-link-items.result.now c.in-Chain.is c.deref-in-Chain.ensures.value c.deref-link-items.ensures.value (sym c.if-compares.ensures)
-        c.requires.shaped c.requires.sound in
+    c.deref-link-items.result.now c.in-Chain.is c.deref-in-Chain.ensures.value c.deref-link-items.ensures.value (sym c.if-compares.ensures)
+    c.requires.shaped c.requires.sound in
     record { made = rw c.new-made-in-Chain.ensures.items refl; shaped = left.shaped; sound = left.sound; front = refl }
 
 pub loop-link-preserved : goal.loop-link-preserved
 loop-link-preserved t c =
     let left = links_next c.args.scope.now.decls.now c.args.width c.deref-link-items.result.now c.loop-link.link-index c.link-item.result c.loop-link-test.true
-        c.link-item.is (record { shaped = c.loop-link.invariant.shaped; sound = c.loop-link.invariant.sound }) in
+    c.link-item.is (record { shaped = c.loop-link.invariant.shaped; sound = c.loop-link.invariant.sound }) in
     record {
       made = link_made c.args.scope.now.decls.now c.args.width c.deref-link-items.result.now c.loop-link.link-index c.link-item.result c.loop-link.made.items
           c.push-in-loop-link.new.self.items c.in_ok-right-in-Chain-2.right _ c.loop-link-test.true c.link-item.is c.in_ok-right-in-Chain-2.ensures
@@ -175,7 +206,7 @@ returns-after-loop-part t c = join_made c.args.scope.now.decls.now c.args.width 
 pub returns-in_ok-new-in-Chain-3 : goal.returns-in_ok-new-in-Chain-3
 returns-in_ok-new-in-Chain-3 t c =
     chain_made c.args.scope.now.decls.now c.args.width c.args.e.now c.in-Chain.first c.in-Chain.rest c.in-Chain.at c.deref-in-Chain.result.now
-        c.deref-link-items.result.now c.loop-link.link-index c.deref-in-Chain-2.result.now c.in_ok-new-in-Chain-3.field-0 c.loop-link.made c.in-Chain.is
-        c.deref-in-Chain.ensures.value c.deref-link-items.ensures.value (sym c.if-compares.ensures) c.deref-in-Chain-2.ensures
+    c.deref-link-items.result.now c.loop-link.link-index c.deref-in-Chain-2.result.now c.in_ok-new-in-Chain-3.field-0 c.loop-link.made c.in-Chain.is
+    c.deref-in-Chain.ensures.value c.deref-link-items.ensures.value (sym c.if-compares.ensures) c.deref-in-Chain-2.ensures
     (ap formula_of (c.in_ok-new-in-Chain-3.ensures.ok ∙ c.loop-link.invariant.front) ∙ c.in_ok-front-in-Chain.ensures) c.loop-link-test.false
-        c.loop-link.invariant.made
+    c.loop-link.invariant.made

@@ -13,7 +13,7 @@ bits-requires-clause-declared t c = is_declared c.args.scope.now.decls.now c.in-
 pub make_expression-requires-clause-sound : goal.make_expression-requires-clause-sound
 make_expression-requires-clause-sound t c =
     rw c.bits.ensures.value (assign_sound c.args.scope.now.decls.now c.in-Assign.target (expression_of c.in-Assign.value)
-        (rw c.in-Assign.is at c.requires.sound)).1
+    (rw c.in-Assign.is at c.requires.sound)).1
 
 pub bits-requires-in-Send-clause-declared : goal.bits-requires-in-Send-clause-declared
 bits-requires-in-Send-clause-declared t c =
@@ -23,7 +23,7 @@ bits-requires-in-Send-clause-declared t c =
 pub make_expression-requires-in-Send-clause-sound : goal.make_expression-requires-in-Send-clause-sound
 make_expression-requires-in-Send-clause-sound t c =
     rw c.bits-in-Send.ensures.value (send_sound c.args.scope.now.decls.now c.in-Send.chan (expression_of c.in-Send.value)
-        (rw c.in-Send.is at c.requires.sound)).1
+    (rw c.in-Send.is at c.requires.sound)).1
 
 pub number-requires-in-Receive : goal.number-requires-in-Receive
 number-requires-in-Receive t c = is_declared c.args.scope.now.decls.now c.in-Receive.chan.name false
@@ -36,19 +36,19 @@ number-requires-in-Receive-2 t c = is_declared c.args.scope.now.decls.now c.in-R
 pub loop-part-init : goal.loop-part-init
 loop-part-init t c =
     let left = then_left c.args.scope.now.decls.now c.args.s.now c.in-Then.parts c.deref-part-items.result.now c.in-Then.is c.deref-part-items.ensures.value
-        c.requires.shaped c.requires.call_free c.requires.sound in
+    c.requires.shaped c.requires.call_free c.requires.sound in
     record { made = rw c.new-made.ensures.items refl; shaped = left.shaped; free = left.free; sound = left.sound }
 
 pub make_statement-requires : goal.make_statement-requires
 make_statement-requires t c =
     let r = member_ready c.args.scope.now.decls.now c.deref-part-items.result.now c.loop-part.part-index c.part-item.result c.loop-part-test.true c.part-item.is
-        (record { shaped = c.loop-part.invariant.shaped; free = c.loop-part.invariant.free; sound = c.loop-part.invariant.sound }) in
+    (record { shaped = c.loop-part.invariant.shaped; free = c.loop-part.invariant.free; sound = c.loop-part.invariant.sound }) in
     (search (rules, the_lemmas, get_or_read), (c.requires.ranged, (r.shaped, (r.free, r.sound))))
 
 pub loop-part-preserved : goal.loop-part-preserved
 loop-part-preserved t c =
     let left = members_next c.args.scope.now.decls.now c.deref-part-items.result.now c.loop-part.part-index c.part-item.result c.loop-part-test.true
-        c.part-item.is (record { shaped = c.loop-part.invariant.shaped; free = c.loop-part.invariant.free; sound = c.loop-part.invariant.sound }) in
+    c.part-item.is (record { shaped = c.loop-part.invariant.shaped; free = c.loop-part.invariant.free; sound = c.loop-part.invariant.sound }) in
     record {
       made = member_made c.args.scope.now.decls.now c.deref-part-items.result.now c.loop-part.part-index c.part-item.result c.loop-part.made.items
           c.push.new.self.items c.in_ok-make_statement-in-Then.field-0 _ c.loop-part-test.true c.part-item.is c.in_ok-make_statement-in-Then.ensures
@@ -61,19 +61,19 @@ loop-part-preserved t c =
 pub loop-branch-init : goal.loop-branch-init
 loop-branch-init t c =
     let left = beside_left c.args.scope.now.decls.now c.args.s.now c.in-Beside.parts c.deref-branch-items.result.now c.in-Beside.is
-        c.deref-branch-items.ensures.value c.requires.shaped c.requires.call_free c.requires.sound in
+    c.deref-branch-items.ensures.value c.requires.shaped c.requires.call_free c.requires.sound in
     record { made = rw c.new-made-in-Beside.ensures.items refl; shaped = left.shaped; free = left.free; sound = left.sound }
 
 pub make_statement-requires-in-loop-branch : goal.make_statement-requires-in-loop-branch
 make_statement-requires-in-loop-branch t c =
     let r = member_ready c.args.scope.now.decls.now c.deref-branch-items.result.now c.loop-branch.branch-index c.branch-item.result c.loop-branch-test.true
-        c.branch-item.is (record { shaped = c.loop-branch.invariant.shaped; free = c.loop-branch.invariant.free; sound = c.loop-branch.invariant.sound }) in
+    c.branch-item.is (record { shaped = c.loop-branch.invariant.shaped; free = c.loop-branch.invariant.free; sound = c.loop-branch.invariant.sound }) in
     (search (rules, the_lemmas, get_or_read), (c.requires.ranged, (r.shaped, (r.free, r.sound))))
 
 pub loop-branch-preserved : goal.loop-branch-preserved
 loop-branch-preserved t c =
     let left = members_next c.args.scope.now.decls.now c.deref-branch-items.result.now c.loop-branch.branch-index c.branch-item.result c.loop-branch-test.true
-        c.branch-item.is (record { shaped = c.loop-branch.invariant.shaped; free = c.loop-branch.invariant.free; sound = c.loop-branch.invariant.sound }) in
+    c.branch-item.is (record { shaped = c.loop-branch.invariant.shaped; free = c.loop-branch.invariant.free; sound = c.loop-branch.invariant.sound }) in
     record {
       made = member_made c.args.scope.now.decls.now c.deref-branch-items.result.now c.loop-branch.branch-index c.branch-item.result c.loop-branch.made.items
           c.push-in-loop-branch.new.self.items c.in_ok-make_statement-in-Beside.field-0 _ c.loop-branch-test.true c.branch-item.is
@@ -86,24 +86,24 @@ loop-branch-preserved t c =
 pub loop-arm-init : goal.loop-arm-init
 loop-arm-init t c =
     let left = select_left c.args.scope.now.decls.now c.args.s.now c.in-Select.again c.in-Select.arms c.deref-arm-items.result.now c.in-Select.is
-        c.deref-arm-items.ensures.value c.requires.shaped c.requires.call_free c.requires.sound in
+    c.deref-arm-items.ensures.value c.requires.shaped c.requires.call_free c.requires.sound in
     record { made = rw c.new-made-in-Select.ensures.items refl; shaped = left.shaped; free = left.free; sound = left.sound }
 
 pub make_expression-requires-in-loop-arm-clause-sound : goal.make_expression-requires-in-loop-arm-clause-sound
 make_expression-requires-in-loop-arm-clause-sound t c =
     (arm_ready c.args.scope.now.decls.now c.deref-arm-items.result.now c.loop-arm.arm-index c.arm-item.result c.loop-arm-test.true c.arm-item.is
-        (record { shaped = c.loop-arm.invariant.shaped; free = c.loop-arm.invariant.free; sound = c.loop-arm.invariant.sound })).guard_sound
+    (record { shaped = c.loop-arm.invariant.shaped; free = c.loop-arm.invariant.free; sound = c.loop-arm.invariant.sound })).guard_sound
 
 pub make_statement-requires-in-loop-arm : goal.make_statement-requires-in-loop-arm
 make_statement-requires-in-loop-arm t c =
     let r = arm_ready c.args.scope.now.decls.now c.deref-arm-items.result.now c.loop-arm.arm-index c.arm-item.result c.loop-arm-test.true c.arm-item.is
-        (record { shaped = c.loop-arm.invariant.shaped; free = c.loop-arm.invariant.free; sound = c.loop-arm.invariant.sound }) in
+    (record { shaped = c.loop-arm.invariant.shaped; free = c.loop-arm.invariant.free; sound = c.loop-arm.invariant.sound }) in
     (search (rules, the_lemmas, get_or_read), (c.requires.ranged, (r.body.shaped, (r.body.free, r.body.sound))))
 
 pub loop-arm-preserved : goal.loop-arm-preserved
 loop-arm-preserved t c =
     let left = arms_next c.args.scope.now.decls.now c.deref-arm-items.result.now c.loop-arm.arm-index c.arm-item.result c.loop-arm-test.true c.arm-item.is
-        (record { shaped = c.loop-arm.invariant.shaped; free = c.loop-arm.invariant.free; sound = c.loop-arm.invariant.sound }) in
+    (record { shaped = c.loop-arm.invariant.shaped; free = c.loop-arm.invariant.free; sound = c.loop-arm.invariant.sound }) in
     record {
       made = arm_made c.args.scope.now.decls.now c.deref-arm-items.result.now c.loop-arm.arm-index c.arm-item.result c.loop-arm.made.items
           c.push-in-loop-arm.new.self.items c.in_ok-guard-in-Select.guard c.in_ok-body-in-Select.body _ c.loop-arm-test.true c.arm-item.is

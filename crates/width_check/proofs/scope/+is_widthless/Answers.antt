@@ -9,10 +9,10 @@ pub returns-then-not-is_widthless-2 : goal.returns-then-not-is_widthless-2
 returns-then-not-is_widthless-2 t c = λ ds.
     let none = rw c.deref-in-Chain-2.ensures at c.if-not-is_widthless.ensures ds in
     widthless_link ds _ _ _ _ _ _ c.loop-link.link-index _ c.in-Chain.is c.deref-in-Chain.ensures.value c.deref-link-items.ensures.value
-        (sym c.if-compares.ensures) none c.loop-link-test.true c.link-item.is (c.loop-link.invariant ds) (c.if-not-is_widthless-2.ensures ds)
+    (sym c.if-compares.ensures) none c.loop-link-test.true c.link-item.is (c.loop-link.invariant ds) (c.if-not-is_widthless-2.ensures ds)
 
 pub returns-after-loop-link : goal.returns-after-loop-link
 returns-after-loop-link t c = λ ds.
     let none = rw c.deref-in-Chain-2.ensures at c.if-not-is_widthless.ensures ds in
     widthless_all ds _ _ _ _ _ _ c.loop-link.link-index c.in-Chain.is c.deref-in-Chain.ensures.value c.deref-link-items.ensures.value
-        (sym c.if-compares.ensures) none c.loop-link-test.false (c.loop-link.invariant ds)
+    (sym c.if-compares.ensures) none c.loop-link-test.false (c.loop-link.invariant ds)

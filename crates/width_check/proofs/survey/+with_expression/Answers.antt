@@ -21,13 +21,13 @@ loop-part-preserved t c =
 pub loop-link-preserved : goal.loop-link-preserved
 loop-link-preserved t c =
     link_step c.args.scope.now.decls.now _ _ c.loop-link.link-index _ _ _ _ c.loop-link-test.true c.link-item.is c.loop-link.invariant
-        c.with_expression-in-loop-link.ensures.findings
+    c.with_expression-in-loop-link.ensures.findings
 
 pub returns-after-loop-part-clause-findings : goal.returns-after-loop-part-clause-findings
 returns-after-loop-part-clause-findings t c =
     let own = sum_done c.args.scope.now.decls.now _ c.loop-part.part-index _ _ c.loop-part-test.false c.loop-part.invariant.own c.loop-part.invariant.most in
     part_done c.args.scope.now.decls.now _ _ _ _ c.loop-part.part-index _ _ _ _ _ c.args.wanted c.in-Join.is c.deref-part-items.ensures.value
-        c.loop-part-test.false c.loop-part.invariant.found own c.unwrap_or-in-Join.ensures c.with_leaf.ensures
+    c.loop-part-test.false c.loop-part.invariant.found own c.unwrap_or-in-Join.ensures c.with_leaf.ensures
 
 pub returns-after-loop-part-clause-own : goal.returns-after-loop-part-clause-own
 returns-after-loop-part-clause-own t c = λ none.

@@ -12,22 +12,22 @@ loop-part-preserved t c =
 pub loop-branch-preserved : goal.loop-branch-preserved
 loop-branch-preserved t c =
     member_step _ _ c.loop-branch.branch-index _ _ _ _ c.loop-branch-test.true c.branch-item.is c.loop-branch.invariant
-        c.with_statement-findings-in-loop-branch.ensures
+    c.with_statement-findings-in-loop-branch.ensures
 
 pub loop-arm-preserved : goal.loop-arm-preserved
 loop-arm-preserved t c =
     arm_step _ _ c.loop-arm.arm-index _ _ _ _ _ c.loop-arm-test.true c.arm-item.is c.loop-arm.invariant c.with_expression-in-loop-arm.ensures.findings
-        c.with_statement-findings-in-loop-arm.ensures
+    c.with_statement-findings-in-loop-arm.ensures
 
 pub returns-in-Assign : goal.returns-in-Assign
 returns-in-Assign t c =
     rw c.in-Assign.is (noted_assign _ _ _ _ c.in-Assign.target (expression_of c.in-Assign.value) _ c.with_var-findings.ensures (c.capped.ensures
-        ∙ ap capped_width c.width.ensures) c.with_expression.ensures.findings)
+    ∙ ap capped_width c.width.ensures) c.with_expression.ensures.findings)
 
 pub returns-in-Send : goal.returns-in-Send
 returns-in-Send t c =
     rw c.in-Send.is (noted_send _ _ _ _ c.in-Send.chan (expression_of c.in-Send.value) _ c.with_sender-findings.ensures (c.capped-in-Send.ensures
-        ∙ ap capped_width c.width-in-Send.ensures) c.with_expression-in-Send.ensures.findings)
+    ∙ ap capped_width c.width-in-Send.ensures) c.with_expression-in-Send.ensures.findings)
 
 pub returns-after-loop-part : goal.returns-after-loop-part
 returns-after-loop-part t c =

@@ -28,6 +28,6 @@ pub returns-after-loop-part : goal.returns-after-loop-part
 returns-after-loop-part t c =
     let none = no_more_parts c.deref-part-items.result.now c.loop-part.part-index c.loop-part-test.false in
     let whole : width_of (formula_of c.args.e.now) ≡ widths_of (parts_of c.deref-part-items.result.now) = ap width_of (joined_parts _ _ c.in-Join.is)
-        ∙ ap (λ es. widths_of (parts_of es)) (sym c.deref-part-items.ensures.value) in
+    ∙ ap (λ es. widths_of (parts_of es)) (sym c.deref-part-items.ensures.value) in
     let left : widths_of (parts_of (drop c.loop-part.part-index c.deref-part-items.result.now)) ≡ 0 = ap widths_of none in
     omega (arith, c.loop-part.invariant.sum, whole, left)

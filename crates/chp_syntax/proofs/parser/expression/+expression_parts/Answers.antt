@@ -133,7 +133,8 @@ disjunction-loop-op-preserved t c =
       within = c.in_ok-next.ensures.within;
       moved = omega (arith, c.loop-op.invariant.moved, c.in_ok-next.ensures.moved);
       read = rw (c.in_ok-push.ensures.items, map-append link_of c.loop-op.links.items)
-          (chained_more disjunction_level c.loop-op.invariant.read (operator_good or_operator c.args.tokens.now c.loop-op.at c.in-Some.op (sym c.in-Some.ensures))
+          (chained_more disjunction_level c.loop-op.invariant.read
+          (operator_good or_operator c.args.tokens.now c.loop-op.at c.in-Some.op (sym c.in-Some.ensures))
           c.in_ok-next.ensures.good);
     }
 

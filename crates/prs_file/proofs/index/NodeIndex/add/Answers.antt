@@ -8,8 +8,8 @@ pub invariant_of-self-2 : goal.invariant_of-self-2
 invariant_of-self-2 c =
     let names = c.self.inside.names.items in
     let items : c.push.new.self.items ≡ names ++ c.args.name ∷ [] =
-        c.in_ok-push.ensures.items ∙ ap (λ xs. xs ++ c.args.name ∷ []) c.in_ok-reserve.ensures.items in
+    c.in_ok-push.ensures.items ∙ ap (λ xs. xs ++ c.args.name ∷ []) c.in_ok-reserve.ensures.items in
     let count : c.len-number.result ≡ length names = c.len-number.ensures ∙ c.self.inside.names.ok.0 in
     let fresh : place_in names c.args.name ≡ None = subst (λ (ns : List (List ℕ)). place_in ns c.args.name ≡ None) (sym c.self.view_is) c.requires.fresh in
     rw items (one_more_name names _ _ c.in_ok-text.text c.args.name c.self.invariant c.in_ok-text.ensures (subst IsNodeName c.name.view_is c.name.invariant)
-        fresh (rw count at c.in_ok-insert.ensures.updates))
+    fresh (rw count at c.in_ok-insert.ensures.updates))

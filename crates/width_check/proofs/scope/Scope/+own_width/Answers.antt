@@ -5,7 +5,7 @@ use Rattle.width_check.proofs.scope.Scope.+own_width.Goals as goal
 pub returns-then-width-gt64 : goal.returns-then-width-gt64
 returns-then-width-gt64 t c =
     join_over _ _ _ _ _ c.loop-part.part-index _ _ _ _ _ c.in-Join.is c.deref-part-items.ensures.value c.loop-part-test.true c.part-item.is
-        c.loop-part.invariant.sum c.own_width.ensures c.unwrap_or.ensures c.sum-width.ensures c.if-width-gt64.true
+    c.loop-part.invariant.sum c.own_width.ensures c.unwrap_or.ensures c.sum-width.ensures c.if-width-gt64.true
 
 pub returns-then-compares : goal.returns-then-compares
 returns-then-compares t c = comparison_one _ _ _ _ _ _ c.in-Chain.is c.deref-in-Chain.ensures.value (sym c.if-compares.ensures)
@@ -19,7 +19,7 @@ pub returns-in-Some-own_width : goal.returns-in-Some-own_width
 returns-in-Some-own_width t c =
     let none = rw c.deref-in-Chain-2.ensures at c.in_default.ensures in
     chain_link _ _ _ _ _ _ _ c.loop-link.link-index _ _ c.in-Chain.is c.deref-in-Chain.ensures.value c.deref-link-items.ensures.value
-        (sym c.if-compares.ensures) none c.loop-link-test.true c.link-item.is c.loop-link.invariant c.in-Some-own_width.ensures
+    (sym c.if-compares.ensures) none c.loop-link-test.true c.link-item.is c.loop-link.invariant c.in-Some-own_width.ensures
 
 pub returns-after-loop-part : goal.returns-after-loop-part
 returns-after-loop-part t c = join_whole _ _ _ _ _ c.loop-part.part-index _ c.in-Join.is c.deref-part-items.ensures.value c.loop-part-test.false
@@ -29,4 +29,4 @@ pub returns-after-loop-link : goal.returns-after-loop-link
 returns-after-loop-link t c =
     let none = rw c.deref-in-Chain-2.ensures at c.in_default.ensures in
     chain_none _ _ _ _ _ _ _ c.loop-link.link-index c.in-Chain.is c.deref-in-Chain.ensures.value c.deref-link-items.ensures.value (sym c.if-compares.ensures)
-        none c.loop-link-test.false c.loop-link.invariant
+    none c.loop-link-test.false c.loop-link.invariant

@@ -16,7 +16,7 @@ index-requires c =
 pub unreachable-requires : goal.unreachable-requires
 unreachable-requires c =
     let none = not_found c.args.self.now.decls.now c.args.name.now (subst (λ (ns : List (List ℕ)). ¬ Contains ns c.args.name.now) c.args.self.now.in_order
-        c.in-None.ensures.none) in
+    c.in-None.ensures.none) in
     let no : false ≡ true = rw none at c.requires in
     cc no
 
