@@ -1,0 +1,126 @@
+//! Puts a buffer on a channel.
+
+ghost use Rattle.std.specs.Prelude.{◌≡◌, false, IfOk, option_map, unwrap_or};
+ghost use Rattle.std.specs.Bool.{Decides};
+ghost use Rattle.chp_syntax.specs.Shape.{IsShaped};
+ghost use Rattle.chp_syntax.specs.View.{program_tree as tree_of, statement_of};
+ghost use Rattle.width_check.specs.Accepted.{IsAccepted};
+ghost use Rattle.width_check.specs.Places.{declaration, declared_width};
+ghost use Rattle.slack_buffer.specs.BufferedTrees.{IsInnerChannel, is_chan, made_name, made_decl, buffer_statement, HasBuffer};
+
+use crate::copy::{copied_decls, rerouted};
+use crate::names::{BufferNames, free_names};
+use chp_base::{Name, Span};
+use chp_syntax::{Decl, DeclKind, Expr, Ident, Program, Stmt};
+use std::alloc::{AllocError, Global};
+
+/// What is made stands in no text.
+const NOWHERE: Span = Span { from: 0, to: 0 };
+
+fn made_name(name: &Name) -> Result<Ident, AllocError>
+    ensures { IfOk result (λ made. made ≡ made_name name.now) }
+{
+    Ok(Ident {
+        name: name.copy()?,
+        at: NOWHERE,
+    })
+}
+
+fn made_decl(kind: DeclKind, name: &Name, width: u64) -> Result<Decl, AllocError>
+    ensures { IfOk result (λ made. made ≡ made_decl kind name.now width) }
+{
+    Ok(Decl {
+        kind,
+        name: made_name(name)?,
+        width,
+        width_at: NOWHERE,
+        first: 0,
+        first_at: NOWHERE,
+    })
+}
+
+/// `*[X?b; B!b]`
+fn buffer_statement(alloc: Global, chan: &Name, names: &BufferNames) -> Result<Stmt, AllocError>
+    ensures { IfOk result (λ made. statement_of made ≡ buffer_statement chan.now names.now.copy names.now.slot) }
+{
+    let takes = Stmt::Receive {
+        chan: made_name(chan)?,
+        target: made_name(&names.slot)?,
+    };
+    let gives = Stmt::Send {
+        chan: made_name(&names.copy)?,
+        value: Expr::Whole {
+            of: made_name(&names.slot)?,
+        },
+    };
+    let turn = Stmt::Then {
+        parts: Vec::from_array(alloc, [takes, gives])?,
+    };
+    Ok(Stmt::Repeat {
+        body: Box::new(alloc, turn)?,
+    })
+}
+
+/// The declared width of a name.
+fn width_of(decls: &[Decl], name: &Name) -> u64
+    ensures { result ≡ declared_width decls.now name.now }
+{
+    decls
+        .iter()
+        .find(|decl| decl.name.name == *name)
+        .map_or(0, |decl| decl.width)
+}
+
+fn is_chan(kind: DeclKind) -> bool
+    ensures { result ≡ is_chan kind }
+{
+    matches!(kind, DeclKind::Chan)
+}
+
+/// The first declaration of the name declares a channel inside of the program.
+fn declares_inner(decls: &[Decl], name: &Name) -> bool
+    ensures { result ≡ unwrap_or (option_map (λ d. is_chan d.kind) (declaration decls.now name.now)) false }
+{
+    decls
+        .iter()
+        .find(|decl| decl.name.name == *name)
+        .map_or(false, |decl| is_chan(decl.kind))
+}
+
+/// Whether the name is that of a channel inside of the program, as `with_buffer` asks for.
+pub fn is_inner_channel(program: &Program, chan: &Name) -> bool
+    ensures { Decides result (IsInnerChannel program.now.decls.items chan.now) }
+{
+    declares_inner(&program.decls, chan)
+}
+
+/// The program with a one-place buffer on a channel inside of it, so that a sender there need not wait for its receiver.
+///
+/// The channel `Bk` and the variable `bk` are declared last, with the channel's width, where k is the least number of
+/// which neither name is declared. Each receive on the channel becomes one on `Bk`, and beside the body so changed
+/// stands `*[X?bk; Bk!bk]`. (The names and their numbers are our profile's.) What a run of the program of m steps passes
+/// is a front of what 3m rounds with the buffer pass, and `Bk` is behind the channel by its last value at most.
+pub fn with_buffer(alloc: Global, program: &Program, chan: &Name) -> Result<Program, AllocError>
+    requires shaped { IsShaped (tree_of program.now) }
+    requires accepted { IsAccepted (tree_of program.now) }
+    requires inner { IsInnerChannel program.now.decls.items chan.now }
+    ensures buffer { IfOk result (λ made. HasBuffer (tree_of program.now) chan.now (tree_of made)) }
+    ensures shaped { IfOk result (λ made. IsShaped (tree_of made)) }
+    // It is accepted again.
+    ensures accepted { IfOk result (λ made. IsAccepted (tree_of made)) }
+{
+    let (_number, names) = free_names(alloc, &program.decls)?;
+    let width = width_of(&program.decls, chan);
+    let mut decls = copied_decls(alloc, &program.decls)?;
+    decls.push(made_decl(DeclKind::Chan, &names.copy, width)?)?;
+    decls.push(made_decl(DeclKind::Var, &names.slot, width)?)?;
+    let body = rerouted(alloc, &program.body, chan, &names.copy)?;
+    let buffer = buffer_statement(alloc, chan, &names)?;
+    Ok(Program {
+        decls,
+        procs: Vec::new(alloc),
+        body: Stmt::Beside {
+            parts: Vec::from_array(alloc, [body, buffer])?,
+        },
+    })
+}
