@@ -25,10 +25,11 @@ struct Ran {
 fn text_to_go_by(alloc: Global, bench: &Bench) -> Result<Vec<u8>, AllocError>
     ensures { IfOk result (λ text. 0 < length text.items) }
 {
-    if bench.last().is_empty() {
+    let last = bench.last();
+    if last.is_empty() {
         Vec::from_slice(alloc, b"-")
     } else {
-        Vec::from_slice(alloc, bench.last())
+        Vec::from_slice(alloc, last)
     }
 }
 
