@@ -1,1 +1,2 @@
+mod Dumps
 mod Examples

@@ -94,6 +94,16 @@ fn change_lines(
     Ok(())
 }
 
+/// Appends the changes of the wave.
+fn changes_of(wave: &Wave, to: &mut Vec<u8>) -> Result<(), AllocError>
+    requires { IsWave (wave_of wave.now.names.items wave.now.first.items wave.now.changes.items) }
+    ensures { OnOk result (to.new.items
+        ≡ to.old.items ++ change_lines 0 wave.now.first.items wave.now.changes.items) }
+{
+    let mut values = wave.first.clone()?;
+    change_lines(&mut values, &wave.changes, to)
+}
+
 /// The wave as a value change dump: the nodes with their names in order, the first values, and the changes behind the
 /// marks of their times. One unit of time is written as a nanosecond. (The format is a profile of that of IEEE 1364,
 /// with wires of one bit alone.)
@@ -113,7 +123,6 @@ pub fn write_wave(alloc: Global, wave: &Wave) -> Result<Vec<u8>, AllocError>
         &[b"$upscope $end\n", b"$enddefinitions $end\n", b"#0\n"],
     )?;
     first_lines(&wave.first, &mut text)?;
-    let mut values = wave.first.clone()?;
-    change_lines(&mut values, &wave.changes, &mut text)?;
+    changes_of(wave, &mut text)?;
     Ok(text)
 }
