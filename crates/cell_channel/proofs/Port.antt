@@ -61,8 +61,8 @@ taken_more request rails from old done node now later so_far within made count a
       partly =
           partly_on (port_owned request rails from) old now later so_far.partly
           (partly_of (this ∷ []) (port_owned request rails from) now later
-              (λ o k. among_is request rails from old done node now so_far within o (Contains-append_left (this ∷ []) rest o k))
-              (partly_all (this ∷ []) now later made));
+          (λ o k. among_is request rails from old done node now so_far within o (Contains-append_left (this ∷ []) rest o k))
+          (partly_all (this ∷ []) now later made));
       among = λ o k. among_is request rails from old done node now so_far within o (Contains-append_right (this ∷ []) rest o k);
     }
 
@@ -79,4 +79,4 @@ taken_alone request rails from old done node now later so_far within alone k o =
     let this = owned node (taken_rail request (next_rail rails done)) in
     let rest = port_owned request (drop (done + 1) rails) (node + 1) in
     alone_on old now later k (so_far.others k o)
-        (alone k (λ e. All-head (λ (o : Owned). o.node ≢ k) this rest (left_is request rails from old done node now so_far within k o) (sym e)))
+    (alone k (λ e. All-head (λ (o : Owned). o.node ≢ k) this rest (left_is request rails from old done node now so_far within k o) (sym e)))

@@ -17,7 +17,7 @@ use Rattle.cell_channel.proofs.PortPlaces.{bit_at, node, IsDistinct, request_ack
 same_legal : (r s a b x y t f q p u w : Bool) → r ≡ s → a ≡ b → x ≡ t → y ≡ f → q ≡ u → p ≡ w → legal s b t f u w ≡ true → legal r a x y q p ≡ true
 same_legal r s a b x y t f q p u w er ea ex ey eq ep h =
     ap (λ k. legal k a x y q p) er ∙ ap (λ k. legal s k x y q p) ea ∙ ap (λ k. legal s b k y q p) ex ∙ ap (λ k. legal s b t k q p) ey
-        ∙ ap (λ k. legal s b t f k p) eq ∙ ap (legal s b t f u) ep ∙ h
+    ∙ ap (λ k. legal s b t f k p) eq ∙ ap (legal s b t f u) ep ∙ h
 
 same_takes : (r s x y q p : Bool) → r ≡ s → x ≡ y → q ≡ p → takes s y p ≡ true → takes r x q ≡ true
 same_takes r s x y q p er ex eq h = ap (λ k. takes k x q) er ∙ ap (λ k. takes s k q) ex ∙ ap (takes s y) eq ∙ h
@@ -66,7 +66,7 @@ module _ (request ack : ℕ) (bits : List PortBit) (distinct : IsDistinct reques
       (λ (e : j ≡ i). subst (λ l. bit_legal (turned m.value (node bits i k)) l ≡ true) (sym e) here)
       (λ (ne : j ≢ i).
       legal_apart m.value (node bits i k) j (λ e. request_apart request ack bits distinct i k within few (sym e))
-          (λ e. ack_apart request ack bits distinct i k within few (sym e))
+      (λ e. ack_apart request ack bits distinct i k within few (sym e))
       (λ l few_l. roles_apart request ack bits distinct i k j l within few inside few_l (omega (arith, ne))) (holds j inside))
       (cases_eq j i)
 
@@ -76,7 +76,7 @@ module _ (request ack : ℕ) (bits : List PortBit) (distinct : IsDistinct reques
       bit_legal (turned v (node bits i k)) i ≡ true
   turned_bit v i k within few h =
       same_legal _ _ _ _ _ _ _ _ _ _ _ _ (turned_apart v (node bits i k) request (request_apart request ack bits distinct i k within few))
-          (turned_apart v (node bits i k) ack (ack_apart request ack bits distinct i k within few))
+      (turned_apart v (node bits i k) ack (ack_apart request ack bits distinct i k within few))
       (role_turned request ack bits distinct v i k 0 within few (omega arith)) (role_turned request ack bits distinct v i k 1 within few (omega arith))
       (role_turned request ack bits distinct v i k 2 within few (omega arith)) (role_turned request ack bits distinct v i k 3 within few (omega arith))
       h
@@ -129,29 +129,29 @@ module _ (request ack : ℕ) (bits : List PortBit) (distinct : IsDistinct reques
   taken_t_goes i within fire =
       to_bit i 2 within (omega arith)
       (turned_bit request ack bits distinct m.value i 2 within (omega arith) (taking_goes r a (value i 0) (value i 1) (value i 2) (value i 3) (holds i within)
-          fire))
+      fire))
 
   taken_f_goes : (i : ℕ) → i < length bits → takes r (value i 1) (value i 3) ≡ true → Next (node bits i 3)
   taken_f_goes i within fire =
       to_bit i 3 within (omega arith)
       (turned_bit request ack bits distinct m.value i 3 within (omega arith)
       (exchanged_legal r a (value i 1) (value i 0) (not (value i 3)) (value i 2)
-          (taking_goes r a (value i 1) (value i 0) (value i 3) (value i 2)
-          (exchanged_legal r a (value i 0) (value i 1) (value i 2) (value i 3) (holds i within)) fire)))
+      (taking_goes r a (value i 1) (value i 0) (value i 3) (value i 2)
+      (exchanged_legal r a (value i 0) (value i 1) (value i 2) (value i 3) (holds i within)) fire)))
 
   rail_t_goes : (i : ℕ) → i < length bits → lets_rail a (value i 0) (value i 1) ≡ true → Next (node bits i 0)
   rail_t_goes i within may =
       to_bit i 0 within (omega arith)
       (turned_bit request ack bits distinct m.value i 0 within (omega arith)
-          (rail_goes r a (value i 0) (value i 1) (value i 2) (value i 3) (holds i within) may))
+      (rail_goes r a (value i 0) (value i 1) (value i 2) (value i 3) (holds i within) may))
 
   rail_f_goes : (i : ℕ) → i < length bits → lets_rail a (value i 1) (value i 0) ≡ true → Next (node bits i 1)
   rail_f_goes i within may =
       to_bit i 1 within (omega arith)
       (turned_bit request ack bits distinct m.value i 1 within (omega arith)
       (exchanged_legal r a (not (value i 1)) (value i 0) (value i 3) (value i 2)
-          (rail_goes r a (value i 1) (value i 0) (value i 3) (value i 2) (exchanged_legal r a (value i 0) (value i 1) (value i 2) (value i 3) (holds i within))
-          may)))
+      (rail_goes r a (value i 1) (value i 0) (value i 3) (value i 2) (exchanged_legal r a (value i 0) (value i 1) (value i 2) (value i 3) (holds i within))
+      may)))
 
   request_bits : may_move m (port_request request ack bits) ≡ true → (i : ℕ) → i < length bits → lets_request r a (value i 2) (value i 3) ≡ true
   request_bits may i within =
@@ -162,28 +162,28 @@ module _ (request ack : ℕ) (bits : List PortBit) (distinct : IsDistinct reques
   request_next may i within =
       same_legal _ _ _ _ _ _ _ _ _ _ _ _ (turned_here m.value request) (turned_apart m.value request ack (λ e. request_ack request ack bits distinct (sym e)))
       (turned_apart m.value request (node bits i 0) (λ e. request_apart request ack bits distinct i 0 within (omega arith) (sym e)))
-          (turned_apart m.value request (node bits i 1) (λ e. request_apart request ack bits distinct i 1 within (omega arith) (sym e)))
+      (turned_apart m.value request (node bits i 1) (λ e. request_apart request ack bits distinct i 1 within (omega arith) (sym e)))
       (turned_apart m.value request (node bits i 2) (λ e. request_apart request ack bits distinct i 2 within (omega arith) (sym e)))
-          (turned_apart m.value request (node bits i 3) (λ e. request_apart request ack bits distinct i 3 within (omega arith) (sym e)))
+      (turned_apart m.value request (node bits i 3) (λ e. request_apart request ack bits distinct i 3 within (omega arith) (sym e)))
       (request_goes r a (value i 0) (value i 1) (value i 2) (value i 3) (holds i within) (request_bits may i within))
 
   ack_bits : may_move m (port_ack request ack bits) ≡ true → (i : ℕ) → i < length bits → lets_ack r a (value i 0) (value i 1) (value i 2) (value i 3) ≡ true
   ack_bits may i within =
       ack_lets r a (list_all (is_neutral m.value) (channel_pairs bits)) (list_all (is_neutral m.value) (taken_pairs bits))
-          (list_all (is_valid m.value) (channel_pairs bits)) (list_all (is_valid m.value) (taken_pairs bits)) (value i 0) (value i 1) (value i 2) (value i 3)
-          may
+      (list_all (is_valid m.value) (channel_pairs bits)) (list_all (is_valid m.value) (taken_pairs bits)) (value i 0) (value i 1) (value i 2) (value i 3)
+      may
       (λ all. each_pair (is_neutral m.value) (λ (b : PortBit). b.rail) bits all i within)
-          (λ all. each_pair (is_neutral m.value) (λ (b : PortBit). b.taken) bits all i within)
+      (λ all. each_pair (is_neutral m.value) (λ (b : PortBit). b.taken) bits all i within)
       (λ all. each_pair (is_valid m.value) (λ (b : PortBit). b.rail) bits all i within)
-          (λ all. each_pair (is_valid m.value) (λ (b : PortBit). b.taken) bits all i within)
+      (λ all. each_pair (is_valid m.value) (λ (b : PortBit). b.taken) bits all i within)
 
   ack_next : may_move m (port_ack request ack bits) ≡ true → Next ack
   ack_next may i within =
       same_legal _ _ _ _ _ _ _ _ _ _ _ _ (turned_apart m.value ack request (request_ack request ack bits distinct)) (turned_here m.value ack)
       (turned_apart m.value ack (node bits i 0) (λ e. ack_apart request ack bits distinct i 0 within (omega arith) (sym e)))
-          (turned_apart m.value ack (node bits i 1) (λ e. ack_apart request ack bits distinct i 1 within (omega arith) (sym e)))
+      (turned_apart m.value ack (node bits i 1) (λ e. ack_apart request ack bits distinct i 1 within (omega arith) (sym e)))
       (turned_apart m.value ack (node bits i 2) (λ e. ack_apart request ack bits distinct i 2 within (omega arith) (sym e)))
-          (turned_apart m.value ack (node bits i 3) (λ e. ack_apart request ack bits distinct i 3 within (omega arith) (sym e)))
+      (turned_apart m.value ack (node bits i 3) (λ e. ack_apart request ack bits distinct i 3 within (omega arith) (sym e)))
       (ack_goes r a (value i 0) (value i 1) (value i 2) (value i 3) (holds i within) (ack_bits may i within))
 
   -- what a fact of each wire, and of each own node, is
@@ -193,7 +193,7 @@ module _ (request ack : ℕ) (bits : List PortBit) (distinct : IsDistinct reques
   each_wire P the_request the_ack the_t the_f =
       All-cons P (port_request request ack bits) (port_ack request ack bits ∷ rail_wires ack bits) the_request
       (All-cons P (port_ack request ack bits) (rail_wires ack bits) the_ack
-          (all_two P (λ (b : PortBit). rail_wire ack b.rail.f b.rail.t) (λ (b : PortBit). rail_wire ack b.rail.t b.rail.f) bits the_t the_f))
+      (all_two P (λ (b : PortBit). rail_wire ack b.rail.f b.rail.t) (λ (b : PortBit). rail_wire ack b.rail.t b.rail.f) bits the_t the_f))
 
   each_own : (P : Owned → Type 0) → ((i : ℕ) → i < length bits → P (taken_t request (bit_at bits i))) →
       ((i : ℕ) → i < length bits → P (taken_f request (bit_at bits i))) → All P (part request ack bits distinct).own
@@ -203,7 +203,7 @@ module _ (request ack : ℕ) (bits : List PortBit) (distinct : IsDistinct reques
       takes (turned m.value n request) (turned m.value n x) (turned m.value n q) ≡ true
   takes_apart n x q not_r not_x not_q fire =
       same_takes _ _ _ _ _ _ (turned_apart m.value n request (λ e. not_r (sym e))) (turned_apart m.value n x (λ e. not_x (sym e)))
-          (turned_apart m.value n q (λ e. not_q (sym e))) fire
+      (turned_apart m.value n q (λ e. not_q (sym e))) fire
 
   -- no two nodes are one where bit or role differ
   abbrev apart : (i k j l : ℕ) → i < length bits → k < 4 → j < length bits → l < 4 → 4 * i + k ≢ 4 * j + l → node bits i k ≢ node bits j l
@@ -224,19 +224,19 @@ module _ (request ack : ℕ) (bits : List PortBit) (distinct : IsDistinct reques
       lets_request r a (value i (k + 2)) (value i (l + 2)) ≡ true → Firm i k request
   firm_request i k l within few h fire may =
       same_takes _ _ _ _ _ _ (turned_here m.value request) (turned_apart m.value request (node bits i k) (not_request i k within (omega arith)))
-          (turned_apart m.value request (node bits i (k + 2)) (not_request i (k + 2) within (omega arith)))
+      (turned_apart m.value request (node bits i (k + 2)) (not_request i (k + 2) within (omega arith)))
       (under_request r a (value i k) (value i l) (value i (k + 2)) (value i (l + 2)) h fire may)
 
   firm_ack : (i k : ℕ) → i < length bits → k < 2 → takes r (value i k) (value i (k + 2)) ≡ true → Firm i k ack
   firm_ack i k within few fire =
       takes_apart ack (node bits i k) (node bits i (k + 2)) (λ e. request_ack request ack bits distinct (sym e))
-          (ack_apart request ack bits distinct i k within (omega arith)) (ack_apart request ack bits distinct i (k + 2) within (omega arith)) fire
+      (ack_apart request ack bits distinct i k within (omega arith)) (ack_apart request ack bits distinct i (k + 2) within (omega arith)) fire
 
   firm_own : (i k j c : ℕ) → i < length bits → k < 2 → j < length bits → c < 2 → takes r (value i k) (value i (k + 2)) ≡ true →
       node bits j (c + 2) ≢ node bits i (k + 2) → Firm i k (node bits j (c + 2))
   firm_own i k j c within few inside few_c fire ne =
       takes_apart (node bits j (c + 2)) (node bits i k) (node bits i (k + 2)) (not_request j (c + 2) inside (omega arith))
-          (apart j (c + 2) i k inside (omega arith) within (omega arith) (omega arith)) ne fire
+      (apart j (c + 2) i k inside (omega arith) within (omega arith) (omega arith)) ne fire
 
   firm_rail : (i k l j c d : ℕ) → i < length bits → k < 2 → l < 2 → k ≢ l → j < length bits → c < 2 → d < 2 → c ≢ d → TakenAt i k l →
       takes r (value i k) (value i (k + 2)) ≡ true → lets_rail a (value j c) (value j d) ≡ true → Firm i k (node bits j c)
@@ -249,15 +249,15 @@ module _ (request ack : ℕ) (bits : List PortBit) (distinct : IsDistinct reques
       let at : node bits j c ≡ node bits i k = ap (λ n. node bits n c) same_j ∙ ap (node bits i) same_c in
       let other : node bits j d ≡ node bits i l = ap (λ n. node bits n d) same_j ∙ ap (node bits i) same_d in
       let lets : lets_rail a (value i k) (value i l) ≡ true = ap (λ n. lets_rail a (m.value n) (value i l)) (sym at)
-          ∙ ap (λ n. lets_rail a (value j c) (m.value n)) (sym other) ∙ may in
+      ∙ ap (λ n. lets_rail a (value j c) (m.value n)) (sym other) ∙ may in
       subst (Firm i k) (sym at)
       (same_takes _ _ _ _ _ _ (turned_apart m.value (node bits i k) request (λ e. not_request i k within (omega arith) (sym e)))
-          (turned_here m.value (node bits i k)) (turned_apart m.value (node bits i k) (node bits i (k + 2))
-          (apart i (k + 2) i k within (omega arith) within (omega arith) (omega arith)))
+      (turned_here m.value (node bits i k)) (turned_apart m.value (node bits i k) (node bits i (k + 2))
+      (apart i (k + 2) i k within (omega arith) within (omega arith) (omega arith)))
       (under_rail r a (value i k) (value i l) (value i (k + 2)) (value i (l + 2)) h fire lets)))
       (λ (ne : 4 * j + c ≢ 4 * i + k).
       takes_apart (node bits j c) (node bits i k) (node bits i (k + 2)) (not_request j c inside (omega arith))
-          (apart j c i k inside (omega arith) within (omega arith) ne) (apart j c i (k + 2) inside (omega arith) within (omega arith) (omega arith)) fire)
+      (apart j c i k inside (omega arith) within (omega arith) ne) (apart j c i (k + 2) inside (omega arith) within (omega arith) (omega arith)) fire)
       (cases_eq (4 * j + c) (4 * i + k))
 
   promised_at : (i k j c : ℕ) → i < length bits → k < 2 → j < length bits → c < 2 → takes r (value i k) (value i (k + 2)) ≡ true →
@@ -279,21 +279,21 @@ module _ (request ack : ℕ) (bits : List PortBit) (distinct : IsDistinct reques
     goes = taken_t_goes i within fire;
     promised =
         all_two (λ (w : Wire). w.node ≡ node bits i 2 → may_move m w ≡ true) (λ (b : PortBit). taken_wire request b.rail.t b.taken.t)
-            (λ (b : PortBit). taken_wire request b.rail.f b.taken.f) bits
+        (λ (b : PortBit). taken_wire request b.rail.f b.taken.f) bits
         (λ j inside. promised_at i 0 j 0 within (omega arith) inside (omega arith) fire)
-            (λ j inside. promised_at i 0 j 1 within (omega arith) inside (omega arith) fire);
+        (λ j inside. promised_at i 0 j 1 within (omega arith) inside (omega arith) fire);
     firm =
         each_own (λ (other : Owned). fires m.value other ≡ true → other.node ≢ node bits i 2 → Firm i 0 other.node)
         (λ j inside _ ne. firm_own i 0 j 0 within (omega arith) inside (omega arith) fire ne)
-            (λ j inside _ ne. firm_own i 0 j 1 within (omega arith) inside (omega arith) fire ne);
+        (λ j inside _ ne. firm_own i 0 j 1 within (omega arith) inside (omega arith) fire ne);
     firm_outside =
         each_wire (λ (w : Wire). may_move m w ≡ true → w.node ≢ node bits i 2 → Firm i 0 w.node)
         (λ may _. firm_request i 0 1 within (omega arith) (holds i within) fire (request_bits may i within))
         (λ may _. firm_ack i 0 within (omega arith) fire)
         (λ j inside may _. firm_rail i 0 1 j 0 1 within (omega arith) (omega arith) (omega arith) inside (omega arith) (omega arith) (omega arith)
-            (holds i within) fire may)
+        (holds i within) fire may)
         (λ j inside may _. firm_rail i 0 1 j 1 0 within (omega arith) (omega arith) (omega arith) inside (omega arith) (omega arith) (omega arith)
-            (holds i within) fire may);
+        (holds i within) fire may);
   }
 
   taken_f_keeps : (i : ℕ) → i < length bits → fires m.value (taken_f request (bit_at bits i)) ≡ true →
@@ -303,22 +303,22 @@ module _ (request ack : ℕ) (bits : List PortBit) (distinct : IsDistinct reques
         goes = taken_f_goes i within fire;
         promised =
             all_two (λ (w : Wire). w.node ≡ node bits i 3 → may_move m w ≡ true) (λ (b : PortBit). taken_wire request b.rail.t b.taken.t)
-                (λ (b : PortBit). taken_wire request b.rail.f b.taken.f) bits
+            (λ (b : PortBit). taken_wire request b.rail.f b.taken.f) bits
             (λ j inside. promised_at i 1 j 0 within (omega arith) inside (omega arith) fire)
-                (λ j inside. promised_at i 1 j 1 within (omega arith) inside (omega arith) fire);
+            (λ j inside. promised_at i 1 j 1 within (omega arith) inside (omega arith) fire);
         firm =
             each_own (λ (other : Owned). fires m.value other ≡ true → other.node ≢ node bits i 3 → Firm i 1 other.node)
             (λ j inside _ ne. firm_own i 1 j 0 within (omega arith) inside (omega arith) fire ne)
-                (λ j inside _ ne. firm_own i 1 j 1 within (omega arith) inside (omega arith) fire ne);
+            (λ j inside _ ne. firm_own i 1 j 1 within (omega arith) inside (omega arith) fire ne);
         firm_outside =
             each_wire (λ (w : Wire). may_move m w ≡ true → w.node ≢ node bits i 3 → Firm i 1 w.node)
             (λ may _. firm_request i 1 0 within (omega arith) h fire (request_lets r a (list_all (is_neutral m.value) (taken_pairs bits)) (value i 3)
-                (value i 2) may (λ all. swapped (value i 2) (value i 3) (each_pair (is_neutral m.value) (λ (b : PortBit). b.taken) bits all i within))))
+            (value i 2) may (λ all. swapped (value i 2) (value i 3) (each_pair (is_neutral m.value) (λ (b : PortBit). b.taken) bits all i within))))
             (λ may _. firm_ack i 1 within (omega arith) fire)
             (λ j inside may _. firm_rail i 1 0 j 0 1 within (omega arith) (omega arith) (omega arith) inside (omega arith) (omega arith) (omega arith) h fire
-                may)
+            may)
             (λ j inside may _. firm_rail i 1 0 j 1 0 within (omega arith) (omega arith) (omega arith) inside (omega arith) (omega arith) (omega arith) h fire
-                may);
+            may);
       }
 
   abbrev Waiting : Type 0
@@ -338,7 +338,7 @@ module _ (request ack : ℕ) (bits : List PortBit) (distinct : IsDistinct reques
   rail_f_waits : (i : ℕ) → i < length bits → lets_rail a (value i 1) (value i 0) ≡ true → Waiting
   rail_f_waits i within may =
       let (at, inside, is) = second_of_two (λ (b : PortBit). rail_wire ack b.rail.f b.rail.t) (λ (b : PortBit). rail_wire ack b.rail.t b.rail.f) bits i within
-          in
+      in
       (rail_wire ack (node bits i 0) (node bits i 1), (suc (suc at), omega (arith, inside), is), may)
 
   module _ (none : All (λ (o : Owned). fires m.value o ≡ false) (part request ack bits distinct).own) where
@@ -347,9 +347,9 @@ module _ (request ack : ℕ) (bits : List PortBit) (distinct : IsDistinct reques
         let each : All (λ (o : Owned). fires m.value o ≡ false) _ = subst (All (λ (o : Owned). fires m.value o ≡ false)) (own_is request bits) none in
         both_of _ _
         (not_from_false _ (All-contains (λ (o : Owned). fires m.value o ≡ false) _ (taken_t request (bit_at bits i)) each
-            (first_of_two (taken_t request) (taken_f request) bits i within)))
+        (first_of_two (taken_t request) (taken_f request) bits i within)))
         (not_from_false _ (All-contains (λ (o : Owned). fires m.value o ≡ false) _ (taken_f request (bit_at bits i)) each
-            (second_of_two (taken_t request) (taken_f request) bits i within)))
+        (second_of_two (taken_t request) (taken_f request) bits i within)))
 
     abbrev rails_neutral : Bool
     rails_neutral = list_all (is_neutral m.value) (channel_pairs bits)
@@ -377,7 +377,7 @@ module _ (request ack : ℕ) (bits : List PortBit) (distinct : IsDistinct reques
         (λ (all : rails_neutral ≡ true).
         ack_waits (ack_falls r a rails_neutral taken_neutral rails_valid taken_all_valid ea all (all_pairs (is_neutral m.value) (λ (b : PortBit). b.taken) bits
         (λ i within. let_go r a (value i 0) (value i 1) (value i 2) (value i 3) (holds i within) (still_at i within) (low_high r a er ea)
-            (each_pair (is_neutral m.value) (λ (b : PortBit). b.rail) bits all i within)))))
+        (each_pair (is_neutral m.value) (λ (b : PortBit). b.rail) bits all i within)))))
         (λ (some : rails_neutral ≡ false).
         let (i, within, is) = some_pair (is_neutral m.value) (λ (b : PortBit). b.rail) bits some in
         ⊎_elim
@@ -392,7 +392,7 @@ module _ (request ack : ℕ) (bits : List PortBit) (distinct : IsDistinct reques
         (λ (all : rails_valid ≡ true).
         ack_waits (ack_rises r a rails_neutral taken_neutral rails_valid taken_all_valid ea all (all_pairs (is_valid m.value) (λ (b : PortBit). b.taken) bits
         (λ i within. taken_valid r a (value i 0) (value i 1) (value i 2) (value i 3) (holds i within) (still_at i within) (high_low r a er ea)
-            (each_pair (is_valid m.value) (λ (b : PortBit). b.rail) bits all i within)))))
+        (each_pair (is_valid m.value) (λ (b : PortBit). b.rail) bits all i within)))))
         (λ (some : rails_valid ≡ false).
         let (i, within, is) = some_pair (is_valid m.value) (λ (b : PortBit). b.rail) bits some in
         rail_t_waits i within (may_rise r a (value i 0) (value i 1) (value i 2) (value i 3) (holds i within) (high_low r a er ea) (not_from_false _ is)))
@@ -422,8 +422,8 @@ module _ (request ack : ℕ) (bits : List PortBit) (distinct : IsDistinct reques
 first_legal : (r a x y q p : Bool) → r ≡ false → a ≡ false → neutral x y ≡ true → neutral q p ≡ true → legal r a x y q p ≡ true
 first_legal r a x y q p er ea nx nq =
     implies_both _ _ _ (implies_both _ _ _ (at_6
-        (λ r a x y q p. implies (not r) (implies (not a) (implies (neutral x y) (implies (neutral q p) (legal r a x y q p))))) refl r a x y q p)
-        (not_from_false r er) (not_from_false a ea)) nx nq
+    (λ r a x y q p. implies (not r) (implies (not a) (implies (neutral x y) (implies (neutral q p) (legal r a x y q p))))) refl r a x y q p)
+    (not_from_false r er) (not_from_false a ea)) nx nq
 
 at_start : (request ack : ℕ) (bits : List PortBit) (distinct : IsDistinct request ack bits) (v : ℕ → Bool) → IsFirstState (port_part request ack bits) v →
     Holds request ack bits distinct (record { value = v; noted = λ n. false })
@@ -431,7 +431,7 @@ at_start request ack bits distinct v is i within =
     let rails = low_rails v ack bits (right_of (not (v ack)) _ (right_of (not (v request)) _ is.outside)) in
     let taken = low_taken v bits is.own in
     first_legal (v request) (v ack) (v (node bits i 0)) (v (node bits i 1)) (v (node bits i 2)) (v (node bits i 3))
-        (not-true _ (left_of (not (v request)) _ is.outside)) (not-true _ (left_of (not (v ack)) _ (right_of (not (v request)) _ is.outside)))
+    (not-true _ (left_of (not (v request)) _ is.outside)) (not-true _ (left_of (not (v ack)) _ (right_of (not (v request)) _ is.outside)))
     (each_pair (is_neutral v) (λ (b : PortBit). b.rail) bits rails i within) (each_pair (is_neutral v) (λ (b : PortBit). b.taken) bits taken i within)
 
 pub port_kept : (request ack : ℕ) (bits : List PortBit) → IsDistinct request ack bits → Keeps (port_part request ack bits)

@@ -62,7 +62,7 @@ pub roles_apart : (request ack : ℕ) (bits : List PortBit) → IsDistinct reque
 roles_apart request ack bits h i k j l in_i few_k in_j few_l ne e =
     let count = nodes_length bits in
     let same : slice_index_or (port_nodes bits) (4 * i + k) 0 ≡ slice_index_or (port_nodes bits) (4 * j + l) 0 =
-        nodes_at bits i k in_i few_k ∙ e ∙ sym (nodes_at bits j l in_j few_l) in
+    nodes_at bits i k in_i few_k ∙ e ∙ sym (nodes_at bits j l in_j few_l) in
     ⊎_elim
     ne
     (λ less.
@@ -82,7 +82,7 @@ role_turned request ack bits h v i k l within few_k few_l =
     (λ (ne : l ≢ k).
     ap (λ b. if b then not (v (node bits i l)) else v (node bits i l))
     (ne_eqb (node bits i l) (node bits i k) (roles_apart request ack bits h i l i k within few_l within few_k (λ e. ne (omega (arith, e))))
-        ∙ sym (ne_eqb l k ne)))
+    ∙ sym (ne_eqb l k ne)))
     (cases_eq l k)
 
 -- two members of a list for each bit
@@ -174,4 +174,4 @@ numbered request from [] = refl
 numbered request from (x ∷ xs) =
     let e : from + 2 ≡ from + 1 + 1 = omega arith in
     ap (λ os. owned from (taken_rail request x.t) ∷ owned (from + 1) (taken_rail request x.f) ∷ os) (numbered request (from + 2) xs
-        ∙ ap (port_owned request (rails_of xs)) e)
+    ∙ ap (port_owned request (rails_of xs)) e)

@@ -64,12 +64,12 @@ one_way r x q = not-true _ (at_2 (λ r x. not (((r && (x && true)) || false) && 
 pub under_request : (r a x y q p : Bool) → legal r a x y q p ≡ true → takes r x q ≡ true → lets_request r a q p ≡ true → takes (not r) x q ≡ true
 under_request r a x y q p h fire may =
     implies_both _ _ _ (implies_at _ _ (at_6 (λ r a x y q p.
-        implies (legal r a x y q p) (implies (takes r x q) (implies (lets_request r a q p) (takes (not r) x q)))) refl r a x y q p) h) fire may
+    implies (legal r a x y q p) (implies (takes r x q) (implies (lets_request r a q p) (takes (not r) x q)))) refl r a x y q p) h) fire may
 
 pub under_rail : (r a x y q p : Bool) → legal r a x y q p ≡ true → takes r x q ≡ true → lets_rail a x y ≡ true → takes r (not x) q ≡ true
 under_rail r a x y q p h fire may =
     implies_both _ _ _ (implies_at _ _ (at_6 (λ r a x y q p.
-        implies (legal r a x y q p) (implies (takes r x q) (implies (lets_rail a x y) (takes r (not x) q)))) refl r a x y q p) h) fire may
+    implies (legal r a x y q p) (implies (takes r x q) (implies (lets_rail a x y) (takes r (not x) q)))) refl r a x y q p) h) fire may
 
 -- where neither node of the bit moves
 abbrev pub still : (r x y q p : Bool) → Bool
@@ -82,20 +82,20 @@ idle_neutral r a x y q p h i = implies_both _ _ _ (at_6 (λ r a x y q p. implies
 pub let_go : (r a x y q p : Bool) → legal r a x y q p ≡ true → still r x y q p ≡ true → (not r && a) ≡ true → neutral x y ≡ true → neutral q p ≡ true
 let_go r a x y q p h s i n =
     implies_both _ _ _ (implies_both _ _ _ (at_6
-        (λ r a x y q p. implies (legal r a x y q p) (implies (still r x y q p) (implies (not r && a) (implies (neutral x y) (neutral q p))))) refl r a x y q p)
-        h s) i n
+    (λ r a x y q p. implies (legal r a x y q p) (implies (still r x y q p) (implies (not r && a) (implies (neutral x y) (neutral q p))))) refl r a x y q p)
+    h s) i n
 
 pub taken_valid : (r a x y q p : Bool) → legal r a x y q p ≡ true → still r x y q p ≡ true → (r && not a) ≡ true → valid x y ≡ true → valid q p ≡ true
 taken_valid r a x y q p h s i v =
     implies_both _ _ _ (implies_both _ _ _ (at_6
-        (λ r a x y q p. implies (legal r a x y q p) (implies (still r x y q p) (implies (r && not a) (implies (valid x y) (valid q p))))) refl r a x y q p) h s)
-        i v
+    (λ r a x y q p. implies (legal r a x y q p) (implies (still r x y q p) (implies (r && not a) (implies (valid x y) (valid q p))))) refl r a x y q p) h s)
+    i v
 
 -- a bit that isn't valid has a rail that may rise, and one that isn't neutral has one that may fall
 pub may_rise : (r a x y q p : Bool) → legal r a x y q p ≡ true → (r && not a) ≡ true → not (valid x y) ≡ true → lets_rail a x y ≡ true
 may_rise r a x y q p h i n =
     implies_both _ _ _ (implies_at _ _ (at_6 (λ r a x y q p. implies (legal r a x y q p) (implies (r && not a) (implies (not (valid x y)) (lets_rail a x y))))
-        refl r a x y q p) h) i n
+    refl r a x y q p) h) i n
 
 pub may_fall : (a x y : Bool) → a ≡ true → not (neutral x y) ≡ true → ((x && lets_rail a x y) || (y && lets_rail a y x)) ≡ true
 may_fall a x y i n = implies_both _ _ _ (at_3 (λ a x y. implies a (implies (not (neutral x y)) ((x && lets_rail a x y) || (y && lets_rail a y x)))) refl a x y)

@@ -14,8 +14,11 @@ end_owned request ack answer = owned answer (end_answer request ack) ∷ []
 
 -- a rail is taken over under the request, and let go once both are low: r & x -> q+, ~r & ~x -> q-
 abbrev pub taken_rail : (request rail : ℕ) → NodeRules
-taken_rail request rail = record { up = one_term (is_high request ∷ is_high rail ∷ []); down =
-    one_term (is_low request ∷ is_low rail ∷ []) }
+taken_rail request rail = record {
+  up = one_term (is_high request ∷ is_high rail ∷ []);
+  down =
+      one_term (is_low request ∷ is_low rail ∷ []);
+}
 
 -- so is each of these rails
 abbrev pub taken_rails : (request : ℕ) → (rails : List ℕ) → List NodeRules

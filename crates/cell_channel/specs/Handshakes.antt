@@ -39,7 +39,7 @@ abbrev pub port_ack : (request ack : ℕ) → List PortBit → Wire
 port_ack request ack bits =
     wire ack
     (λ m. list_all (is_valid m.value) (channel_pairs bits)
-        && (not (m.value request) || list_all (is_valid m.value) (taken_pairs bits)))
+    && (not (m.value request) || list_all (is_valid m.value) (taken_pairs bits)))
     (λ m. list_all (is_neutral m.value) (channel_pairs bits) && list_all (is_neutral m.value) (taken_pairs bits))
 
 -- The request rises where the acknowledge and all that the port has taken are low, and falls where the acknowledge is
@@ -84,9 +84,9 @@ port_bits (x ∷ xs) from = port_bit x (pair_at from) ∷ port_bits xs (from + 2
 abbrev pub PortKeeps : (request : ℕ) → (rails : List ℕ) → (from : ℕ) → Type 0
 PortKeeps request rails from =
     (ack : ℕ) (pairs : List Pair) → rails_of pairs ≡ rails →
-        AllPairs (λ (a b : ℕ). a ≢ b) (request ∷ ack ∷ port_nodes (port_bits pairs from))
+    AllPairs (λ (a b : ℕ). a ≢ b) (request ∷ ack ∷ port_nodes (port_bits pairs from))
     → Keeps (port_part request ack (port_bits pairs from))
-        × ((port_part request ack (port_bits pairs from)).own ≡ port_owned request rails from)
+    × ((port_part request ack (port_bits pairs from)).own ≡ port_owned request rails from)
 
 -- the answer of a send or a receive, at an end of the channel that it shares with the sites of these other requests
 abbrev pub end_part : (others : List ℕ) (request ack answer : ℕ) → Part

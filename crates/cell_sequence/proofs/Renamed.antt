@@ -111,7 +111,7 @@ module _ (to : ℕ → ℕ) (one : IsOneToOne to) (notes : Moment → ℕ → �
   reached_seen m (and_then before node reached move) =
       let (k, at, move_k) = move_seen before node move in
       subst (λ n. Reached p (seen to (moment_after new before n))) (sym at)
-          (subst (Reached p) (sym (after_seen before k)) (and_then (seen to before) k (reached_seen before reached) move_k))
+      (subst (Reached p) (sym (after_seen before k)) (and_then (seen to before) k (reached_seen before reached) move_k))
 
   kept_seen : (m : Moment) → IsKept p (seen to m) → IsKept new m
   kept_seen m kept = record {
@@ -119,7 +119,7 @@ module _ (to : ℕ → ℕ) (one : IsOneToOne to) (notes : Moment → ℕ → �
         let (k, in_p, is) = among_mapped (owned_to to) p.own o among in
         let (x, in_promises, wire_is) = among_mapped (wire_to to) p.promises w within in
         subst (λ w. may_move m w ≡ true) wire_is (kept.promised k in_p (fires_seen m o k is fire) x in_promises
-            (one x.node k.node (ap (λ (w : Wire). w.node) wire_is ∙ same ∙ ap (λ (o : Owned). o.node) (sym is))));
+        (one x.node k.node (ap (λ (w : Wire). w.node) wire_is ∙ same ∙ ap (λ (o : Owned). o.node) (sym is))));
     firm = λ o among fire node move ne.
         let (k, in_p, is) = among_mapped (owned_to to) p.own o among in
         let (n, at, move_n) = move_seen m node move in
@@ -166,15 +166,27 @@ one_to_one nodes distinct a b same =
     (λ (in_a : a < length nodes).
     ⊎_elim
     (λ (in_b : b < length nodes). both in_a in_b)
-    (λ (past_b : length nodes ≤ b). absurd (omega (arith, within_sum nodes a (suc (a + summed nodes)) in_a, same,
-        get_or_past nodes b (suc (b + summed nodes)) past_b)))
+    (λ (past_b : length nodes ≤ b). absurd (omega (
+      arith,
+      within_sum nodes a (suc (a + summed nodes)) in_a,
+      same,
+      get_or_past nodes b (suc (b + summed nodes)) past_b,
+    )))
     (cases_lt b (length nodes)))
     (λ (past_a : length nodes ≤ a).
     ⊎_elim
-    (λ (in_b : b < length nodes). absurd (omega (arith, within_sum nodes b (suc (b + summed nodes)) in_b, same,
-        get_or_past nodes a (suc (a + summed nodes)) past_a)))
-    (λ (past_b : length nodes ≤ b). omega (arith, same, get_or_past nodes a (suc (a + summed nodes)) past_a,
-        get_or_past nodes b (suc (b + summed nodes)) past_b))
+    (λ (in_b : b < length nodes). absurd (omega (
+      arith,
+      within_sum nodes b (suc (b + summed nodes)) in_b,
+      same,
+      get_or_past nodes a (suc (a + summed nodes)) past_a,
+    )))
+    (λ (past_b : length nodes ≤ b). omega (
+      arith,
+      same,
+      get_or_past nodes a (suc (a + summed nodes)) past_a,
+      get_or_past nodes b (suc (b + summed nodes)) past_b,
+    ))
     (cases_lt b (length nodes)))
     (cases_lt a (length nodes))
   where
@@ -184,7 +196,7 @@ one_to_one nodes distinct a b same =
         let there = get_or_default nodes b (suc (b + summed nodes)) 0 in_b in
         ⊎_elim (λ (e : a ≡ b). e)
         (λ less. ⊎_elim (λ (l : a < b). absurd (distinct a b 0 l in_b (sym here ∙ same ∙ there)))
-            (λ (l : b < a). absurd (distinct b a 0 l in_a (sym there ∙ sym same ∙ here))) less)
+        (λ (l : b < a). absurd (distinct b a 0 l in_a (sym there ∙ sym same ∙ here))) less)
         (cases_order a b)
 
 -- where a part is written for any numbers

@@ -56,10 +56,10 @@ own_from p legal m o h =
           may_move m w ≡ true) (λ w t e. implies_at _ _ t (eq-eqb _ _ e)) p.promises (left_of _ _ h2);
       firm = all_of (λ (other : Owned). implies (fires m.value other) (other.node == o.node || fires (turned m.value other.node) o))
           (λ (other : Owned). fires m.value other ≡ true → other.node ≢ o.node → fires (turned m.value other.node) o ≡ true)
-              (λ other t f ne. same_node _ _ _ (implies_at _ _ t f) ne) p.own (left_of _ _ h3);
+          (λ other t f ne. same_node _ _ _ (implies_at _ _ t f) ne) p.own (left_of _ _ h3);
       firm_outside = all_of (λ (w : Wire). implies (may_move m w) (w.node == o.node || fires (turned m.value w.node) o))
           (λ (w : Wire). may_move m w ≡ true → w.node ≢ o.node →
-              fires (turned m.value w.node) o ≡ true) (λ w t may ne. same_node _ _ _ (implies_at _ _ t may) ne) p.allows (right_of own _ h3);
+          fires (turned m.value w.node) o ≡ true) (λ w t may ne. same_node _ _ _ (implies_at _ _ t may) ne) p.allows (right_of own _ h3);
     }
 
 waits_from : (p : Part) (m : Moment) → waits_test p m ≡ true → All (λ (o : Owned). fires m.value o ≡ false) p.own →

@@ -35,9 +35,9 @@ q_part p = record {
   own = q_owned p;
   promises =
       wire p.child_request (λ m. not (m.value p.child_answer) && m.value p.request && not (m.noted p.child_request))
-          (λ m. m.value p.child_answer)
+      (λ m. m.value p.child_answer)
       ∷ wire p.next (λ m. m.value p.request && m.noted p.child_request && not (m.value p.child_request)
-          && not (m.value p.child_answer)) (λ m. not (m.value p.request))
+      && not (m.value p.child_answer)) (λ m. not (m.value p.request))
       ∷ [];
   allows = asking p.request p.next ∷ answering p.child_request p.child_answer ∷ [];
   lows = p.child_request ∷ p.latch ∷ p.next ∷ [];

@@ -12,33 +12,40 @@ use Rattle.chp_cli.specs.declared.status.Status.TheVariants.{Usage, Read, Write,
 use Rattle.chp_cli.specs.Answers.{Given, Answer, misses, OneAnswer, status_of, status_with}
 use Rattle.chp_cli.specs.Commands.{Asked, IsAnswer, files_of}
 use Rattle.chp_cli.specs.Ends.{AnswersTo, IsFile, Ends, formless, whole, cut_off, refused, unread, no_memory}
+use Rattle.chp_cli.specs.Orders.{Played}
 use Rattle.chp_cli.specs.Replies.{Stops, refusing, refusal_status, refusal_line, stop_status, stop_line}
 use Rattle.chp_cli.specs.Statuses.{is_whole, is_refusing}
 
 whole_status : (end : Ending) → is_whole (status_with end) ≡ true
 whole_status ending.Done = refl
+whole_status ending.Hazard = refl
 
 refusing_status : (r : Refusal) → is_refusing (refusal_status r) ≡ true
 refusing_status (refusal.Text fault) = refl
 refusing_status (refusal.TooLong name limit) = refl
 refusing_status (refusal.TooManyNodes count) = refl
+refusing_status refusal.TooManyValues = refl
 refusing_status (refusal.BadNet fault line) = refl
+refusing_status (refusal.BadScript fault line) = refl
+refusing_status refusal.NoReset = refl
+refusing_status (refusal.NoOrder name) = refl
 refusing_status refusal.NotBuilt = refl
 
 -- the statuses of whole outputs and of refusals are none of the call's own
 own_status : (end : Ending) → (status_with end ≢ Usage) × (status_with end ≢ Read) × (status_with end ≢ Write)
 own_status ending.Done = (λ e. cc, λ e. cc, λ e. cc)
+own_status ending.Hazard = (λ e. cc, λ e. cc, λ e. cc)
 
 no_refusal : (s other : Status) → is_refusing s ≡ true → is_refusing other ≡ false → s ≢ other
 no_refusal s other is not same = cc (ap is_refusing same, is, not)
 
-pub answers_of : (asked : Option Asked) (given : Given) (command : Asked) (answer : Answer) → asked ≡ Some command → IsAnswer command given answer →
-    AnswersTo asked given answer
-answers_of asked given command answer named is = subst (λ o. AnswersTo o given answer) (sym named) is
+pub answers_of : (asked : Option Asked) (given : Given) (played : Played) (command : Asked) (answer : Answer) → asked ≡ Some command →
+    IsAnswer command given played answer → AnswersTo asked given played answer
+answers_of asked given played command answer named is = subst (λ o. AnswersTo o given played answer) (sym named) is
 
-module _ (asked : Option Asked) (given : Given) (rb ra pb pa : ℕ) where
+module _ (asked : Option Asked) (given : Given) (played : Played) (rb ra pb pa : ℕ) where
   -- with every other status nothing was written
-  pub silent_of : {s : Status} {appended line : List ℕ} → Ends asked given rb ra pb pa s appended line → is_whole s ≡ false → s ≢ Write → appended ≡ []
+  pub silent_of : {s : Status} {appended line : List ℕ} → Ends asked given played rb ra pb pa s appended line → is_whole s ≡ false → s ≢ Write → appended ≡ []
   silent_of (formless none) w n = refl
   silent_of (whole end text is) w n = absurd (cc (whole_status end, w))
   silent_of (cut_off end text k is rose) w n = absurd (n refl)
@@ -46,7 +53,7 @@ module _ (asked : Option Asked) (given : Given) (rb ra pb pa : ℕ) where
   silent_of (unread name own fault missed) w n = refl
   silent_of no_memory w n = refl
 
-  pub usage_of : {s : Status} {appended line : List ℕ} → Ends asked given rb ra pb pa s appended line → s ≡ Usage → asked ≡ None
+  pub usage_of : {s : Status} {appended line : List ℕ} → Ends asked given played rb ra pb pa s appended line → s ≡ Usage → asked ≡ None
   usage_of (formless none) e = none
   usage_of (whole end text is) e = absurd ((own_status end).0 e)
   usage_of (cut_off end text k is rose) e = absurd (cc e)
@@ -54,7 +61,7 @@ module _ (asked : Option Asked) (given : Given) (rb ra pb pa : ℕ) where
   usage_of (unread name own fault missed) e = absurd (cc e)
   usage_of no_memory e = absurd (cc e)
 
-  pub read_of : {s : Status} {appended line : List ℕ} → Ends asked given rb ra pb pa s appended line → s ≡ Read →
+  pub read_of : {s : Status} {appended line : List ℕ} → Ends asked given played rb ra pb pa s appended line → s ≡ Read →
       (name : List ℕ) × IsFile asked name × IsReadFault rb ra given.tells (given.files name)
   read_of (formless none) e = absurd (cc e)
   read_of (whole end text is) e = absurd ((own_status end).1 e)
@@ -63,7 +70,7 @@ module _ (asked : Option Asked) (given : Given) (rb ra pb pa : ℕ) where
   read_of (unread name own fault missed) e = (name, own, fault)
   read_of no_memory e = absurd (cc e)
 
-  pub write_of : {s : Status} {appended line : List ℕ} → Ends asked given rb ra pb pa s appended line → s ≡ Write → Rose pb pa
+  pub write_of : {s : Status} {appended line : List ℕ} → Ends asked given played rb ra pb pa s appended line → s ≡ Write → Rose pb pa
   write_of (formless none) e = absurd (cc e)
   write_of (whole end text is) e = absurd ((own_status end).2 e)
   write_of (cut_off end text k is rose) e = rose
@@ -71,15 +78,15 @@ module _ (asked : Option Asked) (given : Given) (rb ra pb pa : ℕ) where
   write_of (unread name own fault missed) e = absurd (cc e)
   write_of no_memory e = absurd (cc e)
 
-  one : ((command : Asked) → OneAnswer (IsAnswer command given)) → (o : Option Asked) (a b : Answer) → AnswersTo o given a → AnswersTo o given b → a ≡ b
+  one : ((command : Asked) → OneAnswer (IsAnswer command given played)) → (o : Option Asked) (a b : Answer) → AnswersTo o given played a → AnswersTo o given played b → a ≡ b
   one law None a b is are = absurd is
   one law (Some command) a b is are = law command a b is are
 
   -- where nothing fails, the status is that of the answer
-  pub complete_of : ((command : Asked) → OneAnswer (IsAnswer command given)) → {s : Status} {appended line : List ℕ} →
-      Ends asked given rb ra pb pa s appended line
-      → (answer : Answer) → AnswersTo asked given answer → ¬ Rose rb ra → ¬ Rose pb pa → (s ≡ status_of answer) ⊎ (s ≡ NoMemory)
-  complete_of law (formless none) answer are calm quiet = absurd (subst (λ o. AnswersTo o given answer) none are)
+  pub complete_of : ((command : Asked) → OneAnswer (IsAnswer command given played)) → {s : Status} {appended line : List ℕ} →
+      Ends asked given played rb ra pb pa s appended line
+      → (answer : Answer) → AnswersTo asked given played answer → ¬ Rose rb ra → ¬ Rose pb pa → (s ≡ status_of answer) ⊎ (s ≡ NoMemory)
+  complete_of law (formless none) answer are calm quiet = absurd (subst (λ o. AnswersTo o given played answer) none are)
   complete_of law (whole end text is) answer are calm quiet = inl (ap status_of (one law asked _ answer is are))
   complete_of law (cut_off end text k is rose) answer are calm quiet = absurd (quiet rose)
   complete_of law (refused status line r is) answer are calm quiet = inl (ap status_of (one law asked _ answer is are))
@@ -88,16 +95,16 @@ module _ (asked : Option Asked) (given : Given) (rb ra pb pa : ℕ) where
   complete_of law no_memory answer are calm quiet = inr refl
 
   -- a command that stops ends the call
-  pub stopped_ends : (command : Asked) → asked ≡ Some command → (stop : Stop) → Stops (IsAnswer command given) (files_of command) given rb ra stop
-      → Ends asked given rb ra pb pa (stop_status stop) [] (stop_line stop)
+  pub stopped_ends : (command : Asked) → asked ≡ Some command → (stop : Stop) → Stops (IsAnswer command given played) (files_of command) given rb ra stop
+      → Ends asked given played rb ra pb pa (stop_status stop) [] (stop_line stop)
   stopped_ends command is (stopped.Refused r) s =
-      refused (refusal_status r) (refusal_line r) (refusing_status r) (answers_of asked given command (refusing r) is s)
+      refused (refusal_status r) (refusal_line r) (refusing_status r) (answers_of asked given played command (refusing r) is s)
   stopped_ends command is (stopped.Unread name) s =
       unread name.now (subst (λ o. IsFile o name.now) (sym is) s.own) s.fault (missed s.missed)
     where
-      missed : Rose rb ra ⊎ IsAnswer command given (misses name.now) → Rose rb ra ⊎ AnswersTo asked given (misses name.now)
+      missed : Rose rb ra ⊎ IsAnswer command given played (misses name.now) → Rose rb ra ⊎ AnswersTo asked given played (misses name.now)
       missed (inl rose) = inl rose
-      missed (inr answer) = inr (answers_of asked given command (misses name.now) is answer)
+      missed (inr answer) = inr (answers_of asked given played command (misses name.now) is answer)
   stopped_ends command is stopped.NoMemory s = no_memory
 
 -- how long the front was, where the output tells it

@@ -18,11 +18,15 @@ use Rattle.chp_cli.specs.declared.answer.Ending.TheVariants.{Done}
 use Rattle.chp_cli.specs.declared.status.Status.TheVariants.{RefusedText, BadFile}
 use Rattle.chp_cli.specs.Answers.{Given, Answer, writes, refuses, OneAnswer}
 use Rattle.chp_cli.specs.Checking.{AcceptedReport, ChecksProgram}
-use Rattle.chp_cli.specs.Commands.{Asked, compiles, migrates, checks, expands, IsAnswer}
+use Rattle.chp_cli.specs.Commands.{Asked, compiles, migrates, checks, expands, simulates, runs, IsAnswer}
 use Rattle.chp_cli.specs.Compiling.{CompilesNet, CompilesProgram, compiled}
 use Rattle.chp_cli.specs.Expanding.{ExpandsProgram, TreeReport}
 use Rattle.chp_cli.specs.Lines.{refused_line, bad_net_line}
 use Rattle.chp_cli.specs.Migrating.{MigratesNet, taken, migrated}
+use Rattle.chp_cli.specs.Orders.{Played}
+use Rattle.chp_cli.specs.RoundsReporting.{Runs}
+use Rattle.chp_cli.specs.RoundsWords.{AskedRounds}
+use Rattle.chp_cli.specs.Simulating.{AskedRun, Simulates}
 use Rattle.chp_cli.specs.Steps.{FromFile, no_file, long_file, a_file, FromProgram, no_program, a_program, IsFaulty, of_names, of_sharing, FromChecks, has_calls, faulty, accepted, FromNodes, too_many, few_enough, FromNet, no_net, a_net}
 
 pub same_text : {held : Option (List ℕ)} {a b : List ℕ} → held ≡ Some a → held ≡ Some b → a ≡ b
@@ -130,17 +134,21 @@ migrate_once net a b (migrated free spells) (migrated also reads) = ap (λ file.
 module _ (cause : (text : List ℕ) (k j : FaultCode) (s t : Span) → IsRefusedText text k s → IsRefusedText text j t → k ≡ j)
     (place : (text : List ℕ) (k j : FaultCode) (s t : Span) → IsRefusedText text k s → IsRefusedText text j t → s ≡ t)
     (once : (text : List ℕ) (f g : NetFault) (l m : ℕ) → IsRefused text f l → IsRefused text g m → (f ≡ g) × (l ≡ m))
+    (simulate_once : (run : AskedRun) (given : Given) (played : Played) → given.tells ≡ true → OneAnswer (Simulates run given played))
+    (rounds_once : (r : AskedRounds) (given : Given) → given.tells ≡ true → OneAnswer (Runs r given))
     (checked : (program : ProgramTree) (Next : Answer → Type 0) → OneAnswer Next → OneAnswer (FromChecks program Next)) where
-  pub command_once : (command : Asked) (given : Given) → given.tells ≡ true → OneAnswer (IsAnswer command given)
-  command_once (compiles file reset) given told = file_once given file _ _ told
+  pub command_once : (command : Asked) (given : Given) (played : Played) → given.tells ≡ true → OneAnswer (IsAnswer command given played)
+  command_once (compiles file reset) given played told = file_once given file _ _ told
       (λ text. program_once text (CompilesProgram reset)
       (λ program. checked program (FromNodes (typed_form program) (CompilesNet reset))
       (nodes_once (typed_form program) (CompilesNet reset) (compile_once reset (typed_form program))))
       (cause text) (place text))
-  command_once (migrates file) given told = file_once given file _ _ told (λ text. net_once text MigratesNet migrate_once (once text))
-  command_once (checks file) given told = file_once given file _ _ told
+  command_once (migrates file) given played told = file_once given file _ _ told (λ text. net_once text MigratesNet migrate_once (once text))
+  command_once (checks file) given played told = file_once given file _ _ told
       (λ text. program_once text ChecksProgram (λ program. checked program (AcceptedReport program) (λ a b is are. is ∙ sym are)) (cause text) (place text))
-  command_once (expands file) given told = file_once given file _ _ told
+  command_once (expands file) given played told = file_once given file _ _ told
       (λ text. program_once text ExpandsProgram
       (λ program. checked program (FromNodes (typed_form program) TreeReport) (nodes_once (typed_form program) TreeReport (λ a b is are. is ∙ sym are)))
       (cause text) (place text))
+  command_once (simulates run) given played told = simulate_once run given played told
+  command_once (runs r) given played told = rounds_once r given told

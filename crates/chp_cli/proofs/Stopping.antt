@@ -84,7 +84,7 @@ pub ok_in : {T E : Type 0} (r : Result T E) (P Q : T → Type 0) → ((value : T
 ok_in (Ok value) P Q is p = is value p
 ok_in (Err e) P Q is p = tt
 
-err_in : {T E : Type 0} (r : Result T E) (P Q : E → Type 0) → ((e : E) → P e → Q e) → IfErr r P → IfErr r Q
+pub err_in : {T E : Type 0} (r : Result T E) (P Q : E → Type 0) → ((e : E) → P e → Q e) → IfErr r P → IfErr r Q
 err_in (Ok value) P Q is p = tt
 err_in (Err e) P Q is p = is e p
 

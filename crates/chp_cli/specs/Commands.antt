@@ -1,5 +1,5 @@
 -- The words of a command, what they ask for, and the list of all commands.
-use Rattle.std.specs.Prelude.{◌==◌, ◌&&◌, ◌||◌, Bool, true, false, not, List, [], ◌∷◌, Option, Some, None, codes, option_map}
+use Rattle.std.specs.Prelude.{ℕ, ◌≤◌, ◌==◌, ◌&&◌, ◌||◌, Bool, true, false, not, List, [], ◌∷◌, Option, Some, None, codes, option_map}
 use Rattle.std.specs.Prelude.{if◌then◌else◌, option_and_then}
 use Rattle.std.specs.Str.{bytes_eq}
 use Rattle.std.specs.declared.alloc.Global.{Global}
@@ -9,12 +9,19 @@ use Rattle.chp_cli.specs.Checking.{Checks}
 use Rattle.chp_cli.specs.Compiling.{Compiles}
 use Rattle.chp_cli.specs.Expanding.{Expands}
 use Rattle.chp_cli.specs.Migrating.{Migrates}
+use Rattle.chp_cli.specs.RoundsReporting.{Runs}
+use Rattle.chp_cli.specs.RoundsWords.{AskedRounds, rounds_of}
+use Rattle.chp_cli.specs.Orders.{OrderState, Played, place_named}
+use Rattle.chp_cli.specs.Simulating.{AskedRun, Simulates}
+use Rattle.chp_cli.specs.SimulateWords.{most_of_steps, simulate_of}
 use Rattle.chp_cli.specs.Forms.{texts_of}
 use Rattle.clap.specs.Words.{App, Rule, Text, first_of, matches_of, new_app, new_rule, takes, with_rule}
 use Rattle.clap.specs.Simple.{on_top}
 use Rattle.clap.specs.declared.builder.ArgAction.TheVariants.{Set, SetTrue}
 use Rattle.chp_cli.specs.declared.command.Command.{Command}
-use Rattle.chp_cli.specs.declared.command.Command.TheVariants.{Compile, Migrate, Check, Expand}
+use Rattle.chp_cli.specs.declared.command.Command.TheVariants.{Compile, Migrate, Check, Expand, Simulate, Run}
+use Rattle.chp_cli.specs.declared.rounds_words.Rounds.{Rounds}
+use Rattle.chp_cli.specs.declared.simulation.Simulation.{Simulation}
 use Rattle.chp_cli.specs.declared.command.Verb.{Verb}
 use Rattle.chp_cli.specs.declared.command.Verb.TheVariants as verb
 
@@ -56,6 +63,8 @@ verb_of word = if bytes_eq word (codes "compile") then Some verb.Compile
     else if bytes_eq word (codes "migrate") then Some verb.Migrate
     else if bytes_eq word (codes "check") then Some verb.Check
     else if bytes_eq word (codes "expand") then Some verb.Expand
+    else if bytes_eq word (codes "simulate") then Some verb.Simulate
+    else if bytes_eq word (codes "run") then Some verb.Run
     else None
 
 -- a command and its file, as its bytes; `compile` with or without a reset node
@@ -64,12 +73,31 @@ pub data Asked : Type 0 where
   migrates : Text → Asked
   checks : Text → Asked
   expands : Text → Asked
+  simulates : AskedRun → Asked
+  runs : AskedRounds → Asked
+
+-- a simulation, with its names as their bytes
+abbrev pub run_asked : Simulation → AskedRun
+run_asked run = record {
+  net = run.net.now;
+  script = run.script.now;
+  order = run.order.now;
+  seed = run.seed;
+  steps = run.steps;
+  power = run.power;
+}
+
+-- rounds that are asked for, with the names as their bytes
+abbrev pub rounds_asked : Rounds → AskedRounds
+rounds_asked r = record { file = r.file.now; script = r.script.now; rounds = r.rounds }
 
 abbrev pub asked : Command → Asked
 asked (Compile file reset) = compiles file.now reset
 asked (Migrate net) = migrates net.now
 asked (Check file) = checks file.now
 asked (Expand file) = expands file.now
+asked (Simulate run) = simulates (run_asked run)
+asked (Run r) = runs (rounds_asked r)
 
 abbrev pub compile_with : (file reset : Option Text) → Option Asked
 compile_with file reset = option_map (λ name. compiles name (is_set reset)) file
@@ -87,6 +115,8 @@ command_with verb.Compile word rest = compile_of word rest
 command_with verb.Migrate word rest = option_map migrates (file_of word rest)
 command_with verb.Check word rest = option_map checks (file_of word rest)
 command_with verb.Expand word rest = option_map expands (file_of word rest)
+command_with verb.Simulate word rest = option_map simulates (simulate_of word rest)
+command_with verb.Run word rest = option_map runs (rounds_of word rest)
 
 -- what the words ask for, where they are a command's name and words that its form takes
 abbrev pub command_of : List Text → Option Asked
@@ -125,15 +155,23 @@ plain_compile words = if asks_reset words
     then option_map (λ file. compiles file true) (plain_file (without_reset words))
     else option_map (λ file. compiles file false) (plain_file words)
 
-abbrev pub plain_with : Verb → List Text → Option Asked
-plain_with verb.Compile rest = plain_compile rest
-plain_with verb.Migrate rest = option_map migrates (plain_file rest)
-plain_with verb.Check rest = option_map checks (plain_file rest)
-plain_with verb.Expand rest = option_map expands (plain_file rest)
+-- the words of `simulate` and of `run` are told by their forms alone
+abbrev pub plain_with : Verb → Text → List Text → Option Asked
+plain_with verb.Compile word rest = plain_compile rest
+plain_with verb.Migrate word rest = option_map migrates (plain_file rest)
+plain_with verb.Check word rest = option_map checks (plain_file rest)
+plain_with verb.Expand word rest = option_map expands (plain_file rest)
+plain_with verb.Simulate word rest = option_map simulates (simulate_of word rest)
+plain_with verb.Run word rest = option_map runs (rounds_of word rest)
 
 abbrev pub plain_command : List Text → Option Asked
 plain_command [] = None
-plain_command (word ∷ rest) = option_and_then (λ v. plain_with v rest) (verb_of word)
+plain_command (word ∷ rest) = option_and_then (λ v. plain_with v word rest) (verb_of word)
+
+-- it asks for no more moves than may be asked for
+abbrev pub HasFewSteps : Command → Type 0
+HasFewSteps (Simulate run) = run.steps ≤ most_of_steps
+HasFewSteps _ = Unit {0}
 
 -- ---- the command of the words
 
@@ -142,11 +180,13 @@ asked_by words = command_of (texts_of words)
 
 -- ---- what each command reads and answers
 
-abbrev pub IsAnswer : Asked → Given → Answer → Type 0
-IsAnswer (compiles file reset) given = Compiles reset given file
-IsAnswer (migrates net) given = Migrates given net
-IsAnswer (checks file) given = Checks given file
-IsAnswer (expands file) given = Expands given file
+abbrev pub IsAnswer : Asked → Given → Played → Answer → Type 0
+IsAnswer (compiles file reset) given played = Compiles reset given file
+IsAnswer (migrates net) given played = Migrates given net
+IsAnswer (checks file) given played = Checks given file
+IsAnswer (expands file) given played = Expands given file
+IsAnswer (simulates run) given played = Simulates run given played
+IsAnswer (runs r) given played = Runs r given
 
 -- the names of its files
 abbrev pub files_of : Asked → List Text
@@ -154,3 +194,10 @@ files_of (compiles file reset) = file ∷ []
 files_of (migrates net) = net ∷ []
 files_of (checks file) = file ∷ []
 files_of (expands file) = file ∷ []
+files_of (simulates run) = run.net ∷ run.script ∷ []
+files_of (runs r) = r.file ∷ r.script ∷ []
+
+-- the place of the order that it asks for
+abbrev pub order_of : Asked → List OrderState → Option ℕ
+order_of (simulates run) orders = place_named orders run.order
+order_of _ orders = None

@@ -5,37 +5,43 @@ use Rattle.chp_cli.specs.declared.answer.Ending.{Ending}
 use Rattle.chp_cli.specs.declared.status.Status.{Status}
 use Rattle.chp_cli.specs.declared.status.Status.TheVariants.{Usage, Read, Write, NoMemory}
 use Rattle.chp_cli.specs.Answers.{Given, Answer, writes, refuses, misses, status_with, line_with}
-use Rattle.chp_cli.specs.Commands.{Asked, IsAnswer, files_of}
+use Rattle.chp_cli.specs.Commands.{Asked, IsAnswer, files_of, order_of}
 use Rattle.chp_cli.specs.Lines.{usage_line, read_line, write_line, no_memory_line}
+use Rattle.chp_cli.specs.Orders.{OrderState, Played}
 use Rattle.chp_cli.specs.Statuses.{is_refusing}
 
 -- it is an answer of the command that is asked for
-abbrev pub AnswersTo : Option Asked → Given → Answer → Type 0
-AnswersTo None given answer = ⊥
-AnswersTo (Some command) given answer = IsAnswer command given answer
+abbrev pub AnswersTo : Option Asked → Given → Played → Answer → Type 0
+AnswersTo None given played answer = ⊥
+AnswersTo (Some command) given played answer = IsAnswer command given played answer
 
 -- the name is that of a file of the command that is asked for
 abbrev pub IsFile : Option Asked → (name : List ℕ) → Type 0
 IsFile None name = ⊥
 IsFile (Some command) name = Contains (files_of command) name
 
+-- the place of the order that the command asks for, if it asks for one
+abbrev pub asked_order : Option Asked → List OrderState → Option ℕ
+asked_order None orders = None
+asked_order (Some command) orders = order_of command orders
+
 -- A call ends in one of these ways. The counts of faults are those of the shelf and of the output, before the call and
 -- after it.
-pub data Ends (asked : Option Asked) (given : Given) (read_before read_after put_before put_after : ℕ) : Status →
-    (appended line : List ℕ) → Type 0 where
+pub data Ends (asked : Option Asked) (given : Given) (played : Played) (read_before read_after put_before put_after : ℕ) :
+    Status → (appended line : List ℕ) → Type 0 where
   -- the words are no form of a command
-  formless : asked ≡ None → Ends asked given read_before read_after put_before put_after Usage [] usage_line
+  formless : asked ≡ None → Ends asked given played read_before read_after put_before put_after Usage [] usage_line
   -- the command writes, and all was written
-  whole : (end : Ending) (text : List ℕ) → AnswersTo asked given (writes end text)
-      → Ends asked given read_before read_after put_before put_after (status_with end) text (line_with end)
+  whole : (end : Ending) (text : List ℕ) → AnswersTo asked given played (writes end text)
+      → Ends asked given played read_before read_after put_before put_after (status_with end) text (line_with end)
   -- it writes, and the output failed: a front was written
-  cut_off : (end : Ending) (text : List ℕ) (n : ℕ) → AnswersTo asked given (writes end text) → Rose put_before put_after
-      → Ends asked given read_before read_after put_before put_after Write (take n text) write_line
+  cut_off : (end : Ending) (text : List ℕ) (n : ℕ) → AnswersTo asked given played (writes end text) → Rose put_before put_after
+      → Ends asked given played read_before read_after put_before put_after Write (take n text) write_line
   -- it refuses
-  refused : (status : Status) (line : List ℕ) → is_refusing status ≡ true → AnswersTo asked given (refuses status line)
-      → Ends asked given read_before read_after put_before put_after status [] line
+  refused : (status : Status) (line : List ℕ) → is_refusing status ≡ true → AnswersTo asked given played (refuses status line)
+      → Ends asked given played read_before read_after put_before put_after status [] line
   -- a read fault of a file of the command: the shelf failed, or that the file isn't there is the command's answer
   unread : (name : List ℕ) → IsFile asked name → IsReadFault read_before read_after given.tells (given.files name)
-      → Rose read_before read_after ⊎ AnswersTo asked given (misses name)
-      → Ends asked given read_before read_after put_before put_after Read [] (read_line name)
-  no_memory : Ends asked given read_before read_after put_before put_after NoMemory [] no_memory_line
+      → Rose read_before read_after ⊎ AnswersTo asked given played (misses name)
+      → Ends asked given played read_before read_after put_before put_after Read [] (read_line name)
+  no_memory : Ends asked given played read_before read_after put_before put_after NoMemory [] no_memory_line

@@ -2,6 +2,15 @@ pub mod Statuses
 pub mod Answers
 pub mod Lines
 pub mod Steps
+pub mod Orders
+pub mod RunSteps
+pub mod Held
+pub mod Simulating
+pub mod SimulateWords
+pub mod HeldPrograms
+pub mod RoundsWords
+pub mod RoundsReporting
+pub mod Simulated
 pub mod Compiling
 pub mod Migrating
 pub mod Checking

@@ -6,6 +6,9 @@ use Rattle.chp_base.specs.declared.fault.Fault.{Fault}
 use Rattle.chp_base.specs.declared.fault.FaultCode.{FaultCode}
 use Rattle.chp_base.specs.declared.fault.FaultCode.TheVariants as code
 use Rattle.chp_base.specs.Faults.{number_of}
+use Rattle.env_script.specs.declared.fault.ScriptFault.{ScriptFault}
+use Rattle.env_script.specs.declared.fault.ScriptFault.TheVariants as script
+use Rattle.env_script.specs.Faults.{script_fault_number}
 use Rattle.prs_file.specs.declared.fault.NetFault.{NetFault}
 use Rattle.prs_file.specs.declared.fault.NetFault.TheVariants as net
 use Rattle.prs_file.specs.Faults.{net_fault_number as net_number}
@@ -24,6 +27,14 @@ write_line = codes "chp: 4 write\n"
 
 abbrev pub no_memory_line : List ℕ
 no_memory_line = codes "chp: 6 no memory\n"
+
+-- a hazard was found, and all was written
+abbrev pub hazard_found_line : List ℕ
+hazard_found_line = codes "chp: 5 hazard\n"
+
+-- there is no order of this name
+abbrev pub no_order_line : (name : List ℕ) → List ℕ
+no_order_line name = concat (codes "chp: 9 order " ∷ name ∷ codes "\n" ∷ [])
 
 -- ---- of a refused program
 
@@ -78,6 +89,10 @@ not_built_line = codes "chp: 19 not built\n"
 abbrev pub nodes_line : (count : ℕ) → List ℕ
 nodes_line count = concat (codes "chp: 7 nodes " ∷ decimal count ∷ codes "\n" ∷ [])
 
+-- more values pass in the rounds of a program than may be held
+abbrev pub values_line : List ℕ
+values_line = codes "chp: 7 values over 1048576\n"
+
 abbrev pub too_long_line : (name : List ℕ) → (most : ℕ) → List ℕ
 too_long_line name most = concat (codes "chp: 7 bytes " ∷ name ∷ codes " over " ∷ decimal most ∷ codes "\n" ∷ [])
 
@@ -96,3 +111,21 @@ abbrev pub bad_net_line : NetFault → (line : ℕ) → List ℕ
 bad_net_line fault line = concat (
     codes "chp: 8 " ∷ decimal (net_number fault) ∷ codes " " ∷ net_fault_name fault ∷ codes " at line " ∷ decimal line
     ∷ codes "\n" ∷ [])
+
+-- a power is given for a net without a reset node
+abbrev pub no_reset_line : List ℕ
+no_reset_line = codes "chp: 8 49 NoReset at line 1\n"
+
+-- ---- of a refused script
+
+abbrev pub script_fault_name : ScriptFault → List ℕ
+script_fault_name script.BadLine = codes "BadLine"
+script_fault_name script.NoSuchChannel = codes "NoSuchChannel"
+script_fault_name script.TooWide = codes "TooWide"
+script_fault_name script.DoubleChannel = codes "DoubleChannel"
+script_fault_name script.TooManyValues = codes "TooManyValues"
+
+abbrev pub bad_script_line : ScriptFault → (line : ℕ) → List ℕ
+bad_script_line fault line = concat (
+    codes "chp: 8 " ∷ decimal (script_fault_number fault) ∷ codes " " ∷ script_fault_name fault ∷ codes " at line "
+    ∷ decimal line ∷ codes "\n" ∷ [])

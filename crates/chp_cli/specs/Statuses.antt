@@ -1,7 +1,7 @@
 -- The number of each status, and what it tells.
 use Rattle.std.specs.Prelude.{ℕ, Bool, true, false}
 use Rattle.chp_cli.specs.declared.status.Status.{Status}
-use Rattle.chp_cli.specs.declared.status.Status.TheVariants.{Done, RefusedText, Usage, Read, Write, NoMemory, TooLarge, BadFile, NotBuilt}
+use Rattle.chp_cli.specs.declared.status.Status.TheVariants.{Done, RefusedText, Usage, Read, Write, Hazard, NoMemory, TooLarge, BadFile, NoOrder, NotBuilt}
 
 abbrev pub status_number : Status → ℕ
 status_number Done = 0
@@ -9,14 +9,17 @@ status_number RefusedText = 1
 status_number Usage = 2
 status_number Read = 3
 status_number Write = 4
+status_number Hazard = 5
 status_number NoMemory = 6
 status_number TooLarge = 7
 status_number BadFile = 8
+status_number NoOrder = 9
 status_number NotBuilt = 19
 
 -- the statuses with which the whole output was written
 abbrev pub is_whole : Status → Bool
 is_whole Done = true
+is_whole Hazard = true
 is_whole _ = false
 
 -- the statuses with which a command refuses
@@ -24,5 +27,6 @@ abbrev pub is_refusing : Status → Bool
 is_refusing RefusedText = true
 is_refusing TooLarge = true
 is_refusing BadFile = true
+is_refusing NoOrder = true
 is_refusing NotBuilt = true
 is_refusing _ = false

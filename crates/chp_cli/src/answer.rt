@@ -6,12 +6,15 @@ ghost use Rattle.chp_cli.specs.Replies.{refusal_status, stop_status, end_status}
 
 use crate::status::Status;
 use chp_base::Fault;
+use env_script::ScriptFault;
 use prs_file::NetFault;
 
 /// How a command ends whose whole output was written.
 #[derive(Clone, Copy, Debug)]
 pub enum Ending {
     Done,
+    /// The run that is reported ends in a hazard.
+    Hazard,
 }
 
 impl Ending {
@@ -20,6 +23,7 @@ impl Ending {
     {
         match self {
             Ending::Done => Status::Done,
+            Ending::Hazard => Status::Hazard,
         }
     }
 }
@@ -40,8 +44,16 @@ pub enum Refusal<'a> {
     TooLong { name: &'a str, limit: usize },
     /// The circuit of the program has so many nodes, which are more than it may have.
     TooManyNodes(u64),
+    /// More values pass in the rounds than may be held.
+    TooManyValues,
     /// A rule file is refused at this line.
     BadNet { fault: NetFault, line: u32 },
+    /// A script is refused at this line.
+    BadScript { fault: ScriptFault, line: u32 },
+    /// The net has no reset node, and its power-up was asked for.
+    NoReset,
+    /// There is no order of this name.
+    NoOrder(&'a str),
     /// The program has procedures or calls, which aren't served yet.
     NotBuilt,
 }
@@ -52,8 +64,12 @@ impl Refusal<'_> {
     {
         match self {
             Refusal::Text(_) => Status::RefusedText,
-            Refusal::TooLong { .. } | Refusal::TooManyNodes(_) => Status::TooLarge,
-            Refusal::BadNet { .. } => Status::BadFile,
+            Refusal::TooLong { .. } | Refusal::TooManyNodes(_) | Refusal::TooManyValues => {
+                Status::TooLarge
+            }
+            Refusal::BadNet { .. } | Refusal::BadScript { .. } | Refusal::NoReset =>
+                Status::BadFile,
+            Refusal::NoOrder(_) => Status::NoOrder,
             Refusal::NotBuilt => Status::NotBuilt,
         }
     }

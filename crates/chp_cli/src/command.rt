@@ -2,9 +2,13 @@
 
 ghost use Rattle.std.specs.Prelude.{◌≡◌, IfOk, IfSome, Some, is_some, option_map, true};
 ghost use Rattle.clap.specs.Words.{app_of, found_of, matches_of, rows_of, takes};
-ghost use Rattle.chp_cli.specs.Commands.{asked, command_of, compile_form, compile_of, file_form, file_of, is_set, plain_command, plain_compile, plain_file, verb_of};
+ghost use Rattle.chp_cli.specs.Commands.{HasFewSteps, asked, command_of, compile_form, compile_of, file_form, file_of, is_set, plain_command, plain_compile, plain_file, simulates, verb_of};
+ghost use Rattle.chp_cli.specs.SimulateWords.{simulate_of};
 ghost use Rattle.chp_cli.specs.Forms.{is_form, texts_of};
 
+use crate::rounds_words::{Rounds, rounds_in};
+use crate::run_words::simulation_in;
+use crate::simulation::Simulation;
 use clap::error::ErrorKind;
 use clap::{Arg, ArgAction, ArgMatches};
 use std::alloc::{AllocError, Global};
@@ -21,6 +25,10 @@ pub enum Command<'a> {
     Check { file: &'a str },
     /// `expand FILE`: write the tree of parts of the program text in this file.
     Expand { file: &'a str },
+    /// `simulate PRS SCRIPT`: make one run of a net under a script, and write its report.
+    Simulate(Simulation<'a>),
+    /// `run FILE SCRIPT`: report rounds of the program text in this file under this script.
+    Run(Rounds<'a>),
 }
 
 /// The first word of a command.
@@ -30,15 +38,18 @@ enum Verb {
     Migrate,
     Check,
     Expand,
+    Simulate,
+    Run,
 }
 
 /// The command that the words ask for, or `None` where they aren't a command's form. The words are those behind the
 /// program's name.
 ///
 /// The first word names the command. The words behind it are read by `clap`, by the form of that command: one file and,
-/// for `compile`, the flag `--reset`, which may stand once, before the file or behind it. The file is one word, which
-/// may be empty or `-`. Any other word that begins with a hyphen and has more is taken for a flag and refused, a call
-/// for help too, but behind `--` any word may stand; `--` may also end the words.
+/// for `compile`, the flag `--reset`, which may stand once, before the file or behind it; for `simulate` two files and
+/// options with a value each; for `run` two files and one such option. A file is one word, which may be empty or `-`.
+/// Any other word that begins with a hyphen and has more is taken for a flag and refused, a call for help too, but
+/// behind `--` any word may stand; `--` may also end the words.
 ///
 /// `Err` stands for want of memory, and it is left open when that comes.
 pub fn command_in<'a>(alloc: Global, words: &'a [String]) -> Result<Option<Command<'a>>, AllocError>
@@ -46,6 +57,7 @@ pub fn command_in<'a>(alloc: Global, words: &'a [String]) -> Result<Option<Comma
         option_map asked found ≡ command_of (texts_of words.now)) }
     ensures plain { IfOk result (λ found.
         option_map asked found ≡ plain_command (texts_of words.now)) }
+    ensures few { IfOk result (λ found. IfSome found HasFewSteps) }
 {
     let [first, rest @ ..] = words else {
         return Ok(None);
@@ -59,6 +71,8 @@ pub fn command_in<'a>(alloc: Global, words: &'a [String]) -> Result<Option<Comma
         Verb::Migrate => Ok(file_in(alloc, word, rest)?.map(|net| Command::Migrate { net })),
         Verb::Check => Ok(file_in(alloc, word, rest)?.map(|file| Command::Check { file })),
         Verb::Expand => Ok(file_in(alloc, word, rest)?.map(|file| Command::Expand { file })),
+        Verb::Simulate => simulate_in(alloc, word, rest),
+        Verb::Run => Ok(rounds_in(alloc, word, rest)?.map(Command::Run)),
     }
 }
 
@@ -71,6 +85,8 @@ fn verb_in(word: &str) -> Option<Verb>
         "migrate" => Some(Verb::Migrate),
         "check" => Some(Verb::Check),
         "expand" => Some(Verb::Expand),
+        "simulate" => Some(Verb::Simulate),
+        "run" => Some(Verb::Run),
         _ => None,
     }
 }
@@ -100,6 +116,22 @@ fn compile_in<'a>(
         },
         Ok(None) => Ok(None),
         Err(error) => Err(error),
+    }
+}
+
+/// What the words behind `simulate` ask for, where they are its form.
+fn simulate_in<'a>(
+    alloc: Global,
+    name: &'a str,
+    words: &'a [String],
+) -> Result<Option<Command<'a>>, AllocError>
+    ensures form { IfOk result (λ found. option_map asked found
+        ≡ option_map simulates (simulate_of name.entry.now (texts_of words.entry.now))) }
+    ensures few { IfOk result (λ found. IfSome found HasFewSteps) }
+{
+    match simulation_in(alloc, name, words)? {
+        Some(run) => Ok(Some(Command::Simulate(run))),
+        None => Ok(None),
     }
 }
 
@@ -147,7 +179,7 @@ fn file_form<'a>(alloc: Global, name: &'a str) -> Result<clap::Command<'a>, Allo
 
 /// What the words give each argument of the form, or `None` where the form doesn't take them, for whatever cause. It
 /// serves every form without commands below it.
-fn matches_in<'a>(
+pub(crate) fn matches_in<'a>(
     form: clap::Command<'a>,
     words: &'a [String],
 ) -> Result<Option<ArgMatches<'a>>, AllocError>

@@ -2,15 +2,24 @@
 
 ghost use Rattle.std.specs.Prelude.{◌≡◌, ℕ, Bool, List, true};
 ghost use Rattle.chp_cli.specs.declared.answer.Ending.{Ending};
+ghost use Rattle.chp_cli.specs.declared.answer.Ending.TheVariants as ending;
 ghost use Rattle.chp_cli.specs.declared.status.Status.TheVariants.{Done};
 ghost use Rattle.chp_cli.specs.Answers.{Answer, Given, OneAnswer, status_of, writes};
 ghost use Rattle.chp_cli.specs.Compiling.{Compiles, IsFileCompiled, IsToCompile};
 ghost use Rattle.chp_cli.specs.Migrating.{Migrates, IsToMigrate};
 ghost use Rattle.chp_cli.specs.Commands.{Asked, IsAnswer};
+ghost use Rattle.chp_cli.specs.Orders.{Played};
+ghost use Rattle.chp_cli.specs.Simulated.{EndsAllAtRest, HoldsCarrying, IsFileSimulated, IsToSimulate};
+ghost use Rattle.chp_cli.specs.Simulating.{AskedRun, Simulates};
+ghost use Rattle.chp_cli.specs.Statuses.{is_whole};
+ghost use Rattle.width_check.specs.Processes.{TypedProgram};
 
-/// Law: to the same files, where the shelf tells them, a command has at most one answer.
+use event_sim::{power_is_powered, safe_moves_bring_no_hazard};
+
+/// Law: to the same files, where the shelf tells them, and by the same orders a command has at most one answer.
 pub fn one_answer()
-    ensures { (command : Asked) (given : Given) → given.tells ≡ true → OneAnswer (IsAnswer command given) }
+    ensures { (command : Asked) (given : Given) (played : Played) → given.tells ≡ true →
+        OneAnswer (IsAnswer command given played) }
 {
     chp_syntax::laws::one_fault();
     prs_file::one_refusal();
@@ -39,3 +48,37 @@ pub fn migrates_all()
     ensures { (given : Given) (file : List ℕ) → given.tells ≡ true → IsToMigrate given file → (answer : Answer) →
         Migrates given file answer → status_of answer ≡ Done }
 {}
+
+/// Law: what `simulate` writes is the report of one run of the net under the script that its files hold, to which the
+/// order of the wanted name led after it was given the seed: what its log has grown by in the call are places in the lists of
+/// enabled moves, one for each move; and the run has ended as is reported, and no shorter part of it has.
+pub fn simulated_right()
+    ensures { (s : AskedRun) (given : Given) (played : Played) → given.tells ≡ true → (end : Ending) (text : List ℕ) →
+        Simulates s given played (writes end text) → IsFileSimulated s given played (writes end text) }
+{}
+
+/// Law: the only answers of `simulate` to files that hold what can be simulated, by an order that is there, are to write.
+pub fn simulates_all()
+    ensures { (s : AskedRun) (given : Given) (played : Played) → given.tells ≡ true → IsToSimulate s given played →
+        (answer : Answer) → Simulates s given played answer → is_whole (status_of answer) ≡ true }
+{}
+
+/// Law: the simulation of a rule file whose net carries a program finds no hazard, by whatever order and under whatever
+/// script; with a reset node from whatever power-up is asked for.
+pub fn carried_runs_are_safe()
+    ensures { (s : AskedRun) (given : Given) (played : Played) (p : TypedProgram) → HoldsCarrying given s.net p →
+        (end : Ending) (text : List ℕ) → IsFileSimulated s given played (writes end text) → end ≡ ending.Done }
+{
+    power_is_powered();
+    safe_moves_bring_no_hazard();
+}
+
+/// Law: where the simulation of such a rule file reports rest, no order makes more moves of it under that script from that
+/// state, and each run that rests has as many moves, of each node as many.
+pub fn carried_runs_have_one_length()
+    ensures { (s : AskedRun) (given : Given) (played : Played) (p : TypedProgram) → HoldsCarrying given s.net p →
+        (answer : Answer) (f : IsFileSimulated s given played answer) → EndsAllAtRest s given played answer f }
+{
+    power_is_powered();
+    safe_moves_bring_no_hazard();
+}

@@ -10,8 +10,17 @@ mod files;
 pub mod laws;
 mod main_call;
 mod migrate;
+mod players;
+mod program_files;
+mod rounds;
+mod rounds_words;
+mod run_files;
+mod run_words;
 mod say;
+mod simulate;
+mod simulation;
 mod status;
 
 pub use main_call::chp_main;
+pub use players::Players;
 pub use status::Status;

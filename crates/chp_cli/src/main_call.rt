@@ -1,10 +1,11 @@
 //! The top call.
 
-ghost use Rattle.std.specs.Prelude.{◌≡◌, ◌≢◌, ◌≤◌, ◌++◌, ℕ, List, None, Some, true, false, IfOk, IfErr, ◌⊎◌};
+ghost use Rattle.std.specs.Prelude.{◌≡◌, ◌≢◌, ◌≤◌, ◌++◌, ℕ, List, map, None, Some, true, false, IfOk, IfErr, ◌⊎◌};
 ghost use Rattle.chp_edge.specs.Faults.{Rose, IsReadFault};
 ghost use Rattle.chp_cli.specs.Answers.{Answer, given_by, status_of};
-ghost use Rattle.chp_cli.specs.Commands.{IsAnswer, asked, asked_by, files_of};
-ghost use Rattle.chp_cli.specs.Ends.{AnswersTo, Ends, IsFile};
+ghost use Rattle.chp_cli.specs.Commands.{HasFewSteps, IsAnswer, asked, asked_by, files_of, order_of};
+ghost use Rattle.chp_cli.specs.Ends.{AnswersTo, Ends, IsFile, asked_order};
+ghost use Rattle.chp_cli.specs.Orders.{KeepsOrders, order_state, played_by};
 ghost use Rattle.chp_cli.specs.Replies.{Stops, end_line, end_status, told_answer};
 ghost use Rattle.chp_cli.specs.Statuses.{is_whole};
 
@@ -15,7 +16,10 @@ use crate::compile::compile;
 use crate::expand::expand;
 use crate::laws::one_answer;
 use crate::migrate::migrate;
+use crate::players::Players;
+use crate::rounds::rounds;
 use crate::say::tell;
+use crate::simulate::simulate;
 use crate::status::Status;
 use chp_edge::{Failed, Shelf, Sink, write_all};
 use std::alloc::{AllocError, Global};
@@ -24,13 +28,25 @@ use std::alloc::{AllocError, Global};
 fn answer<'a, S: Shelf>(
     alloc: Global,
     shelf: &mut S,
+    players: &mut Players,
     command: &Command<'a>,
 ) -> Result<Output, Stop<'a>>
-    ensures answered { IfOk result (λ output.
-        IsAnswer (asked command.now) (given_by (S.tells shelf.old) (S.holds shelf.old)) (told_answer output)) }
-    ensures stopped { IfErr result (Stops
-        (IsAnswer (asked command.now) (given_by (S.tells shelf.old) (S.holds shelf.old))) (files_of (asked command.now))
-        (given_by (S.tells shelf.old) (S.holds shelf.old)) (S.faults shelf.old) (S.faults shelf.new)) }
+    requires { HasFewSteps command.now }
+    ensures answered { IfOk result (λ output. IsAnswer (asked command.now)
+        (given_by (S.tells shelf.old) (S.holds shelf.old)) (played_by
+        (map (λ order. order_state (name order) (log order) (seeded order)) players.old.orders.items)
+        (map (λ order. order_state (name order) (log order) (seeded order)) players.new.orders.items))
+        (told_answer output)) }
+    ensures stopped { IfErr result (Stops (IsAnswer (asked command.now)
+        (given_by (S.tells shelf.old) (S.holds shelf.old)) (played_by
+        (map (λ order. order_state (name order) (log order) (seeded order)) players.old.orders.items)
+        (map (λ order. order_state (name order) (log order) (seeded order)) players.new.orders.items)))
+        (files_of (asked command.now)) (given_by (S.tells shelf.old) (S.holds shelf.old)) (S.faults shelf.old)
+        (S.faults shelf.new)) }
+    ensures orders { let before = map (λ order. order_state (name order) (log order) (seeded order))
+        players.old.orders.items in
+        KeepsOrders (order_of (asked command.now) before) (played_by before
+        (map (λ order. order_state (name order) (log order) (seeded order)) players.new.orders.items)) }
     ensures same { S.tells shelf.new ≡ S.tells shelf.old }
     ensures kept { S.holds shelf.new ≡ S.holds shelf.old }
     ensures faults { S.faults shelf.old ≤ S.faults shelf.new }
@@ -40,6 +56,8 @@ fn answer<'a, S: Shelf>(
         Command::Migrate { net } => migrate(alloc, shelf, net),
         Command::Check { file } => check(alloc, shelf, file),
         Command::Expand { file } => expand(alloc, shelf, file),
+        Command::Simulate(run) => simulate(alloc, shelf, players, run),
+        Command::Run(asked) => rounds(alloc, shelf, asked),
     }
 }
 
@@ -49,11 +67,19 @@ fn run<'a, S: Shelf, K: Sink>(
     words: &'a [String],
     shelf: &mut S,
     out: &mut K,
+    players: &mut Players,
 ) -> End<'a>
     ensures ended { (appended : List ℕ)
-        × Ends (asked_by words.now) (given_by (S.tells shelf.old) (S.holds shelf.old)) (S.faults shelf.old)
-        (S.faults shelf.new) (K.faults out.old) (K.faults out.new) (end_status result) appended (end_line result)
+        × Ends (asked_by words.now) (given_by (S.tells shelf.old) (S.holds shelf.old)) (played_by
+        (map (λ order. order_state (name order) (log order) (seeded order)) players.old.orders.items)
+        (map (λ order. order_state (name order) (log order) (seeded order)) players.new.orders.items))
+        (S.faults shelf.old) (S.faults shelf.new) (K.faults out.old) (K.faults out.new) (end_status result) appended
+        (end_line result)
         × (K.tells out.old ≡ true → K.written out.new ≡ K.written out.old ++ appended) }
+    ensures orders { let before = map (λ order. order_state (name order) (log order) (seeded order))
+        players.old.orders.items in
+        KeepsOrders (asked_order (asked_by words.now) before) (played_by before
+        (map (λ order. order_state (name order) (log order) (seeded order)) players.new.orders.items)) }
     ensures shelf_same { S.tells shelf.new ≡ S.tells shelf.old }
     ensures shelf_kept { S.holds shelf.new ≡ S.holds shelf.old }
     ensures shelf_faults { S.faults shelf.old ≤ S.faults shelf.new }
@@ -65,7 +91,7 @@ fn run<'a, S: Shelf, K: Sink>(
         Ok(None) => return End::Usage,
         Err(AllocError) => return End::Stopped(Stop::NoMemory),
     };
-    let output = match answer(alloc, shelf, &command) {
+    let output = match answer(alloc, shelf, players, &command) {
         Ok(output) => output,
         Err(stop) => return End::Stopped(stop),
     };
@@ -82,21 +108,29 @@ fn run<'a, S: Shelf, K: Sink>(
 /// shelf tells them. Three things may come between: the shelf fails at a file of the command (`Read`), the output
 /// fails, and a front of what the command writes was written (`Write`), or memory runs out (`NoMemory`), which may be
 /// at any point and is merged with no other answer.
+///
+/// Of the handed-in orders only the one that the command asks for is used, if it asks for one: all others are as they were,
+/// and all have their names and their places still.
 pub fn chp_main<S: Shelf, K: Sink, W: Sink>(
     alloc: Global,
     words: &[String],
     shelf: &mut S,
     out: &mut K,
     say: &mut W,
+    players: &mut Players,
 ) -> Status
     ensures ended { (appended : List ℕ) × (line : List ℕ)
-        × Ends (asked_by words.now) (given_by (S.tells shelf.old) (S.holds shelf.old)) (S.faults shelf.old)
-        (S.faults shelf.new) (K.faults out.old) (K.faults out.new) result appended line
+        × Ends (asked_by words.now) (given_by (S.tells shelf.old) (S.holds shelf.old)) (played_by
+        (map (λ order. order_state (name order) (log order) (seeded order)) players.old.orders.items)
+        (map (λ order. order_state (name order) (log order) (seeded order)) players.new.orders.items))
+        (S.faults shelf.old) (S.faults shelf.new) (K.faults out.old) (K.faults out.new) result appended line
         × (K.tells out.old ≡ true → K.written out.new ≡ K.written out.old ++ appended)
         × (W.tells say.old ≡ true → ¬ Rose (W.faults say.old) (W.faults say.new) →
         W.written say.new ≡ W.written say.old ++ line) }
     ensures complete { (answer : Answer) → S.tells shelf.old ≡ true →
-        AnswersTo (asked_by words.now) (given_by (S.tells shelf.old) (S.holds shelf.old)) answer
+        AnswersTo (asked_by words.now) (given_by (S.tells shelf.old) (S.holds shelf.old)) (played_by
+        (map (λ order. order_state (name order) (log order) (seeded order)) players.old.orders.items)
+        (map (λ order. order_state (name order) (log order) (seeded order)) players.new.orders.items)) answer
         → ¬ Rose (S.faults shelf.old) (S.faults shelf.new) → ¬ Rose (K.faults out.old) (K.faults out.new) →
         (result ≡ status_of answer) ⊎ (result ≡ Status.NoMemory) }
     ensures usage { result ≡ Status.Usage → asked_by words.now ≡ None }
@@ -105,6 +139,10 @@ pub fn chp_main<S: Shelf, K: Sink, W: Sink>(
     ensures write { result ≡ Status.Write → Rose (K.faults out.old) (K.faults out.new) }
     ensures silent { is_whole result ≡ false → result ≢ Status.Write → K.tells out.old ≡ true →
         K.written out.new ≡ K.written out.old }
+    ensures orders { let before = map (λ order. order_state (name order) (log order) (seeded order))
+        players.old.orders.items in
+        KeepsOrders (asked_order (asked_by words.now) before) (played_by before
+        (map (λ order. order_state (name order) (log order) (seeded order)) players.new.orders.items)) }
     ensures shelf_same { S.tells shelf.new ≡ S.tells shelf.old }
     ensures shelf_kept { S.holds shelf.new ≡ S.holds shelf.old }
     ensures shelf_faults { S.faults shelf.old ≤ S.faults shelf.new }
@@ -114,7 +152,7 @@ pub fn chp_main<S: Shelf, K: Sink, W: Sink>(
     ensures say_faults { W.faults say.old ≤ W.faults say.new }
 {
     one_answer();
-    let end = run(alloc, words, shelf, out);
+    let end = run(alloc, words, shelf, out, players);
     tell(say, &end);
     end.status()
 }

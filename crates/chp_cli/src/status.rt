@@ -16,12 +16,17 @@ pub enum Status {
     Read,
     /// The output couldn't be written whole.
     Write,
+    /// The run that was made ends in a hazard, and its report was written whole.
+    Hazard,
     /// Memory ran out.
     NoMemory,
-    /// A file has more bytes than it may have, or a circuit more nodes.
+    /// A file has more bytes than it may have, a circuit more nodes, or some rounds pass more values.
     TooLarge,
-    /// A rule file isn't in its grammar or limits, or can't be migrated.
+    /// A rule file or a script isn't in its grammar or limits, a rule file can't be migrated, or it has no reset node and
+    /// is to be run from power-up.
     BadFile,
+    /// No handed-in order has the wanted name.
+    NoOrder,
     /// The program has procedures or calls, which aren't served yet.
     NotBuilt,
 }
@@ -37,9 +42,11 @@ impl Status {
             Status::Usage => 2,
             Status::Read => 3,
             Status::Write => 4,
+            Status::Hazard => 5,
             Status::NoMemory => 6,
             Status::TooLarge => 7,
             Status::BadFile => 8,
+            Status::NoOrder => 9,
             Status::NotBuilt => 19,
         }
     }

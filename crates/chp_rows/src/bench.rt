@@ -97,6 +97,11 @@ impl Bench {
         }
     }
 
+    /// These calls of the shelf fail.
+    pub fn fail_at(&mut self, failing: Vec<u64>) {
+        self.failing = failing;
+    }
+
     /// A shelf of the files, of which the last one has only this many bytes.
     pub fn shelf(&self, alloc: Global, bytes: usize) -> Result<MemShelf, AllocError> {
         let mut files = Vec::new(alloc);

@@ -3,7 +3,9 @@
 use crate::bench::Bench;
 use crate::edge::{read, read_disk, read_surely, write, write_narrowly};
 use crate::reading::{show, show_tokens};
-use crate::run::{run, run_count, run_cuts, run_surely};
+use crate::run::{
+    keep, run, run_count, run_cuts, run_orders, run_shelf_faults, run_sink_faults, run_surely,
+};
 use case_text::{bytes_of, numbers_of};
 use std::alloc::{AllocError, Global};
 use std::fmt::Write;
@@ -72,7 +74,7 @@ fn set_out(alloc: Global, bench: &mut Bench, word: &str, rest: &str) -> Result<b
 /// Does what a line asks for, and says whether it is such a line.
 fn act<R: Files + AllocGlobal>(
     rt: &R,
-    bench: &Bench,
+    bench: &mut Bench,
     word: &str,
     rest: &str,
     page: &mut String,
@@ -86,6 +88,10 @@ fn act<R: Files + AllocGlobal>(
         "run-count" => run_count(alloc, bench, first, more, page)?,
         "run-surely" => run_surely(alloc, bench, rest, page)?,
         "run-cuts" => run_cuts(alloc, bench, rest, page)?,
+        "run-orders" => run_orders(alloc, bench, rest, page)?,
+        "run-shelf-faults" => run_shelf_faults(alloc, bench, rest, page)?,
+        "run-sink-faults" => run_sink_faults(alloc, bench, rest, page)?,
+        "keep" => keep(alloc, bench, first, more, page)?,
         "show" => show(alloc, bench.last(), page)?,
         "tokens" => show_tokens(alloc, bench.last(), page)?,
         "read" => read(alloc, bench, limit, more, page)?,

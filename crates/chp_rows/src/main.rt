@@ -5,6 +5,7 @@
 mod bench;
 mod cases;
 mod edge;
+mod pickers;
 mod printer;
 mod reading;
 mod run;
@@ -13,7 +14,9 @@ use bench::Bench;
 use cases::obey;
 use std::{fs, io};
 
-const TOPICS: [&str; 6] = ["texts", "compile", "check", "expand", "migrate", "edge"];
+const TOPICS: [&str; 8] = [
+    "texts", "compile", "check", "expand", "migrate", "simulate", "rounds", "edge",
+];
 
 fn main(rt: HostRuntime) -> io::Result<()> {
     let mut page = String::new(rt.alloc());

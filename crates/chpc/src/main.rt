@@ -1,37 +1,61 @@
 //! The program: the top call over the files and the standard streams of the system.
 #![tactic(auto)]
 
-use chp_cli::{Status, chp_main};
+use chp_cli::{Players, Status, chp_main};
 use chp_edge::{ErrSink, FileShelf, OutSink, Sink, write_all};
+use event_sim::{Lowest, Newest, Oldest, Picker, Random};
+use std::alloc::AllocError;
 use std::env;
 use std::io::{ErrorKind, Write};
 use std::process::ExitCode;
 use std::rt::{Env, Files};
 
 /// The words behind the program's name. A word that isn't UTF-8 is a wrong word, and no words are wrong words too.
-fn words<R: Env + AllocGlobal>(rt: &R) -> Result<Vec<String>, Status> {
+fn words<R: Env + AllocGlobal>(rt: &R) -> Result<Vec<String>, AllocError> {
     let mut words = match env::args(rt) {
         Ok(args) => args,
-        Err(e) if e.kind() == ErrorKind::OutOfMemory => return Err(Status::NoMemory),
+        Err(e) if e.kind() == ErrorKind::OutOfMemory => return Err(AllocError),
         Err(_) => return Ok(Vec::new(rt.alloc())),
     };
     let _program = words.next();
-    words.collect(rt.alloc()).map_err(|_| Status::NoMemory)
+    words.collect(rt.alloc())
 }
 
+/// Runs the words over real files and these sinks, with the four orders.
+fn run_words<R: AllocGlobal + Files, K: Sink, W: Sink>(
+    rt: &R,
+    words: &[String],
+    out: &mut K,
+    say: &mut W,
+) -> Result<Status, AllocError> {
+    let alloc = rt.alloc();
+    let mut orders: Vec<Box<dyn Picker>> = Vec::new(alloc);
+    orders.push(Box::new(alloc, Lowest::new(alloc))?)?;
+    orders.push(Box::new(alloc, Oldest::new(alloc))?)?;
+    orders.push(Box::new(alloc, Newest::new(alloc))?)?;
+    orders.push(Box::new(alloc, Random::new(alloc))?)?;
+    let mut players = Players { orders };
+    let mut shelf = FileShelf::new(rt);
+    Ok(chp_main(alloc, words, &mut shelf, out, say, &mut players))
+}
+
+/// Runs the words, or says that there is no memory for what a call is handed.
 fn run<R: Env + AllocGlobal + Files, O: Write + Drop, E: Write + Drop>(
     rt: &R,
     out: O,
     say: E,
 ) -> Status {
-    let mut shelf = FileShelf::new(rt);
     let mut out = OutSink::new(out);
     let mut say = ErrSink::new(say);
-    match words(rt) {
-        Ok(words) => chp_main(rt.alloc(), &words, &mut shelf, &mut out, &mut say),
-        Err(status) => {
+    let ended = match words(rt) {
+        Ok(words) => run_words(rt, &words, &mut out, &mut say),
+        Err(AllocError) => Err(AllocError),
+    };
+    match ended {
+        Ok(status) => status,
+        Err(AllocError) => {
             let _ = write_all(&mut say, b"chp: 6 no memory\n");
-            status
+            Status::NoMemory
         }
     }
 }

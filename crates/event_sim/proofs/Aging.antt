@@ -66,9 +66,9 @@ one_noted now i node list old table was ascending within at node_in here noted =
         get_or (set table node (renewed now was)) k d ≡ (if list_any (λ n. n == k) (take (i + 1) list) then renewed now (get_or old k d) else get_or old k d)
     by_place k d less (inl same) =
         subst (λ (j : ℕ). get_or (set table node (renewed now was)) j d ≡
-            (if list_any (λ n. n == j) (take (i + 1) list) then renewed now (get_or old j d) else get_or old j d)) same
-            (get_or-set_same table node (renewed now was) d (omega (arith, noted.count)) ∙ ap (renewed now) unchanged
-            ∙ pick_true (list_any (λ n. n == node) (take (i + 1) list)) _ _ (more node ∙ or_true _ _ (eq-eqb (get_or list i 0) node (sym at))))
+        (if list_any (λ n. n == j) (take (i + 1) list) then renewed now (get_or old j d) else get_or old j d)) same
+        (get_or-set_same table node (renewed now was) d (omega (arith, noted.count)) ∙ ap (renewed now) unchanged
+        ∙ pick_true (list_any (λ n. n == node) (take (i + 1) list)) _ _ (more node ∙ or_true _ _ (eq-eqb (get_or list i 0) node (sym at))))
       where
         fresh : list_any (λ n. n == node) (take i list) ≡ false
         fresh = ap (λ (m : ℕ). list_any (λ n. n == m) (take i list)) at ∙ not_before list i ascending within
@@ -77,8 +77,8 @@ one_noted now i node list old table was ascending within at node_in here noted =
         unchanged = here ∙ any_default table node was d (omega (arith, noted.count)) ∙ noted.each node d node_in ∙ pick_false _ _ _ fresh
     by_place k d less (inr apart) =
         get_or-set_other table node k (renewed now was) d (λ e. apart (sym e)) ∙ noted.each k d less
-            ∙ ap (λ (b : Bool). if b then renewed now (get_or old k d) else get_or old k d)
-            (sym (more k ∙ or_none _ _ (ne_eqb (get_or list i 0) k (λ e. apart (at ∙ e)))))
+        ∙ ap (λ (b : Bool). if b then renewed now (get_or old k d) else get_or old k d)
+        (sym (more k ∙ or_none _ _ (ne_eqb (get_or list i 0) k (λ e. apart (at ∙ e)))))
 
 -- one more node of the list
 pub next_noted : (now i : ℕ) (list : List ℕ) (old table : List Presence) (e result : Presence) → AllPairs (λ (a b : ℕ). a < b) list → i < length list →
@@ -89,7 +89,7 @@ next_noted now i list old table e result ascending within node_in is noted =
     let was = get_or table node e in
     let here : was ≡ get_or table node was = any_default table node e was (omega (arith, noted.count)) in
     subst (λ (p : Presence). IsNoted now (take (i + 1) list) old (set table node p)) (sym is)
-        (one_noted now i node list old table was ascending within refl node_in here noted)
+    (one_noted now i node list old table was ascending within refl node_in here noted)
 
 pub all_noted : (now i : ℕ) (list : List ℕ) (old table : List Presence) → length list ≤ i → IsNoted now (take i list) old table → IsNoted now list old table
 all_noted now i list old table past noted = subst (λ (xs : List ℕ). IsNoted now xs old table) (take_all i list past) noted
@@ -110,9 +110,9 @@ pub ages_are : (now : ℕ) (list : List ℕ) (old new : List Presence) → All (
     ages_at (now + 1) new ≡ aged list (ages_at now old)
 ages_are now list old new past noted =
     subst (λ (n : ℕ). ages_at (now + 1) new ≡ map (λ node. if list_any (λ n. n == node) list then slice_index (ages_at now old) node + 1 else 0)
-        (range_with_len 0 n)) (sym (length-map old (age_at now)))
-        (fill_by_all (λ node. if list_any (λ n. n == node) list then slice_index (ages_at now old) node + 1 else 0) (ages_at (now + 1) new) (length old) 0
-        (length-map new (age_at (now + 1)) ∙ noted.count) each)
+    (range_with_len 0 n)) (sym (length-map old (age_at now)))
+    (fill_by_all (λ node. if list_any (λ n. n == node) list then slice_index (ages_at now old) node + 1 else 0) (ages_at (now + 1) new) (length old) 0
+    (length-map new (age_at (now + 1)) ∙ noted.count) each)
   where
     d : Presence
     d = record { since = 0; last = 0 }
@@ -125,8 +125,8 @@ ages_are now list old new past noted =
     each : (k : ℕ) → k < length old → get_or (ages_at (now + 1) new) k 0 ≡ (if list_any (λ n. n == k) list then slice_index (ages_at now old) k + 1 else 0)
     each k less =
         get_or-map (age_at (now + 1)) new k d 0 (omega (arith, noted.count)) ∙ ap (age_at (now + 1)) (noted.each k d less)
-            ∙ by_test (list_any (λ n. n == k) list) k less
-            ∙ ap (λ (a : ℕ). if list_any (λ n. n == k) list then a + 1 else 0) (sym (get_or-map (age_at now) old k d 0 less))
+        ∙ by_test (list_any (λ n. n == k) list) k less
+        ∙ ap (λ (a : ℕ). if list_any (λ n. n == k) list then a + 1 else 0) (sym (get_or-map (age_at now) old k d 0 less))
 
 pub past_too : (now : ℕ) (list : List ℕ) (old new : List Presence) → All (IsPast now) old → IsNoted now list old new → All (IsPast (now + 1)) new
 past_too now list old new past noted = λ k d less.
@@ -170,14 +170,14 @@ lt_of a b less = lt-leb a b (ltb-true b a less)
 pub greatest_is : (xs : List ℕ) (b : ℕ) → IsFirstBest (λ x y. nat_lt y x) xs (length xs) b → b ≡ first_greatest xs
 greatest_is xs b best =
     first_place (λ x. list_all (λ y. nat_le y x) xs) xs b best.0
-        (all_pass (λ y. nat_le y (get_or xs b 0)) xs (λ k less. le_of (get_or xs k 0) (get_or xs b 0) (best.1 k 0 less)))
-        (λ k less. one_fails (λ y. nat_le y (get_or xs k 0)) xs b best.0 (lt_of (get_or xs b 0) (get_or xs k 0) (best.2 k 0 less)))
+    (all_pass (λ y. nat_le y (get_or xs b 0)) xs (λ k less. le_of (get_or xs k 0) (get_or xs b 0) (best.1 k 0 less)))
+    (λ k less. one_fails (λ y. nat_le y (get_or xs k 0)) xs b best.0 (lt_of (get_or xs b 0) (get_or xs k 0) (best.2 k 0 less)))
 
 pub least_is : (xs : List ℕ) (b : ℕ) → IsFirstBest nat_lt xs (length xs) b → b ≡ first_least xs
 least_is xs b best =
     first_place (λ x. list_all (λ y. nat_le x y) xs) xs b best.0
-        (all_pass (λ y. nat_le (get_or xs b 0) y) xs (λ k less. le_of (get_or xs b 0) (get_or xs k 0) (best.1 k 0 less)))
-        (λ k less. one_fails (λ y. nat_le (get_or xs k 0) y) xs b best.0 (lt_of (get_or xs k 0) (get_or xs b 0) (best.2 k 0 less)))
+    (all_pass (λ y. nat_le (get_or xs b 0) y) xs (λ k less. le_of (get_or xs b 0) (get_or xs k 0) (best.1 k 0 less)))
+    (λ k less. one_fails (λ y. nat_le (get_or xs k 0) y) xs b best.0 (lt_of (get_or xs k 0) (get_or xs b 0) (best.2 k 0 less)))
 
 at_place : (f : ℕ → ℕ) (list : List ℕ) (i x : ℕ) → i < length list → x ≡ f (get_or list i 0) → x ≡ get_or (map f list) i x
 at_place f list i x within is = is ∙ sym (get_or-map f list i 0 x within)
@@ -192,25 +192,25 @@ pub older_takes : (f : ℕ → ℕ) (list : List ℕ) (i b x y : ℕ) → i < le
     IsFirstBest (λ x y. nat_lt y x) (map f list) i b → y < x → IsFirstBest (λ x y. nat_lt y x) (map f list) (i + 1) i
 older_takes f list i b x y within is is_b best less =
     IsFirstBest-takes older (map f list) i b x y best (omega (arith, length-map list f)) (at_place f list i x within is)
-        (at_place f list b y (omega (arith, best.0)) is_b) (lt-ltb y x less)
+    (at_place f list b y (omega (arith, best.0)) is_b) (lt-ltb y x less)
 
 pub older_keeps : (f : ℕ → ℕ) (list : List ℕ) (i b x y : ℕ) → i < length list → x ≡ f (get_or list i 0) → y ≡ f (get_or list b 0) →
     IsFirstBest (λ x y. nat_lt y x) (map f list) i b → x ≤ y → IsFirstBest (λ x y. nat_lt y x) (map f list) (i + 1) b
 older_keeps f list i b x y within is is_b best less =
     IsFirstBest-keeps older (map f list) i b x y best (omega (arith, length-map list f)) (at_place f list i x within is)
-        (at_place f list b y (omega (arith, best.0)) is_b) (le-ltb y x less)
+    (at_place f list b y (omega (arith, best.0)) is_b) (le-ltb y x less)
 
 pub newer_takes : (f : ℕ → ℕ) (list : List ℕ) (i b x y : ℕ) → i < length list → x ≡ f (get_or list i 0) → y ≡ f (get_or list b 0) →
     IsFirstBest nat_lt (map f list) i b → x < y → IsFirstBest nat_lt (map f list) (i + 1) i
 newer_takes f list i b x y within is is_b best less =
     IsFirstBest-takes newer (map f list) i b x y best (omega (arith, length-map list f)) (at_place f list i x within is)
-        (at_place f list b y (omega (arith, best.0)) is_b) (lt-ltb x y less)
+    (at_place f list b y (omega (arith, best.0)) is_b) (lt-ltb x y less)
 
 pub newer_keeps : (f : ℕ → ℕ) (list : List ℕ) (i b x y : ℕ) → i < length list → x ≡ f (get_or list i 0) → y ≡ f (get_or list b 0) →
     IsFirstBest nat_lt (map f list) i b → y ≤ x → IsFirstBest nat_lt (map f list) (i + 1) b
 newer_keeps f list i b x y within is is_b best less =
     IsFirstBest-keeps newer (map f list) i b x y best (omega (arith, length-map list f)) (at_place f list i x within is)
-        (at_place f list b y (omega (arith, best.0)) is_b) (le-ltb x y less)
+    (at_place f list b y (omega (arith, best.0)) is_b) (le-ltb x y less)
 
 pub all_fresh : (now count : ℕ) → ages_at now (replicate count (record { since = now; last = now })) ≡ replicate count 0
 all_fresh now zero = refl

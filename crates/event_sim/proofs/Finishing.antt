@@ -1,12 +1,14 @@
 -- How a simulation begins, what each pick is from, and what is known at its end.
 use Rattle.std.proofs.Common.{◌≡◌, ℕ, ◌<◌, ◌≤◌, Bool, true, false, List, [], ◌∷◌, ◌++◌, length, get_or, drop, replicate, refl, sym, ap, subst, ◌∙◌, arith}
 use Rattle.std.specs.Prelude.{◌==◌, All, AllPairs, Option, Some, None}
+use Rattle.std.specs.List.{range_with_len}
 use Rattle.std.proofs.lemmas.List.{append-nil}
+use Rattle.std.proofs.lemmas.List.Elements.{filter_passes}
 use Rattle.prs_core.specs.Nets.{NetValue, IsNet}
 use Rattle.prs_core.specs.Moves.{high}
 use Rattle.env_script.specs.declared.hazard.Hazard.{Hazard}
 use Rattle.env_script.specs.declared.hazard.Hazard.TheVariants.{BothWays as Torn, Unstable as Lost, Protocol as Broken}
-use Rattle.env_script.specs.Runs.{RunState, IsRun, after}
+use Rattle.env_script.specs.Runs.{RunState, IsRun, after, move_enabled}
 use Rattle.env_script.specs.Hazards.{first_hazard}
 use Rattle.env_script.specs.OneLength.{AllSafe, EndsAll}
 use Rattle.env_script.proofs.Fronts.{ends_all}
@@ -55,8 +57,8 @@ begun stage steps start last before is hazard = record {
     there : now_of stage ≡ start_at s
     there =
         ap (λ (ps : List (ℕ × ℕ)). record { values = stage.values; histories = channel_histories (length stage.net.channels) ps }) is.passed
-            ∙ ap (λ (hs : List (List ℕ)). record { values = stage.values; histories = hs }) (histories_none (length stage.net.channels))
-            ∙ ap (λ (vs : List Bool). record { values = vs; histories = replicate (length stage.net.channels) [] }) is.values
+        ∙ ap (λ (hs : List (List ℕ)). record { values = stage.values; histories = hs }) (histories_none (length stage.net.channels))
+        ∙ ap (λ (vs : List Bool). record { values = vs; histories = replicate (length stage.net.channels) [] }) is.values
 
 drop_front : (xs ys : List ℕ) → drop (length xs) (xs ++ ys) ≡ ys
 drop_front [] ys = refl
@@ -88,11 +90,18 @@ pub picked_within : (s : SimValue) (picks : List ℕ) (stage : StageValue) (last
     xs ≡ moves_now stage → p < length xs → get_or xs p d < length stage.net.first
 picked_within s picks stage last xs p d is listed within =
     subst (λ (w : NetValue). get_or xs p d < length w.first) (sym is.net)
-        (subst (λ (ys : List ℕ). All (λ n. n < length s.net.first) ys) (sym whole)
-        (enabled_below s.net s.script (after s.net (start_at s) (follow s.net s.script (start_at s) picks))) p d within)
+    (subst (λ (ys : List ℕ). All (λ n. n < length s.net.first) ys) (sym whole)
+    (enabled_below s.net s.script (after s.net (start_at s) (follow s.net s.script (start_at s) picks))) p d within)
   where
     whole : xs ≡ enabled_moves s.net s.script (after s.net (start_at s) (follow s.net s.script (start_at s) picks))
     whole = listed ∙ moves_are s picks stage last is
+
+-- and its move is enabled
+pub picked_enabled : (stage : StageValue) (xs : List ℕ) (p d : ℕ) → xs ≡ moves_now stage → p < length xs →
+    move_enabled stage.net stage.script (now_of stage) (get_or xs p d) ≡ true
+picked_enabled stage xs p d listed within =
+    subst (λ (ys : List ℕ). All (λ n. move_enabled stage.net stage.script (now_of stage) n ≡ true) ys) (sym listed)
+    (filter_passes (move_enabled stage.net stage.script (now_of stage)) (range_with_len 0 (length stage.net.first))) p d within
 
 -- what is known at the end
 pub record IsFinished (s : SimValue) (before now : List ℕ) (count : ℕ) (stage : StageValue) (end : End) : Type 0 where
@@ -149,6 +158,6 @@ finish s before now count stage last spent end net is counted ended = record {
     alone : AllSafe s.net s.script (start_at s) → end ≡ AtRest → EndsAll s.net s.script (start_at s) (follow s.net s.script (start_at s) is.picks)
     alone safe e =
         ends_all s.net s.script (start_at s) net safe (follow s.net s.script (start_at s) is.picks)
-            (picked_run s.net s.script (start_at s) is.picks is.underway.picks)
-            (rests s.net s.script (after s.net (start_at s) (follow s.net s.script (start_at s) is.picks)) net
-            (sym (moves_are s is.picks stage last is.underway) ∙ rest_empties last (moves_now stage) spent (ended ∙ ap Some e)))
+        (picked_run s.net s.script (start_at s) is.picks is.underway.picks)
+        (rests s.net s.script (after s.net (start_at s) (follow s.net s.script (start_at s) is.picks)) net
+        (sym (moves_are s is.picks stage last is.underway) ∙ rest_empties last (moves_now stage) spent (ended ∙ ap Some e)))

@@ -48,14 +48,14 @@ passed_more net st [] n = append_nil (option_to_list (completion net (high st.va
     append_nil (x ∷ xs) = ap (λ (ys : List (ℕ × ℕ)). x ∷ ys) (append_nil xs)
 passed_more net st (m ∷ ns) n =
     ap (λ (ys : List (ℕ × ℕ)). option_to_list (completion net (high st.values) m) ++ ys) (passed_more net (moved net st m) ns n)
-        ∙ sym (append_assoc (option_to_list (completion net (high st.values) m)) (passed_in net (moved net st m) ns) _)
+    ∙ sym (append_assoc (option_to_list (completion net (high st.values) m)) (passed_in net (moved net st m) ns) _)
 
 -- what stands in the list is enabled
 pub enabled_at : (net : NetValue) (script : List OfferValue) (st : RunState) (p : ℕ) → p < length (enabled_moves net script st) →
     move_enabled net script st (move_at net script st p) ≡ true
 enabled_at net script st p within = filter_passes (move_enabled net script st) (range_with_len 0 (length net.first)) p 0 within
 
-range_below : (n : ℕ) → All (λ k. k < n) (range_with_len 0 n)
+pub range_below : (n : ℕ) → All (λ k. k < n) (range_with_len 0 n)
 range_below n = λ i d within. let e = get_or-range_with_len 0 n i d (omega (arith, length-range_with_len 0 n)) in omega (arith, length-range_with_len 0 n)
 
 pub enabled_below : (net : NetValue) (script : List OfferValue) (st : RunState) → All (λ k. k < length net.first) (enabled_moves net script st)

@@ -19,7 +19,7 @@ use Rattle.event_sim.proofs.Passed.{none_in_reset, none_unknown, completion_is, 
 values_of_both : (c : ℕ) (xs ys : List (ℕ × ℕ)) → values_through c (xs ++ ys) ≡ values_through c xs ++ values_through c ys
 values_of_both c xs ys =
     ap (map (λ (p : ℕ × ℕ). p.1)) (filter-append (λ (p : ℕ × ℕ). p.0 == c) xs ys)
-        ∙ map-append (λ (p : ℕ × ℕ). p.1) (filter (λ (p : ℕ × ℕ). p.0 == c) xs) (filter (λ (p : ℕ × ℕ). p.0 == c) ys)
+    ∙ map-append (λ (p : ℕ × ℕ). p.1) (filter (λ (p : ℕ × ℕ). p.0 == c) xs) (filter (λ (p : ℕ × ℕ). p.0 == c) ys)
 
 appended : (o : Option ℕ) (h : List ℕ) → with_value o h ≡ h ++ option_to_list o
 appended None h = sym (append-nil h)
@@ -35,10 +35,10 @@ each_grows v n c (w ∷ ws) passed more is =
     let start : c + 0 ≡ c = omega arith in
     let here : values_through c more ≡ option_to_list (completes v w n) = rw start at (is 0 w (omega arith)) in
     let first : with_value (completes v w n) (values_through c passed) ≡ values_through c (passed ++ more) =
-        appended (completes v w n) (values_through c passed) ∙ ap (λ xs. values_through c passed ++ xs) (sym here) ∙ sym (values_of_both c passed more) in
+    appended (completes v w n) (values_through c passed) ∙ ap (λ xs. values_through c passed ++ xs) (sym here) ∙ sym (values_of_both c passed more) in
     let others : with_values v n ws (map (λ k. values_through k passed) (range_with_len (c + 1) (length ws))) ≡ map (λ k. values_through k (passed ++ more))
-        (range_with_len (c + 1) (length ws)) = each_grows v n (c + 1) ws passed more (λ i d within. let same : c + 1 + i ≡ c + suc i = omega arith in
-        rw same (is (suc i) d (omega arith))) in
+    (range_with_len (c + 1) (length ws)) = each_grows v n (c + 1) ws passed more (λ i d within. let same : c + 1 + i ≡ c + suc i = omega arith in
+    rw same (is (suc i) d (omega arith))) in
     rw (first, others) refl
 
 none_at : (p : Wires → Bool) (ws : List Wires) (i : ℕ) (d : Wires) → position p ws ≡ None → i < length ws → p (get_or ws i d) ≡ false
@@ -99,7 +99,7 @@ completed_here net is v n off i d within = by_channel (channel_acknowledged net.
         values_through i (option_to_list (completion net v n)) ≡ option_to_list (completes v (get_or net.channels i d) n)
     by_channel None none =
         ap (λ o. values_through i (option_to_list o)) (none_unknown net v n (sym none))
-            ∙ sym (ap option_to_list (completes_none v (get_or net.channels i d) n (none_at (λ (w : Wires). n == w.ack) net.channels i d none within)))
+        ∙ sym (ap option_to_list (completes_none v (get_or net.channels i d) n (none_at (λ (w : Wires). n == w.ack) net.channels i d none within)))
     by_channel (Some c) found = by_place (cases_eq c i)
       where
         at : (c < length net.channels) × ((n == (get_or net.channels c d).ack) ≡ true) × ((k : ℕ) → k < c → (n == (get_or net.channels k d).ack) ≡ false)
@@ -116,12 +116,12 @@ completed_here net is v n off i d within = by_channel (channel_acknowledged net.
         by_place : (c ≡ i) ⊎ (c ≡ i → ⊥) → values_through i (option_to_list (completion net v n)) ≡ option_to_list (completes v (get_or net.channels i d) n)
         by_place (inl same) =
             subst (λ k. values_through k (option_to_list (completion net v n)) ≡ option_to_list (completes v (get_or net.channels k d) n)) same
-                (ap (λ o. values_through c (option_to_list o)) whole ∙ paired_here c _)
+            (ap (λ o. values_through c (option_to_list o)) whole ∙ paired_here c _)
         by_place (inr apart) =
             let other : n ≢ (get_or net.channels i d).ack =
-                λ e. apart_acks net is c i d apart at.0 within (sym (eqb-true n (get_or net.channels c d).ack at.1) ∙ e) in
+            λ e. apart_acks net is c i d apart at.0 within (sym (eqb-true n (get_or net.channels c d).ack at.1) ∙ e) in
             ap (λ o. values_through i (option_to_list o)) whole ∙ paired_elsewhere c i _ apart
-                ∙ sym (ap option_to_list (completes_none v (get_or net.channels i d) n (ne_eqb n _ other)))
+            ∙ sym (ap option_to_list (completes_none v (get_or net.channels i d) n (ne_eqb n _ other)))
 
 when_on : (b : Bool) (x y z : List (List ℕ)) → b ≡ true → x ≡ y → x ≡ (if b then y else z)
 when_on true x y z on same = same
@@ -145,11 +145,11 @@ histories_more net is values passed n = by_reset (in_reset net.reset (high value
         (channel_histories (length net.channels) passed))
     by_reset true on =
         when_on (in_reset net.reset v) _ _ _ on (ap (λ (o : Option (ℕ × ℕ)). channel_histories (length net.channels) (passed ++ option_to_list o))
-            (none_in_reset net v n on) ∙ ap (channel_histories (length net.channels)) (append-nil passed))
+        (none_in_reset net v n on) ∙ ap (channel_histories (length net.channels)) (append-nil passed))
     by_reset false off =
         when_off (in_reset net.reset v) _ _ _ off
-            (sym (each_grows v n 0 net.channels passed (option_to_list (completion net v n)) (λ i d within. let start : 0 + i ≡ i = omega arith in
-            rw start (completed_here net is v n off i d within))))
+        (sym (each_grows v n 0 net.channels passed (option_to_list (completion net v n)) (λ i d within. let start : 0 + i ≡ i = omega arith in
+        rw start (completed_here net is v n off i d within))))
 
 none_first : (c count : ℕ) → map (λ k. values_through k []) (range_with_len c count) ≡ replicate count []
 none_first c zero = refl
@@ -183,13 +183,18 @@ count_at : (count : ℕ) (passed : List (ℕ × ℕ)) (counts : List ℕ) (c d :
     c < count → get_or counts c d ≡ length (values_through c passed)
 count_at count passed counts c d is within =
     ap (λ (xs : List ℕ). get_or xs c d) (counts_are count passed counts is) ∙ get_or-map-range_with_len (λ k. length (values_through k passed)) 0 count c c d
-        within (omega arith)
+    within (omega arith)
 
 pub count_few : (count : ℕ) (passed : List (ℕ × ℕ)) (counts : List ℕ) (c d : ℕ) → counts ≡ map (λ (h : List ℕ). length h) (channel_histories count passed) →
     c < count → get_or counts c d ≤ length passed
 count_few count passed counts c d is within =
-    omega (arith, count_at count passed counts c d is within, length-map (filter (λ (p : ℕ × ℕ). p.0 == c) passed) (λ (p : ℕ × ℕ). p.1),
-        length-filter (λ (p : ℕ × ℕ). p.0 == c) passed, count_by-le-length (λ (p : ℕ × ℕ). p.0 == c) passed)
+    omega (
+      arith,
+      count_at count passed counts c d is within,
+      length-map (filter (λ (p : ℕ × ℕ). p.0 == c) passed) (λ (p : ℕ × ℕ). p.1),
+      length-filter (λ (p : ℕ × ℕ). p.0 == c) passed,
+      count_by-le-length (λ (p : ℕ × ℕ). p.0 == c) passed,
+    )
 
 values_here : (c value : ℕ) → values_through c ((c, value) ∷ []) ≡ value ∷ []
 values_here c value = rw (eq-eqb c c refl) refl
@@ -203,7 +208,7 @@ pub count_more : (count : ℕ) (passed : List (ℕ × ℕ)) (counts : List ℕ) 
     set counts c (now + 1) ≡ map (λ (h : List ℕ). length h) (channel_histories count (passed ++ (c, value) ∷ []))
 count_more count passed counts c value now is within here =
     fill_by_all (λ k. length (values_through k (passed ++ (c, value) ∷ []))) (set counts c (now + 1)) count 0 (length-set counts c (now + 1) ∙ whole) each
-        ∙ sym (lengths_of (λ k. values_through k (passed ++ (c, value) ∷ [])) (range_with_len 0 count))
+    ∙ sym (lengths_of (λ k. values_through k (passed ++ (c, value) ∷ [])) (range_with_len 0 count))
   where
     whole : length counts ≡ count
     whole = counts_whole count passed counts is
@@ -214,13 +219,13 @@ count_more count passed counts c value now is within here =
         by_place : (c ≡ k) ⊎ (c ≡ k → ⊥) → get_or (set counts c (now + 1)) k 0 ≡ length (values_through k (passed ++ (c, value) ∷ []))
         by_place (inl same) =
             subst (λ j. get_or (set counts c (now + 1)) j 0 ≡ length (values_through j (passed ++ (c, value) ∷ []))) same
-                (get_or-set_same counts c (now + 1) 0 (omega (arith, whole)) ∙ ap (λ j. j + 1) (here ∙ count_at count passed counts c now is within)
-                ∙ sym (ap length (values_of_both c passed ((c, value) ∷ []) ∙ ap (λ xs. values_through c passed ++ xs) (values_here c value))
-                ∙ length_push (values_through c passed) value))
+            (get_or-set_same counts c (now + 1) 0 (omega (arith, whole)) ∙ ap (λ j. j + 1) (here ∙ count_at count passed counts c now is within)
+            ∙ sym (ap length (values_of_both c passed ((c, value) ∷ []) ∙ ap (λ xs. values_through c passed ++ xs) (values_here c value))
+            ∙ length_push (values_through c passed) value))
         by_place (inr apart) =
             get_or-set_other counts c k (now + 1) 0 (λ e. apart (sym e)) ∙ count_at count passed counts k 0 is less
-                ∙ sym (ap length (values_of_both k passed ((c, value) ∷ []) ∙ ap (λ xs. values_through k passed ++ xs) (values_elsewhere c k value apart)
-                ∙ append-nil (values_through k passed)))
+            ∙ sym (ap length (values_of_both k passed ((c, value) ∷ []) ∙ ap (λ xs. values_through k passed ++ xs) (values_elsewhere c k value apart)
+            ∙ append-nil (values_through k passed)))
 
 all_of_both : (P : ℕ × ℕ → Type 0) (xs : List (ℕ × ℕ)) (o : Option (ℕ × ℕ)) → All P xs → IfSome o P → All P (xs ++ option_to_list o)
 all_of_both P xs None all one = subst (λ (ys : List (ℕ × ℕ)). All P ys) (sym (append-nil xs)) all

@@ -9,3 +9,8 @@ pub mod Ranges
 pub mod Finishing
 pub mod Wholes
 pub mod Aging
+pub mod Near
+pub mod HomeLemmas
+pub mod Members
+pub mod Behind
+pub mod HomesMade

@@ -35,7 +35,7 @@ range_more n = sym (map-id (range_with_len 0 (n + 1))) ∙ map-range_with_len_mo
 pub passes_more : (p : ℕ → Bool) (n : ℕ) → filter p (range_with_len 0 (n + 1)) ≡ filter p (range_with_len 0 n) ++ cond (p n) (n ∷ []) []
 passes_more p n = ap (filter p) (range_more n) ∙ filter-append p (range_with_len 0 n) (n ∷ [])
 
-passes_suc : (p : ℕ → Bool) (n : ℕ) → filter p (range_with_len 0 (suc n)) ≡ filter p (range_with_len 0 n) ++ cond (p n) (n ∷ []) []
+pub passes_suc : (p : ℕ → Bool) (n : ℕ) → filter p (range_with_len 0 (suc n)) ≡ filter p (range_with_len 0 n) ++ cond (p n) (n ∷ []) []
 passes_suc p n =
     let same : suc n ≡ n + 1 = omega arith in
     ap (λ k. filter p (range_with_len 0 k)) same ∙ passes_more p n
@@ -54,7 +54,7 @@ pub first_is_least : (p q : ℕ → Bool) (n : ℕ) → find q (filter p (range_
 first_is_least p q zero = refl
 first_is_least p q (suc n) =
     ap (find q) (passes_suc p n) ∙ first_of_both q _ _ ∙ ap (λ o. or_else o (find q (cond (p n) (n ∷ []) []))) (first_is_least p q n)
-        ∙ ap (or_else (least_below n (λ k. p k && q k))) (last (p n))
+    ∙ ap (or_else (least_below n (λ k. p k && q k))) (last (p n))
   where
     last : (b : Bool) → find q (cond b (n ∷ []) []) ≡ (if b && q n then Some n else None)
     last true = refl
@@ -72,7 +72,7 @@ none_past : (p : ℕ → Bool) (n m : ℕ) → n ≤ m → list_any (λ k. k == 
 none_past p zero m past = refl
 none_past p (suc n) m past =
     ap (list_any (λ k. k == m)) (passes_suc p n) ∙ any_of_both (λ k. k == m) (filter p (range_with_len 0 n)) (cond (p n) (n ∷ []) [])
-        ∙ or_from _ _ (none_past p n m (omega arith)) (last (p n))
+    ∙ or_from _ _ (none_past p n m (omega arith)) (last (p n))
   where
     last : (b : Bool) → list_any (λ k. k == m) (cond b (n ∷ []) []) ≡ false
     last true = or_from _ _ (ne_eqb n m (omega arith)) refl
@@ -83,7 +83,7 @@ pub among_is : (p : ℕ → Bool) (n m : ℕ) → m < n → list_any (λ k. k ==
 among_is p zero m within = absurd (omega arith)
 among_is p (suc n) m within =
     ap (list_any (λ k. k == m)) (passes_suc p n) ∙ any_of_both (λ k. k == m) (filter p (range_with_len 0 n)) (cond (p n) (n ∷ []) [])
-        ∙ by_place (cases_eq m n) (λ less. among_is p n m less)
+    ∙ by_place (cases_eq m n) (λ less. among_is p n m less)
   where
     last : (b : Bool) → n ≡ m → list_any (λ k. k == m) (cond b (n ∷ []) []) ≡ b
     last true same = or_left _ _ (eq-eqb n m same)

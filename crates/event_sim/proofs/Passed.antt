@@ -39,7 +39,7 @@ completion_is net v n c w o off found here is =
     let within = channel_within net.channels n c found in
     let read = slice_get_read net.channels (length net.channels) c w refl within here in
     by_reset (in_reset net.reset v) (channel_acknowledged net.channels n) off found
-        (ap (paired c) (is ∙ sym (ap (option_and_then (λ (x : Wires). completes v x n)) read)))
+    (ap (paired c) (is ∙ sym (ap (option_and_then (λ (x : Wires). completes v x n)) read)))
   where
     by_reset : (b : Bool) (f : Option ℕ) → b ≡ false → Some c ≡ f → paired c o ≡ paired c (completed_on v net.channels n c) →
         paired c o ≡ unless b (found_at (completed_on v net.channels n) f)
@@ -51,7 +51,7 @@ pub completion_within : (net : NetValue) (v : ℕ → Bool) (n : ℕ) (o : Optio
     IfSome o (λ (p : ℕ × ℕ). p.0 < count)
 completion_within net v n o count is whole =
     subst (λ (q : Option (ℕ × ℕ)). IfSome q (λ (p : ℕ × ℕ). p.0 < count)) (sym is)
-        (by_reset (in_reset net.reset v) (channel_acknowledged net.channels n) (λ c found. let within = channel_within net.channels n c found in omega arith))
+    (by_reset (in_reset net.reset v) (channel_acknowledged net.channels n) (λ c found. let within = channel_within net.channels n c found in omega arith))
   where
     pair_within : (c : ℕ) (o : Option ℕ) → c < count → IfSome (paired c o) (λ (p : ℕ × ℕ). p.0 < count)
     pair_within c None less = tt

@@ -26,7 +26,7 @@ raises_in v value count n [] within moves = absurd (cc moves)
 raises_in v value count n (t ∷ []) within moves = absurd (cc moves)
 raises_in v value count n (t ∷ f ∷ rest) within moves =
     by_case (or_cases (raises_bit v (is_odd value) t f n) (raises_value v (value / 2) rest n) moves)
-        (λ later. raises_in v (value / 2) count n rest (λ k d less. within (suc (suc k)) d (omega arith)) later)
+    (λ later. raises_in v (value / 2) count n rest (λ k d less. within (suc (suc k)) d (omega arith)) later)
   where
     by_bit : (bit : Bool) → raises_bit v bit t f n ≡ true → n < count
     by_bit true here = let same = eqb-true n t (and_parts (n == t) _ here).0 in let less = within 0 0 (omega arith) in omega arith
@@ -67,7 +67,7 @@ channels_in : (net : NetValue) (v : ℕ → Bool) (script : ℕ → OfferValue) 
 channels_in net v script done c n [] are moves = absurd (cc moves)
 channels_in net v script done c n (w ∷ ws) are moves =
     by_case (or_cases (offer_moves v w (script c) (done c) n) (channels_move v script done (suc c) ws n) moves)
-        (λ later. channels_in net v script done (suc c) n ws (λ k d less. are (suc k) d (omega arith)) later)
+    (λ later. channels_in net v script done (suc c) n ws (λ k d less. are (suc k) d (omega arith)) later)
   where
     by_case : (offer_moves v w (script c) (done c) n ≡ true) ⊎ (channels_move v script done (suc c) ws n ≡ true) →
         (channels_move v script done (suc c) ws n ≡ true → n < length net.first) → n < length net.first
@@ -160,7 +160,7 @@ torn_within net st = by_least (least_below (length net.first) (torn net (high st
 hazard_within : (net : NetValue) (script : List OfferValue) (st : RunState) (n : ℕ) → Within net (hazard_of net script st n)
 hazard_within net script st n =
     either_within net _ _ (torn_within net (moved net st n))
-        (either_within net _ _ (by_least (least_below (length net.first) (takes_away net script st n)) refl) (by_fault (in_reset net.reset (high st.values))))
+    (either_within net _ _ (by_least (least_below (length net.first) (takes_away net script st n)) refl) (by_fault (in_reset net.reset (high st.values))))
   where
     by_least : (o : Option ℕ) → least_below (length net.first) (takes_away net script st n) ≡ o → Within net (option_map Unstable o)
     by_least None e = tt

@@ -21,7 +21,7 @@ pub moves_are : (s : SimValue) (picks : List ℕ) (stage : StageValue) (hazard :
     moves_now stage ≡ enabled_moves s.net s.script (after s.net (start_at s) (follow s.net s.script (start_at s) picks))
 moves_are s picks stage hazard is =
     ap (λ (w : NetValue). enabled_moves w stage.script (now_of stage)) is.net ∙ ap (λ (e : List OfferValue). enabled_moves s.net e (now_of stage)) is.script
-        ∙ ap (λ (r : RunState). enabled_moves s.net s.script r) is.now
+    ∙ ap (λ (r : RunState). enabled_moves s.net s.script r) is.now
 
 -- how the run so far has ended
 pub end_is : (s : SimValue) (picks : List ℕ) (stage : StageValue) (hazard : Option Hazard) (spent : Bool) → IsUnderway s picks stage hazard →
@@ -29,9 +29,9 @@ pub end_is : (s : SimValue) (picks : List ℕ) (stage : StageValue) (hazard : Op
     (follow s.net s.script (start_at s) picks)
 end_is s picks stage hazard spent is counted =
     ap (λ (h : Option Hazard). end_with h (moves_now stage) spent) is.hazard
-        ∙ ap (λ (xs : List ℕ). end_with (last_hazard s.net s.script (start_at s) moves) xs spent) (moves_are s picks stage hazard is)
-        ∙ ap (λ (b : Bool). end_with (last_hazard s.net s.script (start_at s) moves) (enabled_moves s.net s.script (after s.net (start_at s) moves)) b)
-        (sym counted ∙ ap (λ (k : ℕ). k == s.steps) (sym (follow_length s.net s.script (start_at s) picks)))
+    ∙ ap (λ (xs : List ℕ). end_with (last_hazard s.net s.script (start_at s) moves) xs spent) (moves_are s picks stage hazard is)
+    ∙ ap (λ (b : Bool). end_with (last_hazard s.net s.script (start_at s) moves) (enabled_moves s.net s.script (after s.net (start_at s) moves)) b)
+    (sym counted ∙ ap (λ (k : ℕ). k == s.steps) (sym (follow_length s.net s.script (start_at s) picks)))
   where
     moves : List ℕ
     moves = follow s.net s.script (start_at s) picks
@@ -77,8 +77,8 @@ step s picks stage later hazard brought p node is few goes within here same_net 
     more : follow s.net s.script (start_at s) (picks ++ p ∷ []) ≡ follow s.net s.script (start_at s) picks ++ node ∷ []
     more =
         follow_more s.net s.script (start_at s) picks p
-            ∙ ap (λ (n : ℕ). follow s.net s.script (start_at s) picks ++ n ∷ [])
-            (sym (picked (moves_now stage) p node within here ∙ ap (λ xs. get_or xs p 0) listed))
+        ∙ ap (λ (n : ℕ). follow s.net s.script (start_at s) picks ++ n ∷ [])
+        (sym (picked (moves_now stage) p node within here ∙ ap (λ xs. get_or xs p 0) listed))
 
     whole : length (follow s.net s.script (start_at s) picks) ≡ length picks
     whole = follow_length s.net s.script (start_at s) picks
@@ -92,4 +92,4 @@ step s picks stage later hazard brought p node is few goes within here same_net 
     by_place k (inr past) below =
         let same : k ≤ length picks = omega (arith, length_push picks p) in
         ap (end_after s.net s.script s.steps (start_at s)) (front k same ∙ take_all k (follow s.net s.script (start_at s) picks) (omega (arith, whole)))
-            ∙ sym (end_is s picks stage hazard false is (ne_eqb (length picks) s.steps (omega arith))) ∙ goes
+        ∙ sym (end_is s picks stage hazard false is (ne_eqb (length picks) s.steps (omega arith))) ∙ goes

@@ -36,9 +36,11 @@ picks_of net script is [] st run = ([], tt, refl)
 picks_of net script is (n ∷ ns) st run =
     let within = move_in net script st n is run.0 in
     let at = placed (enabled_moves net script st) n (among_is (move_enabled net script st) (length net.first) n within ∙ run.0) in
-    let rest = picks_of net script is ns (moved net st n) run.1 in
-    (at.0 ∷ rest.0, (at.1, subst (λ (m : ℕ). ArePicks net script (moved net st m) rest.0) (sym at.2) rest.1),
-        ap (λ (m : ℕ). m ∷ follow net script (moved net st m) rest.0) at.2 ∙ ap (λ (ms : List ℕ). n ∷ ms) rest.2)
+    let rest = picks_of net script is ns (moved net st n) run.1 in (
+      at.0 ∷ rest.0,
+      (at.1, subst (λ (m : ℕ). ArePicks net script (moved net st m) rest.0) (sym at.2) rest.1),
+      ap (λ (m : ℕ). m ∷ follow net script (moved net st m) rest.0) at.2 ∙ ap (λ (ms : List ℕ). n ∷ ms) rest.2,
+    )
 
 -- what passes in a run, and the histories behind it
 histories_behind : (net : NetValue) → IsNet net → (ns : List ℕ) (values : List Bool) (passed : List (ℕ × ℕ)) →
@@ -50,17 +52,17 @@ histories_behind net is (n ∷ ns) values passed =
     let st : RunState = record { values = values; histories = channel_histories (length net.channels) passed } in
     let now : List (ℕ × ℕ) = passed ++ option_to_list (completion net (high values) n) in
     let there : record { values = (moved net st n).values; histories = channel_histories (length net.channels) now } ≡ moved net st n =
-        ap (λ (hs : List (List ℕ)). record { values = (moved net st n).values; histories = hs }) (histories_more net is values passed n) in
+    ap (λ (hs : List (List ℕ)). record { values = (moved net st n).values; histories = hs }) (histories_more net is values passed n) in
     ap (λ (r : RunState). (after net r ns).histories) (sym there) ∙ histories_behind net is ns (moved net st n).values now
-        ∙ ap (λ (r : RunState). channel_histories (length net.channels) (now ++ passed_in net r ns)) there
-        ∙ ap (channel_histories (length net.channels))
-        (append_assoc passed (option_to_list (completion net (high values) n)) (passed_in net (moved net st n) ns))
+    ∙ ap (λ (r : RunState). channel_histories (length net.channels) (now ++ passed_in net r ns)) there
+    ∙ ap (channel_histories (length net.channels))
+    (append_assoc passed (option_to_list (completion net (high values) n)) (passed_in net (moved net st n) ns))
 
 pub passed_histories : (net : NetValue) (values : List Bool) (ns : List ℕ) (c : ℕ) → IsNet net → c < length net.channels →
     values_through c (passed_in net (begin_at net values) ns) ≡ history_at (after net (begin_at net values) ns).histories c
 passed_histories net values ns c is within =
     sym (ap (λ (hs : List (List ℕ)). history_at hs c) whole ∙ get_or-map-range_with_len (λ k. values_through k (passed_in net (begin_at net values) ns)) 0
-        (length net.channels) c c [] within (omega arith))
+    (length net.channels) c c [] within (omega arith))
   where
     none : record { values = values; histories = channel_histories (length net.channels) [] } ≡ begin_at net values
     none = ap (λ (hs : List (List ℕ)). record { values = values; histories = hs }) (histories_none (length net.channels))
@@ -68,7 +70,7 @@ passed_histories net values ns c is within =
     whole : (after net (begin_at net values) ns).histories ≡ channel_histories (length net.channels) (passed_in net (begin_at net values) ns)
     whole =
         subst (λ (r : RunState). (after net r ns).histories ≡ channel_histories (length net.channels) (passed_in net r ns)) none
-            (histories_behind net is ns values [])
+        (histories_behind net is ns values [])
 
 -- safe moves and hazards
 
@@ -117,16 +119,19 @@ safe_is_calm net script st n is = (calm, safe)
 
     calm : IsSafeMove net script st n × IsApart net (moved net st n) → hazard_of net script st n ≡ None
     calm both =
-        rw (least_none (length net.first) (torn net (high (moved net st n).values)) (λ k less. both.1 k),
-            least_none (length net.first) (takes_away net script st n)
-            (λ k less. stays (k == n) _ _ (λ apart moves. both.0.stable k (eqb-false k n apart) moves)), both.0.phases) refl
+        rw (
+          least_none (length net.first) (torn net (high (moved net st n).values)) (λ k less. both.1 k),
+          least_none (length net.first) (takes_away net script st n)
+              (λ k less. stays (k == n) _ _ (λ apart moves. both.0.stable k (eqb-false k n apart) moves)),
+          both.0.phases,
+        ) refl
 
     safe : hazard_of net script st n ≡ None → IsSafeMove net script st n × IsApart net (moved net st n)
     safe none =
         let one = neither (first_hazard net (moved net st n)) (or_else (option_map Unstable (least_below (length net.first) (takes_away net script st n)))
-            (option_map Protocol (phase_fault net (high st.values) n))) none in
+        (option_map Protocol (phase_fault net (high st.values) n))) none in
         let two = neither (option_map Unstable (least_below (length net.first) (takes_away net script st n)))
-            (option_map Protocol (phase_fault net (high st.values) n)) one.1 in (
+        (option_map Protocol (phase_fault net (high st.values) n)) one.1 in (
           record {
             stable = λ m apart enabled. kept (m == n) _ _ (ne_eqb m n apart) enabled
                 (least_is_none (length net.first) (takes_away net script st n) (none_mapped Unstable _ two.0) m (move_in net script st m is enabled));
@@ -153,8 +158,11 @@ powered net start is reset = by_reset net.reset reset
 
         by_place : (n < length net.first) ⊎ (length net.first ≤ n) → high (map (power_value net start) (range_with_len 0 (length net.first))) n ≡ first_at net n
         by_place (inl within) = get_or-map-range_with_len (power_value net start) 0 (length net.first) n n false within (omega arith) ∙ plain
-        by_place (inr past) = get_or_past _ n false (omega (arith, length-map (range_with_len 0 (length net.first)) (power_value net start),
-            length-range_with_len 0 (length net.first))) ∙ sym (get_or_past net.first n false past)
+        by_place (inr past) = get_or_past _ n false (omega (
+          arith,
+          length-map (range_with_len 0 (length net.first)) (power_value net start),
+          length-range_with_len 0 (length net.first),
+        )) ∙ sym (get_or_past net.first n false past)
 
     by_reset : (o : Option ℕ) → IsSome o → IsPowered net (if is_some o then map (power_value net start) (range_with_len 0 (length net.first)) else net.first)
     by_reset None some = absurd (cc some)

@@ -4,4 +4,5 @@ pub mod Ends
 pub mod Picking
 pub mod Ages
 pub mod Simulating
+pub mod Locality
 pub mod Stages

@@ -19,7 +19,7 @@ completed_on v ws n c = option_and_then (λ (w : Wires). completes v w n) (slice
 abbrev pub completion : NetValue → (ℕ → Bool) → ℕ → Option (ℕ × ℕ)
 completion net v n =
     if in_reset net.reset v then None else option_and_then
-        (λ c. option_map (λ value. (c, value)) (completed_on v net.channels n c)) (channel_acknowledged net.channels n)
+    (λ c. option_map (λ value. (c, value)) (completed_on v net.channels n c)) (channel_acknowledged net.channels n)
 
 -- the values that pass in a run, each with its channel, the first one first
 abbrev pub passed_in : NetValue → RunState → List ℕ → List (ℕ × ℕ)

@@ -1,13 +1,14 @@
 -- How far a simulation has come.
-use Rattle.std.specs.Prelude.{◌≡◌, ℕ, ◌+◌, ◌<◌, ◌≤◌, Bool, not, ◌&&◌, ◌||◌, ◌==◌, List, [], length, take, map, All, slice_index, Option, Some, None}
-use Rattle.std.specs.List.{list_any}
+use Rattle.std.specs.Prelude.{◌≡◌, ℕ, ◌+◌, ◌<◌, ◌≤◌, Bool, List, [], length, take, map, All, Option, Some, None}
 use Rattle.prs_core.specs.Nets.{NetValue, IsNet}
-use Rattle.prs_core.specs.Moves.{high, rule_enabled}
+use Rattle.prs_core.specs.Moves.{high, both_ways}
 use Rattle.env_script.specs.Scripts.{OfferValue, IsScript}
-use Rattle.env_script.specs.Environment.{net_channels, env_enabled}
-use Rattle.env_script.specs.Runs.{RunState, after}
+use Rattle.env_script.specs.Environment.{net_channels}
+use Rattle.env_script.specs.Runs.{RunState, move_enabled, after}
 use Rattle.env_script.specs.declared.hazard.Hazard.{Hazard}
 use Rattle.env_script.specs.declared.hazard.Hazard.TheVariants.{BothWays, Unstable, Protocol}
+use Rattle.env_script.specs.Hazards.{least_below}
+use Rattle.event_sim.specs.Locality.{IsPassing}
 use Rattle.event_sim.specs.Following.{enabled_moves, follow, power_of, ArePicks}
 use Rattle.event_sim.specs.Ends.{last_hazard, end_after}
 use Rattle.event_sim.specs.Simulating.{SimValue, start_at}
@@ -32,25 +33,16 @@ now_of s = record { values = s.values; histories = channel_histories (length s.n
 abbrev pub moves_now : StageValue → List ℕ
 moves_now s = enabled_moves s.net s.script (now_of s)
 
--- by the counts of completed values: a rule of the node is enabled, or the environment's move of it
-abbrev pub has_move : NetValue → List OfferValue → List ℕ → List Bool → ℕ → Bool
-has_move net script done values n =
-    rule_enabled net (high values) n || env_enabled net script (slice_index done) (high values) n
-
--- what is kept beside: the counts of completed values, the enabled moves, and room for two lists of all nodes
-pub record IsKeptBeside (s : StageValue) (counts listed : List ℕ) (room_one room_other : ℕ) : Type 0 where
+-- what is kept beside: the counts of completed values, the set of the enabled moves, and the least node that is pulled
+-- both ways
+pub record IsKeptBeside (s : StageValue) (counts : List ℕ) (moves : List Bool) (pulled : Option ℕ) : Type 0 where
   pub net : IsNet s.net
   pub script : IsScript (net_channels s.net) s.script
   pub values : length s.values ≡ length s.net.first
   pub counts_are : counts ≡ map (λ (h : List ℕ). length h) (now_of s).histories
   pub passed : All (λ (p : ℕ × ℕ). p.0 < length s.net.channels) s.passed
-  pub listed_are : listed ≡ moves_now s
-  pub one : length s.net.first ≤ room_one
-  pub other : length s.net.first ≤ room_other
-
--- a node other than the moved one, which isn't in the list
-abbrev pub is_lost : List ℕ → ℕ → ℕ → Bool
-is_lost now node m = not (m == node) && not (list_any (λ k. k == m) now)
+  pub moves_are : IsPassing (length s.net.first) (move_enabled s.net s.script (now_of s)) moves
+  pub pulled_is : pulled ≡ least_below (length s.net.first) (both_ways s.net (high s.values))
 
 -- a node that is pulled both ways, else one whose move was taken away, else a channel whose phases are broken
 abbrev pub worst_cause : Option ℕ → Option ℕ → Option ℕ → Option Hazard

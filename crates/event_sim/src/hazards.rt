@@ -1,13 +1,14 @@
 //! Which hazard a move brings.
 
-ghost use Rattle.std.specs.Prelude.{◌≡◌, ℕ, ◌<◌, length};
-ghost use Rattle.prs_core.specs.Moves.{high, both_ways};
-ghost use Rattle.env_script.specs.Hazards.{least_below};
+ghost use Rattle.std.specs.Prelude.{◌≡◌, ℕ, ◌<◌, List, Bool, All, length};
 ghost use Rattle.std.specs.List.{find};
-ghost use Rattle.event_sim.specs.Stages.{is_lost, worst_cause};
+ghost use Rattle.prs_core.specs.Moves.{high, both_ways, fired};
+ghost use Rattle.env_script.specs.Hazards.{least_below};
+ghost use Rattle.event_sim.specs.Stages.{worst_cause};
 
+use crate::indexed::IndexedNet;
 use env_script::Hazard;
-use prs_core::{Net, State, pulled_both_ways};
+use prs_core::{Net, State, enabled, holds, pulled_both_ways};
 
 /// The least node that is pulled both ways.
 pub(crate) fn first_pulled(net: &Net, state: &State) -> Option<u32>
@@ -20,22 +21,48 @@ pub(crate) fn first_pulled(net: &Net, state: &State) -> Option<u32>
     }
 }
 
-fn is_lost(now: &[u32], node: u32, other: u32) -> bool
-    ensures { result ≡ is_lost now.now node other }
+/// Whether the node is pulled both ways. Most nodes have no enabled rule, and then the other guard needs no look.
+fn is_pulled(net: &Net, state: &State, node: u32) -> bool
+    requires state { length state.now ≡ length net.now.first }
+    requires node { node < length net.now.first }
+    ensures { result ≡ both_ways net.now (high state.now) node }
 {
-    other != node && !now.contains(&other)
+    let _net = net.first();
+    enabled(net, state, node) && holds(net.up(node), state) && holds(net.down(node), state)
 }
 
-/// The first of the moves before that is neither the one that was made nor among the moves now.
-pub(crate) fn first_lost(before: &[u32], now: &[u32], node: u32) -> Option<u32>
-    ensures { result ≡ find (is_lost now.now node) before.now }
+/// The first of these nodes that is pulled both ways.
+fn pulled_among(net: &Net, state: &State, nodes: &[u32]) -> Option<u32>
+    requires state { length state.now ≡ length net.now.first }
+    requires nodes { All (λ n. n < length net.now.first) nodes.now }
+    ensures { result ≡ find (both_ways net.now (high state.now)) nodes.now }
 {
-    for other in before {
-        if is_lost(now, node, *other) {
-            return Some(*other);
+    for node in nodes {
+        if is_pulled(net, state, *node) {
+            return Some(*node);
         }
     }
     None
+}
+
+/// The least node that is pulled both ways behind a move of the node, where this was the least before it.
+pub(crate) fn pulled_behind(
+    indexed: &IndexedNet,
+    state: &State,
+    node: u32,
+    pulled: Option<u32>,
+) -> Option<u32>
+    requires state { length state.now ≡ length indexed.now.net.first }
+    requires node { node < length indexed.now.net.first }
+    ensures { (before : List Bool)
+        → state.now ≡ fired before node
+        → pulled ≡ least_below (length indexed.now.net.first) (both_ways indexed.now.net (high before))
+        → result ≡ least_below (length indexed.now.net.first) (both_ways indexed.now.net (high state.now)) }
+{
+    match pulled {
+        None => pulled_among(indexed.net(), state, indexed.readers(node)),
+        Some(_) => first_pulled(indexed.net(), state),
+    }
 }
 
 /// A node that is pulled both ways comes before one whose move was taken away, and that before a channel whose

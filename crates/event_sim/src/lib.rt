@@ -3,10 +3,14 @@
 
 mod ages;
 mod hazards;
+mod homes;
+mod indexed;
 mod laws;
+mod listing;
 mod lowest;
 mod moves;
 mod newest;
+mod node_set;
 mod oldest;
 mod picker;
 mod power;
@@ -16,8 +20,8 @@ mod sim;
 mod stage;
 
 pub use laws::{
-    moves_are_in_range, passed_are_histories, power_is_powered, runs_are_picked,
-    safe_moves_bring_no_hazard,
+    moves_are_in_range, moves_concern_what_is_near, passed_are_histories, power_is_powered,
+    runs_are_picked, safe_moves_bring_no_hazard,
 };
 pub use lowest::Lowest;
 pub use newest::Newest;

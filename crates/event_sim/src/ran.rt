@@ -36,11 +36,22 @@ impl Model for Ran {
 
     ghost Value = { RanValue };
 
-    ghost view = { λ r. record { net = r.net; end = r.end; moves = r.moves; done_high = r.done_high; passed =
-        r.passed.items } };
+    ghost view = { λ r. record {
+      net = r.net;
+      end = r.end;
+      moves = r.moves;
+      done_high = r.done_high;
+      passed =
+          r.passed.items;
+    } };
 
-    ghost invariant = { λ r. IsRan (record { net = r.net; end = r.end; moves = r.moves; done_high = r.done_high;
-        passed = r.passed.items }) };
+    ghost invariant = { λ r. IsRan (record {
+      net = r.net;
+      end = r.end;
+      moves = r.moves;
+      done_high = r.done_high;
+      passed = r.passed.items;
+    }) };
 }
 
 impl Ran {
@@ -48,10 +59,22 @@ impl Ran {
 
     /// The run with these parts. The node or the channel of its end and the channels of the values are the net's.
     pub fn new(net: Net, end: End, moves: u32, done_high: bool, passed: Vec<(u32, u64)>) -> Ran
-        requires { IsRan (record { net = net; end = end; moves = moves; done_high = done_high; passed =
-            passed.items }) }
-        ensures { result ≡ record { net = net; end = end; moves = moves; done_high = done_high; passed =
-            passed.items } }
+        requires { IsRan (record {
+          net = net;
+          end = end;
+          moves = moves;
+          done_high = done_high;
+          passed =
+              passed.items;
+        }) }
+        ensures { result ≡ record {
+          net = net;
+          end = end;
+          moves = moves;
+          done_high = done_high;
+          passed =
+              passed.items;
+        } }
     {
         Ran {
             net,

@@ -1,33 +1,35 @@
 //! A run that goes on.
 
-ghost use Rattle.std.specs.Prelude.{◌≡◌, ◌<◌, ◌≤◌, ◌+◌, ◌++◌, ℕ, List, [], length, map, replicate, vec_len, vec_capacity, option_to_list, IfOk, IfSome};
+ghost use Rattle.std.specs.Prelude.{◌≡◌, ◌<◌, ◌≤◌, ◌+◌, ◌++◌, ℕ, true, List, [], length, map, replicate, vec_len, vec_capacity, option_to_list, IfOk, IfSome};
 ghost use Rattle.prs_core.specs.Nets.{IsNet};
 ghost use Rattle.prs_core.specs.Moves.{high};
 ghost use Rattle.env_script.specs.Scripts.{IsScript};
 ghost use Rattle.env_script.specs.Environment.{net_channels};
-ghost use Rattle.env_script.specs.Runs.{moved};
+ghost use Rattle.env_script.specs.Runs.{moved, move_enabled};
 ghost use Rattle.env_script.specs.Hazards.{first_hazard, hazard_of};
 ghost use Rattle.event_sim.specs.Passing.{completion, channel_histories};
 
-use crate::hazards::{first_lost, first_pulled, worst_cause};
-use crate::moves::{completion, list_moves};
+use crate::hazards::{first_pulled, pulled_behind, worst_cause};
+use crate::indexed::IndexedNet;
+use crate::listing::{add_reset, list_ready, relist};
+use crate::node_set::NodeSet;
 use crate::ran::{End, Ran};
-use env_script::{Hazard, Script, keeps_phases};
+use env_script::{Hazard, Script};
 use prs_core::{Net, State, fire};
 use std::alloc::{AllocError, Global};
 use std::marker::Model;
 
 /// How far a run has come: its net and script, the values of the nodes, and what has passed. Beside that it keeps how
-/// many values are completed on each channel, the list of the enabled moves, and room for the next list.
+/// many values are completed on each channel, the list of the enabled moves, and the least node that is pulled both
+/// ways.
 #[derive(Debug, Drop)]
 pub(crate) struct Stage {
-    net: Net,
-    script: Script,
+    indexed: IndexedNet,
     state: State,
     done: Vec<u64>,
     passed: Vec<(u32, u64)>,
-    moves: Vec<u32>,
-    next: Vec<u32>,
+    moves: NodeSet,
+    pulled: Option<u32>,
 }
 
 impl Model for Stage {
@@ -36,12 +38,12 @@ impl Model for Stage {
 
     ghost Value = { StageValue };
 
-    ghost view = { λ s. stage_with s.net s.script s.state s.passed.items
+    ghost view = { λ s. stage_with s.indexed.net s.indexed.script s.state s.passed.items
         (vec_capacity s.passed - length s.passed.items) };
 
     ghost invariant = { λ s. IsKeptBeside
-        (stage_with s.net s.script s.state s.passed.items (vec_capacity s.passed - length s.passed.items)) s.done.items
-        s.moves.items (vec_capacity s.moves) (vec_capacity s.next) };
+        (stage_with s.indexed.net s.indexed.script s.state s.passed.items
+        (vec_capacity s.passed - length s.passed.items)) s.done.items s.moves s.pulled };
 }
 
 fn no_counts(alloc: Global, channels: usize) -> Result<Vec<u64>, AllocError>
@@ -90,17 +92,18 @@ impl Stage {
         let nodes = net.first().len();
         let done = no_counts(alloc, net.channels().len())?;
         let passed = Vec::with_capacity(alloc, room as usize)?;
-        let mut moves = Vec::with_capacity(alloc, nodes)?;
-        let next = Vec::with_capacity(alloc, nodes)?;
-        list_moves(&net, &script, &done, &state, &mut moves);
+        let mut moves = NodeSet::new(alloc, nodes)?;
+        let pulled = first_pulled(&net, &state);
+        let indexed = IndexedNet::new(alloc, net, script)?;
+        list_ready(&indexed, &done, &state, &mut moves);
+        add_reset(&indexed, &state, &mut moves);
         Ok(Stage {
-            net,
-            script,
+            indexed,
             state,
             done,
             passed,
             moves,
-            next,
+            pulled,
         })
     }
 
@@ -108,7 +111,7 @@ impl Stage {
     pub(crate) fn moves(&self) -> &[u32]
         ensures { result.now ≡ moves_now self.now }
     {
-        &self.moves
+        self.moves.nodes()
     }
 
     /// The hazard in the first state: a node that is pulled both ways.
@@ -116,12 +119,14 @@ impl Stage {
         ensures hazard { result ≡ first_hazard self.now.net (now_of self.now) }
         ensures net { IsNet self.now.net }
     {
-        worst_cause(first_pulled(&self.net, &self.state), None, None)
+        let _net = self.indexed.net();
+        worst_cause(self.pulled, None, None)
     }
 
-    /// Moves the node, and tells the hazard that this brings.
+    /// Makes the enabled move of the node, and tells the hazard that this brings.
     pub(crate) fn make(&mut self, node: u32) -> Option<Hazard>
         requires node { node < length self.old.net.first }
+        requires enabled { move_enabled self.old.net self.old.script (now_of self.old) node ≡ true }
         requires room { 1 ≤ self.old.room }
         ensures net { self.new.net ≡ self.old.net }
         ensures script { self.new.script ≡ self.old.script }
@@ -131,29 +136,34 @@ impl Stage {
         ensures room { self.old.room ≤ self.new.room + 1 }
         ensures hazard { result ≡ hazard_of self.old.net self.old.script (now_of self.old) node }
     {
-        let broken = keeps_phases(&self.net, &self.state, node);
-        let completed = completion(&self.net, &self.state, node);
+        let broken = self.indexed.broken_phases(&self.state, node);
+        let completed = self.indexed.completion(&self.state, node);
         note(&mut self.done, &mut self.passed, completed);
         fire(&mut self.state, node);
-        list_moves(
-            &self.net,
-            &self.script,
+        let lost = relist(
+            &self.indexed,
             &self.done,
             &self.state,
-            &mut self.next,
+            node,
+            &mut self.moves,
         );
-        let lost = first_lost(&self.moves, &self.next, node);
-        std::mem::swap(&mut self.moves, &mut self.next);
-        worst_cause(first_pulled(&self.net, &self.state), lost, broken)
+        self.pulled = pulled_behind(&self.indexed, &self.state, node, self.pulled);
+        worst_cause(self.pulled, lost, broken)
     }
 
     /// The run, which has ended so after so many moves.
     pub(crate) fn ran(self, end: End, moves: u32) -> Ran
         requires { IsEndIn self.net end }
-        ensures { result ≡ record { net = self.net; end = end; moves = moves; done_high = high self.values 1; passed =
-            self.passed } }
+        ensures { result ≡ record {
+          net = self.net;
+          end = end;
+          moves = moves;
+          done_high = high self.values 1;
+          passed =
+              self.passed;
+        } }
     {
         let done_high = self.state.is_high(1);
-        Ran::new(self.net, end, moves, done_high, self.passed)
+        Ran::new(self.indexed.into_net(), end, moves, done_high, self.passed)
     }
 }

@@ -53,4 +53,4 @@ history_lines passed c (w ∷ ws) = channel_line w.channel.name (values_through 
 abbrev pub report_of : RanValue → Option ℕ → List ℕ
 report_of r time =
     concat (ending_line r.net r.moves r.end ∷ moves_line r.moves ∷ time_line time ∷ done_line r.done_high
-        ∷ history_lines r.passed 0 r.net.channels ∷ [])
+    ∷ history_lines r.passed 0 r.net.channels ∷ [])

@@ -13,7 +13,7 @@ use prs_core::{Net, Wires};
 use std::alloc::{AllocError, Global};
 
 /// Appends the pieces.
-fn append(to: &mut Vec<u8>, pieces: &[&[u8]]) -> Result<(), AllocError>
+pub(crate) fn append(to: &mut Vec<u8>, pieces: &[&[u8]]) -> Result<(), AllocError>
     ensures { OnOk result (to.new.items ≡ to.old.items ++ flat_map (λ piece. piece.now) pieces.now) }
 {
     for piece in pieces {
@@ -40,7 +40,7 @@ fn node_name(net: &Net, node: u32) -> &[u8]
 }
 
 /// The channel's name.
-fn channel_name(net: &Net, chan: u32) -> &[u8]
+pub(crate) fn channel_name(net: &Net, chan: u32) -> &[u8]
     requires { chan < length net.now.channels }
     ensures { result.now ≡ channel_name net.now chan }
 {
@@ -84,8 +84,8 @@ fn time_line(time: Option<u64>, to: &mut Vec<u8>) -> Result<(), AllocError>
     }
 }
 
-/// Appends whether `done` is high.
-fn done_line(done_high: bool, to: &mut Vec<u8>) -> Result<(), AllocError>
+/// Appends whether `done` is high, or whether a program has ended.
+pub(crate) fn done_line(done_high: bool, to: &mut Vec<u8>) -> Result<(), AllocError>
     ensures { OnOk result (to.new.items ≡ to.old.items ++ done_line done_high) }
 {
     if done_high {
@@ -96,7 +96,7 @@ fn done_line(done_high: bool, to: &mut Vec<u8>) -> Result<(), AllocError>
 }
 
 /// Appends a value behind a blank.
-fn value_word(value: u64, to: &mut Vec<u8>) -> Result<(), AllocError>
+pub(crate) fn value_word(value: u64, to: &mut Vec<u8>) -> Result<(), AllocError>
     ensures { OnOk result (to.new.items ≡ to.old.items ++ codes " " ++ decimal value) }
 {
     let mut buffer = Buffer::new();

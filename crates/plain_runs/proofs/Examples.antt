@@ -54,7 +54,7 @@ wires = record { channel = record { name = []; kind = Out; width = 1 }; rails = 
 abbrev sends : NetValue
 sends = net_with 10
     ([] ∷ two (is_high 6) (is_low 7) ∷ one (is_high 8) ∷ one (is_high 9) ∷ [] ∷ two (is_high 0) (is_low 6) ∷ one (is_high 7) ∷ two (is_high 5) (is_high 4)
-        ∷ one (is_high 5) ∷ [] ∷ [])
+    ∷ one (is_high 5) ∷ [] ∷ [])
     ([] ∷ one (is_low 6) ∷ one (is_low 8) ∷ one (is_low 9) ∷ [] ∷ one (is_high 6) ∷ one (is_low 0) ∷ one (is_low 4) ∷ one (is_low 5) ∷ [] ∷ [])
     (wires ∷ [])
 

@@ -44,7 +44,7 @@ pub env_agrees : (net : NetValue) (script : List OfferValue) (d e : ℕ → ℕ)
     env_enabled net script d v n ≡ env_enabled net script e v n
 env_agrees net script d e v n agree =
     ap (λ b. if in_reset net.reset v then is_reset net.reset n && rules_rest net v else raises_go v n || b)
-        (channels_agree v (offer_at script) d e agree 0 net.channels n)
+    (channels_agree v (offer_at script) d e agree 0 net.channels n)
 
 pub counts_are : (hs : List (List ℕ)) (k : ℕ) → slice_index (map (λ (h : List ℕ). length h) hs) k ≡ completed hs k
 counts_are [] zero = refl
@@ -58,8 +58,14 @@ pub noted_more : (v : ℕ → Bool) (n c : ℕ) (ws : List Wires) (w : Wires) (h
     ++ with_values v n (drop c ws) (drop c hs)
 noted_more v n c ws w hs h here_w here_h is noted =
     let less : c < c + 1 = omega arith in
-    rw (take_more_set hs c h here_h, drop-set-lt (c + 1) hs c h less, drop_more ws c w here_w, drop_more hs c [] here_h, ← is,
-        ← noted) (append_assoc (take c hs) (h ∷ []) _)
+    rw (
+      take_more_set hs c h here_h,
+      drop-set-lt (c + 1) hs c h less,
+      drop_more ws c w here_w,
+      drop_more hs c [] here_h,
+      ← is,
+      ← noted,
+    ) (append_assoc (take c hs) (h ∷ []) _)
 
 -- an enabled move by its two tests
 pub enabled_is : (net : NetValue) (script : List OfferValue) (values : List Bool) (hs : List (List ℕ)) (done : List ℕ) (n : ℕ) (rule env : Bool) →
@@ -90,8 +96,10 @@ lost_is : (net : NetValue) (script : List OfferValue) (st : RunState) (n : ℕ) 
     least_below (length was) (λ m. lost (get_or was m false) (get_or now m false) m n) ≡ least_below (length net.first) (takes_away net script st n)
 lost_is net script st n was now before after =
     rw (count_of (move_enabled net script st) (length net.first) was before)
-        (least_agrees (length net.first) _ _ (λ k h. rw (at_place (move_enabled net script st) (length net.first) k was before h,
-        at_place (move_enabled net script (moved net st n)) (length net.first) k now after h) refl))
+    (least_agrees (length net.first) _ _ (λ k h. rw (
+      at_place (move_enabled net script st) (length net.first) k was before h,
+      at_place (move_enabled net script (moved net st n)) (length net.first) k now after h,
+    ) refl))
 
 worst_is : (both taken broken : Option ℕ) →
     worst both taken broken ≡ or_else (option_map BothWays both) (or_else (option_map Unstable taken) (option_map Protocol broken))

@@ -46,16 +46,27 @@ guard_filled count false g filled =
 held_literals : (count : ℕ) (g : GuardValue) → IsFilled g → guard_literals (held count g) ≤ 2 * guard_literals g
 held_literals count [] filled = omega arith
 held_literals count (t ∷ ts) filled =
-    omega (arith, sum_by-cons (λ (u : List Literal). length u) (t ++ reset_literal count false ∷ []) (held count ts),
-        sum_by-cons (λ (u : List Literal). length u) t ts, length_push t (reset_literal count false), All-head Filled t ts filled,
-        held_literals count ts (All-tail Filled t ts filled))
+    omega (
+      arith,
+      sum_by-cons (λ (u : List Literal). length u) (t ++ reset_literal count false ∷ []) (held count ts),
+      sum_by-cons (λ (u : List Literal). length u) t ts,
+      length_push t (reset_literal count false),
+      All-head Filled t ts filled,
+      held_literals count ts (All-tail Filled t ts filled),
+    )
 
 pub both_literals : (count : ℕ) (back : Bool) (g h : GuardValue) → IsFilled g → IsFilled h →
     guard_literals (reset_guard count back g) + guard_literals (reset_guard count (not back) h) ≤ 2 * (guard_literals g + guard_literals h) + 1
-both_literals count true g h g_filled h_filled = omega (arith, sum_by_push (λ (u : List Literal). length u) g (reset_literal count true ∷ []),
-    held_literals count h h_filled)
-both_literals count false g h g_filled h_filled = omega (arith, sum_by_push (λ (u : List Literal). length u) h (reset_literal count true ∷ []),
-    held_literals count g g_filled)
+both_literals count true g h g_filled h_filled = omega (
+  arith,
+  sum_by_push (λ (u : List Literal). length u) g (reset_literal count true ∷ []),
+  held_literals count h h_filled,
+)
+both_literals count false g h g_filled h_filled = omega (
+  arith,
+  sum_by_push (λ (u : List Literal). length u) h (reset_literal count true ∷ []),
+  held_literals count g g_filled,
+)
 
 -- of a net's guards each is within it, those past its nodes too, since they are empty
 pub at_each : (P : GuardValue → Type 0) (gs : List GuardValue) → P [] → All P gs → (node : ℕ) → P (get_or gs node [])

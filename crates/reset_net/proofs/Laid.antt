@@ -13,14 +13,18 @@ pub laid_none : (f : ℕ → GuardValue) (total : ℕ) → replicate total [] �
 laid_none f total = ap (λ k. replicate k []) (omega arith)
 
 pub laid_count : (f : ℕ → GuardValue) (n total : ℕ) → n ≤ total → length (laid f n total) ≡ total
-laid_count f n total within = omega (arith, length-append (map f (range_with_len 0 n)) (replicate (total - n) []), length-map-range_with_len f 0 n,
-    length-replicate {A = GuardValue} (total - n) [])
+laid_count f n total within = omega (
+  arith,
+  length-append (map f (range_with_len 0 n)) (replicate (total - n) []),
+  length-map-range_with_len f 0 n,
+  length-replicate {A = GuardValue} (total - n) [],
+)
 
 pub laid_more : (f : ℕ → GuardValue) (n total : ℕ) → n < total → set (laid f n total) n (f n) ≡ laid f (n + 1) total
 laid_more f n total within =
     let left : total - n ≡ suc (total - (n + 1)) = omega arith in
     let one : laid f n total ≡ map f (range_with_len 0 n) ++ [] ∷ replicate (total - (n + 1)) [] =
-        ap (λ k. map f (range_with_len 0 n) ++ replicate k []) left in
+    ap (λ k. map f (range_with_len 0 n) ++ replicate k []) left in
     ap (λ xs. set xs n (f n)) one
     ∙ set_at (map f (range_with_len 0 n)) [] (replicate (total - (n + 1)) []) (f n) n (length-map-range_with_len f 0 n)
     ∙ sym (append_assoc (map f (range_with_len 0 n)) (f n ∷ []) (replicate (total - (n + 1)) []))

@@ -72,7 +72,7 @@ names_stay n same [] within = refl
 names_stay n same (r ∷ rails) within =
     let here : r < length n.names = omega (arith, All-head (λ rail. rail < length n.first) r rails within) in
     ap (λ x. x ∷ map (name_at (reset_of n)) rails) (name_stays n r here)
-        ∙ ap (λ xs. name_at n r ∷ xs) (names_stay n same rails (All-tail (λ rail. rail < length n.first) r rails within))
+    ∙ ap (λ xs. name_at n r ∷ xs) (names_stay n same rails (All-tail (λ rail. rail < length n.first) r rails within))
 
 wider : (n : NetValue) → length n.first < length (reset_of n).first
 wider n = omega (arith, length_push n.first true)
@@ -138,10 +138,16 @@ own_literals gs count same = ap (sum_by guard_literals) (fill_by_all (λ k. get_
 literals_within : (n : NetValue) → IsNet n → literals_of (reset_of n) ≤ 2 * literals_of n + length n.first
 literals_within n is =
     let nodes = range_with_len 0 (length n.first) in
-    omega (arith, literals_over (λ k. guard_literals (reset_up n k)) (λ k. guard_literals (reset_down n k)) (λ k. guard_literals (up_of n k))
-        (λ k. guard_literals (down_of n k)) (each_literals n is) nodes, laid_literals (reset_up n) (length n.first),
-        laid_literals (reset_down n) (length n.first), own_literals n.up (length n.first) is.ups, own_literals n.down (length n.first) is.downs,
-        length-range_with_len 0 (length n.first))
+    omega (
+      arith,
+      literals_over (λ k. guard_literals (reset_up n k)) (λ k. guard_literals (reset_down n k)) (λ k. guard_literals (up_of n k))
+          (λ k. guard_literals (down_of n k)) (each_literals n is) nodes,
+      laid_literals (reset_up n) (length n.first),
+      laid_literals (reset_down n) (length n.first),
+      own_literals n.up (length n.first) is.ups,
+      own_literals n.down (length n.first) is.downs,
+      length-range_with_len 0 (length n.first),
+    )
 
 reset_named : IsNodeName (codes "reset")
 reset_named = record { short = omega arith; first = refl; parts = refl }

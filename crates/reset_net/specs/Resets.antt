@@ -27,12 +27,12 @@ reset_guard reset leads_back g = if leads_back then forced reset g else held res
 abbrev pub reset_up : NetValue → ℕ → GuardValue
 reset_up n node =
     if has_rules (up_of n node) (down_of n node) then reset_guard (length n.first) (first_at n node) (up_of n node) else
-        []
+    []
 
 abbrev pub reset_down : NetValue → ℕ → GuardValue
 reset_down n node =
     if has_rules (up_of n node) (down_of n node) then reset_guard (length n.first) (not (first_at n node))
-        (down_of n node) else []
+    (down_of n node) else []
 
 -- the net with one more node, the reset node
 abbrev pub reset_of : NetValue → NetValue

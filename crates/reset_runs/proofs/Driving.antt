@@ -112,7 +112,7 @@ held_same : (v : ℕ → Bool) (r : ℕ) → v r ≡ false → (g : GuardValue) 
 held_same v r low [] = refl
 held_same v r low (t ∷ ts) =
     ap (λ b. b || guard_holds v (held r ts)) (list_all-append (literal_holds v) t (reset_literal r false ∷ []) ∙ ap (λ b. term_holds v t && (not b && true)) low
-        ∙ with_true (term_holds v t))
+    ∙ with_true (term_holds v t))
     ∙ ap (λ b. term_holds v t || b) (held_same v r low ts)
   where
     with_true : (a : Bool) → (a && true) ≡ a

@@ -57,7 +57,7 @@ no_channel net v script done r low past c (w ∷ ws) are =
     let is : IsChannel net w = are 0 w (omega arith) in
     or_from _ _
     (not_offered v w (script c) (done c) r low (λ k d within. lt_ne (get_or w.rails k d) r (omega (arith, is.rails_within k d within)))
-        (lt_ne w.ack r (omega (arith, is.ack_within))))
+    (lt_ne w.ack r (omega (arith, is.ack_within))))
     (no_channel net v script done r low past (suc c) ws (λ k d within. are (suc k) d (omega arith)))
 
 -- the values of the nodes are the same
@@ -91,7 +91,7 @@ module _ (net : NetValue) (is : IsNet net) (plain : net.reset ≡ None) (script 
       (cond-false (in_reset net.reset (high st.values)) _ _ (free (high st.values))
       ∙ or_from _ _ (and_left _ _ (ne_eqb k 0 (lt_ne 0 k (omega (arith, is.some)))))
       (no_channel net (high st.values) (offer_at script) (completed st.histories) k (get_or_past st.values k false (omega arith)) past 0 net.channels
-          is.channels))
+      is.channels))
 
   -- only nodes of the net move
   within : (st : RunState) → length st.values ≡ length net.first → (k : ℕ) → move_enabled net script st k ≡ true → k < length net.first
@@ -105,9 +105,9 @@ module _ (net : NetValue) (is : IsNet net) (plain : net.reset ≡ None) (script 
       moved (reset_of net) (with_low st) k ≡ with_low (moved net st k)
   moved_low st count k here =
       same_state (fired (st.values ++ false ∷ []) k) (fired st.values k ++ false ∷ []) (histories_after (reset_of net) (with_low st) k)
-          (histories_after net st k)
+      (histories_after net st k)
       (ap (λ b. set (st.values ++ false ∷ []) k (not b)) (with_default st.values false k)
-          ∙ set-append_left st.values (false ∷ []) k (not (high st.values k)) (omega arith))
+      ∙ set-append_left st.values (false ∷ []) k (not (high st.values k)) (omega arith))
       (ap (λ (v : ℕ → Bool). if v (length net.first) then st.histories else with_values v k net.channels st.histories) (high_same st.values)
       ∙ cond-false (high st.values (length net.first)) _ _ (past_low st count)
       ∙ sym (cond-false (in_reset net.reset (high st.values)) _ _ (free (high st.values))))
@@ -139,9 +139,11 @@ module _ (net : NetValue) (is : IsNet net) (plain : net.reset ≡ None) (script 
   pub run_low : (ns : List ℕ) (st : RunState) → length st.values ≡ length net.first → IsRun (reset_of net) script (with_low st) ns → IsRun net script st ns
   run_low [] st count run = tt
   run_low (n ∷ ns) st count run =
-      let on : move_enabled net script st n ≡ true = sym (enabled_low st count n) ∙ run.0 in
-      (on, run_low ns (moved net st n) (next st count n)
-          (subst (λ (s : RunState). IsRun (reset_of net) script s ns) (moved_low st count n (within st count n on)) run.1))
+      let on : move_enabled net script st n ≡ true = sym (enabled_low st count n) ∙ run.0 in (
+        on,
+        run_low ns (moved net st n) (next st count n)
+            (subst (λ (s : RunState). IsRun (reset_of net) script s ns) (moved_low st count n (within st count n on)) run.1),
+      )
 
   pub after_low : (ns : List ℕ) (st : RunState) → length st.values ≡ length net.first → IsRun net script st ns →
       after (reset_of net) (with_low st) ns ≡ with_low (after net st ns)

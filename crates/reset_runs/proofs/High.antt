@@ -112,20 +112,20 @@ module _ (net : NetValue) (is : IsNet net) (script : List OfferValue) where
       by_place (inl within) =
           sym (rule_high net is (high st.values) h.up k)
           ∙ not-true _ (all_below_at (length (reset_of net).first) k (λ m. not (rule_enabled (reset_of net) (high st.values) m)) rest
-              (omega (arith, length_push net.first true)))
+          (omega (arith, length_push net.first true)))
       by_place (inr past) = and_left _ _ (undriven_past net is k past)
 
   rests_then : (st : RunState) → IsHigh net st → ((k : ℕ) → strays net (high st.values) k ≡ false) → rules_rest (reset_of net) (high st.values) ≡ true
   rests_then st h none =
       all_below_from (length (reset_of net).first) (λ m. not (rule_enabled (reset_of net) (high st.values) m))
-          (λ m. ap not (rule_high net is (high st.values) h.up m ∙ none m))
+      (λ m. ap not (rule_high net is (high st.values) h.up m ∙ none m))
 
   -- so something may still move
   pub goes_high : (st : RunState) → IsHigh net st → ¬ IsAtRest (reset_of net) script st
   goes_high st h rests =
       let none : (k : ℕ) → strays net (high st.values) k ≡ false = λ k. (or_parts _ _ (sym (enabled_high st h k) ∙ rests k)).0 in
       let fall : ((length net.first == length net.first) && rules_rest (reset_of net) (high st.values)) ≡ false =
-          (or_parts _ _ (sym (enabled_high st h (length net.first)) ∙ rests (length net.first))).1 in
+      (or_parts _ _ (sym (enabled_high st h (length net.first)) ∙ rests (length net.first))).1 in
       both_ways _ fall (and_from _ _ (eq-eqb (length net.first) (length net.first) refl) (rests_then st h none))
 
   pub apart_high : (st : RunState) → IsHigh net st → IsApart (reset_of net) st
@@ -182,7 +182,7 @@ module _ (net : NetValue) (is : IsNet net) (script : List OfferValue) where
   all_first : (st : RunState) → IsHigh net st → rules_rest (reset_of net) (high st.values) ≡ true → st.values ≡ net.first ++ true ∷ []
   all_first st h rest =
       ext_get_or false st.values (net.first ++ true ∷ []) (h.count ∙ sym (length_push net.first true))
-          (λ k within. by_place k within (cases_lt k (length net.first)))
+      (λ k within. by_place k within (cases_lt k (length net.first)))
     where
       by_place : (k : ℕ) → k < length st.values → (k < length net.first) ⊎ (length net.first ≤ k) →
           get_or st.values k false ≡ get_or (net.first ++ true ∷ []) k false
@@ -199,7 +199,7 @@ module _ (net : NetValue) (is : IsNet net) (script : List OfferValue) where
   fallen st h rest =
       same_state (fired st.values (length net.first)) _ (histories_after (reset_of net) st (length net.first)) _
       (ap (λ b. set st.values (length net.first) (not b)) h.up ∙ ap (λ vs. set vs (length net.first) false) (all_first st h rest)
-          ∙ set-append_seam net.first true [] false)
+      ∙ set-append_seam net.first true [] false)
       (cond-true (high st.values (length net.first)) st.histories _ h.up ∙ h.nothing)
 
   -- No node moves twice.
@@ -215,7 +215,7 @@ module _ (net : NetValue) (is : IsNet net) (script : List OfferValue) where
   never_again [] st h k first run = All-nil (λ m. k ≢ m)
   never_again (n ∷ ns) st h k first run =
       by_test (n == length net.first) refl (λ on apart. never_again ns (moved (reset_of net) st n) (stray_next st h n on) k (kept st.values n k apart ∙ first)
-          run.1)
+      run.1)
     where
       by_test : (b : Bool) → (n == length net.first) ≡ b →
           (strays net (high st.values) n ≡ true → k ≢ n → All (λ m. k ≢ m) (until_reset (reset_of net).reset ns)) →

@@ -20,12 +20,12 @@ module _ (net : NetValue) (is : IsNet net) (plain : net.reset ≡ None) (script 
   falls ns st h rest run =
       let here : (length net.first == length net.first) ≡ true = eq-eqb (length net.first) (length net.first) refl in
       let none : until_reset (reset_of net).reset (length net.first ∷ ns) ≡ [] =
-          cond-true (length net.first == length net.first) [] (length net.first ∷ until_reset (reset_of net).reset ns) here in
+      cond-true (length net.first == length net.first) [] (length net.first ∷ until_reset (reset_of net).reset ns) here in
       let down : moved (reset_of net) st (length net.first) ≡ with_low (run_start net) = fallen net is script st h rest in
       let since : IsRun net script (run_start net) ns =
-          run_low net is plain script ns (run_start net) refl (subst (λ (s : RunState). IsRun (reset_of net) script s ns) down run.1) in
+      run_low net is plain script ns (run_start net) refl (subst (λ (s : RunState). IsRun (reset_of net) script s ns) down run.1) in
       let ends : after (reset_of net) (moved (reset_of net) st (length net.first)) ns ≡ with_low (after net (run_start net) ns) =
-          ap (λ (s : RunState). after (reset_of net) s ns) down ∙ after_low net is plain script ns (run_start net) refl since in
+      ap (λ (s : RunState). after (reset_of net) s ns) down ∙ after_low net is plain script ns (run_start net) refl since in
       record {
         since = ns;
         whole = ap (λ (xs : List ℕ). xs ++ length net.first ∷ ns) (sym none);
@@ -33,8 +33,11 @@ module _ (net : NetValue) (is : IsNet net) (plain : net.reset ≡ None) (script 
         run = since;
         counted = cond-true (length net.first == length net.first) (length ns) (moves_since_reset (reset_of net).reset ns) here;
         ends = ends;
-        safe = λ safe. (apart_high net is script st h, fall_safe net is script st h rest,
-            subst (λ (s : RunState). IsSafeRun (reset_of net) script s ns) (sym down) (safe_low net is plain script ns (run_start net) refl since safe));
+        safe = λ safe. (
+          apart_high net is script st h,
+          fall_safe net is script st h rest,
+          subst (λ (s : RunState). IsSafeRun (reset_of net) script s ns) (sym down) (safe_low net is plain script ns (run_start net) refl since safe),
+        );
         rests = λ rests. rest_low net is plain script (after net (run_start net) ns) (count_after net ns (run_start net))
             (subst (λ (s : RunState). IsAtRest (reset_of net) script s) ends rests);
       }
@@ -52,7 +55,7 @@ module _ (net : NetValue) (is : IsNet net) (plain : net.reset ≡ None) (script 
   })
   one_more n ns st h other on (inr b) =
       let still : until_reset (reset_of net).reset (n ∷ ns) ≡ n ∷ until_reset (reset_of net).reset ns =
-          cond-false (n == length net.first) [] (n ∷ until_reset (reset_of net).reset ns) other in
+      cond-false (n == length net.first) [] (n ∷ until_reset (reset_of net).reset ns) other in
       inr (record {
         since = b.since;
         whole = ap (λ (xs : List ℕ). n ∷ xs) b.whole ∙ ap (λ (xs : List ℕ). xs ++ length net.first ∷ b.since) (sym still);
@@ -65,8 +68,14 @@ module _ (net : NetValue) (is : IsNet net) (plain : net.reset ≡ None) (script 
       })
 
   course : (ns : List ℕ) (st : RunState) → IsHigh net st → IsRun (reset_of net) script st ns → IsBefore net script st ns ⊎ AfterReset net script st ns
-  course [] st h run = inl (record { whole = refl; safe = apart_high net is script st h; nothing = h.nothing; counted = refl; goes =
-      goes_high net is script st h })
+  course [] st h run = inl (record {
+    whole = refl;
+    safe = apart_high net is script st h;
+    nothing = h.nothing;
+    counted = refl;
+    goes =
+        goes_high net is script st h;
+  })
   course (n ∷ ns) st h run = by_test (n == length net.first) refl (λ on. course ns (moved (reset_of net) st n) (stray_next net is script st h n on) run.1)
     where
       by_test : (b : Bool) → (n == length net.first) ≡ b →

@@ -69,7 +69,7 @@ join_read cause e v es n a b is items all adds =
 pub chain_read : (cause : FaultCode) (e : TExpr) (first : Box TExpr Global) (v : Vec TLink Global) (ls : List TLink) (n : ℕ) (a b d : Deeds)
     → e ≡ Chain first v → ls ≡ v.items → length ls ≤ n
     → Adds cause (reads_of (formula_of first.value)) a b → Adds cause (reads_of_operations (links_of (take n ls))) b d →
-        Adds cause (reads_of (formula_of e)) a d
+    Adds cause (reads_of (formula_of e)) a d
 chain_read cause e first v ls n a b d is items all l k =
     let same = ap reads_of (chained_links e first v is)
     ∙ ap (λ (xs : List TLink). reads_of (formula_of first.value) ++ reads_of_operations (links_of xs)) (sym items ∙ sym (take_all n ls all)) in
@@ -87,7 +87,7 @@ turn_next cause ss i s a b d within is tells own merges =
 pub branch_next : (cause : FaultCode) (ss : List TStmt) (i : ℕ) (s : TStmt) (a b d : Deeds) (across : Option Clash) → i < length ss
     → s ≡ get_or ss i s → Tells cause (side_by_side (members_of (take i ss))) a
     → Tells cause (process_of s) b → IsLeast IsNoLaterPair (Crosses a b) across → Merges a b across d →
-        Tells cause (side_by_side (members_of (take (i + 1) ss))) d
+    Tells cause (side_by_side (members_of (take (i + 1) ss))) d
 branch_next cause ss i s a b d across within is tells own least merges =
     let same = ap (λ (xs : List TStmt). side_by_side (members_of xs)) (one_more ss i s within is) ∙ ap side_by_side (member_last (take i ss) s) in
     subst (λ (p : Process). Tells cause p d) (sym same) (branch_more cause _ _ a b d across tells own least merges)
@@ -95,7 +95,7 @@ branch_next cause ss i s a b d across within is tells own least merges =
 pub choice_next : (cause : FaultCode) (arms : List TArm) (i : ℕ) (arm : TArm) (a b d e : Deeds) → i < length arms → arm ≡ get_or arms i arm
     → Tells cause (choosing true (arms_of (take i arms))) a
     → Tells cause (process_of arm.body) b → Adds cause (reads_of (formula_of arm.guard)) b d → Merges a d None e →
-        Tells cause (choosing true (arms_of (take (i + 1) arms))) e
+    Tells cause (choosing true (arms_of (take (i + 1) arms))) e
 choice_next cause arms i arm a b d e within is tells own adds merges =
     let same = ap (λ (xs : List TArm). choosing true (arms_of xs)) (one_more arms i arm within is) ∙ ap (choosing true) (arm_last (take i arms) arm) in
     subst (λ (p : Process). Tells cause p e) (sym same) (choice_told cause true _ _ _ a b d e tells own adds merges)

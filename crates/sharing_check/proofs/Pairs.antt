@@ -163,7 +163,7 @@ members_more no_members p a b (inl h) = absurd (across_none (occurrences p) a b 
 members_more no_members p a b (inr h) = inl h
 members_more (and_member q more) p a b (inl h) =
     by_list (across_cases (occurrences q) (occurrences_of_each more) (occurrences p) a b
-        (subst (λ (os : List Occurrence). IsAcross (occurrences q) os a b) (member_occurrences more p) h))
+    (subst (λ (os : List Occurrence). IsAcross (occurrences q) os a b) (member_occurrences more p) h))
   where
     by_list : IsAcross (occurrences q) (occurrences_of_each more) a b ⊎ IsAcross (occurrences q) (occurrences p) a b
         → ParallelAcross (and_member q more) a b ⊎ IsAcross (occurrences_of_each (and_member q more)) (occurrences p) a b
@@ -183,15 +183,15 @@ more_members no_members p a b (inl h) = absurd h
 more_members no_members p a b (inr h) = absurd (none_across (occurrences p) a b h)
 more_members (and_member q more) p a b (inl (inl h)) =
     inl (subst (λ (os : List Occurrence). IsAcross (occurrences q) os a b) (sym (member_occurrences more p))
-        (across_left (occurrences q) (occurrences_of_each more) (occurrences p) a b h))
+    (across_left (occurrences q) (occurrences_of_each more) (occurrences p) a b h))
 more_members (and_member q more) p a b (inl (inr h)) = inr (more_members more p a b (inl h))
 more_members (and_member q more) p a b (inr h) =
     by_list (joined_cases (occurrences q) (occurrences_of_each more) (occurrences p) a b h) (λ k. more_members more p a b (inr k))
   where
     by_list : IsAcross (occurrences q) (occurrences p) a b ⊎ IsAcross (occurrences_of_each more) (occurrences p) a b
         → (IsAcross (occurrences_of_each more) (occurrences p) a b → ParallelAcross (with_member more p) a b) →
-            ParallelAcross (with_member (and_member q more) p) a b
+        ParallelAcross (with_member (and_member q more) p) a b
     by_list (inl k) rest =
         inl (subst (λ (os : List Occurrence). IsAcross (occurrences q) os a b) (sym (member_occurrences more p))
-            (across_right (occurrences q) (occurrences_of_each more) (occurrences p) a b k))
+        (across_right (occurrences q) (occurrences_of_each more) (occurrences p) a b k))
     by_list (inr k) rest = inr (rest k)

@@ -150,8 +150,15 @@ met_all first es other unique l = least_same l (λ c h. record {
 })
 
 pub meeting_sym : (f g : Lookup) (c : Clash) → Meeting f g c → Meeting g f c
-meeting_sym f g c h = record { name = h.name; here = h.there; there = h.here; in_one = h.in_other; in_other = h.in_one; pair =
-    order_sym h.here h.there c h.pair }
+meeting_sym f g c h = record {
+  name = h.name;
+  here = h.there;
+  there = h.here;
+  in_one = h.in_other;
+  in_other = h.in_one;
+  pair =
+      order_sym h.here h.there c h.pair;
+}
 
 -- Two tables meet where two kinds of places do, of which they have the first ones: at one name none of these pairs is
 -- before that of the first places.

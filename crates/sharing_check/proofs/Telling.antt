@@ -166,8 +166,15 @@ as_shared p cause c h = record { a = h.a; b = h.b; parallel = h.related; clash =
 
 related_as : (R S : Occurrence → Occurrence → Type 0) (cause : FaultCode) (c : Clash) → ((a b : Occurrence) → R a b → S a b) → SharedBy R cause c
     → SharedBy S cause c
-related_as R S cause c into h = record { a = h.a; b = h.b; related = into h.a h.b h.related; clash = h.clash; at_first = h.at_first; at_second = h.at_second;
-    order = h.order }
+related_as R S cause c into h = record {
+  a = h.a;
+  b = h.b;
+  related = into h.a h.b h.related;
+  clash = h.clash;
+  at_first = h.at_first;
+  at_second = h.at_second;
+  order = h.order;
+}
 
 related_cases : (R S T : Occurrence → Occurrence → Type 0) (cause : FaultCode) (c : Clash) → ((a b : Occurrence) → R a b → S a b ⊎ T a b)
     → SharedBy R cause c → SharedBy S cause c ⊎ SharedBy T cause c
@@ -180,7 +187,7 @@ related_cases R S T cause c cases h = by_case (cases h.a h.b h.related)
 -- two deeds clash by a name that one of them has exclusively, and the other one has too
 clash_name : (cause : FaultCode) (d e : Deed) → Clashes cause d e
     → (x : ℕ) × ((IsExclusive cause d x × IsExclusive cause e x) ⊎
-        ((IsExclusive cause d x × IsCommon cause e x) ⊎ (IsCommon cause d x × IsExclusive cause e x)))
+    ((IsExclusive cause d x × IsCommon cause e x) ⊎ (IsCommon cause d x × IsExclusive cause e x)))
 clash_name code.SharedVariable (writes_var x) (writes_var y) h = (x, inl (refl, h))
 clash_name code.SharedVariable (writes_var x) (reads_var y) h = (x, inr (inl (refl, h)))
 clash_name code.SharedVariable (reads_var x) (writes_var y) h = (x, inr (inr (refl, h)))
@@ -256,7 +263,7 @@ CrossedBelow a b d = (c : Clash) × Crosses a b c × IsNoLaterPair c d
 pub crossing : (cause : FaultCode) (os ps : List Occurrence) (a b : Deeds) (o : Option Clash)
     → kept_by (IsExclusive cause) os (get nat_eq a.exclusive) → kept_by (IsCommon cause) os (get nat_eq a.common)
     → kept_by (IsExclusive cause) ps (get nat_eq b.exclusive) → kept_by (IsCommon cause) ps (get nat_eq b.common) → IsLeast IsNoLaterPair (Crosses a b) o →
-        IsLeast IsNoLaterPair (SharedBy (IsAcross os ps) cause) o
+    IsLeast IsNoLaterPair (SharedBy (IsAcross os ps) cause) o
 crossing cause os ps a b o a_exclusive a_common b_exclusive b_common l = least_refine pair_trans l into below
   where
     into : (c : Clash) → Crosses a b c → SharedBy (IsAcross os ps) cause c
@@ -265,7 +272,7 @@ crossing cause os ps a b o a_exclusive a_common b_exclusive b_common l = least_r
     into c (inr (inl h)) = meeting_shared (IsExclusive cause) (IsCommon cause) cause os ps c (one_common cause) (meeting_there _ _ _ _ a_exclusive b_common c h)
     into c (inr (inr h)) =
         meeting_shared (IsCommon cause) (IsExclusive cause) cause os ps c (λ d e x k m. clashes_sym cause e d (one_common cause e d x m k))
-            (meeting_there _ _ _ _ a_common b_exclusive c h)
+        (meeting_there _ _ _ _ a_common b_exclusive c h)
 
     both : (d : Clash) → MeetingOf (IsDoneAt (IsExclusive cause) os) (IsDoneAt (IsExclusive cause) ps) d → CrossedBelow a b d
     both d h = let m = meeting_below _ _ _ _ a_exclusive b_exclusive d h in (m.0, inl m.1, m.2)
@@ -303,7 +310,7 @@ IsBelow o e = (c : Clash) × (o ≡ Some c) × IsNoLaterPair c e
 tells_more : (cause : FaultCode) (p q r : Process) (R : Occurrence → Occurrence → Type 0) (a b d : Deeds) (across : Option Clash)
     → occurrences r ≡ occurrences p ++ occurrences q
     → ((u v : Occurrence) → Parallel r u v → (Parallel p u v ⊎ Parallel q u v) ⊎ R u v) →
-        ((u v : Occurrence) → (Parallel p u v ⊎ Parallel q u v) ⊎ R u v → Parallel r u v)
+    ((u v : Occurrence) → (Parallel p u v ⊎ Parallel q u v) ⊎ R u v → Parallel r u v)
     → Tells cause p a → Tells cause q b → IsLeast IsNoLaterPair (SharedBy R cause) across → Merges a b across d → Tells cause r d
 tells_more cause p q r R a b d across are cases pairs tells others least merges = record {
   exclusive = joined_in (IsExclusive cause) (occurrences p) (occurrences q) (occurrences r) _ _ _ are tells.exclusive others.exclusive merges.exclusive;
@@ -352,7 +359,7 @@ pub turn_more : (cause : FaultCode) (members : Processes) (p : Process) (a b d :
     → Merges a b None d → Tells cause (in_turn (with_member members p)) d
 turn_more cause members p a b d tells own merges =
     tells_more cause (in_turn members) p (in_turn (with_member members p)) Never a b d None (member_occurrences members p)
-        (λ u v h. inl (inside_more members p u v h))
+    (λ u v h. inl (inside_more members p u v h))
     (λ u v. as_either _ _ _ (more_inside members p u v)) tells own (never_least cause) merges
 
 pub choice_told : (cause : FaultCode) (again : Bool) (choices : Choices) (g : Formula) (p : Process) (a b d e : Deeds)
@@ -408,7 +415,7 @@ pub branch_more : (cause : FaultCode) (members : Processes) (p : Process) (a b d
     → Merges a b across d → Tells cause (side_by_side (with_member members p)) d
 branch_more cause members p a b d across tells own least merges =
     tells_more cause (side_by_side members) p (side_by_side (with_member members p)) (IsAcross (occurrences_of_each members) (occurrences p)) a b d across
-        (member_occurrences members p) cases pairs tells own
+    (member_occurrences members p) cases pairs tells own
     (crossing cause (occurrences_of_each members) (occurrences p) a b across tells.exclusive tells.common own.exclusive own.common least) merges
   where
     cases : (u v : Occurrence) → Parallel (side_by_side (with_member members p)) u v
@@ -444,18 +451,37 @@ unshared p cause o is l a b parallel clash = by_order (no_later_total a.at b.at)
     none c h = let m = l.least c h in cc (m.1, is)
 
     by_order : IsNoLater a.at b.at ⊎ IsNoLater b.at a.at → ⊥
-    by_order (inl h) = none (record { first = a.at; second = b.at }) (record { a = a; b = b; parallel = parallel; clash = clash; at_first = refl; at_second =
-        refl; order = h })
+    by_order (inl h) = none (record { first = a.at; second = b.at }) (record {
+      a = a;
+      b = b;
+      parallel = parallel;
+      clash = clash;
+      at_first = refl;
+      at_second =
+          refl;
+      order = h;
+    })
     by_order (inr h) =
         none (record { first = b.at; second = a.at })
-        (record { a = b; b = a; parallel = parallel_sym p a b parallel; clash = clashes_sym cause a.deed b.deed clash; at_first = refl; at_second = refl;
-            order = h })
+        (record {
+          a = b;
+          b = a;
+          parallel = parallel_sym p a b parallel;
+          clash = clashes_sym cause a.deed b.deed clash;
+          at_first = refl;
+          at_second = refl;
+          order = h;
+        })
 
 -- the least pair is the one that is reported
 pub first_shared : (p : Process) (cause : FaultCode) (o : Option Clash) (c : Clash) → o ≡ Some c
     → IsLeast IsNoLaterPair (λ d. SharedAt p cause d.first d.second) o → IsFirstShared p cause c.first c.second
-first_shared p cause o c is l = record { shared = l.there c is; least_second = λ s t h. (below s t h).by_second; least_first =
-    λ s h. (below s c.second h).by_first refl }
+first_shared p cause o c is l = record {
+  shared = l.there c is;
+  least_second = λ s t h. (below s t h).by_second;
+  least_first =
+      λ s h. (below s c.second h).by_first refl;
+}
   where
     below : (s t : Span) → SharedAt p cause s t → IsNoLaterPair c (record { first = s; second = t })
     below s t h =

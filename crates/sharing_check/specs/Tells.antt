@@ -43,10 +43,10 @@ pub record Tells (cause : FaultCode) (p : Process) (d : Deeds) : Type 0 where
 pub record Adds (cause : FaultCode) (os : List Occurrence) (old new : Deeds) : Type 0 where
   pub exclusive : (x : ℕ)
       → IsLeast IsNoLater (λ s. (get nat_eq old.exclusive x ≡ Some s) ⊎ IsDoneAt (IsExclusive cause) os x s)
-          (get nat_eq new.exclusive x)
+      (get nat_eq new.exclusive x)
   pub common : (x : ℕ)
       → IsLeast IsNoLater (λ s. (get nat_eq old.common x ≡ Some s) ⊎ IsDoneAt (IsCommon cause) os x s)
-          (get nat_eq new.common x)
+      (get nat_eq new.common x)
   pub clash : new.clash ≡ old.clash
 
 -- a name that both have, at least one of them exclusively
@@ -54,7 +54,7 @@ abbrev pub Crosses : Deeds → Deeds → Clash → Type 0
 Crosses a b c =
     Meeting (get nat_eq a.exclusive) (get nat_eq b.exclusive) c
     ⊎ (Meeting (get nat_eq a.exclusive) (get nat_eq b.common) c ⊎ Meeting (get nat_eq a.common) (get nat_eq b.exclusive)
-        c)
+    c)
 
 -- both together, and a pair that they have across
 pub record Merges (a b : Deeds) (across : Option Clash) (new : Deeds) : Type 0 where

@@ -10,7 +10,7 @@ set_up-requires-clause-node c =
     let net = c.args.net.now in
     let within : c.loop-node.node < length net.first = omega (arith, c.loop-node-test.true, ap length c.first.ensures.first) in
     let total : length c.loop-node.rules.up ≡ length net.first + 1 =
-        ap length c.loop-node.invariant.up ∙ laid_count (reset_up net) c.loop-node.node (length net.first + 1) (omega arith) in
+    ap length c.loop-node.invariant.up ∙ laid_count (reset_up net) c.loop-node.node (length net.first + 1) (omega arith) in
     omega arith
 
 pub set_up-requires-clause-within : goal.set_up-requires-clause-within
@@ -18,7 +18,7 @@ set_up-requires-clause-within c =
     let net = c.args.net.now in
     let within : c.loop-node.node < length net.first = omega (arith, c.loop-node-test.true, ap length c.first.ensures.first) in
     let total : length c.loop-node.rules.up ≡ length net.first + 1 =
-        ap length c.loop-node.invariant.up ∙ laid_count (reset_up net) c.loop-node.node (length net.first + 1) (omega arith) in
+    ap length c.loop-node.invariant.up ∙ laid_count (reset_up net) c.loop-node.node (length net.first + 1) (omega arith) in
     rw (c.in_ok-up_guard.ensures, total) (up_below net c.first.ensures.net c.loop-node.node)
 
 pub set_down-requires-clause-node : goal.set_down-requires-clause-node
@@ -26,8 +26,8 @@ set_down-requires-clause-node c =
     let net = c.args.net.now in
     let within : c.loop-node.node < length net.first = omega (arith, c.loop-node-test.true, ap length c.first.ensures.first) in
     let up : c.set_up.new.self.up ≡ laid (reset_up net) (c.loop-node.node + 1) (length net.first + 1) =
-        laid_step (reset_up net) c.loop-node.node (length net.first + 1) c.loop-node.rules.up _ c.in_ok-up_guard.field-0 (omega arith) c.loop-node.invariant.up
-        c.in_ok-up_guard.ensures (ap (λ (r : RulesValue). r.up) c.set_up.ensures) in
+    laid_step (reset_up net) c.loop-node.node (length net.first + 1) c.loop-node.rules.up _ c.in_ok-up_guard.field-0 (omega arith) c.loop-node.invariant.up
+    c.in_ok-up_guard.ensures (ap (λ (r : RulesValue). r.up) c.set_up.ensures) in
     omega (arith, ap length up, laid_count (reset_up net) (c.loop-node.node + 1) (length net.first + 1) (omega arith))
 
 pub set_down-requires-clause-within : goal.set_down-requires-clause-within
@@ -35,10 +35,10 @@ set_down-requires-clause-within c =
     let net = c.args.net.now in
     let within : c.loop-node.node < length net.first = omega (arith, c.loop-node-test.true, ap length c.first.ensures.first) in
     let up : c.set_up.new.self.up ≡ laid (reset_up net) (c.loop-node.node + 1) (length net.first + 1) =
-        laid_step (reset_up net) c.loop-node.node (length net.first + 1) c.loop-node.rules.up _ c.in_ok-up_guard.field-0 (omega arith) c.loop-node.invariant.up
-        c.in_ok-up_guard.ensures (ap (λ (r : RulesValue). r.up) c.set_up.ensures) in
+    laid_step (reset_up net) c.loop-node.node (length net.first + 1) c.loop-node.rules.up _ c.in_ok-up_guard.field-0 (omega arith) c.loop-node.invariant.up
+    c.in_ok-up_guard.ensures (ap (λ (r : RulesValue). r.up) c.set_up.ensures) in
     let total : length c.set_up.new.self.up ≡ length net.first + 1 =
-        ap length up ∙ laid_count (reset_up net) (c.loop-node.node + 1) (length net.first + 1) (omega arith) in
+    ap length up ∙ laid_count (reset_up net) (c.loop-node.node + 1) (length net.first + 1) (omega arith) in
     rw (c.in_ok-down_guard.ensures, total) (down_below net c.first.ensures.net c.loop-node.node)
 
 pub loop-node-preserved : goal.loop-node-preserved

@@ -10,7 +10,7 @@ new_reset-requires c =
     let is : IsNet net = subst IsNet c.net.view_is c.net.invariant in
     let parts = c.into_parts-names.ensures in
     let names : c.push.new.self.items ≡ net.names ++ codes "reset" ∷ [] =
-        c.in_ok-push.ensures.items ∙ ap (λ xs. xs ++ c.in_ok-reset_name.field-0 ∷ []) parts.names ∙ ap (λ x. net.names ++ x ∷ []) c.in_ok-reset_name.ensures in
+    c.in_ok-push.ensures.items ∙ ap (λ xs. xs ++ c.in_ok-reset_name.field-0 ∷ []) parts.names ∙ ap (λ x. net.names ++ x ∷ []) c.in_ok-reset_name.ensures in
     subst IsNet (sym (parts_are net c.push.new.self.items c.push-2.new.self.items c.in_ok-rules.rules c.into_parts-names.result.3.items names
-        (c.in_ok-push-2.ensures.items ∙ ap (λ xs. xs ++ true ∷ []) parts.first) c.in_ok-rules.ensures parts.channels))
-        (reset_is_net net is c.requires.plain c.requires.free)
+    (c.in_ok-push-2.ensures.items ∙ ap (λ xs. xs ++ true ∷ []) parts.first) c.in_ok-rules.ensures parts.channels))
+    (reset_is_net net is c.requires.plain c.requires.free)

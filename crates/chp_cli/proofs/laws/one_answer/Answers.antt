@@ -1,4 +1,6 @@
 use Rattle.chp_cli.proofs.OneAnswers.{checks_once, command_once}
+use Rattle.chp_cli.proofs.OneRounds.{rounds_once}
+use Rattle.chp_cli.proofs.OneRuns.{simulate_once}
 use Rattle.chp_cli.proofs.laws.one_answer.Goals as goal
 
 pub returns : goal.returns
@@ -6,5 +8,5 @@ returns c =
     let text = c.one_fault.ensures in
     let names = c.one_fault-2.ensures in
     let sharing = c.one_shared_fault.ensures in
-    command_once text.cause text.place c.one_refusal.ensures.once
-    (checks_once names.cause names.place names.none sharing.cause sharing.first sharing.second sharing.none)
+    let checked = checks_once names.cause names.place names.none sharing.cause sharing.first sharing.second sharing.none in
+    command_once text.cause text.place c.one_refusal.ensures.once (simulate_once c.one_refusal.ensures.once) (rounds_once text.cause text.place checked) checked

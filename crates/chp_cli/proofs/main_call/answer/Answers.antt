@@ -23,3 +23,21 @@ returns-in-Expand-clause-answered g c = rw c.in-Expand.is c.expand.ensures.answe
 
 pub returns-in-Expand-clause-stopped : goal.returns-in-Expand-clause-stopped
 returns-in-Expand-clause-stopped g c = rw c.in-Expand.is c.expand.ensures.stopped
+
+pub returns-in-Simulate-clause-answered : goal.returns-in-Simulate-clause-answered
+returns-in-Simulate-clause-answered g c = rw c.in-Simulate.is c.simulate.ensures.answered
+
+pub returns-in-Simulate-clause-stopped : goal.returns-in-Simulate-clause-stopped
+returns-in-Simulate-clause-stopped g c = rw c.in-Simulate.is c.simulate.ensures.stopped
+
+pub returns-in-Simulate-clause-orders : goal.returns-in-Simulate-clause-orders
+returns-in-Simulate-clause-orders g c = rw c.in-Simulate.is c.simulate.ensures.orders
+
+pub simulate-requires : goal.simulate-requires
+simulate-requires g c = rw c.in-Simulate.is at c.requires
+
+pub returns-in-Run-clause-answered : goal.returns-in-Run-clause-answered
+returns-in-Run-clause-answered g c = rw c.in-Run.is c.rounds.ensures.answered
+
+pub returns-in-Run-clause-stopped : goal.returns-in-Run-clause-stopped
+returns-in-Run-clause-stopped g c = rw c.in-Run.is c.rounds.ensures.stopped

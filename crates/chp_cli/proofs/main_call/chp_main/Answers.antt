@@ -11,19 +11,19 @@ returns-clause-ended g c =
 
 pub returns-clause-complete : goal.returns-clause-complete
 returns-clause-complete g c = λ answer told are calm quiet.
-    rw c.status.ensures (complete_of _ _ _ _ _ _ (λ command. c.one_answer.ensures command _ told) c.run-end.ensures.ended.1 answer are calm quiet)
+    rw c.status.ensures (complete_of _ _ _ _ _ _ _ (λ command. c.one_answer.ensures command _ _ told) c.run-end.ensures.ended.1 answer are calm quiet)
 
 pub returns-clause-usage : goal.returns-clause-usage
-returns-clause-usage g c = λ is. usage_of _ _ _ _ _ _ c.run-end.ensures.ended.1 (sym c.status.ensures ∙ is)
+returns-clause-usage g c = λ is. usage_of _ _ _ _ _ _ _ c.run-end.ensures.ended.1 (sym c.status.ensures ∙ is)
 
 pub returns-clause-read : goal.returns-clause-read
-returns-clause-read g c = λ is. read_of _ _ _ _ _ _ c.run-end.ensures.ended.1 (sym c.status.ensures ∙ is)
+returns-clause-read g c = λ is. read_of _ _ _ _ _ _ _ c.run-end.ensures.ended.1 (sym c.status.ensures ∙ is)
 
 pub returns-clause-write : goal.returns-clause-write
-returns-clause-write g c = λ is. write_of _ _ _ _ _ _ c.run-end.ensures.ended.1 (sym c.status.ensures ∙ is)
+returns-clause-write g c = λ is. write_of _ _ _ _ _ _ _ c.run-end.ensures.ended.1 (sym c.status.ensures ∙ is)
 
 pub returns-clause-silent : goal.returns-clause-silent
 returns-clause-silent g c = λ not cut told.
     let e = c.run-end.ensures.ended in
-    let none = silent_of _ _ _ _ _ _ e.1 (ap is_whole (sym c.status.ensures) ∙ not) (λ is. cut (c.status.ensures ∙ is)) in
+    let none = silent_of _ _ _ _ _ _ _ e.1 (ap is_whole (sym c.status.ensures) ∙ not) (λ is. cut (c.status.ensures ∙ is)) in
     e.2 told ∙ (ap (λ xs. g.K.Sink.written c.args.out.now ++ xs) none ∙ append-nil _)

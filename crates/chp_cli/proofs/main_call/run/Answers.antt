@@ -16,14 +16,14 @@ returns-in-Err-clause-ended g c = ([], no_memory, λ told. sym (append-nil _))
 pub returns-in-Err-answer-clause-ended : goal.returns-in-Err-answer-clause-ended
 returns-in-Err-answer-clause-ended g c =
     let named : asked_by c.args.words.now ≡ Some (asked c.in-Ok-Some.command) = search rules in
-    ([], stopped_ends _ _ _ _ _ _ (asked c.in-Ok-Some.command) named c.in-Err-answer.stop c.in-Err-answer.ensures.stopped, λ told. sym (append-nil _))
+    ([], stopped_ends _ _ _ _ _ _ _ (asked c.in-Ok-Some.command) named c.in-Err-answer.stop c.in-Err-answer.ensures.stopped, λ told. sym (append-nil _))
 
 pub returns-in-Ok-write_all-clause-ended : goal.returns-in-Ok-write_all-clause-ended
 returns-in-Ok-write_all-clause-ended g c =
     let named : asked_by c.args.words.now ≡ Some (asked c.in-Ok-Some.command) = search rules in
     let output = c.in-Ok.output in (
       output.text.items,
-      whole output.end output.text.items (answers_of _ _ (asked c.in-Ok-Some.command) (told_answer output) named c.in-Ok.ensures.answered),
+      whole output.end output.text.items (answers_of _ _ _ (asked c.in-Ok-Some.command) (told_answer output) named c.in-Ok.ensures.answered),
       rw c.deref.ensures.value at c.in-Ok-write_all.ensures.whole,
     )
 
@@ -35,7 +35,7 @@ returns-clause-ended g c =
     let front = front_of (K.tells c.args.out.now) (K.written c.args.out.now) (K.written c.write_all.new.sink) output.text.items
     (rw c.deref.ensures.value at c.in-Err-write_all.ensures.prefix) in (
       take front.0 output.text.items,
-      cut_off output.end output.text.items front.0 (answers_of _ _ (asked c.in-Ok-Some.command) (told_answer output) named c.in-Ok.ensures.answered)
+      cut_off output.end output.text.items front.0 (answers_of _ _ _ (asked c.in-Ok-Some.command) (told_answer output) named c.in-Ok.ensures.answered)
           c.in-Err-write_all.ensures.failed,
       front.1,
     )

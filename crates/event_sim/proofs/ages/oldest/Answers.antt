@@ -24,6 +24,11 @@ pub returns-clause-best : goal.returns-clause-best
 returns-clause-best c =
     let f = slice_index (ages_at c.args.now c.args.table.now) in
     let xs = map f c.args.list.now in
-    let whole : c.loop-place.place ≡ length xs = omega (arith, length-map c.args.list.now f, c.loop-place.auto.place-end, c.loop-place-test.false,
-        c.requires.list.some) in
+    let whole : c.loop-place.place ≡ length xs = omega (
+      arith,
+      length-map c.args.list.now f,
+      c.loop-place.auto.place-end,
+      c.loop-place-test.false,
+      c.requires.list.some,
+    ) in
     greatest_is xs c.loop-place.best (subst (λ (n : ℕ). IsFirstBest (λ x y. nat_lt y x) xs n c.loop-place.best) whole c.loop-place.invariant)

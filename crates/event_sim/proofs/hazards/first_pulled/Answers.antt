@@ -9,4 +9,4 @@ returns-in-None c = sym (least_none (length c.args.net.now.first) (both_ways c.a
 pub returns-in-Some : goal.returns-in-Some
 returns-in-Some c =
     sym (least_some (length c.args.net.now.first) c.in-Some.node (both_ways c.args.net.now (high c.args.state.now)) c.in-Some.ensures.within
-        c.in-Some.ensures.some c.in-Some.ensures.least)
+    c.in-Some.ensures.some c.in-Some.ensures.least)

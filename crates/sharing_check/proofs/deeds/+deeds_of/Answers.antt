@@ -20,17 +20,17 @@ loop-arm-init t c = no_choice _ _ _ (c.no_deeds-all-in-Select.ensures c.args.cau
 pub loop-part-preserved : goal.loop-part-preserved
 loop-part-preserved t c =
     turn_next _ _ c.loop-part.part-index _ _ _ _ c.loop-part-test.true c.part-item.is c.loop-part.invariant c.in_ok-own-in-Then.ensures
-        c.in_ok-all-in-Then.ensures
+    c.in_ok-all-in-Then.ensures
 
 pub loop-branch-preserved : goal.loop-branch-preserved
 loop-branch-preserved t c =
     branch_next _ _ c.loop-branch.branch-index _ _ _ _ _ c.loop-branch-test.true c.branch-item.is c.loop-branch.invariant c.in_ok-own-in-Beside.ensures
-        c.first_crossing-across.ensures c.in_ok-all-in-Beside.ensures
+    c.first_crossing-across.ensures c.in_ok-all-in-Beside.ensures
 
 pub loop-arm-preserved : goal.loop-arm-preserved
 loop-arm-preserved t c =
     choice_next _ _ c.loop-arm.arm-index _ _ _ _ _ c.loop-arm-test.true c.arm-item.is c.loop-arm.invariant c.in_ok-own-in-Select.ensures
-        c.in_ok-note_reads-in-Select.ensures c.in_ok-all-in-Select.ensures
+    c.in_ok-note_reads-in-Select.ensures c.in_ok-all-in-Select.ensures
 
 pub returns-after-loop-part : goal.returns-after-loop-part
 returns-after-loop-part t c = then_told _ _ _ _ c.loop-part.part-index _ c.in-Then.is c.deref-part-items.ensures.value c.loop-part-test.false
@@ -51,4 +51,4 @@ pub returns-in-Repeat : goal.returns-in-Repeat
 returns-in-Repeat t c =
     let is = repeat_is _ _ _ c.in-Repeat.is c.deref.ensures in
     IfOk-weaker c.deeds_of-in-Repeat.result _ _ (λ d tells. subst (λ (p : Process). Tells c.args.cause p d) (sym is) (repeat_told _ _ d tells))
-        c.deeds_of-in-Repeat.ensures
+    c.deeds_of-in-Repeat.ensures

@@ -23,17 +23,17 @@ returns-after-loop-part t c = join_read _ _ _ _ c.loop-part.part-index _ _ c.in-
 pub returns-after-loop-link : goal.returns-after-loop-link
 returns-after-loop-link t c =
     let first : Adds c.args.cause (reads_of (formula_of c.in-Chain.first.value)) c.args.deeds.now c.note_reads-in-Chain.new.deeds =
-        rw (← c.deref-in-Chain.ensures) c.in_ok-note_reads-in-Chain.ensures in
+    rw (← c.deref-in-Chain.ensures) c.in_ok-note_reads-in-Chain.ensures in
     chain_read _ _ _ _ _ c.loop-link.link-index _ _ _ c.in-Chain.is c.deref-link-items.ensures.value c.loop-link-test.false first c.loop-link.invariant
 
 pub returns-in_ok-note_reads-in-Compare : goal.returns-in_ok-note_reads-in-Compare
 returns-in_ok-note_reads-in-Compare t c =
     let left : Adds c.args.cause (reads_of (formula_of c.in-Compare.left.value)) c.args.deeds.now c.note_reads-in-Compare.new.deeds =
-        rw (← c.deref-in-Compare.ensures) c.in_ok-note_reads-in-Compare.ensures in
+    rw (← c.deref-in-Compare.ensures) c.in_ok-note_reads-in-Compare.ensures in
     on_ok_weaker c.note_reads-in-Compare-2.result
-        (λ (adds : Adds c.args.cause (reads_of (formula_of c.deref-in-Compare-2.result.now)) c.note_reads-in-Compare.new.deeds
-        c.note_reads-in-Compare-2.new.deeds).
+    (λ (adds : Adds c.args.cause (reads_of (formula_of c.deref-in-Compare-2.result.now)) c.note_reads-in-Compare.new.deeds
+    c.note_reads-in-Compare-2.new.deeds).
     let right : Adds c.args.cause (reads_of (formula_of c.in-Compare.right.value)) c.note_reads-in-Compare.new.deeds c.note_reads-in-Compare-2.new.deeds =
-        rw (← c.deref-in-Compare-2.ensures) adds in
+    rw (← c.deref-in-Compare-2.ensures) adds in
     subst (λ (e : TExpr). Adds c.args.cause (reads_of (formula_of e)) c.args.deeds.now c.note_reads-in-Compare-2.new.deeds) (sym c.in-Compare.is)
-        (adds_more _ _ _ _ _ _ left right)) c.note_reads-in-Compare-2.ensures
+    (adds_more _ _ _ _ _ _ left right)) c.note_reads-in-Compare-2.ensures

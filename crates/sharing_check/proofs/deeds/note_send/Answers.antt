@@ -8,4 +8,4 @@ use Rattle.sharing_check.proofs.deeds.note_send.Goals as goal
 pub returns-in-SharedSend : goal.returns-in-SharedSend
 returns-in-SharedSend c =
     on_ok_weaker c.note.result (λ notes. adds_exclusive _ code.SharedSend (sends_on c.args.chan) c.args.chan c.args.at _ _ c.in-SharedSend.is (λ x h. h) refl
-        (λ x h. h) notes refl refl) c.note.ensures
+    (λ x h. h) notes refl refl) c.note.ensures

@@ -8,4 +8,4 @@ use Rattle.sharing_check.proofs.deeds.note_write.Goals as goal
 pub returns-in-SharedVariable : goal.returns-in-SharedVariable
 returns-in-SharedVariable c =
     on_ok_weaker c.note.result (λ notes. adds_exclusive _ code.SharedVariable (writes_var c.args.var) c.args.var c.args.at _ _ c.in-SharedVariable.is (λ x h. h)
-        refl (λ x h. h) notes refl refl) c.note.ensures
+    refl (λ x h. h) notes refl refl) c.note.ensures

@@ -14,7 +14,7 @@ one_pair : (body : Process) (c : FaultCode) (s t u v : Span) → IsFirstShared b
 one_pair body c s t u v h k =
     let second : t ≡ v = no_later_one t v (h.least_second u v k.shared) (k.least_second s t h.shared) in
     let first : s ≡ u = no_later_one s u (h.least_first u (subst (λ (w : Span). SharedAt body c u w) (sym second) k.shared))
-        (k.least_first s (subst (λ (w : Span). SharedAt body c s w) second h.shared)) in
+    (k.least_first s (subst (λ (w : Span). SharedAt body c s w) second h.shared)) in
     (first, second)
 
 once : (body : Process) (causes : List FaultCode) (c d : FaultCode) (s t u v : Span) → IsFirstSharedFault body causes c s t

@@ -17,7 +17,7 @@ loop-name-preserved c =
     let there : c.copied.result ≡ get nat_eq c.args.many.now c.in-Some.name.now = c.copied.ensures ∙ c.get.ensures.value in
     let one = subst (λ o. IsLeast IsNoLaterPair (MeetsAt c.in-Some.one.now o) c.meeting.result) there c.meeting.ensures in
     subst (λ (es : List (ℕ × Span)). IsLeast IsNoLaterPair (MeetingAmong es (get nat_eq c.args.many.now)) c.sooner-first.result)
-        (sym (map-append deref_pair c.loop-name.yielded (item ∷ [])))
+    (sym (map-append deref_pair c.loop-name.yielded (item ∷ [])))
     (met_more _ _ _ _ _ c.in-Some.name.now c.in-Some.one.now c.loop-name.invariant one c.sooner-first.ensures)
 
 pub returns : goal.returns
@@ -25,4 +25,4 @@ returns c =
     let all : map deref_pair c.loop-name.yielded ≡ c.args.few.now.entries = search (rules, iter_end) in
     let unique : IsUnique nat_eq c.args.few.now = search rules in
     met_all _ _ _ unique (subst (λ (es : List (ℕ × Span)). IsLeast IsNoLaterPair (MeetingAmong es (get nat_eq c.args.many.now)) c.loop-name.first) all
-        c.loop-name.invariant)
+    c.loop-name.invariant)

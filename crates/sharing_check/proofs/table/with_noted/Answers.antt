@@ -16,7 +16,7 @@ pub loop-name-preserved : goal.loop-name-preserved
 loop-name-preserved c = λ x.
     let item : Bor ℕ × Bor Span = (c.in-Some.name, c.in-Some.at) in
     subst (λ (es : List (ℕ × Span)). IsLeast IsNoLater (IsOneOf (get nat_eq c.args.table x) es x) (get nat_eq c.note.new.table x))
-        (sym (map-append deref_pair c.loop-name.yielded (item ∷ [])))
+    (sym (map-append deref_pair c.loop-name.yielded (item ∷ [])))
     (noted_more _ _ _ _ x c.in-Some.name.now c.in-Some.at.now (c.loop-name.invariant x) (c.in_ok-note.ensures x))
 
 pub returns : goal.returns
@@ -24,4 +24,4 @@ returns c = λ x.
     let all : map deref_pair c.loop-name.yielded ≡ c.args.other.now.entries = search (rules, iter_end) in
     let unique : IsUnique nat_eq c.args.other.now = search rules in
     noted_all _ _ _ x unique (subst (λ (es : List (ℕ × Span)). IsLeast IsNoLater (IsOneOf (get nat_eq c.args.table x) es x) (get nat_eq c.loop-name.table x))
-        all (c.loop-name.invariant x))
+    all (c.loop-name.invariant x))

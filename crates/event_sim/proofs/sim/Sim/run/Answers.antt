@@ -7,7 +7,7 @@ use Rattle.event_sim.specs.Ends.{end_with}
 use Rattle.event_sim.specs.Simulating.{SimValue, IsEndIn}
 use Rattle.event_sim.specs.Stages.{moves_now}
 use Rattle.event_sim.proofs.Underway.{step}
-use Rattle.event_sim.proofs.Finishing.{begun, choice_list, picked_within, finish}
+use Rattle.event_sim.proofs.Finishing.{begun, choice_list, picked_within, picked_enabled, finish}
 use Rattle.event_sim.proofs.sim.Sim.run.Goals as goal
 
 -- within a list the default plays no part
@@ -33,7 +33,7 @@ pub ran-requires : goal.ran-requires
 ran-requires g c =
     let i = c.loop-made.invariant in
     let ended : end_with c.loop-made.hazard (moves_now c.loop-made.stage) false ≡ Some c.in-Some.end =
-        ap (λ (xs : List ℕ). end_with c.loop-made.hazard xs false) (sym c.moves.ensures) ∙ sym c.early_end.ensures ∙ c.in-Some.is in
+    ap (λ (xs : List ℕ). end_with c.loop-made.hazard xs false) (sym c.moves.ensures) ∙ sym c.early_end.ensures ∙ c.in-Some.is in
     let goes : (c.loop-made.made == c.args.self.steps) ≡ false = ne_eqb _ _ (omega (arith, i.steps, c.loop-made-test.true)) in
     let fin = finish c.args.self _ _ c.loop-made.made c.loop-made.stage c.loop-made.hazard false c.in-Some.end i.net i.picked goes ended in
     subst (λ (w : NetValue). IsEndIn w c.in-Some.end) (sym fin.net) fin.within
@@ -42,7 +42,7 @@ pub ran-requires-2 : goal.ran-requires-2
 ran-requires-2 g c =
     let i = c.loop-made.invariant in
     let ended : end_with c.loop-made.hazard (moves_now c.loop-made.stage) true ≡ Some c.last_end-end.result =
-        ap (λ (xs : List ℕ). end_with c.loop-made.hazard xs true) (sym c.moves-2.ensures) ∙ c.last_end-end.ensures in
+    ap (λ (xs : List ℕ). end_with c.loop-made.hazard xs true) (sym c.moves-2.ensures) ∙ c.last_end-end.ensures in
     let spent : (c.loop-made.made == c.args.self.steps) ≡ true = eq-eqb _ _ (omega (arith, i.steps, c.loop-made-test.false)) in
     let fin = finish c.args.self _ _ c.loop-made.made c.loop-made.stage c.loop-made.hazard true c.last_end-end.result i.net i.picked spent ended in
     subst (λ (w : NetValue). IsEndIn w c.last_end-end.result) (sym fin.net) fin.within
@@ -51,15 +51,20 @@ pub choose-place-requires-clause-list : goal.choose-place-requires-clause-list
 choose-place-requires-clause-list g c =
     let i = c.loop-made.invariant in
     let none : end_with c.loop-made.hazard c.moves-in-None.result.now false ≡ None =
-        ap (λ (xs : List ℕ). end_with c.loop-made.hazard xs false) (c.moves-in-None.ensures ∙ sym c.moves.ensures) ∙ sym c.early_end.ensures ∙ c.in-None.is in
+    ap (λ (xs : List ℕ). end_with c.loop-made.hazard xs false) (c.moves-in-None.ensures ∙ sym c.moves.ensures) ∙ sym c.early_end.ensures ∙ c.in-None.is in
     choice_list c.args.self i.picked.picks c.loop-made.stage c.loop-made.hazard _ c.moves-in-None.result.now i.picked.underway c.moves-in-None.ensures none
-        (subst (λ (n : ℕ). length c.args.self.net.first ≤ n) (sym i.nodes) c.requires.nodes)
+    (subst (λ (n : ℕ). length c.args.self.net.first ≤ n) (sym i.nodes) c.requires.nodes)
 
 pub make-hazard-requires-clause-node : goal.make-hazard-requires-clause-node
 make-hazard-requires-clause-node g c =
     let i = c.loop-made.invariant in
     picked_within c.args.self i.picked.picks c.loop-made.stage c.loop-made.hazard c.moves-in-None-2.result.now c.choose-place.result 0 i.picked.underway
-        c.moves-in-None-2.ensures (omega (arith, c.choose-place.ensures.within, ap length c.moves-in-None.ensures, ap length c.moves-in-None-2.ensures))
+    c.moves-in-None-2.ensures (omega (arith, c.choose-place.ensures.within, ap length c.moves-in-None.ensures, ap length c.moves-in-None-2.ensures))
+
+pub make-hazard-requires-clause-enabled : goal.make-hazard-requires-clause-enabled
+make-hazard-requires-clause-enabled g c =
+    picked_enabled c.loop-made.stage c.moves-in-None-2.result.now c.choose-place.result 0 c.moves-in-None-2.ensures
+    (omega (arith, c.choose-place.ensures.within, ap length c.moves-in-None.ensures, ap length c.moves-in-None-2.ensures))
 
 pub loop-made-preserved : goal.loop-made-preserved
 loop-made-preserved g c =
@@ -67,11 +72,11 @@ loop-made-preserved g c =
     let p = c.choose-place.result in
     let xs = c.moves-in-None-2.result.now in
     let none : end_with c.loop-made.hazard (moves_now c.loop-made.stage) false ≡ None =
-        ap (λ (xs : List ℕ). end_with c.loop-made.hazard xs false) (sym c.moves.ensures) ∙ sym c.early_end.ensures ∙ c.in-None.is in
+    ap (λ (xs : List ℕ). end_with c.loop-made.hazard xs false) (sym c.moves.ensures) ∙ sym c.early_end.ensures ∙ c.in-None.is in
     let few : length i.picked.picks < c.args.self.steps = omega (arith, i.picked.counted, i.steps, c.loop-made-test.true) in
     let within : p < length (moves_now c.loop-made.stage) = omega (arith, c.choose-place.ensures.within, ap length c.moves-in-None.ensures) in
     let at : get_or xs p 0 ≡ get_or (moves_now c.loop-made.stage) p (get_or xs p 0) = ap (λ (ys : List ℕ). get_or ys p 0) c.moves-in-None-2.ensures
-        ∙ any_default (moves_now c.loop-made.stage) p 0 (get_or xs p 0) within in
+    ∙ any_default (moves_now c.loop-made.stage) p 0 (get_or xs p 0) within in
     record {
       steps = i.steps;
       net = i.net;
@@ -93,7 +98,7 @@ pub returns-in-Some : goal.returns-in-Some
 returns-in-Some g c =
     let i = c.loop-made.invariant in
     let ended : end_with c.loop-made.hazard (moves_now c.loop-made.stage) false ≡ Some c.in-Some.end =
-        ap (λ (xs : List ℕ). end_with c.loop-made.hazard xs false) (sym c.moves.ensures) ∙ sym c.early_end.ensures ∙ c.in-Some.is in
+    ap (λ (xs : List ℕ). end_with c.loop-made.hazard xs false) (sym c.moves.ensures) ∙ sym c.early_end.ensures ∙ c.in-Some.is in
     let goes : (c.loop-made.made == c.args.self.steps) ≡ false = ne_eqb _ _ (omega (arith, i.steps, c.loop-made-test.true)) in
     let fin = finish c.args.self _ _ c.loop-made.made c.loop-made.stage c.loop-made.hazard false c.in-Some.end i.net i.picked goes ended in
     record {
@@ -116,7 +121,7 @@ pub returns : goal.returns
 returns g c =
     let i = c.loop-made.invariant in
     let ended : end_with c.loop-made.hazard (moves_now c.loop-made.stage) true ≡ Some c.last_end-end.result =
-        ap (λ (xs : List ℕ). end_with c.loop-made.hazard xs true) (sym c.moves-2.ensures) ∙ c.last_end-end.ensures in
+    ap (λ (xs : List ℕ). end_with c.loop-made.hazard xs true) (sym c.moves-2.ensures) ∙ c.last_end-end.ensures in
     let all : c.self.inside.steps ≡ c.loop-made.made = omega (arith, c.loop-made-test.false, c.loop-made.auto.made-end) in
     let spent : (c.loop-made.made == c.args.self.steps) ≡ true = eq-eqb _ _ (omega (arith, i.steps, all)) in
     let fin = finish c.args.self _ _ c.loop-made.made c.loop-made.stage c.loop-made.hazard true c.last_end-end.result i.net i.picked spent ended in

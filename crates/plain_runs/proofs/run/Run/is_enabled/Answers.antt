@@ -6,4 +6,4 @@ returns-else-enabled c =
     let r = c.self.inside in
     let counted = rw (← c.self.view_is) at c.requires.done in
     rw (← c.self.view_is) (enabled_is r.net r.script r.state r.histories.items c.args.done.now c.args.node _ _ counted c.enabled.ensures c.if-enabled.false
-        c.env_enabled.ensures)
+    c.env_enabled.ensures)

@@ -23,9 +23,9 @@ returns-clause-hazard c =
     let same_net : c.self-2.inside.net ≡ old.net = ap (λ (r : RunValue). r.net) there in
     let same_state : c.self-2.inside.state ≡ (moved old.net old.now n).values = ap (λ (r : RunValue). r.now.values) there in
     let keeps : c.keeps_phases-broken.result ≡ phase_fault old.net (high old.now.values) n =
-        c.keeps_phases-broken.ensures ∙ ap (λ (r : RunValue). phase_fault r.net (high r.now.values) n) c.self.view_is in
+    c.keeps_phases-broken.ensures ∙ ap (λ (r : RunValue). phase_fault r.net (high r.now.values) n) c.self.view_is in
     let after : c.in_ok-after.after.items ≡ map (move_enabled old.net old.script (moved old.net old.now n)) (range_with_len 0 (length old.net.first)) =
-        c.in_ok-after.ensures ∙ ap (λ (r : RunValue). map (move_enabled r.net r.script r.now) (range_with_len 0 (length r.net.first))) c.in_ok-pass.ensures in
+    c.in_ok-after.ensures ∙ ap (λ (r : RunValue). map (move_enabled r.net r.script r.now) (range_with_len 0 (length r.net.first))) c.in_ok-pass.ensures in
     let base = hazard_is old c.self-2.inside.net c.self-2.inside.state n c.in_ok-before.before.items c.in_ok-after.after.items c.keeps_phases-broken.result
-        same_net same_state c.in_ok-before.ensures after keeps in
+    same_net same_state c.in_ok-before.ensures after keeps in
     c.hazard.ensures ∙ rw (c.deref.ensures.value, c.deref-2.ensures.value) base

@@ -1,0 +1,79 @@
+-- Each step of a command that makes runs, and so `simulate`, has at most one answer.
+use Rattle.std.proofs.Common.{◌≡◌, ◌∙◌, ℕ, Bool, true, false, List, Option, Some, None, refl, sym, ap, subst}
+use Rattle.chp_base.specs.declared.channel.Channel.{Channel}
+use Rattle.env_script.specs.declared.fault.ScriptFault.{ScriptFault}
+use Rattle.env_script.specs.Environment.{net_channels}
+use Rattle.env_script.specs.Scripts.{OfferValue}
+use Rattle.env_script.specs.ScriptText.{IsScriptRefused}
+use Rattle.event_sim.specs.declared.ran.End.{End}
+use Rattle.event_sim.specs.Ends.{EndsSo, end_after}
+use Rattle.event_sim.specs.Simulating.{SimValue, picked_moves, start_at}
+use Rattle.prs_core.specs.Nets.{NetValue}
+use Rattle.prs_file.specs.declared.fault.NetFault.{NetFault}
+use Rattle.prs_file.specs.Reading.{IsRefused}
+use Rattle.history_report.specs.Reports.{report_of}
+use Rattle.chp_cli.specs.declared.status.Status.TheVariants.{BadFile}
+use Rattle.chp_cli.specs.Answers.{Given, Answer, writes, refuses, OneAnswer}
+use Rattle.chp_cli.specs.Lines.{bad_script_line}
+use Rattle.chp_cli.specs.Orders.{OrderState, Played}
+use Rattle.chp_cli.specs.RunSteps.{FromOrder, no_order, an_order, FromPower, no_reset, has_power, FromScript, no_script, a_script}
+use Rattle.chp_cli.specs.Simulating.{AskedRun, PlaysOut, SimulatesNet, SimulatesFile, Simulates, ran_value, ending_for, simulation_for}
+use Rattle.chp_cli.proofs.OneAnswers.{file_once, net_once}
+
+module _ (played : Played) (name : List ℕ) (Next : ℕ → Answer → Type 0) (next : (place : ℕ) → OneAnswer (Next place)) where
+  pub order_once : (a b : Answer) → FromOrder played name Next a → FromOrder played name Next b → a ≡ b
+  order_once a b (no_order n) (no_order m) = refl
+  order_once a b (no_order n) (an_order is m) = absurd (cc (n, is))
+  order_once a b (an_order is n) (no_order m) = absurd (cc (m, is))
+  order_once a b (an_order {place = p} is n) (an_order {place = q} are m) =
+      let same : q ≡ p = cc (is, are) in
+      next p a b n (subst (λ r. Next r b) same m)
+
+module _ (net : NetValue) (power : Option Bool) (Next : Answer → Type 0) (next : OneAnswer Next) where
+  pub power_once : (a b : Answer) → FromPower net power Next a → FromPower net power Next b → a ≡ b
+  power_once a b (no_reset n) (no_reset m) = refl
+  power_once a b (no_reset n) (has_power is m) = absurd (cc (n, is))
+  power_once a b (has_power is n) (no_reset m) = absurd (cc (m, is))
+  power_once a b (has_power is n) (has_power are m) = next a b n m
+
+module _ (channels : List Channel) (text : List ℕ) (Next : List OfferValue → Answer → Type 0) (next : (script : List OfferValue) → OneAnswer (Next script)) where
+  pub script_once : (a b : Answer) → FromScript channels text Next a → FromScript channels text Next b → a ≡ b
+  script_once a b (no_script {fault = f} {line = l} n) (no_script {fault = g} {line = k} m) =
+      let same = m.only f l n.cause in
+      ap (λ h. refuses BadFile (bad_script_line h l)) same.0 ∙ ap (λ i. refuses BadFile (bad_script_line g i)) same.1
+  script_once a b (no_script n) (a_script {script = s} is m) = absurd (n.never s is.told)
+  script_once a b (a_script {script = s} is n) (no_script m) = absurd (m.never s is.told)
+  script_once a b (a_script {script = s} is n) (a_script {script = t} are m) = next s a b n (subst (λ r. Next r b) (is.only t are.told) m)
+
+-- ---- the run to which the growth of a log leads
+
+one_end : (s : SimValue) (was now : List ℕ) (e f : End) → EndsSo s.net s.script s.steps (start_at s) (picked_moves s was now) e →
+    EndsSo s.net s.script s.steps (start_at s) (picked_moves s was now) f → e ≡ f
+one_end s was now e f is are = let p = is.ended in let q = are.ended in cc (p, q)
+
+plays_once : (s : SimValue) (seed : ℕ) (was is : OrderState) (a b : Answer) → PlaysOut s seed was is a → PlaysOut s seed was is b → a ≡ b
+plays_once s seed was is a b p q =
+    let same : p.end ≡ q.end = one_end s was.log is.log p.end q.end p.run.ends q.run.ends in
+    p.written ∙ (ap (λ (e : End). writes (ending_for e) (report_of (ran_value s was.log is.log e) None)) same ∙ sym q.written)
+
+same_order : {held : Option OrderState} {a b : OrderState} → held ≡ Some a → held ≡ Some b → a ≡ b
+same_order e f = cc (e, f)
+
+net_run_once : (played : Played) (place seed : ℕ) (s : SimValue) (a b : Answer) → SimulatesNet played place seed s a → SimulatesNet played place seed s b →
+    a ≡ b
+net_run_once played place seed s a b p q =
+    let before : q.was ≡ p.was = same_order q.before p.before in
+    let after : q.is ≡ p.is = same_order q.after p.after in
+    plays_once s seed p.was p.is a b p.plays (subst (λ is. PlaysOut s seed p.was is b) after (subst (λ was. PlaysOut s seed was q.is b) before q.plays))
+
+module _ (once : (text : List ℕ) (f g : NetFault) (l m : ℕ) → IsRefused text f l → IsRefused text g m → (f ≡ g) × (l ≡ m)) where
+  file_run_once : (run : AskedRun) (given : Given) (played : Played) → given.tells ≡ true → (place : ℕ) (net : NetValue) →
+      OneAnswer (SimulatesFile run given played place net)
+  file_run_once run given played told place net = power_once net run.power _
+      (file_once given run.script _ _ told (λ text. script_once (net_channels net) text _
+      (λ script. net_run_once played place run.seed (simulation_for net script run.steps run.power))))
+
+  pub simulate_once : (run : AskedRun) (given : Given) (played : Played) → given.tells ≡ true → OneAnswer (Simulates run given played)
+  simulate_once run given played told = order_once played run.order _
+      (λ place. file_once given run.net _ _ told (λ text. net_once text (SimulatesFile run given played place)
+      (file_run_once run given played told place) (once text)))

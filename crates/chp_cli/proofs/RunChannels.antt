@@ -1,0 +1,25 @@
+-- The channels of a net, as a script asks for them.
+use Rattle.std.proofs.Common.{◌≡◌, ◌≢◌, ℕ, ◌<◌, ◌≤◌, List, [], ◌∷◌, length, map, arith}
+use Rattle.std.specs.Prelude.{All, AllPairs}
+use Rattle.std.proofs.lemmas.List.{get_or-map, length-map}
+use Rattle.std.proofs.lemmas.List.Elements.{All-map}
+use Rattle.chp_base.specs.declared.channel.Channel.{Channel}
+use Rattle.prs_core.specs.declared.wires.Wires.{Wires}
+use Rattle.prs_core.specs.Nets.{NetValue, IsNet}
+use Rattle.env_script.specs.Environment.{net_channels}
+
+pairs_mapped : {X Y : Type 0} (f : X → Y) (R : Y → Y → Type 0) (xs : List X) → AllPairs (λ a b. R (f a) (f b)) xs → AllPairs R (map f xs)
+pairs_mapped f R [] each = λ i j d before within. absurd (omega arith)
+pairs_mapped f R (x ∷ xs) each = λ i j d before within.
+    let count = length-map (x ∷ xs) f in
+    let there : j < length (x ∷ xs) = omega (arith, within, count) in
+    let first = get_or-map f (x ∷ xs) i x d (omega (arith, before, there)) in
+    let second = get_or-map f (x ∷ xs) j x d there in
+    rw (first, second) (each i j x before there)
+
+pub channels_distinct : (n : NetValue) → IsNet n → AllPairs (λ (a b : Channel). a.name ≢ b.name) (net_channels n)
+channels_distinct n net = pairs_mapped (λ (w : Wires). w.channel) (λ (a b : Channel). a.name ≢ b.name) n.channels net.channels_distinct
+
+pub channels_wide : (n : NetValue) → IsNet n → All (λ (c : Channel). (1 ≤ c.width) × (c.width ≤ 64)) (net_channels n)
+channels_wide n net = All-map (λ (c : Channel). (1 ≤ c.width) × (c.width ≤ 64)) (λ (w : Wires). w.channel) n.channels (λ k d within. let c =
+    net.channels k d within in (c.some, c.most))

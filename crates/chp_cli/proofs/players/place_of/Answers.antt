@@ -1,0 +1,18 @@
+use Rattle.std.proofs.Common.{◌≡◌, ◌∙◌, List, Option, sym, subst}
+use Rattle.std.specs.Prelude.{ℕ, bytes_eq}
+use Rattle.std.specs.List.{position}
+use Rattle.chp_cli.specs.Orders.{order_state}
+use Rattle.chp_cli.proofs.Keeping.{found_within, named_mapped}
+use Rattle.chp_cli.proofs.players.place_of.Goals as goal
+
+pub returns : goal.returns
+returns g c =
+    let found = rw c.deref.ensures.value at c.first_named.ensures in
+    record {
+      place = found
+          ∙ sym (named_mapped
+          (λ order. order_state ((goal.Picker-dyn g (order.vtable, order.value)).name order.value)
+          ((goal.Picker-dyn g (order.vtable, order.value)).log order.value) ((goal.Picker-dyn g (order.vtable, order.value)).seeded order.value))
+          c.args.players.now.orders.items c.args.wanted.now);
+      within = found_within _ _ _ found;
+    }

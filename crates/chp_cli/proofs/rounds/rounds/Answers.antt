@@ -1,0 +1,50 @@
+use Rattle.std.proofs.Common.{◌≡◌, ◌≢◌, ◌≤◌, ◌∙◌, List, ap, sym, subst}
+use Rattle.std.specs.Prelude.{All, AllPairs}
+use Rattle.chp_base.specs.declared.channel.Channel.{Channel}
+use Rattle.width_check.specs.Typed.{TypedValue, program_of as typed_of}
+use Rattle.width_check.specs.View.{process_of}
+use Rattle.chp_cli.specs.Commands.{rounds_asked}
+use Rattle.chp_cli.proofs.ProgramChannels.{typed_distinct, typed_wide}
+use Rattle.chp_cli.proofs.RoundsStopping.{program_stopped, script_stopped, reports, report_stopped}
+use Rattle.chp_cli.proofs.Stopping.{err_in, ok_in}
+use Rattle.chp_cli.proofs.rounds.rounds.Goals as goal
+
+pub returns-in-Err-clause-stopped : goal.returns-in-Err-clause-stopped
+returns-in-Err-clause-stopped g c = program_stopped (rounds_asked c.args.asked.now) _ _ _ c.in-Err.stop c.in-Err.ensures.stopped
+
+-- the channels that are handed on are the program's
+handed : {channels : List Channel} {t p : TypedValue} → channels ≡ t.channels → t ≡ p → channels ≡ p.channels
+handed declared same = declared ∙ ap (λ (v : TypedValue). v.channels) same
+
+pub script_in-requires-clause-distinct : goal.script_in-requires-clause-distinct
+script_in-requires-clause-distinct g c =
+    let p = c.in-Ok.program in
+    subst (λ (cs : List Channel). AllPairs (λ (a b : Channel). a.name ≢ b.name) cs) (sym (handed c.channels.ensures c.typed-program.ensures.program))
+    (typed_distinct p.channels p.vars (process_of p.body) c.in-Ok.ensures.typed)
+
+pub script_in-requires-clause-widths : goal.script_in-requires-clause-widths
+script_in-requires-clause-widths g c =
+    let p = c.in-Ok.program in
+    subst (λ (cs : List Channel). All (λ (channel : Channel). (1 ≤ channel.width) × (channel.width ≤ 64)) cs)
+    (sym (handed c.channels.ensures c.typed-program.ensures.program)) (typed_wide p.channels p.vars (process_of p.body) c.in-Ok.ensures.typed)
+
+pub returns-in-Err-script_in-clause-stopped : goal.returns-in-Err-script_in-clause-stopped
+returns-in-Err-script_in-clause-stopped g c =
+    script_stopped (rounds_asked c.args.asked.now) _ (typed_of c.in-Ok.program) c.in-Ok.ensures.read _ _ _ c.program_in.ensures.faults c.in-Err-script_in.stop
+    (rw (handed c.channels.ensures c.typed-program.ensures.program, c.program_in.ensures.same, c.program_in.ensures.kept) at c.in-Err-script_in.ensures.stopped)
+
+pub returns-clause-answered : goal.returns-clause-answered
+returns-clause-answered g c =
+    let told = rw (handed c.channels.ensures c.typed-program.ensures.program, c.program_in.ensures.same, c.program_in.ensures.kept)
+    at c.in-Ok-script_in.ensures.read in
+    ok_in c.report_rounds.result _ _
+    (λ output is. reports (rounds_asked c.args.asked.now) _ (typed_of c.in-Ok.program) c.in-Ok.ensures.read c.in-Ok-script_in.script told _ is)
+    (rw c.typed-program.ensures.program at c.report_rounds.ensures.answered)
+
+pub returns-clause-stopped : goal.returns-clause-stopped
+returns-clause-stopped g c =
+    let told = rw (handed c.channels.ensures c.typed-program.ensures.program, c.program_in.ensures.same, c.program_in.ensures.kept)
+    at c.in-Ok-script_in.ensures.read in
+    err_in c.report_rounds.result _ _
+    (λ stop is. report_stopped (rounds_asked c.args.asked.now) _ (typed_of c.in-Ok.program) c.in-Ok.ensures.read c.in-Ok-script_in.script told _ _ stop is)
+    (rw c.typed-program.ensures.program at c.report_rounds.ensures.stopped)

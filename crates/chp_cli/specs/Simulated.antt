@@ -1,0 +1,72 @@
+-- What follows from what `simulate` answers.
+use Rattle.std.specs.Prelude.{◌≡◌, ◌⊎◌, ℕ, ◌≤◌, false, List, length, slice_get, Some, None}
+use Rattle.env_script.specs.Environment.{net_channels}
+use Rattle.env_script.specs.OneLength.{EndsAll}
+use Rattle.env_script.specs.Scripts.{OfferValue}
+use Rattle.env_script.specs.ScriptText.{IsScriptText}
+use Rattle.event_sim.specs.declared.ran.End.TheVariants.{AtRest}
+use Rattle.event_sim.specs.Simulating.{picked_moves, start_at}
+use Rattle.net_compose.specs.Carries.{Carries, CarriesReset}
+use Rattle.prs_core.specs.Nets.{NetValue, IsNet}
+use Rattle.prs_file.specs.Spelling.{NetText}
+use Rattle.width_check.specs.Processes.{TypedProgram}
+use Rattle.chp_cli.specs.Answers.{Given, Answer}
+use Rattle.chp_cli.specs.Orders.{OrderState, Played, place_named}
+use Rattle.chp_cli.specs.RunSteps.{IsScriptOf, lacks_reset, most_of_script}
+use Rattle.chp_cli.specs.Simulating.{AskedRun, PlaysOut, simulation_for}
+use Rattle.chp_cli.specs.Steps.{IsFileOf, most_of_net}
+
+-- The files hold the rule file of a net and a script of its channels; and the order of the wanted name led to a run of this
+-- net under this script, which is reported.
+pub record IsFileSimulated (s : AskedRun) (given : Given) (played : Played) (answer : Answer) : Type 0 where
+  pub rules : List ℕ
+  pub net : NetValue
+  pub told : List ℕ
+  pub script : List OfferValue
+  pub place : ℕ
+  pub was : OrderState
+  pub is : OrderState
+  pub held : given.files s.net ≡ Some rules
+  pub file : IsFileOf rules net
+  pub held_script : given.files s.script ≡ Some told
+  pub told_is : IsScriptOf (net_channels net) told script
+  pub powered : lacks_reset s.power net.reset ≡ false
+  pub named : place_named played.before s.order ≡ Some place
+  pub before : slice_get played.before place ≡ Some was
+  pub after : slice_get played.after place ≡ Some is
+  pub plays : PlaysOut (simulation_for net script s.steps s.power) s.seed was is answer
+
+-- the file holds the rule file of a net that carries the program: from its first values, or with a reset node from every
+-- power-up state
+pub record HoldsCarrying (given : Given) (file : List ℕ) (p : TypedProgram) : Type 0 where
+  pub rules : List ℕ
+  pub net : NetValue
+  pub held : given.files file ≡ Some rules
+  pub kept : IsNet net
+  pub spelled : NetText rules net
+  pub carries : ((net.reset ≡ None) × Carries net p) ⊎ CarriesReset net p
+
+-- the files hold what can be simulated: a rule file within its limit, of a net that can have the power that is asked for,
+-- and a script of its channels within its own; and there is an order of the wanted name
+pub record IsToSimulate (s : AskedRun) (given : Given) (played : Played) : Type 0 where
+  pub rules : List ℕ
+  pub net : NetValue
+  pub told : List ℕ
+  pub script : List OfferValue
+  pub place : ℕ
+  pub held : given.files s.net ≡ Some rules
+  pub short : length rules ≤ most_of_net
+  pub kept : IsNet net
+  pub spelled : NetText rules net
+  pub powered : lacks_reset s.power net.reset ≡ false
+  pub held_script : given.files s.script ≡ Some told
+  pub short_script : length told ≤ most_of_script
+  pub says : IsScriptText (net_channels net) told script
+  pub named : place_named played.before s.order ≡ Some place
+
+-- where it reports rest, no run from that state has more moves than the one that was made, and each one that rests has as
+-- many, of each node as many
+abbrev pub EndsAllAtRest : (s : AskedRun) (given : Given) (played : Played) (answer : Answer) → IsFileSimulated s given played answer → Type 0
+EndsAllAtRest s given played answer f = f.plays.end ≡ AtRest →
+    let sim = simulation_for f.net f.script s.steps s.power in
+    EndsAll f.net f.script (start_at sim) (picked_moves sim f.was.log f.is.log)

@@ -1,0 +1,96 @@
+-- What `simulate` answers.
+use Rattle.std.specs.Prelude.{◌≡◌, ℕ, Bool, false, List, ◌++◌, length, slice_get, Option, Some, None}
+use Rattle.prs_core.specs.Nets.{NetValue}
+use Rattle.prs_core.specs.Moves.{high}
+use Rattle.env_script.specs.Environment.{net_channels}
+use Rattle.env_script.specs.Scripts.{OfferValue}
+use Rattle.env_script.specs.Runs.{after}
+use Rattle.event_sim.specs.declared.ran.End.{End}
+use Rattle.event_sim.specs.declared.ran.End.TheVariants.{AtRest, Spent}
+use Rattle.event_sim.specs.Ends.{EndsSo}
+use Rattle.event_sim.specs.Following.{ArePicks}
+use Rattle.event_sim.specs.Passing.{passed_in}
+use Rattle.event_sim.specs.Simulating.{SimValue, RanValue, start_at, growth, picked_moves}
+use Rattle.history_report.specs.Reports.{report_of}
+use Rattle.chp_cli.specs.declared.answer.Ending.{Ending}
+use Rattle.chp_cli.specs.declared.answer.Ending.TheVariants.{Done, Hazard}
+use Rattle.chp_cli.specs.Answers.{Given, Answer, writes}
+use Rattle.chp_cli.specs.Orders.{OrderState, Played}
+use Rattle.chp_cli.specs.RunSteps.{FromOrder, FromPower, FromScript, most_of_script}
+use Rattle.chp_cli.specs.Steps.{FromFile, FromNet, most_of_net}
+
+-- what a simulation is asked for: the names of its rule file and of its script, the name of the order and its seed, the
+-- most moves, and the value of the nodes that have rules at power-up, where one is given
+pub record AskedRun : Type 0 where
+  pub net : List ℕ
+  pub script : List ℕ
+  pub order : List ℕ
+  pub seed : ℕ
+  pub steps : ℕ
+  pub power : Option Bool
+
+-- low where none is given
+abbrev pub power_or_low : Option Bool → Bool
+power_or_low None = false
+power_or_low (Some high) = high
+
+abbrev pub simulation_for : NetValue → List OfferValue → (steps : ℕ) → (power : Option Bool) → SimValue
+simulation_for net script steps power =
+    record { net = net; script = script; steps = steps; high = power_or_low power }
+
+-- An order was given this seed, and then led to a run of the simulation that ended so: what its log has grown by are
+-- places in the lists of enabled moves, one for each move.
+pub record IsPlayed (s : SimValue) (seed : ℕ) (was is : OrderState) (end : End) : Type 0 where
+  pub seeded : is.seeded ≡ Some (seed, length was.log)
+  pub grown : is.log ≡ was.log ++ growth was.log is.log
+  pub picks : ArePicks s.net s.script (start_at s) (growth was.log is.log)
+  pub ends : EndsSo s.net s.script s.steps (start_at s) (picked_moves s was.log is.log) end
+
+-- what is reported of the run to which the growth of a log leads
+abbrev pub ran_value : SimValue → (before now : List ℕ) → End → RanValue
+ran_value s before now end = record {
+  net = s.net;
+  end = end;
+  moves = length (picked_moves s before now);
+  done_high = high (after s.net (start_at s) (picked_moves s before now)).values 1;
+  passed = passed_in s.net (start_at s) (picked_moves s before now);
+}
+
+-- a hazard was found, or none
+abbrev pub ending_for : End → Ending
+ending_for AtRest = Done
+ending_for Spent = Done
+ending_for _ = Hazard
+
+-- the report of a run is written
+abbrev pub IsReported : RanValue → Answer → Type 0
+IsReported ran answer = answer ≡ writes (ending_for ran.end) (report_of ran None)
+
+-- an order led to a run of the simulation, which is reported
+pub record PlaysOut (s : SimValue) (seed : ℕ) (was is : OrderState) (answer : Answer) : Type 0 where
+  pub end : End
+  pub run : IsPlayed s seed was is end
+  pub written : IsReported (ran_value s was.log is.log end) answer
+
+-- the order at this place did
+pub record SimulatesNet (played : Played) (place seed : ℕ) (s : SimValue) (answer : Answer) : Type 0 where
+  pub was : OrderState
+  pub is : OrderState
+  pub before : slice_get played.before place ≡ Some was
+  pub after : slice_get played.after place ≡ Some is
+  pub plays : PlaysOut s seed was is answer
+
+-- the net may have the power that is asked for, and the script is read behind it
+abbrev pub SimulatesFile : AskedRun → Given → Played → (place : ℕ) → NetValue → Answer → Type 0
+SimulatesFile s given played place net =
+    FromPower net s.power
+    (FromFile given s.script most_of_script (λ text. FromScript (net_channels net) text (λ script.
+    SimulatesNet played place s.seed (simulation_for net script s.steps s.power))))
+
+-- the order at this place is wanted, and the rule file is read
+abbrev pub SimulatesAt : AskedRun → Given → Played → (place : ℕ) → Answer → Type 0
+SimulatesAt s given played place =
+    FromFile given s.net most_of_net (λ text. FromNet text (SimulatesFile s given played place))
+
+abbrev pub Simulates : AskedRun → Given → Played → Answer → Type 0
+Simulates s given played = FromOrder played s.order (SimulatesAt s given played)

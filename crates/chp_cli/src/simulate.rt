@@ -1,0 +1,246 @@
+//! `simulate PRS SCRIPT`: one run of a net under a script, whose moves a handed-in order chooses.
+
+ghost use Rattle.std.specs.Prelude.{◌≡◌, ◌<◌, ◌≤◌, ◌∷◌, [], false, length, map, IfOk, IfErr, OnOk, Some};
+ghost use Rattle.env_script.specs.Environment.{net_channels};
+ghost use Rattle.env_script.specs.Scripts.{IsScript};
+ghost use Rattle.chp_cli.specs.Answers.{given_by};
+ghost use Rattle.chp_cli.specs.Commands.{run_asked};
+ghost use Rattle.chp_cli.specs.Orders.{IsPlayedAt, KeepsOrders, order_state, place_named, played_by};
+ghost use Rattle.chp_cli.specs.Replies.{Stops, told_answer};
+ghost use Rattle.chp_cli.specs.RunSteps.{lacks_reset};
+ghost use Rattle.chp_cli.specs.Simulating.{IsReported, PlaysOut, Simulates, SimulatesAt, SimulatesNet, ending_for, simulation_for};
+
+use crate::answer::{Ending, Output, Refusal, Stop};
+use crate::players::{Players, place_of};
+use crate::run_files::{channels_of, net_in, script_in};
+use crate::simulation::Simulation;
+use chp_edge::Shelf;
+use env_script::Script;
+use event_sim::{End, Picker, Ran, Sim};
+use history_report::report_text;
+use prs_core::Net;
+use std::alloc::{AllocError, Global};
+
+/// How a command ends that reports a run that ended so.
+fn ending_for(end: End) -> Ending
+    ensures { result ≡ ending_for end }
+{
+    match end {
+        End::AtRest | End::Spent => Ending::Done,
+        End::Unstable { .. } | End::BothWays { .. } | End::Protocol { .. } => Ending::Hazard,
+    }
+}
+
+/// Whether a power is asked for, and the net has no reset node.
+fn is_powerless(net: &Net, power: Option<bool>) -> bool
+    ensures { result ≡ lacks_reset power net.now.reset }
+{
+    power.is_some() && net.reset().is_none()
+}
+
+/// The simulation of the net under the script, for so many moves at most. A power asks for a net with a reset node.
+fn simulation(
+    alloc: Global,
+    net: Net,
+    script: Script,
+    steps: u32,
+    power: Option<bool>,
+) -> Result<Sim, AllocError>
+    requires script { IsScript (net_channels net) script }
+    requires steps { steps ≤ 1000000 }
+    requires power { lacks_reset power net.reset ≡ false }
+    ensures { IfOk result (λ s. s ≡ simulation_for net script steps power) }
+{
+    match power {
+        None => Sim::new(alloc, net, script, steps),
+        Some(high) => Sim::powered(alloc, net, script, steps, high),
+    }
+}
+
+/// The room that a run takes: for so many picks, from lists of nodes below this number.
+#[derive(Clone, Copy)]
+struct Room {
+    picks: u32,
+    nodes: u32,
+}
+
+/// Gives the order its seed, and then its room.
+fn prepare(picker: &mut Box<dyn Picker>, seed: u64, room: Room) -> Result<(), AllocError>
+    ensures seeded { seeded picker.new ≡ Some (seed, length (log picker.old)) }
+    ensures name { name picker.new ≡ name picker.old }
+    ensures log { log picker.new ≡ log picker.old }
+    ensures picks { OnOk result (room.picks ≤ spare picker.new) }
+    ensures wide { OnOk result (room.nodes ≤ nodes picker.new) }
+{
+    picker.seed(seed);
+    picker.make_room(room.picks, room.nodes)
+}
+
+/// What is written of a run.
+fn reported(alloc: Global, ran: &Ran) -> Result<Output, AllocError>
+    ensures { IfOk result (λ output. IsReported ran.now (told_answer output)) }
+{
+    let text = report_text(alloc, ran, None)?;
+    Ok(Output {
+        text,
+        end: ending_for(ran.end()),
+    })
+}
+
+/// Lets the order choose the moves of a run, and reports it.
+fn play(
+    alloc: Global,
+    picker: &mut Box<dyn Picker>,
+    sim: Sim,
+    seed: u64,
+    room: Room,
+) -> Result<Output, AllocError>
+    requires steps { sim.steps ≤ room.picks }
+    requires nodes { length sim.net.first ≤ room.nodes }
+    ensures answered { IfOk result (λ output.
+        PlaysOut sim seed (order_state (name picker.old) (log picker.old) (seeded picker.old))
+        (order_state (name picker.new) (log picker.new) (seeded picker.new)) (told_answer output)) }
+    ensures name { name picker.new ≡ name picker.old }
+{
+    prepare(picker, seed, room)?;
+    let ran = sim.run(picker);
+    reported(alloc, &ran)
+}
+
+/// Lets the order at this place choose the moves of a run, and reports it.
+fn play_at(
+    alloc: Global,
+    orders: &mut Vec<Box<dyn Picker>>,
+    place: usize,
+    sim: Sim,
+    seed: u64,
+    room: Room,
+) -> Result<Output, AllocError>
+    requires place { place < length orders.old.items }
+    requires steps { sim.steps ≤ room.picks }
+    requires nodes { length sim.net.first ≤ room.nodes }
+    ensures answered { IfOk result (λ output. SimulatesNet (played_by
+        (map (λ order. order_state (name order) (log order) (seeded order)) orders.old.items)
+        (map (λ order. order_state (name order) (log order) (seeded order)) orders.new.items))
+        place seed sim (told_answer output)) }
+    ensures played { IsPlayedAt place (played_by
+        (map (λ order. order_state (name order) (log order) (seeded order)) orders.old.items)
+        (map (λ order. order_state (name order) (log order) (seeded order)) orders.new.items)) }
+{
+    play(alloc, &mut orders[place], sim, seed, room)
+}
+
+/// Lets the order at this place choose the moves of the run of the net under the script.
+fn run_at<'a>(
+    alloc: Global,
+    players: &mut Players,
+    place: usize,
+    net: Net,
+    script: Script,
+    run: &Simulation,
+) -> Result<Output, Stop<'a>>
+    requires place { place < length players.old.orders.items }
+    requires script { IsScript (net_channels net) script }
+    requires steps { run.now.steps ≤ 1000000 }
+    requires power { lacks_reset run.now.power net.reset ≡ false }
+    ensures answered { IfOk result (λ output. SimulatesNet (played_by
+        (map (λ order. order_state (name order) (log order) (seeded order)) players.old.orders.items)
+        (map (λ order. order_state (name order) (log order) (seeded order)) players.new.orders.items))
+        place run.now.seed (simulation_for net script run.now.steps run.now.power) (told_answer output)) }
+    ensures stopped { IfErr result (λ stop. stop ≡ Stop.NoMemory) }
+    ensures played { IsPlayedAt place (played_by
+        (map (λ order. order_state (name order) (log order) (seeded order)) players.old.orders.items)
+        (map (λ order. order_state (name order) (log order) (seeded order)) players.new.orders.items)) }
+{
+    let room = Room {
+        picks: run.steps,
+        nodes: net.first().len() as u32,
+    };
+    let sim = match simulation(alloc, net, script, run.steps, run.power) {
+        Ok(sim) => sim,
+        Err(_) => return Err(Stop::NoMemory),
+    };
+    match play_at(alloc, &mut players.orders, place, sim, run.seed, room) {
+        Ok(output) => Ok(output),
+        Err(_) => Err(Stop::NoMemory),
+    }
+}
+
+/// What `simulate` answers, where the order at this place is wanted.
+fn simulate_at<'a, S: Shelf>(
+    alloc: Global,
+    shelf: &mut S,
+    players: &mut Players,
+    place: usize,
+    run: &Simulation<'a>,
+) -> Result<Output, Stop<'a>>
+    requires place { place < length players.old.orders.items }
+    requires steps { run.now.steps ≤ 1000000 }
+    ensures answered { IfOk result (λ output. SimulatesAt (run_asked run.now)
+        (given_by (S.tells shelf.old) (S.holds shelf.old)) (played_by
+        (map (λ order. order_state (name order) (log order) (seeded order)) players.old.orders.items)
+        (map (λ order. order_state (name order) (log order) (seeded order)) players.new.orders.items))
+        place (told_answer output)) }
+    ensures stopped { IfErr result (Stops (SimulatesAt (run_asked run.now)
+        (given_by (S.tells shelf.old) (S.holds shelf.old)) (played_by
+        (map (λ order. order_state (name order) (log order) (seeded order)) players.old.orders.items)
+        (map (λ order. order_state (name order) (log order) (seeded order)) players.new.orders.items)) place)
+        (run.now.net.now ∷ run.now.script.now ∷ []) (given_by (S.tells shelf.old) (S.holds shelf.old))
+        (S.faults shelf.old) (S.faults shelf.new)) }
+    ensures played { IsPlayedAt place (played_by
+        (map (λ order. order_state (name order) (log order) (seeded order)) players.old.orders.items)
+        (map (λ order. order_state (name order) (log order) (seeded order)) players.new.orders.items)) }
+    ensures same { S.tells shelf.new ≡ S.tells shelf.old }
+    ensures kept { S.holds shelf.new ≡ S.holds shelf.old }
+    ensures faults { S.faults shelf.old ≤ S.faults shelf.new }
+{
+    let net = match net_in(alloc, shelf, run.net) {
+        Ok(net) => net,
+        Err(stop) => return Err(stop),
+    };
+    if is_powerless(&net, run.power) {
+        return Err(Stop::Refused(Refusal::NoReset));
+    }
+    let channels = match channels_of(alloc, &net) {
+        Ok(channels) => channels,
+        Err(_) => return Err(Stop::NoMemory),
+    };
+    let script = match script_in(alloc, shelf, run.script, &channels) {
+        Ok(script) => script,
+        Err(stop) => return Err(stop),
+    };
+    run_at(alloc, players, place, net, script, run)
+}
+
+/// What `simulate` answers.
+pub fn simulate<'a, S: Shelf>(
+    alloc: Global,
+    shelf: &mut S,
+    players: &mut Players,
+    run: &Simulation<'a>,
+) -> Result<Output, Stop<'a>>
+    requires { run.now.steps ≤ 1000000 }
+    ensures answered { IfOk result (λ output. Simulates (run_asked run.now)
+        (given_by (S.tells shelf.old) (S.holds shelf.old)) (played_by
+        (map (λ order. order_state (name order) (log order) (seeded order)) players.old.orders.items)
+        (map (λ order. order_state (name order) (log order) (seeded order)) players.new.orders.items))
+        (told_answer output)) }
+    ensures stopped { IfErr result (Stops (Simulates (run_asked run.now)
+        (given_by (S.tells shelf.old) (S.holds shelf.old)) (played_by
+        (map (λ order. order_state (name order) (log order) (seeded order)) players.old.orders.items)
+        (map (λ order. order_state (name order) (log order) (seeded order)) players.new.orders.items)))
+        (run.now.net.now ∷ run.now.script.now ∷ []) (given_by (S.tells shelf.old) (S.holds shelf.old))
+        (S.faults shelf.old) (S.faults shelf.new)) }
+    ensures orders { let before = map (λ order. order_state (name order) (log order) (seeded order))
+        players.old.orders.items in
+        KeepsOrders (place_named before run.now.order.now) (played_by before
+        (map (λ order. order_state (name order) (log order) (seeded order)) players.new.orders.items)) }
+    ensures same { S.tells shelf.new ≡ S.tells shelf.old }
+    ensures kept { S.holds shelf.new ≡ S.holds shelf.old }
+    ensures faults { S.faults shelf.old ≤ S.faults shelf.new }
+{
+    match place_of(players, run.order) {
+        Some(place) => simulate_at(alloc, shelf, players, place, run),
+        None => Err(Stop::Refused(Refusal::NoOrder(run.order))),
+    }
+}

@@ -1,0 +1,166 @@
+//! Sets of nodes.
+
+ghost use Rattle.std.specs.Prelude.{◌≡◌, ◌<◌, ◌≤◌, ◌+◌, ◌-◌, ◌^◌, List, Bool, true, false, length, drop, replicate, slice_set, vec_len, IfOk};
+ghost use Rattle.std.specs.List.{insert, remove};
+ghost use Rattle.std.specs.List.Sorted.{IsSearchInRange};
+ghost use Rattle.event_sim.specs.Locality.{is_member, members, IsListPlace};
+
+use std::alloc::{AllocError, Global};
+use std::marker::Model;
+
+/// How many nodes count as near the front of a list.
+const NEAR: usize = 16;
+
+/// Some of the nodes below a number, with their list in ascending order. It is seen as a mark for each node. The list
+/// stands at the end of its slots, so that a change near its front, as where the least node is picked, moves little.
+#[derive(Debug, Drop)]
+pub(crate) struct NodeSet {
+    marks: Vec<bool>,
+    slots: Vec<u32>,
+    from: usize,
+}
+
+impl Model for NodeSet {
+    ghost use Rattle.std.specs.Prelude.{List, Bool};
+    ghost use Rattle.event_sim.specs.Locality.{IsNodeSet};
+
+    ghost Value = { List Bool };
+
+    ghost view = { λ s. s.marks.items };
+
+    ghost invariant = { λ s. IsNodeSet s.marks.items s.slots.items s.from };
+}
+
+fn no_marks(alloc: Global, count: usize) -> Result<Vec<bool>, AllocError>
+    ensures { IfOk result (λ v. v.items ≡ replicate count false) }
+{
+    let mut marks = Vec::with_capacity(alloc, count)?;
+    for _node in 0..count {
+        marks.push(false)?;
+    }
+    Ok(marks)
+}
+
+fn no_slots(alloc: Global, count: usize) -> Result<Vec<u32>, AllocError>
+    ensures { IfOk result (λ v. v.items ≡ replicate count 0) }
+{
+    let mut slots = Vec::with_capacity(alloc, count)?;
+    for _slot in 0..count {
+        slots.push(0)?;
+    }
+    Ok(slots)
+}
+
+/// The list that begins at this slot.
+fn list_from(slots: &[u32], from: usize) -> &[u32]
+    requires { from ≤ length slots.now }
+    ensures { result.now ≡ drop from slots.now }
+{
+    &slots[from..]
+}
+
+/// The place of the node in the list of a set, or the place where it would stand. Where the least node is picked, it is
+/// mostly near the front.
+fn place_in(list: &[u32], node: u32) -> Result<usize, usize>
+    ensures within { IsSearchInRange result (length list.now) }
+    ensures place { (marks : List Bool) → list.now ≡ members marks → IsListPlace list.now node result }
+{
+    if list.len() > NEAR && node <= list[NEAR - 1] {
+        return list[..NEAR].binary_search(&node);
+    }
+    list.binary_search(&node)
+}
+
+/// Inserts the node at a place of the list that begins at this slot, and begins one slot before it then.
+fn insert_at(slots: &mut Vec<u32>, from: usize, place: usize, node: u32)
+    requires room { 0 < from }
+    requires place { from + place ≤ vec_len slots.old }
+    ensures list { drop (from - 1) slots.new.items ≡ insert (drop from slots.old.items) place node }
+    ensures count { vec_len slots.new ≡ vec_len slots.old }
+{
+    slots[from - 1] = node;
+    slots[from - 1..from + place].rotate_left(1);
+}
+
+/// Removes the node at a place of the list that begins at this slot, and begins one slot behind it then.
+fn remove_at(slots: &mut Vec<u32>, from: usize, place: usize)
+    requires place { from + place < vec_len slots.old }
+    ensures list { drop (from + 1) slots.new.items ≡ remove (drop from slots.old.items) place }
+    ensures count { vec_len slots.new ≡ vec_len slots.old }
+{
+    slots[from..from + place + 1].rotate_left(place);
+}
+
+/// Puts the node into the list of a set in which it isn't.
+fn put_in(slots: &mut Vec<u32>, from: usize, node: u32)
+    requires room { 0 < from }
+    requires from { from ≤ vec_len slots.old }
+    ensures list { (marks : List Bool) → drop from slots.old.items ≡ members marks → node < length marks →
+        is_member marks node ≡ false → drop (from - 1) slots.new.items ≡ members (slice_set marks node true) }
+    ensures count { vec_len slots.new ≡ vec_len slots.old }
+{
+    match place_in(list_from(slots, from), node) {
+        Ok(_) => {}
+        Err(place) => insert_at(slots, from, place, node),
+    }
+}
+
+/// Takes the node out of the list of a set in which it is.
+fn take_out(slots: &mut Vec<u32>, from: usize, node: u32)
+    requires from { from ≤ vec_len slots.old }
+    ensures list { (marks : List Bool) → drop from slots.old.items ≡ members marks → node < length marks →
+        is_member marks node ≡ true → drop (from + 1) slots.new.items ≡ members (slice_set marks node false) }
+    ensures count { vec_len slots.new ≡ vec_len slots.old }
+{
+    match place_in(list_from(slots, from), node) {
+        Ok(place) => remove_at(slots, from, place),
+        Err(_) => {}
+    }
+}
+
+impl NodeSet {
+    /// The empty set of nodes below this number.
+    pub(crate) fn new(alloc: Global, count: usize) -> Result<NodeSet, AllocError>
+        requires { count < 2 ^ 32 }
+        ensures { IfOk result (λ s. s ≡ replicate count false) }
+    {
+        let marks = no_marks(alloc, count)?;
+        let from = count + 1;
+        let slots = no_slots(alloc, from)?;
+        Ok(NodeSet { marks, slots, from })
+    }
+
+    /// The nodes, in ascending order.
+    pub(crate) fn nodes(&self) -> &[u32]
+        ensures { result.now ≡ members self.now }
+    {
+        list_from(&self.slots, self.from)
+    }
+
+    /// Whether the node is in the set.
+    pub(crate) fn contains(&self, node: u32) -> bool
+        requires { node < length self.now }
+        ensures { result ≡ is_member self.now node }
+    {
+        self.marks[node as usize]
+    }
+
+    /// Puts the node into the set or takes it out. It takes no memory.
+    pub(crate) fn set(&mut self, node: u32, member: bool)
+        requires { node < length self.old }
+        ensures { self.new ≡ slice_set self.old node member }
+    {
+        let place = node as usize;
+        if self.marks[place] == member {
+            return;
+        }
+        self.marks[place] = member;
+        if member {
+            put_in(&mut self.slots, self.from, node);
+            self.from -= 1;
+        } else {
+            take_out(&mut self.slots, self.from, node);
+            self.from += 1;
+        }
+    }
+}

@@ -1,0 +1,4 @@
+mod Few
+mod Fronts
+mod Onward
+mod Once

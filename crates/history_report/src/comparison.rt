@@ -1,0 +1,200 @@
+//! How the histories of a run compare with those of a program's rounds.
+
+ghost use Rattle.std.specs.Prelude.{◌≡◌, ◌↔◌, ◌⊎◌, ◌++◌, ◌-◌, ◌<◌, ◌≤◌, ℕ, length, map, true, IfOk, IfSome, IfNone, OnOk};
+ghost use Rattle.prs_core.specs.declared.wires.Wires.{Wires as WiresValue};
+ghost use Rattle.env_script.specs.Environment.{net_channels};
+ghost use Rattle.env_script.specs.Runs.{history_at};
+ghost use Rattle.env_script.specs.Scripts.{IsScript};
+ghost use Rattle.event_sim.specs.Passing.{values_through};
+ghost use Rattle.width_check.specs.Sharing.{MeetsSharing};
+ghost use Rattle.width_check.specs.Typed.{program_of};
+ghost use Rattle.width_check.specs.View.{process_of};
+ghost use Rattle.chp_meaning.specs.Rounds.{rounds_from};
+ghost use Rattle.chp_meaning.specs.Ends.{seen, IsOf};
+ghost use Rattle.history_report.specs.Comparing.{IsFrontOf, IsFirstDifference, run_history, IsAgainst, IsAgainstIn, against_line};
+
+use crate::report::{append, channel_name};
+use chp_base::Channel;
+use chp_meaning::{Config, round, start};
+use env_script::Script;
+use event_sim::Ran;
+use itoa::Buffer;
+use prs_core::Wires;
+use std::alloc::{AllocError, Global};
+use width_check::Typed;
+
+/// How the histories of a run stand against those of as many rounds of a program as the run has moves.
+#[derive(Clone, Copy, Debug, PartialEq, Eq)]
+pub enum Against {
+    /// On each channel the run has passed a front of what the rounds pass.
+    Agrees,
+    /// The net's channels aren't the program's.
+    Channels,
+    /// What the run has passed on this channel, the first such one, is no front of what the rounds pass there. This is
+    /// the first place, counted from 0, at which the run's value isn't that of the rounds, or they have none.
+    Differs { chan: u32, place: u32 },
+}
+
+/// Whether the two channels have one name, one kind and one width.
+fn is_same_channel(one: &Channel, other: &Channel) -> bool
+    ensures { (result ≡ true) ↔ (one.now ≡ other.now) }
+{
+    one.name.bytes() == other.name.bytes() && one.kind == other.kind && one.width == other.width
+}
+
+/// Whether the channels with these wires are these channels, in order.
+fn are_channels(wires: &[Wires], channels: &[Channel]) -> bool
+    ensures { (result ≡ true) ↔ (map (λ (w : WiresValue). w.channel) wires.now ≡ channels.now) }
+{
+    if wires.len() != channels.len() {
+        return false;
+    }
+    for (chan, wire) in wires.iter().enumerate() {
+        if !is_same_channel(&wire.channel, &channels[chan]) {
+            return false;
+        }
+    }
+    true
+}
+
+/// The values that passed on the channel of this number.
+fn values_on(alloc: Global, passed: &[(u32, u64)], chan: u32) -> Result<Vec<u64>, AllocError>
+    ensures { IfOk result (λ values. values.items ≡ values_through chan passed.now) }
+{
+    passed
+        .iter()
+        .filter(|(on, _)| *on == chan)
+        .map(|(_, value)| *value)
+        .collect(alloc)
+}
+
+/// The first place at which the values aren't those of the history.
+fn first_difference(values: &[u64], history: &[u64]) -> Option<usize>
+    ensures some { IfSome result (λ place. IsFirstDifference values.now history.now place) }
+    ensures none { IfNone result (IsFrontOf values.now history.now) }
+{
+    for (place, value) in values.iter().enumerate() {
+        if place >= history.len() || history[place] != *value {
+            return Some(place);
+        }
+    }
+    None
+}
+
+/// Makes rounds until so many values have passed on the channel. As many rounds as `left` says may still be made; where
+/// no step is left all of them are over.
+fn reach(
+    alloc: Global,
+    config: &mut Config,
+    program: &Typed,
+    left: &mut u32,
+    chan: u32,
+    wanted: usize,
+) -> Result<(), AllocError>
+    requires sharing { MeetsSharing (process_of program.now.body) }
+    requires of { IsOf program.now config.old }
+    requires within { chan < length program.now.channels }
+    ensures of { IsOf program.now config.new }
+    ensures fewer { OnOk result (left.new ≤ left.old) }
+    ensures made { OnOk result (seen program.now config.new
+        ≡ rounds_from (seen program.now config.old) (left.old - left.new)) }
+    ensures enough { OnOk result ((left.new ≡ 0)
+        ⊎ (wanted ≤ length (history_at (seen program.now config.new).histories chan))) }
+{
+    while *left > 0 && config.history(chan).len() < wanted {
+        if round(alloc, config, program)? {
+            *left -= 1;
+        } else {
+            *left = 0;
+        }
+    }
+    Ok(())
+}
+
+/// The first place at which what the run has passed on the channel isn't what the rounds pass there. The rounds go on
+/// only until they have passed as many values there: what more of them would pass stands behind these.
+fn difference_on(
+    alloc: Global,
+    ran: &Ran,
+    config: &mut Config,
+    program: &Typed,
+    left: &mut u32,
+    chan: u32,
+) -> Result<Option<usize>, AllocError>
+    requires sharing { MeetsSharing (process_of program.now.body) }
+    requires of { IsOf program.now config.old }
+    requires within { chan < length program.now.channels }
+    ensures of { IsOf program.now config.new }
+    ensures fewer { OnOk result (left.new ≤ left.old) }
+    ensures made { OnOk result (seen program.now config.new
+        ≡ rounds_from (seen program.now config.old) (left.old - left.new)) }
+    ensures some { IfOk result (λ found. IfSome found (λ place. IsFirstDifference (run_history ran.now chan)
+        (history_at (rounds_from (seen program.now config.new) left.new).histories chan) place)) }
+    ensures none { IfOk result (λ found. IfNone found (IsFrontOf (run_history ran.now chan)
+        (history_at (rounds_from (seen program.now config.new) left.new).histories chan))) }
+{
+    let values = values_on(alloc, ran.passed(), chan)?;
+    reach(alloc, config, program, left, chan, values.len())?;
+    Ok(first_difference(&values, config.history(chan)))
+}
+
+/// The place as a number of 32 bits. A run with a place beyond them has more values than memory holds, and counts as
+/// want of it.
+fn place_number(place: usize) -> Result<u32, AllocError>
+    ensures { IfOk result (λ number. number ≡ place) }
+{
+    match u32::try_from(place) {
+        Ok(number) => Ok(number),
+        Err(_) => Err(AllocError),
+    }
+}
+
+/// Compares what the run has passed with what as many rounds of the program as it has moves pass, under this script of
+/// the net's channels.
+pub fn compare(
+    alloc: Global,
+    ran: &Ran,
+    program: &Typed,
+    script: &Script,
+) -> Result<Against, AllocError>
+    requires script { IsScript (net_channels ran.now.net) script.now }
+    requires sharing { MeetsSharing (process_of program.now.body) }
+    ensures against { IfOk result (λ against. IsAgainst ran.now (program_of program.now) script.now against) }
+    ensures within { IfOk result (λ against. IsAgainstIn ran.now.net against) }
+{
+    let channels = ran.net().channels();
+    if !are_channels(channels, program.channels()) {
+        return Ok(Against::Channels);
+    }
+    let mut config = start(alloc, program, script)?;
+    let mut left = ran.moves();
+    for chan in 0..channels.len() as u32 {
+        if let Some(place) = difference_on(alloc, ran, &mut config, program, &mut left, chan)? {
+            let place = place_number(place)?;
+            return Ok(Against::Differs { chan, place });
+        }
+    }
+    Ok(Against::Agrees)
+}
+
+/// The line that a report has last where its run was compared. (The format is our profile.)
+pub fn against_text(alloc: Global, ran: &Ran, against: Against) -> Result<Vec<u8>, AllocError>
+    requires { IsAgainstIn ran.now.net against }
+    ensures { IfOk result (λ v. v.items ≡ against_line ran.now.net against) }
+{
+    let mut text = Vec::new(alloc);
+    match against {
+        Against::Agrees => append(&mut text, &[b"against agrees\n"])?,
+        Against::Channels => append(&mut text, &[b"against channels\n"])?,
+        Against::Differs { chan, place } => {
+            let mut buffer = Buffer::new();
+            let number = buffer.format(place).as_bytes();
+            let name = channel_name(ran.net(), chan);
+            append(
+                &mut text,
+                &[b"against differs ", name, b" at ", number, b"\n"],
+            )?;
+        }
+    }
+    Ok(text)
+}
