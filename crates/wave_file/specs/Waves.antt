@@ -43,9 +43,9 @@ abbrev pub var_spelling : ℕ → List ℕ → List ℕ
 var_spelling node name = naming (id_of node) name
 
 -- a line for each of these names, whose nodes are numbered from this one on
-abbrev pub var_lines : ℕ → List (List ℕ) → List ℕ
-var_lines node [] = []
-var_lines node (name ∷ names) = var_spelling node name ++ var_lines (node + 1) names
+abbrev pub naming_lines : ℕ → List (List ℕ) → List ℕ
+naming_lines node [] = []
+naming_lines node (name ∷ names) = var_spelling node name ++ naming_lines (node + 1) names
 
 -- the node of the identifier takes this value
 abbrev pub value_spelling_of : Bool → List ℕ → List ℕ
@@ -73,7 +73,7 @@ abbrev pub wave_spelling : WaveValue → List ℕ
 wave_spelling w =
     concat (
     codes "$timescale 1 ns $end\n" ∷ codes "$scope module top $end\n"
-    ∷ var_lines 0 w.names
+    ∷ naming_lines 0 w.names
     ∷ codes "$upscope $end\n" ∷ codes "$enddefinitions $end\n" ∷ codes "#0\n"
     ∷ first_lines 0 w.first
     ∷ change_lines 0 w.first w.changes

@@ -2,7 +2,7 @@
 
 ghost use Rattle.std.specs.Prelude.{◌≡◌, ◌<◌, ◌≤◌, ◌++◌, ℕ, not, length, All, IfOk, OnOk};
 ghost use Rattle.prs_core.specs.Moves.{high, fired};
-ghost use Rattle.wave_file.specs.Waves.{wave_of, IsWave, mark_before, value_spelling_of, id_of, var_spelling, var_lines, first_lines, change_lines, wave_spelling};
+ghost use Rattle.wave_file.specs.Waves.{wave_of, IsWave, mark_before, value_spelling_of, id_of, var_spelling, naming_lines, first_lines, change_lines, wave_spelling};
 
 use crate::forms::{append, time_line, value_line, var_line};
 use crate::wave::Wave;
@@ -31,7 +31,7 @@ fn name_line(name: &Name, node: u32, to: &mut Vec<u8>) -> Result<(), AllocError>
 /// Appends a line for each node.
 fn var_lines(names: &[Name], to: &mut Vec<u8>) -> Result<(), AllocError>
     requires { length names.now ≤ 65537 }
-    ensures { OnOk result (to.new.items ≡ to.old.items ++ var_lines 0 names.now) }
+    ensures { OnOk result (to.new.items ≡ to.old.items ++ naming_lines 0 names.now) }
 {
     for node in 0..names.len() as u32 {
         name_line(&names[node as usize], node, to)?;
@@ -69,7 +69,8 @@ fn change_line(
     to: &mut Vec<u8>,
 ) -> Result<(), AllocError>
     requires { node < 65537 }
-    ensures { OnOk result (to.new.items ≡ to.old.items ++ (mark_before now time ++ value_spelling_of value (id_of node))) }
+    ensures { OnOk result (to.new.items
+        ≡ to.old.items ++ (mark_before now time ++ value_spelling_of value (id_of node))) }
 {
     mark_before(now, time, to)?;
     value_line(value, node, to)
