@@ -1,0 +1,12 @@
+//! Waves.
+
+use chp_base::Name;
+
+/// What moved when: the names of some nodes, their first values, and the changes in order of their times, each by its
+/// time and its node, which takes the value that it hadn't.
+#[derive(Debug, Drop)]
+pub struct Wave {
+    pub names: Vec<Name>,
+    pub first: Vec<bool>,
+    pub changes: Vec<(u64, u32)>,
+}
