@@ -119,7 +119,8 @@ module _ (powered : (net : NetValue) (high : Bool) → IsNet net → IsSome net.
           let calm : last_hazard f.net f.script (start_at sim) moves ≡ None =
           safe_calm f.net f.script (λ st n safe. (law f.net f.script st n f.file.kept).0 safe) (start_at sim) moves (carried_safe _ f moves run) in
           let ended : calm_end (enabled_moves f.net f.script (after f.net (start_at sim) moves)) (length moves == s.steps) ≡ Some f.plays.end =
-          sym (ap (λ h. end_with h (enabled_moves f.net f.script (after f.net (start_at sim) moves)) (length moves == s.steps)) calm) ∙ f.plays.run.ends.ended in
+          sym (ap (λ h. end_with h (enabled_moves f.net f.script (after f.net (start_at sim) moves)) (length moves == s.steps)) calm)
+          ∙ f.plays.run.ends.ended in
           let told : end ≡ ending_for f.plays.end = let is = f.plays.written in cc is in
           told ∙ calm_done _ _ f.plays.end ended
 

@@ -78,7 +78,8 @@ module _ (asked : Option Asked) (given : Given) (played : Played) (rb ra pb pa :
   write_of (unread name own fault missed) e = absurd (cc e)
   write_of no_memory e = absurd (cc e)
 
-  one : ((command : Asked) → OneAnswer (IsAnswer command given played)) → (o : Option Asked) (a b : Answer) → AnswersTo o given played a → AnswersTo o given played b → a ≡ b
+  one : ((command : Asked) → OneAnswer (IsAnswer command given played)) → (o : Option Asked) (a b : Answer) → AnswersTo o given played a →
+      AnswersTo o given played b → a ≡ b
   one law None a b is are = absurd is
   one law (Some command) a b is are = law command a b is are
 

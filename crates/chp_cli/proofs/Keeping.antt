@@ -47,7 +47,8 @@ name_kept orders place order name = go (slice_get orders place) refl
 
 pub only_played : (place : ℕ) (played : Played) → IsPlayedAt place played → KeepsOrders (Some place) played
 only_played place played is = record {
-  names = ap (λ orders. map name_of orders) is.changed ∙ map-set_same name_of played.before place is.order is.order (name_kept played.before place is.order is.name);
+  names = ap (λ orders. map name_of orders) is.changed
+      ∙ map-set_same name_of played.before place is.order is.order (name_kept played.before place is.order is.name);
   others = λ k other. ap (λ orders. slice_get orders k) is.changed ∙ get_other played.before place k is.order (λ e. other (ap (λ n. Some n) e));
 }
 

@@ -36,7 +36,8 @@ module _ (net : NetValue) (power : Option Bool) (Next : Answer → Type 0) (next
   power_once a b (has_power is n) (no_reset m) = absurd (cc (m, is))
   power_once a b (has_power is n) (has_power are m) = next a b n m
 
-module _ (channels : List Channel) (text : List ℕ) (Next : List OfferValue → Answer → Type 0) (next : (script : List OfferValue) → OneAnswer (Next script)) where
+module _ (channels : List Channel) (text : List ℕ) (Next : List OfferValue → Answer → Type 0) (next : (script : List OfferValue) →
+    OneAnswer (Next script)) where
   pub script_once : (a b : Answer) → FromScript channels text Next a → FromScript channels text Next b → a ≡ b
   script_once a b (no_script {fault = f} {line = l} n) (no_script {fault = g} {line = k} m) =
       let same = m.only f l n.cause in

@@ -397,7 +397,8 @@ no_seed a b sum bad = rw bad refl
 no_stages : (a b : Text) (sum : Bool) → is_decimal b ≡ false → growth_in a b sum ≡ None
 no_stages a b sum bad = go (number_up_to most_of_seed a)
   where
-    go : (s : Option ℕ) → option_and_then (λ n. option_and_then (λ m. if nat_le 1 m then Some (growth n m sum) else None) (number_up_to most_of_stages b)) s ≡ None
+    go : (s : Option ℕ) → option_and_then (λ n. option_and_then (λ m. if nat_le 1 m then Some (growth n m sum) else None) (number_up_to most_of_stages b)) s ≡
+        None
     go None = refl
     go (Some n) = rw bad refl
 

@@ -39,7 +39,8 @@ module _ (r : AskedRounds) (given : Given) where
   files : List (List ℕ)
   files = r.file ∷ r.script ∷ []
 
-  pub program_stopped : (before after : ℕ) (stop : Stop) → Stops (FromFile given r.file most_of_text (λ text. FromProgram text OnlyChecks)) (r.file ∷ []) given before after stop
+  pub program_stopped : (before after : ℕ) (stop : Stop) →
+      Stops (FromFile given r.file most_of_text (λ text. FromProgram text OnlyChecks)) (r.file ∷ []) given before after stop
       → Stops (Runs r given) (r.file ∷ r.script ∷ []) given before after stop
   program_stopped before after stop stops =
       stops_in (FromFile given r.file most_of_text (λ text. FromProgram text OnlyChecks)) (Runs r given)
@@ -73,4 +74,5 @@ module _ (r : AskedRounds) (given : Given) where
       pub report_stopped : (before after : ℕ) (stop : Stop) → Halts (ReportsRounds program script r.rounds) stop →
           Stops (Runs r given) (r.file ∷ r.script ∷ []) given before after stop
       report_stopped before after stop halts =
-          stops_where (ReportsRounds program script r.rounds) (Runs r given) (λ answer is. reports answer is) (r.file ∷ r.script ∷ []) given before after stop halts
+          stops_where (ReportsRounds program script r.rounds) (Runs r given) (λ answer is. reports answer is) (r.file ∷ r.script ∷ []) given before after stop
+          halts

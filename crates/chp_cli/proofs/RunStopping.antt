@@ -35,7 +35,8 @@ first_file a b name (suc k, within, is) = absurd (omega arith)
 -- ---- within `simulate`
 
 module _ (run : AskedRun) (given : Given) (played : Played) (place : ℕ) where
-  pub net_stops : (before after : ℕ) (stop : Stop) → Stops (FromFile given run.net most_of_net (λ text. FromNet text Never)) (run.net ∷ []) given before after stop
+  pub net_stops : (before after : ℕ) (stop : Stop) →
+      Stops (FromFile given run.net most_of_net (λ text. FromNet text Never)) (run.net ∷ []) given before after stop
       → Stops (SimulatesAt run given played place) (run.net ∷ run.script ∷ []) given before after stop
   net_stops before after stop stops =
       stops_in (FromFile given run.net most_of_net (λ text. FromNet text Never)) (SimulatesAt run given played place)
@@ -72,7 +73,8 @@ same_given P tells tells_now files files_now a told held is =
 
 -- ---- behind the order
 
-pub order_stops : (run : AskedRun) (given : Given) (played : Played) (place : ℕ) → place_named played.before run.order ≡ Some place → (before after : ℕ) (stop : Stop)
+pub order_stops : (run : AskedRun) (given : Given) (played : Played) (place : ℕ) → place_named played.before run.order ≡ Some place →
+    (before after : ℕ) (stop : Stop)
     → Stops (SimulatesAt run given played place) (run.net ∷ run.script ∷ []) given before after stop
     → Stops (Simulates run given played) (run.net ∷ run.script ∷ []) given before after stop
 order_stops run given played place named before after stop stops =

@@ -27,7 +27,8 @@ asked_order (Some command) orders = order_of command orders
 
 -- A call ends in one of these ways. The counts of faults are those of the shelf and of the output, before the call and
 -- after it.
-pub data Ends (asked : Option Asked) (given : Given) (played : Played) (read_before read_after put_before put_after : ℕ) :
+pub data Ends (asked : Option Asked) (given : Given) (played : Played)
+    (read_before read_after put_before put_after : ℕ) :
     Status → (appended line : List ℕ) → Type 0 where
   -- the words are no form of a command
   formless : asked ≡ None → Ends asked given played read_before read_after put_before put_after Usage [] usage_line
@@ -35,10 +36,12 @@ pub data Ends (asked : Option Asked) (given : Given) (played : Played) (read_bef
   whole : (end : Ending) (text : List ℕ) → AnswersTo asked given played (writes end text)
       → Ends asked given played read_before read_after put_before put_after (status_with end) text (line_with end)
   -- it writes, and the output failed: a front was written
-  cut_off : (end : Ending) (text : List ℕ) (n : ℕ) → AnswersTo asked given played (writes end text) → Rose put_before put_after
+  cut_off : (end : Ending) (text : List ℕ) (n : ℕ) → AnswersTo asked given played (writes end text) →
+      Rose put_before put_after
       → Ends asked given played read_before read_after put_before put_after Write (take n text) write_line
   -- it refuses
-  refused : (status : Status) (line : List ℕ) → is_refusing status ≡ true → AnswersTo asked given played (refuses status line)
+  refused : (status : Status) (line : List ℕ) → is_refusing status ≡ true →
+      AnswersTo asked given played (refuses status line)
       → Ends asked given played read_before read_after put_before put_after status [] line
   -- a read fault of a file of the command: the shelf failed, or that the file isn't there is the command's answer
   unread : (name : List ℕ) → IsFile asked name → IsReadFault read_before read_after given.tells (given.files name)

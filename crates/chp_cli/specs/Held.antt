@@ -15,8 +15,9 @@ pub record HoldsNet (given : Given) (file : List ℕ) (net : NetValue) : Type 0 
   pub is : IsFileOf text net
 
 -- this script of these channels, within its limit
-pub record HoldsScript (given : Given) (file : List ℕ) (channels : List Channel) (script : List OfferValue) : Type 0 where
-  pub text : List ℕ
-  pub gives : Gives given file text
-  pub short : length text ≤ most_of_script
-  pub is : IsScriptOf channels text script
+pub record HoldsScript (given : Given) (file : List ℕ) (channels : List Channel) (script : List OfferValue) : Type 0
+  where
+    pub text : List ℕ
+    pub gives : Gives given file text
+    pub short : length text ≤ most_of_script
+    pub is : IsScriptOf channels text script

@@ -1,8 +1,8 @@
 -- The handed-in orders, as far as a call speaks of them.
 use Rattle.std.specs.Prelude.{◌≡◌, ◌≢◌, ℕ, List, map, slice_get, slice_set, position, bytes_eq, Option, Some}
 
--- what is known of an order: its name, all places that it has picked, and the last seed that it was given, with how many
--- places those were then
+-- what is known of an order: its name, all places that it has picked, and the last seed that it was given, with how
+-- many places those were then
 pub record OrderState : Type 0 where
   pub name : List ℕ
   pub log : List ℕ

@@ -48,7 +48,8 @@ pub record IsNoScriptOf (channels : List Channel) (text : List ℕ) (fault : Scr
   pub only : IsOnlyRefusal channels text fault line
 
 -- it reads the text as a script of these channels
-pub data FromScript (channels : List Channel) (text : List ℕ) (Next : List OfferValue → Answer → Type 0) : Answer → Type 0 where
+pub data FromScript (channels : List Channel) (text : List ℕ) (Next : List OfferValue → Answer → Type 0) : Answer →
+    Type 0 where
   no_script : {fault : ScriptFault} {line : ℕ} → IsNoScriptOf channels text fault line →
       FromScript channels text Next (refuses BadFile (bad_script_line fault line))
   a_script : {script : List OfferValue} {answer : Answer} → IsScriptOf channels text script → Next script answer →

@@ -16,8 +16,8 @@ use Rattle.chp_cli.specs.RunSteps.{IsScriptOf, lacks_reset, most_of_script}
 use Rattle.chp_cli.specs.Simulating.{AskedRun, PlaysOut, simulation_for}
 use Rattle.chp_cli.specs.Steps.{IsFileOf, most_of_net}
 
--- The files hold the rule file of a net and a script of its channels; and the order of the wanted name led to a run of this
--- net under this script, which is reported.
+-- The files hold the rule file of a net and a script of its channels; and the order of the wanted name led to a run of
+-- this net under this script, which is reported.
 pub record IsFileSimulated (s : AskedRun) (given : Given) (played : Played) (answer : Answer) : Type 0 where
   pub rules : List ℕ
   pub net : NetValue
@@ -36,8 +36,8 @@ pub record IsFileSimulated (s : AskedRun) (given : Given) (played : Played) (ans
   pub after : slice_get played.after place ≡ Some is
   pub plays : PlaysOut (simulation_for net script s.steps s.power) s.seed was is answer
 
--- the file holds the rule file of a net that carries the program: from its first values, or with a reset node from every
--- power-up state
+-- the file holds the rule file of a net that carries the program: from its first values, or with a reset node from
+-- every power-up state
 pub record HoldsCarrying (given : Given) (file : List ℕ) (p : TypedProgram) : Type 0 where
   pub rules : List ℕ
   pub net : NetValue
@@ -46,8 +46,8 @@ pub record HoldsCarrying (given : Given) (file : List ℕ) (p : TypedProgram) : 
   pub spelled : NetText rules net
   pub carries : ((net.reset ≡ None) × Carries net p) ⊎ CarriesReset net p
 
--- the files hold what can be simulated: a rule file within its limit, of a net that can have the power that is asked for,
--- and a script of its channels within its own; and there is an order of the wanted name
+-- the files hold what can be simulated: a rule file within its limit, of a net that can have the power that is asked
+-- for, and a script of its channels within its own; and there is an order of the wanted name
 pub record IsToSimulate (s : AskedRun) (given : Given) (played : Played) : Type 0 where
   pub rules : List ℕ
   pub net : NetValue
@@ -64,9 +64,10 @@ pub record IsToSimulate (s : AskedRun) (given : Given) (played : Played) : Type 
   pub says : IsScriptText (net_channels net) told script
   pub named : place_named played.before s.order ≡ Some place
 
--- where it reports rest, no run from that state has more moves than the one that was made, and each one that rests has as
--- many, of each node as many
-abbrev pub EndsAllAtRest : (s : AskedRun) (given : Given) (played : Played) (answer : Answer) → IsFileSimulated s given played answer → Type 0
+-- where it reports rest, no run from that state has more moves than the one that was made, and each one that rests has
+-- as many, of each node as many
+abbrev pub EndsAllAtRest : (s : AskedRun) (given : Given) (played : Played) (answer : Answer) →
+    IsFileSimulated s given played answer → Type 0
 EndsAllAtRest s given played answer f = f.plays.end ≡ AtRest →
     let sim = simulation_for f.net f.script s.steps s.power in
     EndsAll f.net f.script (start_at sim) (picked_moves sim f.was.log f.is.log)

@@ -50,14 +50,15 @@ pub fn migrates_all()
 {}
 
 /// Law: what `simulate` writes is the report of one run of the net under the script that its files hold, to which the
-/// order of the wanted name led after it was given the seed: what its log has grown by in the call are places in the lists of
-/// enabled moves, one for each move; and the run has ended as is reported, and no shorter part of it has.
+/// order of the wanted name led after it was given the seed: what its log has grown by in the call are places in the
+/// lists of enabled moves, one for each move; and the run has ended as is reported, and no shorter part of it has.
 pub fn simulated_right()
     ensures { (s : AskedRun) (given : Given) (played : Played) → given.tells ≡ true → (end : Ending) (text : List ℕ) →
         Simulates s given played (writes end text) → IsFileSimulated s given played (writes end text) }
 {}
 
-/// Law: the only answers of `simulate` to files that hold what can be simulated, by an order that is there, are to write.
+/// Law: the only answers of `simulate` to files that hold what can be simulated, by an order that is there, are to
+/// write.
 pub fn simulates_all()
     ensures { (s : AskedRun) (given : Given) (played : Played) → given.tells ≡ true → IsToSimulate s given played →
         (answer : Answer) → Simulates s given played answer → is_whole (status_of answer) ≡ true }
@@ -73,8 +74,8 @@ pub fn carried_runs_are_safe()
     safe_moves_bring_no_hazard();
 }
 
-/// Law: where the simulation of such a rule file reports rest, no order makes more moves of it under that script from that
-/// state, and each run that rests has as many moves, of each node as many.
+/// Law: where the simulation of such a rule file reports rest, no order makes more moves of it under that script from
+/// that state, and each run that rests has as many moves, of each node as many.
 pub fn carried_runs_have_one_length()
     ensures { (s : AskedRun) (given : Given) (played : Played) (p : TypedProgram) → HoldsCarrying given s.net p →
         (answer : Answer) (f : IsFileSimulated s given played answer) → EndsAllAtRest s given played answer f }

@@ -111,8 +111,8 @@ fn run<'a, S: Shelf, K: Sink>(
 /// fails, and a front of what the command writes was written (`Write`), or memory runs out (`NoMemory`), which may be
 /// at any point and is merged with no other answer.
 ///
-/// Of the handed-in orders only the one that the command asks for is used, if it asks for one: all others are as they were,
-/// and all have their names and their places still.
+/// Of the handed-in orders only the one that the command asks for is used, if it asks for one: all others are as they
+/// were, and all have their names and their places still.
 pub fn chp_main<S: Shelf, K: Sink, W: Sink>(
     alloc: Global,
     words: &[String],

@@ -24,7 +24,8 @@ const MOST_OF_SCRIPT: usize = 2_097_152;
 pub fn net_in<'a, S: Shelf>(alloc: Global, shelf: &mut S, file: &'a str) -> Result<Net, Stop<'a>>
     ensures read { IfOk result (λ net. HoldsNet (given_by (S.tells shelf.old) (S.holds shelf.old)) file.entry.now net) }
     ensures stopped { IfErr result (Stops
-        (FromFile (given_by (S.tells shelf.old) (S.holds shelf.old)) file.entry.now most_of_net (λ text. FromNet text Never))
+        (FromFile (given_by (S.tells shelf.old) (S.holds shelf.old)) file.entry.now most_of_net
+        (λ text. FromNet text Never))
         (file.entry.now ∷ []) (given_by (S.tells shelf.old) (S.holds shelf.old)) (S.faults shelf.old)
         (S.faults shelf.new)) }
     ensures same { S.tells shelf.new ≡ S.tells shelf.old }

@@ -113,8 +113,8 @@ impl Picker for Starve {
     }
 }
 
-/// Goes by the bytes of a text, one for each pick, from the first one on and again from there; it takes the place that is
-/// the byte modulo the length of the list.
+/// Goes by the bytes of a text, one for each pick, from the first one on and again from there; it takes the place that
+/// is the byte modulo the length of the list.
 #[derive(Drop)]
 pub struct ByText {
     text: Vec<u8>,

@@ -157,8 +157,8 @@ pub fn keep(
     bench.append(ran.out.written())
 }
 
-/// Runs the words by each of the four orders, with the seed 7: the report by the first one, and then of each further one
-/// whether its report is the same, and whether it picked as one before it did.
+/// Runs the words by each of the four orders, with the seed 7: the report by the first one, and then of each further
+/// one whether its report is the same, and whether it picked as one before it did.
 pub fn run_orders(
     alloc: Global,
     bench: &Bench,
@@ -227,7 +227,8 @@ pub fn run_shelf_faults(
     Ok(())
 }
 
-/// Runs the words, and each call of a sink that takes one byte a call fails in turn, up to the first run without a fault.
+/// Runs the words, and each call of a sink that takes one byte a call fails in turn, up to the first run without a
+/// fault.
 pub fn run_sink_faults(
     alloc: Global,
     bench: &mut Bench,

@@ -56,7 +56,8 @@ behind_later t c n meeting of = run_behind (rounds_lead n (seen t c) (reached_fi
 module _ (t : TypedValue) (c : Config) (left chan : ℕ) (xs : List ℕ) (meeting : MeetsSharing (process_of t.body)) (of : IsOf t c) where
   pub front_after : IsFrontOf xs (history_at (seen t c).histories chan) → IsFrontOf xs (history_at (rounds_from (seen t c) left).histories chan)
   front_after front =
-      front_longer xs (history_at (seen t c).histories chan) (history_at (rounds_from (seen t c) left).histories chan) front (behind_later t c left meeting of chan)
+      front_longer xs (history_at (seen t c).histories chan) (history_at (rounds_from (seen t c) left).histories chan) front
+      (behind_later t c left meeting of chan)
 
   pub difference_after : (place : ℕ) → (left ≡ 0) ⊎ (length xs ≤ length (history_at (seen t c).histories chan))
       → IsFirstDifference xs (history_at (seen t c).histories chan) place

@@ -35,8 +35,8 @@ rounds_history r p script chan = history_at (rounds p script r.moves).histories 
 abbrev pub IsBehindRounds : RanValue → TypedProgram → List OfferValue → (chan : ℕ) → Type 0
 IsBehindRounds r p script chan = IsFrontOf (run_history r chan) (rounds_history r p script chan)
 
--- The run's net has other channels than the program. Or it has the same, and on the first channel on which the run isn't
--- behind the rounds this is the first place that differs. Or it is behind them on each.
+-- The run's net has other channels than the program. Or it has the same, and on the first channel on which the run
+-- isn't behind the rounds this is the first place that differs. Or it is behind them on each.
 abbrev pub IsAgainst : RanValue → TypedProgram → List OfferValue → Against → Type 0
 IsAgainst r p script Channels = net_channels r.net ≢ p.channels
 IsAgainst r p script (Differs chan place) = (net_channels r.net ≡ p.channels) × (chan < length p.channels)

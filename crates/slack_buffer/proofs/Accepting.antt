@@ -93,7 +93,8 @@ double_none p chan k b s f = by_later (cases_lt f.later (length p.decls)) (cases
     })
     by_later (inr h) (inl g) =
         let apart = new_apart p chan k b f.first f.earlier (old_first g) in
-        ⊎_elim (λ e. apart.0 (f.same ∙ e)) (λ e. apart.1 (f.same ∙ e)) (second_new (f.later - length p.decls) (second_at (f.later - length p.decls) (omega (arith, h))))
+        ⊎_elim (λ e. apart.0 (f.same ∙ e)) (λ e. apart.1 (f.same ∙ e))
+        (second_new (f.later - length p.decls) (second_at (f.later - length p.decls) (omega (arith, h))))
     by_later (inr h) (inr g) =
         let o = f.order in
         both_new (f.earlier - length p.decls) (f.later - length p.decls) (omega (arith, h, g, o)) (first_at (f.earlier - length p.decls) (omega (arith, g)))
@@ -188,11 +189,14 @@ fine p chan k b u i =
     made : In (uses_in (buffer_statement chan (copy_name k) (slot_name k)) ++ []) u → IsFine ds u
     made (inl e) = fine_by ds u chan received_on b.inner.0 (sym (ap (λ (z : Use). z.name) e)) (sym (ap (λ (z : Use). z.role) e)) (chan_found p chan k b)
         (ap is_var b.inner.2) (λ g. absurd (cc (g, b.inner.2))) (λ g. absurd (cc (g, b.inner.2)))
-    made (inr (inl e)) = fine_by ds u (slot_name k) stored var_decl (sym (ap (λ (z : Use). z.name) e)) (sym (ap (λ (z : Use). z.role) e)) (slot_found p chan k b) refl
+    made (inr (inl e)) = fine_by ds u (slot_name k) stored var_decl (sym (ap (λ (z : Use). z.name) e)) (sym (ap (λ (z : Use). z.role) e))
+        (slot_found p chan k b) refl
         (λ g. absurd (cc g)) (λ g. absurd (cc g))
-    made (inr (inr (inl e))) = fine_by ds u (copy_name k) sent_on chan_decl (sym (ap (λ (z : Use). z.name) e)) (sym (ap (λ (z : Use). z.role) e)) (copy_found p chan k b)
+    made (inr (inr (inl e))) = fine_by ds u (copy_name k) sent_on chan_decl (sym (ap (λ (z : Use). z.name) e)) (sym (ap (λ (z : Use). z.role) e))
+        (copy_found p chan k b)
         refl (λ g. absurd (cc g)) (λ g. absurd (cc g))
-    made (inr (inr (inr (inl e)))) = fine_by ds u (slot_name k) read var_decl (sym (ap (λ (z : Use). z.name) e)) (sym (ap (λ (z : Use). z.role) e)) (slot_found p chan k b)
+    made (inr (inr (inr (inl e)))) = fine_by ds u (slot_name k) read var_decl (sym (ap (λ (z : Use). z.name) e)) (sym (ap (λ (z : Use). z.role) e))
+        (slot_found p chan k b)
         refl (λ g. absurd (cc g)) (λ g. absurd (cc g))
     made (inr (inr (inr (inr j)))) = absurd j
 
@@ -392,13 +396,15 @@ leaf_none p chan k b s f =
 -- receives
 
 reception_from : (p : ProgramTree) (chan : List ℕ) (k : ℕ) (r : Reception) → In (receptions_in (buffered_tree p chan k).body) r →
-    ((q : Reception) × In (receptions_in p.body) q × IsSameReception chan (copy_name k) r q) ⊎ ((r.chan ≡ made_name chan) × (r.target ≡ made_name (slot_name k)))
+    ((q : Reception) × In (receptions_in p.body) q × IsSameReception chan (copy_name k) r q) ⊎ ((r.chan ≡ made_name chan)
+    × (r.target ≡ made_name (slot_name k)))
 reception_from p chan k r i =
     ⊎_elim (λ j. inl (receptions_come chan (copy_name k) p.body r j)) last
     (in_either (receptions_in (rerouted_statement chan (copy_name k) p.body)) _ r i)
   where
     last : In (record { chan = made_name chan; target = made_name (slot_name k) } ∷ []) r →
-        ((q : Reception) × In (receptions_in p.body) q × IsSameReception chan (copy_name k) r q) ⊎ ((r.chan ≡ made_name chan) × (r.target ≡ made_name (slot_name k)))
+        ((q : Reception) × In (receptions_in p.body) q × IsSameReception chan (copy_name k) r q) ⊎ ((r.chan ≡ made_name chan)
+        × (r.target ≡ made_name (slot_name k)))
     last (inl e) = inr (sym (ap (λ (z : Reception). z.chan) e), sym (ap (λ (z : Reception). z.target) e))
     last (inr j) = absurd j
 
@@ -429,14 +435,16 @@ mutual
   each_reception_uses : (members : Statements) (q : Reception) → In (receptions_in_each members) q → AreUsed (uses_in_each members) q
   each_reception_uses no_members q i = absurd i
   each_reception_uses (and_member s more) q i =
-      ⊎_elim (λ j. used_left (uses_in s) (uses_in_each more) q (reception_uses s q j)) (λ j. used_right (uses_in s) (uses_in_each more) q (each_reception_uses more q j))
+      ⊎_elim (λ j. used_left (uses_in s) (uses_in_each more) q (reception_uses s q j))
+      (λ j. used_right (uses_in s) (uses_in_each more) q (each_reception_uses more q j))
       (in_either (receptions_in s) (receptions_in_each more) q i)
 
   arm_reception_uses : (arms : Arms) (q : Reception) → In (receptions_in_arms arms) q → AreUsed (uses_in_arms arms) q
   arm_reception_uses no_arms q i = absurd i
   arm_reception_uses (and_arm g s more) q i =
       used_right (reads_in g) (uses_in s ++ uses_in_arms more) q
-      (⊎_elim (λ j. used_left (uses_in s) (uses_in_arms more) q (reception_uses s q j)) (λ j. used_right (uses_in s) (uses_in_arms more) q (arm_reception_uses more q j))
+      (⊎_elim (λ j. used_left (uses_in s) (uses_in_arms more) q (reception_uses s q j))
+      (λ j. used_right (uses_in s) (uses_in_arms more) q (arm_reception_uses more q j))
       (in_either (receptions_in s) (receptions_in_arms more) q i))
 
 receive_none : (p : ProgramTree) (chan : List ℕ) (k : ℕ) → Buffering p chan k → (s : Span) → ¬ IsMisfitReceive (buffered_tree p chan k) s

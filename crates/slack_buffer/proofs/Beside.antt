@@ -27,7 +27,8 @@ pair t u s r h = record { term = in_parallel (and_branch t (and_branch u no_bran
 pub pair_same : (t t' u u' : Term) (s s' : List ℕ) (r r' : List OfferValue) (h h' : List (List ℕ)) → t ≡ t' → u ≡ u' → s ≡ s' → r ≡ r' → h ≡ h' →
     pair t u s r h ≡ pair t' u' s' r' h'
 pair_same t t' u u' s s' r r' h h' et eu es er eh =
-    ap (λ z. pair z u s r h) et ∙ (ap (λ z. pair t' z s r h) eu ∙ (ap (λ z. pair t' u' z r h) es ∙ (ap (λ z. pair t' u' s' z h) er ∙ ap (λ z. pair t' u' s' r' z) eh)))
+    ap (λ z. pair z u s r h) et ∙ (ap (λ z. pair t' z s r h) eu
+    ∙ (ap (λ z. pair t' u' z r h) es ∙ (ap (λ z. pair t' u' s' z h) er ∙ ap (λ z. pair t' u' s' r' z) eh)))
 
 pub left_first : (t u l : Term) (s : List ℕ) (r : List OfferValue) (h : List (List ℕ)) (w : Place) → is_finished u ≡ false →
     leaving (pair t u s r h) (in_branch zero w) l ≡ pair (with_left t w l) u s r h

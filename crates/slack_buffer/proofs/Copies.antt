@@ -31,17 +31,20 @@ join_copied e v w at es i is items all so_far =
     join_tree w at ∙ (ap (λ xs. join (onto and_part xs no_parts) at) (all_copied expression_of expression_of w.items es v.items i all items so_far)
     ∙ sym (ap expression_of is ∙ join_tree v at))
 
-pub chain_copied : (e : Expr) (first front : Box Expr Global) (v w : Vec Link Global) (at : Span) (ls : List Link) (i : ℕ) → e ≡ Chain first v at → ls ≡ v.items →
+pub chain_copied : (e : Expr) (first front : Box Expr Global) (v w : Vec Link Global) (at : Span) (ls : List Link) (i : ℕ) → e ≡ Chain first v at →
+    ls ≡ v.items →
     length ls ≤ i → expression_of front.value ≡ expression_of first.value → map link_of w.items ≡ map link_of (take i ls) →
     expression_of (Chain front w at) ≡ expression_of e
 chain_copied e first front v w at ls i is items all same so_far =
-    chain_tree front w at ∙ (ap (λ xs. chain (expression_of front.value) (onto and_pair xs no_links) at) (all_copied link_of link_of w.items ls v.items i all items so_far)
+    chain_tree front w at ∙ (ap (λ xs. chain (expression_of front.value) (onto and_pair xs no_links) at)
+    (all_copied link_of link_of w.items ls v.items i all items so_far)
     ∙ (ap (λ z. chain z (onto and_pair (map link_of v.items) no_links) at) same ∙ sym (ap expression_of is ∙ chain_tree first v at)))
 
 -- statements
 
 rerouted_list : (chan copy : List ℕ) (ss : List Stmt) →
-    rerouted_statements chan copy (onto and_member (map statement_of ss) no_members) ≡ onto and_member (map (λ s. rerouted_statement chan copy (statement_of s)) ss) no_members
+    rerouted_statements chan copy (onto and_member (map statement_of ss) no_members) ≡
+    onto and_member (map (λ s. rerouted_statement chan copy (statement_of s)) ss) no_members
 rerouted_list chan copy [] = refl
 rerouted_list chan copy (s ∷ ss) = ap (λ us. and_member (rerouted_statement chan copy (statement_of s)) us) (rerouted_list chan copy ss)
 
@@ -73,5 +76,7 @@ pub select_rerouted : (chan copy : List ℕ) (s : Stmt) (again : Bool) (v w : Ve
     length xs ≤ i → map guarded_of w.items ≡ map (rerouted_guarded chan copy) (take i xs) →
     statement_of (Select again w) ≡ rerouted_statement chan copy (statement_of s)
 select_rerouted chan copy s again v w xs i is items all so_far =
-    select_tree again w ∙ (ap (λ us. selects again (onto and_guarded us no_arms)) (all_copied guarded_of (rerouted_guarded chan copy) w.items xs v.items i all items so_far)
-    ∙ (ap (λ us. selects again us) (sym (rerouted_arm_list chan copy v.items)) ∙ sym (ap (rerouted_statement chan copy) (ap statement_of is ∙ select_tree again v))))
+    select_tree again w ∙ (ap (λ us. selects again (onto and_guarded us no_arms))
+    (all_copied guarded_of (rerouted_guarded chan copy) w.items xs v.items i all items so_far)
+    ∙ (ap (λ us. selects again us) (sym (rerouted_arm_list chan copy v.items))
+    ∙ sym (ap (rerouted_statement chan copy) (ap statement_of is ∙ select_tree again v))))

@@ -27,9 +27,11 @@ same_uses copy us u i = inl i
 
 both_uses : (copy : List ℕ) (us us' vs vs' : List Use) → ComesFromUses copy us vs → ComesFromUses copy us' vs' → ComesFromUses copy (us ++ us') (vs ++ vs')
 both_uses copy us us' vs vs' f g u i =
-    ⊎_elim (λ j. ⊎_elim (λ k. inl (in_left vs vs' u k)) (λ k. inr k) (f u j)) (λ j. ⊎_elim (λ k. inl (in_right vs vs' u k)) (λ k. inr k) (g u j)) (in_either us us' u i)
+    ⊎_elim (λ j. ⊎_elim (λ k. inl (in_left vs vs' u k)) (λ k. inr k) (f u j)) (λ j. ⊎_elim (λ k. inl (in_right vs vs' u k)) (λ k. inr k) (g u j))
+    (in_either us us' u i)
 
-receive_uses : (chan copy : List ℕ) (on target : Ident) → ComesFromUses copy (uses_in (rerouted_statement chan copy (receives on target))) (uses_in (receives on target))
+receive_uses : (chan copy : List ℕ) (on target : Ident) →
+    ComesFromUses copy (uses_in (rerouted_statement chan copy (receives on target))) (uses_in (receives on target))
 receive_uses chan copy on target u (inr i) = inl (inr i)
 receive_uses chan copy on target u (inl same) = by_test (bytes_eq on.name chan) same
   where
@@ -50,7 +52,8 @@ mutual
   uses_come chan copy (repeats s) = uses_come chan copy s
   uses_come chan copy (calls of) = same_uses copy []
 
-  each_uses_come : (chan copy : List ℕ) (members : Statements) → ComesFromUses copy (uses_in_each (rerouted_statements chan copy members)) (uses_in_each members)
+  each_uses_come : (chan copy : List ℕ) (members : Statements) →
+      ComesFromUses copy (uses_in_each (rerouted_statements chan copy members)) (uses_in_each members)
   each_uses_come chan copy plain.no_members = same_uses copy []
   each_uses_come chan copy (plain.and_member s more) =
       both_uses copy (uses_in (rerouted_statement chan copy s)) (uses_in_each (rerouted_statements chan copy more)) (uses_in s) (uses_in_each more)
@@ -59,7 +62,8 @@ mutual
   arm_uses_come : (chan copy : List ℕ) (arms : Arms) → ComesFromUses copy (uses_in_arms (rerouted_arms chan copy arms)) (uses_in_arms arms)
   arm_uses_come chan copy no_arms = same_uses copy []
   arm_uses_come chan copy (and_arm g s more) =
-      both_uses copy (reads_in g) (uses_in (rerouted_statement chan copy s) ++ uses_in_arms (rerouted_arms chan copy more)) (reads_in g) (uses_in s ++ uses_in_arms more)
+      both_uses copy (reads_in g) (uses_in (rerouted_statement chan copy s) ++ uses_in_arms (rerouted_arms chan copy more)) (reads_in g) (uses_in s
+      ++ uses_in_arms more)
       (same_uses copy (reads_in g))
       (both_uses copy (uses_in (rerouted_statement chan copy s)) (uses_in_arms (rerouted_arms chan copy more)) (uses_in s) (uses_in_arms more)
       (uses_come chan copy s) (arm_uses_come chan copy more))
@@ -173,7 +177,8 @@ mutual
   arm_expressions_kept ds es chan copy no_arms h = refl
   arm_expressions_kept ds es chan copy (and_arm g s more) h =
       let rest = known_right ds (reads_in g) (uses_in s ++ uses_in_arms more) h in
-      ap (λ xs. expect g 1 ∷ (xs ++ expressions_in_arms (ds ++ es) (rerouted_arms chan copy more))) (expressions_kept ds es chan copy s (known_left ds (uses_in s)
+      ap (λ xs. expect g 1 ∷ (xs ++ expressions_in_arms (ds ++ es) (rerouted_arms chan copy more)))
+      (expressions_kept ds es chan copy s (known_left ds (uses_in s)
       (uses_in_arms more) rest))
       ∙ ap (λ xs. expect g 1 ∷ (expressions_in ds s ++ xs)) (arm_expressions_kept ds es chan copy more (known_right ds (uses_in s) (uses_in_arms more) rest))
 

@@ -33,7 +33,8 @@ empty chan width copy slot = in_sequence (in_sequence (active (taking chan width
 abbrev pub full : (chan width copy slot : ℕ) → Term
 full chan width copy slot = in_sequence (active (giving chan width copy slot)) (and_member (passing_on chan width copy slot) no_members)
 
-pub through : (cs : List Channel) (vs : List Var) (x v : ℕ) (c : Configuration) → IsOn cs vs x c → x < length cs → (at other : Place) (y : ℕ) (s t u : Span) (e : Formula) →
+pub through : (cs : List Channel) (vs : List Var) (x v : ℕ) (c : Configuration) → IsOn cs vs x c → x < length cs →
+    (at other : Place) (y : ℕ) (s t u : Span) (e : Formula) →
     statement_at c.term at ≡ Some (sending x s e) → statement_at c.term other ≡ Some (receiving x t y u) →
     Ahead cs vs x v c (passing (storing (leaving (leaving c at finished) other finished) y (value_in c e)) x (value_in c e))
 through cs vs x v c is within at other y s t u e on there = record {
@@ -128,7 +129,8 @@ through cs vs x v c is within at other y s t u e on there = record {
         (slice_set (c.store ++ v ∷ []) b val) (c.store ++ val ∷ []) rests rests
         (slice_set (c.histories ++ history ∷ []) x (history_at (c.histories ++ history ∷ []) x ++ val ∷ []))
         (slice_set c.histories x (history ++ val ∷ []) ++ history ∷ []) (with_same x n c.term at finished) refl stores_it refl passes_it)))
-        (a_communication {c = begun} {at = in_branch zero at} (in_branch (suc zero) (in_first (in_first here))) {k = x} {x = b} {s = s} {t = nowhere} {u = nowhere} {e = e}
+        (a_communication {c = begun} {at = in_branch zero at} (in_branch (suc zero) (in_first (in_first here))) {k = x} {x = b} {s = s} {t = nowhere} {u =
+        nowhere} {e = e}
         (at_same x n c.term at (sending x s e) on) refl offered)
 
     -- the third one
@@ -171,9 +173,11 @@ through cs vs x v c is within at other y s t u e on there = record {
         (left_first (rerouted_term x n first_left) (active (buffer_on cs vs x)) finished (c.store ++ val ∷ []) rests (passed ++ history ∷ []) other refl)
         ∙ (ap (λ z. pair (with_left (rerouted_term x n first_left) other finished) (active (buffer_on cs vs x)) (slice_set (c.store ++ val ∷ []) y z) rests
         (slice_set (passed ++ history ∷ []) n (history_at (passed ++ history ∷ []) n ++ z ∷ []))) its_value
-        ∙ pair_same (with_left (rerouted_term x n first_left) other finished) (rerouted_term x n both_left) (active (buffer_on cs vs x)) (active (buffer_on cs vs x))
+        ∙ pair_same (with_left (rerouted_term x n first_left) other finished) (rerouted_term x n both_left) (active (buffer_on cs vs x))
+        (active (buffer_on cs vs x))
         (slice_set (c.store ++ val ∷ []) y val) (slice_set c.store y val ++ val ∷ []) rests rests
         (slice_set (passed ++ history ∷ []) n (history_at (passed ++ history ∷ []) n ++ val ∷ [])) (passed ++ history_at passed x ∷ [])
         (with_same x n first_left other finished) refl stores_again refl passes_again)))
-        (a_communication {c = taken} {at = in_branch (suc zero) (in_first here)} (in_branch zero other) {k = n} {x = y} {s = nowhere} {t = t} {u = u} {e = whole}
+        (a_communication {c = taken} {at = in_branch (suc zero) (in_first here)} (in_branch zero other) {k = n} {x = y} {s = nowhere} {t = t} {u = u} {e =
+        whole}
         refl (at_same x n first_left other (receiving x t y u) stays ∙ ap (λ z. Some (receiving z t y u)) (put_channel x n)) offered_too)

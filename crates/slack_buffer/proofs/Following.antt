@@ -59,10 +59,12 @@ offered_on cs vs x c k o is ne = record {
 }
 
 -- the environment has a part in another channel alone
-given_elsewhere : (cs : List Channel) (vs : List Var) (x : ℕ) (c : Configuration) (k : ℕ) (values : List ℕ) → IsOn cs vs x c → offer_at c.rests k ≡ gives values → k ≢ x
+given_elsewhere : (cs : List Channel) (vs : List Var) (x : ℕ) (c : Configuration) (k : ℕ) (values : List ℕ) → IsOn cs vs x c →
+    offer_at c.rests k ≡ gives values → k ≢ x
 given_elsewhere cs vs x c k values is offered same = absurd (cc (is.inner, offered, ap (λ z. offer_at c.rests z) same))
 
-taken_elsewhere : (cs : List Channel) (vs : List Var) (x : ℕ) (c : Configuration) (k : ℕ) (count : Count) → IsOn cs vs x c → offer_at c.rests k ≡ takes count → k ≢ x
+taken_elsewhere : (cs : List Channel) (vs : List Var) (x : ℕ) (c : Configuration) (k : ℕ) (count : Count) → IsOn cs vs x c → offer_at c.rests k ≡ takes count →
+    k ≢ x
 taken_elsewhere cs vs x c k count is offered same = absurd (cc (is.inner, offered, ap (λ z. offer_at c.rests z) same))
 
 pub step_on : (cs : List Channel) (vs : List Var) (x : ℕ) {c d : Configuration} {at : Place} → IsOn cs vs x c → Step c at d → IsOn cs vs x d
@@ -101,14 +103,16 @@ step_on cs vs x {c = c} {at = at} is (an_arrival {k = k} {x = y} {v = v} {more =
 
 -- a step, by its kind
 
-chosen_beside : (cs : List Channel) (vs : List Var) (x v : ℕ) (c : Configuration) → IsOn cs vs x c → (at : Place) (again : Bool) (choices : Choices) (ps : List Process) →
+chosen_beside : (cs : List Channel) (vs : List Var) (x v : ℕ) (c : Configuration) → IsOn cs vs x c →
+    (at : Place) (again : Bool) (choices : Choices) (ps : List Process) →
     statement_at c.term at ≡ Some (choosing again choices) → open_branches c choices ≡ ps →
     open_branches (beside cs vs x v c) (rerouted_choices x (length cs) choices) ≡ map (rerouted x (length cs)) ps
 chosen_beside cs vs x v c is at again choices ps on true_ones =
     open_beside cs vs x v c choices is.store (at_holds (IsProcess cs vs) (IsOfWidth vs 1) c.term at (choosing again choices) is.made on)
     ∙ ap (λ qs. map (rerouted x (length cs)) qs) true_ones
 
-communicated_beside : (cs : List Channel) (vs : List Var) (x v : ℕ) (c : Configuration) → IsOn cs vs x c → x < length cs → (at other : Place) (k y : ℕ) (s t u : Span)
+communicated_beside : (cs : List Channel) (vs : List Var) (x v : ℕ) (c : Configuration) → IsOn cs vs x c → x < length cs →
+    (at other : Place) (k y : ℕ) (s t u : Span)
     (e : Formula) → statement_at c.term at ≡ Some (sending k s e) → statement_at c.term other ≡ Some (receiving k t y u) → offer_at c.rests k ≡ nothing →
     Ahead cs vs x v c (passing (storing (leaving (leaving c at finished) other finished) y (value_in c e)) k (value_in c e))
 communicated_beside cs vs x v c is within at other k y s t u e on there inside = by_number (cases_eq k x)
@@ -119,7 +123,8 @@ communicated_beside cs vs x v c is within at other k y s t u e on there inside =
         (through cs vs x v c is within at other y s t u e (on ∙ ap (λ z. Some (sending z s e)) same) (there ∙ ap (λ z. Some (receiving z t y u)) same))
     by_number (inr ne) = elsewhere cs vs x v c is at other k y s t u e ne on there inside
 
-delivered_beside : (cs : List Channel) (vs : List Var) (x v : ℕ) (c : Configuration) → IsOn cs vs x c → (at : Place) (k : ℕ) (s : Span) (e : Formula) (count : Count) →
+delivered_beside : (cs : List Channel) (vs : List Var) (x v : ℕ) (c : Configuration) → IsOn cs vs x c →
+    (at : Place) (k : ℕ) (s : Span) (e : Formula) (count : Count) →
     statement_at c.term at ≡ Some (sending k s e) → offer_at c.rests k ≡ takes count → is_over count 0 ≡ true →
     Ahead cs vs x v c (passing (offering (leaving c at finished) k (takes (one_fewer count))) k (value_in c e))
 delivered_beside cs vs x v c is at k s e count on offered more =
@@ -172,7 +177,8 @@ arrived_beside cs vs x v c is at k y n s t more on offered =
     passes : k < length c.histories
     passes = let a = receives.within in let b = is.histories in omega arith
 
-pub step_beside : (cs : List Channel) (vs : List Var) (x v : ℕ) {c d : Configuration} {at : Place} → IsOn cs vs x c → x < length cs → Step c at d → Ahead cs vs x v c d
+pub step_beside : (cs : List Channel) (vs : List Var) (x v : ℕ) {c d : Configuration} {at : Place} → IsOn cs vs x c → x < length cs → Step c at d →
+    Ahead cs vs x v c d
 step_beside cs vs x v {c = c} {at = at} is within (a_skip on) =
     left_at_once cs vs x v c at finished finished refl (a_skip (at_same x (length cs) c.term at skipping on))
 step_beside cs vs x v {c = c} {at = at} is within (an_assignment {x = y} {s = s} {e = e} on) =
@@ -217,7 +223,8 @@ pub record RunsAhead (cs : List Channel) (vs : List Var) (x v m : ℕ) (c d : Co
   pub leads : Leads (beside cs vs x v c) steps (beside cs vs x last d)
   pub on : IsOn cs vs x d
 
-pub run_beside : (cs : List Channel) (vs : List Var) (x v : ℕ) {m : ℕ} {c d : Configuration} → IsOn cs vs x c → x < length cs → Leads c m d → RunsAhead cs vs x v m c d
+pub run_beside : (cs : List Channel) (vs : List Var) (x v : ℕ) {m : ℕ} {c d : Configuration} → IsOn cs vs x c → x < length cs → Leads c m d →
+    RunsAhead cs vs x v m c d
 run_beside cs vs x v is within no_step = record { last = v; steps = 0; few = omega arith; leads = no_step; on = is }
 run_beside cs vs x v is within (one_step s l) =
     let a = step_beside cs vs x v is within s in

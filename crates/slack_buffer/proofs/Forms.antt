@@ -162,7 +162,8 @@ mutual
       ∙ ap (λ f. assigning (var_number ds target.name) target.at f) (formula_kept ds es (declared_width ds target.name) e (λ u j. h u (inr j))))
   process_kept ds es chan copy x n r (sends on e) h =
       let known = h (use_of on sent_on) (inl refl) in
-      ap (λ z. sending z on.at (formula_form (ds ++ es) (declared_width (ds ++ es) on.name) e)) (channel_kept ds es on.name (channel_at ds on.name known).within)
+      ap (λ z. sending z on.at (formula_form (ds ++ es) (declared_width (ds ++ es) on.name) e))
+      (channel_kept ds es on.name (channel_at ds on.name known).within)
       ∙ (ap (λ w. sending (channel_number ds on.name) on.at (formula_form (ds ++ es) w e)) (width_kept ds es on.name false known)
       ∙ ap (λ f. sending (channel_number ds on.name) on.at f) (formula_kept ds es (declared_width ds on.name) e (λ u j. h u (inr j))))
   process_kept ds es chan copy x n r (receives on target) h =

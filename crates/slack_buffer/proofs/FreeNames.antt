@@ -109,7 +109,8 @@ copy_above : (k j : ℕ) → k ≤ j → j < 2 ^ 64 → has_below k (copy_name j
 copy_above zero j le small = refl
 copy_above (suc k) j le small =
     ap (λ b. b || (bytes_eq (copy_name j) (copy_name k) || bytes_eq (copy_name j) (slot_name k))) (copy_above k j (omega arith) small)
-    ∙ (ap (λ b. b || bytes_eq (copy_name j) (slot_name k)) (unequal (copy_name j) (copy_name k) (λ e. let same = same_copy j k small (omega (arith, le, small)) e in
+    ∙ (ap (λ b. b || bytes_eq (copy_name j) (slot_name k)) (unequal (copy_name j) (copy_name k) (λ e. let same =
+    same_copy j k small (omega (arith, le, small)) e in
     omega (arith, same, le)))
     ∙ unequal (copy_name j) (slot_name k) (apart_kinds j k))
 
@@ -144,7 +145,8 @@ no_more k (n ∷ ns) = by_tests (has_below k n) (bytes_eq n (copy_name k) || byt
     by_tests false true h = omega (arith, h)
     by_tests false false h = omega (arith, h)
 
-one_fewer : (k : ℕ) (name : List ℕ) (ns : List (List ℕ)) (i : ℕ) → i < length ns → get_or ns i name ≡ name → has_below k name ≡ false → has_below (suc k) name ≡ true →
+one_fewer : (k : ℕ) (name : List ℕ) (ns : List (List ℕ)) (i : ℕ) → i < length ns → get_or ns i name ≡ name → has_below k name ≡ false →
+    has_below (suc k) name ≡ true →
     suc (others (suc k) ns) ≤ others k ns
 one_fewer k name [] i within is before now = absurd (omega (arith, within))
 one_fewer k name (n ∷ ns) zero within is before now =
@@ -164,7 +166,8 @@ one_fewer k name (n ∷ ns) (suc i) within is before now =
     by_tests false false h = omega (arith, h)
 
 -- so of more numbers than names not all are taken
-enough : (decls : List Decl) (k : ℕ) → k ≤ 2 ^ 64 → ((j : ℕ) → j < k → IsTakenNumber decls j) → others k (declared_names decls) + k ≤ length (declared_names decls)
+enough : (decls : List Decl) (k : ℕ) → k ≤ 2 ^ 64 → ((j : ℕ) → j < k → IsTakenNumber decls j) →
+    others k (declared_names decls) + k ≤ length (declared_names decls)
 enough decls zero few taken = at_first (declared_names decls)
   where
     at_first : (ns : List (List ℕ)) → others 0 ns + 0 ≤ length ns
@@ -260,7 +263,8 @@ free_by decls k one other r is copy slot no_one taken =
       least = taken;
     }
 
-pub taken_more : (decls : List Decl) (k : ℕ) (one other : List ℕ) (r : Bool) → r ≡ list_any (names_one one other) decls → one ≡ copy_name k → other ≡ slot_name k →
+pub taken_more : (decls : List Decl) (k : ℕ) (one other : List ℕ) (r : Bool) → r ≡ list_any (names_one one other) decls → one ≡ copy_name k →
+    other ≡ slot_name k →
     r ≡ true → ((j : ℕ) → j < k → IsTakenNumber decls j) → (j : ℕ) → j < k + 1 → IsTakenNumber decls j
 taken_more decls k one other r is copy slot some taken j h = ⊎_elim (λ less. taken j less) (λ same. subst (λ z. IsTakenNumber decls z) same now)
     (less_or_same j k (omega (arith, h)))

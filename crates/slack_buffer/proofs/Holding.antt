@@ -62,14 +62,16 @@ mutual
   each_holds A G no_members h = tt
   each_holds A G (and_member p more) h = (opened_holds A G p h.0, each_holds A G more h.1)
 
-pub followed_holds : (A : Process → Type 0) (G : Formula → Type 0) (t : Term) (more : Processes) → HoldsIn A G t → HoldsEach A G more → HoldsIn A G (followed t more)
+pub followed_holds : (A : Process → Type 0) (G : Formula → Type 0) (t : Term) (more : Processes) → HoldsIn A G t → HoldsEach A G more →
+    HoldsIn A G (followed t more)
 followed_holds A G finished more h k = turn_holds A G more k
 followed_holds A G (active p) more h k = (h, k)
 followed_holds A G (in_sequence t ms) more h k = (h, k)
 followed_holds A G (in_parallel ts) more h k = (h, k)
 
 mutual
-  pub left_holds : (A : Process → Type 0) (G : Formula → Type 0) (t : Term) (w : Place) (l : Term) → HoldsIn A G t → HoldsIn A G l → HoldsIn A G (with_left t w l)
+  pub left_holds : (A : Process → Type 0) (G : Formula → Type 0) (t : Term) (w : Place) (l : Term) → HoldsIn A G t → HoldsIn A G l →
+      HoldsIn A G (with_left t w l)
   left_holds A G finished w l h k = h
   left_holds A G (active q) here l h k = k
   left_holds A G (active q) (in_first w) l h k = h
@@ -112,7 +114,8 @@ abbrev pub AllHold : (Process → Type 0) → (Formula → Type 0) → List Proc
 AllHold A G [] = Unit {0}
 AllHold A G (p ∷ ps) = Holds A G p × AllHold A G ps
 
-pub open_hold : (A : Process → Type 0) (G : Formula → Type 0) (c : Configuration) (choices : Choices) → HoldsChoices A G choices → AllHold A G (open_branches c choices)
+pub open_hold : (A : Process → Type 0) (G : Formula → Type 0) (c : Configuration) (choices : Choices) → HoldsChoices A G choices →
+    AllHold A G (open_branches c choices)
 open_hold A G c no_choices h = tt
 open_hold A G c (and_choice g p more) h = by_test (value_in c g == 1) (open_hold A G c more h.2)
   where

@@ -64,7 +64,8 @@ passed_lags {x = x} {w = w} {n = n} {b = b} {c = c} l k v ne new_ne = record {
   calm = l.calm;
   stage = subst (λ z. Stage x w n b l.turn z (history_at (slice_set c.histories k grown) n) (slice_index c.store b))
       (sym (get_or-set_other c.histories k x grown [] (λ e. ne (sym e))))
-      (subst (λ z. Stage x w n b l.turn (history_at c.histories x) z (slice_index c.store b)) (sym (get_or-set_other c.histories k n grown [] (λ e. new_ne (sym e))))
+      (subst (λ z. Stage x w n b l.turn (history_at c.histories x) z (slice_index c.store b))
+      (sym (get_or-set_other c.histories k n grown [] (λ e. new_ne (sym e))))
       l.stage);
   store = l.store;
   chan = (let e = length-set c.histories k grown in let h = l.chan in omega arith);
@@ -100,7 +101,8 @@ on_main l at p on f g h = by_side (sides l at p on)
     by_side (inr r) = absurd (not_buffer r.0 p l.stage r.2 f g h)
 
 -- the program leaves something at a place of its own
-leaves_at : {x w n b : ℕ} {c : Configuration} → Lags x w n b c → (at v : Place) (t : Term) → at ≡ in_branch zero v → Calm x w n b t → Lags x w n b (leaving c at t)
+leaves_at : {x w n b : ℕ} {c : Configuration} → Lags x w n b c → (at v : Place) (t : Term) → at ≡ in_branch zero v → Calm x w n b t →
+    Lags x w n b (leaving c at t)
 leaves_at {x = x} {w = w} {n = n} {b = b} {c = c} l at v t same calm = subst (λ z. Lags x w n b (leaving c z t)) (sym same) (main_left l v t calm)
 
 -- the buffer begins a turn
@@ -140,7 +142,8 @@ pub record Takes (x w n b : ℕ) (u : Term) (h g : List ℕ) (at : Place) (k y :
   pub same : h ≡ g
   pub next : with_left u at finished ≡ full x w n b
 
-stage_takes : {x w n b v : ℕ} {u : Term} {h g : List ℕ} (at : Place) (k y : ℕ) (s t : Span) → Stage x w n b u h g v → statement_at u at ≡ Some (receiving k s y t) →
+stage_takes : {x w n b v : ℕ} {u : Term} {h g : List ℕ} (at : Place) (k y : ℕ) (s t : Span) → Stage x w n b u h g v →
+    statement_at u at ≡ Some (receiving k s y t) →
     Takes x w n b u h g at k y
 stage_takes {x = x} {w = w} {n = n} {b = b} at k y s t resting on = absurd (cc (resting_at x w n b at (receiving k s y t) on).1)
 stage_takes {x = x} {w = w} {n = n} {b = b} at k y s t is_empty on =
@@ -158,7 +161,8 @@ pub record Gives (x w n b v : ℕ) (u : Term) (h g : List ℕ) (at : Place) (k :
   pub small : v < 2 ^ w
   pub next : with_left u at finished ≡ active (passing_on x w n b)
 
-stage_gives : {x w n b v : ℕ} {u : Term} {h g : List ℕ} (at : Place) (k : ℕ) (s : Span) (e : Formula) → Stage x w n b u h g v → statement_at u at ≡ Some (sending k s e) →
+stage_gives : {x w n b v : ℕ} {u : Term} {h g : List ℕ} (at : Place) (k : ℕ) (s : Span) (e : Formula) → Stage x w n b u h g v →
+    statement_at u at ≡ Some (sending k s e) →
     Gives x w n b v u h g at k e
 stage_gives {x = x} {w = w} {n = n} {b = b} at k s e resting on = absurd (cc (resting_at x w n b at (sending k s e) on).1)
 stage_gives {x = x} {w = w} {n = n} {b = b} at k s e is_empty on = absurd (cc (empty_at x w n b at (sending k s e) on).1)
@@ -206,7 +210,8 @@ fills {x = x} {w = w} {n = n} {b = b} {c = c} within l at other k y val r some s
         (r.same ∙ sym (get_or-set_other c.histories x n grown [] (λ e. omega (arith, e, within))))
         (subst (λ z. Stage x w n b (full x w n b) grown (history_at c.histories x) z) (sym (get_or-set_same c.store b val 0 l.store)) (is_full some small)))
 
-gives_on : {x w n b : ℕ} {c : Configuration} → x < n → (l : Lags x w n b c) (at other : Place) (k y val : ℕ) (e : Formula) → Gives x w n b (slice_index c.store b) l.turn
+gives_on : {x w n b : ℕ} {c : Configuration} → x < n → (l : Lags x w n b c) (at other : Place) (k y val : ℕ) (e : Formula) →
+    Gives x w n b (slice_index c.store b) l.turn
     (history_at c.histories x) (history_at c.histories n) other k e → val ≡ slice_index c.store b → y < b →
     Lags x w n b (passing (storing (BothBack c at other) y val) k val)
 gives_on {x = x} {w = w} {n = n} {b = b} {c = c} within l at other k y val e r same below =
@@ -349,7 +354,8 @@ kind_last : (cs : List Channel) (d : Channel) → kind_at (cs ++ d ∷ []) (leng
 kind_last [] d = refl
 kind_last (c ∷ cs) d = kind_last cs d
 
-start_lags : (p : TypedProgram) (x k : ℕ) (script : List OfferValue) → IsProcess p.channels p.vars p.body → x < length p.channels → kind_at p.channels x ≡ Chan →
+start_lags : (p : TypedProgram) (x k : ℕ) (script : List OfferValue) → IsProcess p.channels p.vars p.body → x < length p.channels →
+    kind_at p.channels x ≡ Chan →
     IsScript (buffered p x k).channels script → Lags x (channel_width p.channels x) (length p.channels) (length p.vars) (start_of (buffered p x k) script)
 start_lags p x k script typed within inner is = record {
   main = opened (rerouted x n p.body);

@@ -79,7 +79,8 @@ vars_longer (d ∷ ds) es = ap (λ vs. with_var d d.kind vs) (vars_longer ds es)
 pub no_channel : Channel
 no_channel = record { name = []; kind = Chan; width = 0 }
 
-pub channel_kept : (ds es : List Decl) (name : List ℕ) → channel_number ds name < length (channels_of ds) → channel_number (ds ++ es) name ≡ channel_number ds name
+pub channel_kept : (ds es : List Decl) (name : List ℕ) → channel_number ds name < length (channels_of ds) →
+    channel_number (ds ++ es) name ≡ channel_number ds name
 channel_kept ds es name within =
     ap (λ cs. position_or_len (λ (c : Channel). bytes_eq c.name name) cs) (channels_longer ds es)
     ∙ place_kept (λ (c : Channel). bytes_eq c.name name) (channels_of ds) (channels_of es) no_channel within
@@ -158,14 +159,17 @@ mutual
       (ap (λ xs. xs ++ leaves_of_links (ds ++ es) w more) (leaves_kept ds es w e first)
       ∙ ap (λ xs. leaves ds w e ++ xs) (link_leaves_kept ds es w more rest))
 
-  pub part_leaves_kept : (ds es : List Decl) (parts : Expressions) → Known ds (reads_in_parts parts) → leaves_of_parts (ds ++ es) parts ≡ leaves_of_parts ds parts
+  pub part_leaves_kept : (ds es : List Decl) (parts : Expressions) → Known ds (reads_in_parts parts) →
+      leaves_of_parts (ds ++ es) parts ≡ leaves_of_parts ds parts
   part_leaves_kept ds es no_parts h = refl
   part_leaves_kept ds es (and_part e more) h =
       ap (λ o. leaves (ds ++ es) (unwrap_or o 0) e ++ leaves_of_parts (ds ++ es) more) (own_kept ds es e (known_left ds (reads_in e) (reads_in_parts more) h))
-      ∙ (ap (λ xs. xs ++ leaves_of_parts (ds ++ es) more) (leaves_kept ds es (unwrap_or (own_width ds e) 0) e (known_left ds (reads_in e) (reads_in_parts more) h))
+      ∙ (ap (λ xs. xs ++ leaves_of_parts (ds ++ es) more)
+      (leaves_kept ds es (unwrap_or (own_width ds e) 0) e (known_left ds (reads_in e) (reads_in_parts more) h))
       ∙ ap (λ xs. leaves ds (unwrap_or (own_width ds e) 0) e ++ xs) (part_leaves_kept ds es more (known_right ds (reads_in e) (reads_in_parts more) h)))
 
-  pub link_leaves_kept : (ds es : List Decl) (w : ℕ) (more : Links) → Known ds (reads_in_links more) → leaves_of_links (ds ++ es) w more ≡ leaves_of_links ds w more
+  pub link_leaves_kept : (ds es : List Decl) (w : ℕ) (more : Links) → Known ds (reads_in_links more) →
+      leaves_of_links (ds ++ es) w more ≡ leaves_of_links ds w more
   link_leaves_kept ds es w no_links h = refl
   link_leaves_kept ds es w (and_link op e more) h =
       ap (λ xs. xs ++ leaves_of_links (ds ++ es) w more) (leaves_kept ds es w e (known_left ds (reads_in e) (reads_in_links more) h))
@@ -207,7 +211,8 @@ mutual
       ∙ ap (λ f. typed.and_part (formula_form ds (unwrap_or (own_width ds e) 0) e) f) (formulas_kept ds es more (known_right ds (reads_in e)
       (reads_in_parts more) h)))
 
-  pub operations_kept : (ds es : List Decl) (w : ℕ) (more : Links) → Known ds (reads_in_links more) → operations_form (ds ++ es) w more ≡ operations_form ds w more
+  pub operations_kept : (ds es : List Decl) (w : ℕ) (more : Links) → Known ds (reads_in_links more) →
+      operations_form (ds ++ es) w more ≡ operations_form ds w more
   operations_kept ds es w no_links h = refl
   operations_kept ds es w (and_link op e more) h =
       ap (λ f. typed.and_operation op f (operations_form (ds ++ es) w more)) (formula_kept ds es w e (known_left ds (reads_in e) (reads_in_links more) h))
@@ -234,7 +239,8 @@ mutual
       ⊎_elim (λ j. inside_known ds e x (known_left ds (reads_in e) (reads_in_links more) h) j)
       (λ j. inside_links_known ds more x (known_right ds (reads_in e) (reads_in_links more) h) j) (in_either (inside e) (inside_links more) x i)
 
-  pub inside_parts_known : (ds : List Decl) (parts : Expressions) (x : Expression) → Known ds (reads_in_parts parts) → In (inside_parts parts) x → Known ds (reads_in x)
+  pub inside_parts_known : (ds : List Decl) (parts : Expressions) (x : Expression) → Known ds (reads_in_parts parts) → In (inside_parts parts) x →
+      Known ds (reads_in x)
   inside_parts_known ds no_parts x h i = absurd i
   inside_parts_known ds (and_part e more) x h i =
       ⊎_elim (λ j. inside_known ds e x (known_left ds (reads_in e) (reads_in_parts more) h) j)
@@ -278,7 +284,8 @@ mutual
   part_leaf_known ds no_parts l h i = absurd i
   part_leaf_known ds (and_part e more) l h i =
       ⊎_elim (λ j. leaf_known ds (unwrap_or (own_width ds e) 0) e l (known_left ds (reads_in e) (reads_in_parts more) h) j)
-      (λ j. part_leaf_known ds more l (known_right ds (reads_in e) (reads_in_parts more) h) j) (in_either (leaves ds (unwrap_or (own_width ds e) 0) e) (leaves_of_parts ds more) l i)
+      (λ j. part_leaf_known ds more l (known_right ds (reads_in e) (reads_in_parts more) h) j)
+      (in_either (leaves ds (unwrap_or (own_width ds e) 0) e) (leaves_of_parts ds more) l i)
 
   pub link_leaf_known : (ds : List Decl) (w : ℕ) (more : Links) (l : Expected) → Known ds (reads_in_links more) → In (leaves_of_links ds w more) l →
       Known ds (reads_in l.expression)

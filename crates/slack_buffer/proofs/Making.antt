@@ -51,7 +51,8 @@ parts_made p chan k ds procs v parts none no_procs =
     ∙ (ap (λ z. tree_of_parts (p.decls ++ new_decls p.decls chan k) z (statement_of (Beside v))) (ap (map procedure_of) no_procs ∙ sym none)
     ∙ ap (λ z. tree_of_parts (p.decls ++ new_decls p.decls chan k) p.procs z) parts.members)
 
-pub are_parts : (p : ProgramTree) (chan : List ℕ) (k : ℕ) (all one two : List Decl) (x y : Decl) (w : ℕ) (copy slot : List ℕ) (v : Vec Stmt Global) (s buf : Stmt) →
+pub are_parts : (p : ProgramTree) (chan : List ℕ) (k : ℕ) (all one two : List Decl) (x y : Decl) (w : ℕ) (copy slot : List ℕ) (v : Vec Stmt Global)
+    (s buf : Stmt) →
     two ≡ one ++ y ∷ [] → one ≡ all ++ x ∷ [] → all ≡ p.decls → x ≡ made_decl declares.Chan copy w → y ≡ made_decl declares.Var slot w → copy ≡ copy_name k →
     slot ≡ slot_name k → w ≡ declared_width p.decls chan → v.items ≡ s ∷ buf ∷ [] → statement_of s ≡ rerouted_statement chan copy p.body →
     statement_of buf ≡ buffer_statement chan copy slot → AreParts p chan k two v

@@ -69,7 +69,8 @@ inner_offer (c ∷ cs) (o ∷ os) (suc x) h e = inner_offer cs os x h.1 e
 
 -- the start
 
-pub start_on : (p : TypedProgram) (x : ℕ) (script : List OfferValue) → IsProcess p.channels p.vars p.body → kind_at p.channels x ≡ Chan → IsScript p.channels script →
+pub start_on : (p : TypedProgram) (x : ℕ) (script : List OfferValue) → IsProcess p.channels p.vars p.body → kind_at p.channels x ≡ Chan →
+    IsScript p.channels script →
     IsOn p.channels p.vars x (start_of p script)
 start_on p x script typed inner is = record {
   made = opened_holds (IsProcess p.channels p.vars) (IsOfWidth p.vars 1) p.body (typed_holds p.channels p.vars p.body typed);
@@ -86,12 +87,15 @@ no_history n x = by_number (cases_lt x n)
     by_number (inl h) = get_or-replicate n x [] [] h
     by_number (inr h) = get_or-eq_default (replicate n []) [] (let e : length (replicate {A = List ℕ} n []) ≡ n = length-replicate n [] in omega arith)
 
-pub start_beside : (p : TypedProgram) (x k : ℕ) (script : List OfferValue) → beside p.channels p.vars x 0 (start_of p script) ≡ start_of (buffered p x k) (with_nothing script)
+pub start_beside : (p : TypedProgram) (x k : ℕ) (script : List OfferValue) →
+    beside p.channels p.vars x 0 (start_of p script) ≡ start_of (buffered p x k) (with_nothing script)
 start_beside p x k script = sym (
     ap conf (ap (λ t. together (and_branch t (and_branch (active (buffer_on p.channels p.vars x)) no_branches))) (opened_same x (length p.channels) p.body)
     ∙ together_open (rerouted_term x (length p.channels) (opened p.body)) (active (buffer_on p.channels p.vars x)) refl)
-    ∙ pair_same t t u u (map (λ (v : Var). v.first) (buffered p x k).vars) (map (λ (v : Var). v.first) p.vars ++ 0 ∷ []) (with_nothing script) (with_nothing script)
-    (replicate (length (buffered p x k).channels) []) (none ++ history_at none x ∷ []) refl refl (map-append (λ (v : Var). v.first) p.vars _) refl histories_are)
+    ∙ pair_same t t u u (map (λ (v : Var). v.first) (buffered p x k).vars) (map (λ (v : Var). v.first) p.vars ++ 0 ∷ []) (with_nothing script)
+    (with_nothing script)
+    (replicate (length (buffered p x k).channels) []) (none ++ history_at none x ∷ []) refl refl (map-append (λ (v : Var). v.first) p.vars _) refl
+    histories_are)
   where
     t : Term
     t = rerouted_term x (length p.channels) (opened p.body)
@@ -125,8 +129,11 @@ behind_on c d e f g j =
     (a.0 ++ b.0, b.1 ∙ (ap (λ h. h ++ b.0) a.1 ∙ append_assoc (history_at c.histories j) a.0 b.0))
 
 more_rounds : (q : TypedProgram) (script : List OfferValue) → MeetsSharing q.body → (i n : ℕ) → IsBehind (rounds q script n) (rounds q script (i + n))
-more_rounds q script meets zero n = λ j.
-    ([], ap (λ m. history_at (rounds q script m).histories j) (let e : 0 + n ≡ n = omega arith in e) ∙ sym (append-nil (history_at (rounds q script n).histories j)))
+more_rounds q script meets zero n = λ j. (
+  [],
+  ap (λ m. history_at (rounds q script m).histories j) (let e : 0 + n ≡ n = omega arith in e)
+      ∙ sym (append-nil (history_at (rounds q script n).histories j)),
+)
 more_rounds q script meets (suc i) n =
     let e : suc (i + n) ≡ suc i + n = omega arith in
     behind_on (rounds q script n) (rounds q script (i + n)) (rounds q script (suc i + n)) (more_rounds q script meets i n)
@@ -154,7 +161,8 @@ behind_beside cs vs x v c same j = by_number (cases_lt j (length c.histories))
       ap (λ z. z ++ history_at (c.histories ++ history_at c.histories x ∷ []) j) (sym (get_or-eq_default c.histories [] h)),
     )
 
-pub keeps_passing : (p : TypedProgram) (x k : ℕ) → IsProcess p.channels p.vars p.body → MeetsSharing p.body → x < length p.channels → kind_at p.channels x ≡ Chan →
+pub keeps_passing : (p : TypedProgram) (x k : ℕ) → IsProcess p.channels p.vars p.body → MeetsSharing p.body → x < length p.channels →
+    kind_at p.channels x ≡ Chan →
     KeepsPassing p x k
 keeps_passing p x k typed meets within inner script m c is l =
     let on = start_on p x script typed inner is in

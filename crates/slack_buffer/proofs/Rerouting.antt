@@ -103,7 +103,8 @@ mutual
   with_branch_same x n (and_branch t more) (suc k) w l = ap (λ z. and_branch (rerouted_term x n t) z) (with_branch_same x n more k w l)
 
 -- two branches side by side, of which the second isn't finished
-pub together_open : (t u : Term) → is_finished u ≡ false → together (and_branch t (and_branch u no_branches)) ≡ in_parallel (and_branch t (and_branch u no_branches))
+pub together_open : (t u : Term) → is_finished u ≡ false →
+    together (and_branch t (and_branch u no_branches)) ≡ in_parallel (and_branch t (and_branch u no_branches))
 together_open t u open_still =
     ap (λ b. if is_finished t && (b && true) then finished else in_parallel (and_branch t (and_branch u no_branches))) open_still ∙ by_test (is_finished t)
   where

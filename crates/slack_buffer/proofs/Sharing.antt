@@ -73,12 +73,14 @@ mutual
   process_among cs vs (choosing again choices) t = choices_among cs vs choices t.2
   process_among cs vs (repeating p) t = process_among cs vs p t
 
-  each_among : (cs : List Channel) (vs : List Var) (members : Processes) → AreProcesses cs vs members → AllAmong (length cs) (length vs) (occurrences_of_each members)
+  each_among : (cs : List Channel) (vs : List Var) (members : Processes) → AreProcesses cs vs members →
+      AllAmong (length cs) (length vs) (occurrences_of_each members)
   each_among cs vs no_members t = none_among (length cs) (length vs)
   each_among cs vs (and_member p more) t =
       both_among (length cs) (length vs) (occurrences p) (occurrences_of_each more) (process_among cs vs p t.0) (each_among cs vs more t.1)
 
-  choices_among : (cs : List Channel) (vs : List Var) (choices : Choices) → AreChoices cs vs choices → AllAmong (length cs) (length vs) (occurrences_of_choices choices)
+  choices_among : (cs : List Channel) (vs : List Var) (choices : Choices) → AreChoices cs vs choices →
+      AllAmong (length cs) (length vs) (occurrences_of_choices choices)
   choices_among cs vs no_choices t = none_among (length cs) (length vs)
   choices_among cs vs (and_choice g p more) t =
       both_among (length cs) (length vs) (reads_of g) (occurrences p ++ occurrences_of_choices more) (reads_among (length cs) vs g t.0.reads)
@@ -189,7 +191,8 @@ conflict_before x n b (receives_on y) (writes_var z) f g h = absurd h
 conflict_before x n b (receives_on y) (reads_var z) f g h = absurd h
 conflict_before x n b (receives_on y) (sends_on z) f g h = absurd h
 
-apart_after : (x n b : ℕ) (xs ys us vs : List Occurrence) → AllAmong n b xs → AllAmong n b ys → ComesFrom x n us xs → ComesFrom x n vs ys → Apart xs ys → Apart us vs
+apart_after : (x n b : ℕ) (xs ys us vs : List Occurrence) → AllAmong n b xs → AllAmong n b ys → ComesFrom x n us xs → ComesFrom x n vs ys → Apart xs ys →
+    Apart us vs
 apart_after x n b xs ys us vs f g from_xs from_ys apart u v i j h =
     let r = from_xs u i in
     let s = from_ys v j in

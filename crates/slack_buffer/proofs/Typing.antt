@@ -119,12 +119,14 @@ slot_number p chan k b =
 pub buffered_form : (p : ProgramTree) (chan : List ℕ) (k : ℕ) → Buffering p chan k →
     typed_form (buffered_tree p chan k) ≡ buffered (typed_form p) (channel_number p.decls chan) k
 buffered_form p chan k b = ap (λ cs. made cs (vars_of new) (process_form new (buffered_tree p chan k).body)) (channels_longer p.decls es)
-    ∙ (ap (λ w. made (channels_of p.decls ++ record { name = copy_name k; kind = kind.Chan; width = w } ∷ []) (vars_of new) (process_form new (buffered_tree p chan k).body))
+    ∙ (ap (λ w. made (channels_of p.decls ++ record { name = copy_name k; kind = kind.Chan; width = w } ∷ []) (vars_of new)
+    (process_form new (buffered_tree p chan k).body))
     (sym (channel_at p.decls chan (chan_is p chan k b)).width)
     ∙ (ap (λ vs. made cs_after vs (process_form new (buffered_tree p chan k).body)) (vars_longer p.decls es)
     ∙ (ap (λ w. made cs_after (vars_of p.decls ++ record { name = slot_name k; width = w; first = 0 } ∷ []) (process_form new (buffered_tree p chan k).body))
     (sym (channel_at p.decls chan (chan_is p chan k b)).width)
-    ∙ (ap (λ q. made cs_after vs_after (side_by_side (and_member q (and_member (process_form new (buffer_statement chan (copy_name k) (slot_name k))) no_members))))
+    ∙ (ap (λ q. made cs_after vs_after (side_by_side
+    (and_member q (and_member (process_form new (buffer_statement chan (copy_name k) (slot_name k))) no_members))))
     (process_kept p.decls es chan (copy_name k) x n (record { chan_in = chan_is p chan k b; chan_number = refl; copy_number = copy_number p chan k b }) p.body
     (body_known p b.named))
     ∙ ap (λ q. made cs_after vs_after (side_by_side (and_member (rerouted x n (process_form p.decls p.body)) (and_member q no_members)))) buffer_is))))
@@ -156,7 +158,8 @@ buffered_form p chan k b = ap (λ cs. made cs (vars_of new) (process_form new (b
     turn : (c s o w : ℕ) → Process
     turn c s o w = repeating (in_turn (and_member (receiving c nowhere s nowhere) (and_member (sending o nowhere (reading s (w - 1) 0 nowhere)) no_members)))
 
-    buffer_is : process_form new (buffer_statement chan (copy_name k) (slot_name k)) ≡ passing_on x (channel_width (channels_of p.decls) x) n (length (vars_of p.decls))
+    buffer_is : process_form new (buffer_statement chan (copy_name k) (slot_name k)) ≡ passing_on x (channel_width (channels_of p.decls) x) n
+        (length (vars_of p.decls))
     buffer_is =
         ap (λ c. turn c (var_number new (slot_name k)) (channel_number new (copy_name k)) (declared_width new (slot_name k)))
         (channel_kept p.decls es chan (channel_at p.decls chan (chan_is p chan k b)).within)

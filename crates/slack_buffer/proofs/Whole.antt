@@ -86,7 +86,8 @@ pub accepted_again : (p : ProgramTree) (chan : List ℕ) (k : ℕ) → IsShaped 
 accepted_again p chan k shaped accepted b = record {
   call_free = record {
     procs = accepted.call_free.procs;
-    body = ap (λ c. c || (has_call (buffer_statement chan (copy_name k) (slot_name k)) || false)) (calls_kept chan (copy_name k) p.body ∙ accepted.call_free.body);
+    body = ap (λ c. c || (has_call (buffer_statement chan (copy_name k) (slot_name k)) || false)) (calls_kept chan (copy_name k) p.body
+        ∙ accepted.call_free.body);
   };
   named = none_at_fault p chan k b;
   sharing = meets_again p chan k shaped accepted b;
@@ -94,7 +95,8 @@ accepted_again p chan k shaped accepted b = record {
 
 -- what a buffer is to the program
 
-pub keeps_of : (p : ProgramTree) (chan : List ℕ) (k : ℕ) → IsShaped p → IsAccepted p → Buffering p chan k → BufferKeeps (typed_form p) (channel_number p.decls chan) k
+pub keeps_of : (p : ProgramTree) (chan : List ℕ) (k : ℕ) → IsShaped p → IsAccepted p → Buffering p chan k →
+    BufferKeeps (typed_form p) (channel_number p.decls chan) k
 keeps_of p chan k shaped accepted b =
     let at = channel_at p.decls chan (chan_is p chan k b) in
     let typed = (program_typed p shaped accepted.named).body_is in

@@ -52,14 +52,22 @@ abbrev mutual
 
   pub rerouted_statements : (chan copy : List ℕ) → Statements → Statements
   rerouted_statements chan copy no_members = no_members
-  rerouted_statements chan copy (and_member s more) = and_member (rerouted_statement chan copy s) (rerouted_statements chan copy more)
+  rerouted_statements chan copy (and_member s more) =
+      and_member (rerouted_statement chan copy s) (rerouted_statements chan copy more)
 
   pub rerouted_arms : (chan copy : List ℕ) → Arms → Arms
   rerouted_arms chan copy no_arms = no_arms
   rerouted_arms chan copy (and_arm g s more) = and_arm g (rerouted_statement chan copy s) (rerouted_arms chan copy more)
 
 abbrev pub made_decl : DeclKind → List ℕ → ℕ → Decl
-made_decl kind name width = record { kind = kind; name = made_name name; width = width; width_at = nowhere; first = 0; first_at = nowhere }
+made_decl kind name width = record {
+  kind = kind;
+  name = made_name name;
+  width = width;
+  width_at = nowhere;
+  first = 0;
+  first_at = nowhere;
+}
 
 -- `*[X?b; B!b]`
 abbrev pub buffer_statement : (chan copy slot : List ℕ) → Statement
@@ -69,13 +77,15 @@ buffer_statement chan copy slot = repeats (follows (and_member (receives (made_n
 -- the program with a buffer on the channel, whose new names have the number k
 abbrev pub buffered_tree : ProgramTree → (chan : List ℕ) → (k : ℕ) → ProgramTree
 buffered_tree p chan k = record {
-  decls = p.decls ++ made_decl Chan (copy_name k) (declared_width p.decls chan) ∷ made_decl Var (slot_name k) (declared_width p.decls chan) ∷ [];
+  decls = p.decls ++ made_decl Chan (copy_name k) (declared_width p.decls chan)
+      ∷ made_decl Var (slot_name k) (declared_width p.decls chan) ∷ [];
   procs = p.procs;
-  body = besides (and_member (rerouted_statement chan (copy_name k) p.body) (and_member (buffer_statement chan (copy_name k) (slot_name k)) no_members));
+  body = besides (and_member (rerouted_statement chan (copy_name k) p.body)
+      (and_member (buffer_statement chan (copy_name k) (slot_name k)) no_members));
 }
 
--- the second program is the first one with a buffer on the channel: as texts and as typed programs, and so it keeps what
--- the first one passes
+-- the second program is the first one with a buffer on the channel: as texts and as typed programs, and so it keeps
+-- what the first one passes
 pub record HasBuffer (p : ProgramTree) (chan : List ℕ) (q : ProgramTree) : Type 0 where
   pub number : ℕ
   pub free : IsFreeNumber p.decls number

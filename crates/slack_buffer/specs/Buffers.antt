@@ -39,7 +39,8 @@ abbrev mutual
 
   pub rerouted_choices : (chan copy : ℕ) → Choices → Choices
   rerouted_choices chan copy no_choices = no_choices
-  rerouted_choices chan copy (and_choice g p more) = and_choice g (rerouted chan copy p) (rerouted_choices chan copy more)
+  rerouted_choices chan copy (and_choice g p more) =
+      and_choice g (rerouted chan copy p) (rerouted_choices chan copy more)
 
 -- `*[X?b; B!b]`
 abbrev pub passing_on : (chan width copy slot : ℕ) → Process
@@ -63,8 +64,8 @@ with_nothing script = script ++ nothing ∷ []
 abbrev pub GoesOn : List ℕ → List ℕ → Type 0
 GoesOn xs ys = (rest : List ℕ) × (ys ≡ xs ++ rest)
 
--- what passes in a run of m steps passes in 3m rounds with the buffer, and what passes on the channel then passes on its
--- copy too
+-- what passes in a run of m steps passes in 3m rounds with the buffer, and what passes on the channel then passes on
+-- its copy too
 abbrev pub KeepsPassing : TypedProgram → (chan k : ℕ) → Type 0
 KeepsPassing p chan k = (script : List OfferValue) (m : ℕ) (c : Configuration) → IsScript p.channels script →
     Leads (start_of p script) m c →
@@ -78,7 +79,8 @@ IsOrLacksLast xs ys = (ys ≡ xs) ⊎ ((last : ℕ) × (xs ≡ ys ++ last ∷ []
 
 -- at any moment the copy has passed what the channel has, or all but its last value
 abbrev pub LagsByOne : TypedProgram → (chan k : ℕ) → Type 0
-LagsByOne p chan k = (script : List OfferValue) (m : ℕ) (c : Configuration) → IsScript (buffered p chan k).channels script →
+LagsByOne p chan k = (script : List OfferValue) (m : ℕ) (c : Configuration) →
+    IsScript (buffered p chan k).channels script →
     Leads (start_of (buffered p chan k) script) m c →
     IsOrLacksLast (history_at c.histories chan) (history_at c.histories (length p.channels))
 

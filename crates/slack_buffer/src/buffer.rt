@@ -94,12 +94,13 @@ pub fn is_inner_channel(program: &Program, chan: &Name) -> bool
     declares_inner(&program.decls, chan)
 }
 
-/// The program with a one-place buffer on a channel inside of it, so that a sender there need not wait for its receiver.
+/// The program with a one-place buffer on a channel inside of it, so that a sender there need not wait for its
+/// receiver.
 ///
 /// The channel `Bk` and the variable `bk` are declared last, with the channel's width, where k is the least number of
 /// which neither name is declared. Each receive on the channel becomes one on `Bk`, and beside the body so changed
-/// stands `*[X?bk; Bk!bk]`. (The names and their numbers are our profile's.) What a run of the program of m steps passes
-/// is a front of what 3m rounds with the buffer pass, and `Bk` is behind the channel by its last value at most.
+/// stands `*[X?bk; Bk!bk]`. (The names and their numbers are our profile's.) What a run of the program of m steps
+/// passes is a front of what 3m rounds with the buffer pass, and `Bk` is behind the channel by its last value at most.
 pub fn with_buffer(alloc: Global, program: &Program, chan: &Name) -> Result<Program, AllocError>
     requires shaped { IsShaped (tree_of program.now) }
     requires accepted { IsAccepted (tree_of program.now) }

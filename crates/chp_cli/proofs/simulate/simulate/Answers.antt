@@ -18,7 +18,8 @@ returns-in-Some-clause-answered g c =
 
 pub returns-in-Some-clause-stopped : goal.returns-in-Some-clause-stopped
 returns-in-Some-clause-stopped g c =
-    err_in c.simulate_at.result _ _ (λ stop stops. order_stops _ _ _ _ (sym c.place_of.ensures.place ∙ c.in-Some.is) _ _ stop stops) c.simulate_at.ensures.stopped
+    err_in c.simulate_at.result _ _ (λ stop stops. order_stops _ _ _ _ (sym c.place_of.ensures.place ∙ c.in-Some.is) _ _ stop stops)
+    c.simulate_at.ensures.stopped
 
 pub returns-in-Some-clause-orders : goal.returns-in-Some-clause-orders
 returns-in-Some-clause-orders g c = only_named _ _ c.in-Some.place (sym c.place_of.ensures.place ∙ c.in-Some.is) c.simulate_at.ensures.played
