@@ -1,3 +1,4 @@
+pub mod Alone
 pub mod Examples
 pub mod PairLists
 pub mod GuardLemmas

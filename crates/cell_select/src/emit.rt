@@ -112,7 +112,7 @@ fn emit_any(alloc: Global, node: u32, inputs: &[u32], rules: &mut Rules) -> Resu
 }
 
 /// Writes the guards of the latches.
-#[tactic(auto, using(crate::proofs::GuardLemmas::only_within, crate::proofs::GuardLemmas::alone_then, crate::proofs::GuardLemmas::alone_still))]
+#[tactic(auto, using(crate::proofs::Alone::within, crate::proofs::Alone::next, crate::proofs::Alone::still))]
 fn emit_latches(
     alloc: Global,
     request: u32,
@@ -139,7 +139,7 @@ fn emit_latches(
 }
 
 /// Writes the guards of the starts.
-#[tactic(auto, using(crate::proofs::GuardLemmas::with_lows_within, crate::proofs::GuardLemmas::alone_then, crate::proofs::GuardLemmas::alone_still))]
+#[tactic(auto, using(crate::proofs::Alone::lows_too, crate::proofs::Alone::next, crate::proofs::Alone::still))]
 fn emit_starts(
     alloc: Global,
     nodes: &[u32],

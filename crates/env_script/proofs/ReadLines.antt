@@ -118,7 +118,8 @@ taken channels ws line ls offers told values t distinct so_far step =
     (one_line (words_of line) _ step.says.behind step.says.spelled) in
     let count : values_told channels (ls ++ l ∷ []) ≡ values_told channels ls + values_on (channel_named channels l.name) l.said =
     sum_by_push (λ (m : Line). values_on (channel_named channels m.name) m.said) ls l in
-    let here : values_on (channel_named channels l.name) l.said ≡ values_in c.kind l.said = ap (λ (o : Option Channel). values_on o l.said) step.place.found in (
+    let here : values_on (channel_named channels l.name) l.said ≡ values_in c.kind l.said =
+    ap (λ (o : Option Channel). values_on o l.said) step.place.found in (
       ls ++ l ∷ [],
       record {
         lines_told = record {

@@ -80,7 +80,8 @@ loop_more version names first ws last count line r now text rest behind leds nam
       read = subst (λ b. IsRulesRead b version names first (channels_of ws) (Some place) (count + literals) text behind) (sym forms)
           (subst (λ p. IsRulesRead (before ++ rule ts name up ∷ []) version names first (channels_of ws) (Some p) (count + literals) text behind) (places
           ∙ sym is_place) (subst (λ k. IsRulesRead (before ++ rule ts name up ∷ []) version names first (channels_of ws) (Some (rule_place names name up))
-          (count + k) text behind) (count_terms leds ∙ sym is_count) (rules_more before version names first (channels_of ws) last count text rest behind ts name up
+          (count + k) text behind) (count_terms leds ∙ sym is_count)
+          (rules_more before version names first (channels_of ws) last count text rest behind ts name up
           same read says whole form good)));
       table = subst (λ t. IsTable (version == 2) (channels_of ws) names (Some place) (count + literals) t) (sym is)
           (subst (λ p. IsTable (version == 2) (channels_of ws) names (Some p) (count + literals) (with_guard node up g r)) (sym is_place)

@@ -45,7 +45,7 @@ fn stored(store: &[u64], var: u32) -> u64
 
 /// The value of a well-formed expression, where the store has a number for each variable; a variable that it hasn't
 /// counts 0.
-#[tactic(auto, using(crate::proofs::Bounds::value_fits, crate::proofs::Bounds::width_some, crate::proofs::Bounds::width_most))]
+#[tactic(auto, using(crate::proofs::Fit::value_fits, crate::proofs::Fit::width_some, crate::proofs::Fit::width_most))]
 pub fn value(e: &TExpr, store: &[u64]) -> u64
     requires { IsWellFormed (formula_of e.now) }
     ensures { result ≡ value (slice_index store.now) (formula_of e.now) }
