@@ -12,9 +12,11 @@ use Rattle.chp_cli.proofs.NoReset.{names_free}
 
 module _ (p : TypedProgram) (net : NetValue) (is : net ≡ translation p) (kept : IsNet net) (carried : Carries (translation p) p)
     (law : ResetCarries (translation p) p) where
-  pub net_compiled : (reset : Bool) (text : List ℕ) → NetText text (if reset then reset_of net else net) → IsCompiled reset p text
-  net_compiled false text spelled = record { spells = spelled ∙ ap spelling is; carries = carried }
-  net_compiled true text spelled = record {
+  pub net_compiled : (reset : Bool) (text : List ℕ) → NetText text (if reset then reset_of net else net) →
+      IsNet (if reset then reset_of net else net) → IsCompiled reset p text
+  net_compiled false text spelled whole = record { kept = subst IsNet is whole; spells = spelled ∙ ap spelling is; carries = carried }
+  net_compiled true text spelled whole = record {
+    kept = subst (λ n. IsNet (reset_of n)) is whole;
     spells = spelled ∙ ap (λ n. spelling (reset_of n)) is;
-    carries = let whole = subst IsNet is kept in law carried whole refl whole.most (names_free p);
+    carries = let held = subst IsNet is kept in law carried held refl held.most (names_free p);
   }

@@ -36,7 +36,7 @@ own_status : (end : Ending) → (status_with end ≢ Usage) × (status_with end 
 own_status ending.Done = (λ e. cc, λ e. cc, λ e. cc)
 own_status ending.Hazard = (λ e. cc, λ e. cc, λ e. cc)
 
-no_refusal : (s other : Status) → is_refusing s ≡ true → is_refusing other ≡ false → s ≢ other
+pub no_refusal : (s other : Status) → is_refusing s ≡ true → is_refusing other ≡ false → s ≢ other
 no_refusal s other is not same = cc (ap is_refusing same, is, not)
 
 pub answers_of : (asked : Option Asked) (given : Given) (played : Played) (command : Asked) (answer : Answer) → asked ≡ Some command →

@@ -5,7 +5,7 @@ use Rattle.chp_syntax.specs.Trees.{ProgramTree}
 use Rattle.handshake_expand.specs.Layout.{node_count}
 use Rattle.net_compose.specs.Carries.{Carries, CarriesReset}
 use Rattle.net_compose.specs.Translation.{translation}
-use Rattle.prs_core.specs.Nets.{NetValue}
+use Rattle.prs_core.specs.Nets.{NetValue, IsNet}
 use Rattle.prs_file.specs.Spelling.{NetText}
 use Rattle.reset_net.specs.Resets.{reset_of}
 use Rattle.width_check.specs.Accepted.{IsAccepted}
@@ -25,8 +25,9 @@ abbrev pub NetCarries : (reset : Bool) → TypedProgram → Type 0
 NetCarries false p = Carries (net_for false p) p
 NetCarries true p = CarriesReset (net_for true p) p
 
--- this is the one text of the net of the program, and that net carries it
+-- this is the one text of the net of the program, which is a net that a rule file can hold, and that net carries it
 pub record IsCompiled (reset : Bool) (p : TypedProgram) (file : List ℕ) : Type 0 where
+  pub kept : IsNet (net_for reset p)
   pub spells : NetText file (net_for reset p)
   pub carries : NetCarries reset p
 

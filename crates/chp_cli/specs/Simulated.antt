@@ -1,5 +1,5 @@
 -- What follows from what `simulate` answers.
-use Rattle.std.specs.Prelude.{◌≡◌, ◌⊎◌, ℕ, ◌≤◌, false, List, length, slice_get, Some, None}
+use Rattle.std.specs.Prelude.{◌≡◌, ◌⊎◌, ℕ, ◌≤◌, Bool, false, List, length, slice_get, Option, Some, None}
 use Rattle.env_script.specs.Environment.{net_channels}
 use Rattle.env_script.specs.OneLength.{EndsAll}
 use Rattle.env_script.specs.Scripts.{OfferValue}
@@ -10,7 +10,10 @@ use Rattle.net_compose.specs.Carries.{Carries, CarriesReset}
 use Rattle.prs_core.specs.Nets.{NetValue, IsNet}
 use Rattle.prs_file.specs.Spelling.{NetText}
 use Rattle.width_check.specs.Processes.{TypedProgram}
-use Rattle.chp_cli.specs.Answers.{Given, Answer}
+use Rattle.chp_cli.specs.declared.answer.Ending.TheVariants.{Done}
+use Rattle.chp_cli.specs.Answers.{Given, Answer, writes}
+use Rattle.chp_cli.specs.Commands.{Asked, simulates}
+use Rattle.chp_cli.specs.Compiling.{IsCompiled}
 use Rattle.chp_cli.specs.Orders.{OrderState, Played, place_named}
 use Rattle.chp_cli.specs.RunSteps.{IsScriptOf, lacks_reset, most_of_script}
 use Rattle.chp_cli.specs.Simulating.{AskedRun, PlaysOut, simulation_for}
@@ -46,6 +49,13 @@ pub record HoldsCarrying (given : Given) (file : List ℕ) (p : TypedProgram) : 
   pub spelled : NetText rules net
   pub carries : ((net.reset ≡ None) × Carries net p) ⊎ CarriesReset net p
 
+-- the file holds what `compile` writes for the program, with a reset node or without
+pub record HoldsCompiled (given : Given) (file : List ℕ) (p : TypedProgram) : Type 0 where
+  pub reset : Bool
+  pub text : List ℕ
+  pub held : given.files file ≡ Some text
+  pub compiled : IsCompiled reset p text
+
 -- the files hold what can be simulated: a rule file within its limit, of a net that can have the power that is asked
 -- for, and a script of its channels within its own; and there is an order of the wanted name
 pub record IsToSimulate (s : AskedRun) (given : Given) (played : Played) : Type 0 where
@@ -71,3 +81,13 @@ abbrev pub EndsAllAtRest : (s : AskedRun) (given : Given) (played : Played) (ans
 EndsAllAtRest s given played answer f = f.plays.end ≡ AtRest →
     let sim = simulation_for f.net f.script s.steps s.power in
     EndsAll f.net f.script (start_at sim) (picked_moves sim f.was.log f.is.log)
+
+-- it is asked to simulate the rule file that `compile` writes for the program
+pub record AsksForCompiled (asked : Option Asked) (given : Given) (s : AskedRun) (p : TypedProgram) : Type 0 where
+  pub is : asked ≡ Some (simulates s)
+  pub holds : HoldsCompiled given s.net p
+
+-- the report is that of a run without a hazard; and where it says rest, no order makes more moves
+pub record IsCalm (s : AskedRun) (given : Given) (played : Played) (report : List ℕ) : Type 0 where
+  pub run : IsFileSimulated s given played (writes Done report)
+  pub one_length : EndsAllAtRest s given played (writes Done report) run

@@ -30,6 +30,7 @@ fn net_text(alloc: Global, net: Net, reset: bool) -> Result<Vec<u8>, AllocError>
     requires free { All (λ name. name ≢ codes "reset") net.names }
     ensures spelled { IfOk result (λ text. NetText text.items (if reset then reset_of net else net)) }
     ensures kept { IsNet net }
+    ensures whole { IfOk result (λ _. IsNet (if reset then reset_of net else net)) }
 {
     if reset {
         reset_text(alloc, net)

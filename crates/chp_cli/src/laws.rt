@@ -9,7 +9,7 @@ ghost use Rattle.chp_cli.specs.Compiling.{Compiles, IsFileCompiled, IsToCompile}
 ghost use Rattle.chp_cli.specs.Migrating.{Migrates, IsToMigrate};
 ghost use Rattle.chp_cli.specs.Commands.{Asked, IsAnswer};
 ghost use Rattle.chp_cli.specs.Orders.{Played};
-ghost use Rattle.chp_cli.specs.Simulated.{EndsAllAtRest, HoldsCarrying, IsFileSimulated, IsToSimulate};
+ghost use Rattle.chp_cli.specs.Simulated.{EndsAllAtRest, HoldsCarrying, HoldsCompiled, IsFileSimulated, IsToSimulate};
 ghost use Rattle.chp_cli.specs.Simulating.{AskedRun, Simulates};
 ghost use Rattle.chp_cli.specs.Statuses.{is_whole};
 ghost use Rattle.width_check.specs.Processes.{TypedProgram};
@@ -83,3 +83,10 @@ pub fn carried_runs_have_one_length()
     power_is_powered();
     safe_moves_bring_no_hazard();
 }
+
+/// Law: what `compile` writes for a program is the rule file of a net that carries it, so what holds of simulations of
+/// such files holds of each file that `compile` wrote.
+pub fn compiled_files_carry()
+    ensures { (given : Given) (file : List ℕ) (p : TypedProgram) → HoldsCompiled given file p →
+        HoldsCarrying given file p }
+{}

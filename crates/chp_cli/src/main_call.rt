@@ -7,7 +7,10 @@ ghost use Rattle.chp_cli.specs.Commands.{IsWithinBounds, IsAnswer, asked, asked_
 ghost use Rattle.chp_cli.specs.Ends.{AnswersTo, Ends, IsFile, asked_order};
 ghost use Rattle.chp_cli.specs.Orders.{KeepsOrders, order_state, played_by};
 ghost use Rattle.chp_cli.specs.Replies.{Stops, end_line, end_status, told_answer};
+ghost use Rattle.chp_cli.specs.Simulated.{AsksForCompiled, IsCalm};
+ghost use Rattle.chp_cli.specs.Simulating.{AskedRun};
 ghost use Rattle.chp_cli.specs.Statuses.{is_whole};
+ghost use Rattle.width_check.specs.Processes.{TypedProgram};
 
 use crate::answer::{End, Output, Stop};
 use crate::check::check;
@@ -15,7 +18,10 @@ use crate::command::{Command, command_in};
 use crate::compile::compile;
 use crate::expand::expand;
 use crate::grow::grow;
-use crate::laws::one_answer;
+use crate::laws::{
+    carried_runs_are_safe, carried_runs_have_one_length, compiled_files_carry, one_answer,
+    simulated_right,
+};
 use crate::migrate::migrate;
 use crate::players::Players;
 use crate::rounds::rounds;
@@ -111,6 +117,9 @@ fn run<'a, S: Shelf, K: Sink>(
 /// fails, and a front of what the command writes was written (`Write`), or memory runs out (`NoMemory`), which may be
 /// at any point and is merged with no other answer.
 ///
+/// The simulation of a rule file that `compile` wrote finds no hazard, under whatever script and by whatever order, and
+/// where it reports rest no order makes more moves.
+///
 /// Of the handed-in orders only the one that the command asks for is used, if it asks for one: all others are as they
 /// were, and all have their names and their places still.
 pub fn chp_main<S: Shelf, K: Sink, W: Sink>(
@@ -145,6 +154,16 @@ pub fn chp_main<S: Shelf, K: Sink, W: Sink>(
         players.old.orders.items in
         KeepsOrders (asked_order (asked_by words.now) before) (played_by before
         (map (λ order. order_state (name order) (log order) (seeded order)) players.new.orders.items)) }
+    ensures calm { (s : AskedRun) (p : TypedProgram) → S.tells shelf.old ≡ true →
+        AsksForCompiled (asked_by words.now) (given_by (S.tells shelf.old) (S.holds shelf.old)) s p →
+        result ≢ Status.Hazard }
+    ensures steady { (s : AskedRun) (p : TypedProgram) → S.tells shelf.old ≡ true →
+        AsksForCompiled (asked_by words.now) (given_by (S.tells shelf.old) (S.holds shelf.old)) s p →
+        result ≡ Status.Done → K.tells out.old ≡ true → (report : List ℕ)
+        × (K.written out.new ≡ K.written out.old ++ report)
+        × IsCalm s (given_by (S.tells shelf.old) (S.holds shelf.old)) (played_by
+        (map (λ order. order_state (name order) (log order) (seeded order)) players.old.orders.items)
+        (map (λ order. order_state (name order) (log order) (seeded order)) players.new.orders.items)) report }
     ensures shelf_same { S.tells shelf.new ≡ S.tells shelf.old }
     ensures shelf_kept { S.holds shelf.new ≡ S.holds shelf.old }
     ensures shelf_faults { S.faults shelf.old ≤ S.faults shelf.new }
@@ -154,6 +173,10 @@ pub fn chp_main<S: Shelf, K: Sink, W: Sink>(
     ensures say_faults { W.faults say.old ≤ W.faults say.new }
 {
     one_answer();
+    simulated_right();
+    compiled_files_carry();
+    carried_runs_are_safe();
+    carried_runs_have_one_length();
     let end = run(alloc, words, shelf, out, players);
     tell(say, &end);
     end.status()

@@ -1,6 +1,7 @@
 //! `migrate FILE`: from a rule file to one of version 2.
 
 ghost use Rattle.std.specs.Prelude.{◌≡◌, ◌≢◌, ◌≤◌, ◌∷◌, [], All, Some, None, bytes_eq, codes, length, IfOk, IfErr};
+ghost use Rattle.prs_core.specs.Nets.{IsNet};
 ghost use Rattle.prs_file.specs.Spelling.{NetText};
 ghost use Rattle.reset_net.specs.Resets.{reset_of};
 ghost use Rattle.chp_cli.specs.Answers.{given_by};
@@ -34,7 +35,8 @@ fn reset_place(names: &[Name]) -> Option<usize>
 pub fn reset_text(alloc: Global, net: Net) -> Result<Vec<u8>, AllocError>
     requires plain { net.reset ≡ None }
     requires free { All (λ name. name ≢ codes "reset") net.names }
-    ensures { IfOk result (λ text. NetText text.items (reset_of net)) }
+    ensures spelled { IfOk result (λ text. NetText text.items (reset_of net)) }
+    ensures kept { IfOk result (λ _. IsNet (reset_of net)) }
 {
     let net = with_reset(alloc, net)?;
     print_net(alloc, &net)

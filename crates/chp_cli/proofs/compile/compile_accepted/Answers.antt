@@ -30,4 +30,4 @@ returns-in-Ok-net_text-clause-answered c =
     let program = typed_of c.args.program.now in
     few_enough (counted_few program c.in-Ok.ensures.fits)
     (compiled (net_compiled program c.in-Ok.net c.in-Ok.ensures.net c.net_text.ensures.kept c.in-Ok.ensures.carries (c.carries_reset.ensures _ program)
-    c.args.reset _ c.in-Ok-net_text.ensures.spelled))
+    c.args.reset _ c.in-Ok-net_text.ensures.spelled c.in-Ok-net_text.ensures.whole))

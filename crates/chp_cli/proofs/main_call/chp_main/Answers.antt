@@ -2,6 +2,7 @@ use Rattle.std.proofs.Common.{◌∙◌, ◌++◌, ap, sym, append-nil}
 use Rattle.chp_cli.specs.Replies.{end_line}
 use Rattle.chp_cli.specs.Statuses.{is_whole}
 use Rattle.chp_cli.proofs.Ending.{complete_of, read_of, silent_of, usage_of, write_of}
+use Rattle.chp_cli.proofs.Calm.{calm_of, steady_of}
 use Rattle.chp_cli.proofs.main_call.chp_main.Goals as goal
 
 pub returns-clause-ended : goal.returns-clause-ended
@@ -27,3 +28,19 @@ returns-clause-silent g c = λ not cut told.
     let e = c.run-end.ensures.ended in
     let none = silent_of _ _ _ _ _ _ _ e.1 (ap is_whole (sym c.status.ensures) ∙ not) (λ is. cut (c.status.ensures ∙ is)) in
     e.2 told ∙ (ap (λ xs. g.K.Sink.written c.args.out.now ++ xs) none ∙ append-nil _)
+
+pub returns-clause-calm : goal.returns-clause-calm
+returns-clause-calm g c = λ s p told asks is.
+    let carries = c.compiled_files_carry.ensures _ s.net p asks.holds in
+    calm_of _ _ _ _ _ _ _ s asks.is (c.simulated_right.ensures s _ _ told) (c.carried_runs_are_safe.ensures s _ _ p carries) c.run-end.ensures.ended.1
+    (sym c.status.ensures ∙ is)
+
+pub returns-clause-steady : goal.returns-clause-steady
+returns-clause-steady g c = λ s p told asks is writes.
+    let e = c.run-end.ensures.ended in
+    let carries = c.compiled_files_carry.ensures _ s.net p asks.holds in (
+      e.0,
+      e.2 writes,
+      steady_of _ _ _ _ _ _ _ s asks.is (c.simulated_right.ensures s _ _ told) (c.carried_runs_are_safe.ensures s _ _ p carries)
+          (c.carried_runs_have_one_length.ensures s _ _ p carries) e.1 (sym c.status.ensures ∙ is),
+    )

@@ -20,7 +20,7 @@ returns-in-Ok-clause-answered c =
     let net = c.args.net in
     let none : net.reset ≡ None = none_is net.reset (ap (λ o. is_some o) (sym c.reset.ensures.reset) ∙ sym c.is_some.ensures ∙ c.if-is_some.false) in
     let free : named_reset net.names ≡ None = ap named_reset (sym c.names.ensures.names) ∙ sym c.reset_place.ensures ∙ c.in_default.is in
-    reset_writes net _ none free c.in-Ok.ensures
+    reset_writes net _ none free c.in-Ok.ensures.spelled
 
 pub reset_text-requires-clause-free : goal.reset_text-requires-clause-free
 reset_text-requires-clause-free c =
